@@ -1,0 +1,141 @@
+-- The operation ahead says what comes next of the statement.
+use Rattle.std.proofs.Common.{◌≡◌, ℕ, zero, suc, ◌+◌, ◌<◌, Bool, true, false, List, [], ◌∷◌, ◌++◌, map, drop, length, refl, sym, ap, ◌∙◌, append_assoc, arith, cond}
+use Rattle.std.specs.Prelude.{slice_get, if◌then◌else◌}
+use Rattle.std.proofs.lemmas.Option.{slice_get_past}
+use Rattle.std.proofs.Math.Seq.{drop-nil}
+use Rattle.hep_source.specs.declared.name.Name.{Name}
+use Rattle.hep_source.specs.declared.value.Value.{Value}
+use Rattle.hep_source.specs.declared.record.Item.{Item}
+use Rattle.hep_source.specs.declared.statement.Form.{Form}
+use Rattle.hep_source.specs.declared.statement.Form.TheVariants as form
+use Rattle.hep_source.specs.declared.statement.Statement.{Statement}
+use Rattle.hep_source.specs.Units.{is_executable, passed_over, form_found, line_found, line_at}
+use Rattle.hep_source.specs.State.{Level, level_at}
+use Rattle.hep_source.specs.Evaluation.{Redex, item_of, assigning, printing, leaving, Next, wants, does, next_of, plug_form}
+use Rattle.hep_core.specs.declared.operation.Operation.{Operation}
+use Rattle.hep_core.specs.declared.operation.Operation.TheVariants.{Evaluate, Store, Print, End}
+use Rattle.hep_core.specs.declared.operation.Instruction.{Instruction}
+use Rattle.hep_core.specs.declared.operation.Instruction.TheVariants.{Push, Step}
+use Rattle.hep_core.specs.Code.{number_of, form_code, code_from}
+use Rattle.hep_core.specs.Shown.{code_behind, Stands}
+use Rattle.hep_core.proofs.Redexes.{evaluation_of, operands_of, FormIs, form_is}
+
+-- ---- constants, then an operation: in one way alone
+
+pub record SameFront (xs ys : List Item) (l m : ℕ) (o p : Operation) (r s : List Instruction) : Type 0 where
+  pub operands : xs ≡ ys
+  pub line : l ≡ m
+  pub operation : o ≡ p
+  pub rest : r ≡ s
+
+pub same_front : (xs ys : List Item) (l m : ℕ) (o p : Operation) (r s : List Instruction) → map Push xs ++ (Step l o ∷ r) ≡ map Push ys ++ (Step m p ∷ s) → SameFront xs ys l m o p r s
+same_front [] [] l m o p r s e = record { operands = refl; line = cc; operation = cc; rest = cc }
+same_front [] (y ∷ ys) l m o p r s e = absurd cc
+same_front (x ∷ xs) [] l m o p r s e = absurd cc
+same_front (x ∷ xs) (y ∷ ys) l m o p r s e =
+    let head : x ≡ y = cc in
+    let tail : map Push xs ++ (Step l o ∷ r) ≡ map Push ys ++ (Step m p ∷ s) = cc in
+    let h = same_front xs ys l m o p r s tail in
+    let both : x ∷ xs ≡ y ∷ ys = ap (λ z. z ∷ xs) head ∙ ap (λ zs. y ∷ zs) h.operands in
+    record { operands = both; line = h.line; operation = h.operation; rest = h.rest }
+
+-- ---- what comes next
+
+module _ (symbols : List Name) (line : ℕ) (work : Form) (after : List Instruction) where
+  -- of a redex: its operands are on top, its operation is ahead, and a value takes their place
+  pub record IsWanted (r : Redex) (operands : List Item) (o : Operation) (rest : List Instruction) : Type 0 where
+    pub before : List Item
+    pub operands_are : operands ≡ before ++ operands_of r
+    pub operation : Evaluate (evaluation_of symbols r) ≡ o
+    pub given : (v : Value) → form_code symbols line (plug_form work v) ++ after ≡ map Push (before ++ item_of v ∷ []) ++ rest
+
+  abbrev pub Decides : Next → List Item → Operation → List Instruction → Type 0
+  Decides (wants r) operands o rest = IsWanted r operands o rest
+  Decides (does (assigning p v)) operands o rest = (item_of v ∷ [] ≡ operands) × (Store (number_of symbols p.name) ≡ o) × (after ≡ rest)
+  Decides (does (printing is)) operands o rest = (is ≡ operands) × (Print ≡ o) × (after ≡ rest)
+  Decides (does leaving) operands o rest = End ≡ o
+
+  decides : (n : Next) (operands : List Item) (l : ℕ) (o : Operation) (rest : List Instruction) → FormIs symbols line n (form_code symbols line work) (λ v. form_code symbols line (plug_form work v)) → form_code symbols line work ++ after ≡ map Push operands ++ (Step l o ∷ rest) → (line ≡ l) × Decides n operands o rest
+  decides (wants r) operands l o rest f e =
+      let op = Step line (Evaluate (evaluation_of symbols r)) in
+      let front = map Push (f.before ++ operands_of r) in
+      let all = sym (append_assoc front (op ∷ f.rest) after) ∙ sym (ap (λ c. c ++ after) f.is) ∙ e in
+      let h = same_front (f.before ++ operands_of r) operands line l (Evaluate (evaluation_of symbols r)) o (f.rest ++ after) rest all in (
+        h.line,
+        record {
+          before = f.before;
+          operands_are = sym h.operands;
+          operation = h.operation;
+          given = λ v. ap (λ c. c ++ after) (f.given v) ∙ append_assoc (map Push (f.before ++ item_of v ∷ [])) f.rest after ∙ ap (λ c. map Push (f.before ++ item_of v ∷ []) ++ c) h.rest;
+        },
+      )
+  decides (does (assigning p v)) operands l o rest f e =
+      let all = sym (ap (λ c. c ++ after) f) ∙ e in
+      let h = same_front (item_of v ∷ []) operands line l (Store (number_of symbols p.name)) o after rest all in
+      (h.line, (h.operands, h.operation, h.rest))
+  decides (does (printing is)) operands l o rest f e =
+      let all = sym (append_assoc (map Push is) (Step line Print ∷ []) after) ∙ sym (ap (λ c. c ++ after) f) ∙ e in
+      let h = same_front is operands line l Print o after rest all in
+      (h.line, (h.operands, h.operation, h.rest))
+  decides (does leaving) operands l o rest f e =
+      let all = sym (ap (λ c. c ++ after) f) ∙ e in
+      let h = same_front [] operands line l End o after rest all in
+      (h.line, h.operation)
+
+-- what comes next where the process stands
+pub decided : (symbols : List Name) (unit : List Statement) (level : Level) (operands : List Item) (ahead : List Instruction) (l : ℕ) (o : Operation) (rest : List Instruction) → Stands symbols unit level operands ahead → ahead ≡ Step l o ∷ rest → (line_at unit level.statement ≡ l) × Decides symbols (line_at unit level.statement) level.work (code_behind symbols (drop level.statement unit)) (next_of level.work) operands o rest
+decided symbols unit level operands ahead l o rest h e =
+    decides symbols (line_at unit level.statement) level.work (code_behind symbols (drop level.statement unit)) (next_of level.work) operands l o rest (form_is symbols (line_at unit level.statement) level.work h.executable) (h.code ∙ ap (λ c. map Push operands ++ c) e)
+
+-- ---- the next statement
+
+module _ (symbols : List Name) where
+  abbrev FirstCode : List Statement → ℕ → Type 0
+  FirstCode ss k = form_code symbols (line_found (slice_get ss k)) (form_found (slice_get ss k)) ++ code_behind symbols (drop k ss) ≡ code_from symbols ss
+
+  first_by : (s : Statement) (ss : List Statement) (f : Form) → s.form ≡ f → FirstCode ss (passed_over ss) → form_code symbols (line_found (slice_get (s ∷ ss) (cond (is_executable f) 0 (suc (passed_over ss))))) (form_found (slice_get (s ∷ ss) (cond (is_executable f) 0 (suc (passed_over ss))))) ++ code_behind symbols (drop (cond (is_executable f) 0 (suc (passed_over ss))) (s ∷ ss)) ≡ form_code symbols s.line f ++ code_from symbols ss
+  first_by s ss (form.Program x) e h = h
+  first_by s ss (form.Assign p t) e h = ap (λ f. form_code symbols s.line f ++ code_from symbols ss) e
+  first_by s ss (form.Print items) e h = ap (λ f. form_code symbols s.line f ++ code_from symbols ss) e
+  first_by s ss form.End e h = ap (λ f. form_code symbols s.line f ++ code_from symbols ss) e
+
+  first_code : (ss : List Statement) → FirstCode ss (passed_over ss)
+  first_code [] = refl
+  first_code (s ∷ ss) = first_by s ss s.form refl (first_code ss)
+
+  executable_by : (s : Statement) (ss : List Statement) (b : Bool) → is_executable s.form ≡ b → is_executable (form_found (slice_get ss (passed_over ss))) ≡ true → is_executable (form_found (slice_get (s ∷ ss) (if b then 0 else suc (passed_over ss)))) ≡ true
+  executable_by s ss true e h = e
+  executable_by s ss false e h = h
+
+  first_executable : (ss : List Statement) → is_executable (form_found (slice_get ss (passed_over ss))) ≡ true
+  first_executable [] = refl
+  first_executable (s ∷ ss) = executable_by s ss (is_executable s.form) refl (first_executable ss)
+
+  get_ahead : (unit : List Statement) (j k : ℕ) → slice_get unit (j + k) ≡ slice_get (drop j unit) k
+  get_ahead unit zero k = let e : zero + k ≡ k = omega arith in rw e refl
+  get_ahead [] (suc j) k = refl
+  get_ahead (s ∷ ss) (suc j) k = let e : suc j + k ≡ suc (j + k) = omega arith in rw e (get_ahead ss j k)
+
+  drop_ahead : (unit : List Statement) (j k : ℕ) → drop (j + k) unit ≡ drop k (drop j unit)
+  drop_ahead unit zero k = let e : zero + k ≡ k = omega arith in rw e refl
+  drop_ahead [] (suc j) k = drop-nil (suc j + k) ∙ sym (drop-nil k)
+  drop_ahead (s ∷ ss) (suc j) k = let e : suc j + k ≡ suc (j + k) = omega arith in rw e (drop_ahead ss j k)
+
+  -- an activation that begins a statement
+  pub stands_at : (unit : List Statement) (j : ℕ) → Stands symbols unit (level_at unit 1 j) [] (code_from symbols (drop j unit))
+  stands_at unit j =
+      let ss = drop j unit in
+      let k = passed_over ss in
+      let here : slice_get unit (j + k) ≡ slice_get ss k = get_ahead unit j k in
+      record {
+        activation = refl;
+        executable = rw here (first_executable ss);
+        past = λ le. ap form_found (slice_get_past unit (j + k) le);
+        code = rw (here, drop_ahead unit j k) (first_code ss);
+      }
+
+  -- what is behind a statement of the unit is the code of the next one on
+  pub code_behind_is : (unit : List Statement) (k : ℕ) → k < length unit → code_behind symbols (drop k unit) ≡ code_from symbols (drop (k + 1) unit)
+  code_behind_is [] k lt = absurd (omega arith)
+  code_behind_is (s ∷ ss) zero lt = refl
+  code_behind_is (s ∷ ss) (suc k) lt = let e : suc k + 1 ≡ suc (k + 1) = omega arith in rw e (code_behind_is ss k (omega arith))

@@ -1,0 +1,10 @@
+pub mod NameTests
+pub mod Declared
+pub mod Lists
+pub mod Redexes
+pub mod Decided
+pub mod Variables
+pub mod Steps
+pub mod Settled
+pub mod Histories
+pub mod Viewed

@@ -1,0 +1,60 @@
+use Rattle.std.proofs.Common.{◌≡◌, ◌<◌, ◌++◌, ◌∷◌, [], ◌∙◌, sym, ap, subst, rules, None, Some, length, arith, refl}
+use Rattle.std.proofs.lemmas.Result.{err_from_is_err_and}
+use Rattle.hep_source.specs.declared.event.Entry.{Entry}
+use Rattle.hep_source.specs.Histories.{IsLegal}
+use Rattle.hep_source.specs.Run.{state_after}
+use Rattle.hep_source.specs.Step.{step}
+use Rattle.hep_core.specs.Machine.{snapshot_of}
+use Rattle.hep_core.specs.Shown.{Shows}
+use Rattle.hep_core.specs.Kept.{core_value, kept_view}
+use Rattle.hep_core.specs.Value.{IsStop, stop_after}
+use Rattle.hep_core.proofs.Histories.{state_after-stepped, legal-stepped}
+use Rattle.hep_core.proofs.Viewed.{shows_view}
+use Rattle.hep_core.proofs.scheduler.Core.choose.Goals as goal
+
+pub returns-in_err-step : goal.returns-in_err-step
+returns-in_err-step c =
+    let i = c.self.inside in
+    let s = state_after i.image i.history.items in
+    let shown = c.in_err-step.ensures i.image s c.code.ensures c.if-not-self.false c.self.invariant.shown in
+    let view = shows_view i.image (snapshot_of c.step.new.self) s shown ∙ sym (shows_view i.image (snapshot_of i.machine) s c.self.invariant.shown) in
+    let p = err_from_is_err_and c.from_residual-in_err-step.result c.from_residual-in_err-step.ensures.1 in
+    let value : record (core_value i) { history = c.reserve.new.self.items; view = kept_view i.image (snapshot_of c.step.new.self) } ≡ core_value i =
+    λ j. record (core_value i) { history = c.reserve.ensures.items j; view = view j } in
+    rw (p.1, p.2) (value ∙ c.self.view_is)
+
+pub invariant_of-self-2 : goal.invariant_of-self-2
+invariant_of-self-2 c =
+    let i = c.self.inside in
+    let h = i.history.items in
+    let s = state_after i.image h in
+    let p = c.args.p in
+    let e : Entry = record { process = p; steps = 1 } in
+    let done = c.in_ok-step.ensures i.image s c.code.ensures c.if-not-self.false c.self.invariant.shown in
+    let step_is : step i.image p s ≡ Some done.0 = rw c.if-p-ne1.false done.1 in
+    let none : i.stop ≡ None = search rules in
+    let lt : length h < i.limit = omega (arith, c.len.ensures) in
+    let is : c.note.new.history.items ≡ h ++ e ∷ [] = c.note.ensures ∙ ap (λ xs. xs ++ e ∷ []) c.reserve.ensures.items in
+    let h' = c.note.new.history.items in
+    let state : done.0 ≡ state_after i.image h' = sym (state_after-stepped i.image h p done.0 step_is) ∙ ap (state_after i.image) (sym is) in
+    record {
+      shown = subst (Shows i.image (snapshot_of c.step.new.self)) state done.2;
+      legal = subst (IsLegal i.image i.cells i.limit) (sym is) (legal-stepped i.image i.cells i.limit h p done.0 c.self.invariant.legal lt step_is);
+      named = subst (IsStop i.image i.limit h') (sym none) tt;
+    }
+
+pub returns : goal.returns
+returns c =
+    let i = c.self.inside in
+    let h = i.history.items in
+    let s = state_after i.image h in
+    let p = c.args.p in
+    let e : Entry = record { process = p; steps = 1 } in
+    let done = c.in_ok-step.ensures i.image s c.code.ensures c.if-not-self.false c.self.invariant.shown in
+    let step_is : step i.image p s ≡ Some done.0 = rw c.if-p-ne1.false done.1 in
+    let none : i.stop ≡ None = search rules in
+    let lt : length h < i.limit = omega (arith, c.len.ensures) in
+    let is : c.note.new.history.items ≡ h ++ e ∷ [] = c.note.ensures ∙ ap (λ xs. xs ++ e ∷ []) c.reserve.ensures.items in
+    let view = shows_view i.image (snapshot_of c.step.new.self) done.0 done.2 in
+    let stop : i.stop ≡ stop_after done.0 = none ∙ rw done.2.running refl in
+    rw (← c.self.view_is) (none, lt, (done.0, step_is, λ j. record (core_value i) { history = is j; stop = stop j; view = view j }))

@@ -1,0 +1,9 @@
+use Rattle.std.proofs.Common.{◌≡◌, drop}
+use Rattle.hep_source.specs.Names.{with_names, names_in_items, first_real}
+use Rattle.hep_core.proofs.symbols.declare_items.Given as goal
+
+abbrev pub invariant-loop-item : goal.invariant-loop-item
+invariant-loop-item l = record {
+  keys : with_names l.symbols.keys (names_in_items (drop l.item-index l.items)) ≡ with_names l.initial.symbols.keys (names_in_items l.items);
+  typed : first_real (names_in_items (drop l.item-index l.items)) ≡ first_real (names_in_items l.items);
+}

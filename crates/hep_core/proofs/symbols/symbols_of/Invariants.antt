@@ -1,0 +1,9 @@
+use Rattle.std.proofs.Common.{◌≡◌, drop}
+use Rattle.hep_source.specs.Names.{with_statements, variables_of, first_untyped}
+use Rattle.hep_core.proofs.symbols.symbols_of.Given as goal
+
+abbrev pub invariant-loop-statement : goal.invariant-loop-statement
+invariant-loop-statement l = record {
+  keys : with_statements l.symbols.keys (drop l.statement-index l.statements) ≡ variables_of l.statements;
+  typed : first_untyped (drop l.statement-index l.statements) ≡ first_untyped l.statements;
+}

@@ -1,0 +1,52 @@
+-- The operations of a partly evaluated statement: postfix order, operands from left to right.
+use Rattle.std.specs.Prelude.{ℕ, suc, if◌then◌else◌, List, [], ◌∷◌, ◌++◌}
+use Rattle.hep_source.specs.declared.name.Name.{Name}
+use Rattle.hep_source.specs.declared.statement.PrintItem.{PrintItem}
+use Rattle.hep_source.specs.declared.statement.PrintItem.TheVariants.{Expression, Characters}
+use Rattle.hep_source.specs.declared.statement.Form.{Form}
+use Rattle.hep_source.specs.declared.statement.Form.TheVariants as form
+use Rattle.hep_source.specs.declared.statement.Statement.{Statement}
+use Rattle.hep_source.specs.declared.record.Item.TheVariants as item
+use Rattle.hep_source.specs.Tree.{Tree, constant, place, parenthesized, signed, binary}
+use Rattle.hep_source.specs.Names.{same_name, variables_of}
+use Rattle.hep_source.specs.Evaluation.{item_of}
+use Rattle.hep_source.specs.Units.{Units, unit_at, main_unit}
+use Rattle.hep_core.specs.declared.operation.Evaluation.TheVariants.{Load, Sign, Binary}
+use Rattle.hep_core.specs.declared.operation.Operation.TheVariants.{Evaluate, Store, Print, End}
+use Rattle.hep_core.specs.declared.operation.Instruction.{Instruction}
+use Rattle.hep_core.specs.declared.operation.Instruction.TheVariants.{Push, Step}
+
+-- the number of a variable, and of a name that is none how many there are
+abbrev pub number_of : List Name → Name → ℕ
+number_of [] x = 0
+number_of (y ∷ ys) x = if same_name x y then 0 else suc (number_of ys x)
+
+module _ (symbols : List Name) where
+  -- the operations of an expression in a statement with this line
+  abbrev pub tree_code : ℕ → Tree → List Instruction
+  tree_code line (constant v) = Push (item_of v) ∷ []
+  tree_code line (place p) = Step line (Evaluate (Load (number_of symbols p.name))) ∷ []
+  tree_code line (parenthesized t) = tree_code line t
+  tree_code line (signed s t) = tree_code line t ++ Step line (Evaluate (Sign s)) ∷ []
+  tree_code line (binary o a b) = tree_code line a ++ (tree_code line b ++ Step line (Evaluate (Binary o)) ∷ [])
+
+  abbrev pub items_code : ℕ → List PrintItem → List Instruction
+  items_code line [] = []
+  items_code line (Expression t ∷ items) = tree_code line t ++ items_code line items
+  items_code line (Characters cs ∷ items) = Push (item.Text cs) ∷ items_code line items
+
+  -- a statement that isn't executable has none
+  abbrev pub form_code : ℕ → Form → List Instruction
+  form_code line (form.Program x) = []
+  form_code line (form.Assign p t) = tree_code line t ++ Step line (Store (number_of symbols p.name)) ∷ []
+  form_code line (form.Print items) = items_code line items ++ Step line Print ∷ []
+  form_code line form.End = Step line End ∷ []
+
+  -- the operations of statements, and an END behind the last one
+  abbrev pub code_from : List Statement → List Instruction
+  code_from [] = Step 0 End ∷ []
+  code_from (s ∷ ss) = form_code s.line s.form ++ code_from ss
+
+-- the operations of the main program
+unfoldable pub program_code : Units → List Instruction
+program_code program = let unit = unit_at program main_unit in code_from (variables_of unit) unit

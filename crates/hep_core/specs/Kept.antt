@@ -1,0 +1,50 @@
+-- What a core keeps, and what is seen of it.
+use Rattle.std.specs.Prelude.{ℕ, Bool, true, false, List, [], ◌∷◌, drop}
+use Rattle.hep_source.specs.Units.{Units, main_unit}
+use Rattle.hep_source.specs.Run.{state_after}
+use Rattle.hep_source.specs.Histories.{IsLegal}
+use Rattle.hep_source.specs.Views.{View, Standing}
+use Rattle.hep_core.specs.declared.operation.Instruction.{Instruction}
+use Rattle.hep_core.specs.declared.operation.Instruction.TheVariants.{Push, Step}
+use Rattle.hep_core.specs.Code.{program_code}
+use Rattle.hep_core.specs.Machine.{Snapshot, snapshot_of}
+use Rattle.hep_core.specs.Shown.{Shows}
+use Rattle.hep_core.specs.Value.{CoreValue, IsStop}
+use Rattle.hep_core.specs.declared.scheduler.Core.TheInside.{Inside}
+
+-- the line of the operation that comes next
+abbrev pub line_ahead : List Instruction → ℕ
+line_ahead [] = 0
+line_ahead (Push i ∷ is) = line_ahead is
+line_ahead (Step line o ∷ is) = line
+
+abbrev pub standing_if : Bool → ℕ → List Standing
+standing_if true line = record { process = 1; unit = main_unit; line = line } ∷ []
+standing_if false line = []
+
+-- what is seen of a machine, read from what it keeps
+abbrev pub kept_view : Units → Snapshot → View
+kept_view program m =
+    record {
+      records = m.records;
+      faults = m.faults;
+      halted = false;
+      processes = standing_if m.is_living (line_ahead (drop m.place (program_code program)));
+      values = m.cells;
+    }
+
+abbrev pub core_value : Inside → CoreValue
+core_value c =
+    record {
+      program = c.image;
+      cells = c.cells;
+      limit = c.limit;
+      history = c.history.items;
+      stop = c.stop;
+      view = kept_view c.image (snapshot_of c.machine);
+    }
+
+pub record IsKept (c : Inside) : Type 0 where
+  pub shown : Shows c.image (snapshot_of c.machine) (state_after c.image c.history.items)
+  pub legal : IsLegal c.image c.cells c.limit c.history.items
+  pub named : IsStop c.image c.limit c.history.items c.stop

@@ -1,0 +1,16 @@
+-- What comes of declaring the variables of a unit.
+use Rattle.std.specs.Prelude.{◌≡◌, ℕ, List, Option, Some, None}
+use Rattle.hep_source.specs.declared.name.Name.{Name}
+use Rattle.hep_source.specs.Names.{spelling, first_real, or_later}
+use Rattle.hep_core.specs.declared.fault.ImageFault.{ImageFault}
+use Rattle.hep_core.specs.declared.fault.ImageFault.TheVariants.{NoMemory, Refused}
+
+-- the first of these names that is no integer, with the line of their statement
+abbrev pub untyped_in : ℕ → List Name → Option (ℕ × Name)
+untyped_in line names = or_later line (first_real names) None
+
+-- the fault is 301 for this name and line, or want of memory
+abbrev pub Reports : ImageFault → Option (ℕ × Name) → Type 0
+Reports NoMemory found = Unit {0}
+Reports (Refused number line name) None = ⊥
+Reports (Refused number line name) (Some x) = (number ≡ 301) × (line ≡ x.0) × (name ≡ spelling x.1)

@@ -1,0 +1,96 @@
+//! Why a call of this crate is refused.
+
+use crate::stop::Stop;
+use hep_source::Text;
+use std::alloc::{AllocError, AllocFailed};
+use thiserror::Error;
+
+/// Why a program has no image.
+#[derive(Debug, Drop, Error)]
+pub enum ImageFault {
+    #[error("no memory")]
+    NoMemory,
+    /// 301, with the line of the statement and the name: a variable has no INTEGER or LOGICAL
+    /// declaration, and its letter isn't I to N (X3.9-1978, 4.1.2).
+    #[error("refused {number} in line {line}")]
+    Refused { number: u16, line: u32, name: Text },
+}
+
+impl From<AllocError> for ImageFault {
+    ghost use Rattle.std.specs.Prelude.{◌≡◌};
+    ghost use Rattle.hep_core.specs.declared.fault.ImageFault.TheVariants.{NoMemory};
+
+    ghost from_gives = { λ _ e. e ≡ NoMemory };
+
+    fn from(_refused: AllocError) -> ImageFault {
+        ImageFault::NoMemory
+    }
+}
+
+impl<T: Drop> From<AllocFailed<T>> for ImageFault {
+    ghost use Rattle.std.specs.Prelude.{◌≡◌};
+    ghost use Rattle.hep_core.specs.declared.fault.ImageFault.TheVariants.{NoMemory};
+
+    ghost from_gives = { λ _ e. e ≡ NoMemory };
+
+    fn from(_refused: AllocFailed<T>) -> ImageFault {
+        ImageFault::NoMemory
+    }
+}
+
+/// Why no core is made.
+#[derive(Clone, Copy, Debug, PartialEq, Eq, Error)]
+pub enum NewFault {
+    #[error("no memory")]
+    NoMemory,
+    /// The main program's frame doesn't fit the arena.
+    #[error("arena full")]
+    ArenaFull,
+}
+
+impl From<AllocError> for NewFault {
+    ghost use Rattle.std.specs.Prelude.{◌≡◌};
+    ghost use Rattle.hep_core.specs.declared.fault.NewFault.TheVariants.{NoMemory};
+
+    ghost from_gives = { λ _ e. e ≡ NoMemory };
+
+    fn from(_refused: AllocError) -> NewFault {
+        NewFault::NoMemory
+    }
+}
+
+impl<T: Drop> From<AllocFailed<T>> for NewFault {
+    ghost use Rattle.std.specs.Prelude.{◌≡◌};
+    ghost use Rattle.hep_core.specs.declared.fault.NewFault.TheVariants.{NoMemory};
+
+    ghost from_gives = { λ _ e. e ≡ NoMemory };
+
+    fn from(_refused: AllocFailed<T>) -> NewFault {
+        NewFault::NoMemory
+    }
+}
+
+/// Why a choice is refused. A refused choice changes nothing, save that a stop may be set.
+#[derive(Clone, Copy, Debug, PartialEq, Eq, Error)]
+pub enum ChooseFault {
+    /// 503: the core has stopped, now or before.
+    #[error("stopped")]
+    Stopped(Stop),
+    /// 501: the process was never made or has ended.
+    #[error("no such process")]
+    NoSuchProcess,
+    /// 504: a growth was refused; nothing has changed.
+    #[error("no memory")]
+    NoMemory,
+}
+
+impl From<AllocError> for ChooseFault {
+    ghost use Rattle.std.specs.Prelude.{◌≡◌};
+    ghost use Rattle.hep_core.specs.declared.fault.ChooseFault.TheVariants.{NoMemory};
+
+    ghost from_gives = { λ _ e. e ≡ NoMemory };
+
+    fn from(_refused: AllocError) -> ChooseFault {
+        ChooseFault::NoMemory
+    }
+}

@@ -1,0 +1,155 @@
+//! Images: a program with its operations.
+ghost use Rattle.std.specs.Prelude.{◌≡◌, ◌<◌, ◌++◌, ◌^◌, ◌∷◌, [], None, Some, IfOk, OnOk, MatchResult, length, map, option_map, slice_get};
+ghost use Rattle.hep_source.specs.Names.{first_untyped, spelling as spelling_of};
+ghost use Rattle.hep_source.specs.Units as units;
+ghost use Rattle.hep_core.specs.Symbols.{Reports};
+ghost use Rattle.hep_core.specs.Code.{program_code};
+ghost use Rattle.hep_core.specs.Shown.{main_variables};
+ghost use Rattle.hep_core.specs.Names as words;
+
+use crate::fault::ImageFault;
+use crate::lower::code_of;
+use crate::operation::Instruction;
+use crate::symbols::{spelling, symbols_of};
+use hep_source::{Form, Name, Program, Statement, Text, Unit};
+use indexmap::IndexSet;
+use std::alloc::{AllocError, Global};
+use std::marker::Model;
+
+/// A program that can run: its tree, its operations and its names. Contracts see the program.
+#[derive(Drop)]
+pub struct Image {
+    program: Program,
+    code: Vec<Instruction>,
+    /// How many variables the main program has.
+    variables: usize,
+    names: Vec<Text>,
+}
+
+impl Model for Image {
+    ghost use Rattle.std.specs.Prelude.{List};
+    ghost use Rattle.hep_source.specs.declared.statement.Statement.{Statement};
+    ghost use Rattle.hep_source.specs.contracts.expression.Expr as expression;
+    ghost use Rattle.std.specs.Coded.{codes};
+
+    ghost Value = { List (List Statement) };
+
+    ghost coded = { Prim.hlevel (codes, expression.the_row.coded) };
+
+    ghost use Rattle.hep_core.specs.Image.{IsImage};
+
+    ghost view = { λ a. a.program };
+
+    ghost invariant = { IsImage };
+}
+
+impl Image {
+    /// The name with this number, of a unit or a variable: first the units in the order of the
+    /// source, a main program without PROGRAM statement as `MAIN`, then the variables in order of
+    /// first appearance. None where there is no such number.
+    pub fn name(&self, number: u32) -> Option<&[u8]>
+        ensures { option_map (λ name. name.now) result ≡ slice_get (words.names_of self.now) number }
+    {
+        let name = self.names.get(number as usize)?;
+        Some(name.as_slice())
+    }
+
+    /// The program that the image was made from.
+    pub fn program(&self) -> &Program
+        ensures { result.now ≡ self.now }
+    {
+        &self.program
+    }
+
+    /// The operations of the main program.
+    pub fn code(&self) -> &[Instruction]
+        ensures { result.now ≡ program_code self.now }
+    {
+        &self.code
+    }
+
+    /// How many variables the main program has.
+    pub fn variables(&self) -> usize
+        ensures { result ≡ length (main_variables self.now) }
+    {
+        self.variables
+    }
+}
+
+// The statements of the main program.
+fn main_statements(program: &Program) -> &[Statement]
+    ensures { result.now ≡ units.unit_at program.now units.main_unit }
+{
+    match program.as_slice() {
+        [] => &[],
+        [main, ..] => main.as_slice(),
+    }
+}
+
+// The name of a unit, or MAIN where it has no header.
+fn unit_name(alloc: Global, statements: &[Statement]) -> Result<Text, AllocError>
+    ensures { IfOk result (λ name. name ≡ units.unit_name statements.now) }
+{
+    if let [first, ..] = statements {
+        if let Form::Program(name) = &first.form {
+            return spelling(alloc, name);
+        }
+    }
+    Ok(Text::from(Vec::from_slice(alloc, b"MAIN")?))
+}
+
+// Appends the names of these units.
+fn add_unit_names(alloc: Global, names: &mut Vec<Text>, list: &[Unit]) -> Result<(), AllocError>
+    ensures { OnOk result (names.new.items ≡ names.old.items ++ map units.unit_name list.now) }
+{
+    for unit in list {
+        names.push(unit_name(alloc, unit.as_slice())?)?;
+    }
+    Ok(())
+}
+
+// Appends the spellings of these variables.
+fn add_spellings(alloc: Global, names: &mut Vec<Text>, list: &[Name]) -> Result<(), AllocError>
+    ensures { OnOk result (names.new.items ≡ names.old.items ++ map spelling_of list.now) }
+{
+    for name in list {
+        names.push(spelling(alloc, name)?)?;
+    }
+    Ok(())
+}
+
+// The names of a program with these variables.
+fn names_of(
+    alloc: Global,
+    program: &Program,
+    symbols: &IndexSet<Name>,
+) -> Result<Vec<Text>, AllocError>
+    requires { symbols.now.keys ≡ main_variables program.now }
+    ensures { IfOk result (λ names. names.items ≡ words.names_of program.now) }
+{
+    let mut names = Vec::new(alloc);
+    add_unit_names(alloc, &mut names, program.as_slice())?;
+    add_spellings(alloc, &mut names, symbols.as_slice())?;
+    Ok(names)
+}
+
+/// The image of a program.
+///
+/// # Errors
+///
+/// 301 for the first variable whose letter isn't I to N, with its line and name; or want of memory.
+pub fn image_of(alloc: Global, program: Program) -> Result<Image, ImageFault>
+    ensures { MatchResult result (λ image. (image ≡ program) × (first_untyped (units.unit_at program units.main_unit) ≡ None)) (λ e. Reports e (first_untyped (units.unit_at program units.main_unit))) }
+{
+    let statements = main_statements(&program);
+    let symbols = symbols_of(alloc, statements)?;
+    let code = code_of(alloc, &symbols, statements)?;
+    let names = names_of(alloc, &program, &symbols)?;
+    let variables = symbols.len();
+    Ok(Image {
+        program,
+        code,
+        variables,
+        names,
+    })
+}

@@ -1,0 +1,247 @@
+//! The state of a run: the process, its operands, the variables, the records and the faults.
+ghost use Rattle.std.specs.Prelude.{◌≡◌, ◌≢◌, ◌+◌, ◌-◌, ◌<◌, ◌≤◌, ◌++◌, ◌∷◌, [], Some, None, true, IfOk, OnOk, MatchResult, length, map, drop, take, replicate, slice_get, ◌^◌, vec_len, vec_capacity};
+ghost use Rattle.hep_source.specs.declared.record.Item.{Item};
+ghost use Rattle.hep_source.specs.Units.{Units};
+ghost use Rattle.hep_source.specs.State.{State};
+ghost use Rattle.hep_core.specs.Code.{program_code};
+ghost use Rattle.hep_core.specs.Machine as words;
+ghost use Rattle.hep_core.specs.Shown.{Shows, Stepped};
+
+use crate::lower::{copy_of_text, item_of};
+use crate::operation::{Evaluation, Instruction, Operation};
+use hep_source::arithmetic::{apply, apply_sign};
+use hep_source::{Fault, Item, Kind, Record, Value};
+use std::alloc::{AllocError, Global};
+use std::mem;
+
+/// The state of a run. Today there is one process, with number 1.
+#[derive(Drop)]
+pub struct Machine {
+    pub is_living: bool,
+    /// The place of the next operation.
+    pub place: usize,
+    /// What was evaluated of the statement so far, the last operand on top.
+    pub operands: Vec<Item>,
+    /// The value of each variable, if it was ever assigned.
+    pub cells: Vec<Option<Value>>,
+    pub records: Vec<Record>,
+    pub faults: Vec<Fault>,
+}
+
+// A copy of an operand.
+fn copy_of_item(alloc: Global, item: &Item) -> Result<Item, AllocError>
+    ensures { IfOk result (λ copy. copy ≡ item.now) }
+{
+    match item {
+        Item::Int(integer) => Ok(Item::Int(*integer)),
+        Item::Truth(truth) => Ok(Item::Truth(*truth)),
+        Item::Text(text) => Ok(Item::Text(copy_of_text(alloc, text)?)),
+    }
+}
+
+// The integer that the operand at a depth is, the topmost one at 1.
+fn integer_at(operands: &[Item], depth: usize) -> i64
+    ensures { result ≡ words.integer_in (words.operand_at operands.now depth) }
+{
+    match operands.get(operands.len().saturating_sub(depth)) {
+        Some(Item::Int(integer)) => *integer,
+        _ => 0,
+    }
+}
+
+// The value that the topmost operand is.
+fn topmost_value(operands: &[Item]) -> Value
+    ensures { result ≡ words.value_in (words.operand_at operands.now 1) }
+{
+    match operands.last() {
+        Some(Item::Int(integer)) => Value::Int(*integer),
+        Some(Item::Truth(truth)) => Value::Truth(*truth),
+        _ => Value::Int(0),
+    }
+}
+
+impl Evaluation {
+    // How many operands the operation takes.
+    fn arity(self) -> usize
+        ensures { result ≡ words.arity self }
+    {
+        match self {
+            Evaluation::Load(_) => 0,
+            Evaluation::Sign(_) => 1,
+            Evaluation::Binary(_) => 2,
+        }
+    }
+}
+
+// Puts the constants that come next on top, which are no steps.
+fn settle(
+    alloc: Global,
+    code: &[Instruction],
+    operands: &mut Vec<Item>,
+    place: &mut usize,
+) -> Result<(), AllocError>
+    ensures same { map Instruction.Push operands.new.items ++ drop place.new code.now ≡ map Instruction.Push operands.old.items ++ drop place.old code.now }
+    ensures settled { OnOk result ((item : Item) → slice_get code.now place.new ≢ Some (Instruction.Push item)) }
+{
+    while let Some(Instruction::Push(item)) = code.get(*place) {
+        let item = copy_of_item(alloc, item)?;
+        operands.push(item)?;
+        *place += 1;
+    }
+    Ok(())
+}
+
+// Puts an item where the last operands were, so many of them; a refusal leaves all as it was.
+fn replace_operands(operands: &mut Vec<Item>, taken: usize, item: Item) -> Result<(), AllocError>
+    ensures { MatchResult result (λ _. operands.new.items ≡ take (length operands.old.items - taken) operands.old.items ++ item ∷ []) (λ _. operands.new.items ≡ operands.old.items) }
+{
+    operands.reserve(1)?;
+    operands.truncate(operands.len().saturating_sub(taken));
+    push_within(operands, item);
+    Ok(())
+}
+
+// Appends an item, for which there is room.
+fn push_within(operands: &mut Vec<Item>, item: Item)
+    requires { vec_len operands.old < vec_capacity operands.old }
+    ensures { operands.new.items ≡ operands.old.items ++ item ∷ [] }
+{
+    let _ = operands.push(item);
+}
+
+impl Machine {
+    /// The opening: process 1 at its first operation, no variable assigned.
+    ///
+    /// # Errors
+    ///
+    /// Only where memory was refused.
+    pub fn opening(alloc: Global, variables: usize) -> Result<Machine, AllocError>
+        ensures { IfOk result (λ machine. words.snapshot_of machine ≡ words.opening_snapshot variables) }
+    {
+        Ok(Machine {
+            is_living: true,
+            place: 0,
+            operands: Vec::new(alloc),
+            cells: unassigned(alloc, variables)?,
+            records: Vec::new(alloc),
+            faults: Vec::new(alloc),
+        })
+    }
+
+    /// One step of the process, by the program's operations.
+    ///
+    /// # Errors
+    ///
+    /// Only where memory was refused; the machine then shows the same state.
+    pub fn step(&mut self, alloc: Global, code: &[Instruction]) -> Result<(), AllocError>
+        ensures { (program : Units) (s : State) → code.now ≡ program_code program → self.old.is_living ≡ true → Shows program (words.snapshot_of self.old) s → Stepped program result (words.snapshot_of self.new) s }
+    {
+        settle(alloc, code, &mut self.operands, &mut self.place)?;
+        let Some(Instruction::Step { line, operation }) = code.get(self.place) else {
+            return Ok(());
+        };
+        match *operation {
+            Operation::Evaluate(evaluation) => match self.evaluate(evaluation) {
+                Ok(value) => self.give(evaluation, value),
+                Err(kind) => self.fail(*line, kind),
+            },
+            Operation::Store(number) => {
+                self.store(number);
+                Ok(())
+            }
+            Operation::Print => self.print(alloc),
+            Operation::End => {
+                self.is_living = false;
+                Ok(())
+            }
+        }
+    }
+
+    // What an operation gives: its value, or the fault that ends the process.
+    fn evaluate(&self, evaluation: Evaluation) -> Result<Value, Kind>
+        ensures { result ≡ words.evaluated self.now.cells.items self.now.operands.items evaluation }
+    {
+        match evaluation {
+            Evaluation::Load(number) => match self.cells.get(number) {
+                Some(Some(value)) => Ok(*value),
+                _ => Err(Kind::Undefined),
+            },
+            Evaluation::Sign(sign) => {
+                Ok(Value::Int(apply_sign(sign, integer_at(&self.operands, 1))?))
+            }
+            Evaluation::Binary(operator) => {
+                let left = integer_at(&self.operands, 2);
+                let right = integer_at(&self.operands, 1);
+                Ok(Value::Int(apply(operator, left, right)?))
+            }
+        }
+    }
+
+    // Goes on with the value of an operation in the place of its operands.
+    fn give(&mut self, evaluation: Evaluation, value: Value) -> Result<(), AllocError>
+        requires { self.old.place + 1 < 2 ^ 64 }
+        ensures { MatchResult result (λ _. words.snapshot_of self.new ≡ words.with_result (words.snapshot_of self.old) evaluation value) (λ _. words.snapshot_of self.new ≡ words.snapshot_of self.old) }
+    {
+        replace_operands(&mut self.operands, evaluation.arity(), item_of(value))?;
+        self.place += 1;
+        Ok(())
+    }
+
+    // Ends the process with a fault.
+    fn fail(&mut self, line: u32, kind: Kind) -> Result<(), AllocError>
+        ensures { MatchResult result (λ _. words.snapshot_of self.new ≡ words.with_fault (words.snapshot_of self.old) line kind) (λ _. words.snapshot_of self.new ≡ words.snapshot_of self.old) }
+    {
+        self.faults.push(Fault {
+            process: 1,
+            unit: 0,
+            line,
+            kind,
+        })?;
+        self.is_living = false;
+        Ok(())
+    }
+
+    // Assigns the topmost operand to a variable.
+    fn store(&mut self, number: usize)
+        requires { self.old.place + 1 < 2 ^ 64 }
+        ensures { words.snapshot_of self.new ≡ words.with_stored (words.snapshot_of self.old) number }
+    {
+        let value = topmost_value(&self.operands);
+        if let Some(cell) = self.cells.get_mut(number) {
+            *cell = Some(value);
+        }
+        self.operands.pop();
+        self.place += 1;
+    }
+
+    // Adds a record of all operands.
+    fn print(&mut self, alloc: Global) -> Result<(), AllocError>
+        requires { self.old.place + 1 < 2 ^ 64 }
+        ensures { MatchResult result (λ _. words.snapshot_of self.new ≡ words.with_printed (words.snapshot_of self.old)) (λ _. words.snapshot_of self.new ≡ words.snapshot_of self.old) }
+    {
+        self.records.reserve(1)?;
+        let items = mem::replace(&mut self.operands, Vec::new(alloc));
+        add_record(&mut self.records, Record::from(items));
+        self.place += 1;
+        Ok(())
+    }
+}
+
+// Appends a record, for which there is room.
+fn add_record(records: &mut Vec<Record>, added: Record)
+    requires { vec_len records.old < vec_capacity records.old }
+    ensures { records.new.items ≡ records.old.items ++ added ∷ [] }
+{
+    let _ = records.push(added);
+}
+
+// So many variables, none assigned.
+fn unassigned(alloc: Global, variables: usize) -> Result<Vec<Option<Value>>, AllocError>
+    ensures { IfOk result (λ cells. cells.items ≡ replicate variables None) }
+{
+    let mut cells = Vec::with_capacity(alloc, variables)?;
+    for _variable in 0..variables {
+        cells.push(None)?;
+    }
+    Ok(cells)
+}

@@ -1,0 +1,129 @@
+//! The variables of a unit, in order of first appearance.
+
+ghost use Rattle.std.specs.Prelude.{◌≡◌, ◌∷◌, [], None, IfOk, MatchResult};
+ghost use Rattle.hep_source.specs.Names as names;
+ghost use Rattle.hep_core.specs.Symbols.{untyped_in, Reports};
+
+use crate::fault::ImageFault;
+use hep_source::{Expr, Form, Name, Node, PrintItem, Statement, Text};
+use indexmap::IndexSet;
+use std::alloc::{AllocError, Global};
+
+/// Whether a variable of this name is an integer without a declaration: its letter is I to N
+/// (X3.9-1978, 4.1.2).
+pub fn is_integer_by_letter(name: &Name) -> bool
+    ensures { result ≡ names.is_integer_by_letter name.now }
+{
+    b'I' <= name.letters[0] && name.letters[0] <= b'N'
+}
+
+/// The characters of a name, with `$` before it where it is asynchronous.
+///
+/// # Errors
+///
+/// Only where memory was refused.
+pub fn spelling(alloc: Global, name: &Name) -> Result<Text, AllocError>
+    ensures { IfOk result (λ text. text ≡ names.spelling name.now) }
+{
+    let mut characters = Vec::with_capacity(alloc, 7)?;
+    if name.asynchronous {
+        characters.push(b'$')?;
+    }
+    for letter in &name.letters {
+        if *letter != b' ' {
+            characters.push(*letter)?;
+        }
+    }
+    Ok(Text::from(characters))
+}
+
+fn declare(
+    alloc: Global,
+    symbols: &mut IndexSet<Name>,
+    line: u32,
+    name: Name,
+) -> Result<(), ImageFault>
+    ensures { MatchResult result (λ _. (symbols.new.keys ≡ names.with_names symbols.old.keys (name ∷ [])) × (names.first_real (name ∷ []) ≡ None)) (λ e. Reports e (untyped_in line (name ∷ []))) }
+{
+    if !is_integer_by_letter(&name) {
+        let name = spelling(alloc, &name)?;
+        return Err(ImageFault::Refused {
+            number: 301,
+            line,
+            name,
+        });
+    }
+    symbols.insert(name)?;
+    Ok(())
+}
+
+fn declare_in(
+    alloc: Global,
+    symbols: &mut IndexSet<Name>,
+    line: u32,
+    expression: &Expr,
+) -> Result<(), ImageFault>
+    ensures { MatchResult result (λ _. (symbols.new.keys ≡ names.with_names symbols.old.keys (names.names_in expression.now)) × (names.first_real (names.names_in expression.now) ≡ None)) (λ e. Reports e (untyped_in line (names.names_in expression.now))) }
+{
+    match &expression.node {
+        Node::Constant(_) => Ok(()),
+        Node::Place(place) => declare(alloc, symbols, line, place.name),
+        Node::Parenthesized(inner) => declare_in(alloc, symbols, line, inner),
+        Node::Signed(_, term) => declare_in(alloc, symbols, line, term),
+        Node::Binary(_, left, right) => {
+            declare_in(alloc, symbols, line, left)?;
+            declare_in(alloc, symbols, line, right)
+        }
+    }
+}
+
+fn declare_items(
+    alloc: Global,
+    symbols: &mut IndexSet<Name>,
+    line: u32,
+    items: &[PrintItem],
+) -> Result<(), ImageFault>
+    ensures { MatchResult result (λ _. (symbols.new.keys ≡ names.with_names symbols.old.keys (names.names_in_items items.now)) × (names.first_real (names.names_in_items items.now) ≡ None)) (λ e. Reports e (untyped_in line (names.names_in_items items.now))) }
+{
+    for item in items {
+        match item {
+            PrintItem::Expression(expression) => declare_in(alloc, symbols, line, expression)?,
+            PrintItem::Characters(_) => {}
+        }
+    }
+    Ok(())
+}
+
+fn declare_statement(
+    alloc: Global,
+    symbols: &mut IndexSet<Name>,
+    statement: &Statement,
+) -> Result<(), ImageFault>
+    ensures { MatchResult result (λ _. (symbols.new.keys ≡ names.with_names symbols.old.keys (names.names_in_form statement.now.form)) × (names.first_real (names.names_in_form statement.now.form) ≡ None)) (λ e. Reports e (untyped_in statement.now.line (names.names_in_form statement.now.form))) }
+{
+    let line = statement.line;
+    match &statement.form {
+        Form::Program(_) => Ok(()),
+        Form::Assign(place, expression) => {
+            declare(alloc, symbols, line, place.name)?;
+            declare_in(alloc, symbols, line, expression)
+        }
+        Form::Print(list) => declare_items(alloc, symbols, line, list.as_slice()),
+        Form::End => Ok(()),
+    }
+}
+
+/// The variables of these statements.
+///
+/// # Errors
+///
+/// 301 for the first variable that is no integer by its letter, or want of memory.
+pub fn symbols_of(alloc: Global, statements: &[Statement]) -> Result<IndexSet<Name>, ImageFault>
+    ensures { MatchResult result (λ symbols. (symbols.keys ≡ names.variables_of statements.now) × (names.first_untyped statements.now ≡ None)) (λ e. Reports e (names.first_untyped statements.now)) }
+{
+    let mut symbols = IndexSet::new(alloc);
+    for statement in statements {
+        declare_statement(alloc, &mut symbols, statement)?;
+    }
+    Ok(symbols)
+}

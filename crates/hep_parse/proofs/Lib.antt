@@ -1,0 +1,12 @@
+pub mod Chains
+pub mod Decimals
+pub mod Lists
+pub mod Leaves
+pub mod Sound
+pub mod Complete
+pub mod Items
+pub mod Forms
+pub mod Programs
+pub mod Faults
+pub mod Outcomes
+pub mod Worked

@@ -1,0 +1,14 @@
+use Rattle.hep_parse.proofs.Outcomes.{accepted, complete, refused, first_told}
+use Rattle.hep_parse.proofs.program.parse.Goals as goal
+
+pub returns-clause-accepted : goal.returns-clause-accepted
+returns-clause-accepted c = accepted c.args.statements.now c.program.result c.program.ensures
+
+pub returns-clause-complete : goal.returns-clause-complete
+returns-clause-complete c = complete c.args.statements.now c.program.result c.program.ensures
+
+pub returns-clause-refused : goal.returns-clause-refused
+returns-clause-refused c = refused c.args.statements.now c.program.result c.program.ensures
+
+pub returns-clause-told : goal.returns-clause-told
+returns-clause-told c = first_told c.args.statements.now c.program.result c.program.ensures

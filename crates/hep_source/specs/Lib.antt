@@ -1,0 +1,15 @@
+pub mod Tree
+pub mod TreeCode
+pub mod View
+pub mod Falls
+pub mod Arithmetic
+pub mod Names
+pub mod Units
+pub mod Storage
+pub mod Evaluation
+pub mod State
+pub mod Step
+pub mod Run
+pub mod Layout
+pub mod Histories
+pub mod Views

@@ -1,0 +1,37 @@
+-- Storage units, and what they hold.
+use Rattle.std.specs.Prelude.{ℕ, Bool, true, false, ◌&&◌, nat_eq, if◌then◌else◌, Option, None}
+use Rattle.hep_source.specs.declared.name.Name.{Name}
+use Rattle.hep_source.specs.declared.value.Value.{Value}
+use Rattle.hep_source.specs.Names.{same_name}
+
+-- where a storage unit is: element number of a variable of an activation, or position in a common block
+-- (X3.9-1978, 2.14 and 8.3)
+pub data Location : Type 0 where
+  local : (activation : ℕ) (name : Name) (element : ℕ) → Location
+  common : (block : Name) (position : ℕ) → Location
+
+-- a storage unit: the value that was stored last, if any, and whether it is full
+pub record Cell : Type 0 where
+  pub value : Option Value
+  pub full : Bool
+
+-- undefined (17.2), or empty without a value
+abbrev pub unset : Cell
+unset = record { value = None; full = false }
+
+abbrev pub Store : Type 0
+Store = Location → Cell
+
+abbrev pub same_location : Location → Location → Bool
+same_location (local a x i) (local b y j) = nat_eq a b && (same_name x y && nat_eq i j)
+same_location (local a x i) (common n k) = false
+same_location (common m j) (local b y i) = false
+same_location (common m j) (common n k) = same_name m n && nat_eq j k
+
+-- the store with this cell at a location
+abbrev pub with_cell : Store → Location → Cell → Store
+with_cell store at cell location = if same_location location at then cell else store location
+
+-- the store with this value at a plain location
+abbrev pub with_value : Store → Location → Option Value → Store
+with_value store at value = with_cell store at (record { value = value; full = (store at).full })

@@ -1,0 +1,60 @@
+-- The units of a program and their statements.
+use Rattle.std.specs.Prelude.{ℕ, zero, suc, ◌+◌, Bool, true, false, if◌then◌else◌, List, [], ◌∷◌, Option, Some, None, slice_get, drop}
+use Rattle.hep_source.specs.declared.name.Name.{Name}
+use Rattle.hep_source.specs.declared.statement.Form.{Form}
+use Rattle.hep_source.specs.declared.statement.Form.TheVariants.{Program, Assign, Print, End}
+use Rattle.hep_source.specs.declared.statement.Statement.{Statement}
+use Rattle.hep_source.specs.Names.{spelling}
+
+-- a program: the statements of each unit, in the order of the source
+abbrev pub Units : Type 0
+Units = List (List Statement)
+
+abbrev pub or_empty : Option (List Statement) → List Statement
+or_empty None = []
+or_empty (Some statements) = statements
+
+-- the statements of a unit
+abbrev pub unit_at : Units → ℕ → List Statement
+unit_at program u = or_empty (slice_get program u)
+
+-- the main program is the one unit that a program has today
+abbrev pub main_unit : ℕ
+main_unit = 0
+
+-- the name that a unit has, MAIN (77 65 73 78) for a main program without PROGRAM statement: X3.9-1978, 14.1
+abbrev pub unit_name : List Statement → List ℕ
+unit_name [] = 77 ∷ 65 ∷ 73 ∷ 78 ∷ []
+unit_name (s ∷ ss) = elim s.form [ Program x ↦ spelling x | Assign p t ↦ 77 ∷ 65 ∷ 73 ∷ 78 ∷ [] | Print items ↦ 77 ∷ 65 ∷ 73 ∷ 78 ∷ [] | End ↦ 77 ∷ 65 ∷ 73 ∷ 78 ∷ [] ]
+
+-- executable statements: X3.9-1978, 7.1
+abbrev pub is_executable : Form → Bool
+is_executable (Program x) = false
+is_executable (Assign p t) = true
+is_executable (Print items) = true
+is_executable End = true
+
+-- how many statements stand before the first executable one
+abbrev pub passed_over : List Statement → ℕ
+passed_over [] = 0
+passed_over (s ∷ ss) = if is_executable s.form then 0 else suc (passed_over ss)
+
+-- the place of the first executable statement of a unit from place k on
+abbrev pub executable_from : List Statement → ℕ → ℕ
+executable_from unit k = k + passed_over (drop k unit)
+
+-- past its last statement a unit ends
+abbrev pub form_found : Option Statement → Form
+form_found None = End
+form_found (Some s) = s.form
+
+abbrev pub line_found : Option Statement → ℕ
+line_found None = 0
+line_found (Some s) = s.line
+
+-- the statement at place k of a unit
+abbrev pub form_at : List Statement → ℕ → Form
+form_at unit k = form_found (slice_get unit k)
+
+abbrev pub line_at : List Statement → ℕ → ℕ
+line_at unit k = line_found (slice_get unit k)

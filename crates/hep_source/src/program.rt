@@ -1,0 +1,92 @@
+//! Program units and programs.
+ghost use Rattle.std.specs.Prelude.{◌≡◌};
+
+use crate::statement::Statement;
+use std::marker::Model;
+
+/// A program unit (X3.9-1978, 2.4): its statements from the header, where it has one, to END.
+/// Contracts see their list.
+#[derive(Drop)]
+pub struct Unit {
+    statements: Vec<Statement>,
+}
+
+impl Model for Unit {
+    ghost use Rattle.std.specs.Prelude.{List};
+    ghost use Rattle.hep_source.specs.declared.statement.Statement.{Statement};
+    ghost use Rattle.hep_source.specs.contracts.expression.Expr as expression;
+    ghost use Rattle.std.specs.Coded.{codes};
+
+    ghost Value = { List Statement };
+
+    ghost coded = { Prim.hlevel (codes, expression.the_row.coded) };
+
+    ghost view = { λ a. a.statements.items };
+}
+
+impl From<Vec<Statement>> for Unit {
+    ghost from_gives = { λ statements unit. unit ≡ statements.items };
+
+    fn from(statements: Vec<Statement>) -> Unit {
+        Unit { statements }
+    }
+}
+
+impl Unit {
+    /// The statements, in order.
+    pub fn as_slice(&self) -> &[Statement]
+        ensures { result.now ≡ self.now }
+    {
+        &self.statements
+    }
+
+    /// The vector that holds the statements; this takes no memory.
+    pub fn into_vec(self) -> Vec<Statement>
+        ensures { result.items ≡ self }
+    {
+        self.statements
+    }
+}
+
+/// A program (X3.9-1978, 2.4.1): its units in the order of the source. Contracts see their list.
+#[derive(Drop)]
+pub struct Program {
+    units: Vec<Unit>,
+}
+
+impl Model for Program {
+    ghost use Rattle.std.specs.Prelude.{List};
+    ghost use Rattle.hep_source.specs.declared.statement.Statement.{Statement};
+    ghost use Rattle.hep_source.specs.contracts.expression.Expr as expression;
+    ghost use Rattle.std.specs.Coded.{codes};
+
+    ghost Value = { List (List Statement) };
+
+    ghost coded = { Prim.hlevel (codes, expression.the_row.coded) };
+
+    ghost view = { λ a. a.units.items };
+}
+
+impl From<Vec<Unit>> for Program {
+    ghost from_gives = { λ units program. program ≡ units.items };
+
+    fn from(units: Vec<Unit>) -> Program {
+        Program { units }
+    }
+}
+
+impl Program {
+    /// The units, in order.
+    pub fn as_slice(&self) -> &[Unit]
+        ensures { result.now ≡ self.now }
+    {
+        &self.units
+    }
+
+    /// The vector that holds the units; this takes no memory.
+    pub fn into_vec(self) -> Vec<Unit>
+        ensures { result.items ≡ self }
+    {
+        self.units
+    }
+}

@@ -1,0 +1,7 @@
+pub mod Constant
+pub mod Line
+pub mod Reading
+pub mod Progress
+pub mod Grammar
+pub mod Shape
+pub mod Worked

@@ -1,0 +1,99 @@
+-- The lines of a text and their kinds (X3.9-1978, 3.2).
+use Rattle.std.specs.Prelude.{ℕ, ◌+◌, ◌-◌, ◌*◌, Bool, true, false, ◌&&◌, ◌||◌, not, if◌then◌else◌, nat_eq, nat_le, List, [], ◌∷◌, take, drop, get_or, Option, Some, None}
+use Rattle.std.specs.List.{filter, fold, list_all, list_any}
+use Rattle.hep_text.specs.declared.line.LineKind as code
+use Rattle.hep_text.specs.declared.line.LineKind.TheVariants as variants
+
+-- a byte in front of the first of some lines
+abbrev pub with_byte : ℕ → List (List ℕ) → List (List ℕ)
+with_byte c [] = (c ∷ []) ∷ []
+with_byte c (l ∷ ls) = (c ∷ l) ∷ ls
+
+-- The lines of a text: each ends at a line feed, and the last one may lack it. A carriage return
+-- that stands before a line feed belongs to no line (docs/LANGUAGE.md).
+abbrev pub lines : List ℕ → List (List ℕ)
+lines [] = []
+lines (c ∷ s) =
+    if nat_eq c 10 then [] ∷ lines s
+    else (if nat_eq c 13 && nat_eq (get_or s 0 32) 10 then lines s else with_byte c (lines s))
+
+-- the blank (X3.9-1978, 3.1.6)
+abbrev pub is_blank : ℕ → Bool
+is_blank c = nat_eq c 32
+
+-- the horizontal tab, which only comments may have (docs/LANGUAGE.md)
+abbrev pub is_tab : ℕ → Bool
+is_tab c = nat_eq c 9
+
+-- the printable characters of ASCII (docs/LANGUAGE.md)
+abbrev pub is_printable : ℕ → Bool
+is_printable c = nat_le 32 c && nat_le c 126
+
+-- a digit (X3.9-1978, 3.1.2)
+abbrev pub is_digit : ℕ → Bool
+is_digit c = nat_le 48 c && nat_le c 57
+
+abbrev pub is_blank_or_digit : ℕ → Bool
+is_blank_or_digit c = is_blank c || is_digit c
+
+-- `C`, `c` or `*`, in column 1 (X3.9-1978, 3.2.1)
+abbrev pub is_comment_mark : ℕ → Bool
+is_comment_mark c = nat_eq c 67 || (nat_eq c 99 || nat_eq c 42)
+
+-- in column 6, any character but a blank and the digit 0 (X3.9-1978, 3.2.3)
+abbrev pub is_continuation_mark : ℕ → Bool
+is_continuation_mark c = not (is_blank c || nat_eq c 48)
+
+-- A comment line has a mark in column 1, or only blanks in columns 1 to 72 (X3.9-1978, 3.2.1). A
+-- line that is shorter counts as padded with blanks.
+abbrev pub is_comment : List ℕ → Bool
+is_comment l = is_comment_mark (get_or l 0 32) || list_all is_blank (take 72 l)
+
+-- the number that digits write, from the left
+abbrev pub value : List ℕ → ℕ
+value digits = fold (λ n d. 10 * n + (d - 48)) 0 digits
+
+-- the label that some digits write
+abbrev pub label_of : List ℕ → Option ℕ
+label_of [] = None
+label_of (d ∷ ds) = Some (value (d ∷ ds))
+
+-- The label in columns 1 to 5 (X3.9-1978, 3.4): blanks among its digits and zeros in front of them
+-- don't matter.
+abbrev pub label : List ℕ → Option ℕ
+label field = label_of (filter is_digit field)
+
+-- the kinds of line (X3.9-1978, 3.2.1 to 3.2.3)
+pub data Kind : Type 0 where
+  comment : Kind
+  initial : (label : Option ℕ) (body : List ℕ) → Kind
+  continuation : Kind
+  refused : (number : ℕ) → Kind
+
+-- a line with a label field of digits and blanks, by its label and its column 6
+abbrev pub numbered : Option ℕ → Bool → List ℕ → Kind
+numbered None true body = continuation
+numbered None false body = initial None body
+numbered (Some n) true body = refused 103
+numbered (Some n) false body = if nat_eq n 0 then refused 103 else initial (Some n) body
+
+-- a line that is no comment and has printable characters alone (X3.9-1978, 3.2.2 and 3.2.3), by its
+-- columns 1 to 5, its column 6 and what follows
+unfoldable pub labelled : List ℕ → ℕ → List ℕ → Kind
+labelled field mark body =
+    if list_all is_blank_or_digit field then numbered (label field) (is_continuation_mark mark) body else refused 103
+
+-- The kind of a line, by its columns 1 to 72. A comment may have any bytes; else 101 is a tab, 102
+-- another character that isn't printable, and 103 a fault of columns 1 to 5.
+unfoldable pub kind : List ℕ → Kind
+kind l =
+    if is_comment l then comment
+    else (if list_any is_tab (take 72 l) then refused 101
+    else (if list_all is_printable (take 72 l) then labelled (take 5 l) (get_or l 5 32) (drop 6 l) else refused 102))
+
+-- the kind of a line as the program has it
+abbrev pub kind_view : code.LineKind → Kind
+kind_view variants.Comment = comment
+kind_view (variants.Initial label body) = initial label body.now
+kind_view variants.Continuation = continuation
+kind_view (variants.Refused number) = refused number

@@ -1,0 +1,66 @@
+-- What a reading comes to, with the lines that are left.
+use Rattle.std.specs.Prelude.{ℕ, if◌then◌else◌, List, [], ◌∷◌, ◌++◌, map, Option, Some, None, Result, Ok}
+use Rattle.hep_text.specs.declared.constant.Place.{Place}
+use Rattle.hep_text.specs.declared.statement.Stmt.{Stmt}
+use Rattle.hep_text.specs.declared.statement.Span.{Span}
+use Rattle.hep_text.specs.declared.reading.Pending.{Pending}
+use Rattle.hep_text.specs.declared.reading.Reading.{Reading}
+use Rattle.hep_text.specs.Constant.{Character, is_over, text_from, place_behind}
+use Rattle.hep_text.specs.Reading.{Refusal, refusal, ◌>>=◌, Joined, joined, each_statement}
+
+-- a statement that isn't over yet, without where it lies in memory
+pub record Started : Type 0 where
+  pub line : ℕ
+  pub label : Option ℕ
+  pub text : List ℕ
+  pub spans : List Span
+  pub place : Place
+
+abbrev pub started : Pending → Started
+started p = record { line = p.line; label = p.label; text = p.text.items; spans = p.spans.items; place = p.place }
+
+-- it with more characters behind it
+abbrev pub longer : Started → List Character → Started
+longer p xs = record {
+  line = p.line;
+  label = p.label;
+  text = p.text ++ map (λ x. x.byte) (text_from p.place xs);
+  spans = p.spans ++ map (λ x. x.span) (text_from p.place xs);
+  place = place_behind p.place xs;
+}
+
+-- it at its end
+abbrev pub over : Started → Result Stmt Refusal
+over p =
+    if is_over p.place then Ok (record { line = p.line; label = p.label; text = p.text; spans = p.spans }) else refusal 106 p.line
+
+-- the statements that are over, where none of them is at fault
+abbrev pub done_so_far : List Stmt → Option ℕ → Result (List Stmt) Refusal
+done_so_far done None = Ok done
+done_so_far done (Some n) = refusal 106 n
+
+-- the one that isn't over, with the characters that go on with it
+abbrev pub last_of : Option Started → List Character → Result (List Stmt) Refusal
+last_of None xs = Ok []
+last_of (Some p) xs = over (longer p xs) >>= λ s. Ok (s ∷ [])
+
+-- those, the one that isn't over, and what the lines that are left give
+abbrev pub finish : Result (List Stmt) Refusal → Option Started → Joined → Result (List Stmt) Refusal
+finish done current behind =
+    behind >>= λ r. done >>= λ ss. last_of current r.0 >>= λ last. each_statement r.1 >>= λ ts. Ok (ss ++ (last ++ ts))
+
+abbrev pub pending_of : Option Pending → Option Started
+pending_of None = None
+pending_of (Some p) = Some (started p)
+
+-- the statements that are over, as a reading has them
+abbrev pub done_of : Reading → Result (List Stmt) Refusal
+done_of r = done_so_far r.done.items r.open
+
+-- what a reading comes to, with the lines from line n on
+abbrev pub total : Reading → ℕ → List (List ℕ) → Result (List Stmt) Refusal
+total r n ls = finish (done_of r) (pending_of r.pending) (joined n ls)
+
+-- the statements that are over, with the one that wasn't
+abbrev pub with_last : Result (List Stmt) Refusal → Option Started → Result (List Stmt) Refusal
+with_last done current = done >>= λ ss. last_of current [] >>= λ last. Ok (ss ++ last)

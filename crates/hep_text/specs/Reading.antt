@@ -1,0 +1,93 @@
+-- The statements of a source text (X3.9-1978, 3.2 and 3.3).
+use Rattle.std.specs.Prelude.{◌≡◌, ℕ, zero, suc, ◌+◌, Bool, ◌||◌, if◌then◌else◌, nat_lt, List, [], ◌∷◌, ◌++◌, map, length, get_or, drop, Option, Result, Ok, Err}
+use Rattle.hep_text.specs.declared.statement.Stmt.{Stmt}
+use Rattle.hep_text.specs.declared.constant.Place.TheVariants.{Outside}
+use Rattle.hep_text.specs.declared.fault.TextFault.{TextFault}
+use Rattle.hep_text.specs.declared.fault.TextFault.TheVariants as faults
+use Rattle.hep_text.specs.Constant.{Character, is_over, text_from, place_behind}
+use Rattle.hep_text.specs.Line.{Kind, comment, initial, continuation, refused, kind, lines}
+
+-- the number of a refusal, and the line at fault
+pub record Refusal : Type 0 where
+  pub number : ℕ
+  pub line : ℕ
+
+-- refused with a number, at a line
+abbrev pub refusal : {A : Type 0} → ℕ → ℕ → Result A Refusal
+refusal k n = Err (record { number = k; line = n })
+
+-- what follows a reading that may be refused
+infixl 10 ◌>>=◌
+abbrev pub ◌>>=◌ : {A B : Type 0} → Result A Refusal → (A → Result B Refusal) → Result B Refusal
+(Ok x) >>= f = f x
+(Err e) >>= f = Err e
+
+-- a character of line n, in column k
+abbrev pub character : ℕ → ℕ → ℕ → Character
+character c n k = record { byte = c; span = record { line = n; column = k } }
+
+-- So many columns of line n, from column k on (X3.9-1978, 3.2). A line that is shorter counts as
+-- padded with blanks (docs/LANGUAGE.md).
+unfoldable pub columns : ℕ → ℕ → ℕ → List ℕ → List Character
+columns zero n k l = []
+columns (suc m) n k l = character (get_or l 0 32) n k ∷ columns m n (k + 1) (drop 1 l)
+
+-- A statement as its lines have it (X3.9-1978, 3.3): the line that it begins on, its label, and the
+-- columns 7 to 72 of its lines.
+pub record Lined : Type 0 where
+  pub line : ℕ
+  pub label : Option ℕ
+  pub characters : List Character
+
+-- the characters that go on with the statement in front of some lines, and the statements behind
+abbrev pub Joined : Type 0
+Joined = Result (List Character × List Lined) Refusal
+
+-- the statement that an initial line begins, and those behind it
+abbrev pub begun : ℕ → Option ℕ → List Character → Joined → Joined
+begun n label body behind =
+    behind >>= λ r. Ok ([], record { line = n; label = label; characters = body ++ r.0 } ∷ r.1)
+
+-- A line of each kind, and the lines behind it. A continuation line is refused (docs/LANGUAGE.md).
+abbrev pub by_kind : ℕ → Kind → Joined → Joined
+by_kind n comment behind = behind
+by_kind n (initial label body) behind = begun n label (columns 66 n 7 body) behind
+by_kind n continuation behind = refusal 104 n
+by_kind n (refused number) behind = refusal number n
+
+-- the lines from line n on
+unfoldable pub joined : ℕ → List (List ℕ) → Joined
+joined n [] = Ok ([], [])
+joined n (l ∷ ls) = by_kind n (kind l) (joined (n + 1) ls)
+
+-- A statement as the lines have it, with the text that matters. 106 is a character constant that is
+-- open at its end, or an empty one (X3.9-1978, 4.8.1).
+abbrev pub statement : Lined → Result Stmt Refusal
+statement s =
+    if is_over (place_behind Outside s.characters) then Ok (record {
+      line = s.line;
+      label = s.label;
+      text = map (λ x. x.byte) (text_from Outside s.characters);
+      spans = map (λ x. x.span) (text_from Outside s.characters);
+    })
+    else refusal 106 s.line
+
+-- all of them, or the first fault
+abbrev pub each_statement : List Lined → Result (List Stmt) Refusal
+each_statement [] = Ok []
+each_statement (s ∷ ss) = statement s >>= λ t. each_statement ss >>= λ ts. Ok (t ∷ ts)
+
+-- a text with more than 4194304 bytes, or more than 65535 lines
+abbrev pub is_too_large : List ℕ → Bool
+is_too_large s = nat_lt 4194304 (length s) || nat_lt 65535 (length (lines s))
+
+-- The statements of a text, or its first fault: 107 where it is too large, else the first line at
+-- fault, else the first statement whose constants are at fault.
+unfoldable pub statements_of : List ℕ → Result (List Stmt) Refusal
+statements_of s =
+    if is_too_large s then refusal 107 0 else (joined 1 (lines s) >>= λ r. each_statement r.1)
+
+-- The fault that a text has, as the program tells it. Want of memory says nothing of the text.
+abbrev pub Tells : TextFault → Result (List Stmt) Refusal → Type 0
+Tells faults.NoMemory read = Unit {0}
+Tells (faults.Refused number line name) read = (read ≡ refusal number line) × (name ≡ [])

@@ -1,0 +1,177 @@
+//! Lines and their kinds (X3.9-1978, 3.2).
+ghost use Rattle.std.specs.Prelude.{◌≡◌, ◌<◌, ◌≤◌, ◌∷◌, ◌+◌, ◌&&◌, nat_eq, IsTrue, length, take, drop, get_or};
+ghost use Rattle.std.specs.List.{list_all};
+ghost use Rattle.hep_text.specs.Line as lines;
+
+/// What a line is, by its columns 1 to 72.
+pub enum LineKind<'a> {
+    /// A comment line (X3.9-1978, 3.2.1).
+    Comment,
+    /// An initial line (X3.9-1978, 3.2.2): its label, and what stands from column 7 on.
+    Initial(Option<u32>, &'a [u8]),
+    /// A continuation line (X3.9-1978, 3.2.3).
+    Continuation,
+    /// A line that is refused, with the number of the refusal.
+    Refused(u16),
+}
+
+/// The first line of a text that isn't empty, and the text behind it.
+#[tactic(auto, using(crate::proofs::Cut::goes_on, crate::proofs::Cut::ends, crate::proofs::Cut::ends_at_return, crate::proofs::Cut::is_last))]
+pub fn next_line(text: &[u8]) -> (&[u8], &[u8])
+    requires { 0 < length text.now }
+    ensures cut { lines.lines text.now ≡ result.0.now ∷ lines.lines result.1.now }
+    ensures less { length result.1.now < length text.now }
+{
+    for i in 0..text.len() {
+        if text[i] == b'\n' {
+            return (&text[..i], &text[i + 1..]);
+        }
+        if is_return_before_feed(text, i) {
+            return (&text[..i], &text[i + 2..]);
+        }
+    }
+    (text, &text[text.len()..])
+}
+
+/// Whether a carriage return stands at an index, and a line feed behind it.
+fn is_return_before_feed(text: &[u8], index: usize) -> bool
+    requires { index < length text.now }
+    ensures value { result ≡ (nat_eq (get_or text.now index 0) 13 && nat_eq (get_or text.now (index + 1) 32) 10) }
+    ensures room { IsTrue result → index + 1 < length text.now }
+{
+    text[index] == b'\r' && column(text, index + 1) == b'\n'
+}
+
+/// The kind of a line.
+#[tactic(auto, unfolding(crate::specs::Line::kind))]
+pub fn kind(line: &[u8]) -> LineKind<'_>
+    ensures { lines.kind_view result ≡ lines.kind line.now }
+{
+    if is_comment(line) {
+        return LineKind::Comment;
+    }
+    let columns = front(72, line);
+    if columns.contains(&b'\t') {
+        return LineKind::Refused(101);
+    }
+    if !all_printable(columns) {
+        return LineKind::Refused(102);
+    }
+    labelled(front(5, line), column(line, 5), behind(6, line))
+}
+
+/// The kind of a line of printable characters that is no comment, by its columns 1 to 5, its
+/// column 6 and what stands behind.
+#[tactic(auto, unfolding(crate::specs::Line::labelled))]
+fn labelled<'a>(field: &[u8], mark: u8, rest: &'a [u8]) -> LineKind<'a>
+    requires { length field.now ≤ 5 }
+    ensures { lines.kind_view result ≡ lines.labelled field.now mark rest.now }
+{
+    if !all_blank_or_digit(field) {
+        return LineKind::Refused(103);
+    }
+    match (label(field), is_continuation_mark(mark)) {
+        (Some(0), _) | (Some(_), true) => LineKind::Refused(103),
+        (None, true) => LineKind::Continuation,
+        (label, false) => LineKind::Initial(label, rest),
+    }
+}
+
+/// The number that the digits of a label field write, or none where it has no digit.
+#[tactic(auto, using(crate::proofs::Labels::label_more, crate::proofs::Labels::limit_five))]
+fn label(field: &[u8]) -> Option<u32>
+    requires { length field.now ≤ 5 }
+    ensures { result ≡ lines.label field.now }
+{
+    let mut number = None;
+    for byte in field {
+        if is_digit(*byte) {
+            number = Some(10 * number.unwrap_or(0) + u32::from(*byte - b'0'));
+        }
+    }
+    number
+}
+
+/// Whether it is a comment line.
+fn is_comment(line: &[u8]) -> bool
+    ensures { result ≡ lines.is_comment line.now }
+{
+    is_comment_mark(column(line, 0)) || all_blank(front(72, line))
+}
+
+fn all_blank(columns: &[u8]) -> bool
+    ensures { result ≡ list_all lines.is_blank columns.now }
+{
+    columns.iter().all(|byte| *byte == b' ')
+}
+
+fn all_printable(columns: &[u8]) -> bool
+    ensures { result ≡ list_all lines.is_printable columns.now }
+{
+    columns.iter().all(|byte| is_printable(*byte))
+}
+
+fn all_blank_or_digit(columns: &[u8]) -> bool
+    ensures { result ≡ list_all lines.is_blank_or_digit columns.now }
+{
+    columns.iter().all(|byte| is_blank_or_digit(*byte))
+}
+
+fn is_comment_mark(byte: u8) -> bool
+    ensures { result ≡ lines.is_comment_mark byte }
+{
+    byte == b'C' || byte == b'c' || byte == b'*'
+}
+
+fn is_continuation_mark(byte: u8) -> bool
+    ensures { result ≡ lines.is_continuation_mark byte }
+{
+    !(byte == b' ' || byte == b'0')
+}
+
+fn is_printable(byte: u8) -> bool
+    ensures { result ≡ lines.is_printable byte }
+{
+    32 <= byte && byte <= 126
+}
+
+fn is_digit(byte: u8) -> bool
+    ensures { result ≡ lines.is_digit byte }
+{
+    b'0' <= byte && byte <= b'9'
+}
+
+fn is_blank_or_digit(byte: u8) -> bool
+    ensures { result ≡ lines.is_blank_or_digit byte }
+{
+    byte == b' ' || is_digit(byte)
+}
+
+/// At most so many bytes at the front.
+fn front(count: usize, bytes: &[u8]) -> &[u8]
+    ensures { result.now ≡ take count bytes.now }
+{
+    if count < bytes.len() {
+        &bytes[..count]
+    } else {
+        bytes
+    }
+}
+
+/// What stands behind so many bytes.
+fn behind(count: usize, bytes: &[u8]) -> &[u8]
+    ensures { result.now ≡ drop count bytes.now }
+{
+    if count < bytes.len() {
+        &bytes[count..]
+    } else {
+        &bytes[bytes.len()..]
+    }
+}
+
+/// The byte at an index, or a blank behind the end: shorter lines count as padded with blanks.
+pub fn column(line: &[u8], index: usize) -> u8
+    ensures { result ≡ get_or line.now index 32 }
+{
+    line.get(index).copied().unwrap_or(b' ')
+}

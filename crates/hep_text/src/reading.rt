@@ -1,0 +1,209 @@
+//! The statements of a source text.
+ghost use Rattle.std.specs.Prelude.{◌≡◌, ◌↔◌, ◌+◌, ◌≤◌, ℕ, false, List, [], ◌∷◌, length, OnOk, IfOk, IfErr, None, Some, Ok};
+ghost use Rattle.std.specs.List.{All};
+ghost use Rattle.hep_text.specs.Constant.{Character};
+ghost use Rattle.hep_text.specs.Grammar.{IsText, Gives};
+ghost use Rattle.hep_text.specs.Line.{lines};
+ghost use Rattle.hep_text.specs.Reading as reading;
+ghost use Rattle.hep_text.specs.Reading.{statements_of, columns, Tells};
+ghost use Rattle.hep_text.specs.Shape.{HasShape};
+ghost use Rattle.hep_text.specs.Progress.{started, longer, over, pending_of, done_of, with_last, total};
+ghost use Rattle.hep_text.specs.declared.fault.TextFault.TheVariants.{NoMemory};
+
+use crate::bytes::Bytes;
+use crate::constant::Place;
+use crate::fault::TextFault;
+use crate::line::{LineKind, column, kind, next_line};
+use crate::statement::{Span, Spans, Stmt};
+use std::alloc::Global;
+
+/// The most bytes of a source text.
+const MOST_BYTES: usize = 4_194_304;
+
+/// The most lines of a source text.
+const MOST_LINES: usize = 65_535;
+
+/// A statement whose lines are being read, with where its next character stands.
+#[derive(Drop)]
+struct Pending {
+    line: u32,
+    label: Option<u32>,
+    text: Vec<u8>,
+    spans: Vec<Span>,
+    place: Place,
+}
+
+/// What was read so far: the statements that are over, the one that isn't, and the line of the
+/// first statement whose constants aren't as they must be.
+#[derive(Drop)]
+struct Reading {
+    done: Vec<Stmt>,
+    pending: Option<Pending>,
+    open: Option<u32>,
+}
+
+/// The statements of a source text in fixed form, in their order (X3.9-1978, 3.2 and 3.3).
+///
+/// Refused are, each with the first line at fault: a tab (101), another character that isn't
+/// printable (102), and a fault of columns 1 to 5 (103), in columns 1 to 72 of a line that is no
+/// comment; a continuation line (104); and where no line has one of these, the first statement with
+/// a character constant that is open or empty (106). A text of more than 65,535 lines or 4,194,304
+/// bytes is refused before all of these, at line 0 (107).
+#[tactic(auto, using(crate::proofs::Grammar::agrees))]
+pub fn statements(alloc: Global, source: &[u8]) -> Result<Vec<Stmt>, TextFault>
+    ensures ok { IfOk result (λ v. statements_of source.now ≡ Ok v.items) }
+    ensures refused { IfErr result (λ e. Tells e (statements_of source.now)) }
+    ensures shape { IfOk result (λ v. All HasShape v.items) }
+    ensures constants { (s t : List Character) → IsText s t ↔ Gives s t }
+{
+    if is_too_large(source) {
+        return Err(TextFault::refused(alloc, 107, 0));
+    }
+    let mut reading = Reading {
+        done: Vec::new(alloc),
+        pending: None,
+        open: None,
+    };
+    let mut number: u32 = 1;
+    let mut rest = source;
+    while !rest.is_empty() {
+        let (line, after) = next_line(rest);
+        take_line(alloc, &mut reading, number, line)?;
+        number += 1;
+        rest = after;
+    }
+    all_read(alloc, reading)
+}
+
+/// Whether a text has too many bytes or lines.
+fn is_too_large(text: &[u8]) -> bool
+    ensures value { result ≡ reading.is_too_large text.now }
+    ensures bytes { result ≡ false → length text.now ≤ 4194304 }
+{
+    text.len() > MOST_BYTES || line_count(text) > MOST_LINES
+}
+
+/// How many lines a text has.
+fn line_count(text: &[u8]) -> usize
+    ensures { result ≡ length (lines text.now) }
+{
+    let mut count: usize = 0;
+    let mut rest = text;
+    while !rest.is_empty() {
+        let (_line, after) = next_line(rest);
+        count += 1;
+        rest = after;
+    }
+    count
+}
+
+/// Reads one more line.
+fn take_line(
+    alloc: Global,
+    reading: &mut Reading,
+    number: u32,
+    line: &[u8],
+) -> Result<(), TextFault>
+    ensures ok { OnOk result ((ls : List (List ℕ)) → total reading.old number (line.now ∷ ls) ≡ total reading.new (number + 1) ls) }
+    ensures err { IfErr result (λ e. (ls : List (List ℕ)) → Tells e (total reading.old number (line.now ∷ ls))) }
+{
+    match kind(line) {
+        LineKind::Comment => Ok(()),
+        LineKind::Initial(label, body) => {
+            end_pending(reading)?;
+            let mut pending = Pending {
+                line: number,
+                label,
+                text: Vec::new(alloc),
+                spans: Vec::new(alloc),
+                place: Place::Outside,
+            };
+            take_text(&mut pending, number, body)?;
+            reading.pending = Some(pending);
+            Ok(())
+        }
+        LineKind::Continuation => Err(TextFault::refused(alloc, 104, number)),
+        LineKind::Refused(fault) => Err(TextFault::refused(alloc, fault, number)),
+    }
+}
+
+/// Reads the columns 7 to 72 of a line, which are given from column 7 on.
+#[tactic(auto, using(crate::proofs::Text::one_column, crate::proofs::Text::all_columns))]
+fn take_text(pending: &mut Pending, number: u32, body: &[u8]) -> Result<(), TextFault>
+    ensures ok { OnOk result (started pending.new ≡ longer (started pending.old) (columns 66 number 7 body.now)) }
+    ensures err { IfErr result (λ e. e ≡ NoMemory) }
+{
+    for index in 0..66usize {
+        let span = Span {
+            line: number,
+            column: index as u32 + 7,
+        };
+        take_character(pending, column(body, index), span)?;
+    }
+    Ok(())
+}
+
+/// Reads one more character.
+fn take_character(pending: &mut Pending, byte: u8, span: Span) -> Result<(), TextFault>
+    ensures ok { OnOk result (started pending.new ≡ longer (started pending.old) (record { byte = byte; span = span } ∷ [])) }
+    ensures err { IfErr result (λ e. e ≡ NoMemory) }
+{
+    if let Some(kept) = pending.place.share(byte) {
+        pending.text.push(kept)?;
+        pending.spans.push(span)?;
+    }
+    pending.place = pending.place.next(byte);
+    Ok(())
+}
+
+/// Ends the statement that isn't over.
+fn end_pending(reading: &mut Reading) -> Result<(), TextFault>
+    ensures done { OnOk result (done_of reading.new ≡ with_last (done_of reading.old) (pending_of reading.old.pending)) }
+    ensures pending { OnOk result (reading.new.pending ≡ None) }
+    ensures err { IfErr result (λ e. e ≡ NoMemory) }
+{
+    if let Some(pending) = reading.pending.take() {
+        if pending.place.is_over() {
+            reading.done.push(ended(pending))?;
+        } else if reading.open.is_none() {
+            reading.open = Some(pending.line);
+        }
+    }
+    Ok(())
+}
+
+/// The statement that was read.
+fn ended(pending: Pending) -> Stmt
+    ensures line { result.line ≡ pending.line }
+    ensures label { result.label ≡ pending.label }
+    ensures text { result.text ≡ pending.text.items }
+    ensures spans { result.spans ≡ pending.spans.items }
+{
+    let Pending {
+        line,
+        label,
+        text,
+        spans,
+        ..
+    } = pending;
+    Stmt {
+        line,
+        label,
+        text: Bytes::from(text),
+        spans: Spans::from(spans),
+    }
+}
+
+/// The statements that were read, once each line is.
+fn all_read(alloc: Global, reading: Reading) -> Result<Vec<Stmt>, TextFault>
+    ensures ok { IfOk result (λ v. with_last (done_of reading) (pending_of reading.pending) ≡ Ok v.items) }
+    ensures refused { IfErr result (λ e. Tells e (with_last (done_of reading) (pending_of reading.pending))) }
+{
+    let mut reading = reading;
+    end_pending(&mut reading)?;
+    let Reading { done, open, .. } = reading;
+    match open {
+        None => Ok(done),
+        Some(line) => Err(TextFault::refused(alloc, 106, line)),
+    }
+}

@@ -1,0 +1,4 @@
+mod Schedules
+mod Tellings
+mod Fronts
+mod Outcomes

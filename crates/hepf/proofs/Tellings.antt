@@ -1,0 +1,26 @@
+-- What a writer took of pieces that are written one after the other.
+use Rattle.std.proofs.Common.{ℕ, ◌+◌, ◌≤◌, List, ◌++◌, length, take, Option, sym, subst}
+use Rattle.std.proofs.lemmas.List.{take-append-le}
+use Rattle.std.proofs.Math.Seq.{take-length, take-append-add}
+use Rattle.std.specs.Io.KnownBytes.{Appends}
+use Rattle.std.proofs.KnownBytes.{Appends-trans}
+
+-- so many bytes of a text
+abbrev pub SomeOf : Option (List ℕ) → Option (List ℕ) → List ℕ → Type 0
+SomeOf a b text = (k : ℕ) × Appends a b (take k text)
+
+pub of_first : (a b : Option (List ℕ)) (xs ys : List ℕ) (n : ℕ) → n ≤ length xs → Appends a b (take n xs) → SomeOf a b (xs ++ ys)
+of_first a b xs ys n h p = (n, subst (Appends a b) (sym (take-append-le n xs ys h)) p)
+
+pub of_later : (a b c : Option (List ℕ)) (xs ys : List ℕ) → Appends a b xs → SomeOf b c ys → SomeOf a c (xs ++ ys)
+of_later a b c xs ys p q = (length xs + q.0, subst (Appends a c) (sym (take-append-add xs ys q.0)) (Appends-trans a b c xs (take q.0 ys) p q.1))
+
+pub of_all : (a b : Option (List ℕ)) (xs : List ℕ) → Appends a b xs → SomeOf a b xs
+of_all a b xs p = (length xs, subst (Appends a b) (sym (take-length xs)) p)
+
+pub of_some : (a b : Option (List ℕ)) (xs : List ℕ) (n : ℕ) → Appends a b (take n xs) → SomeOf a b xs
+of_some a b xs n p = (n, p)
+
+-- behind what was taken of an earlier text
+pub told_behind : (a b c : Option (List ℕ)) (xs ys : List ℕ) → Appends a b xs → SomeOf b c ys → (k : ℕ) × Appends a c (xs ++ take k ys)
+told_behind a b c xs ys p q = (q.0, Appends-trans a b c xs (take q.0 ys) p q.1)

@@ -1,0 +1,59 @@
+-- What a run leaves at its two outputs.
+use Rattle.std.specs.Prelude.{◌≡◌, ◌⊎◌, ℕ, List, [], ◌++◌, codes, take, Option, Some, None}
+use Rattle.std.specs.Io.KnownBytes.{Appends, Keeps}
+use Rattle.hepf.specs.declared.options.Options.{Options}
+use Rattle.hepf.specs.declared.options.Run.{Run}
+use Rattle.hepf.specs.Texts.{write_fault_text}
+use Rattle.hepf.specs.Outcome.{Outcome, IsOutcome}
+
+-- the run has this outcome, and both outputs took all of it
+pub record IsDelivered (o : Outcome) (run : Run) (output output' messages messages' : Option (List ℕ)) : Type 0 where
+  pub status : run.status ≡ o.status
+  pub history : run.history ≡ o.history
+  pub output_taken : Appends output output' o.output
+  pub messages_taken : Appends messages messages' o.messages
+
+-- the messages' writer took so many bytes of what it was told last
+abbrev pub Told : Option (List ℕ) → Option (List ℕ) → List ℕ → List ℕ → Type 0
+Told messages messages' before last = (k : ℕ) × Appends messages messages' (before ++ take k last)
+
+-- the output took just n bytes, and this was told
+abbrev pub OutputFailed : Outcome → Option (List ℕ) → Option (List ℕ) → Option (List ℕ) → Option (List ℕ) → Type 0
+OutputFailed o output output' messages messages' =
+    (n : ℕ) × Appends output output' (take n o.output) × Told messages messages' [] (write_fault_text n)
+
+-- the output took all, the messages' writer just n bytes, and this was told behind them
+abbrev pub MessagesFailed : Outcome → Option (List ℕ) → Option (List ℕ) → Option (List ℕ) → Option (List ℕ) → Type 0
+MessagesFailed o output output' messages messages' =
+    (n : ℕ) × Appends output output' o.output × Told messages messages' (take n o.messages) (write_fault_text n)
+
+-- a write failed
+pub record IsBroken (o : Outcome) (run : Run) (output output' messages messages' : Option (List ℕ)) : Type 0 where
+  pub status : run.status ≡ 8
+  pub history : run.history ≡ o.history
+  pub taken : OutputFailed o output output' messages messages' ⊎ MessagesFailed o output output' messages messages'
+
+-- an outcome was delivered, or a write failed
+abbrev pub Leaves : Outcome → Run → Option (List ℕ) → Option (List ℕ) → Option (List ℕ) → Option (List ℕ) → Type 0
+Leaves o run output output' messages messages' =
+    IsDelivered o run output output' messages messages' ⊎ IsBroken o run output output' messages messages'
+
+-- a run that has no outcome says this line, with this status, or fails at it
+abbrev pub Says : List ℕ → ℕ → Run → Option (List ℕ) → Option (List ℕ) → Type 0
+Says line status run messages messages' =
+    (run.history ≡ [])
+    × (((run.status ≡ status) × Appends messages messages' line)
+    ⊎ ((run.status ≡ 8) × (n : ℕ) × Told messages messages' (take n line) (write_fault_text n)))
+
+-- an outcome of these bytes, where they are known
+abbrev pub IsOutcomeOf : Option (List ℕ) → Options → Outcome → Type 0
+IsOutcomeOf None options o = (source : List ℕ) × IsOutcome source options o
+IsOutcomeOf (Some source) options o = IsOutcome source options o
+
+-- All that a run may leave: memory was refused, or the reader failed, and no record is written; or else an outcome of
+-- the reader's bytes.
+abbrev pub RunsSource : Option (List ℕ) → Options → Run → Option (List ℕ) → Option (List ℕ) → Option (List ℕ) → Option (List ℕ) → Type 0
+RunsSource source options run output output' messages messages' =
+    (Keeps output output' × Says (codes "NO MEMORY\n") 7 run messages messages')
+    ⊎ (Keeps output output' × Says (codes "READ FAULT\n") 8 run messages messages')
+    ⊎ ((o : Outcome) × IsOutcomeOf source options o × Leaves o run output output' messages messages')

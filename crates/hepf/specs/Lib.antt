@@ -1,0 +1,6 @@
+pub mod Texts
+pub mod Outcome
+pub mod Refusals
+pub mod Reports
+pub mod Delivery
+pub mod Progress

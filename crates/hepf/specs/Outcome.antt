@@ -1,0 +1,126 @@
+-- What a run of a source comes to, from its bytes to the bytes that it writes: docs/MACHINE.md, "The program".
+use Rattle.std.specs.Prelude.{◌≡◌, ◌≢◌, ◌⊎◌, ℕ, ◌+◌, ◌<◌, true, List, [], ◌∷◌, ◌++◌, length, take, slice_get, Option, Some, None, Ok}
+use Rattle.hep_text.specs.declared.statement.Stmt.{Stmt}
+use Rattle.hep_text.specs.Reading.{statements_of, refusal}
+use Rattle.hep_parse.specs.Program.{IsProgram, IsFirstFault}
+use Rattle.hep_source.specs.declared.event.Entry.{Entry}
+use Rattle.hep_source.specs.declared.event.Fault.{Fault}
+use Rattle.hep_source.specs.declared.name.Name.{Name}
+use Rattle.hep_source.specs.Names.{first_untyped, spelling}
+use Rattle.hep_source.specs.Units.{Units, unit_at, main_unit}
+use Rattle.hep_source.specs.Layout.{used_cells}
+use Rattle.hep_source.specs.State.{living}
+use Rattle.hep_source.specs.Run.{state_after}
+use Rattle.hep_source.specs.Histories.{IsLegal}
+use Rattle.hep_core.specs.declared.stop.Stop.{Stop}
+use Rattle.hep_core.specs.declared.stop.Stop.TheVariants.{Halted, ArenaFull, StepLimit}
+use Rattle.hep_core.specs.Names.{names_of}
+use Rattle.hep_core.specs.Value.{ready_after}
+use Rattle.hepf.specs.declared.options.Options.{Options}
+use Rattle.hepf.specs.Texts.{records_text, faults_text, refusal_text, stop_text, choice_text}
+
+-- what a run writes to its two outputs, its status, and its history
+pub record Outcome : Type 0 where
+  pub output : List ℕ
+  pub messages : List ℕ
+  pub status : ℕ
+  pub history : List Entry
+
+-- ---- sources
+
+-- the source is refused with this number, line and name
+abbrev pub IsRefused : List ℕ → ℕ → ℕ → List ℕ → Type 0
+IsRefused source number line name =
+    ((statements_of source ≡ refusal number line) × (name ≡ []))
+    ⊎ ((statements : List Stmt) × (statements_of source ≡ Ok statements) × IsFirstFault statements number line × (name ≡ []))
+    ⊎ ((statements : List Stmt) × (program : Units) × (x : Name) × (statements_of source ≡ Ok statements) × IsProgram statements program × (first_untyped (unit_at program main_unit) ≡ Some (line, x)) × (number ≡ 301) × (name ≡ spelling x))
+
+-- the source is this program, and accepted
+abbrev pub IsAccepted : List ℕ → Units → Type 0
+IsAccepted source program =
+    (statements : List Stmt) × (statements_of source ≡ Ok statements) × IsProgram statements program × (first_untyped (unit_at program main_unit) ≡ None)
+
+-- ---- schedules
+
+abbrev pub first_choice : Option ℕ → Option ℕ → Option ℕ
+first_choice (Some p) ready = Some p
+first_choice None ready = ready
+
+-- the process that comes after a history: the choices in their order, and then what is ready
+abbrev pub next_process : Units → List ℕ → List Entry → Option ℕ
+next_process program choices history = first_choice (slice_get choices (length history)) (ready_after program history)
+
+-- each entry is of the process that came next
+abbrev pub IsScheduled : Units → List ℕ → List Entry → Type 0
+IsScheduled program choices history =
+    (k : ℕ) (e : Entry) → slice_get history k ≡ Some e → next_process program choices (take k history) ≡ Some e.process
+
+-- a history of the program by these options
+pub record IsHistory (program : Units) (options : Options) (history : List Entry) : Type 0 where
+  pub legal : IsLegal program options.arena options.steps history
+  pub scheduled : IsScheduled program options.choices history
+
+-- the history is full, and a living process would come next
+abbrev pub IsCutShort : Units → Options → List Entry → Type 0
+IsCutShort program options history =
+    (length history ≡ options.steps) × (p : ℕ) × (next_process program options.choices history ≡ Some p) × (living (state_after program history) p ≢ None)
+
+-- the run is over after this history: no process comes next, or it stops
+abbrev pub IsOver : Units → Options → List Entry → Option Stop → Type 0
+IsOver program options history None = next_process program options.choices history ≡ None
+IsOver program options history (Some StepLimit) = IsCutShort program options history
+IsOver program options history (Some Halted) = (state_after program history).halted ≡ true
+IsOver program options history (Some ArenaFull) = ⊥
+
+-- the next choice names a process that doesn't live
+abbrev pub IsChoiceRefused : Units → Options → List Entry → Type 0
+IsChoiceRefused program options history =
+    (p : ℕ) × (slice_get options.choices (length history) ≡ Some p) × (living (state_after program history) p ≡ None)
+
+-- ---- outcomes
+
+abbrev pub refused : ℕ → ℕ → List ℕ → Outcome
+refused number line name = record { output = []; messages = refusal_text number line name; status = 1; history = [] }
+
+abbrev pub arena_full : Outcome
+arena_full = record { output = []; messages = stop_text (Some ArenaFull); status = 5; history = [] }
+
+-- choices are counted from 1
+abbrev pub choice_refused : List Entry → Outcome
+choice_refused history = record { output = []; messages = choice_text (length history + 1); status = 2; history = history }
+
+abbrev pub status_by_faults : List Fault → ℕ
+status_by_faults [] = 0
+status_by_faults (f ∷ fs) = 3
+
+abbrev pub status_of : Option Stop → List Fault → ℕ
+status_of None faults = status_by_faults faults
+status_of (Some Halted) faults = status_by_faults faults
+status_of (Some ArenaFull) faults = 5
+status_of (Some StepLimit) faults = 6
+
+abbrev pub ended : Units → List Entry → Option Stop → Outcome
+ended program history stop =
+    record {
+      output = records_text (state_after program history).records;
+      messages = faults_text (names_of program) (state_after program history).faults ++ stop_text stop;
+      status = status_of stop (state_after program history).faults;
+      history = history;
+    }
+
+-- a program whose frame fits, by its history
+abbrev pub IsRunOutcome : Units → Options → Outcome → Type 0
+IsRunOutcome program options o =
+    (history : List Entry) × IsHistory program options history × (
+    (IsChoiceRefused program options history × (o ≡ choice_refused history))
+    ⊎ ((stop : Option Stop) × IsOver program options history stop × (o ≡ ended program history stop)))
+
+-- an accepted program
+abbrev pub IsProgramOutcome : Units → Options → Outcome → Type 0
+IsProgramOutcome program options o = ((options.arena < used_cells program) × (o ≡ arena_full)) ⊎ IsRunOutcome program options o
+
+-- what a run of a source comes to by these options
+abbrev pub IsOutcome : List ℕ → Options → Outcome → Type 0
+IsOutcome source options o =
+    ((number : ℕ) × (line : ℕ) × (name : List ℕ) × IsRefused source number line name × (o ≡ refused number line name))
+    ⊎ ((program : Units) × IsAccepted source program × IsProgramOutcome program options o)

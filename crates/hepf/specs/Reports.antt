@@ -1,0 +1,6 @@
+-- What a report says.
+use Rattle.hepf.specs.declared.report.Report.{Report}
+use Rattle.hepf.specs.Outcome.{Outcome}
+
+abbrev pub outcome_of : Report → Outcome
+outcome_of r = record { output = r.output.items; messages = r.messages.items; status = r.status; history = r.history }

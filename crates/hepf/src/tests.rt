@@ -1,0 +1,478 @@
+//! Whole runs, with their bytes.
+
+use crate::options::{Choices, Options, Run};
+use crate::source::run_source;
+use hep_source::Entry;
+use std::alloc::Global;
+use std::io;
+use std::io::{Error, ErrorKind, Read, Write};
+use std::process::Abort;
+use std::test::Fail;
+
+// What a run wrote, its status and its history.
+#[derive(Drop)]
+struct Outcome {
+    output: Vec<u8>,
+    messages: Vec<u8>,
+    run: Run,
+}
+
+fn options(alloc: Global, arena: u32, steps: u64) -> Options {
+    Options {
+        arena,
+        steps,
+        choices: Choices::from(Vec::new(alloc)),
+    }
+}
+
+fn outcome_with(alloc: Global, source: &[u8], options: &Options) -> Outcome {
+    let mut reader = source;
+    let mut output = Vec::new(alloc);
+    let mut messages = Vec::new(alloc);
+    let run = run_source(alloc, &mut reader, options, &mut output, &mut messages);
+    Outcome {
+        output,
+        messages,
+        run,
+    }
+}
+
+fn outcome_of(alloc: Global, source: &[u8]) -> Outcome {
+    outcome_with(alloc, source, &Options::defaults(alloc))
+}
+
+// So many entries of one step of process 1.
+fn is_single_steps(history: &[Entry], count: usize) -> bool {
+    history.len() == count
+        && history
+            .iter()
+            .all(|entry| entry.process == 1 && entry.steps == 1)
+}
+
+// A row: the source, what it writes to both outputs, its status and the length of its history.
+#[derive(Clone, Copy)]
+struct Row {
+    source: &'static [u8],
+    output: &'static [u8],
+    messages: &'static [u8],
+    status: u8,
+    entries: usize,
+}
+
+const UNDEFINED: &[u8] = b"      I=3\n      PRINT *,I*I-1\n      PRINT *,J\n      END\n";
+
+const ROWS: [Row; 25] = [
+    Row {
+        source: b"      PRINT *,'A=',1+2*3,.TRUE.\n      END\n",
+        output: b"\x20\x41\x3d\x37\x20\x54\x0a",
+        messages: b"",
+        status: 0,
+        entries: 4,
+    },
+    Row {
+        source: b"",
+        output: b"",
+        messages: b"REFUSED 204 LINE 0\n",
+        status: 1,
+        entries: 0,
+    },
+    Row {
+        source: b"      I=1",
+        output: b"",
+        messages: b"REFUSED 205 LINE 1\n",
+        status: 1,
+        entries: 0,
+    },
+    Row {
+        source: b"      PRINT *,'A",
+        output: b"",
+        messages: b"REFUSED 106 LINE 1\n",
+        status: 1,
+        entries: 0,
+    },
+    Row {
+        source: b"\t     I=1\n      END\n",
+        output: b"",
+        messages: b"REFUSED 101 LINE 1\n",
+        status: 1,
+        entries: 0,
+    },
+    Row {
+        source: UNDEFINED,
+        output: b" 8\n",
+        messages: b"FAULT 1 MAIN LINE 3 UNDEFINED\n",
+        status: 3,
+        entries: 7,
+    },
+    Row {
+        source: b"      PRINT *,(-7)/2,2**(-3),-2**2\n      END\n",
+        output: b" -3 0 -4\n",
+        messages: b"",
+        status: 0,
+        entries: 8,
+    },
+    // Overflow in each operator, at the ends of the range.
+    Row {
+        source: b"      PRINT *,9223372036854775807+0\n      PRINT *,9223372036854775807+1\n      END\n",
+        output: b" 9223372036854775807\n",
+        messages: b"FAULT 1 MAIN LINE 2 OVERFLOW\n",
+        status: 3,
+        entries: 3,
+    },
+    Row {
+        source: b"      PRINT *,-9223372036854775807-1\n      PRINT *,-9223372036854775807-2\n      END\n",
+        output: b" -9223372036854775808\n",
+        messages: b"FAULT 1 MAIN LINE 2 OVERFLOW\n",
+        status: 3,
+        entries: 5,
+    },
+    Row {
+        source: b"      PRINT *,4611686018427387904*(-2)\n      PRINT *,4611686018427387904*2\n      END\n",
+        output: b" -9223372036854775808\n",
+        messages: b"FAULT 1 MAIN LINE 2 OVERFLOW\n",
+        status: 3,
+        entries: 4,
+    },
+    Row {
+        source: b"      I=-9223372036854775807-1\n      PRINT *,I/1\n      PRINT *,I/(-1)\n      END\n",
+        output: b" -9223372036854775808\n",
+        messages: b"FAULT 1 MAIN LINE 3 OVERFLOW\n",
+        status: 3,
+        entries: 9,
+    },
+    Row {
+        source: b"      I=-9223372036854775807-1\n      PRINT *,+I\n      PRINT *,-I\n      END\n",
+        output: b" -9223372036854775808\n",
+        messages: b"FAULT 1 MAIN LINE 3 OVERFLOW\n",
+        status: 3,
+        entries: 8,
+    },
+    Row {
+        source: b"      PRINT *,2**62,(-2)**63\n      PRINT *,2**63\n      END\n",
+        output: b" 4611686018427387904 -9223372036854775808\n",
+        messages: b"FAULT 1 MAIN LINE 2 OVERFLOW\n",
+        status: 3,
+        entries: 5,
+    },
+    Row {
+        source: b"      PRINT *,0**0,1**(-9),(-1)**(-9),(-1)**9223372036854775807,0**9223372036854775807\n      END\n",
+        output: b" 1 1 -1 -1 0\n",
+        messages: b"",
+        status: 0,
+        entries: 11,
+    },
+    Row {
+        source: b"      PRINT *,1/0\n      END\n",
+        output: b"",
+        messages: b"FAULT 1 MAIN LINE 1 DIVIDE\n",
+        status: 3,
+        entries: 1,
+    },
+    Row {
+        source: b"      PRINT *,0**(-1)\n      END\n",
+        output: b"",
+        messages: b"FAULT 1 MAIN LINE 1 DIVIDE\n",
+        status: 3,
+        entries: 2,
+    },
+    Row {
+        source: b"      PROGRAM P\n      PRINT *,K\n      END\n",
+        output: b"",
+        messages: b"FAULT 1 P LINE 2 UNDEFINED\n",
+        status: 3,
+        entries: 1,
+    },
+    Row {
+        source: b"C     A comment\n*\n\n      print *,'it''s','A' 'B',I\n      end\n",
+        output: b"",
+        messages: b"FAULT 1 MAIN LINE 4 UNDEFINED\n",
+        status: 3,
+        entries: 1,
+    },
+    Row {
+        source: b"      print *,'it''s','A' 'B',1,'-',.false.\r\n      e n d\r\n",
+        output: b" it'sA'B1-F\n",
+        messages: b"",
+        status: 0,
+        entries: 2,
+    },
+    Row {
+        source: b"      READ=1\n      END\n",
+        output: b"",
+        messages: b"REFUSED 301 LINE 1 NAME READ\n",
+        status: 1,
+        entries: 0,
+    },
+    Row {
+        source: b"      DO10I=1\n      PRINT *,DO10I\n      END\n",
+        output: b"",
+        messages: b"REFUSED 301 LINE 1 NAME DO10I\n",
+        status: 1,
+        entries: 0,
+    },
+    Row {
+        source: b"      I=1.5\n      END\n",
+        output: b"",
+        messages: b"REFUSED 201 LINE 1\n",
+        status: 1,
+        entries: 0,
+    },
+    Row {
+        source: b"      I=-9223372036854775808\n      END\n",
+        output: b"",
+        messages: b"REFUSED 203 LINE 1\n",
+        status: 1,
+        entries: 0,
+    },
+    Row {
+        source: b"      PRINT *,1\n     +,2\n      END\n",
+        output: b"",
+        messages: b"REFUSED 104 LINE 2\n",
+        status: 1,
+        entries: 0,
+    },
+    Row {
+        source: b"      END\n      END\n",
+        output: b"",
+        messages: b"REFUSED 205 LINE 2\n",
+        status: 1,
+        entries: 0,
+    },
+];
+
+#[test]
+fn rows(rt: HostRuntime) {
+    for row in ROWS {
+        let outcome = outcome_of(rt.alloc(), row.source);
+        let source = row.source;
+        assert_eq!(rt;
+            outcome.output.as_slice(),
+            row.output,
+            "output of {source:?}"
+        );
+        assert_eq!(rt;
+            outcome.messages.as_slice(),
+            row.messages,
+            "messages of {source:?}"
+        );
+        assert_eq!(rt; outcome.run.status, row.status, "status of {source:?}");
+        assert!(rt;
+            is_single_steps(outcome.run.history.as_slice(), row.entries),
+            "history of {source:?}"
+        );
+    }
+}
+
+#[test]
+fn small_arena(rt: HostRuntime) {
+    let alloc = rt.alloc();
+    let fits = outcome_with(alloc, UNDEFINED, &options(alloc, 3, 100));
+    assert_eq!(rt; fits.output.as_slice(), b" 8\n".as_slice());
+    assert_eq!(rt; fits.run.status, 3);
+    let full = outcome_with(alloc, UNDEFINED, &options(alloc, 2, 100));
+    assert_eq!(rt; full.output.as_slice(), b"".as_slice());
+    assert_eq!(rt;
+        full.messages.as_slice(),
+        b"STOPPED ARENA FULL\n".as_slice()
+    );
+    assert_eq!(rt; full.run.status, 5);
+    assert!(rt; is_single_steps(full.run.history.as_slice(), 0));
+}
+
+#[test]
+fn few_steps(rt: HostRuntime) {
+    let alloc = rt.alloc();
+    let outcome = outcome_with(alloc, UNDEFINED, &options(alloc, 100, 3));
+    assert_eq!(rt; outcome.output.as_slice(), b"".as_slice());
+    assert_eq!(rt;
+        outcome.messages.as_slice(),
+        b"STOPPED STEP LIMIT\n".as_slice()
+    );
+    assert_eq!(rt; outcome.run.status, 6);
+    assert!(rt; is_single_steps(outcome.run.history.as_slice(), 3));
+    // A run of just as many steps as it may have is done.
+    let exact = outcome_with(alloc, UNDEFINED, &options(alloc, 100, 7));
+    assert_eq!(rt; exact.run.status, 3);
+}
+
+#[test]
+fn choices(rt: HostRuntime) -> Result<(), Fail> {
+    let alloc = rt.alloc();
+    let mut options = options(alloc, 100, 100);
+    options.choices = Choices::from(vec![in alloc; 1, 1, 2, 1]?);
+    let refused = outcome_with(alloc, UNDEFINED, &options);
+    assert_eq!(rt; refused.output.as_slice(), b"".as_slice());
+    assert_eq!(rt;
+        refused.messages.as_slice(),
+        b"REFUSED 501 LINE 3\n".as_slice()
+    );
+    assert_eq!(rt; refused.run.status, 2);
+    options.choices = Choices::from(vec![in alloc; 1, 1, 1]?);
+    let made = outcome_with(alloc, UNDEFINED, &options);
+    assert_eq!(rt; made.run.status, 3);
+    assert!(rt; is_single_steps(made.run.history.as_slice(), 7));
+    Ok(())
+}
+
+// ---- readers and writers that behave badly
+
+// Gives so many bytes of a text a call, again and again where it is endless.
+#[derive(Drop)]
+struct Trickle {
+    text: &'static [u8],
+    place: usize,
+    is_endless: bool,
+}
+
+impl Read for Trickle {
+    fn read(&mut self, buf: &mut [u8]) -> io::Result<usize> {
+        let place = if self.is_endless && self.text.len() <= self.place {
+            0
+        } else {
+            self.place
+        };
+        let Some(byte) = self.text.get(place) else {
+            return Ok(0);
+        };
+        let Some(first) = buf.first_mut() else {
+            return Ok(0);
+        };
+        *first = *byte;
+        self.place = place.saturating_add(1);
+        Ok(1)
+    }
+}
+
+// Fails, at each call as given.
+#[derive(Drop)]
+struct Broken {
+    kind: ErrorKind,
+}
+
+impl Read for Broken {
+    fn read(&mut self, _buf: &mut [u8]) -> io::Result<usize> {
+        Err(Error::from(self.kind))
+    }
+}
+
+// Takes so many bytes a call, and fails once it has taken so many.
+#[derive(Drop)]
+struct Slow {
+    taken: Vec<u8>,
+    step: usize,
+    most: usize,
+}
+
+impl Write for Slow {
+    fn write(&mut self, buf: &[u8]) -> io::Result<usize> {
+        if self.most <= self.taken.len() {
+            return Err(Error::from(ErrorKind::Other));
+        }
+        let count = buf.len().min(self.step).min(self.most - self.taken.len());
+        self.taken.extend_from_slice(&buf[..count])?;
+        Ok(count)
+    }
+
+    fn flush(&mut self) -> io::Result<()> {
+        Ok(())
+    }
+}
+
+const FIRST: &[u8] = b"      PRINT *,'A=',1+2*3,.TRUE.\n      END\n";
+
+// Reads from this reader: the messages and the status.
+fn read_from<R: Read>(rt: &impl Abort, alloc: Global, reader: &mut R, messages: &[u8], status: u8) {
+    let mut output = Vec::new(alloc);
+    let mut told = Vec::new(alloc);
+    let run = run_source(
+        alloc,
+        reader,
+        &Options::defaults(alloc),
+        &mut output,
+        &mut told,
+    );
+    assert_eq!(rt; told.as_slice(), messages);
+    assert_eq!(rt; run.status, status);
+}
+
+#[test]
+fn readers(rt: HostRuntime) {
+    let alloc = rt.alloc();
+    let mut slow = Trickle {
+        text: FIRST,
+        place: 0,
+        is_endless: false,
+    };
+    read_from(&rt, alloc, &mut slow, b"", 0);
+    let mut endless = Trickle {
+        text: FIRST,
+        place: 0,
+        is_endless: true,
+    };
+    read_from(&rt, alloc, &mut endless, b"REFUSED 107 LINE 0\n", 1);
+    let mut broken = Broken {
+        kind: ErrorKind::Other,
+    };
+    read_from(&rt, alloc, &mut broken, b"READ FAULT\n", 8);
+    let mut interrupted = Broken {
+        kind: ErrorKind::Interrupted,
+    };
+    read_from(&rt, alloc, &mut interrupted, b"READ FAULT\n", 8);
+}
+
+// Writes to a slow writer: what it took, the messages and the status.
+fn write_to(rt: &impl Abort, alloc: Global, writer: &mut Slow, messages: &[u8], status: u8) {
+    let mut reader = FIRST;
+    let mut told = Vec::new(alloc);
+    let run = run_source(
+        alloc,
+        &mut reader,
+        &Options::defaults(alloc),
+        writer,
+        &mut told,
+    );
+    assert_eq!(rt; told.as_slice(), messages);
+    assert_eq!(rt; run.status, status);
+}
+
+#[test]
+fn writers(rt: HostRuntime) {
+    let alloc = rt.alloc();
+    let mut slow = Slow {
+        taken: Vec::new(alloc),
+        step: 2,
+        most: 100,
+    };
+    write_to(&rt, alloc, &mut slow, b"", 0);
+    assert_eq!(rt; slow.taken.as_slice(), b" A=7 T\n".as_slice());
+    let mut failing = Slow {
+        taken: Vec::new(alloc),
+        step: 2,
+        most: 3,
+    };
+    write_to(&rt, alloc, &mut failing, b"WRITE FAULT AFTER 3\n", 8);
+    assert_eq!(rt; failing.taken.as_slice(), b" A=".as_slice());
+    let mut stubborn = Slow {
+        taken: Vec::new(alloc),
+        step: 0,
+        most: 3,
+    };
+    write_to(&rt, alloc, &mut stubborn, b"WRITE FAULT AFTER 0\n", 8);
+    // Where the messages can't be written either, no more is said.
+    let mut reader = b"".as_slice();
+    let mut output = Vec::new(alloc);
+    let mut silent = Slow {
+        taken: Vec::new(alloc),
+        step: 2,
+        most: 5,
+    };
+    let run = run_source(
+        alloc,
+        &mut reader,
+        &Options::defaults(alloc),
+        &mut output,
+        &mut silent,
+    );
+    assert_eq!(rt; silent.taken.as_slice(), b"REFUS".as_slice());
+    assert_eq!(rt; run.status, 8);
+}
