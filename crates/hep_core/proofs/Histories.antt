@@ -1,11 +1,11 @@
 -- A history with one entry more.
-use Rattle.std.proofs.Common.{◌≡◌, ◌≢◌, inr, ℕ, zero, suc, ◌<◌, List, [], ◌∷◌, ◌++◌, length, length-append, refl, sym, ap, ◌∙◌, subst, append_assoc, arith, Option, Some, None, replicate}
+use Rattle.std.proofs.Common.{◌≡◌, ◌≢◌, inl, inr, ℕ, zero, suc, ◌<◌, List, [], ◌∷◌, ◌++◌, length, length-append, refl, sym, ap, ◌∙◌, subst, append_assoc, arith, Option, Some, None, replicate}
 use Rattle.hep_source.specs.declared.event.Entry.{Entry}
 use Rattle.hep_source.specs.Units.{Units}
 use Rattle.hep_source.specs.State.{State}
 use Rattle.hep_source.specs.Step.{step}
 use Rattle.hep_source.specs.Run.{opening, run, run_from, expand, state_after, turn, or_same}
-use Rattle.hep_source.specs.Histories.{turns, IsEntry, AreEntries, IsLegal}
+use Rattle.hep_source.specs.Histories.{IsDisabled, turns, IsEntry, AreEntries, IsLegal}
 
 -- ---- the state
 
@@ -63,4 +63,13 @@ legal-stepped program cells limit es p s h lt e = record {
   room = h.room;
   entries = entries-last program es (record { process = p; steps = 1 }) (opening program) h.entries
       (inr (omega arith, omega arith, (some_step (step program p (run_from program (opening program) (expand es))) s e, tt)));
+}
+
+-- an entry of a process that was found disabled
+pub legal-waiting : (program : Units) (cells limit : ℕ) (es : List Entry) (p : ℕ) → IsLegal program cells limit es → length es < limit → IsDisabled program (state_after program es) p → IsLegal program cells limit (es ++ record { process = p; steps = 0 } ∷ [])
+unfolding state_after run
+legal-waiting program cells limit es p h lt d = record {
+  within = omega (arith, length-append es (record { process = p; steps = 0 } ∷ []));
+  room = h.room;
+  entries = entries-last program es (record { process = p; steps = 0 }) (opening program) h.entries (inl (refl, d));
 }

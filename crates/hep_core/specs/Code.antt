@@ -1,4 +1,4 @@
--- The operations of a partly evaluated statement: postfix order, operands from left to right.
+-- The operations of a partly evaluated statement: postfix order, operands from left to right (X3.9-1978, 6.6).
 use Rattle.std.specs.Prelude.{ℕ, suc, if◌then◌else◌, List, [], ◌∷◌, ◌++◌}
 use Rattle.hep_source.specs.declared.name.Name.{Name}
 use Rattle.hep_source.specs.declared.statement.PrintItem.{PrintItem}
@@ -35,7 +35,7 @@ module _ (symbols : List Name) where
   items_code line (Expression t ∷ items) = tree_code line t ++ items_code line items
   items_code line (Characters cs ∷ items) = Push (item.Text cs) ∷ items_code line items
 
-  -- a statement that isn't executable has none
+  -- assignment, PRINT and END: X3.9-1978, 10.1, 12.8 and 11.14; a statement that isn't executable has none (7.1)
   abbrev pub form_code : ℕ → Form → List Instruction
   form_code line (form.Program x) = []
   form_code line (form.Assign p t) = tree_code line t ++ Step line (Store (number_of symbols p.name)) ∷ []

@@ -9,7 +9,7 @@ use Rattle.hep_core.specs.declared.fault.ImageFault.TheVariants.{NoMemory, Refus
 abbrev pub untyped_in : ℕ → List Name → Option (ℕ × Name)
 untyped_in line names = or_later line (first_real names) None
 
--- the fault is 301 for this name and line, or want of memory
+-- the fault is 301 for this name and line (X3.9-1978, 4.1.2), or want of memory
 abbrev pub Reports : ImageFault → Option (ℕ × Name) → Type 0
 Reports NoMemory found = Unit {0}
 Reports (Refused number line name) None = ⊥

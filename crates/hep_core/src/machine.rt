@@ -39,7 +39,7 @@ fn copy_of_item(alloc: Global, item: &Item) -> Result<Item, AllocError>
     }
 }
 
-// The integer that the operand at a depth is, the topmost one at 1.
+// The integer that the operand at a depth is, the topmost one at 1. Arithmetic has integers alone.
 fn integer_at(operands: &[Item], depth: usize) -> i64
     ensures { result ≡ words.integer_in (words.operand_at operands.now depth) }
 {
@@ -49,7 +49,7 @@ fn integer_at(operands: &[Item], depth: usize) -> i64
     }
 }
 
-// The value that the topmost operand is.
+// The value that the topmost operand is. No text is ever assigned.
 fn topmost_value(operands: &[Item]) -> Value
     ensures { result ≡ words.value_in (words.operand_at operands.now 1) }
 {
@@ -137,6 +137,7 @@ impl Machine {
         ensures { (program : Units) (s : State) → code.now ≡ program_code program → self.old.is_living ≡ true → Shows program (words.snapshot_of self.old) s → Stepped program result (words.snapshot_of self.new) s }
     {
         settle(alloc, code, &mut self.operands, &mut self.place)?;
+        // A living process always has an operation ahead: the code ends with an END.
         let Some(Instruction::Step { line, operation }) = code.get(self.place) else {
             return Ok(());
         };

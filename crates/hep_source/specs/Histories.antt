@@ -1,5 +1,5 @@
 -- Histories that a core may have.
-use Rattle.std.specs.Prelude.{◌≡◌, ◌≢◌, ◌⊎◌, ℕ, zero, suc, ◌≤◌, Bool, true, false, ◌&&◌, ◌||◌, not, nat_eq, is_none, if◌then◌else◌, List, [], ◌∷◌, length, Option, Some, None}
+use Rattle.std.specs.Prelude.{◌≡◌, ◌≢◌, ◌⊎◌, ℕ, zero, suc, ◌≤◌, Bool, true, false, ◌==◌, List, [], ◌∷◌, length, Option, Some, None}
 use Rattle.hep_source.specs.declared.event.Entry.{Entry}
 use Rattle.hep_source.specs.Units.{Units}
 use Rattle.hep_source.specs.State.{State, living}
@@ -19,6 +19,29 @@ HasSteps program s p (suc n) = (step program p s ≢ None) × HasSteps program (
 abbrev pub turns : Units → State → ℕ → ℕ → State
 turns program s p zero = s
 turns program s p (suc n) = turns program (turn program p s) p n
+
+-- p is disabled after each of so many turns of q
+abbrev pub StaysDisabled : Units → State → ℕ → ℕ → ℕ → Type 0
+StaysDisabled program s p q zero = Unit {0}
+StaysDisabled program s p q (suc n) = IsDisabled program (turn program q s) p × StaysDisabled program (turn program q s) p q n
+
+abbrev pub Either : Bool → Type 0 → Type 0 → Type 0
+Either true p q = p
+Either false p q = q
+
+-- p was found waiting by this entry, or was before and the entry isn't p's
+abbrev pub WasFound : ℕ → Entry → Type 0 → Type 0
+WasFound p e before = Either (e.process == p) (e.steps ≡ 0) before
+
+-- p is listed after these entries, where it was before them or not
+abbrev pub ListedFrom : Units → State → ℕ → Type 0 → List Entry → Type 0
+ListedFrom program s p before [] = before
+ListedFrom program s p before (e ∷ es) =
+    ListedFrom program (turns program s e.process e.steps) p (WasFound p e before × IsDisabled program s p × StaysDisabled program s p e.process e.steps) es
+
+-- p is listed after a history: its last entry found it waiting, and it was disabled in every state since
+abbrev pub IsListed : Units → ℕ → List Entry → Type 0
+IsListed program p history = ListedFrom program (opening program) p ⊥ history
 
 -- an entry is one to 1,024 steps, each of which is there, or none of a process that is disabled
 abbrev pub IsEntry : Units → State → Entry → Type 0

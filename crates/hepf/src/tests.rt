@@ -2,7 +2,10 @@
 
 use crate::options::{Choices, Options, Run};
 use crate::source::run_source;
+use hep_core::{ChooseFault, Core, Stop, Verdict, image_of};
+use hep_parse::parse;
 use hep_source::Entry;
+use hep_text::statements;
 use std::alloc::Global;
 use std::io;
 use std::io::{Error, ErrorKind, Read, Write};
@@ -311,6 +314,50 @@ fn choices(rt: HostRuntime) -> Result<(), Fail> {
     let made = outcome_with(alloc, UNDEFINED, &options);
     assert_eq!(rt; made.run.status, 3);
     assert!(rt; is_single_steps(made.run.history.as_slice(), 7));
+    Ok(())
+}
+
+// The core by itself: its cells, its refusals, and what they leave.
+#[test]
+fn core(rt: HostRuntime) -> Result<(), Fail> {
+    let alloc = rt.alloc();
+    let program = parse(alloc, &statements(alloc, UNDEFINED)?)?;
+    let mut core = Core::new(alloc, image_of(alloc, program)?, 3, 7)?;
+    assert_eq!(rt; core.image().name(0), Some(b"MAIN".as_slice()));
+    assert_eq!(rt; core.image().name(2), Some(b"J".as_slice()));
+    assert_eq!(rt; core.image().name(3), None);
+    assert_eq!(rt; core.choose(2).err(), Some(ChooseFault::NoSuchProcess));
+    for _step in 0..7 {
+        assert_eq!(rt; core.verdict(), Verdict::Running);
+        assert_eq!(rt; core.next_ready(), Some(1));
+        let turn = core.choose(1)?;
+        assert_eq!(rt; (turn.steps, turn.blocked), (1, false));
+    }
+    assert_eq!(rt; core.used(), 3);
+    assert_eq!(rt; core.verdict(), Verdict::Done);
+    assert_eq!(rt; core.next_ready(), None);
+    assert_eq!(rt; core.choose(1).err(), Some(ChooseFault::NoSuchProcess));
+    assert_eq!(rt; core.output().len(), 1);
+    assert_eq!(rt; core.faults().len(), 1);
+    assert!(rt; is_single_steps(core.history(), 7));
+    Ok(())
+}
+
+#[test]
+fn step_limit(rt: HostRuntime) -> Result<(), Fail> {
+    let alloc = rt.alloc();
+    let program = parse(alloc, &statements(alloc, UNDEFINED)?)?;
+    let mut core = Core::new(alloc, image_of(alloc, program)?, 3, 1)?;
+    let _first = core.choose(1)?;
+    assert_eq!(rt; core.verdict(), Verdict::Running);
+    for _again in 0..2 {
+        assert_eq!(rt;
+            core.choose(1).err(),
+            Some(ChooseFault::Stopped(Stop::StepLimit))
+        );
+        assert_eq!(rt; core.verdict(), Verdict::Stopped(Stop::StepLimit));
+        assert!(rt; is_single_steps(core.history(), 1));
+    }
     Ok(())
 }
 
