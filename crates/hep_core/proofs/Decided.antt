@@ -94,10 +94,15 @@ module _ (symbols : List Name) where
   FirstCode ss k = form_code symbols (line_found (slice_get ss k)) (form_found (slice_get ss k)) ++ code_behind symbols (drop k ss) ≡ code_from symbols ss
 
   first_by : (s : Statement) (ss : List Statement) (f : Form) → s.form ≡ f → FirstCode ss (passed_over ss) → form_code symbols (line_found (slice_get (s ∷ ss) (cond (is_executable f) 0 (suc (passed_over ss))))) (form_found (slice_get (s ∷ ss) (cond (is_executable f) 0 (suc (passed_over ss))))) ++ code_behind symbols (drop (cond (is_executable f) 0 (suc (passed_over ss))) (s ∷ ss)) ≡ form_code symbols s.line f ++ code_from symbols ss
-  first_by s ss (form.Program x) e h = h
-  first_by s ss (form.Assign p t) e h = ap (λ f. form_code symbols s.line f ++ code_from symbols ss) e
-  first_by s ss (form.Print items) e h = ap (λ f. form_code symbols s.line f ++ code_from symbols ss) e
-  first_by s ss form.End e h = ap (λ f. form_code symbols s.line f ++ code_from symbols ss) e
+  first_by s ss (form.Program p) e h = h
+  first_by s ss (form.Subroutine p dummies) e h = h
+  first_by s ss (form.Implicit groups) e h = h
+  first_by s ss (form.Declare t declarators) e h = h
+  first_by s ss (form.Dimension declarators) e h = h
+  first_by s ss (form.Common blocks) e h = h
+  first_by s ss (form.Parameter constants) e h = h
+  first_by s ss (form.Data groups) e h = h
+  first_by s ss _ e h = ap (λ f. form_code symbols s.line f ++ code_from symbols ss) e
 
   first_code : (ss : List Statement) → FirstCode ss (passed_over ss)
   first_code [] = refl

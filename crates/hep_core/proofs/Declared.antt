@@ -1,5 +1,6 @@
 -- Reports declared one after the other.
 use Rattle.std.proofs.Common.{◌≡◌, ℕ, Bool, true, false, List, [], ◌∷◌, ◌++◌, refl, ap, sym, ◌∙◌, Option, Some, None, cond, subst}
+use Rattle.std.specs.Prelude.{Result, Ok, Err, MatchResult}
 use Rattle.hep_source.specs.declared.name.Name.{Name}
 use Rattle.hep_source.specs.Names.{with_name, with_names, first_real, is_integer_by_letter, or_later}
 use Rattle.hep_core.specs.declared.fault.ImageFault.{ImageFault}
@@ -42,3 +43,12 @@ pub names-first : (e : ImageFault) (line : ℕ) (o : Option Name) (later : Optio
 names-first NoMemory line o later h = tt
 names-first (Refused n l x) line None later h = absurd h
 names-first (Refused n l x) line (Some y) later h = h
+
+-- ---- a declaration of names, and of others behind them
+
+abbrev pub Declares : ℕ → List Name → List Name → Result (Unit {0}) ImageFault → List Name → Type 0
+Declares line xs ys r new = MatchResult r (λ u. (new ≡ with_names xs ys) × (first_real ys ≡ None)) (λ e. Reports e (untyped_in line ys))
+
+pub declares-behind : (line : ℕ) (xs ys zs mid new : List Name) (r : Result (Unit {0}) ImageFault) → mid ≡ with_names xs ys → first_real ys ≡ None → Declares line mid zs r new → Declares line xs (ys ++ zs) r new
+declares-behind line xs ys zs mid new (Ok u) same none h = (h.0 ∙ ap (λ ns. with_names ns zs) same ∙ sym (with_names-append xs ys zs), first_real-behind ys zs none ∙ h.1)
+declares-behind line xs ys zs mid new (Err e) same none h = names-behind e line ys zs none h

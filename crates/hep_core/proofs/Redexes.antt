@@ -1,14 +1,15 @@
 -- The code of a partly evaluated statement: its operands, then the operation that comes next.
 use Rattle.std.proofs.Common.{◌≡◌, ℕ, true, List, [], ◌∷◌, ◌++◌, map, refl, ap, ◌∙◌, append_assoc}
 use Rattle.hep_source.specs.declared.name.Name.{Name}
-use Rattle.hep_source.specs.declared.name.Place.{Place}
 use Rattle.hep_source.specs.declared.value.Value.{Value}
 use Rattle.hep_source.specs.declared.operator.Sign as signs
-use Rattle.hep_source.specs.declared.operator.Operator as operators
+use Rattle.hep_source.specs.declared.operator.ArithmeticOperator.{ArithmeticOperator}
+use Rattle.hep_source.specs.declared.operator.Operator.TheVariants.{Arithmetic}
 use Rattle.hep_source.specs.declared.record.Item.{Item}
 use Rattle.hep_source.specs.declared.record.Item.TheVariants as item
 use Rattle.hep_source.specs.declared.statement.PrintItem.{PrintItem}
 use Rattle.hep_source.specs.declared.statement.PrintItem.TheVariants.{Expression, Characters}
+use Rattle.hep_source.specs.declared.declaration.Target.{Target}
 use Rattle.hep_source.specs.declared.statement.Form.{Form}
 use Rattle.hep_source.specs.declared.statement.Form.TheVariants as form
 use Rattle.hep_source.specs.Tree.{Tree, constant, place, parenthesized, signed, binary}
@@ -76,7 +77,7 @@ module _ (symbols : List Name) (line : ℕ) where
   }
   sign_is s t (hole r) h = opens_more r (tree_code symbols line t) (Step line (Evaluate (Sign s)) ∷ []) (λ v. tree_code symbols line (plug t v)) h
 
-  binary_is : (o : operators.Operator) (a b : Tree) (p q : Part Value) → TreeIs p (tree_code symbols line a) (λ v. tree_code symbols line (plug a v)) → TreeIs q (tree_code symbols line b) (λ v. tree_code symbols line (plug b v)) → TreeIs (binary_part o p q) (tree_code symbols line (binary o a b)) (λ v. tree_code symbols line (plug_binary o p q a b (plug a v) (plug b v) v))
+  binary_is : (o : ArithmeticOperator) (a b : Tree) (p q : Part Value) → TreeIs p (tree_code symbols line a) (λ v. tree_code symbols line (plug a v)) → TreeIs q (tree_code symbols line b) (λ v. tree_code symbols line (plug b v)) → TreeIs (binary_part o p q) (tree_code symbols line (binary (Arithmetic o) a b)) (λ v. tree_code symbols line (plug_binary o p q a b (plug a v) (plug b v) v))
   binary_is o a b (hole r) q ha hb = opens_more r (tree_code symbols line a) (tree_code symbols line b ++ Step line (Evaluate (Binary o)) ∷ []) (λ v. tree_code symbols line (plug a v)) ha
   binary_is o a b (whole x) (hole r) ha hb =
       opens_after r (item_of x) (tree_code symbols line a) (tree_code symbols line b ++ Step line (Evaluate (Binary o)) ∷ []) (λ v. tree_code symbols line (plug b v) ++ Step line (Evaluate (Binary o)) ∷ []) ha
@@ -93,7 +94,8 @@ module _ (symbols : List Name) (line : ℕ) where
   tree_is (place p) = record { before = []; rest = []; is = refl; given = λ v. refl }
   tree_is (parenthesized t) = tree_is t
   tree_is (signed s t) = sign_is s t (part_of t) (tree_is t)
-  tree_is (binary o a b) = binary_is o a b (part_of a) (part_of b) (tree_is a) (tree_is b)
+  tree_is (binary (Arithmetic o) a b) = binary_is o a b (part_of a) (part_of b) (tree_is a) (tree_is b)
+  tree_is _ = refl
 
   -- ---- items of a PRINT
 
@@ -123,9 +125,9 @@ module _ (symbols : List Name) (line : ℕ) where
   FormIs (does (printing is)) code plugged = code ≡ map Push is ++ Step line Print ∷ []
   FormIs (does leaving) code plugged = code ≡ Step line End ∷ []
 
-  assignment_is : (p : Place) (t : Tree) (q : Part Value) → TreeIs q (tree_code symbols line t) (λ v. tree_code symbols line (plug t v)) → FormIs (next_by (assigning p) q) (form_code symbols line (form.Assign p t)) (λ v. form_code symbols line (form.Assign p (plug t v)))
-  assignment_is p t (whole v) h = ap (λ c. c ++ Step line (Store (number_of symbols p.name)) ∷ []) h
-  assignment_is p t (hole r) h = opens_more r (tree_code symbols line t) (Step line (Store (number_of symbols p.name)) ∷ []) (λ v. tree_code symbols line (plug t v)) h
+  assignment_is : (x : Target) (t : Tree) (q : Part Value) → TreeIs q (tree_code symbols line t) (λ v. tree_code symbols line (plug t v)) → FormIs (next_by (assigning x.place) q) (form_code symbols line (form.Assign x t)) (λ v. form_code symbols line (form.Assign x (plug t v)))
+  assignment_is x t (whole v) h = ap (λ c. c ++ Step line (Store (number_of symbols x.place.name)) ∷ []) h
+  assignment_is x t (hole r) h = opens_more r (tree_code symbols line t) (Step line (Store (number_of symbols x.place.name)) ∷ []) (λ v. tree_code symbols line (plug t v)) h
 
   print_is : (items : List PrintItem) (q : Part (List Item)) → ItemsAre q (items_code symbols line items) (λ v. items_code symbols line (plug_items items v)) → FormIs (next_by printing q) (form_code symbols line (form.Print items)) (λ v. form_code symbols line (form.Print (plug_items items v)))
   print_is items (whole is) h = ap (λ c. c ++ Step line Print ∷ []) h
@@ -133,7 +135,14 @@ module _ (symbols : List Name) (line : ℕ) where
 
   -- the code of a statement begins with what comes next of it
   pub form_is : (work : Form) → is_executable work ≡ true → FormIs (next_of work) (form_code symbols line work) (λ v. form_code symbols line (plug_form work v))
-  form_is (form.Program x) e = absurd cc
-  form_is (form.Assign p t) e = assignment_is p t (part_of t) (tree_is t)
+  form_is (form.Program p) e = absurd cc
+  form_is (form.Subroutine p dummies) e = absurd cc
+  form_is (form.Implicit groups) e = absurd cc
+  form_is (form.Declare t declarators) e = absurd cc
+  form_is (form.Dimension declarators) e = absurd cc
+  form_is (form.Common blocks) e = absurd cc
+  form_is (form.Parameter constants) e = absurd cc
+  form_is (form.Data groups) e = absurd cc
+  form_is (form.Assign x t) e = assignment_is x t (part_of t) (tree_is t)
   form_is (form.Print items) e = print_is items (items_part items) (items_are items)
-  form_is form.End e = refl
+  form_is _ e = refl

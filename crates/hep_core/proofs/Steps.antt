@@ -142,10 +142,9 @@ module _ (symbols : List Name) (line : ℕ) (work : Form) (after : List Instruct
 -- ---- states
 
 executable_plug : (work : Form) (v : Value) → is_executable (plug_form work v) ≡ is_executable work
-executable_plug (form.Program x) v = refl
-executable_plug (form.Assign p t) v = refl
+executable_plug (form.Assign x t) v = refl
 executable_plug (form.Print items) v = refl
-executable_plug form.End v = refl
+executable_plug _ v = refl
 
 plug_end : (work : Form) (v : Value) → work ≡ form.End → plug_form work v ≡ form.End
 plug_end work v e = rw e refl

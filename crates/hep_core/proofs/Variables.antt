@@ -10,6 +10,7 @@ use Rattle.hep_source.specs.declared.statement.PrintItem.TheVariants.{Expression
 use Rattle.hep_source.specs.declared.statement.Form.{Form}
 use Rattle.hep_source.specs.declared.statement.Form.TheVariants as form
 use Rattle.hep_source.specs.declared.statement.Statement.{Statement}
+use Rattle.hep_source.specs.declared.operator.Operator.TheVariants.{Arithmetic}
 use Rattle.hep_source.specs.Tree.{Tree, constant, place, parenthesized, signed, binary}
 use Rattle.hep_source.specs.Names.{same_name, same_truth, same_letters, is_among, with_name, with_names, with_statements, variables_of, names_in, names_in_items, names_in_form}
 use Rattle.hep_source.specs.Storage.{local, Store, with_value}
@@ -164,9 +165,10 @@ module _ (symbols : List Name) where
   tree_resolved line (place p) h = (number_below symbols p.name h.0, tt)
   tree_resolved line (parenthesized t) h = tree_resolved line t h
   tree_resolved line (signed s t) h = resolved_append (length symbols) (tree_code symbols line t) (Step line (Evaluate (Sign s)) ∷ []) (tree_resolved line t h) (tt, tt)
-  tree_resolved line (binary o a b) h =
+  tree_resolved line (binary (Arithmetic o) a b) h =
       resolved_append (length symbols) (tree_code symbols line a) (tree_code symbols line b ++ Step line (Evaluate (Binary o)) ∷ []) (tree_resolved line a (front_among symbols (names_in a) (names_in b) h))
       (resolved_append (length symbols) (tree_code symbols line b) (Step line (Evaluate (Binary o)) ∷ []) (tree_resolved line b (back_among symbols (names_in a) (names_in b) h)) (tt, tt))
+  tree_resolved line _ h = (tt, tt)
 
   items_resolved : (line : ℕ) (items : List PrintItem) → AreAmong symbols (names_in_items items) → AreResolved (length symbols) (items_code symbols line items)
   items_resolved line [] h = tt
@@ -175,10 +177,17 @@ module _ (symbols : List Name) where
   items_resolved line (Characters cs ∷ items) h = (tt, items_resolved line items h)
 
   form_resolved : (line : ℕ) (f : Form) → AreAmong symbols (names_in_form f) → AreResolved (length symbols) (form_code symbols line f)
-  form_resolved line (form.Program x) h = tt
-  form_resolved line (form.Assign p t) h = resolved_append (length symbols) (tree_code symbols line t) (Step line (Storing (number_of symbols p.name)) ∷ []) (tree_resolved line t h.1) (number_below symbols p.name h.0, tt)
+  form_resolved line (form.Program p) h = tt
+  form_resolved line (form.Subroutine p dummies) h = tt
+  form_resolved line (form.Implicit groups) h = tt
+  form_resolved line (form.Declare t declarators) h = tt
+  form_resolved line (form.Dimension declarators) h = tt
+  form_resolved line (form.Common blocks) h = tt
+  form_resolved line (form.Parameter constants) h = tt
+  form_resolved line (form.Data groups) h = tt
+  form_resolved line (form.Assign x t) h = resolved_append (length symbols) (tree_code symbols line t) (Step line (Storing (number_of symbols x.place.name)) ∷ []) (tree_resolved line t h.1) (number_below symbols x.place.name h.0, tt)
   form_resolved line (form.Print items) h = resolved_append (length symbols) (items_code symbols line items) (Step line Print ∷ []) (items_resolved line items h) (tt, tt)
-  form_resolved line form.End h = (tt, tt)
+  form_resolved line _ h = (tt, tt)
 
 -- the statements ss, behind those whose names are in xs
 code_resolved : (ss : List Statement) (xs symbols : List Name) → symbols ≡ with_statements xs ss → AreResolved (length symbols) (code_from symbols ss)

@@ -7,9 +7,10 @@ use Rattle.hep_source.specs.declared.statement.Form.{Form}
 use Rattle.hep_source.specs.declared.statement.Form.TheVariants as form
 use Rattle.hep_source.specs.declared.statement.Statement.{Statement}
 use Rattle.hep_source.specs.declared.record.Item.TheVariants as item
+use Rattle.hep_source.specs.declared.operator.Operator.TheVariants.{Arithmetic}
 use Rattle.hep_source.specs.Tree.{Tree, constant, place, parenthesized, signed, binary}
 use Rattle.hep_source.specs.Names.{same_name, variables_of}
-use Rattle.hep_source.specs.Evaluation.{item_of}
+use Rattle.hep_source.specs.Evaluation.{item_of, unreached}
 use Rattle.hep_source.specs.Units.{Units, unit_at, main_unit}
 use Rattle.hep_core.specs.declared.operation.Evaluation.TheVariants.{Load, Sign, Binary}
 use Rattle.hep_core.specs.declared.operation.Operation.TheVariants.{Evaluate, Store, Print, End}
@@ -28,19 +29,28 @@ module _ (symbols : List Name) where
   tree_code line (place p) = Step line (Evaluate (Load (number_of symbols p.name))) ∷ []
   tree_code line (parenthesized t) = tree_code line t
   tree_code line (signed s t) = tree_code line t ++ Step line (Evaluate (Sign s)) ∷ []
-  tree_code line (binary o a b) = tree_code line a ++ (tree_code line b ++ Step line (Evaluate (Binary o)) ∷ [])
+  tree_code line (binary (Arithmetic o) a b) = tree_code line a ++ (tree_code line b ++ Step line (Evaluate (Binary o)) ∷ [])
+  tree_code line _ = Push (item_of unreached) ∷ []
 
   abbrev pub items_code : ℕ → List PrintItem → List Instruction
   items_code line [] = []
   items_code line (Expression t ∷ items) = tree_code line t ++ items_code line items
   items_code line (Characters cs ∷ items) = Push (item.Text cs) ∷ items_code line items
 
-  -- assignment, PRINT and END: X3.9-1978, 10.1, 12.8 and 11.14; a statement that isn't executable has none (7.1)
+  -- assignment, PRINT and END: X3.9-1978, 10.1, 12.8 and 11.14; a statement that isn't executable has none (7.1),
+  -- and one that no core runs yet is as END (docs/MACHINE.md)
   abbrev pub form_code : ℕ → Form → List Instruction
-  form_code line (form.Program x) = []
-  form_code line (form.Assign p t) = tree_code line t ++ Step line (Store (number_of symbols p.name)) ∷ []
+  form_code line (form.Program p) = []
+  form_code line (form.Subroutine p dummies) = []
+  form_code line (form.Implicit groups) = []
+  form_code line (form.Declare t declarators) = []
+  form_code line (form.Dimension declarators) = []
+  form_code line (form.Common blocks) = []
+  form_code line (form.Parameter constants) = []
+  form_code line (form.Data groups) = []
+  form_code line (form.Assign x t) = tree_code line t ++ Step line (Store (number_of symbols x.place.name)) ∷ []
   form_code line (form.Print items) = items_code line items ++ Step line Print ∷ []
-  form_code line form.End = Step line End ∷ []
+  form_code line _ = Step line End ∷ []
 
   -- the operations of statements, and an END behind the last one
   abbrev pub code_from : List Statement → List Instruction

@@ -4,5 +4,6 @@ pub mod Machine
 pub mod Shown
 pub mod Names
 pub mod Image
+pub mod Runnable
 pub mod Value
 pub mod Kept

@@ -10,6 +10,7 @@ use thiserror::Error;
 pub enum ImageFault {
     #[error("no memory")]
     NoMemory,
+    /// 403, with the line and without a name: a statement doesn't run today (docs/MACHINE.md). Or
     /// 301, with the line of the statement and the name: a variable has no INTEGER or LOGICAL
     /// declaration, and its letter isn't I to N (X3.9-1978, 4.1.2).
     #[error("refused {number} in line {line}")]

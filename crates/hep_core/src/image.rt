@@ -2,7 +2,8 @@
 ghost use Rattle.std.specs.Prelude.{◌≡◌, ◌<◌, ◌++◌, ◌^◌, ◌∷◌, [], None, Some, IfOk, OnOk, MatchResult, length, map, option_map, slice_get};
 ghost use Rattle.hep_source.specs.Names.{first_untyped, spelling as spelling_of};
 ghost use Rattle.hep_source.specs.Units as units;
-ghost use Rattle.hep_core.specs.Symbols.{Reports};
+ghost use Rattle.hep_core.specs.Runnable as runnable;
+ghost use Rattle.hep_core.specs.Symbols.{Refuses};
 ghost use Rattle.hep_core.specs.Code.{program_code};
 ghost use Rattle.hep_core.specs.Shown.{main_variables};
 ghost use Rattle.hep_core.specs.Names as words;
@@ -10,6 +11,7 @@ ghost use Rattle.hep_core.specs.Names as words;
 use crate::fault::ImageFault;
 use crate::lower::code_of;
 use crate::operation::Instruction;
+use crate::runnable::first_unrun_in;
 use crate::symbols::{spelling, symbols_of};
 use hep_source::{Form, Name, Program, Statement, Text, Unit};
 use indexmap::IndexSet;
@@ -91,8 +93,8 @@ fn unit_name(alloc: Global, statements: &[Statement]) -> Result<Text, AllocError
     ensures { IfOk result (λ name. name ≡ units.unit_name statements.now) }
 {
     if let [first, ..] = statements {
-        if let Form::Program(name) = &first.form {
-            return spelling(alloc, name);
+        if let Form::Program(place) | Form::Subroutine(place, _) = &first.form {
+            return spelling(alloc, &place.name);
         }
     }
     Ok(Text::from(Vec::from_slice(alloc, b"MAIN")?))
@@ -137,10 +139,19 @@ fn names_of(
 ///
 /// # Errors
 ///
-/// 301 for the first variable whose letter isn't I to N, with its line and name; or want of memory.
+/// 403 for the first statement that doesn't run today, with its line (docs/MACHINE.md); where there
+/// is none, 301 for the first variable whose letter isn't I to N, with its line and name; or want
+/// of memory.
 pub fn image_of(alloc: Global, program: Program) -> Result<Image, ImageFault>
-    ensures { MatchResult result (λ image. (image ≡ program) × (first_untyped (units.unit_at program units.main_unit) ≡ None)) (λ e. Reports e (first_untyped (units.unit_at program units.main_unit))) }
+    ensures { MatchResult result (λ image. (image ≡ program) × (runnable.first_unrun_in program ≡ None) × (first_untyped (units.unit_at program units.main_unit) ≡ None)) (λ e. Refuses e (runnable.first_unrun_in program) (first_untyped (units.unit_at program units.main_unit))) }
 {
+    if let Some(line) = first_unrun_in(program.as_slice()) {
+        return Err(ImageFault::Refused {
+            number: 403,
+            line,
+            name: Text::from(Vec::new(alloc)),
+        });
+    }
     let statements = main_statements(&program);
     let symbols = symbols_of(alloc, statements)?;
     let code = code_of(alloc, &symbols, statements)?;

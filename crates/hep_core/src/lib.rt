@@ -6,6 +6,7 @@ pub mod image;
 pub mod lower;
 pub mod machine;
 pub mod operation;
+pub mod runnable;
 pub mod scheduler;
 pub mod stop;
 pub mod symbols;

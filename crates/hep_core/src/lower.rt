@@ -4,7 +4,7 @@ ghost use Rattle.hep_source.specs.Evaluation as evaluation;
 ghost use Rattle.hep_core.specs.Code as code_words;
 
 use crate::operation::{Evaluation, Instruction, Operation};
-use hep_source::{Expr, Form, Item, Name, Node, PrintItem, Statement, Text, Value};
+use hep_source::{Expr, Form, Item, Name, Node, Operator, PrintItem, Statement, Text, Value};
 use indexmap::IndexSet;
 use std::alloc::{AllocError, Global};
 
@@ -70,7 +70,7 @@ fn emit_expression(
             emit_expression(code, symbols, line, term)?;
             emit_step(code, line, Operation::Evaluate(Evaluation::Sign(*sign)))
         }
-        Node::Binary(operator, left, right) => {
+        Node::Binary(Operator::Arithmetic(operator), left, right) => {
             emit_expression(code, symbols, line, left)?;
             emit_expression(code, symbols, line, right)?;
             emit_step(
@@ -79,6 +79,8 @@ fn emit_expression(
                 Operation::Evaluate(Evaluation::Binary(*operator)),
             )
         }
+        // Not reached: `image_of` refuses a program with such an expression before.
+        _ => emit(code, Instruction::Push(Item::Truth(false))),
     }
 }
 
@@ -126,10 +128,17 @@ fn emit_statement(
 {
     let line = statement.line;
     match &statement.form {
-        Form::Program(_) => Ok(()),
-        Form::Assign(place, expression) => {
+        Form::Program(_)
+        | Form::Subroutine(_, _)
+        | Form::Implicit(_)
+        | Form::Declare(_, _)
+        | Form::Dimension(_)
+        | Form::Common(_)
+        | Form::Parameter(_)
+        | Form::Data(_) => Ok(()),
+        Form::Assign(target, expression) => {
             emit_expression(code, symbols, line, expression)?;
-            let number = number_of(symbols, place.name);
+            let number = number_of(symbols, target.place.name);
             emit_step(code, line, Operation::Store(number))
         }
         Form::Print(list) => {
@@ -137,6 +146,8 @@ fn emit_statement(
             emit_step(code, line, Operation::Print)
         }
         Form::End => emit_step(code, line, Operation::End),
+        // Not reached: `image_of` refuses a program with such a statement before.
+        _ => emit_step(code, line, Operation::End),
     }
 }
 

@@ -1,6 +1,6 @@
 //! Operations: statements in postfix order, with a list of operands.
 
-use hep_source::{Item, Operator, Sign};
+use hep_source::{ArithmeticOperator, Item, Sign};
 
 /// An operation that gives a value. Operands lie in a list, the last one on top.
 #[derive(Clone, Copy)]
@@ -10,7 +10,7 @@ pub enum Evaluation {
     /// Puts a sign before the topmost operand.
     Sign(Sign),
     /// Takes the two topmost operands, the right one on top, and puts the result there.
-    Binary(Operator),
+    Binary(ArithmeticOperator),
 }
 
 /// One step of a statement.

@@ -2,6 +2,7 @@
 
 ghost use Rattle.std.specs.Prelude.{◌≡◌, ◌∷◌, [], None, IfOk, MatchResult};
 ghost use Rattle.hep_source.specs.Names as names;
+ghost use Rattle.hep_source.specs.Tree.{trees_of};
 ghost use Rattle.hep_core.specs.Symbols.{untyped_in, Reports};
 
 use crate::fault::ImageFault;
@@ -57,6 +58,7 @@ fn declare(
     Ok(())
 }
 
+#[cycle(declare_in)]
 fn declare_in(
     alloc: Global,
     symbols: &mut IndexSet<Name>,
@@ -68,11 +70,35 @@ fn declare_in(
     match &expression.node {
         Node::Constant(_) => Ok(()),
         Node::Place(place) => declare(alloc, symbols, line, place.name),
+        Node::Listed(place, arguments) => {
+            declare(alloc, symbols, line, place.name)?;
+            declare_in_all(alloc, symbols, line, arguments)
+        }
         Node::Parenthesized(inner) => declare_in(alloc, symbols, line, inner),
         Node::Signed(_, term) => declare_in(alloc, symbols, line, term),
+        Node::Negated(operand) => declare_in(alloc, symbols, line, operand),
         Node::Binary(_, left, right) => {
             declare_in(alloc, symbols, line, left)?;
             declare_in(alloc, symbols, line, right)
+        }
+    }
+}
+
+// The names of these expressions, in their order.
+#[cycle(declare_in)]
+fn declare_in_all(
+    alloc: Global,
+    symbols: &mut IndexSet<Name>,
+    line: u32,
+    expressions: &[Expr],
+) -> Result<(), ImageFault>
+    ensures { MatchResult result (λ _. (symbols.new.keys ≡ names.with_names symbols.old.keys (names.names_in_all (trees_of expressions.now))) × (names.first_real (names.names_in_all (trees_of expressions.now)) ≡ None)) (λ e. Reports e (untyped_in line (names.names_in_all (trees_of expressions.now)))) }
+{
+    match expressions {
+        [] => Ok(()),
+        [first, rest @ ..] => {
+            declare_in(alloc, symbols, line, first)?;
+            declare_in_all(alloc, symbols, line, rest)
         }
     }
 }
@@ -103,13 +129,13 @@ fn declare_statement(
 {
     let line = statement.line;
     match &statement.form {
-        Form::Program(_) => Ok(()),
-        Form::Assign(place, expression) => {
-            declare(alloc, symbols, line, place.name)?;
+        Form::Assign(target, expression) => {
+            declare(alloc, symbols, line, target.place.name)?;
             declare_in(alloc, symbols, line, expression)
         }
         Form::Print(list) => declare_items(alloc, symbols, line, list.as_slice()),
-        Form::End => Ok(()),
+        // PROGRAM and END have no variables, and `image_of` refuses what doesn't run before.
+        _ => Ok(()),
     }
 }
 

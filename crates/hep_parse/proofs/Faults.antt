@@ -1,285 +1,312 @@
 -- What is told is the first fault, and the other way round.
-use Rattle.std.proofs.Common.{◌≡◌, ◌⊎◌, inl, inr, ℕ, List, [], ◌∷◌, ◌++◌, length, Option, Some, None, Result, Ok, Err, refl, sym, ap, subst, ◌∙◌, arith}
-use Rattle.std.specs.Prelude.{◌≢◌, codes, min, ℤ}
-use Rattle.hep_source.specs.Tree.{Tree, constant, place, parenthesized, signed, binary}
-use Rattle.hep_source.specs.declared.value.Value.TheVariants.{Int, Truth}
-use Rattle.hep_source.specs.declared.statement.PrintItem.{PrintItem}
-use Rattle.hep_source.specs.declared.statement.PrintItem.TheVariants.{Expression, Characters}
+use Rattle.std.proofs.Common.{◌≡◌, ◌⊎◌, inl, inr, ℕ, Bool, true, false, List, [], ◌∷◌, ◌++◌, length, Option, Some, None, Result, Ok, Err, refl, sym, ap, subst, ◌∙◌, arith}
+use Rattle.std.specs.Prelude.{◌≢◌, not, ◌&&◌, ◌||◌}
+use Rattle.hep_source.specs.Tree.{Tree}
 use Rattle.hep_source.specs.declared.statement.Form.{Form}
-use Rattle.hep_source.specs.declared.statement.Form.TheVariants.{Program, Assign, Print, End}
-use Rattle.hep_source.specs.declared.statement.Statement.{Statement}
 use Rattle.hep_text.specs.declared.statement.Stmt.{Stmt}
-use Rattle.hep_parse.specs.declared.characters.Sizes.{Sizes}
-use Rattle.hep_parse.specs.declared.characters.Sizes.TheVariants.{Fitting, Any}
-use Rattle.hep_parse.specs.declared.characters.Context.{Context}
-use Rattle.hep_parse.specs.declared.program.Stage.{Stage}
-use Rattle.hep_parse.specs.declared.program.Stage.TheVariants.{Start, Within, Ended}
-use Rattle.hep_parse.specs.Characters.{decimal, greatest, IsInteger}
-use Rattle.hep_parse.specs.Expression as levels
-use Rattle.hep_parse.specs.Expression.{Reads, left, right, operand, spelling}
-use Rattle.hep_parse.specs.Statement.{ReadsItem, AreItems, IsForm}
-use Rattle.hep_parse.specs.Program.{IsHeader, HasNoReading, HaveEnd, IsMisplaced, IsRefused, IsFirstRefused, IsFirstFault}
+use Rattle.hep_expression.specs.declared.characters.Sizes.{Sizes}
+use Rattle.hep_expression.specs.declared.characters.Sizes.TheVariants.{Fitting, Any}
+use Rattle.hep_expression.proofs.Leaves.{some_is, none_is, chosen}
+use Rattle.hep_parse.specs.declared.program.Part.{Part}
+use Rattle.hep_parse.specs.declared.program.Part.TheVariants as part
+use Rattle.hep_parse.specs.declared.program.State.{State}
+use Rattle.hep_parse.specs.Statement.{context, IsForm}
+use Rattle.hep_parse.specs.Program.{part_of, MayStandBehind, begins_main, HasNoReading, IsLeftOutStatement, IsMisplaced, IsRefused, parts_behind, main_behind, IsFirstFaultFrom, IsFirstFault}
 use Rattle.hep_parse.specs.ReadingStatement.{form}
-use Rattle.hep_parse.specs.ReadingProgram.{or_refusal, with_line, statement, stage_behind, placed, at_end, with_statements, statements, program}
-use Rattle.hep_parse.proofs.Leaves.{some_is, none_is}
-use Rattle.hep_parse.proofs.Forms.{is_form, form_read}
-use Rattle.hep_parse.proofs.Programs.{ok, refused, refusal_is, not_both}
+use Rattle.hep_parse.specs.ReadingProgram.{Refusal, or_refusal, left_out, with_line, nameless_refusal, refusal_of, statement, is_start, may_follow, state_behind, placed, behind_one, ended, units, nothing_read, program}
+use Rattle.hep_parse.proofs.Forms.{form_is, form_read}
+use Rattle.hep_parse.proofs.LeftOut.{left_out_is, left_out_read}
+use Rattle.hep_parse.proofs.Sizes.{any_form}
+use Rattle.hep_parse.proofs.Programs.{not_false, ok, refused, refusal_is, not_both, stand_is, is_stand, is_empty, Stands, stands_first, next_state, stands_end, stands_other, state_is, end_or_other, behind_other}
 
--- ---- what reads with fitting constants reads with constants of any size
-
-abbrev sized : Sizes → ℕ → Context
-sized z n = record { sizes = z; length = n }
-
-any_integer : (d : List ℕ) (v : ℤ) → IsInteger Fitting d v → IsInteger Any d v
-any_integer d v h =
-    let same : min (decimal d) greatest ≡ decimal d = omega (arith, h.0) in
-    rw same h.1
-
-any_reads : (n : ℕ) (t : Tree) (l : ℕ) (s r : List ℕ) → Reads (sized Fitting n) t l s r → Reads (sized Any n) t l s r
-any_reads n (constant (Int v)) l s r h = (h.0, h.1, h.2, any_integer h.0 v h.3)
-any_reads n (constant (Truth b)) l s r h = h
-any_reads n (place p) l s r h = h
-any_reads n (parenthesized t) l s r h = (h.0, h.1, any_reads n t levels.equivalence h.0 (codes ")" ++ r) h.2)
-any_reads n (signed g t) l s r h = (h.0, h.1, h.2, any_reads n t (operand g) h.1 r h.3)
-any_reads n (binary o a b) l s r h = (h.0, h.1, any_reads n a (left o) s (spelling o ++ h.1) h.2, any_reads n b (right o) h.1 r h.3)
-
-any_item : (n : ℕ) (i : PrintItem) (s r : List ℕ) → ReadsItem (sized Fitting n) i s r → ReadsItem (sized Any n) i s r
-any_item n (Expression t) s r h = elim h [ inl g ↦ inl (any_reads n t levels.equivalence s r g) | inr g ↦ inr g ]
-any_item n (Characters t) s r h = h
-
-any_items : (n : ℕ) (more : List PrintItem) (s : List ℕ) → AreItems (sized Fitting n) more s → AreItems (sized Any n) more s
-any_items n [] s h = h
-any_items n (i ∷ more) s h = (h.0, h.1, h.2, any_item n i h.0 h.1 h.3, any_items n more h.1 h.4)
-
-any_form : (s : List ℕ) (f : Form) → IsForm Fitting s f → IsForm Any s f
-any_form s (Program n) h = h
-any_form s (Assign p t) h = (h.0, h.1, any_reads (length s) t levels.equivalence h.0 [] h.2)
-any_form s (Print more) h = (h.0, h.1, any_items (length s) more h.0 h.2)
-any_form s End h = h
+-- ---- readings
 
 -- a text has one form at most
-one_form : (z : Sizes) (s : List ℕ) (f g : Form) → IsForm z s f → IsForm z s g → f ≡ g
-one_form z s f g h k = some_is f g (sym (form_read z s f h) ∙ form_read z s g k)
+one_form : (z : Sizes) (s : List ℕ) (conditions more : List Tree) (f g : Form) → IsForm z s conditions f → IsForm z s more g → ◌≡◌ {A = List Tree × Form} (conditions, f) (more, g)
+one_form z s conditions more f g h k = some_is (conditions, f) (more, g) (sym (form_read z s conditions f h) ∙ form_read z s more g k)
 
 unread : (z : Sizes) (s : Stmt) → form z s.text ≡ None → HasNoReading z s
-unread z s e f h = none_is f (sym e ∙ form_read z s.text f h)
+unread z s e conditions f h = none_is (conditions, f) (sym e ∙ form_read z s.text conditions f h)
 
--- ---- stages
+word_left_out : (s : Stmt) (word : List ℕ) → IsLeftOutStatement s word → left_out (context Any s.text) (length s.text) s.text ≡ Some word
+word_left_out s word h = left_out_read (context Any s.text) h.0 (length s.text) s.text word (omega arith) h.1
 
--- what is known of the statements before, at a stage
-abbrev Stands : Stage → List Stmt → Type 0
-Stands Start before = before ≡ []
-Stands Within before = (before ≢ []) × (HaveEnd before → ⊥)
-Stands Ended before = HaveEnd before
+-- ---- places
 
-end_last : (before : List Stmt) (s : Stmt) → IsForm Fitting s.text End → HaveEnd (before ++ s ∷ [])
-end_last [] s h = inl h
-end_last (b ∷ before) s h = inr (end_last before s h)
+both_of : (start main begins : Bool) → (start && main && begins) ≡ true → (start ≡ true) × (main ≡ true) × (begins ≡ true)
+both_of true true true e = (refl, refl, refl)
+both_of true true false e = absurd cc
+both_of true false begins e = absurd cc
+both_of false main begins e = absurd cc
 
-no_end_more : (before : List Stmt) (s : Stmt) → (HaveEnd before → ⊥) → (IsForm Fitting s.text End → ⊥) → HaveEnd (before ++ s ∷ []) → ⊥
-no_end_more [] s none other h = elim h [ inl g ↦ other g | inr g ↦ g ]
-no_end_more (b ∷ before) s none other h = elim h [ inl g ↦ none (inl g) | inr g ↦ no_end_more before s (λ e. none (inr e)) other g ]
+empty_is : (before : List Part) → is_empty before ≡ true → before ≡ []
+empty_is [] e = refl
+empty_is (y ∷ before) e = absurd cc
 
-some_before : (before : List Stmt) (s : Stmt) → before ++ s ∷ [] ≢ []
-some_before [] s e = cc
-some_before (b ∷ before) s e = cc
+-- a part has no place behind those before it, or would begin a second main program
+abbrev IsDisplaced : State → List Part → Part → Bool → Type 0
+IsDisplaced x before p begins = (MayStandBehind before p → ⊥) ⊎ ((before ≡ []) × (x.has_main ≡ true) × (begins ≡ true))
 
-no_end_before : (stage : Stage) (before : List Stmt) (next : Stage) (f : Form) → Stands stage before → stage_behind stage f ≡ Some next → HaveEnd before → ⊥
-no_end_before Start before next f stands e h = let none : HaveEnd [] = subst HaveEnd stands h in none
-no_end_before Within before next f stands e h = stands.1 h
-no_end_before Ended before next f stands e h = none_is next e
-
--- a form that has no place behind what came before
-displaced : (stage : Stage) (before : List Stmt) (f : Form) → Stands stage before → stage_behind stage f ≡ None → HaveEnd before ⊎ (IsHeader f × (before ≢ []))
-displaced Start before (Program n) stands e = absurd cc
-displaced Start before (Assign p t) stands e = absurd cc
-displaced Start before (Print more) stands e = absurd cc
-displaced Start before End stands e = absurd cc
-displaced Within before (Program n) stands e = inr (tt, stands.0)
-displaced Within before (Assign p t) stands e = absurd cc
-displaced Within before (Print more) stands e = absurd cc
-displaced Within before End stands e = absurd cc
-displaced Ended before f stands e = inl stands
-
-not_displaced : (stage : Stage) (before : List Stmt) (f : Form) (next : Stage) → Stands stage before → stage_behind stage f ≡ Some next → HaveEnd before ⊎ (IsHeader f × (before ≢ [])) → ⊥
-not_displaced stage before f next stands e h = elim h [
-  | inl g ↦ no_end_before stage before next f stands e g
-  | inr g ↦ header stage f stands e g.0 g.1
+displaced : (x : State) (before : List Part) (p : Part) (begins : Bool) → Stands x before → state_behind x p begins ≡ None → IsDisplaced x before p begins
+displaced x before p begins stands e = elim (chosen (may_follow x.stage p && not (is_start x.stage && x.has_main && begins)) (Some (next_state x p begins)) None None e) [
+  | inl g ↦ absurd (none_is (next_state x p begins) (sym g.1))
+  | inr g ↦ go (may_follow x.stage p) refl g.0
 ]
   where
-    header : (stage : Stage) (f : Form) → Stands stage before → stage_behind stage f ≡ Some next → IsHeader f → before ≢ [] → ⊥
-    header Start (Program n) stands e is more = more stands
-    header Within (Program n) stands e is more = none_is next e
-    header Ended (Program n) stands e is more = none_is next e
-    header stage (Assign p t) stands e is more = is
-    header stage (Print l) stands e is more = is
-    header stage End stands e is more = is
+    go : (first : Bool) → may_follow x.stage p ≡ first → (first && not (is_start x.stage && x.has_main && begins)) ≡ false → IsDisplaced x before p begins
+    go false is e = inl (λ h. let clash : true ≡ false = sym (stand_is before p h) ∙ stands.0 p ∙ is in cc)
+    go true is e =
+        let second = both_of (is_start x.stage) x.has_main begins (not_false (is_start x.stage && x.has_main && begins) e) in
+        inr (empty_is before (sym stands.1 ∙ second.0), second.1, second.2)
 
--- the stage behind END, and behind another form
-next_is : (stage next : Stage) (f : Form) → stage_behind stage f ≡ Some next → ((f ≡ End) × (next ≡ Ended)) ⊎ ((f ≢ End) × (next ≡ Within))
-next_is Start next (Program n) e = inr ((λ h. cc), sym (some_is Within next e))
-next_is Start next (Assign p t) e = inr ((λ h. cc), sym (some_is Within next e))
-next_is Start next (Print more) e = inr ((λ h. cc), sym (some_is Within next e))
-next_is Start next End e = inl (refl, sym (some_is Ended next e))
-next_is Within next (Program n) e = absurd (none_is next e)
-next_is Within next (Assign p t) e = inr ((λ h. cc), sym (some_is Within next e))
-next_is Within next (Print more) e = inr ((λ h. cc), sym (some_is Within next e))
-next_is Within next End e = inl (refl, sym (some_is Ended next e))
-next_is Ended next f e = absurd (none_is next e)
+not_displaced : (x : State) (before : List Part) (p : Part) (begins : Bool) → Stands x before → may_follow x.stage p ≡ true → (is_start x.stage && x.has_main && begins) ≡ false → IsDisplaced x before p begins → ⊥
+not_displaced x before p begins stands first second h = elim h [
+  | inl g ↦ g (is_stand before p (stands.0 p ∙ first))
+  | inr g ↦ (
+      let start : is_start x.stage ≡ true = stands.1 ∙ ap is_empty g.0 in
+      let clash : true ≡ false = sym (rw (start, g.1, g.2) refl) ∙ second in
+      cc)
+]
+
+parts_other : (before : List Part) (p : Part) → p ≢ part.End → parts_behind before p ≡ before ++ p ∷ []
+parts_other before part.Header h = refl
+parts_other before part.Implicit h = refl
+parts_other before part.Parameter h = refl
+parts_other before part.Specification h = refl
+parts_other before part.Action h = refl
+parts_other before part.End h = absurd (h refl)
+
+stands_behind : (x : State) (before : List Part) (p : Part) (begins : Bool) → Stands x before → may_follow x.stage p ≡ true → Stands (next_state x p begins) (parts_behind before p)
+stands_behind x before p begins stands first = elim (end_or_other p) [
+  | inl e ↦ (
+      let none : parts_behind before p ≡ [] = rw e refl in
+      subst (Stands (next_state x p begins)) (sym none) (stands_end x p begins e))
+  | inr h ↦ subst (Stands (next_state x p begins)) (sym (parts_other before p h)) (stands_other x before p begins stands first h)
+]
+
+main_next : (start main : Bool) (before : List Part) (f : Form) → start ≡ is_empty before → (main || (start && begins_main f)) ≡ main_behind before main f
+main_next true true [] f e = refl
+main_next true false [] f e = refl
+main_next true main (y ∷ before) f e = absurd cc
+main_next false main [] f e = absurd cc
+main_next false true (y ∷ before) f e = refl
+main_next false false (y ∷ before) f e = refl
 
 -- ---- one statement
 
--- It is refused with this number and no other, and that is told.
-abbrev Refuses : Stage → List Stmt → Stmt → List Stmt → ℕ → Type 0
-Refuses stage before s behind n =
-    IsRefused before s behind n
-    × ((m : ℕ) → IsRefused before s behind m → m ≡ n)
-    × ((line : ℕ) → statements stage line (s ∷ behind) ≡ Err (n, s.line))
+-- It is refused with this number and name and no other, and that is told.
+abbrev Refuses : State → List Part → Stmt → List Stmt → ℕ → List ℕ → Type 0
+Refuses x before s behind n w =
+    IsRefused before x.has_main s behind n w
+    × ((m : ℕ) (v : List ℕ) → IsRefused before x.has_main s behind m v → (m ≡ n) × (v ≡ w))
+    × ((line : ℕ) → units x line (s ∷ behind) ≡ Err (n, s.line, w))
 
 -- It isn't refused, and what is told is told of those behind it.
-abbrev Passes : Stage → List Stmt → Stmt → List Stmt → Stage → Type 0
-Passes stage before s behind next =
-    ((m : ℕ) → IsRefused before s behind m → ⊥)
-    × Stands next (before ++ s ∷ [])
-    × (behind ≡ [] → next ≡ Ended)
-    × (t : Statement) × ((line : ℕ) → statements stage line (s ∷ behind) ≡ with_statements (t ∷ []) (statements next s.line behind))
+abbrev Passes : State → List Part → Stmt → List Stmt → List Tree × Form → State → Type 0
+Passes x before s behind c next =
+    ((m : ℕ) (v : List ℕ) → IsRefused before x.has_main s behind m v → ⊥)
+    × IsForm Fitting s.text c.0 c.1
+    × Stands next (parts_behind before (part_of c.0 c.1))
+    × (next.has_main ≡ main_behind before x.has_main c.1)
+    × (behind ≡ [] → is_start next.stage ≡ true)
+    × ((line : ℕ) → units x line (s ∷ behind) ≡ or_refusal (units next s.line behind) (λ rest. Ok (behind_one (with_line s c) next.stage rest)))
 
-abbrev Judged : Stage → List Stmt → Stmt → List Stmt → Type 0
-Judged stage before s behind = ((n : ℕ) × Refuses stage before s behind n) ⊎ ((next : Stage) × Passes stage before s behind next)
+abbrev Judged : State → List Part → Stmt → List Stmt → Type 0
+Judged x before s behind =
+    ((n : ℕ) × (w : List ℕ) × Refuses x before s behind n w)
+    ⊎ ((c : List Tree × Form) × (next : State) × Passes x before s behind c next)
 
-module _ (stage : Stage) (before : List Stmt) (s : Stmt) (behind : List Stmt) where
-  no_form : form Fitting s.text ≡ None → form Any s.text ≡ None → Refuses stage before s behind 201
-  unfolding statements placed statement
-  no_form none none_any = (inl (refl, unread Any s none_any), only, λ line. rw (none, none_any) refl)
+module _ (x : State) (before : List Part) (s : Stmt) (behind : List Stmt) where
+  no_form : form Fitting s.text ≡ None → form Any s.text ≡ None → left_out (context Any s.text) (length s.text) s.text ≡ None → Refuses x before s behind 201 []
+  unfolding units placed statement refusal_of nameless_refusal
+  no_form none none_any no_word = (inl (refl, unread Any s none_any, no_words, refl), only, λ line. rw (none, none_any, no_word) refl)
     where
-      only : (m : ℕ) → IsRefused before s behind m → m ≡ 201
-      only m h = elim h [
-        | inl g ↦ g.0
+      no_words : (word : List ℕ) → IsLeftOutStatement s word → ⊥
+      no_words word h = none_is word (sym no_word ∙ word_left_out s word h)
+
+      only : (m : ℕ) (v : List ℕ) → IsRefused before x.has_main s behind m v → (m ≡ 201) × (v ≡ [])
+      only m v h = elim h [
+        | inl g ↦ (g.0, g.3)
         | inr g ↦ (elim g [
-          | inl w ↦ absurd (unread Any s none_any w.1.0 w.1.1)
-          | inr w ↦ absurd (unread Fitting s none w.1 w.2)
+          | inl w ↦ absurd (no_words v w.2)
+          | inr w ↦ (elim w [
+            | inl q ↦ absurd (unread Any s none_any q.1.0 q.1.1 q.1.2)
+            | inr q ↦ absurd (unread Fitting s none q.1 q.2 q.3)
+          ])
         ])
       ]
 
-  too_large : (f : Form) → form Fitting s.text ≡ None → form Any s.text ≡ Some f → Refuses stage before s behind 203
-  unfolding statements placed statement
-  too_large f none large = (inr (inl (refl, (f, is_form Any s.text f large), unread Fitting s none)), only, λ line. rw (none, large) refl)
+  left_out_form : (word : List ℕ) → form Fitting s.text ≡ None → form Any s.text ≡ None → left_out (context Any s.text) (length s.text) s.text ≡ Some word → Refuses x before s behind 202 word
+  unfolding units placed statement refusal_of nameless_refusal
+  left_out_form word none none_any found = (inr (inl (refl, unread Any s none_any, is)), only, λ line. rw (none, none_any, found) refl)
     where
-      only : (m : ℕ) → IsRefused before s behind m → m ≡ 203
-      only m h = elim h [
-        | inl g ↦ absurd (g.1 f (is_form Any s.text f large))
-        | inr g ↦ (elim g [ inl w ↦ w.0 | inr w ↦ absurd (unread Fitting s none w.1 w.2) ])
+      is : IsLeftOutStatement s word
+      is = left_out_is (context Any s.text) (length s.text) s.text word (omega arith) found
+
+      only : (m : ℕ) (v : List ℕ) → IsRefused before x.has_main s behind m v → (m ≡ 202) × (v ≡ word)
+      only m v h = elim h [
+        | inl g ↦ absurd (g.2 word is)
+        | inr g ↦ (elim g [
+          | inl w ↦ (w.0, some_is v word (sym (word_left_out s v w.2) ∙ found))
+          | inr w ↦ (elim w [
+            | inl q ↦ absurd (unread Any s none_any q.1.0 q.1.1 q.1.2)
+            | inr q ↦ absurd (unread Fitting s none q.1 q.2 q.3)
+          ])
+        ])
+      ]
+
+  too_large : (c : List Tree × Form) → form Fitting s.text ≡ None → form Any s.text ≡ Some c → Refuses x before s behind 203 []
+  unfolding units placed statement refusal_of
+  too_large c none large = (inr (inr (inl (refl, (c.0, c.1, is), unread Fitting s none, refl))), only, λ line. rw (none, large) refl)
+    where
+      is : IsForm Any s.text c.0 c.1
+      is = form_is Any s.text c large
+
+      only : (m : ℕ) (v : List ℕ) → IsRefused before x.has_main s behind m v → (m ≡ 203) × (v ≡ [])
+      only m v h = elim h [
+        | inl g ↦ absurd (g.1 c.0 c.1 is)
+        | inr g ↦ (elim g [
+          | inl w ↦ absurd (w.1 c.0 c.1 is)
+          | inr w ↦ (elim w [
+            | inl q ↦ (q.0, q.3)
+            | inr q ↦ absurd (unread Fitting s none q.1 q.2 q.3)
+          ])
+        ])
       ]
 
   -- a statement that is read is refused only for its place
-  only_place : (f : Form) → form Fitting s.text ≡ Some f → (m : ℕ) → IsRefused before s behind m → (m ≡ 205) × IsMisplaced before f behind
-  only_place f found m h =
-      let is = is_form Fitting s.text f found in
+  only_place : (c : List Tree × Form) → form Fitting s.text ≡ Some c → (m : ℕ) (v : List ℕ) → IsRefused before x.has_main s behind m v → (m ≡ 205) × (v ≡ []) × IsMisplaced before x.has_main c.0 c.1 behind
+  only_place c found m v h =
+      let is = form_is Fitting s.text c found in
       elim h [
-        | inl g ↦ absurd (g.1 f (any_form s.text f is))
+        | inl g ↦ absurd (g.1 c.0 c.1 (any_form s.text c.0 c.1 is))
         | inr g ↦ (elim g [
-          | inl w ↦ absurd (w.2 f is)
-          | inr w ↦ (w.0, subst (λ (x : Form). IsMisplaced before x behind) (one_form Fitting s.text w.1 f w.2 is) w.3)
+          | inl w ↦ absurd (w.1 c.0 c.1 (any_form s.text c.0 c.1 is))
+          | inr w ↦ (elim w [
+            | inl q ↦ absurd (q.2 c.0 c.1 is)
+            | inr q ↦ (q.0, q.5, subst (λ (y : List Tree × Form). IsMisplaced before x.has_main y.0 y.1 behind) (one_form Fitting s.text q.1 c.0 q.2 c.1 q.3 is) q.4)
+          ])
         ])
       ]
 
-  misplaced : (f : Form) → Stands stage before → form Fitting s.text ≡ Some f → stage_behind stage f ≡ None → Refuses stage before s behind 205
-  unfolding statements placed statement
-  misplaced f stands found none =
-      let is = is_form Fitting s.text f found in
-      let why : IsMisplaced before f behind = elim (displaced stage before f stands none) [ inl g ↦ inl g | inr g ↦ inr (inl g) ] in
-      (inr (inr (refl, f, is, why)), (λ m h. (only_place f found m h).0), λ line. rw (found, none) refl)
+  module _ (c : List Tree × Form) (found : form Fitting s.text ≡ Some c) where
+    told_only : (m : ℕ) (v : List ℕ) → IsRefused before x.has_main s behind m v → (m ≡ 205) × (v ≡ [])
+    told_only m v h = let o = only_place c found m v h in (o.0, o.1)
 
-  place_of_end : (next : Stage) (f : Form) → Stands stage before → form Fitting s.text ≡ Some f → stage_behind stage f ≡ Some next → f ≡ End → next ≡ Ended → Passes stage before s behind next
-  unfolding statements placed statement
-  place_of_end next f stands found goes is_end is_ended =
-      let is : IsForm Fitting s.text End = subst (IsForm Fitting s.text) is_end (is_form Fitting s.text f found) in
-      let fine : (m : ℕ) → IsRefused before s behind m → ⊥ = λ m h. elim (only_place f found m h).1 [
-        | inl g ↦ not_displaced stage before f next stands goes (inl g)
-        | inr g ↦ (elim g [ inl w ↦ not_displaced stage before f next stands goes (inr w) | inr w ↦ w.0 is_end ])
-      ] in
-      (fine, subst (λ (x : Stage). Stands x (before ++ s ∷ [])) (sym is_ended) (end_last before s is), (λ e. is_ended), with_line s f, λ line. rw (found, goes) refl)
+    misplaced : Stands x before → state_behind x (part_of c.0 c.1) (begins_main c.1) ≡ None → Refuses x before s behind 205 []
+    unfolding units placed statement
+    misplaced stands none =
+        let is = form_is Fitting s.text c found in
+        let why : IsMisplaced before x.has_main c.0 c.1 behind = elim (displaced x before (part_of c.0 c.1) (begins_main c.1) stands none) [ inl g ↦ inl g | inr g ↦ inr (inl g) ] in
+        (inr (inr (inr (refl, c.0, c.1, is, why, refl))), told_only, λ line. rw (found, none) refl)
 
-  last_is_no_end : (next : Stage) (f : Form) → form Fitting s.text ≡ Some f → stage_behind stage f ≡ Some next → f ≢ End → next ≡ Within → behind ≡ [] → Refuses stage before s behind 205
-  unfolding statements placed statement
-  last_is_no_end next f found goes other is_within last =
-      let is = is_form Fitting s.text f found in
-      (inr (inr (refl, f, is, inr (inr (other, last)))), (λ m h. (only_place f found m h).0), λ line. rw (found, goes, is_within, last) refl)
+    last_is_no_end : (next : State) → state_behind x (part_of c.0 c.1) (begins_main c.1) ≡ Some next → part_of c.0 c.1 ≢ part.End → is_start next.stage ≡ false → behind ≡ [] → Refuses x before s behind 205 []
+    unfolding units placed statement
+    last_is_no_end next goes other within last =
+        let is = form_is Fitting s.text c found in
+        (inr (inr (inr (refl, c.0, c.1, is, inr (inr (last, other)), refl))), told_only, λ line. rw (found, goes, last, within) refl)
 
-  goes_on : (next : Stage) (f : Form) → Stands stage before → form Fitting s.text ≡ Some f → stage_behind stage f ≡ Some next → f ≢ End → next ≡ Within → behind ≢ [] → Passes stage before s behind next
-  unfolding statements placed statement
-  goes_on next f stands found goes other is_within more =
-      let is = is_form Fitting s.text f found in
-      let fine : (m : ℕ) → IsRefused before s behind m → ⊥ = λ m h. elim (only_place f found m h).1 [
-        | inl g ↦ not_displaced stage before f next stands goes (inl g)
-        | inr g ↦ (elim g [ inl w ↦ not_displaced stage before f next stands goes (inr w) | inr w ↦ more w.1 ])
-      ] in
-      let no_end = no_end_more before s (no_end_before stage before next f stands goes) (λ h. other (one_form Fitting s.text f End is h)) in
-      (fine, subst (λ (x : Stage). Stands x (before ++ s ∷ [])) (sym is_within) (some_before before s, no_end), (λ e. absurd (more e)), with_line s f, λ line. rw (found, goes) refl)
+    passes : (next : State) → Stands x before → state_behind x (part_of c.0 c.1) (begins_main c.1) ≡ Some next → (behind ≡ [] → part_of c.0 c.1 ≡ part.End) → (behind ≡ [] → is_start next.stage ≡ true) → Passes x before s behind c next
+    unfolding units placed statement
+    passes next stands goes_on last start =
+        let q = state_is x next (part_of c.0 c.1) (begins_main c.1) goes_on in
+        let stands_next : Stands next (parts_behind before (part_of c.0 c.1)) = subst (λ (y : State). Stands y (parts_behind before (part_of c.0 c.1))) q.2 (stands_behind x before (part_of c.0 c.1) (begins_main c.1) stands q.0) in
+        let main_is : next.has_main ≡ main_behind before x.has_main c.1 = sym (ap (λ (y : State). y.has_main) q.2) ∙ main_next (is_start x.stage) x.has_main before c.1 stands.1 in
+        (fine q.0 q.1, form_is Fitting s.text c found, stands_next, main_is, start, λ line. rw (found, goes_on) refl)
+      where
+        fine : may_follow x.stage (part_of c.0 c.1) ≡ true → (is_start x.stage && x.has_main && begins_main c.1) ≡ false → (m : ℕ) (v : List ℕ) → IsRefused before x.has_main s behind m v → ⊥
+        fine first second m v h = elim (only_place c found m v h).2 [
+          | inl g ↦ not_displaced x before (part_of c.0 c.1) (begins_main c.1) stands first second (inl g)
+          | inr g ↦ (elim g [
+            | inl w ↦ not_displaced x before (part_of c.0 c.1) (begins_main c.1) stands first second (inr w)
+            | inr w ↦ w.1 (last w.0)
+          ])
+        ]
 
-  judged : Stands stage before → Judged stage before s behind
+    placed_or_not : Stands x before → Judged x before s behind
+    placed_or_not stands = go (state_behind x (part_of c.0 c.1) (begins_main c.1)) refl
+      where
+        by_place : (next : State) → state_behind x (part_of c.0 c.1) (begins_main c.1) ≡ Some next → (l : List Stmt) → behind ≡ l → Judged x before s behind
+        by_place next goes_on [] e =
+            let stage_is : is_start (next_state x (part_of c.0 c.1) (begins_main c.1)).stage ≡ is_start next.stage = ap (λ (y : State). is_start y.stage) (state_is x next (part_of c.0 c.1) (begins_main c.1) goes_on).2 in
+            elim (end_or_other (part_of c.0 c.1)) [
+              | inl last ↦ (
+                  let start : is_start next.stage ≡ true = sym stage_is ∙ (stands_end x (part_of c.0 c.1) (begins_main c.1) last).1 in
+                  inr (c, next, passes next stands goes_on (λ h. last) (λ h. start)))
+              | inr other ↦ inl (205, [], last_is_no_end next goes_on other (sym stage_is ∙ behind_other x.stage (part_of c.0 c.1) other) e)
+            ]
+        by_place next goes_on (b ∷ l) e = inr (c, next, passes next stands goes_on (λ h. absurd (let d = sym e ∙ h in cc)) (λ h. absurd (let d = sym e ∙ h in cc)))
+
+        go : (o : Option State) → state_behind x (part_of c.0 c.1) (begins_main c.1) ≡ o → Judged x before s behind
+        go None none = inl (205, [], misplaced stands none)
+        go (Some next) goes_on = by_place next goes_on behind refl
+
+  judged : Stands x before → Judged x before s behind
   judged stands = go (form Fitting s.text) refl (form Any s.text) refl
     where
-      read : (f : Form) → form Fitting s.text ≡ Some f → (o : Option Stage) → stage_behind stage f ≡ o → (l : List Stmt) → behind ≡ l → Judged stage before s behind
-      read f found None none l e = inl (205, misplaced f stands found none)
-      read f found (Some next) goes [] e = elim (next_is stage next f goes) [
-        | inl g ↦ inr (next, place_of_end next f stands found goes g.0 g.1)
-        | inr g ↦ inl (205, last_is_no_end next f found goes g.0 g.1 e)
-      ]
-      read f found (Some next) goes (b ∷ l) e = elim (next_is stage next f goes) [
-        | inl g ↦ inr (next, place_of_end next f stands found goes g.0 g.1)
-        | inr g ↦ inr (next, goes_on next f stands found goes g.0 g.1 (λ h. let d = sym e ∙ h in cc))
-      ]
+      nameless : form Fitting s.text ≡ None → form Any s.text ≡ None → (o : Option (List ℕ)) → left_out (context Any s.text) (length s.text) s.text ≡ o → Judged x before s behind
+      nameless none none_any None e = inl (201, [], no_form none none_any e)
+      nameless none none_any (Some word) e = inl (202, word, left_out_form word none none_any e)
 
-      go : (o : Option Form) → form Fitting s.text ≡ o → (a : Option Form) → form Any s.text ≡ a → Judged stage before s behind
-      go None none None none_any = inl (201, no_form none none_any)
-      go None none (Some f) large = inl (203, too_large f none large)
-      go (Some f) found a e = read f found (stage_behind stage f) refl behind refl
+      go : (o : Option (List Tree × Form)) → form Fitting s.text ≡ o → (a : Option (List Tree × Form)) → form Any s.text ≡ a → Judged x before s behind
+      go None none None none_any = nameless none none_any (left_out (context Any s.text) (length s.text) s.text) refl
+      go None none (Some c) large = inl (203, [], too_large c none large)
+      go (Some c) found a e = placed_or_not c found stands
 
 -- ---- all statements
 
-with_refusal : (t : Statement) (r : Result (List Statement) (ℕ × ℕ)) (number line : ℕ) → with_statements (t ∷ []) r ≡ refused number line → r ≡ refused number line
-with_refusal t (Ok unit) number line e = absurd (not_both (t ∷ unit) (number, line) (sym e))
-with_refusal t (Err n) number line e = ap (λ (r : Result (List Statement) (ℕ × ℕ)). r) cc
+with_refusal : {A B : Type 0} (r : Result A Refusal) (f : A → B) (e : Refusal) → or_refusal r (λ rest. ok (f rest)) ≡ Err e → r ≡ Err e
+with_refusal (Ok y) f e h = absurd (not_both (f y) e (sym h))
+with_refusal (Err n) f e h = let same : n ≡ e = refusal_is n e (Err n) refl h in ap (λ z. Err z) same
 
-first_told : (given before : List Stmt) (stage : Stage) (last number line : ℕ) → Stands stage before → (given ≡ [] → stage ≡ Ended) → statements stage last given ≡ refused number line → IsFirstRefused before given number line
-unfolding statements
-first_told [] before stage last number line stands ends e =
-    let over : at_end Ended last ≡ refused number line = subst (λ (x : Stage). at_end x last ≡ refused number line) (ends refl) e in
-    absurd (let d = over in cc)
-first_told (s ∷ behind) before stage last number line stands ends e = elim (judged stage before s behind stands) [
+first_told : (given : List Stmt) (before : List Part) (x : State) (last number line : ℕ) (name : List ℕ) → Stands x before → (given ≡ [] → is_start x.stage ≡ true) → units x last given ≡ refused (number, line, name) → IsFirstFaultFrom before x.has_main given number line name
+unfolding units
+first_told [] before x last number line name stands ends e = go (is_start x.stage) x.has_main (ends refl) e
+  where
+    go : (start main : Bool) → start ≡ true → ended start main last ≡ refused (number, line, name) → (main ≡ false) × (number ≡ 204) × (line ≡ 0) × (name ≡ [])
+    go true true is e = absurd (not_both [] (number, line, name) (sym e))
+    go true false is e =
+        let same = refusal_is (204, 0, []) (number, line, name) (ended true false last) refl e in
+        (refl, sym (ap (λ (y : Refusal). y.0) same), sym (ap (λ (y : Refusal). y.1) same), sym (ap (λ (y : Refusal). y.2) same))
+    go false main is e = absurd cc
+first_told (s ∷ behind) before x last number line name stands ends e = elim (judged x before s behind stands) [
   | inl g ↦ (
-      let same = refusal_is g.0 number s.line line (statements stage last (s ∷ behind)) (g.1.2 last) e in
-      inl (subst (IsRefused before s behind) same.0 g.1.0, sym same.1))
+      let same = refusal_is (g.0, s.line, g.1) (number, line, name) (units x last (s ∷ behind)) (g.2.2 last) e in
+      let is : IsRefused before x.has_main s behind number name = subst (λ (y : Refusal). IsRefused before x.has_main s behind y.0 y.2) same g.2.0 in
+      inl (is, sym (ap (λ (y : Refusal). y.1) same)))
   | inr g ↦ (
-      let rest = with_refusal g.1.3 (statements g.0 s.line behind) number line (sym (g.1.4 last) ∙ e) in
-      inr (g.1.0, first_told behind (before ++ s ∷ []) g.0 s.line number line g.1.1 g.1.2 rest))
+      let c = g.0 in
+      let p = g.2 in
+      let rest = with_refusal (units g.1 s.line behind) (λ rest. behind_one (with_line s c) g.1.stage rest) (number, line, name) (sym (p.5 last) ∙ e) in
+      let behind_is = first_told behind (parts_behind before (part_of c.0 c.1)) g.1 s.line number line name p.2 p.4 rest in
+      inr (p.0, c.0, c.1, p.1, subst (λ (b : Bool). IsFirstFaultFrom (parts_behind before (part_of c.0 c.1)) b behind number line name) p.3 behind_is))
 ]
 
-first_is_told : (given before : List Stmt) (stage : Stage) (last number line : ℕ) → Stands stage before → IsFirstRefused before given number line → statements stage last given ≡ refused number line
-first_is_told [] before stage last number line stands h = absurd h
-first_is_told (s ∷ behind) before stage last number line stands h = elim (judged stage before s behind stands) [
+first_is_told : (given : List Stmt) (before : List Part) (x : State) (last number line : ℕ) (name : List ℕ) → Stands x before → (given ≡ [] → is_start x.stage ≡ true) → IsFirstFaultFrom before x.has_main given number line name → units x last given ≡ refused (number, line, name)
+unfolding units
+first_is_told [] before x last number line name stands ends h =
+    let start : is_start x.stage ≡ true = ends refl in
+    rw (start, h.0, h.1, h.2, h.3) refl
+first_is_told (s ∷ behind) before x last number line name stands ends h = elim (judged x before s behind stands) [
   | inl g ↦ (elim h [
-    | inl w ↦ g.1.2 last ∙ (let same : g.0 ≡ number = sym (g.1.1 number w.0) in rw (same, w.1) refl)
-    | inr w ↦ absurd (w.0 g.0 g.1.0)
+    | inl w ↦ (
+        let same = g.2.1 number name w.0 in
+        g.2.2 last ∙ rw (same.0, same.1, w.1) refl)
+    | inr w ↦ absurd (w.0 g.0 g.1 g.2.0)
   ])
   | inr g ↦ (elim h [
-    | inl w ↦ absurd (g.1.0 number w.0)
-    | inr w ↦ g.1.4 last ∙ ap (with_statements (g.1.3 ∷ [])) (first_is_told behind (before ++ s ∷ []) g.0 s.line number line g.1.1 w.1)
+    | inl w ↦ absurd (g.2.0 number name w.0)
+    | inr w ↦ (
+        let p = g.2 in
+        let same = one_form Fitting s.text w.1 g.0.0 w.2 g.0.1 w.3 p.1 in
+        let moved : IsFirstFaultFrom (parts_behind before (part_of g.0.0 g.0.1)) (main_behind before x.has_main g.0.1) behind number line name = subst (λ (y : List Tree × Form). IsFirstFaultFrom (parts_behind before (part_of y.0 y.1)) (main_behind before x.has_main y.1) behind number line name) same w.4 in
+        let is : IsFirstFaultFrom (parts_behind before (part_of g.0.0 g.0.1)) g.1.has_main behind number line name = subst (λ (b : Bool). IsFirstFaultFrom (parts_behind before (part_of g.0.0 g.0.1)) b behind number line name) (sym p.3) moved in
+        p.5 last ∙ ap (λ (r : Result _ Refusal). or_refusal r (λ rest. ok (behind_one (with_line s g.0) g.1.stage rest))) (first_is_told behind (parts_behind before (part_of g.0.0 g.0.1)) g.1 s.line number line name p.2 p.4 is))
   ])
 ]
 
-told_is : (r : Result (List Statement) (ℕ × ℕ)) (number line : ℕ) → or_refusal r (λ unit. ok (unit ∷ [])) ≡ refused number line → r ≡ refused number line
-told_is (Ok unit) number line e = absurd (not_both (unit ∷ []) (number, line) (sym e))
-told_is (Err n) number line e = cc
+pub is_first_fault : (given : List Stmt) (number line : ℕ) (name : List ℕ) → program given ≡ refused (number, line, name) → IsFirstFault given number line name
+is_first_fault given number line name e = first_told given [] nothing_read 0 number line name stands_first (λ h. refl) e
 
-pub is_first_fault : (given : List Stmt) (number line : ℕ) → program given ≡ refused number line → IsFirstFault given number line
-unfolding statements
-is_first_fault [] number line e = let same = refusal_is 204 number 0 line (statements Start 0 []) refl (told_is (statements Start 0 []) number line e) in (sym same.0, sym same.1)
-is_first_fault (s ∷ more) number line e =
-    first_told (s ∷ more) [] Start 0 number line refl (λ h. absurd cc) (told_is (statements Start 0 (s ∷ more)) number line e)
-
-pub first_fault_told : (given : List Stmt) (number line : ℕ) → IsFirstFault given number line → program given ≡ refused number line
-unfolding statements
-first_fault_told [] number line h = rw (h.0, h.1) refl
-first_fault_told (s ∷ more) number line h = rw (first_is_told (s ∷ more) [] Start 0 number line refl h) refl
+pub first_fault_told : (given : List Stmt) (number line : ℕ) (name : List ℕ) → IsFirstFault given number line name → program given ≡ refused (number, line, name)
+first_fault_told given number line name h = first_is_told given [] nothing_read 0 number line name stands_first (λ e. refl) h

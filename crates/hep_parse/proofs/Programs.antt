@@ -1,142 +1,396 @@
 -- What is read as a program is one, and the other way round.
-use Rattle.std.proofs.Common.{◌≡◌, inl, inr, ℕ, List, [], ◌∷◌, ◌++◌, Option, Some, None, Result, Ok, Err, refl, sym, ap, subst, ◌∙◌}
+use Rattle.std.proofs.Common.{◌≡◌, ◌⊎◌, inl, inr, ℕ, Bool, true, false, List, [], ◌∷◌, ◌++◌, Option, Some, None, Result, Ok, Err, refl, sym, ap, subst, ◌∙◌}
+use Rattle.std.specs.Prelude.{◌≢◌, not, ◌&&◌, ◌||◌}
+use Rattle.hep_source.specs.Tree.{Tree}
 use Rattle.hep_source.specs.declared.statement.Form.{Form}
-use Rattle.hep_source.specs.declared.statement.Form.TheVariants.{Program, Assign, Print, End}
 use Rattle.hep_source.specs.declared.statement.Statement.{Statement}
 use Rattle.hep_text.specs.declared.statement.Stmt.{Stmt}
-use Rattle.hep_parse.specs.declared.characters.Sizes.TheVariants.{Fitting, Any}
+use Rattle.hep_expression.specs.declared.characters.Sizes.TheVariants.{Fitting}
+use Rattle.hep_expression.proofs.Leaves.{some_is, none_is, chosen, and_parts}
+use Rattle.hep_parse.specs.declared.program.Part.{Part}
+use Rattle.hep_parse.specs.declared.program.Part.TheVariants as part
 use Rattle.hep_parse.specs.declared.program.Stage.{Stage}
-use Rattle.hep_parse.specs.declared.program.Stage.TheVariants.{Start, Within, Ended}
-use Rattle.hep_parse.specs.Program.{AreStatements, IsBody, IsMainProgram, IsProgram}
+use Rattle.hep_parse.specs.declared.program.Stage.TheVariants.{Start, Opening, Specification, Actions}
+use Rattle.hep_parse.specs.declared.program.State.{State}
+use Rattle.hep_parse.specs.Program.{IsStatement, part_of, may_precede, MayStandBehind, AreOrdered, begins_main, AreSubroutines, AreUnits, AreAllStatements, IsProgram}
 use Rattle.hep_parse.specs.ReadingStatement.{form}
-use Rattle.hep_parse.specs.ReadingProgram.{or_refusal, or_number, number_of_refusal, with_line, statement, stage_behind, placed, with_statements, statements, program}
-use Rattle.hep_parse.proofs.Leaves.{some_is, none_is}
-use Rattle.hep_parse.proofs.Forms.{is_form, form_read}
+use Rattle.hep_parse.specs.ReadingProgram.{Refusal, or_refusal, or_told, with_line, refusal_of, statement, is_start, may_follow, stage_behind, state_behind, placed, behind_one, ended, units, nothing_read, program}
+use Rattle.hep_parse.proofs.Forms.{form_is, form_read}
 
--- what was read, and no number and line that refuse it
-abbrev pub ok : {A : Type 0} → A → Result A (ℕ × ℕ)
+-- ---- results
+
+-- what was read, and no refusal
+abbrev pub ok : {A : Type 0} → A → Result A Refusal
 ok x = Ok x
+
+abbrev pub refused : {A : Type 0} → Refusal → Result A Refusal
+refused e = Err e
 
 pub ok_is : {A : Type 0} (x y : A) → ok x ≡ ok y → x ≡ y
 ok_is x y e = cc
 
-abbrev pub refused : {A : Type 0} → ℕ → ℕ → Result A (ℕ × ℕ)
-refused number line = Err (number, line)
+pub refusal_is : {A : Type 0} (x y : Refusal) (r : Result A Refusal) → r ≡ Err x → r ≡ Err y → x ≡ y
+refusal_is x y r d e = let same = sym d ∙ e in cc
 
-same_pair : {A : Type 0} (x y : ℕ × ℕ) (r : Result A (ℕ × ℕ)) → r ≡ Err x → r ≡ Err y → x ≡ y
-same_pair x y r d e = let same = sym d ∙ e in cc
-
-pub refusal_is : {A : Type 0} (n m k l : ℕ) (r : Result A (ℕ × ℕ)) → r ≡ refused n k → r ≡ refused m l → (n ≡ m) × (k ≡ l)
-refusal_is n m k l r d e =
-    let same = same_pair (n, k) (m, l) r d e in
-    (ap (λ (p : ℕ × ℕ). p.0) same, ap (λ (p : ℕ × ℕ). p.1) same)
-
-pub not_both : {A : Type 0} (x : A) (e : ℕ × ℕ) → Err e ≡ Ok x → ⊥
+pub not_both : {A : Type 0} (x : A) (e : Refusal) → Err e ≡ Ok x → ⊥
 not_both x e h = cc
 
-ok_of : {A B : Type 0} (r : Result A (ℕ × ℕ)) (f : A → Result B (ℕ × ℕ)) (y : B) → or_refusal r f ≡ Ok y → (x : A) × (r ≡ Ok x) × (f x ≡ Ok y)
+pub ok_of : {A B : Type 0} (r : Result A Refusal) (f : A → Result B Refusal) (y : B) → or_refusal r f ≡ Ok y → (x : A) × (r ≡ Ok x) × (f x ≡ Ok y)
 ok_of (Ok x) f y e = (x, refl, e)
 ok_of (Err n) f y e = absurd (not_both y n e)
 
-number_of : {A : Type 0} (o : Option A) (number line : ℕ) (x : A) → or_number o number line ≡ Ok x → o ≡ Some x
-number_of None number line x e = absurd (not_both x (number, line) e)
-number_of (Some y) number line x e = ap (λ z. Some z) (ok_is y x e)
+told_of : {A : Type 0} (o : Option A) (e : Refusal) (x : A) → or_told o e ≡ Ok x → o ≡ Some x
+told_of None e x h = absurd (not_both x e h)
+told_of (Some y) e x h = ap (λ z. Some z) (ok_is y x h)
+
+-- ---- stages and parts
+
+-- all parts pass a test
+abbrev all_parts : (Part → Bool) → Bool
+all_parts f = f part.Header && (f part.Implicit && (f part.Parameter && (f part.Specification && (f part.Action && f part.End))))
+
+any_part : (f : Part → Bool) → all_parts f ≡ true → (x : Part) → f x ≡ true
+any_part f h part.Header = (and_parts (f part.Header) _ h).0
+any_part f h part.Implicit = (and_parts (f part.Implicit) _ (and_parts (f part.Header) _ h).1).0
+any_part f h part.Parameter = (and_parts (f part.Parameter) _ (and_parts (f part.Implicit) _ (and_parts (f part.Header) _ h).1).1).0
+any_part f h part.Specification = (and_parts (f part.Specification) _ (and_parts (f part.Parameter) _ (and_parts (f part.Implicit) _ (and_parts (f part.Header) _ h).1).1).1).0
+any_part f h part.Action = (and_parts (f part.Action) _ (and_parts (f part.Specification) _ (and_parts (f part.Parameter) _ (and_parts (f part.Implicit) _ (and_parts (f part.Header) _ h).1).1).1).1).0
+any_part f h part.End = (and_parts (f part.Action) _ (and_parts (f part.Specification) _ (and_parts (f part.Parameter) _ (and_parts (f part.Implicit) _ (and_parts (f part.Header) _ h).1).1).1).1).1
+
+abbrev same : Bool → Bool → Bool
+same true b = b
+same false b = not b
+
+same_is : (a b : Bool) → same a b ≡ true → a ≡ b
+same_is true true e = refl
+same_is true false e = absurd cc
+same_is false true e = absurd cc
+same_is false false e = refl
+
+abbrev is_end : Part → Bool
+is_end part.End = true
+is_end _ = false
+
+abbrev implied : Bool → Bool → Bool
+implied true b = b
+implied false b = true
+
+implied_is : (a b : Bool) → implied a b ≡ true → a ≡ true → b ≡ true
+implied_is true b e h = e
+implied_is false b e h = absurd cc
+
+-- what may follow behind one more part, where that one may follow and isn't END
+abbrev goes : Stage → Part → Part → Bool
+goes stage p x = implied (may_follow stage p && not (is_end p)) (same (may_follow stage x && may_precede p x) (may_follow (stage_behind stage p) x))
+
+goes_always : (stage : Stage) (p x : Part) → goes stage p x ≡ true
+goes_always Start p x = any_part (λ (q : Part). goes Start p q) (any_part (λ (q : Part). all_parts (λ (y : Part). goes Start q y)) refl p) x
+goes_always Opening p x = any_part (λ (q : Part). goes Opening p q) (any_part (λ (q : Part). all_parts (λ (y : Part). goes Opening q y)) refl p) x
+goes_always Specification p x = any_part (λ (q : Part). goes Specification p q) (any_part (λ (q : Part). all_parts (λ (y : Part). goes Specification q y)) refl p) x
+goes_always Actions p x = any_part (λ (q : Part). goes Actions p q) (any_part (λ (q : Part). all_parts (λ (y : Part). goes Actions q y)) refl p) x
+
+pub no_end : (p : Part) → p ≢ part.End → is_end p ≡ false
+no_end part.Header h = refl
+no_end part.Implicit h = refl
+no_end part.Parameter h = refl
+no_end part.Specification h = refl
+no_end part.Action h = refl
+no_end part.End h = absurd (h refl)
+
+follows : (stage : Stage) (p x : Part) → may_follow stage p ≡ true → p ≢ part.End → (may_follow stage x && may_precede p x) ≡ may_follow (stage_behind stage p) x
+follows stage p x first other =
+    let known : (may_follow stage p && not (is_end p)) ≡ true = rw (first, no_end p other) refl in
+    same_is (may_follow stage x && may_precede p x) (may_follow (stage_behind stage p) x) (implied_is (may_follow stage p && not (is_end p)) _ (goes_always stage p x) known)
+
+pub behind_end : (stage : Stage) → stage_behind stage part.End ≡ Start
+behind_end Start = refl
+behind_end Opening = refl
+behind_end Specification = refl
+behind_end Actions = refl
+
+-- behind a part that isn't END its unit goes on
+abbrev keeps : Stage → Part → Bool
+keeps stage p = implied (not (is_end p)) (not (is_start (stage_behind stage p)))
+
+keeps_always : (stage : Stage) (p : Part) → keeps stage p ≡ true
+keeps_always Start p = any_part (λ (q : Part). keeps Start q) refl p
+keeps_always Opening p = any_part (λ (q : Part). keeps Opening q) refl p
+keeps_always Specification p = any_part (λ (q : Part). keeps Specification q) refl p
+keeps_always Actions p = any_part (λ (q : Part). keeps Actions q) refl p
+
+pub not_true : (b : Bool) → not b ≡ true → b ≡ false
+not_true true e = absurd cc
+not_true false e = refl
+
+pub not_false : (b : Bool) → not b ≡ false → b ≡ true
+not_false true e = refl
+not_false false e = absurd cc
+
+pub behind_other : (stage : Stage) (p : Part) → p ≢ part.End → is_start (stage_behind stage p) ≡ false
+behind_other stage p other =
+    let known : not (is_end p) ≡ true = rw (no_end p other) refl in
+    not_true (is_start (stage_behind stage p)) (implied_is (not (is_end p)) (not (is_start (stage_behind stage p))) (keeps_always stage p) known)
+
+pub end_or_other : (p : Part) → (p ≡ part.End) ⊎ (p ≢ part.End)
+end_or_other part.Header = inr (λ e. cc)
+end_or_other part.Implicit = inr (λ e. cc)
+end_or_other part.Parameter = inr (λ e. cc)
+end_or_other part.Specification = inr (λ e. cc)
+end_or_other part.Action = inr (λ e. cc)
+end_or_other part.End = inl refl
+
+-- ---- the parts before
+
+abbrev pub may_stand : List Part → Part → Bool
+may_stand [] x = true
+may_stand (y ∷ before) x = may_precede y x && may_stand before x
+
+pub stand_is : (before : List Part) (x : Part) → MayStandBehind before x → may_stand before x ≡ true
+stand_is [] x h = refl
+stand_is (y ∷ before) x h = rw (h.0, stand_is before x h.1) refl
+
+pub is_stand : (before : List Part) (x : Part) → may_stand before x ≡ true → MayStandBehind before x
+is_stand [] x h = tt
+is_stand (y ∷ before) x h = let parts = and_parts (may_precede y x) (may_stand before x) h in (parts.0, is_stand before x parts.1)
+
+and_nested : (a b c : Bool) → (a && (b && c)) ≡ ((a && b) && c)
+and_nested true b c = refl
+and_nested false b c = refl
+
+and_true : (a : Bool) → (a && true) ≡ a
+and_true true = refl
+and_true false = refl
+
+stand_more : (before : List Part) (p x : Part) → may_stand (before ++ p ∷ []) x ≡ (may_stand before x && may_precede p x)
+stand_more [] p x = and_true (may_precede p x)
+stand_more (y ∷ before) p x = ap (λ (b : Bool). may_precede y x && b) (stand_more before p x) ∙ and_nested (may_precede y x) (may_stand before x) (may_precede p x)
+
+and_false : (a : Bool) → (a && false) ≡ false
+and_false true = refl
+and_false false = refl
+
+nothing_behind_end : (before : List Part) (p x : Part) → p ≡ part.End → MayStandBehind (before ++ p ∷ []) x → ⊥
+nothing_behind_end before p x e h =
+    let none : may_stand (before ++ p ∷ []) x ≡ false = stand_more before p x ∙ rw e (and_false (may_stand before x)) in
+    let clash : true ≡ false = sym (stand_is (before ++ p ∷ []) x h) ∙ none in
+    cc
+
+abbrev pub is_empty : List Part → Bool
+is_empty [] = true
+is_empty (y ∷ before) = false
+
+-- what a state says of the parts before
+abbrev pub Stands : State → List Part → Type 0
+Stands x before = ((p : Part) → may_stand before p ≡ may_follow x.stage p) × (is_start x.stage ≡ is_empty before)
+
+pub stands_first : Stands nothing_read []
+stands_first = ((λ p. refl), refl)
+
+-- the state behind a part that has its place there
+abbrev pub next_state : State → Part → Bool → State
+next_state x p begins = record { stage = stage_behind x.stage p; has_main = x.has_main || (is_start x.stage && begins) }
+
+pub stands_end : (x : State) (p : Part) (begins : Bool) → p ≡ part.End → Stands (next_state x p begins) []
+stands_end x p begins e =
+    let start : stage_behind x.stage p ≡ Start = rw e (behind_end x.stage) in
+    ((λ q. rw start refl), rw start refl)
+
+some_empty : (before : List Part) (p : Part) → is_empty (before ++ p ∷ []) ≡ false
+some_empty [] p = refl
+some_empty (y ∷ before) p = refl
+
+pub stands_other : (x : State) (before : List Part) (p : Part) (begins : Bool) → Stands x before → may_follow x.stage p ≡ true → p ≢ part.End → Stands (next_state x p begins) (before ++ p ∷ [])
+stands_other x before p begins stands first other = (
+  (λ q. stand_more before p q ∙ ap (λ (b : Bool). b && may_precede p q) (stands.0 q) ∙ follows x.stage p q first other),
+  behind_other x.stage p other ∙ sym (some_empty before p),
+)
+
+-- what a state says of a part that has its place
+pub state_is : (x next : State) (p : Part) (begins : Bool) → state_behind x p begins ≡ Some next → (may_follow x.stage p ≡ true) × ((is_start x.stage && x.has_main && begins) ≡ false) × (next_state x p begins ≡ next)
+state_is x next p begins e = elim (chosen (may_follow x.stage p && not (is_start x.stage && x.has_main && begins)) (Some (next_state x p begins)) None (Some next) e) [
+  | inl g ↦ (
+      let parts = and_parts (may_follow x.stage p) (not (is_start x.stage && x.has_main && begins)) g.0 in
+      (parts.0, not_true (is_start x.stage && x.has_main && begins) parts.1, some_is (next_state x p begins) next g.1))
+  | inr g ↦ absurd (none_is next g.1)
+]
+
+pub state_read : (x : State) (p : Part) (begins : Bool) → may_follow x.stage p ≡ true → (is_start x.stage && x.has_main && begins) ≡ false → state_behind x p begins ≡ Some (next_state x p begins)
+state_read x p begins first second = rw (first, second) refl
+
+pub placed_is : (x : State) (given : Stmt) (y : Statement × State) → placed x given ≡ Ok y → (c : List Tree × Form) × (form Fitting given.text ≡ Some c) × (state_behind x (part_of c.0 c.1) (begins_main c.1) ≡ Some y.1) × (with_line given c ≡ y.0)
+unfolding placed statement
+placed_is x given y e = go (form Fitting given.text) refl
+  where
+    told : Statement → Result (Statement × State) Refusal
+    told read = or_refusal (or_told (state_behind x (part_of read.conditions read.form) (begins_main read.form)) (205, given.line, [])) (λ next. Ok (read, next))
+
+    go : (o : Option (List Tree × Form)) → form Fitting given.text ≡ o → (c : List Tree × Form) × (form Fitting given.text ≡ Some c) × (state_behind x (part_of c.0 c.1) (begins_main c.1) ≡ Some y.1) × (with_line given c ≡ y.0)
+    go None none =
+        let turn : placed x given ≡ Err (refusal_of given) = rw none refl in
+        absurd (not_both y (refusal_of given) (sym turn ∙ e))
+    go (Some c) found =
+        let turn : placed x given ≡ told (with_line given c) = rw found refl in
+        let b = ok_of (or_told (state_behind x (part_of c.0 c.1) (begins_main c.1)) (205, given.line, [])) (λ next. Ok (with_line given c, next)) y (sym turn ∙ e) in
+        let next = told_of (state_behind x (part_of c.0 c.1) (begins_main c.1)) (205, given.line, []) b.0 b.1 in
+        let is_y : (with_line given c, b.0) ≡ y = ok_is (with_line given c, b.0) y b.2 in
+        (c, found, next ∙ ap (λ (z : Statement × State). Some z.1) is_y, ap (λ (z : Statement × State). z.0) is_y)
 
 -- ---- what is read is a program
 
--- what is left of a main program at a stage
-abbrev Shape : Stage → List Statement → Type 0
-Shape Start unit = IsMainProgram unit
-Shape Within unit = IsBody unit
-Shape Ended unit = unit ≡ []
+-- the units behind, where a main program is there or isn't
+abbrev pub AreRest : Bool → List (List Statement) → Type 0
+AreRest true us = AreSubroutines us
+AreRest false us = AreUnits us
 
-shape_on : (stage next : Stage) (f : Form) (given : Stmt) (more : List Statement) → stage_behind stage f ≡ Some next → Shape next more → Shape stage (with_line given f ∷ more)
-shape_on Start next (Program n) given more e h = inr (tt, subst (λ (x : Stage). Shape x more) (sym (some_is Within next e)) h)
-shape_on Start next (Assign p t) given more e h = inl (inr (tt, subst (λ (x : Stage). Shape x more) (sym (some_is Within next e)) h))
-shape_on Start next (Print items) given more e h = inl (inr (tt, subst (λ (x : Stage). Shape x more) (sym (some_is Within next e)) h))
-shape_on Start next End given more e h = inl (inl (refl, subst (λ (x : Stage). Shape x more) (sym (some_is Ended next e)) h))
-shape_on Within next (Program n) given more e h = absurd (none_is next e)
-shape_on Within next (Assign p t) given more e h = inr (tt, subst (λ (x : Stage). Shape x more) (sym (some_is Within next e)) h)
-shape_on Within next (Print items) given more e h = inr (tt, subst (λ (x : Stage). Shape x more) (sym (some_is Within next e)) h)
-shape_on Within next End given more e h = inl (refl, subst (λ (x : Stage). Shape x more) (sym (some_is Ended next e)) h)
-shape_on Ended next f given more e h = absurd (none_is next e)
+-- the rest of a unit and the units behind it, where the unit has begun or hasn't
+abbrev pub Shape : Bool → Bool → List Part → List (List Statement) → Type 0
+Shape true main before us = AreRest main us
+Shape false main before [] = ⊥
+Shape false main before (u ∷ us) = AreOrdered before u × AreRest main us
 
-placed_is : (stage : Stage) (given : Stmt) (x : Statement × Stage) → placed stage given ≡ Ok x → (f : Form) × (form Fitting given.text ≡ Some f) × (stage_behind stage f ≡ Some x.1) × (with_line given f ≡ x.0)
-unfolding placed statement
-placed_is stage given x e =
-    let b = ok_of (statement given) (λ read. or_refusal (or_number (stage_behind stage read.form) 205 given.line) (λ next. Ok (read, next))) x e in
-    let c = ok_of (or_number (form Fitting given.text) (number_of_refusal (form Any given.text)) given.line) (λ f. Ok (with_line given f)) b.0 b.1 in
-    let d = ok_of (or_number (stage_behind stage b.0.form) 205 given.line) (λ next. Ok (b.0, next)) x b.2 in
-    let found = number_of (form Fitting given.text) (number_of_refusal (form Any given.text)) given.line c.0 c.1 in
-    let is_read : with_line given c.0 ≡ b.0 = ok_is (with_line given c.0) b.0 c.2 in
-    let next = number_of (stage_behind stage b.0.form) 205 given.line d.0 d.1 in
-    let is_x : (b.0, d.0) ≡ x = ok_is (b.0, d.0) x d.2 in
-    let same : stage_behind stage c.0 ≡ Some d.0 = ap (λ (y : Statement). stage_behind stage y.form) is_read ∙ next in
-    (c.0, found, same ∙ ap (λ (y : Statement × Stage). Some y.1) is_x, is_read ∙ ap (λ (y : Statement × Stage). y.0) is_x)
+shape_on : (start main : Bool) (before : List Part) (s : Statement) (u : List Statement) (us : List (List Statement)) → start ≡ is_empty before → (start && main && begins_main s.form) ≡ false → AreOrdered before (s ∷ u) → AreRest (main || (start && begins_main s.form)) us → Shape start main before ((s ∷ u) ∷ us)
+shape_on true true [] s u us e clash ordered rest = (ordered, clash, rest)
+shape_on true false [] s u us e clash ordered rest = (ordered, by_main (begins_main s.form) refl rest)
+  where
+    by_main : (b : Bool) → begins_main s.form ≡ b → AreRest b us → ((begins_main s.form ≡ true) × AreSubroutines us) ⊎ ((begins_main s.form ≡ false) × AreUnits us)
+    by_main true is rest = inl (is, rest)
+    by_main false is rest = inr (is, rest)
+shape_on true main (y ∷ before) s u us e clash ordered rest = absurd cc
+shape_on false true before s u us e clash ordered rest = (ordered, rest)
+shape_on false false before s u us e clash ordered rest = (ordered, rest)
 
-statements_are : (given : List Stmt) (stage : Stage) (line : ℕ) (unit : List Statement) → statements stage line given ≡ Ok unit → AreStatements given unit × Shape stage unit
-unfolding statements
-statements_are [] Start line unit e = absurd (not_both unit (204, 0) e)
-statements_are [] Within line unit e = absurd (not_both unit (205, line) e)
-statements_are [] Ended line unit e = subst (λ (l : List Statement). AreStatements [] l × (l ≡ [])) (ok_is [] unit e) (tt, refl)
-statements_are (given ∷ more) stage line unit e =
-    let b = ok_of (placed stage given) (λ x. with_statements (x.0 ∷ []) (statements x.1 given.line more)) unit e in
-    let c = ok_of (statements b.0.1 given.line more) (λ rest. Ok ((b.0.0 ∷ []) ++ rest)) unit b.2 in
-    let p = placed_is stage given b.0 b.1 in
-    let rest = statements_are more b.0.1 given.line c.0 c.1 in
-    let all : AreStatements (given ∷ more) (with_line given p.0 ∷ c.0) × Shape stage (with_line given p.0 ∷ c.0) = (((refl, refl, is_form Fitting given.text p.0 p.1), rest.0), shape_on stage b.0.1 p.0 given c.0 p.2 rest.1) in
-    let is_unit : with_line given p.0 ∷ c.0 ≡ unit = ap (λ (t : Statement). t ∷ c.0) p.3 ∙ ok_is (b.0.0 ∷ c.0) unit c.2 in
-    subst (λ (l : List Statement). AreStatements (given ∷ more) l × Shape stage l) is_unit all
+shape_back : (start main : Bool) (before : List Part) (s : Statement) (u : List Statement) (us : List (List Statement)) → start ≡ is_empty before → Shape start main before ((s ∷ u) ∷ us) → AreOrdered before (s ∷ u) × ((start && main && begins_main s.form) ≡ false) × AreRest (main || (start && begins_main s.form)) us
+shape_back true true [] s u us e h = h
+shape_back true false [] s u us e h = (
+  h.0,
+  refl,
+  elim h.1 [
+    | inl g ↦ subst (λ (b : Bool). AreRest b us) (sym g.0) g.1
+    | inr g ↦ subst (λ (b : Bool). AreRest b us) (sym g.0) g.1
+  ],
+)
+shape_back true main (y ∷ before) s u us e h = absurd cc
+shape_back false true before s u us e h = (h.0, refl, h.1)
+shape_back false false before s u us e h = (h.0, refl, h.1)
+
+one_at_end : (s : Statement) (stage : Stage) (us : List (List Statement)) → stage ≡ Start → behind_one s stage us ≡ (s ∷ []) ∷ us
+one_at_end s stage us e = rw e refl
+
+one_within : (s : Statement) (stage : Stage) (u : List Statement) (us : List (List Statement)) → is_start stage ≡ false → behind_one s stage (u ∷ us) ≡ (s ∷ u) ∷ us
+one_within s Start u us e = absurd cc
+one_within s Opening u us e = refl
+one_within s Specification u us e = refl
+one_within s Actions u us e = refl
+
+-- the units that are read from a state, behind these parts
+abbrev AreRead : State → List Part → List Stmt → List (List Statement) → Type 0
+AreRead x before given us = AreAllStatements given us × Shape (is_start x.stage) x.has_main before us
+
+end_on : (x : State) (before : List Part) (s : Stmt) (given : List Stmt) (t : Statement) (us : List (List Statement)) → Stands x before → IsStatement s t → may_follow x.stage (part_of t.conditions t.form) ≡ true → (is_start x.stage && x.has_main && begins_main t.form) ≡ false → part_of t.conditions t.form ≡ part.End → AreRead (next_state x (part_of t.conditions t.form) (begins_main t.form)) [] given us → AreRead x before (s ∷ given) ((t ∷ []) ∷ us)
+end_on x before s given t us stands is first second last h =
+    let last_stage : stage_behind x.stage (part_of t.conditions t.form) ≡ Start = rw last (behind_end x.stage) in
+    let start : is_start (stage_behind x.stage (part_of t.conditions t.form)) ≡ true = ap is_start last_stage in
+    let rest : Shape true (x.has_main || (is_start x.stage && begins_main t.form)) [] us = subst (λ (b : Bool). Shape b (x.has_main || (is_start x.stage && begins_main t.form)) [] us) start h.1 in
+    let place : MayStandBehind before (part_of t.conditions t.form) = is_stand before (part_of t.conditions t.form) (stands.0 (part_of t.conditions t.form) ∙ first) in
+    ((given, (is, refl), h.0), shape_on (is_start x.stage) x.has_main before t [] us stands.1 second (place, last) rest)
+
+within_on : (x : State) (before : List Part) (s : Stmt) (given : List Stmt) (t : Statement) (us : List (List Statement)) → Stands x before → IsStatement s t → may_follow x.stage (part_of t.conditions t.form) ≡ true → (is_start x.stage && x.has_main && begins_main t.form) ≡ false → part_of t.conditions t.form ≢ part.End → AreRead (next_state x (part_of t.conditions t.form) (begins_main t.form)) (before ++ part_of t.conditions t.form ∷ []) given us → AreRead x before (s ∷ given) (behind_one t (stage_behind x.stage (part_of t.conditions t.form)) us)
+within_on x before s given t us stands is first second other h =
+    let within = behind_other x.stage (part_of t.conditions t.form) other in
+    let shape : Shape false (x.has_main || (is_start x.stage && begins_main t.form)) (before ++ part_of t.conditions t.form ∷ []) us = subst (λ (b : Bool). Shape b (x.has_main || (is_start x.stage && begins_main t.form)) (before ++ part_of t.conditions t.form ∷ []) us) within h.1 in
+    go us h.0 shape
+  where
+    place : MayStandBehind before (part_of t.conditions t.form)
+    place = is_stand before (part_of t.conditions t.form) (stands.0 (part_of t.conditions t.form) ∙ first)
+
+    go : (us : List (List Statement)) → AreAllStatements given us → Shape false (x.has_main || (is_start x.stage && begins_main t.form)) (before ++ part_of t.conditions t.form ∷ []) us → AreRead x before (s ∷ given) (behind_one t (stage_behind x.stage (part_of t.conditions t.form)) us)
+    go [] all shape = absurd shape
+    go ([] ∷ us) all shape = absurd shape.0
+    go ((v ∷ u) ∷ us) all shape =
+        let all_on : AreAllStatements (s ∷ given) ((t ∷ v ∷ u) ∷ us) = (all.0, (is, all.1), all.2) in
+        let shape_is = shape_on (is_start x.stage) x.has_main before t (v ∷ u) us stands.1 second (place, shape.0) shape.1 in
+        subst (AreRead x before (s ∷ given)) (sym (one_within t (stage_behind x.stage (part_of t.conditions t.form)) (v ∷ u) us (behind_other x.stage (part_of t.conditions t.form) other))) (all_on, shape_is)
+
+units_are : (given : List Stmt) (x : State) (line : ℕ) (before : List Part) (us : List (List Statement)) → Stands x before → units x line given ≡ Ok us → AreRead x before given us
+unfolding units
+units_are [] x line before us stands e = over (is_start x.stage) x.has_main e
+  where
+    over : (start main : Bool) → ended start main line ≡ Ok us → AreAllStatements [] us × Shape start main before us
+    over true true e = subst (λ (l : List (List Statement)). AreAllStatements [] l × AreSubroutines l) (ok_is [] us e) (refl, tt)
+    over true false e = absurd (not_both us (204, 0, []) e)
+    over false main e = absurd (not_both us (205, line, []) e)
+units_are (s ∷ given) x line before us stands e =
+    let b = ok_of (placed x s) (λ y. or_refusal (units y.1 s.line given) (λ rest. Ok (behind_one y.0 y.1.stage rest))) us e in
+    let c = ok_of (units b.0.1 s.line given) (λ rest. Ok (behind_one b.0.0 b.0.1.stage rest)) us b.2 in
+    let p = placed_is x s b.0 b.1 in
+    let q = state_is x b.0.1 (part_of p.0.0 p.0.1) (begins_main p.0.1) p.2 in
+    let t = with_line s p.0 in
+    let is : IsStatement s t = (refl, refl, form_is Fitting s.text p.0 p.1) in
+    let is_us : behind_one t (stage_behind x.stage (part_of p.0.0 p.0.1)) c.0 ≡ us = ap (λ (z : State). behind_one t z.stage c.0) q.2 ∙ ap (λ (z : Statement). behind_one z b.0.1.stage c.0) p.3 ∙ ok_is (behind_one b.0.0 b.0.1.stage c.0) us c.2 in
+    let again : units (next_state x (part_of p.0.0 p.0.1) (begins_main p.0.1)) s.line given ≡ Ok c.0 = ap (λ (z : State). units z s.line given) q.2 ∙ c.1 in
+    elim (end_or_other (part_of p.0.0 p.0.1)) [
+      | inl last ↦ (
+          let rest = units_are given (next_state x (part_of p.0.0 p.0.1) (begins_main p.0.1)) s.line [] c.0 (stands_end x (part_of p.0.0 p.0.1) (begins_main p.0.1) last) again in
+          let start : stage_behind x.stage (part_of p.0.0 p.0.1) ≡ Start = rw last (behind_end x.stage) in
+          subst (AreRead x before (s ∷ given)) (sym (one_at_end t (stage_behind x.stage (part_of p.0.0 p.0.1)) c.0 start) ∙ is_us) (end_on x before s given t c.0 stands is q.0 q.1 last rest))
+      | inr other ↦ (
+          let rest = units_are given (next_state x (part_of p.0.0 p.0.1) (begins_main p.0.1)) s.line (before ++ part_of p.0.0 p.0.1 ∷ []) c.0 (stands_other x before (part_of p.0.0 p.0.1) (begins_main p.0.1) stands q.0 other) again in
+          subst (AreRead x before (s ∷ given)) is_us (within_on x before s given t c.0 stands is q.0 q.1 other rest))
+    ]
 
 pub is_program : (given : List Stmt) (p : List (List Statement)) → program given ≡ Ok p → IsProgram given p
-is_program given p e =
-    let b = ok_of (statements Start 0 given) (λ unit. Ok (unit ∷ [])) p e in
-    subst (IsProgram given) (ok_is (b.0 ∷ []) p b.2) (statements_are given Start 0 b.0 b.1)
+is_program given p e = units_are given nothing_read 0 [] p stands_first e
 
 -- ---- a program is read
 
-shape_back : (stage : Stage) (f : Form) (given : Stmt) (more : List Statement) → Shape stage (with_line given f ∷ more) → (next : Stage) × (stage_behind stage f ≡ Some next) × Shape next more
-shape_back Start (Program n) given more h = elim h [
-  | inl g ↦ (elim g [ inl e ↦ absurd (let d = e.0 in cc) | inr a ↦ absurd a.0 ])
-  | inr g ↦ (Within, refl, g.1)
-]
-shape_back Start (Assign p t) given more h = elim h [
-  | inl g ↦ (elim g [ inl e ↦ absurd (let d = e.0 in cc) | inr a ↦ (Within, refl, a.1) ])
-  | inr g ↦ absurd g.0
-]
-shape_back Start (Print items) given more h = elim h [
-  | inl g ↦ (elim g [ inl e ↦ absurd (let d = e.0 in cc) | inr a ↦ (Within, refl, a.1) ])
-  | inr g ↦ absurd g.0
-]
-shape_back Start End given more h = elim h [
-  | inl g ↦ (elim g [ inl e ↦ (Ended, refl, e.1) | inr a ↦ absurd a.0 ])
-  | inr g ↦ absurd g.0
-]
-shape_back Within (Program n) given more h = elim h [ inl e ↦ absurd (let d = e.0 in cc) | inr a ↦ absurd a.0 ]
-shape_back Within (Assign p t) given more h = elim h [ inl e ↦ absurd (let d = e.0 in cc) | inr a ↦ (Within, refl, a.1) ]
-shape_back Within (Print items) given more h = elim h [ inl e ↦ absurd (let d = e.0 in cc) | inr a ↦ (Within, refl, a.1) ]
-shape_back Within End given more h = elim h [ inl e ↦ (Ended, refl, e.1) | inr a ↦ absurd a.0 ]
-shape_back Ended f given more h = absurd cc
+placed_read : (x : State) (s : Stmt) (t : Statement) → IsStatement s t → may_follow x.stage (part_of t.conditions t.form) ≡ true → (is_start x.stage && x.has_main && begins_main t.form) ≡ false → placed x s ≡ Ok (t, next_state x (part_of t.conditions t.form) (begins_main t.form))
+unfolding placed statement
+placed_read x s t is first second =
+    let is_t : with_line s (t.conditions, t.form) ≡ t = λ i. record { line = sym is.0 i; label = sym is.1 i; conditions = t.conditions; form = t.form } in
+    let found : form Fitting s.text ≡ Some (t.conditions, t.form) = form_read Fitting s.text t.conditions t.form is.2 in
+    rw (found, state_read x (part_of t.conditions t.form) (begins_main t.form) first second) (ap (λ (z : Statement). Ok (z, next_state x (part_of t.conditions t.form) (begins_main t.form))) is_t)
 
-statements_read : (given : List Stmt) (stage : Stage) (line : ℕ) (unit : List Statement) → AreStatements given unit → Shape stage unit → statements stage line given ≡ Ok unit
-unfolding statements placed statement
-statements_read [] Start line [] are shape = absurd shape
-statements_read [] Within line [] are shape = absurd shape
-statements_read [] Ended line [] are shape = refl
-statements_read [] stage line (t ∷ unit) are shape = absurd are
-statements_read (given ∷ more) stage line [] are shape = absurd are
-statements_read (given ∷ more) stage line (t ∷ unit) are shape =
-    let is_t : with_line given t.form ≡ t = λ i. record { line = sym are.0.0 i; label = sym are.0.1 i; form = t.form } in
-    let shape' : Shape stage (with_line given t.form ∷ unit) = subst (λ (x : Statement). Shape stage (x ∷ unit)) (sym is_t) shape in
-    let b = shape_back stage t.form given unit shape' in
-    let found : form Fitting given.text ≡ Some t.form = form_read Fitting given.text t.form are.0.2 in
-    let rest : statements b.0 given.line more ≡ Ok unit = statements_read more b.0 given.line unit are.1 b.2 in
-    rw (found, b.1, rest) (ap (λ (x : Statement). Ok (x ∷ unit)) is_t)
+units_read : (given : List Stmt) (x : State) (line : ℕ) (before : List Part) (us : List (List Statement)) → Stands x before → AreRead x before given us → units x line given ≡ Ok us
+unfolding units
+units_read [] x line before [] stands h = over (is_start x.stage) x.has_main h.1
+  where
+    over : (start main : Bool) → Shape start main before [] → ended start main line ≡ Ok []
+    over true true h = refl
+    over true false h = absurd h
+    over false main h = absurd h
+units_read given x line before ([] ∷ us) stands h = absurd (over (is_start x.stage) x.has_main h.1)
+  where
+    over : (start main : Bool) → Shape start main before ([] ∷ us) → ⊥
+    over true true h = h.0
+    over true false h = h.0
+    over false main h = h.0
+units_read [] x line before ((t ∷ u) ∷ us) stands h = absurd h.0.1
+units_read (s ∷ given) x line before [] stands h = absurd (let e = h.0 in cc)
+units_read (s ∷ given) x line before ((t ∷ []) ∷ us) stands h =
+    let back = shape_back (is_start x.stage) x.has_main before t [] us stands.1 h.1 in
+    let p = part_of t.conditions t.form in
+    let first : may_follow x.stage p ≡ true = sym (stands.0 p) ∙ stand_is before p back.0.0 in
+    let start : stage_behind x.stage p ≡ Start = rw back.0.1 (behind_end x.stage) in
+    let behind : AreAllStatements given us = subst (λ (l : List Stmt). AreAllStatements l us) (sym h.0.1.1) h.0.2 in
+    let shape : Shape (is_start (stage_behind x.stage p)) (x.has_main || (is_start x.stage && begins_main t.form)) [] us = rw start back.2 in
+    let rest = units_read given (next_state x p (begins_main t.form)) s.line [] us (stands_end x p (begins_main t.form) back.0.1) (behind, shape) in
+    rw (placed_read x s t h.0.1.0 first back.1, rest) (ap (λ (l : List (List Statement)). Ok l) (one_at_end t (stage_behind x.stage p) us start))
+units_read (s ∷ given) x line before ((t ∷ v ∷ u) ∷ us) stands h =
+    let back = shape_back (is_start x.stage) x.has_main before t (v ∷ u) us stands.1 h.1 in
+    let p = part_of t.conditions t.form in
+    let first : may_follow x.stage p ≡ true = sym (stands.0 p) ∙ stand_is before p back.0.0 in
+    let other : p ≢ part.End = λ e. nothing_behind_end before p (part_of v.conditions v.form) e (first_stands (before ++ p ∷ []) v u back.0.1) in
+    let within = behind_other x.stage p other in
+    let shape : Shape (is_start (stage_behind x.stage p)) (x.has_main || (is_start x.stage && begins_main t.form)) (before ++ p ∷ []) ((v ∷ u) ∷ us) = rw within (back.0.1, back.2) in
+    let rest = units_read given (next_state x p (begins_main t.form)) s.line (before ++ p ∷ []) ((v ∷ u) ∷ us) (stands_other x before p (begins_main t.form) stands first other) ((h.0.0, h.0.1.1, h.0.2), shape) in
+    rw (placed_read x s t h.0.1.0 first back.1, rest) (ap (λ (l : List (List Statement)). Ok l) (one_within t (stage_behind x.stage p) (v ∷ u) us within))
+  where
+    first_stands : (before : List Part) (v : Statement) (u : List Statement) → AreOrdered before (v ∷ u) → MayStandBehind before (part_of v.conditions v.form)
+    first_stands before v [] h = h.0
+    first_stands before v (w ∷ u) h = h.0
 
 pub program_read : (given : List Stmt) (p : List (List Statement)) → IsProgram given p → program given ≡ Ok p
-program_read given [] h = absurd h
-program_read given (unit ∷ []) h = rw (statements_read given Start 0 unit h.0 h.1) refl
-program_read given (unit ∷ second ∷ more) h = absurd h
+program_read given p h = units_read given nothing_read 0 [] p stands_first h
 
 -- The statements of a source are at most one program.
 pub at_most_one : (given : List Stmt) (p q : List (List Statement)) → IsProgram given p → IsProgram given q → p ≡ q

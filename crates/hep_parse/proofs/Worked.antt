@@ -1,169 +1,183 @@
--- Worked rows: what the grammar gives for some texts.
-use Rattle.std.specs.Prelude.{◌≡◌, ℕ, true, false, pos, codes, List, [], ◌∷◌, Some, None, refl}
-use Rattle.std.proofs.Common.{sym, ◌∙◌, arith}
-use Rattle.hep_source.specs.Tree.{Tree, constant, place, parenthesized, signed, binary}
-use Rattle.hep_source.specs.declared.value.Value.TheVariants.{Int, Truth}
-use Rattle.hep_source.specs.declared.operator.Sign.TheVariants.{Plus, Minus}
-use Rattle.hep_source.specs.declared.operator.Operator.TheVariants.{Add, Subtract, Multiply, Divide, Power}
+-- Worked rows: which forms some texts have.
+use Rattle.std.specs.Prelude.{◌≡◌, ℕ, Bool, true, false, pos, codes, List, [], ◌∷◌, Some, None, refl}
+use Rattle.std.proofs.Common.{sym, ◌∙◌}
+use Rattle.hep_source.specs.Tree.{Tree, constant, place, listed, no_trees, trees}
+use Rattle.hep_source.specs.declared.value.Value.TheVariants.{Int}
+use Rattle.hep_source.specs.declared.name.Place.{Place}
+use Rattle.hep_source.specs.declared.declaration.Target.{Target}
 use Rattle.hep_source.specs.declared.statement.PrintItem.TheVariants.{Expression, Characters}
 use Rattle.hep_source.specs.declared.statement.Form.{Form}
-use Rattle.hep_source.specs.declared.statement.Form.TheVariants.{Program, Assign, Print, End}
-use Rattle.hep_text.specs.declared.statement.Stmt.{Stmt}
-use Rattle.hep_parse.specs.declared.characters.Sizes.{Sizes}
-use Rattle.hep_parse.specs.declared.characters.Sizes.TheVariants.{Fitting, Any}
-use Rattle.hep_parse.specs.Characters.{named}
-use Rattle.hep_parse.specs.Expression.{IsExpression}
-use Rattle.hep_parse.specs.Statement.{context, IsForm}
-use Rattle.hep_parse.specs.ReadingExpression.{chain, in_parentheses, primary, power_of, term, first_term, sum, expression, power, expression_at, whole_expression}
-use Rattle.hep_parse.specs.ReadingStatement.{characters, character_item, item, items, assignment, form}
-use Rattle.hep_parse.specs.Program.{IsProgram, IsFirstFault}
-use Rattle.hep_parse.specs.ReadingProgram.{statement, placed, statements, program}
-use Rattle.hep_parse.proofs.Leaves.{none_is}
-use Rattle.hep_parse.proofs.Sound.{is_expression}
-use Rattle.hep_parse.proofs.Complete.{whole_expression_read}
-use Rattle.hep_parse.proofs.Forms.{is_form, form_read}
-use Rattle.hep_parse.proofs.Programs.{refused, is_program}
-use Rattle.hep_parse.proofs.Faults.{is_first_fault}
+use Rattle.hep_source.specs.declared.statement.Form.TheVariants.{Assign, GoTo, ComputedGoTo, ArithmeticIf, IfThen, ElseIf, Else, EndIf, Do, Call, Create, Purge, Print, Stop, End}
+use Rattle.hep_expression.specs.declared.characters.Sizes.TheVariants.{Fitting, Any}
+use Rattle.hep_expression.specs.Characters.{named}
+use Rattle.hep_expression.specs.ReadingExpression as reading
+use Rattle.hep_expression.specs.ReadingExpression.{chain, in_parentheses, primary, power_of, term, first_term, sum, relation, negation, conjunction, disjunction, expression, power, expression_at, whole_expression}
+use Rattle.hep_expression.proofs.Leaves.{none_is}
+use Rattle.hep_parse.specs.Statement.{IsForm}
+use Rattle.hep_parse.specs.ReadingLists.{parts_behind, closed, enclosed, optional, arguments_within, arguments}
+use Rattle.hep_parse.specs.ReadingLists as lists
+use Rattle.hep_parse.specs.ReadingTarget.{target_at}
+use Rattle.hep_parse.specs.ReadingExecutable.{characters, constant_behind, item_at, print, assignment, computed_go_to, go_to, condition_at, arithmetic_if, if_then, else_if, limits, do_loop, call, create, purge, stop}
+use Rattle.hep_parse.specs.ReadingDeclaration.{declare, declarator_at}
+use Rattle.hep_parse.specs.ReadingStatement.{worded, logical_if, conditions, form}
+use Rattle.hep_parse.proofs.Forms.{form_is, form_read}
 
--- the text is this expression
-abbrev Reads : List ℕ → Tree → Type 0
-Reads s t = IsExpression (context Fitting s) s t
+-- the text has this form behind these conditions, or none whatever the size of its constants
+abbrev Says : List ℕ → List Tree → Form → Type 0
+Says s ts f = IsForm Fitting s ts f
 
--- the text is no expression, whatever the size of its constants
-abbrev ReadsNot : List ℕ → Type 0
-ReadsNot s = (t : Tree) → IsExpression (context Any s) s t → ⊥
+abbrev SaysNothing : List ℕ → Type 0
+SaysNothing s = (ts : List Tree) (f : Form) → IsForm Any s ts f → ⊥
 
--- the text has this form, or none
-abbrev Says : List ℕ → Form → Type 0
-Says s f = IsForm Fitting s f
+says : (s : List ℕ) (ts : List Tree) (f : Form) → form Fitting s ≡ Some (ts, f) → Says s ts f
+says s ts f e = form_is Fitting s (ts, f) e
 
-abbrev SaysNothing : Sizes → List ℕ → Type 0
-SaysNothing z s = (f : Form) → IsForm z s f → ⊥
-
-reads : (s : List ℕ) (t : Tree) → whole_expression (context Fitting s) s ≡ Some t → Reads s t
-reads s t e = is_expression (context Fitting s) s t (omega arith) e
-
-reads_not : (s : List ℕ) → whole_expression (context Any s) s ≡ None → ReadsNot s
-reads_not s e t h = none_is t (sym e ∙ whole_expression_read (context Any s) t s h)
-
-says_nothing : (z : Sizes) (s : List ℕ) → form z s ≡ None → SaysNothing z s
-says_nothing z s e f h = none_is f (sym e ∙ form_read z s f h)
+says_nothing : (s : List ℕ) → form Any s ≡ None → SaysNothing s
+says_nothing s e ts f h = none_is (ts, f) (sym e ∙ form_read Any s ts f h)
 
 abbrev int : ℕ → Tree
 int n = constant (Int (pos n))
 
--- the name with these letters behind so many characters
-abbrev name : List ℕ → ℕ → Tree
-name w n = place (record { name = named w; position = n })
+-- the name with these letters, asynchronous or not, behind so many characters
+abbrev at : Bool → List ℕ → ℕ → Place
+at a w n = record { name = named a w; position = n }
 
--- ---- expressions
+-- the same with these subscripts
+abbrev target : Bool → List ℕ → ℕ → List Tree → Target
+target a w n subscripts = record { place = at a w n; subscripts = subscripts }
 
-record Expressions : Type 0 where
-  product_first : Reads (codes "1+2*3") (binary Add (int 1) (binary Multiply (int 2) (int 3)))
-  power_before_sign : Reads (codes "-2**2") (signed Minus (binary Power (int 2) (int 2)))
-  power_from_the_right : Reads (codes "2**3**2") (binary Power (int 2) (binary Power (int 3) (int 2)))
-  sign_in_parentheses : Reads (codes "(-7)/2") (binary Divide (parenthesized (signed Minus (int 7))) (int 2))
-  signed_exponent : Reads (codes "2**(-3)") (binary Power (int 2) (parenthesized (signed Minus (int 3))))
-  difference_from_the_left : Reads (codes "8-4-2") (binary Subtract (binary Subtract (int 8) (int 4)) (int 2))
-  sign_of_a_product : Reads (codes "-A*B") (signed Minus (binary Multiply (name (codes "A") 1) (name (codes "B") 3)))
-  sign_of_the_first_term : Reads (codes "+A+B") (binary Add (signed Plus (name (codes "A") 1)) (name (codes "B") 3))
-  no_signed_exponent : ReadsNot (codes "A**-B")
-  no_signed_factor : ReadsNot (codes "A*-B")
-  no_signed_second_term : ReadsNot (codes "A+-B")
-  no_two_signs : ReadsNot (codes "--A")
-  parenthesis_left_open : ReadsNot (codes "((1)")
-  parenthesis_never_opened : ReadsNot (codes "1)")
-  nothing_in_parentheses : ReadsNot (codes "()")
-  truth_in_an_expression : ReadsNot (codes "1+.TRUE.")
+-- ---- words and labels
 
-expressions : Expressions
-unfolding chain in_parentheses primary power_of term first_term sum expression power expression_at whole_expression
-expressions = record {
-  product_first = reads (codes "1+2*3") (binary Add (int 1) (binary Multiply (int 2) (int 3))) refl;
-  power_before_sign = reads (codes "-2**2") (signed Minus (binary Power (int 2) (int 2))) refl;
-  power_from_the_right = reads (codes "2**3**2") (binary Power (int 2) (binary Power (int 3) (int 2))) refl;
-  sign_in_parentheses = reads (codes "(-7)/2") (binary Divide (parenthesized (signed Minus (int 7))) (int 2)) refl;
-  signed_exponent = reads (codes "2**(-3)") (binary Power (int 2) (parenthesized (signed Minus (int 3)))) refl;
-  difference_from_the_left = reads (codes "8-4-2") (binary Subtract (binary Subtract (int 8) (int 4)) (int 2)) refl;
-  sign_of_a_product = reads (codes "-A*B") (signed Minus (binary Multiply (name (codes "A") 1) (name (codes "B") 3))) refl;
-  sign_of_the_first_term = reads (codes "+A+B") (binary Add (signed Plus (name (codes "A") 1)) (name (codes "B") 3)) refl;
-  no_signed_exponent = reads_not (codes "A**-B") refl;
-  no_signed_factor = reads_not (codes "A*-B") refl;
-  no_signed_second_term = reads_not (codes "A+-B") refl;
-  no_two_signs = reads_not (codes "--A") refl;
-  parenthesis_left_open = reads_not (codes "((1)") refl;
-  parenthesis_never_opened = reads_not (codes "1)") refl;
-  nothing_in_parentheses = reads_not (codes "()") refl;
-  truth_in_an_expression = reads_not (codes "1+.TRUE.") refl;
+record Words : Type 0 where
+  a_do : Says (codes "DO10I=1,3") [] (Do (record { terminal = 10; variable = at false (codes "I") 4; initial = int 1; limit = int 3; increment = None }))
+  a_do_with_comma_and_increment : Says (codes "DO10,I=1,3,2") [] (Do (record { terminal = 10; variable = at false (codes "I") 5; initial = int 1; limit = int 3; increment = Some (int 2) }))
+  an_assignment_to_a_name_like_do : Says (codes "DO10I=1") [] (Assign (target false (codes "DO10I") 0 []) (int 1))
+  an_element_of_an_array_if : Says (codes "IF(3)=5") [] (Assign (target false (codes "IF") 0 (int 3 ∷ [])) (int 5))
+  an_arithmetic_if_of_an_array_if : Says (codes "IF(IF(3))10,20,30") [] (ArithmeticIf (listed (at false (codes "IF") 3) (trees (int 3) no_trees)) (record { negative = 10; zero = 20; positive = 30 }))
+  a_print : Says (codes "PRINT*,A") [] (Print (Expression (place (at false (codes "A") 7)) ∷ []))
+  a_print_of_nothing : Says (codes "PRINT*") [] (Print [])
+  a_print_of_characters : Says (codes "PRINT*,'IT''S,'") [] (Print (Characters (codes "IT'S,") ∷ []))
+  a_computed_go_to : Says (codes "GOTO(1,2),I") [] (ComputedGoTo (1 ∷ 2 ∷ []) (place (at false (codes "I") 10)))
+  a_computed_go_to_without_comma : Says (codes "GOTO(1,2)I") [] (ComputedGoTo (1 ∷ 2 ∷ []) (place (at false (codes "I") 9)))
+  five_digits : Says (codes "GOTO00010") [] (GoTo 10)
+  six_digits : SaysNothing (codes "GOTO000010")
+  label_of_zeros : SaysNothing (codes "GOTO0")
+  label_of_a_do_of_six_digits : SaysNothing (codes "DO000010I=1,3")
+  comma_and_no_item : SaysNothing (codes "PRINT*,")
+  item_and_no_comma : SaysNothing (codes "PRINT*1")
+
+words_hold : Words
+unfolding chain in_parentheses reading.arguments reading.named primary power_of term first_term sum relation negation conjunction disjunction expression power expression_at whole_expression parts_behind lists.listed closed enclosed optional arguments_within arguments target_at characters constant_behind item_at print assignment computed_go_to go_to condition_at arithmetic_if if_then else_if limits do_loop call create purge stop declare declarator_at worded logical_if conditions form
+words_hold = record {
+  a_do = says (codes "DO10I=1,3") [] (Do (record { terminal = 10; variable = at false (codes "I") 4; initial = int 1; limit = int 3; increment = None })) refl;
+  a_do_with_comma_and_increment = says (codes "DO10,I=1,3,2") [] (Do (record { terminal = 10; variable = at false (codes "I") 5; initial = int 1; limit = int 3; increment = Some (int 2) })) refl;
+  an_assignment_to_a_name_like_do = says (codes "DO10I=1") [] (Assign (target false (codes "DO10I") 0 []) (int 1)) refl;
+  an_element_of_an_array_if = says (codes "IF(3)=5") [] (Assign (target false (codes "IF") 0 (int 3 ∷ [])) (int 5)) refl;
+  an_arithmetic_if_of_an_array_if = says (codes "IF(IF(3))10,20,30") [] (ArithmeticIf (listed (at false (codes "IF") 3) (trees (int 3) no_trees)) (record { negative = 10; zero = 20; positive = 30 })) refl;
+  a_print = says (codes "PRINT*,A") [] (Print (Expression (place (at false (codes "A") 7)) ∷ [])) refl;
+  a_print_of_nothing = says (codes "PRINT*") [] (Print []) refl;
+  a_print_of_characters = says (codes "PRINT*,'IT''S,'") [] (Print (Characters (codes "IT'S,") ∷ [])) refl;
+  a_computed_go_to = says (codes "GOTO(1,2),I") [] (ComputedGoTo (1 ∷ 2 ∷ []) (place (at false (codes "I") 10))) refl;
+  a_computed_go_to_without_comma = says (codes "GOTO(1,2)I") [] (ComputedGoTo (1 ∷ 2 ∷ []) (place (at false (codes "I") 9))) refl;
+  five_digits = says (codes "GOTO00010") [] (GoTo 10) refl;
+  six_digits = says_nothing (codes "GOTO000010") refl;
+  label_of_zeros = says_nothing (codes "GOTO0") refl;
+  label_of_a_do_of_six_digits = says_nothing (codes "DO000010I=1,3") refl;
+  comma_and_no_item = says_nothing (codes "PRINT*,") refl;
+  item_and_no_comma = says_nothing (codes "PRINT*1") refl;
 }
 
--- ---- statements
+-- ---- IF
 
-record Forms : Type 0 where
-  apostrophe_doubled : Says (codes "PRINT*,'IT''S'") (Print (Characters (codes "IT'S") ∷ []))
-  print_nothing : Says (codes "PRINT*") (Print [])
-  print_truths : Says (codes "PRINT*,.TRUE.,.FALSE.,1") (Print (Expression (constant (Truth true)) ∷ Expression (constant (Truth false)) ∷ Expression (int 1) ∷ []))
-  comma_and_no_item : SaysNothing Any (codes "PRINT*,")
-  item_and_no_comma : SaysNothing Any (codes "PRINT*1")
-  print_is_no_reserved_word : Says (codes "PRINT=1") (Assign (record { name = named (codes "PRINT"); position = 0 }) (int 1))
-  end_is_no_reserved_word : Says (codes "END=5") (Assign (record { name = named (codes "END"); position = 0 }) (int 5))
-  six_letters_are_a_name : Says (codes "PROGRA=1") (Assign (record { name = named (codes "PROGRA"); position = 0 }) (int 1))
-  seven_letters_are_no_name : SaysNothing Any (codes "ABCDEFG=1")
-  a_header : Says (codes "PROGRAMP1") (Program (named (codes "P1")))
-  a_header_without_name : SaysNothing Any (codes "PROGRAM")
-  greatest_constant : Says (codes "I=9223372036854775807") (Assign (record { name = named (codes "I"); position = 0 }) (int 9223372036854775807))
-  one_above_the_greatest : SaysNothing Fitting (codes "I=9223372036854775808")
-  one_above_the_greatest_of_any_size : IsForm Any (codes "I=9223372036854775808") (Assign (record { name = named (codes "I"); position = 0 }) (int 9223372036854775807))
-  leading_zeros : Says (codes "I=00000000000000000000001") (Assign (record { name = named (codes "I"); position = 0 }) (int 1))
+record Ifs : Type 0 where
+  two_conditions : Says (codes "IF(A)IF(B)I=1") ((place (at false (codes "A") 3)) ∷ (place (at false (codes "B") 8)) ∷ []) (Assign (target false (codes "I") 10 []) (int 1))
+  a_condition_and_end : Says (codes "IF(L)END") ((place (at false (codes "L") 3)) ∷ []) End
+  a_condition_and_a_name_like_then : Says (codes "IF(L)THEN=1") ((place (at false (codes "L") 3)) ∷ []) (Assign (target false (codes "THEN") 5 []) (int 1))
+  a_block_if : Says (codes "IF(L)THEN") [] (IfThen (place (at false (codes "L") 3)))
+  an_else_if : Says (codes "ELSEIF(L)THEN") [] (ElseIf (place (at false (codes "L") 7)))
+  an_else : Says (codes "ELSE") [] Else
+  an_end_if : Says (codes "ENDIF") [] EndIf
+  two_labels : SaysNothing (codes "IF(I)10,20")
+  a_condition_and_a_declaration : SaysNothing (codes "IF(L)INTEGERI")
+  a_condition_alone : SaysNothing (codes "IF(L)")
+  a_parenthesis_left_open : SaysNothing (codes "IF((L)END")
+  a_block_if_within_a_logical_if : SaysNothing (codes "IF(L)IF(M)THEN=")
 
-forms : Forms
-unfolding chain in_parentheses primary power_of term first_term sum expression power expression_at whole_expression characters character_item item items assignment form
-forms = record {
-  apostrophe_doubled = is_form Fitting (codes "PRINT*,'IT''S'") (Print (Characters (codes "IT'S") ∷ [])) refl;
-  print_nothing = is_form Fitting (codes "PRINT*") (Print []) refl;
-  print_truths = is_form Fitting (codes "PRINT*,.TRUE.,.FALSE.,1") (Print (Expression (constant (Truth true)) ∷ Expression (constant (Truth false)) ∷ Expression (int 1) ∷ [])) refl;
-  comma_and_no_item = says_nothing Any (codes "PRINT*,") refl;
-  item_and_no_comma = says_nothing Any (codes "PRINT*1") refl;
-  print_is_no_reserved_word = is_form Fitting (codes "PRINT=1") (Assign (record { name = named (codes "PRINT"); position = 0 }) (int 1)) refl;
-  end_is_no_reserved_word = is_form Fitting (codes "END=5") (Assign (record { name = named (codes "END"); position = 0 }) (int 5)) refl;
-  six_letters_are_a_name = is_form Fitting (codes "PROGRA=1") (Assign (record { name = named (codes "PROGRA"); position = 0 }) (int 1)) refl;
-  seven_letters_are_no_name = says_nothing Any (codes "ABCDEFG=1") refl;
-  a_header = is_form Fitting (codes "PROGRAMP1") (Program (named (codes "P1"))) refl;
-  a_header_without_name = says_nothing Any (codes "PROGRAM") refl;
-  greatest_constant = is_form Fitting (codes "I=9223372036854775807") (Assign (record { name = named (codes "I"); position = 0 }) (int 9223372036854775807)) refl;
-  one_above_the_greatest = says_nothing Fitting (codes "I=9223372036854775808") refl;
-  one_above_the_greatest_of_any_size = is_form Any (codes "I=9223372036854775808") (Assign (record { name = named (codes "I"); position = 0 }) (int 9223372036854775807)) refl;
-  leading_zeros = is_form Fitting (codes "I=00000000000000000000001") (Assign (record { name = named (codes "I"); position = 0 }) (int 1)) refl;
+ifs_hold : Ifs
+unfolding chain in_parentheses reading.arguments reading.named primary power_of term first_term sum relation negation conjunction disjunction expression power expression_at whole_expression parts_behind lists.listed closed enclosed optional arguments_within arguments target_at characters constant_behind item_at print assignment computed_go_to go_to condition_at arithmetic_if if_then else_if limits do_loop call create purge stop declare declarator_at worded logical_if conditions form
+ifs_hold = record {
+  two_conditions = says (codes "IF(A)IF(B)I=1") ((place (at false (codes "A") 3)) ∷ (place (at false (codes "B") 8)) ∷ []) (Assign (target false (codes "I") 10 []) (int 1)) refl;
+  a_condition_and_end = says (codes "IF(L)END") ((place (at false (codes "L") 3)) ∷ []) End refl;
+  a_condition_and_a_name_like_then = says (codes "IF(L)THEN=1") ((place (at false (codes "L") 3)) ∷ []) (Assign (target false (codes "THEN") 5 []) (int 1)) refl;
+  a_block_if = says (codes "IF(L)THEN") [] (IfThen (place (at false (codes "L") 3))) refl;
+  an_else_if = says (codes "ELSEIF(L)THEN") [] (ElseIf (place (at false (codes "L") 7))) refl;
+  an_else = says (codes "ELSE") [] Else refl;
+  an_end_if = says (codes "ENDIF") [] EndIf refl;
+  two_labels = says_nothing (codes "IF(I)10,20") refl;
+  a_condition_and_a_declaration = says_nothing (codes "IF(L)INTEGERI") refl;
+  a_condition_alone = says_nothing (codes "IF(L)") refl;
+  a_parenthesis_left_open = says_nothing (codes "IF((L)END") refl;
+  a_block_if_within_a_logical_if = says_nothing (codes "IF(L)IF(M)THEN=") refl;
 }
 
--- ---- sources
+-- ---- STOP, CALL, CREATE and PURGE
 
--- a statement at a line, with no label
-abbrev at : ℕ → List ℕ → Stmt
-at n s = record { line = n; label = None; text = s; spans = [] }
+record Calls : Type 0 where
+  a_stop : Says (codes "STOP") [] Stop
+  a_stop_of_five_digits : Says (codes "STOP12345") [] Stop
+  a_stop_of_six_digits : SaysNothing (codes "STOP123456")
+  a_stop_of_characters : Says (codes "STOP'A'") [] Stop
+  a_stop_of_no_characters : SaysNothing (codes "STOP''")
+  a_call : Says (codes "CALLS") [] (Call (at false (codes "S") 4) [])
+  a_call_with_parentheses : Says (codes "CALLS()") [] (Call (at false (codes "S") 4) [])
+  a_call_with_arguments : Says (codes "CALLS(1,A(2))") [] (Call (at false (codes "S") 4) (int 1 ∷ listed (at false (codes "A") 8) (trees (int 2) no_trees) ∷ []))
+  a_call_of_an_asynchronous_name : SaysNothing (codes "CALL$S")
+  a_call_with_a_comma_too_many : SaysNothing (codes "CALLS(1,)")
+  a_create : Says (codes "CREATEP(N)") [] (Create (at false (codes "P") 6) ((place (at false (codes "N") 8)) ∷ []))
+  a_purge : Says (codes "PURGE$A,B(1)") [] (Purge ((target true (codes "A") 5 []) ∷ (target false (codes "B") 8 (int 1 ∷ [])) ∷ []))
 
-abbrev fault : (given : List Stmt) (number line : ℕ) → program given ≡ refused number line → IsFirstFault given number line
-fault given number line e = is_first_fault given number line e
+calls_hold : Calls
+unfolding chain in_parentheses reading.arguments reading.named primary power_of term first_term sum relation negation conjunction disjunction expression power expression_at whole_expression parts_behind lists.listed closed enclosed optional arguments_within arguments target_at characters constant_behind item_at print assignment computed_go_to go_to condition_at arithmetic_if if_then else_if limits do_loop call create purge stop declare declarator_at worded logical_if conditions form
+calls_hold = record {
+  a_stop = says (codes "STOP") [] Stop refl;
+  a_stop_of_five_digits = says (codes "STOP12345") [] Stop refl;
+  a_stop_of_six_digits = says_nothing (codes "STOP123456") refl;
+  a_stop_of_characters = says (codes "STOP'A'") [] Stop refl;
+  a_stop_of_no_characters = says_nothing (codes "STOP''") refl;
+  a_call = says (codes "CALLS") [] (Call (at false (codes "S") 4) []) refl;
+  a_call_with_parentheses = says (codes "CALLS()") [] (Call (at false (codes "S") 4) []) refl;
+  a_call_with_arguments = says (codes "CALLS(1,A(2))") [] (Call (at false (codes "S") 4) (int 1 ∷ listed (at false (codes "A") 8) (trees (int 2) no_trees) ∷ [])) refl;
+  a_call_of_an_asynchronous_name = says_nothing (codes "CALL$S") refl;
+  a_call_with_a_comma_too_many = says_nothing (codes "CALLS(1,)") refl;
+  a_create = says (codes "CREATEP(N)") [] (Create (at false (codes "P") 6) ((place (at false (codes "N") 8)) ∷ [])) refl;
+  a_purge = says (codes "PURGE$A,B(1)") [] (Purge ((target true (codes "A") 5 []) ∷ (target false (codes "B") 8 (int 1 ∷ [])) ∷ [])) refl;
+}
 
-record Sources : Type 0 where
-  end_alone : IsProgram (at 1 (codes "END") ∷ []) ((record { line = 1; label = None; form = End } ∷ []) ∷ [])
-  no_statement : IsFirstFault [] 204 0
-  no_reading_first : IsFirstFault (at 1 (codes "I=1+") ∷ at 2 (codes "I=9223372036854775808") ∷ []) 201 1
-  constant_too_large : IsFirstFault (at 3 (codes "I=9223372036854775808") ∷ at 5 (codes "I=") ∷ []) 203 3
-  second_end : IsFirstFault (at 1 (codes "END") ∷ at 2 (codes "END") ∷ []) 205 2
-  header_not_first : IsFirstFault (at 1 (codes "PRINT*") ∷ at 2 (codes "PROGRAMP") ∷ at 3 (codes "END") ∷ []) 205 2
-  last_is_no_end : IsFirstFault (at 1 (codes "PROGRAMP") ∷ at 2 (codes "PRINT*") ∷ []) 205 2
-  unread_behind_end : IsFirstFault (at 1 (codes "END") ∷ at 2 (codes "I=") ∷ []) 201 2
+-- ---- words as names
 
-sources : Sources
-unfolding chain in_parentheses primary power_of term first_term sum expression power expression_at whole_expression characters character_item item items assignment form statement placed statements
-sources = record {
-  end_alone = is_program (at 1 (codes "END") ∷ []) ((record { line = 1; label = None; form = End } ∷ []) ∷ []) refl;
-  no_statement = fault [] 204 0 refl;
-  no_reading_first = fault (at 1 (codes "I=1+") ∷ at 2 (codes "I=9223372036854775808") ∷ []) 201 1 refl;
-  constant_too_large = fault (at 3 (codes "I=9223372036854775808") ∷ at 5 (codes "I=") ∷ []) 203 3 refl;
-  second_end = fault (at 1 (codes "END") ∷ at 2 (codes "END") ∷ []) 205 2 refl;
-  header_not_first = fault (at 1 (codes "PRINT*") ∷ at 2 (codes "PROGRAMP") ∷ at 3 (codes "END") ∷ []) 205 2 refl;
-  last_is_no_end = fault (at 1 (codes "PROGRAMP") ∷ at 2 (codes "PRINT*") ∷ []) 205 2 refl;
-  unread_behind_end = fault (at 1 (codes "END") ∷ at 2 (codes "I=") ∷ []) 201 2 refl;
+record Names : Type 0 where
+  a_real_constant : SaysNothing (codes "I=1.5")
+  print_as_a_name : Says (codes "PRINT=1") [] (Assign (target false (codes "PRINT") 0 []) (int 1))
+  if_as_a_name : Says (codes "IF=1") [] (Assign (target false (codes "IF") 0 []) (int 1))
+  do_as_a_name : Says (codes "DO=1") [] (Assign (target false (codes "DO") 0 []) (int 1))
+  end_as_a_name : Says (codes "END=1") [] (Assign (target false (codes "END") 0 []) (int 1))
+  end_if_as_a_name : Says (codes "ENDIF=1") [] (Assign (target false (codes "ENDIF") 0 []) (int 1))
+  call_as_a_name : Says (codes "CALL=CALL") [] (Assign (target false (codes "CALL") 0 []) (place (at false (codes "CALL") 5)))
+  print_with_its_star_is_no_name : SaysNothing (codes "PRINT*=1")
+  seven_letters_are_no_name : SaysNothing (codes "ABCDEFG=1")
+  words_that_begin_no_form : SaysNothing (codes "READ")
+
+names_hold : Names
+unfolding chain in_parentheses reading.arguments reading.named primary power_of term first_term sum relation negation conjunction disjunction expression power expression_at whole_expression parts_behind lists.listed closed enclosed optional arguments_within arguments target_at characters constant_behind item_at print assignment computed_go_to go_to condition_at arithmetic_if if_then else_if limits do_loop call create purge stop declare declarator_at worded logical_if conditions form
+names_hold = record {
+  a_real_constant = says_nothing (codes "I=1.5") refl;
+  print_as_a_name = says (codes "PRINT=1") [] (Assign (target false (codes "PRINT") 0 []) (int 1)) refl;
+  if_as_a_name = says (codes "IF=1") [] (Assign (target false (codes "IF") 0 []) (int 1)) refl;
+  do_as_a_name = says (codes "DO=1") [] (Assign (target false (codes "DO") 0 []) (int 1)) refl;
+  end_as_a_name = says (codes "END=1") [] (Assign (target false (codes "END") 0 []) (int 1)) refl;
+  end_if_as_a_name = says (codes "ENDIF=1") [] (Assign (target false (codes "ENDIF") 0 []) (int 1)) refl;
+  call_as_a_name = says (codes "CALL=CALL") [] (Assign (target false (codes "CALL") 0 []) (place (at false (codes "CALL") 5))) refl;
+  print_with_its_star_is_no_name = says_nothing (codes "PRINT*=1") refl;
+  seven_letters_are_no_name = says_nothing (codes "ABCDEFG=1") refl;
+  words_that_begin_no_form = says_nothing (codes "READ") refl;
 }

@@ -1,8 +1,13 @@
-pub mod Characters
-pub mod Expression
+pub mod Lists
+pub mod Declaration
+pub mod Executable
 pub mod Statement
 pub mod Program
-pub mod Reading
-pub mod ReadingExpression
+pub mod ReadingLists
+pub mod ReadingTarget
+pub mod ReadingDeclaration
+pub mod ReadingRule
+pub mod ReadingExecutable
+pub mod ReadingKeyword
 pub mod ReadingStatement
 pub mod ReadingProgram

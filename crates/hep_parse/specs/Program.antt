@@ -1,91 +1,176 @@
 -- Programs, and why some statements are none.
-use Rattle.std.specs.Prelude.{◌≡◌, ◌≢◌, ◌⊎◌, ℕ, List, [], ◌∷◌, ◌++◌, Result, Ok, Err}
+use Rattle.std.specs.Prelude.{◌≡◌, ◌≢◌, ◌⊎◌, ℕ, Bool, true, false, IsTrue, codes, List, [], ◌∷◌, ◌++◌, Result, Ok, Err}
+use Rattle.hep_source.specs.Tree.{Tree}
 use Rattle.hep_source.specs.declared.statement.Form.{Form}
-use Rattle.hep_source.specs.declared.statement.Form.TheVariants.{Program, Assign, Print, End}
+use Rattle.hep_source.specs.declared.statement.Form.TheVariants.{Program, Subroutine, Implicit, Declare, Dimension, Common, Parameter, End}
 use Rattle.hep_source.specs.declared.statement.Statement.{Statement}
 use Rattle.hep_text.specs.declared.statement.Stmt.{Stmt}
-use Rattle.hep_parse.specs.declared.characters.Sizes.{Sizes}
-use Rattle.hep_parse.specs.declared.characters.Sizes.TheVariants.{Fitting, Any}
+use Rattle.hep_expression.specs.declared.characters.Sizes.{Sizes}
+use Rattle.hep_expression.specs.declared.characters.Sizes.TheVariants.{Fitting, Any}
+use Rattle.hep_expression.specs.declared.characters.Context.{Context}
 use Rattle.hep_parse.specs.declared.fault.ParseFault.{ParseFault}
 use Rattle.hep_parse.specs.declared.fault.ParseFault.TheVariants.{NoMemory, Refused}
-use Rattle.hep_parse.specs.Statement.{IsForm}
+use Rattle.hep_parse.specs.declared.rule.Rule.TheVariants.{Worded}
+use Rattle.hep_parse.specs.declared.program.Part.{Part}
+use Rattle.hep_parse.specs.declared.program.Part.TheVariants as part
+use Rattle.hep_parse.specs.Statement.{either, rule_of, IsLogicalIf, context, IsForm}
 
 -- A text with its line and label is this statement.
 abbrev pub IsStatement : Stmt → Statement → Type 0
-IsStatement given read = (read.line ≡ given.line) × (read.label ≡ given.label) × IsForm Fitting given.text read.form
+IsStatement given read = (read.line ≡ given.line) × (read.label ≡ given.label) × IsForm Fitting given.text read.conditions read.form
 
--- each of them, in order
-abbrev pub AreStatements : List Stmt → List Statement → Type 0
-AreStatements [] [] = Unit {0}
-AreStatements [] (read ∷ reads) = ⊥
-AreStatements (given ∷ more) [] = ⊥
-AreStatements (given ∷ more) (read ∷ reads) = IsStatement given read × AreStatements more reads
+-- ---- units (X3.9-1978, 3.5)
 
-abbrev pub IsHeader : Form → Type 0
-IsHeader (Program n) = Unit {0}
-IsHeader (Assign p t) = ⊥
-IsHeader (Print items) = ⊥
-IsHeader End = ⊥
+-- the part of a unit to which a form belongs; a logical IF holds an action
+abbrev pub part_of : List Tree → Form → Part
+part_of (t ∷ more) f = part.Action
+part_of [] (Program p) = part.Header
+part_of [] (Subroutine p ds) = part.Header
+part_of [] (Implicit xs) = part.Implicit
+part_of [] (Parameter xs) = part.Parameter
+part_of [] (Declare t xs) = part.Specification
+part_of [] (Dimension xs) = part.Specification
+part_of [] (Common xs) = part.Specification
+part_of [] End = part.End
+part_of [] _ = part.Action
 
--- executable, and not END (X3.9-1978, 7.1)
-abbrev pub IsAction : Form → Type 0
-IsAction (Program n) = ⊥
-IsAction (Assign p t) = Unit {0}
-IsAction (Print items) = Unit {0}
-IsAction End = ⊥
+-- whether a statement of the one part may stand anywhere before one of the other in a unit
+abbrev pub may_precede : Part → Part → Bool
+may_precede part.Header part.Header = false
+may_precede part.Header _ = true
+may_precede part.Implicit part.Header = false
+may_precede part.Implicit _ = true
+may_precede part.Parameter part.Header = false
+may_precede part.Parameter _ = true
+may_precede part.Specification part.Header = false
+may_precede part.Specification part.Implicit = false
+may_precede part.Specification _ = true
+may_precede part.Action part.Action = true
+may_precede part.Action part.End = true
+may_precede part.Action _ = false
+may_precede part.End _ = false
 
--- statements that end with END, which stands nowhere else (X3.9-1978, 3.5)
-abbrev pub IsBody : List Statement → Type 0
-IsBody [] = ⊥
-IsBody (s ∷ more) = ((s.form ≡ End) × (more ≡ [])) ⊎ (IsAction s.form × IsBody more)
+-- a part may stand behind those before it in its unit
+abbrev pub MayStandBehind : List Part → Part → Type 0
+MayStandBehind [] x = Unit {0}
+MayStandBehind (y ∷ before) x = IsTrue (may_precede y x) × MayStandBehind before x
 
--- a main program: it may begin with a PROGRAM statement (X3.9-1978, 14.1)
-abbrev pub IsMainProgram : List Statement → Type 0
-IsMainProgram [] = ⊥
-IsMainProgram (s ∷ more) = IsBody (s ∷ more) ⊎ (IsHeader s.form × IsBody more)
+-- parts behind others of their unit: each may stand there, and the last one is END
+abbrev pub AreOrdered : List Part → List Statement → Type 0
+AreOrdered before [] = ⊥
+AreOrdered before (s ∷ []) = MayStandBehind before (part_of s.conditions s.form) × (part_of s.conditions s.form ≡ part.End)
+AreOrdered before (s ∷ t ∷ more) = MayStandBehind before (part_of s.conditions s.form) × AreOrdered (before ++ part_of s.conditions s.form ∷ []) (t ∷ more)
 
--- The statements of a source are this program: one unit, a main program (X3.9-1978, 2.4).
+abbrev pub IsUnit : List Statement → Type 0
+IsUnit unit = AreOrdered [] unit
+
+-- a unit is a main program unless its first statement is SUBROUTINE (14.1 and 15.6.1)
+abbrev pub begins_main : Form → Bool
+begins_main (Subroutine p ds) = false
+begins_main _ = true
+
+abbrev pub is_main : List Statement → Bool
+is_main [] = false
+is_main (s ∷ more) = begins_main s.form
+
+abbrev pub AreSubroutines : List (List Statement) → Type 0
+AreSubroutines [] = Unit {0}
+AreSubroutines (unit ∷ more) = IsUnit unit × (is_main unit ≡ false) × AreSubroutines more
+
+-- one main program and any number of subroutines, in any order (2.4)
+abbrev pub AreUnits : List (List Statement) → Type 0
+AreUnits [] = ⊥
+AreUnits (unit ∷ more) = IsUnit unit × (((is_main unit ≡ true) × AreSubroutines more) ⊎ ((is_main unit ≡ false) × AreUnits more))
+
+-- each of the statements in order, unit after unit
+abbrev pub AreStatements : List Stmt → List Statement → List Stmt → Type 0
+AreStatements given [] left = given ≡ left
+AreStatements [] (read ∷ reads) left = ⊥
+AreStatements (one ∷ more) (read ∷ reads) left = IsStatement one read × AreStatements more reads left
+
+abbrev pub AreAllStatements : List Stmt → List (List Statement) → Type 0
+AreAllStatements given [] = given ≡ []
+AreAllStatements given (unit ∷ units) = (left : List Stmt) × AreStatements given unit left × AreAllStatements left units
+
+-- The statements of a source are this program (2.4).
 abbrev pub IsProgram : List Stmt → List (List Statement) → Type 0
-IsProgram given [] = ⊥
-IsProgram given (unit ∷ []) = AreStatements given unit × IsMainProgram unit
-IsProgram given (unit ∷ second ∷ more) = ⊥
+IsProgram given units = AreAllStatements given units × AreUnits units
 
 -- ---- refusals (docs/LANGUAGE.md)
 
 abbrev pub HasReading : Sizes → Stmt → Type 0
-HasReading z s = (f : Form) × IsForm z s.text f
+HasReading z s = (conditions : List Tree) × (f : Form) × IsForm z s.text conditions f
 
 abbrev pub HasNoReading : Sizes → Stmt → Type 0
-HasNoReading z s = (f : Form) → IsForm z s.text f → ⊥
+HasNoReading z s = (conditions : List Tree) (f : Form) → IsForm z s.text conditions f → ⊥
 
--- one of them is END
-abbrev pub HaveEnd : List Stmt → Type 0
-HaveEnd [] = ⊥
-HaveEnd (s ∷ more) = IsForm Fitting s.text End ⊎ HaveEnd more
+abbrev pub plain : List ℕ → List ℕ × List ℕ
+plain w = (w, w)
 
--- A statement of this form has no place between these: an END came before it, it is a PROGRAM
--- statement and isn't the first statement, or it is the last statement and isn't END.
-abbrev pub IsMisplaced : List Stmt → Form → List Stmt → Type 0
-IsMisplaced before f behind = HaveEnd before ⊎ (IsHeader f × (before ≢ [])) ⊎ ((f ≢ End) × (behind ≡ []))
+-- the words of statements that the language leaves out, each with the name that tells it
+abbrev pub left_out_words : List (List ℕ × List ℕ)
+left_out_words =
+    plain (codes "REAL") ∷ plain (codes "DOUBLEPRECISION") ∷ plain (codes "COMPLEX") ∷ plain (codes "CHARACTER")
+    ∷ plain (codes "READ") ∷ plain (codes "WRITE") ∷ plain (codes "FORMAT") ∷ plain (codes "OPEN") ∷ plain (codes "CLOSE")
+    ∷ plain (codes "INQUIRE") ∷ plain (codes "REWIND") ∷ plain (codes "BACKSPACE") ∷ plain (codes "ENDFILE")
+    ∷ plain (codes "EQUIVALENCE") ∷ plain (codes "SAVE") ∷ plain (codes "ENTRY") ∷ plain (codes "EXTERNAL")
+    ∷ plain (codes "INTRINSIC") ∷ plain (codes "ASSIGN") ∷ plain (codes "PAUSE") ∷ plain (codes "BLOCKDATA")
+    ∷ plain (codes "INCLUDE") ∷ plain (codes "FUNCTION") ∷ plain (codes "RESUME")
+    ∷ (codes "INTEGERFUNCTION", codes "FUNCTION") ∷ (codes "LOGICALFUNCTION", codes "FUNCTION") ∷ []
 
--- The statement is refused with this number.
-abbrev pub IsRefused : List Stmt → Stmt → List Stmt → ℕ → Type 0
-IsRefused before s behind number =
-    ((number ≡ 201) × HasNoReading Any s)
-    ⊎ ((number ≡ 203) × HasReading Any s × HasNoReading Fitting s)
-    ⊎ ((number ≡ 205) × (f : Form) × IsForm Fitting s.text f × IsMisplaced before f behind)
+-- one of these words begins the text, and has this name
+abbrev pub BeginsWith : List (List ℕ × List ℕ) → List ℕ → List ℕ → Type 0
+BeginsWith [] s name = ⊥
+BeginsWith (x ∷ more) s name = ((m : List ℕ) × (s ≡ x.0 ++ m) × (name ≡ x.1)) ⊎ BeginsWith more s name
 
--- The first of the statements that is refused has this line, and is refused with this number.
-abbrev pub IsFirstRefused : List Stmt → List Stmt → ℕ → ℕ → Type 0
-IsFirstRefused before [] number line = ⊥
-IsFirstRefused before (s ∷ behind) number line =
-    (IsRefused before s behind number × (line ≡ s.line))
-    ⊎ (((n : ℕ) → IsRefused before s behind n → ⊥) × IsFirstRefused (before ++ s ∷ []) behind number line)
+-- The text begins with a word that is left out, behind these conditions of logical IFs, where the
+-- rules come to the words.
+abbrev pub IsLeftOut : Context → List Tree → List ℕ → List ℕ → Type 0
+IsLeftOut k [] s name = (rule_of s ≡ Worded) × BeginsWith left_out_words s name
+IsLeftOut k (t ∷ more) s name = (r : List ℕ) × IsLogicalIf k t s r × IsLeftOut k more r name
 
--- The fault of a source: 204 where it has no statement, else its first refused statement.
-abbrev pub IsFirstFault : List Stmt → ℕ → ℕ → Type 0
-IsFirstFault [] number line = (number ≡ 204) × (line ≡ 0)
-IsFirstFault (s ∷ more) number line = IsFirstRefused [] (s ∷ more) number line
+abbrev pub IsLeftOutStatement : Stmt → List ℕ → Type 0
+IsLeftOutStatement s name = (conditions : List Tree) × IsLeftOut (context Any s.text) conditions s.text name
+
+-- The statement has no place behind these parts of its unit: it may not stand there; it begins a
+-- second main program; it is the last statement of the source and isn't END.
+abbrev pub IsMisplaced : List Part → Bool → List Tree → Form → List Stmt → Type 0
+IsMisplaced before main_is_there conditions f behind =
+    (MayStandBehind before (part_of conditions f) → ⊥)
+    ⊎ ((before ≡ []) × (main_is_there ≡ true) × (begins_main f ≡ true))
+    ⊎ ((behind ≡ []) × (part_of conditions f ≢ part.End))
+
+-- The statement is refused with this number and name, behind these parts of its unit.
+abbrev pub IsRefused : List Part → Bool → Stmt → List Stmt → ℕ → List ℕ → Type 0
+IsRefused before main_is_there s behind number name =
+    ((number ≡ 201) × HasNoReading Any s × ((word : List ℕ) → IsLeftOutStatement s word → ⊥) × (name ≡ []))
+    ⊎ ((number ≡ 202) × HasNoReading Any s × IsLeftOutStatement s name)
+    ⊎ ((number ≡ 203) × HasReading Any s × HasNoReading Fitting s × (name ≡ []))
+    ⊎ ((number ≡ 205) × (conditions : List Tree) × (f : Form) × IsForm Fitting s.text conditions f × IsMisplaced before main_is_there conditions f behind × (name ≡ []))
+
+-- the parts of the unit that goes on behind one more; none behind its END
+abbrev pub parts_behind : List Part → Part → List Part
+parts_behind before part.End = []
+parts_behind before x = before ++ x ∷ []
+
+-- whether a main program is there behind one more statement
+abbrev pub main_behind : List Part → Bool → Form → Bool
+main_behind [] main_is_there f = either main_is_there (begins_main f)
+main_behind (x ∷ before) main_is_there f = main_is_there
+
+-- The first fault of the statements behind these parts of a unit, with its number, line and name:
+-- that of the first statement that is refused; 204 where none is and there is no main program.
+abbrev pub IsFirstFaultFrom : List Part → Bool → List Stmt → ℕ → ℕ → List ℕ → Type 0
+IsFirstFaultFrom before main_is_there [] number line name = (main_is_there ≡ false) × (number ≡ 204) × (line ≡ 0) × (name ≡ [])
+IsFirstFaultFrom before main_is_there (s ∷ behind) number line name =
+    (IsRefused before main_is_there s behind number name × (line ≡ s.line))
+    ⊎ (((n : ℕ) (word : List ℕ) → IsRefused before main_is_there s behind n word → ⊥)
+    × (conditions : List Tree) × (f : Form) × IsForm Fitting s.text conditions f
+    × IsFirstFaultFrom (parts_behind before (part_of conditions f)) (main_behind before main_is_there f) behind number line name)
+
+-- the fault of a source
+abbrev pub IsFirstFault : List Stmt → ℕ → ℕ → List ℕ → Type 0
+IsFirstFault given number line name = IsFirstFaultFrom [] false given number line name
 
 -- ---- what is answered
 
@@ -95,13 +180,13 @@ IsRead p (Ok q) = q ≡ p
 IsRead p (Err NoMemory) = Unit {0}
 IsRead p (Err (Refused number line name)) = ⊥
 
--- a refusal with this number and line that is about no name, unless memory was refused
-abbrev pub IsTold : ℕ → ℕ → Result (List (List Statement)) ParseFault → Type 0
-IsTold number line (Ok p) = ⊥
-IsTold number line (Err NoMemory) = Unit {0}
-IsTold number line (Err (Refused n l name)) = (n ≡ number) × (l ≡ line) × (name ≡ [])
+-- this refusal, unless memory was refused
+abbrev pub IsTold : ℕ → ℕ → List ℕ → Result (List (List Statement)) ParseFault → Type 0
+IsTold number line name (Ok p) = ⊥
+IsTold number line name (Err NoMemory) = Unit {0}
+IsTold number line name (Err (Refused n l word)) = (n ≡ number) × (l ≡ line) × (word ≡ name)
 
--- a refusal tells the first fault, and is about no name
+-- a refusal tells the first fault
 abbrev pub IsTrueFault : List Stmt → ParseFault → Type 0
 IsTrueFault given NoMemory = Unit {0}
-IsTrueFault given (Refused number line name) = IsFirstFault given number line × (name ≡ [])
+IsTrueFault given (Refused number line name) = IsFirstFault given number line name

@@ -1,77 +1,157 @@
 -- Reading a program, as functions on lists.
-use Rattle.std.specs.Prelude.{◌≡◌, ℕ, List, [], ◌∷◌, ◌++◌, Option, Some, None, Result, Ok, Err}
+use Rattle.std.specs.Prelude.{◌≡◌, ℕ, zero, suc, Bool, true, false, not, ◌&&◌, ◌||◌, if◌then◌else◌, List, [], ◌∷◌, ◌++◌, length, Option, Some, None, Result, Ok, Err}
+use Rattle.hep_source.specs.Tree.{Tree}
 use Rattle.hep_source.specs.declared.statement.Form.{Form}
-use Rattle.hep_source.specs.declared.statement.Form.TheVariants.{Program, Assign, Print, End}
 use Rattle.hep_source.specs.declared.statement.Statement.{Statement}
 use Rattle.hep_text.specs.declared.statement.Stmt.{Stmt}
-use Rattle.hep_parse.specs.declared.characters.Sizes.TheVariants.{Fitting, Any}
+use Rattle.hep_expression.specs.declared.characters.Sizes.TheVariants.{Fitting, Any}
+use Rattle.hep_expression.specs.declared.characters.Context.{Context}
+use Rattle.hep_expression.specs.Reading.{◌>>=◌, if_some, after_text}
 use Rattle.hep_parse.specs.declared.fault.ParseFault.{ParseFault}
 use Rattle.hep_parse.specs.declared.fault.ParseFault.TheVariants.{NoMemory, Refused}
+use Rattle.hep_parse.specs.declared.rule.Rule.{Rule}
+use Rattle.hep_parse.specs.declared.rule.Rule.TheVariants.{LogicalIf, Worded}
+use Rattle.hep_parse.specs.declared.program.Part.{Part}
+use Rattle.hep_parse.specs.declared.program.Part.TheVariants as part
 use Rattle.hep_parse.specs.declared.program.Stage.{Stage}
-use Rattle.hep_parse.specs.declared.program.Stage.TheVariants.{Start, Within, Ended}
-use Rattle.hep_parse.specs.ReadingStatement.{form}
+use Rattle.hep_parse.specs.declared.program.Stage.TheVariants.{Start, Opening, Specification, Actions}
+use Rattle.hep_parse.specs.declared.program.State.{State}
+use Rattle.hep_parse.specs.Statement.{rule_of, context}
+use Rattle.hep_parse.specs.Program.{part_of, may_precede, begins_main, left_out_words}
+use Rattle.hep_parse.specs.ReadingStatement.{form, logical_if}
 
--- What a function answers, seen by view, is what was read, or the number and line of the refusal,
--- unless memory was refused.
-abbrev pub Misses : {Y : Type 0} → ParseFault → Result Y (ℕ × ℕ) → Type 0
+-- ---- answers
+
+-- the number, line and name of a refusal
+abbrev pub Refusal : Type 0
+Refusal = ℕ × ℕ × List ℕ
+
+-- the fault tells this refusal, unless memory was refused
+abbrev pub Tells : ParseFault → Refusal → Type 0
+Tells NoMemory refusal = Unit {0}
+Tells (Refused number line name) refusal = refusal ≡ (number, line, name)
+
+abbrev pub Misses : {Y : Type 0} → ParseFault → Result Y Refusal → Type 0
 Misses NoMemory read = Unit {0}
-Misses (Refused number line name) read = (read ≡ Err (number, line)) × (name ≡ [])
+Misses (Refused number line name) read = read ≡ Err (number, line, name)
 
-abbrev pub Answers : {X Y : Type 0} → (X → Y) → Result X ParseFault → Result Y (ℕ × ℕ) → Type 0
+-- What a function answers, seen by view, is what was read or the refusal, unless memory was refused.
+abbrev pub Answers : {X Y : Type 0} → (X → Y) → Result X ParseFault → Result Y Refusal → Type 0
 Answers view (Ok x) read = read ≡ Ok (view x)
 Answers view (Err e) read = Misses e read
 
-abbrev pub or_refusal : {A B : Type 0} → Result A (ℕ × ℕ) → (A → Result B (ℕ × ℕ)) → Result B (ℕ × ℕ)
+abbrev pub or_refusal : {A B : Type 0} → Result A Refusal → (A → Result B Refusal) → Result B Refusal
 or_refusal (Ok x) f = f x
 or_refusal (Err e) f = Err e
 
-abbrev pub or_number : {A : Type 0} → Option A → ℕ → ℕ → Result A (ℕ × ℕ)
-or_number None number line = Err (number, line)
-or_number (Some x) number line = Ok x
+abbrev pub or_told : {A : Type 0} → Option A → Refusal → Result A Refusal
+or_told None e = Err e
+or_told (Some x) e = Ok x
 
--- the number that refuses a text which is not read
-abbrev pub number_of_refusal : Option Form → ℕ
-number_of_refusal None = 201
-number_of_refusal (Some f) = 203
+-- ---- statements that the language leaves out
 
-abbrev pub with_line : Stmt → Form → Statement
-with_line given f = record { line = given.line; label = given.label; form = f }
+-- the name of the first of these words with which a text begins
+abbrev pub word_at : List (List ℕ × List ℕ) → List ℕ → Option (List ℕ)
+word_at [] s = None
+word_at (x ∷ more) s = if_some (after_text x.0 s) (λ m. Some x.1) (word_at more s)
 
-unfoldable pub statement : Stmt → Result Statement (ℕ × ℕ)
-statement given =
-    or_refusal (or_number (form Fitting given.text) (number_of_refusal (form Any given.text)) given.line)
-    (λ f. Ok (with_line given f))
+-- what is read by the rule: of a logical IF, and where a word begins the statement
+abbrev pub by_rule : {A : Type 0} → Rule → Option A → Option A → Option A
+by_rule LogicalIf held word = held
+by_rule Worded held word = word
+by_rule _ held word = None
 
--- the stage behind a statement, where a main program has it there
-abbrev pub stage_behind : Stage → Form → Option Stage
-stage_behind Start (Program n) = Some Within
-stage_behind Start (Assign p t) = Some Within
-stage_behind Start (Print items) = Some Within
-stage_behind Start End = Some Ended
-stage_behind Within (Program n) = None
-stage_behind Within (Assign p t) = Some Within
-stage_behind Within (Print items) = Some Within
-stage_behind Within End = Some Ended
-stage_behind Ended f = None
+-- the name of the word with which the innermost statement begins; the number bounds the conditions
+unfoldable pub left_out : Context → ℕ → List ℕ → Option (List ℕ)
+left_out k zero s = None
+left_out k (suc n) s = by_rule (rule_of s) (logical_if k s >>= λ x. left_out k n x.1) (word_at left_out_words s)
 
-unfoldable pub placed : Stage → Stmt → Result (Statement × Stage) (ℕ × ℕ)
-placed stage given =
+-- ---- statements
+
+abbrev pub with_line : Stmt → List Tree × Form → Statement
+with_line given x = record { line = given.line; label = given.label; conditions = x.0; form = x.1 }
+
+-- why a statement is refused that has no reading with constants of any size
+abbrev pub refusal_by : ℕ → Option (List ℕ) → Refusal
+refusal_by line None = (201, line, [])
+refusal_by line (Some name) = (202, line, name)
+
+unfoldable pub nameless_refusal : Stmt → Refusal
+nameless_refusal given = refusal_by given.line (left_out (context Any given.text) (length given.text) given.text)
+
+abbrev pub refusal_unless_found : {A : Type 0} → Refusal → Refusal → Option A → Refusal
+refusal_unless_found found other None = other
+refusal_unless_found found other (Some x) = found
+
+-- why a statement is refused that has no reading
+unfoldable pub refusal_of : Stmt → Refusal
+refusal_of given = refusal_unless_found (203, given.line, []) (nameless_refusal given) (form Any given.text)
+
+unfoldable pub statement : Stmt → Result Statement Refusal
+statement given = or_refusal (or_told (form Fitting given.text) (refusal_of given)) (λ x. Ok (with_line given x))
+
+-- ---- the order of statements
+
+abbrev pub is_start : Stage → Bool
+is_start Start = true
+is_start _ = false
+
+-- whether a part may stand behind those of its unit so far
+abbrev pub may_follow : Stage → Part → Bool
+may_follow Start x = true
+may_follow Opening x = may_precede part.Header x
+may_follow Specification x = may_precede part.Specification x
+may_follow Actions x = may_precede part.Action x
+
+abbrev pub stage_behind : Stage → Part → Stage
+stage_behind stage part.Action = Actions
+stage_behind stage part.End = Start
+stage_behind stage part.Specification = Specification
+stage_behind Specification _ = Specification
+stage_behind _ _ = Opening
+
+-- the state behind a statement, where it may stand there
+abbrev pub state_behind : State → Part → Bool → Option State
+state_behind x p begins =
+    if may_follow x.stage p && not (is_start x.stage && x.has_main && begins)
+    then Some (record { stage = stage_behind x.stage p; has_main = x.has_main || (is_start x.stage && begins) })
+    else None
+
+unfoldable pub placed : State → Stmt → Result (Statement × State) Refusal
+placed x given =
     or_refusal (statement given) (λ read.
-    or_refusal (or_number (stage_behind stage read.form) 205 given.line) (λ next. Ok (read, next)))
+    or_refusal (or_told (state_behind x (part_of read.conditions read.form) (begins_main read.form)) (205, given.line, [])) (λ next.
+    Ok (read, next)))
 
-abbrev pub at_end : Stage → ℕ → Result (List Statement) (ℕ × ℕ)
-at_end Start line = Err (204, 0)
-at_end Within line = Err (205, line)
-at_end Ended line = Ok []
+-- ---- units
 
-abbrev pub with_statements : List Statement → Result (List Statement) (ℕ × ℕ) → Result (List Statement) (ℕ × ℕ)
-with_statements done read = or_refusal read (λ more. Ok (done ++ more))
+-- the rest of a unit and the units behind it, with statements of the unit before them
+abbrev pub behind_some : List Statement → List (List Statement) → List (List Statement)
+behind_some [] units = units
+behind_some (s ∷ unit) [] = (s ∷ unit) ∷ []
+behind_some (s ∷ unit) (rest ∷ units) = ((s ∷ unit) ++ rest) ∷ units
 
--- the statements of a main program of which some have been read, the last of them at this line
-unfoldable pub statements : Stage → ℕ → List Stmt → Result (List Statement) (ℕ × ℕ)
-statements stage line [] = at_end stage line
-statements stage line (given ∷ more) =
-    or_refusal (placed stage given) (λ x. with_statements (x.0 ∷ []) (statements x.1 given.line more))
+abbrev pub behind_one : Statement → Stage → List (List Statement) → List (List Statement)
+behind_one s Start units = (s ∷ []) ∷ units
+behind_one s _ units = behind_some (s ∷ []) units
 
-abbrev pub program : List Stmt → Result (List (List Statement)) (ℕ × ℕ)
-program given = or_refusal (statements Start 0 given) (λ unit. Ok (unit ∷ []))
+-- at the end of the source, behind a unit or not, where a main program was there or not
+abbrev pub ended : Bool → Bool → ℕ → Result (List (List Statement)) Refusal
+ended true true line = Ok []
+ended true false line = Err (204, 0, [])
+ended false main_is_there line = Err (205, line, [])
+
+abbrev pub at_end : State → ℕ → Result (List (List Statement)) Refusal
+at_end x line = ended (is_start x.stage) x.has_main line
+
+-- the rest of a unit and the units behind it, where the last statement so far is at this line
+unfoldable pub units : State → ℕ → List Stmt → Result (List (List Statement)) Refusal
+units x line [] = at_end x line
+units x line (given ∷ more) =
+    or_refusal (placed x given) (λ y. or_refusal (units y.1 given.line more) (λ rest. Ok (behind_one y.0 y.1.stage rest)))
+
+abbrev pub nothing_read : State
+nothing_read = record { stage = Start; has_main = false }
+
+abbrev pub program : List Stmt → Result (List (List Statement)) Refusal
+program given = units nothing_read 0 given

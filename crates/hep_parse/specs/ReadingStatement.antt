@@ -1,67 +1,111 @@
 -- Reading a statement, as functions on lists.
-use Rattle.std.specs.Prelude.{ℕ, zero, suc, Bool, true, false, nat_eq, if◌then◌else◌, codes, List, [], ◌∷◌, length, Option, Some, None}
-use Rattle.hep_source.specs.Tree.{constant}
-use Rattle.hep_source.specs.declared.value.Value.TheVariants.{Truth}
-use Rattle.hep_source.specs.declared.statement.PrintItem.{PrintItem}
-use Rattle.hep_source.specs.declared.statement.PrintItem.TheVariants.{Expression, Characters}
+use Rattle.std.specs.Prelude.{ℕ, zero, suc, nat_eq, Bool, true, if◌then◌else◌, List, [], ◌∷◌, length, Option, Some, None}
+use Rattle.std.specs.Cmp.Lexicographic.{pointwise}
+use Rattle.hep_source.specs.Tree.{Tree}
+use Rattle.hep_source.specs.Units.{is_executable}
 use Rattle.hep_source.specs.declared.statement.Form.{Form}
-use Rattle.hep_source.specs.declared.statement.Form.TheVariants.{Program, Assign, Print, End}
-use Rattle.hep_parse.specs.declared.characters.Sizes.{Sizes}
-use Rattle.hep_parse.specs.declared.characters.Context.{Context}
-use Rattle.hep_parse.specs.Statement.{truth_spelling, context}
-use Rattle.hep_parse.specs.Reading.{◌>>=◌, if_some, all_read, after, after_text, one_of, name_at, place_at}
-use Rattle.hep_parse.specs.ReadingExpression.{expression_at, whole_expression}
+use Rattle.hep_source.specs.declared.statement.Form.TheVariants as forms
+use Rattle.hep_expression.specs.declared.characters.Sizes.{Sizes}
+use Rattle.hep_expression.specs.declared.characters.Context.{Context}
+use Rattle.hep_expression.specs.Reading.{◌>>=◌, all_read}
+use Rattle.hep_parse.specs.Statement.{rule_of, context}
+use Rattle.hep_parse.specs.ReadingRule.{behind_if}
+use Rattle.hep_parse.specs.declared.rule.Rule.{Rule}
+use Rattle.hep_parse.specs.declared.rule.Rule.TheVariants.{Assignment, BlockIf, SignIf, LogicalIf, Unclosed, Worded}
+use Rattle.hep_parse.specs.declared.keyword.Keyword.{Keyword}
+use Rattle.hep_parse.specs.declared.keyword.Keyword.TheVariants as words
+use Rattle.hep_parse.specs.ReadingKeyword.{keyword_at}
+use Rattle.hep_source.specs.declared.declaration.ValueType.TheVariants.{Integer, Logical}
+use Rattle.hep_parse.specs.ReadingDeclaration.{program_header, subroutine_header, implicit, declare, dimension, common, parameter, data_statement}
+use Rattle.hep_parse.specs.ReadingExecutable.{print, assignment, go_to, if_condition_at, arithmetic_if, if_then, else_if, do_loop, call, create, purge, stop}
 
--- the next character of a character constant, and what follows it: none where the constant ends
-abbrev pub character_at : List ℕ → Option (ℕ × List ℕ)
-character_at [] = None
-character_at (c ∷ s) = if nat_eq c 39 then (after 39 s >>= λ r. Some (39, r)) else Some (c, s)
+-- ---- forms that begin with their words
 
-abbrev pub with_character : ℕ → Option (List ℕ × List ℕ) → Option (List ℕ × List ℕ)
-with_character c read = read >>= λ x. Some (c ∷ x.0, x.1)
+-- the form of a header, a specification statement or DATA behind its word
+abbrev pub declaration : Context → Keyword → List ℕ → Option Form
+declaration k words.Program s = program_header k s
+declaration k words.Subroutine s = subroutine_header k s
+declaration k words.Implicit s = implicit k s
+declaration k words.Integer s = declare k Integer s
+declaration k words.Logical s = declare k Logical s
+declaration k words.Dimension s = dimension k s
+declaration k words.Common s = common k s
+declaration k words.Parameter s = parameter k s
+declaration k words.Data s = data_statement k s
+declaration k _ s = None
 
--- the characters up to the apostrophe that closes their constant, and what follows it; the number
--- bounds how many
-unfoldable pub characters : ℕ → List ℕ → Option (List ℕ × List ℕ)
-characters zero s = None
-characters (suc n) s = if_some (character_at s) (λ x. with_character x.0 (characters n x.1)) (after 39 s >>= λ r. Some ([], r))
+-- the form of a text behind its word
+abbrev pub behind_word : Context → Keyword → List ℕ → Option Form
+behind_word k words.GoTo s = go_to k s
+behind_word k words.ElseIf s = else_if k s
+behind_word k words.Else s = all_read forms.Else s
+behind_word k words.EndIf s = all_read forms.EndIf s
+behind_word k words.End s = all_read forms.End s
+behind_word k words.Do s = do_loop k s
+behind_word k words.Call s = call k s
+behind_word k words.Create s = create k s
+behind_word k words.Purge s = purge k s
+behind_word k words.Print s = print k s
+behind_word k words.Continue s = all_read forms.Continue s
+behind_word k words.Return s = all_read forms.Return s
+behind_word k words.Stop s = stop s
+behind_word k words.Program s = declaration k words.Program s
+behind_word k words.Subroutine s = declaration k words.Subroutine s
+behind_word k words.Implicit s = declaration k words.Implicit s
+behind_word k words.Integer s = declaration k words.Integer s
+behind_word k words.Logical s = declaration k words.Logical s
+behind_word k words.Dimension s = declaration k words.Dimension s
+behind_word k words.Common s = declaration k words.Common s
+behind_word k words.Parameter s = declaration k words.Parameter s
+behind_word k words.Data s = declaration k words.Data s
 
-abbrev pub some_characters : List ℕ × List ℕ → Option (PrintItem × List ℕ)
-some_characters x = elim x.0 [ [] ↦ None | c ∷ t ↦ Some (Characters x.0, x.1) ]
+unfoldable pub worded : Context → List ℕ → Option Form
+worded k s = keyword_at s >>= λ x. behind_word k x.0 x.1
 
-unfoldable pub character_item : List ℕ → Option (PrintItem × List ℕ)
-character_item s = characters (length s) s >>= some_characters
+-- the form of a statement that is no logical IF, by the rule that applies
+abbrev pub form_by : Context → Rule → List ℕ → Option Form
+form_by k Assignment s = assignment k s
+form_by k BlockIf s = if_then k s
+form_by k SignIf s = arithmetic_if k s
+form_by k LogicalIf s = None
+form_by k Unclosed s = None
+form_by k Worded s = worded k s
 
-abbrev pub truth_at : List ℕ → Option (Bool × List ℕ)
-truth_at s = one_of truth_spelling (true ∷ false ∷ []) s
+-- ---- logical IFs
 
-unfoldable pub item : Context → List ℕ → Option (PrintItem × List ℕ)
-item k s =
-    if_some (after 39 s) character_item
-    (if_some (truth_at s) (λ x. Some (Expression (constant (Truth x.0)), x.1))
-    (expression_at k s >>= λ x. Some (Expression x.0, x.1)))
+-- the condition, where it ends at that parenthesis
+abbrev pub closed_there : Option (List ℕ) → Tree × List ℕ → Option (Tree × List ℕ)
+closed_there None x = None
+closed_there (Some r) x = if pointwise nat_eq x.1 r then Some x else None
 
-abbrev pub with_item : PrintItem → Option (List PrintItem) → Option (List PrintItem)
-with_item x read = read >>= λ more. Some (x ∷ more)
+abbrev pub held_by : Context → Rule → List ℕ → Option (Tree × List ℕ)
+held_by k LogicalIf s = if_condition_at k s >>= closed_there (behind_if s)
+held_by k _ s = None
 
--- items with a comma before each; the number bounds how many
-unfoldable pub items : Context → ℕ → List ℕ → Option (List PrintItem)
-items k zero s = all_read [] s
-items k (suc n) s = if_some (after 44 s) (λ m. item k m >>= λ x. with_item x.0 (items k n x.1)) (all_read [] s)
+-- the condition of a logical IF, and the statement that it holds
+unfoldable pub logical_if : Context → List ℕ → Option (Tree × List ℕ)
+logical_if k s = held_by k (rule_of s) s
 
-unfoldable pub assignment : Context → List ℕ → Option Form
-assignment k s = place_at k s >>= λ x. after 61 x.1 >>= λ m. whole_expression k m >>= λ t. Some (Assign x.0 t)
+-- a condition with those behind it, or none
+abbrev pub behind_condition : Option (Tree × List ℕ) → (List ℕ → List Tree × List ℕ) → List ℕ → List Tree × List ℕ
+behind_condition None next s = ([], s)
+behind_condition (Some x) next s = (x.0 ∷ (next x.1).0, (next x.1).1)
 
-abbrev pub whole_name : List ℕ → Option Form
-whole_name s = name_at s >>= λ x. all_read (Program x.0) x.1
+-- the conditions of logical IFs, of which each one holds the next, and the statement that the last
+-- one holds; the number bounds how many
+unfoldable pub conditions : Context → ℕ → List ℕ → List Tree × List ℕ
+conditions k zero s = ([], s)
+conditions k (suc n) s = behind_condition (logical_if k s) (λ r. conditions k n r) s
 
-abbrev pub is_nothing : Option (List ℕ) → Bool
-is_nothing None = false
-is_nothing (Some []) = true
-is_nothing (Some (c ∷ s)) = false
+-- ---- statements
 
-unfoldable pub form : Sizes → List ℕ → Option Form
-form z s =
-    if_some (after_text (codes "PRINT*") s) (λ m. items (context z s) (length m) m >>= λ more. Some (Print more))
-    (if_some (after_text (codes "PROGRAM") s) whole_name
-    (if is_nothing (after_text (codes "END") s) then Some End else assignment (context z s) s))
+-- whether a form may stand behind these conditions
+abbrev pub may_stand : List Tree → Form → Bool
+may_stand [] f = true
+may_stand (t ∷ more) f = is_executable f
+
+abbrev pub behind_conditions : Context → List Tree × List ℕ → Option (List Tree × Form)
+behind_conditions k x = form_by k (rule_of x.1) x.1 >>= λ f. if may_stand x.0 f then Some (x.0, f) else None
+
+unfoldable pub form : Sizes → List ℕ → Option (List Tree × Form)
+form z s = behind_conditions (context z s) (conditions (context z s) (length s) s)

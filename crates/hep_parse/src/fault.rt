@@ -1,7 +1,7 @@
 //! Why a program isn't read.
 ghost use Rattle.std.specs.Prelude.{◌≡◌, []};
 ghost use Rattle.hep_parse.specs.declared.fault.ParseFault.TheVariants as faults;
-ghost use Rattle.hep_parse.specs.declared.fault.Unread.TheVariants as unread;
+ghost use Rattle.hep_parse.specs.ReadingProgram.{Tells};
 
 use hep_source::Text;
 use std::alloc::{AllocError, AllocFailed, Global};
@@ -33,6 +33,20 @@ impl ParseFault {
         let name = Text::from(Vec::new(alloc));
         ParseFault::Refused { number, line, name }
     }
+
+    /// A refusal that is about this name, unless there is no memory for it.
+    pub fn named(alloc: Global, number: u16, line: u32, name: &[u8]) -> ParseFault
+        ensures { Tells result (number, line, name.now) }
+    {
+        match Vec::from_slice(alloc, name) {
+            Ok(bytes) => ParseFault::Refused {
+                number,
+                line,
+                name: Text::from(bytes),
+            },
+            Err(_) => ParseFault::NoMemory,
+        }
+    }
 }
 
 impl From<AllocError> for ParseFault {
@@ -54,36 +68,5 @@ impl<T: Drop> From<AllocFailed<T>> for ParseFault {
 
     fn from(_refused: AllocFailed<T>) -> ParseFault {
         ParseFault::NoMemory
-    }
-}
-
-/// Why a text isn't read as an expression or a form of statement.
-#[derive(Clone, Copy, Debug, PartialEq, Eq)]
-pub enum Unread {
-    /// Memory was refused.
-    NoMemory,
-    /// The grammar has no reading of the text.
-    NoReading,
-}
-
-impl From<AllocError> for Unread {
-    ghost use Rattle.std.specs.Prelude.{◌≡◌};
-    ghost use Rattle.hep_parse.specs.declared.fault.Unread.TheVariants.{NoMemory};
-
-    ghost from_gives = { λ _ why. why ≡ NoMemory };
-
-    fn from(_refused: AllocError) -> Unread {
-        Unread::NoMemory
-    }
-}
-
-impl<T: Drop> From<AllocFailed<T>> for Unread {
-    ghost use Rattle.std.specs.Prelude.{◌≡◌};
-    ghost use Rattle.hep_parse.specs.declared.fault.Unread.TheVariants.{NoMemory};
-
-    ghost from_gives = { λ _ why. why ≡ NoMemory };
-
-    fn from(_refused: AllocFailed<T>) -> Unread {
-        Unread::NoMemory
     }
 }

@@ -2,83 +2,234 @@
 ghost use Rattle.std.specs.Prelude.{◌≡◌, ℕ, List, IfOk, IfErr};
 ghost use Rattle.hep_source.specs.declared.statement.Statement.{Statement};
 ghost use Rattle.hep_text.specs.declared.statement.Stmt.{Stmt};
+ghost use Rattle.hep_parse.specs.Program as grammar;
 ghost use Rattle.hep_parse.specs.Program.{IsProgram, IsFirstFault, IsRead, IsTold, IsTrueFault};
 ghost use Rattle.hep_parse.specs.ReadingProgram as reading;
-ghost use Rattle.hep_parse.specs.ReadingProgram.{Answers};
-ghost use Rattle.hep_parse.specs.declared.program.Stage.TheVariants.{Start};
+ghost use Rattle.hep_parse.specs.ReadingProgram.{Tells, Answers};
 
 use crate::fault::ParseFault;
-use crate::statement::statement;
-use hep_source::{Form, Program, Statement, Unit};
+use crate::left_out::left_out;
+use crate::statement::form;
+use hep_expression::Unread;
+use hep_expression::characters::{Context, Sizes};
+use hep_source::{Expr, Form, Program, Sequence, Statement, Unit};
 use hep_text::Stmt;
 use std::alloc::Global;
 
-/// How much of a main program has been read.
+/// The part of a program unit to which a statement belongs (X3.9-1978, 3.5).
 #[derive(Clone, Copy, Debug, PartialEq, Eq)]
-enum Stage {
-    /// Nothing.
-    Start,
-    /// Some statements, and no END.
-    Within,
-    /// All, with its END.
-    Ended,
+pub enum Part {
+    Header,
+    Implicit,
+    Parameter,
+    /// Types, DIMENSION and COMMON.
+    Specification,
+    /// Executable statements but END, and DATA.
+    Action,
+    End,
 }
 
-impl Stage {
-    /// The stage behind one more statement, where a main program has that statement there.
-    fn behind(self, form: &Form) -> Option<Stage>
-        ensures { result ≡ reading.stage_behind self form.now }
+impl Part {
+    /// The part of a form with these conditions; a logical IF holds an action.
+    fn of(conditions: &[Expr], form: &Form) -> Part
+        ensures { result ≡ grammar.part_of conditions.now form.now }
     {
-        match (self, form) {
-            (Stage::Ended, _) | (Stage::Within, Form::Program(_)) => None,
-            (_, Form::End) => Some(Stage::Ended),
-            _ => Some(Stage::Within),
+        if !conditions.is_empty() {
+            return Part::Action;
+        }
+        match form {
+            Form::Program(_) | Form::Subroutine(_, _) => Part::Header,
+            Form::Implicit(_) => Part::Implicit,
+            Form::Parameter(_) => Part::Parameter,
+            Form::Declare(_, _) | Form::Dimension(_) | Form::Common(_) => Part::Specification,
+            Form::End => Part::End,
+            _ => Part::Action,
         }
     }
 }
 
-/// A statement, and the stage behind it.
+/// Whether a unit whose first statement has this form is a main program (X3.9-1978, 14.1).
+fn begins_main(form: &Form) -> bool
+    ensures { result ≡ grammar.begins_main form.now }
+{
+    !matches!(form, Form::Subroutine(_, _))
+}
+
+/// Which parts of a unit have been read (X3.9-1978, 3.5).
+#[derive(Clone, Copy, Debug, PartialEq, Eq)]
+enum Stage {
+    /// None.
+    Start,
+    /// Its header, IMPLICIT and PARAMETER statements, some of them.
+    Opening,
+    /// Specification statements, and no actions.
+    Specification,
+    /// Actions.
+    Actions,
+}
+
+impl Stage {
+    /// Whether no part has been read.
+    fn is_start(self) -> bool
+        ensures { result ≡ reading.is_start self }
+    {
+        matches!(self, Stage::Start)
+    }
+
+    /// Whether a part may come next.
+    fn admits(self, part: Part) -> bool
+        ensures { result ≡ reading.may_follow self part }
+    {
+        match self {
+            Stage::Start => true,
+            Stage::Opening => part != Part::Header,
+            Stage::Specification => part != Part::Header && part != Part::Implicit,
+            Stage::Actions => matches!(part, Part::Action | Part::End),
+        }
+    }
+
+    /// The stage behind one more part: behind END another unit begins.
+    fn behind(self, part: Part) -> Stage
+        ensures { result ≡ reading.stage_behind self part }
+    {
+        match (self, part) {
+            (_, Part::Action) => Stage::Actions,
+            (_, Part::End) => Stage::Start,
+            (_, Part::Specification) | (Stage::Specification, _) => Stage::Specification,
+            _ => Stage::Opening,
+        }
+    }
+}
+
+/// How far a source has been read.
+#[derive(Clone, Copy, Debug, PartialEq, Eq)]
+struct State {
+    /// Which parts of the unit were there.
+    stage: Stage,
+    /// Whether a main program was there, or has begun.
+    has_main: bool,
+}
+
+impl State {
+    /// The state behind one more statement, where it may stand there.
+    fn behind(self, part: Part, begins_main: bool) -> Option<State>
+        ensures { result ≡ reading.state_behind self part begins_main }
+    {
+        let main_begins = self.stage.is_start() && begins_main;
+        if !self.stage.admits(part) || main_begins && self.has_main {
+            return None;
+        }
+        Some(State {
+            stage: self.stage.behind(part),
+            has_main: self.has_main || main_begins,
+        })
+    }
+}
+
+/// Why a statement is refused that has no reading with constants of any size: 202 where the
+/// language leaves it out, else 201.
+#[tactic(auto, unfolding(crate::specs::ReadingProgram::nameless_refusal))]
+fn nameless_refusal(alloc: Global, given: &Stmt) -> ParseFault
+    ensures { Tells result (reading.nameless_refusal given.now) }
+{
+    let text = given.text.as_slice();
+    let context = Context {
+        sizes: Sizes::Any,
+        length: text.len(),
+    };
+    match left_out(alloc, context, text) {
+        Ok(word) => ParseFault::named(alloc, 202, given.line, word),
+        Err(Unread::NoReading) => ParseFault::refused(alloc, 201, given.line),
+        Err(Unread::NoMemory) => ParseFault::NoMemory,
+    }
+}
+
+/// Why a statement is refused that has no reading: 203 where only the size of its integer constants
+/// is against it.
+#[tactic(auto, unfolding(crate::specs::ReadingProgram::refusal_of))]
+fn refusal_of(alloc: Global, given: &Stmt) -> ParseFault
+    ensures { Tells result (reading.refusal_of given.now) }
+{
+    match form(alloc, Sizes::Any, given.text.as_slice()).err() {
+        None => ParseFault::refused(alloc, 203, given.line),
+        Some(Unread::NoReading) => nameless_refusal(alloc, given),
+        Some(Unread::NoMemory) => ParseFault::NoMemory,
+    }
+}
+
+/// The statement that a text with its line and label is.
+///
+/// # Errors
+///
+/// 201, 202 or 203 where it has no reading; no memory.
+#[tactic(auto, unfolding(crate::specs::ReadingProgram::statement))]
+fn statement(alloc: Global, given: &Stmt) -> Result<Statement, ParseFault>
+    ensures { Answers (λ x. x) result (reading.statement given.now) }
+{
+    match form(alloc, Sizes::Fitting, given.text.as_slice()) {
+        Ok((conditions, form)) => Ok(Statement {
+            line: given.line,
+            label: given.label,
+            conditions: Sequence::from(conditions),
+            form,
+        }),
+        Err(Unread::NoReading) => Err(refusal_of(alloc, given)),
+        Err(Unread::NoMemory) => Err(ParseFault::NoMemory),
+    }
+}
+
+/// A statement, and the state behind it.
 ///
 /// # Errors
 ///
 /// A refusal of the statement, with 205 where it has no place there; no memory.
 #[tactic(auto, unfolding(crate::specs::ReadingProgram::placed))]
-fn placed(alloc: Global, stage: Stage, given: &Stmt) -> Result<(Statement, Stage), ParseFault>
-    ensures { Answers (λ x. x) result (reading.placed stage given.now) }
+fn placed(alloc: Global, state: State, given: &Stmt) -> Result<(Statement, State), ParseFault>
+    ensures { Answers (λ x. x) result (reading.placed state given.now) }
 {
     let read = statement(alloc, given)?;
-    match stage.behind(&read.form) {
+    let part = Part::of(read.conditions.as_slice(), &read.form);
+    match state.behind(part, begins_main(&read.form)) {
         Some(next) => Ok((read, next)),
         None => Err(ParseFault::refused(alloc, 205, given.line)),
     }
 }
 
-/// The statements of a main program.
+/// The units of a program.
 ///
 /// # Errors
 ///
 /// The first refusal, or no memory.
-#[tactic(auto, unfolding(crate::specs::ReadingProgram::statements))]
-fn unit(alloc: Global, statements: &[Stmt]) -> Result<Vec<Statement>, ParseFault>
-    ensures { Answers (λ x. x.items) result (reading.statements Start 0 statements.now) }
+fn units(alloc: Global, statements: &[Stmt]) -> Result<Vec<Unit>, ParseFault>
+    ensures { Answers (λ x. x.items) result (reading.program statements.now) }
 {
+    let mut units = Vec::new(alloc);
     let mut unit = Vec::new(alloc);
-    let mut stage = Stage::Start;
+    let mut state = State {
+        stage: Stage::Start,
+        has_main: false,
+    };
     let mut last_line = 0;
     for given in statements {
-        let (read, next) = placed(alloc, stage, given)?;
+        let (read, next) = placed(alloc, state, given)?;
         unit.push(read)?;
-        stage = next;
+        if next.stage.is_start() {
+            units.push(Unit::from(unit))?;
+            unit = Vec::new(alloc);
+        }
+        state = next;
         last_line = given.line;
     }
-    match stage {
-        Stage::Start => Err(ParseFault::refused(alloc, 204, 0)),
-        Stage::Within => Err(ParseFault::refused(alloc, 205, last_line)),
-        Stage::Ended => Ok(unit),
+    if !state.stage.is_start() {
+        return Err(ParseFault::refused(alloc, 205, last_line));
     }
+    if !state.has_main {
+        return Err(ParseFault::refused(alloc, 204, 0));
+    }
+    Ok(units)
 }
 
-/// The program of one unit.
+/// The program of these units.
 ///
 /// # Errors
 ///
@@ -86,9 +237,7 @@ fn unit(alloc: Global, statements: &[Stmt]) -> Result<Vec<Statement>, ParseFault
 fn program(alloc: Global, statements: &[Stmt]) -> Result<Program, ParseFault>
     ensures { Answers (λ p. p) result (reading.program statements.now) }
 {
-    let unit = unit(alloc, statements)?;
-    let mut units = Vec::new(alloc);
-    units.push(Unit::from(unit))?;
+    let units = units(alloc, statements)?;
     Ok(Program::from(units))
 }
 
@@ -96,10 +245,12 @@ fn program(alloc: Global, statements: &[Stmt]) -> Result<Program, ParseFault>
 ///
 /// # Errors
 ///
-/// [`ParseFault::Refused`] with the first fault by the order of the statements: 201 for a
-/// statement of no form, 203 for an integer constant that is too large, 205 for a statement behind
-/// END, for a PROGRAM statement that isn't the first statement, and for a last statement that isn't
-/// END; 204 where there is no statement at all. [`ParseFault::NoMemory`] where memory was refused.
+/// [`ParseFault::Refused`] with the first fault by the order of the statements. Of a statement
+/// without a reading it is 203 where only the size of its integer constants is against it, 202 with
+/// the word where the language leaves the statement out, and else 201; 205 is for a statement that
+/// may not stand at its place in the unit, for the first statement of a second main program, and for
+/// a last statement that isn't END. 204 is told where no statement is refused and there is no main
+/// program. [`ParseFault::NoMemory`] where memory was refused.
 pub fn parse(alloc: Global, statements: &[Stmt]) -> Result<Program, ParseFault>
     // What is read is the program.
     ensures accepted { IfOk result (λ p. IsProgram statements.now p) }
@@ -108,7 +259,7 @@ pub fn parse(alloc: Global, statements: &[Stmt]) -> Result<Program, ParseFault>
     // What is told is the first fault.
     ensures refused { IfErr result (λ e. IsTrueFault statements.now e) }
     // The first fault is told.
-    ensures told { (number line : ℕ) → IsFirstFault statements.now number line → IsTold number line result }
+    ensures told { (number line : ℕ) (name : List ℕ) → IsFirstFault statements.now number line name → IsTold number line name result }
 {
     program(alloc, statements)
 }

@@ -1,2 +1,3 @@
 mod Powers
 mod Worked
+pub mod Children

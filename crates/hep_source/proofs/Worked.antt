@@ -1,18 +1,19 @@
 -- Worked runs: what the definitions give for small programs.
-use Rattle.std.specs.Prelude.{◌≡◌, ℕ, zero, suc, ◌^◌, ◌-◌, ℤ, pos, negsuc, Bool, true, false, List, [], ◌∷◌, Option, Some, None, refl, replicate}
+use Rattle.std.specs.Prelude.{◌≡◌, ℕ, ◌^◌, ◌-◌, pos, negsuc, true, false, List, [], ◌∷◌, Some, None, refl, replicate}
 use Rattle.hep_source.specs.declared.event.Kind.TheVariants.{Overflow, Divide, Undefined}
 use Rattle.hep_source.specs.declared.event.Fault.{Fault}
 use Rattle.hep_source.specs.declared.name.Name.{Name}
 use Rattle.hep_source.specs.declared.name.Place.{Place}
 use Rattle.hep_source.specs.declared.operator.Sign.TheVariants as sign
-use Rattle.hep_source.specs.declared.operator.Operator.{Operator}
-use Rattle.hep_source.specs.declared.operator.Operator.TheVariants as operator
+use Rattle.hep_source.specs.declared.operator.ArithmeticOperator.TheVariants as operator
+use Rattle.hep_source.specs.declared.operator.Operator.TheVariants.{Arithmetic}
+use Rattle.hep_source.specs.declared.declaration.Target.{Target}
 use Rattle.hep_source.specs.declared.record.Item.{Item}
 use Rattle.hep_source.specs.declared.record.Item.TheVariants.{Int, Truth, Text}
 use Rattle.hep_source.specs.declared.value.Value.TheVariants as value
 use Rattle.hep_source.specs.declared.statement.PrintItem.TheVariants.{Expression, Characters}
 use Rattle.hep_source.specs.declared.statement.Form.{Form}
-use Rattle.hep_source.specs.declared.statement.Form.TheVariants.{Program, Assign, Print, End}
+use Rattle.hep_source.specs.declared.statement.Form.TheVariants.{Assign, Print, End}
 use Rattle.hep_source.specs.declared.statement.Statement.{Statement}
 use Rattle.hep_source.specs.Tree.{Tree, constant, place, parenthesized, signed, binary}
 use Rattle.hep_source.specs.Names.{variables_of, first_untyped}
@@ -30,11 +31,14 @@ letter c = record { asynchronous = false; letters = c ∷ 32 ∷ 32 ∷ 32 ∷ 3
 at : ℕ → ℕ → Place
 at c position = record { name = letter c; position = position }
 
+scalar : ℕ → ℕ → Target
+scalar c position = record { place = at c position; subscripts = [] }
+
 number : ℕ → Tree
 number n = constant (value.Int (pos n))
 
 statement : ℕ → Form → Statement
-statement line form = record { line = line; label = None; form = form }
+statement line form = record { line = line; label = None; conditions = []; form = form }
 
 -- what a run leaves: its records, its faults, and its processes
 left : State → List (List Item) × List Fault × List Process
@@ -44,7 +48,7 @@ left s = (s.records, s.faults, s.processes)
 
 sum_and_product : Units
 sum_and_product =
-    (statement 1 (Print (Characters (65 ∷ 61 ∷ []) ∷ Expression (binary operator.Add (number 1) (binary operator.Multiply (number 2) (number 3))) ∷ Expression (constant (value.Truth true)) ∷ [])) ∷ statement 2 End ∷ []) ∷ []
+    (statement 1 (Print (Characters (65 ∷ 61 ∷ []) ∷ Expression (binary (Arithmetic operator.Add) (number 1) (binary (Arithmetic operator.Multiply) (number 2) (number 3))) ∷ Expression (constant (value.Truth true)) ∷ [])) ∷ statement 2 End ∷ []) ∷ []
 
 four_steps : left (run sum_and_product (1 ∷ 1 ∷ 1 ∷ 1 ∷ [])) ≡ ((Text (65 ∷ 61 ∷ []) ∷ Int (pos 7) ∷ Truth true ∷ []) ∷ [], [], [] ∷ [])
 unfolding left sum_and_product statement number run run_from opening step
@@ -58,21 +62,21 @@ no_fifth_step = refl
 
 undefined : Units
 undefined =
-    (statement 1 (Assign (at 73 0) (number 3)) ∷ statement 2 (Print (Expression (binary operator.Subtract (binary operator.Multiply (place (at 73 7)) (place (at 73 9))) (number 1)) ∷ [])) ∷ statement 3 (Print (Expression (place (at 74 7)) ∷ [])) ∷ statement 4 End ∷ []) ∷ []
+    (statement 1 (Assign (scalar 73 0) (number 3)) ∷ statement 2 (Print (Expression (binary (Arithmetic operator.Subtract) (binary (Arithmetic operator.Multiply) (place (at 73 7)) (place (at 73 9))) (number 1)) ∷ [])) ∷ statement 3 (Print (Expression (place (at 74 7)) ∷ [])) ∷ statement 4 End ∷ []) ∷ []
 
 seven_steps : left (run undefined (replicate 7 1)) ≡ ((Int (pos 8) ∷ []) ∷ [], record { process = 1; unit = 0; line = 3; kind = Undefined } ∷ [], [] ∷ [])
-unfolding left undefined statement number at letter run run_from opening step
+unfolding left undefined statement number scalar at letter run run_from opening step
 seven_steps = refl
 
 three_cells : used_cells undefined ≡ 3
-unfolding undefined statement number at letter
+unfolding undefined statement number scalar at letter
 three_cells = refl
 
 -- ---- PRINT *,(-7)/2,2**(-3),-2**2 and END
 
 quotients : Units
 quotients =
-    (statement 1 (Print (Expression (binary operator.Divide (parenthesized (signed sign.Minus (number 7))) (number 2)) ∷ Expression (binary operator.Power (number 2) (parenthesized (signed sign.Minus (number 3)))) ∷ Expression (signed sign.Minus (binary operator.Power (number 2) (number 2))) ∷ [])) ∷ statement 2 End ∷ []) ∷ []
+    (statement 1 (Print (Expression (binary (Arithmetic operator.Divide) (parenthesized (signed sign.Minus (number 7))) (number 2)) ∷ Expression (binary (Arithmetic operator.Power) (number 2) (parenthesized (signed sign.Minus (number 3)))) ∷ Expression (signed sign.Minus (binary (Arithmetic operator.Power) (number 2) (number 2))) ∷ [])) ∷ statement 2 End ∷ []) ∷ []
 
 toward_zero : left (run quotients (replicate 8 1)) ≡ ((Int (negsuc 2) ∷ Int (pos 0) ∷ Int (negsuc 3) ∷ []) ∷ [], [], [] ∷ [])
 unfolding left quotients statement number run run_from opening step
@@ -88,24 +92,24 @@ greatest = number (2 ^ 63 - 1)
 
 -- the least integer, as the program can write it: -9223372036854775807-1
 least : Tree
-least = binary operator.Subtract (signed sign.Minus greatest) (number 1)
+least = binary (Arithmetic operator.Subtract) (signed sign.Minus greatest) (number 1)
 
 overflow : List (List Item) × List Fault × List Process
 overflow = ([], record { process = 1; unit = 0; line = 1; kind = Overflow } ∷ [], [] ∷ [])
 
-sum_overflows : left (run (one_value (binary operator.Add greatest (number 1))) (1 ∷ [])) ≡ overflow
+sum_overflows : left (run (one_value (binary (Arithmetic operator.Add) greatest (number 1))) (1 ∷ [])) ≡ overflow
 unfolding overflow left one_value greatest statement number run run_from opening step
 sum_overflows = refl
 
-difference_overflows : left (run (one_value (binary operator.Subtract least (number 1))) (1 ∷ 1 ∷ 1 ∷ [])) ≡ overflow
+difference_overflows : left (run (one_value (binary (Arithmetic operator.Subtract) least (number 1))) (1 ∷ 1 ∷ 1 ∷ [])) ≡ overflow
 unfolding overflow left one_value least greatest statement number run run_from opening step
 difference_overflows = refl
 
-product_overflows : left (run (one_value (binary operator.Multiply greatest (number 2))) (1 ∷ [])) ≡ overflow
+product_overflows : left (run (one_value (binary (Arithmetic operator.Multiply) greatest (number 2))) (1 ∷ [])) ≡ overflow
 unfolding overflow left one_value greatest statement number run run_from opening step
 product_overflows = refl
 
-quotient_overflows : left (run (one_value (binary operator.Divide (parenthesized least) (parenthesized (signed sign.Minus (number 1))))) (1 ∷ 1 ∷ 1 ∷ 1 ∷ [])) ≡ overflow
+quotient_overflows : left (run (one_value (binary (Arithmetic operator.Divide) (parenthesized least) (parenthesized (signed sign.Minus (number 1))))) (1 ∷ 1 ∷ 1 ∷ 1 ∷ [])) ≡ overflow
 unfolding overflow left one_value least greatest statement number run run_from opening step
 quotient_overflows = refl
 
@@ -113,24 +117,24 @@ negative_overflows : left (run (one_value (signed sign.Minus (parenthesized leas
 unfolding overflow left one_value least greatest statement number run run_from opening step
 negative_overflows = refl
 
-power_overflows : left (run (one_value (binary operator.Power (number 2) (number 63))) (1 ∷ [])) ≡ overflow
+power_overflows : left (run (one_value (binary (Arithmetic operator.Power) (number 2) (number 63))) (1 ∷ [])) ≡ overflow
 unfolding overflow left one_value statement number run run_from opening step
 power_overflows = refl
 
-least_by_power : left (run (one_value (binary operator.Power (parenthesized (signed sign.Minus (number 2))) (number 63))) (replicate 4 1)) ≡ ((Int (negsuc (2 ^ 63 - 1)) ∷ []) ∷ [], [], [] ∷ [])
+least_by_power : left (run (one_value (binary (Arithmetic operator.Power) (parenthesized (signed sign.Minus (number 2))) (number 63))) (replicate 4 1)) ≡ ((Int (negsuc (2 ^ 63 - 1)) ∷ []) ∷ [], [], [] ∷ [])
 unfolding left one_value statement number run run_from opening step
 least_by_power = refl
 
-zero_divided : left (run (one_value (binary operator.Power (number 0) (parenthesized (signed sign.Minus (number 1))))) (1 ∷ 1 ∷ [])) ≡ ([], record { process = 1; unit = 0; line = 1; kind = Divide } ∷ [], [] ∷ [])
+zero_divided : left (run (one_value (binary (Arithmetic operator.Power) (number 0) (parenthesized (signed sign.Minus (number 1))))) (1 ∷ 1 ∷ [])) ≡ ([], record { process = 1; unit = 0; line = 1; kind = Divide } ∷ [], [] ∷ [])
 unfolding left one_value statement number run run_from opening step
 zero_divided = refl
 
 -- ---- names
 
-first_appearance : variables_of (statement 1 (Assign (at 74 0) (place (at 73 2))) ∷ statement 2 (Assign (at 73 0) (place (at 74 2))) ∷ []) ≡ letter 74 ∷ letter 73 ∷ []
-unfolding statement at letter
+first_appearance : variables_of (statement 1 (Assign (scalar 74 0) (place (at 73 2))) ∷ statement 2 (Assign (scalar 73 0) (place (at 74 2))) ∷ []) ≡ letter 74 ∷ letter 73 ∷ []
+unfolding statement scalar at letter
 first_appearance = refl
 
-left_side_first : first_untyped (statement 5 (Assign (at 65 0) (place (at 66 2))) ∷ []) ≡ Some (5, letter 65)
-unfolding statement at letter
+left_side_first : first_untyped (statement 5 (Assign (scalar 65 0) (place (at 66 2))) ∷ []) ≡ Some (5, letter 65)
+unfolding statement scalar at letter
 left_side_first = refl

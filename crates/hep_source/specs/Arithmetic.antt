@@ -1,12 +1,12 @@
 -- Integer arithmetic, in exact whole numbers: X3.9-1978, 6.1 and 6.6.
-use Rattle.std.specs.Prelude.{ℕ, zero, suc, ◌^◌, ◌%◌, ◌==◌, ℤ, pos, negsuc, ◌+ℤ◌, ◌-ℤ◌, ◌*ℤ◌, int_div, Bool, nat_lt, if◌then◌else◌, Result, Ok, Err}
+use Rattle.std.specs.Prelude.{ℕ, zero, suc, ◌^◌, ℤ, pos, negsuc, ◌+ℤ◌, ◌-ℤ◌, ◌*ℤ◌, int_div, Bool, nat_lt, if◌then◌else◌, Result, Ok, Err}
 use Rattle.std.specs.Int.{int_pow}
 use Rattle.hep_source.specs.declared.event.Kind.{Kind}
 use Rattle.hep_source.specs.declared.event.Kind.TheVariants.{Overflow, Divide}
 use Rattle.hep_source.specs.declared.operator.Sign.{Sign}
 use Rattle.hep_source.specs.declared.operator.Sign.TheVariants.{Plus, Minus}
-use Rattle.hep_source.specs.declared.operator.Operator as operators
-use Rattle.hep_source.specs.declared.operator.Operator.TheVariants.{Add, Subtract, Multiply, Divide as Quotient, Power}
+use Rattle.hep_source.specs.declared.operator.ArithmeticOperator.{ArithmeticOperator}
+use Rattle.hep_source.specs.declared.operator.ArithmeticOperator.TheVariants.{Add, Subtract, Multiply, Divide as Quotient, Power}
 
 -- an integer is from -9223372036854775808 to 9223372036854775807
 abbrev pub is_integer : ℤ → Bool
@@ -35,8 +35,8 @@ abbrev pub power_of : ℤ → ℤ → Result ℤ Kind
 power_of x (pos n) = fitted (int_pow x n)
 power_of x (negsuc n) = reciprocal_of x (suc n)
 
--- the result of an operator on two integers
-abbrev pub result_of : operators.Operator → ℤ → ℤ → Result ℤ Kind
+-- the result of an arithmetic operator on two integers
+abbrev pub result_of : ArithmeticOperator → ℤ → ℤ → Result ℤ Kind
 result_of Add x y = fitted (x +ℤ y)
 result_of Subtract x y = fitted (x -ℤ y)
 result_of Multiply x y = fitted (x *ℤ y)

@@ -1,23 +1,24 @@
 -- What of a statement is evaluated next. A partly evaluated statement is the statement with values in the place of what was evaluated.
-use Rattle.std.specs.Prelude.{ℕ, ℤ, Bool, List, [], ◌∷◌}
-use Rattle.hep_source.specs.Tree.{Tree, constant, place, parenthesized, signed, binary}
+use Rattle.std.specs.Prelude.{false, List, [], ◌∷◌}
+use Rattle.hep_source.specs.Tree.{Tree, constant, place, listed, parenthesized, signed, negated, binary}
 use Rattle.hep_source.specs.declared.name.Place.{Place}
 use Rattle.hep_source.specs.declared.value.Value.{Value}
 use Rattle.hep_source.specs.declared.value.Value.TheVariants as value
 use Rattle.hep_source.specs.declared.operator.Sign.{Sign}
-use Rattle.hep_source.specs.declared.operator.Operator.{Operator}
+use Rattle.hep_source.specs.declared.operator.ArithmeticOperator.{ArithmeticOperator}
+use Rattle.hep_source.specs.declared.operator.Operator.TheVariants.{Arithmetic, Relational, Logical}
 use Rattle.hep_source.specs.declared.record.Item.{Item}
 use Rattle.hep_source.specs.declared.record.Item.TheVariants as item
 use Rattle.hep_source.specs.declared.statement.PrintItem.{PrintItem}
 use Rattle.hep_source.specs.declared.statement.PrintItem.TheVariants.{Expression, Characters}
 use Rattle.hep_source.specs.declared.statement.Form.{Form}
-use Rattle.hep_source.specs.declared.statement.Form.TheVariants.{Program, Assign, Print, End}
+use Rattle.hep_source.specs.declared.statement.Form.TheVariants.{Assign, Print}
 
 -- a redex: a part whose operands are values
 pub data Redex : Type 0 where
   reading : (p : Place) → Redex
   signing : (s : Sign) (v : Value) → Redex
-  combining : (o : Operator) (v w : Value) → Redex
+  combining : (o : ArithmeticOperator) (v w : Value) → Redex
 
 -- what a part is so far: a whole, or one that has a first redex
 pub data Part (A : Type 0) : Type 0 where
@@ -30,25 +31,33 @@ abbrev pub signed_part : Sign → Part Value → Part Value
 signed_part s (whole v) = hole (signing s v)
 signed_part s (hole r) = hole r
 
-abbrev pub binary_part : Operator → Part Value → Part Value → Part Value
+abbrev pub binary_part : ArithmeticOperator → Part Value → Part Value → Part Value
 binary_part o (hole r) q = hole r
 binary_part o (whole v) (hole r) = hole r
 binary_part o (whole v) (whole w) = hole (combining o v w)
+
+-- what stands for an expression of a statement that no core runs yet (docs/MACHINE.md)
+abbrev pub unreached : Value
+unreached = value.Truth false
 
 abbrev pub part_of : Tree → Part Value
 part_of (constant v) = whole v
 part_of (place p) = hole (reading p)
 part_of (parenthesized t) = part_of t
 part_of (signed s t) = signed_part s (part_of t)
-part_of (binary o a b) = binary_part o (part_of a) (part_of b)
+part_of (binary (Arithmetic o) a b) = binary_part o (part_of a) (part_of b)
+part_of (binary (Relational o) a b) = whole unreached
+part_of (binary (Logical o) a b) = whole unreached
+part_of (listed p ts) = whole unreached
+part_of (negated t) = whole unreached
 
 abbrev pub plug_signed : Sign → Part Value → Tree → Value → Tree
 plug_signed s (whole x) t v = constant v
 plug_signed s (hole r) t v = signed s t
 
-abbrev pub plug_binary : Operator → Part Value → Part Value → Tree → Tree → Tree → Tree → Value → Tree
-plug_binary o (hole r) q a b a' b' v = binary o a' b
-plug_binary o (whole x) (hole r) a b a' b' v = binary o a b'
+abbrev pub plug_binary : ArithmeticOperator → Part Value → Part Value → Tree → Tree → Tree → Tree → Value → Tree
+plug_binary o (hole r) q a b a' b' v = binary (Arithmetic o) a' b
+plug_binary o (whole x) (hole r) a b a' b' v = binary (Arithmetic o) a b'
 plug_binary o (whole x) (whole y) a b a' b' v = constant v
 
 -- the expression with a value in the place of its first redex
@@ -57,7 +66,11 @@ plug (constant x) v = constant x
 plug (place p) v = constant v
 plug (parenthesized t) v = parenthesized (plug t v)
 plug (signed s t) v = plug_signed s (part_of t) (plug t v) v
-plug (binary o a b) v = plug_binary o (part_of a) (part_of b) a b (plug a v) (plug b v) v
+plug (binary (Arithmetic o) a b) v = plug_binary o (part_of a) (part_of b) a b (plug a v) (plug b v) v
+plug (binary (Relational o) a b) v = binary (Relational o) a b
+plug (binary (Logical o) a b) v = binary (Logical o) a b
+plug (listed p ts) v = listed p ts
+plug (negated t) v = negated t
 
 -- ---- items of a PRINT, from left to right
 
@@ -111,16 +124,14 @@ abbrev pub next_by : {A : Type 0} → (A → Action) → Part A → Next
 next_by f (whole x) = does (f x)
 next_by f (hole r) = wants r
 
--- no process is ever at a statement that isn't executable
+-- no process is ever at a statement that isn't executable, or that no core runs yet (docs/MACHINE.md)
 abbrev pub next_of : Form → Next
-next_of (Program x) = does leaving
-next_of (Assign p t) = next_by (assigning p) (part_of t)
+next_of (Assign x t) = next_by (assigning x.place) (part_of t)
 next_of (Print items) = next_by printing (items_part items)
-next_of End = does leaving
+next_of _ = does leaving
 
 -- the statement with a value in the place of its first redex
 abbrev pub plug_form : Form → Value → Form
-plug_form (Program x) v = Program x
-plug_form (Assign p t) v = Assign p (plug t v)
+plug_form (Assign x t) v = Assign x (plug t v)
 plug_form (Print items) v = Print (plug_items items v)
-plug_form End v = End
+plug_form f v = f

@@ -1,5 +1,5 @@
 -- Histories that a core may have.
-use Rattle.std.specs.Prelude.{◌≡◌, ◌≢◌, ◌⊎◌, ℕ, zero, suc, ◌≤◌, Bool, true, false, ◌==◌, List, [], ◌∷◌, length, Option, Some, None}
+use Rattle.std.specs.Prelude.{◌≡◌, ◌≢◌, ◌⊎◌, ℕ, zero, suc, ◌≤◌, Bool, true, false, ◌==◌, List, [], ◌∷◌, length, None}
 use Rattle.hep_source.specs.declared.event.Entry.{Entry}
 use Rattle.hep_source.specs.Units.{Units}
 use Rattle.hep_source.specs.State.{State, living}

@@ -1,11 +1,11 @@
 -- Names, and what a name means in a program unit.
-use Rattle.std.specs.Prelude.{ℕ, ◌+◌, Bool, true, false, ◌&&◌, nat_eq, nat_le, if◌then◌else◌, List, [], ◌∷◌, ◌++◌, length, Option, Some, None, get_or}
-use Rattle.hep_source.specs.Tree.{Tree, constant, place, parenthesized, signed, binary}
+use Rattle.std.specs.Prelude.{ℕ, Bool, true, false, ◌&&◌, nat_eq, nat_le, if◌then◌else◌, List, [], ◌∷◌, ◌++◌, Option, Some, None, get_or}
+use Rattle.hep_source.specs.Tree.{Tree, Trees, constant, place, listed, parenthesized, signed, negated, binary, no_trees, trees}
 use Rattle.hep_source.specs.declared.name.Name.{Name}
 use Rattle.hep_source.specs.declared.statement.PrintItem.{PrintItem}
 use Rattle.hep_source.specs.declared.statement.PrintItem.TheVariants.{Expression, Characters}
 use Rattle.hep_source.specs.declared.statement.Form.{Form}
-use Rattle.hep_source.specs.declared.statement.Form.TheVariants.{Program, Assign, Print, End}
+use Rattle.hep_source.specs.declared.statement.Form.TheVariants.{Assign, Print}
 use Rattle.hep_source.specs.declared.statement.Statement.{Statement}
 
 -- ---- names
@@ -42,25 +42,31 @@ is_integer_by_letter x = nat_le 73 (get_or x.letters 0 0) && nat_le (get_or x.le
 
 -- ---- the variables of a unit
 
--- the variables of an expression, in the order of the text
-abbrev pub names_in : Tree → List Name
-names_in (constant v) = []
-names_in (place p) = p.name ∷ []
-names_in (parenthesized t) = names_in t
-names_in (signed s t) = names_in t
-names_in (binary o a b) = names_in a ++ names_in b
+abbrev mutual
+  -- the names of an expression, in the order of the text
+  pub names_in : Tree → List Name
+  names_in (constant v) = []
+  names_in (place p) = p.name ∷ []
+  names_in (listed p ts) = p.name ∷ names_in_all ts
+  names_in (parenthesized t) = names_in t
+  names_in (signed s t) = names_in t
+  names_in (negated t) = names_in t
+  names_in (binary o a b) = names_in a ++ names_in b
+
+  pub names_in_all : Trees → List Name
+  names_in_all no_trees = []
+  names_in_all (trees t ts) = names_in t ++ names_in_all ts
 
 abbrev pub names_in_items : List PrintItem → List Name
 names_in_items [] = []
 names_in_items (Expression t ∷ items) = names_in t ++ names_in_items items
 names_in_items (Characters cs ∷ items) = names_in_items items
 
--- the variables of a statement, in the order of the text
+-- the variables of a statement, in the order of the text; statements that no core runs yet have none
 abbrev pub names_in_form : Form → List Name
-names_in_form (Program x) = []
-names_in_form (Assign p t) = p.name ∷ names_in t
+names_in_form (Assign x t) = x.place.name ∷ names_in t
 names_in_form (Print items) = names_in_items items
-names_in_form End = []
+names_in_form _ = []
 
 abbrev pub is_among : Name → List Name → Bool
 is_among x [] = false

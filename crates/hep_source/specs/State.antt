@@ -1,11 +1,11 @@
 -- Activations, processes, and the state of the machine: docs/MACHINE.md.
-use Rattle.std.specs.Prelude.{ℕ, zero, suc, ◌+◌, ◌-◌, Bool, List, [], ◌∷◌, Option, Some, None, slice_get, slice_set}
+use Rattle.std.specs.Prelude.{ℕ, zero, suc, ◌-◌, Bool, List, [], ◌∷◌, Option, Some, None, slice_get, slice_set}
 use Rattle.hep_source.specs.declared.event.Fault.{Fault}
 use Rattle.hep_source.specs.declared.record.Item.{Item}
 use Rattle.hep_source.specs.declared.statement.Form.{Form}
 use Rattle.hep_source.specs.declared.statement.Statement.{Statement}
 use Rattle.hep_source.specs.Storage.{Store}
-use Rattle.hep_source.specs.Units.{Units, unit_at, form_at, executable_from}
+use Rattle.hep_source.specs.Units.{form_at, executable_from}
 
 -- an activation of a unit, and the activation that made it, none for that of the main program
 pub record Activation : Type 0 where

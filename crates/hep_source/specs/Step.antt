@@ -1,5 +1,5 @@
 -- One step of a process: docs/MACHINE.md.
-use Rattle.std.specs.Prelude.{ℕ, ◌+◌, ℤ, pos, Bool, if◌then◌else◌, List, [], ◌∷◌, ◌++◌, Option, Some, None, Result, Ok, Err}
+use Rattle.std.specs.Prelude.{ℕ, ◌+◌, ℤ, pos, if◌then◌else◌, [], ◌∷◌, ◌++◌, Option, Some, None, Result, Ok, Err}
 use Rattle.hep_source.specs.declared.event.Kind.{Kind}
 use Rattle.hep_source.specs.declared.event.Kind.TheVariants.{Undefined}
 use Rattle.hep_source.specs.declared.event.Fault.{Fault}
@@ -7,7 +7,7 @@ use Rattle.hep_source.specs.declared.value.Value.{Value}
 use Rattle.hep_source.specs.declared.value.Value.TheVariants.{Int, Truth}
 use Rattle.hep_source.specs.Arithmetic.{result_of, signed_result}
 use Rattle.hep_source.specs.Units.{Units, unit_at, line_at}
-use Rattle.hep_source.specs.Storage.{Location, local, Store, with_value}
+use Rattle.hep_source.specs.Storage.{local, Store, with_value}
 use Rattle.hep_source.specs.Evaluation.{Redex, reading, signing, combining, Action, assigning, printing, leaving, Next, wants, does, next_of, plug_form}
 use Rattle.hep_source.specs.State.{Level, Process, State, living, unit_of, level_at, with_numbered}
 

@@ -6,13 +6,18 @@ use base.Stored.{Gv, gnil, gnum, gcons, num}
 use denote.Struct.Codes.{itself}
 use Rattle.hep_source.specs.declared.value.Value.{Value}
 use Rattle.hep_source.specs.declared.value.Value.TheVariants.{Int, Truth}
-use Rattle.hep_source.specs.declared.name.Name.{Name}
 use Rattle.hep_source.specs.declared.name.Place.{Place}
 use Rattle.hep_source.specs.declared.operator.Sign.{Sign}
 use Rattle.hep_source.specs.declared.operator.Sign.TheVariants.{Plus, Minus}
+use Rattle.hep_source.specs.declared.operator.ArithmeticOperator.{ArithmeticOperator}
+use Rattle.hep_source.specs.declared.operator.ArithmeticOperator.TheVariants.{Add, Subtract, Multiply, Divide, Power}
+use Rattle.hep_source.specs.declared.operator.RelationalOperator.{RelationalOperator}
+use Rattle.hep_source.specs.declared.operator.RelationalOperator.TheVariants.{Less, LessOrEqual, Equal, NotEqual, Greater, GreaterOrEqual}
+use Rattle.hep_source.specs.declared.operator.LogicalOperator.{LogicalOperator}
+use Rattle.hep_source.specs.declared.operator.LogicalOperator.TheVariants.{And, Or, Equivalent, NotEquivalent}
 use Rattle.hep_source.specs.declared.operator.Operator.{Operator}
-use Rattle.hep_source.specs.declared.operator.Operator.TheVariants.{Add, Subtract, Multiply, Divide, Power}
-use Rattle.hep_source.specs.Tree.{Tree, constant, place, parenthesized, signed, binary}
+use Rattle.hep_source.specs.declared.operator.Operator.TheVariants.{Arithmetic, Relational, Logical}
+use Rattle.hep_source.specs.Tree.{Tree, Trees, constant, place, listed, parenthesized, signed, negated, binary, no_trees, trees}
 
 -- ---- pairs
 
@@ -116,50 +121,131 @@ sign_back-sign : (s : Sign) → sign_back (sign s) ≡ s
 sign_back-sign Plus = refl
 sign_back-sign Minus = refl
 
-abbrev operator : Operator → ℕ
-operator Add = 0
-operator Subtract = 1
-operator Multiply = 2
-operator Divide = 3
-operator Power = 4
+abbrev arithmetic : ArithmeticOperator → ℕ
+arithmetic Add = 0
+arithmetic Subtract = 1
+arithmetic Multiply = 2
+arithmetic Divide = 3
+arithmetic Power = 4
 
-abbrev operator_back : ℕ → Operator
-operator_back zero = Add
-operator_back (suc zero) = Subtract
-operator_back (suc (suc zero)) = Multiply
-operator_back (suc (suc (suc zero))) = Divide
-operator_back (suc (suc (suc (suc n)))) = Power
+abbrev arithmetic_back : ℕ → ArithmeticOperator
+arithmetic_back zero = Add
+arithmetic_back (suc zero) = Subtract
+arithmetic_back (suc (suc zero)) = Multiply
+arithmetic_back (suc (suc (suc zero))) = Divide
+arithmetic_back (suc (suc (suc (suc n)))) = Power
+
+arithmetic_back-arithmetic : (o : ArithmeticOperator) → arithmetic_back (arithmetic o) ≡ o
+arithmetic_back-arithmetic Add = refl
+arithmetic_back-arithmetic Subtract = refl
+arithmetic_back-arithmetic Multiply = refl
+arithmetic_back-arithmetic Divide = refl
+arithmetic_back-arithmetic Power = refl
+
+abbrev relational : RelationalOperator → ℕ
+relational Less = 0
+relational LessOrEqual = 1
+relational Equal = 2
+relational NotEqual = 3
+relational Greater = 4
+relational GreaterOrEqual = 5
+
+abbrev relational_back : ℕ → RelationalOperator
+relational_back zero = Less
+relational_back (suc zero) = LessOrEqual
+relational_back (suc (suc zero)) = Equal
+relational_back (suc (suc (suc zero))) = NotEqual
+relational_back (suc (suc (suc (suc zero)))) = Greater
+relational_back (suc (suc (suc (suc (suc n))))) = GreaterOrEqual
+
+relational_back-relational : (o : RelationalOperator) → relational_back (relational o) ≡ o
+relational_back-relational Less = refl
+relational_back-relational LessOrEqual = refl
+relational_back-relational Equal = refl
+relational_back-relational NotEqual = refl
+relational_back-relational Greater = refl
+relational_back-relational GreaterOrEqual = refl
+
+abbrev logical : LogicalOperator → ℕ
+logical And = 0
+logical Or = 1
+logical Equivalent = 2
+logical NotEquivalent = 3
+
+abbrev logical_back : ℕ → LogicalOperator
+logical_back zero = And
+logical_back (suc zero) = Or
+logical_back (suc (suc zero)) = Equivalent
+logical_back (suc (suc (suc n))) = NotEquivalent
+
+logical_back-logical : (o : LogicalOperator) → logical_back (logical o) ≡ o
+logical_back-logical And = refl
+logical_back-logical Or = refl
+logical_back-logical Equivalent = refl
+logical_back-logical NotEquivalent = refl
+
+abbrev operator : Operator → Gv
+operator (Arithmetic o) = gcons (gnum 0) (gnum (arithmetic o))
+operator (Relational o) = gcons (gnum 1) (gnum (relational o))
+operator (Logical o) = gcons (gnum 2) (gnum (logical o))
+
+abbrev operator_of_kind : ℕ → ℕ → Operator
+operator_of_kind zero n = Arithmetic (arithmetic_back n)
+operator_of_kind (suc zero) n = Relational (relational_back n)
+operator_of_kind (suc (suc k)) n = Logical (logical_back n)
+
+abbrev operator_back : Gv → Operator
+operator_back g = operator_of_kind (num (first g)) (num (second g))
 
 operator_back-operator : (o : Operator) → operator_back (operator o) ≡ o
-operator_back-operator Add = refl
-operator_back-operator Subtract = refl
-operator_back-operator Multiply = refl
-operator_back-operator Divide = refl
-operator_back-operator Power = refl
+operator_back-operator (Arithmetic o) = ap Arithmetic (arithmetic_back-arithmetic o)
+operator_back-operator (Relational o) = ap Relational (relational_back-relational o)
+operator_back-operator (Logical o) = ap Logical (logical_back-logical o)
 
 -- ---- trees
 
-abbrev code : Tree → Gv
-code (constant v) = gcons (gnum 0) (value v)
-code (place p) = gcons (gnum 1) (place_code p)
-code (parenthesized t) = gcons (gnum 2) (code t)
-code (signed s t) = gcons (gnum 3) (gcons (gnum (sign s)) (code t))
-code (binary o a b) = gcons (gnum 4) (gcons (gnum (operator o)) (gcons (code a) (code b)))
+abbrev mutual
+  code : Tree → Gv
+  code (constant v) = gcons (gnum 0) (value v)
+  code (place p) = gcons (gnum 1) (place_code p)
+  code (listed p ts) = gcons (gnum 2) (gcons (place_code p) (codes ts))
+  code (parenthesized t) = gcons (gnum 3) (code t)
+  code (signed s t) = gcons (gnum 4) (gcons (gnum (sign s)) (code t))
+  code (negated t) = gcons (gnum 5) (code t)
+  code (binary o a b) = gcons (gnum 6) (gcons (operator o) (gcons (code a) (code b)))
 
-abbrev back : Gv → Tree
-back (gcons (gnum zero) g) = constant (value_back g)
-back (gcons (gnum (suc zero)) g) = place (place_back g)
-back (gcons (gnum (suc (suc zero))) g) = parenthesized (back g)
-back (gcons (gnum (suc (suc (suc zero)))) (gcons s g)) = signed (sign_back (num s)) (back g)
-back (gcons (gnum (suc (suc (suc (suc n))))) (gcons o (gcons a b))) = binary (operator_back (num o)) (back a) (back b)
-back _ = constant (Truth false)
+  codes : Trees → Gv
+  codes no_trees = gnil
+  codes (trees t ts) = gcons (code t) (codes ts)
 
-pub back-code : (t : Tree) → back (code t) ≡ t
-back-code (constant v) = ap constant (value_back-value v)
-back-code (place p) = ap place (place_back-place_code p)
-back-code (parenthesized t) = ap parenthesized (back-code t)
-back-code (signed s t) = λ i. signed (sign_back-sign s i) (back-code t i)
-back-code (binary o a b) = λ i. binary (operator_back-operator o i) (back-code a i) (back-code b i)
+abbrev mutual
+  back : Gv → Tree
+  back (gcons (gnum zero) g) = constant (value_back g)
+  back (gcons (gnum (suc zero)) g) = place (place_back g)
+  back (gcons (gnum (suc (suc zero))) (gcons p g)) = listed (place_back p) (all_back g)
+  back (gcons (gnum (suc (suc (suc zero)))) g) = parenthesized (back g)
+  back (gcons (gnum (suc (suc (suc (suc zero))))) (gcons s g)) = signed (sign_back (num s)) (back g)
+  back (gcons (gnum (suc (suc (suc (suc (suc zero)))))) g) = negated (back g)
+  back (gcons (gnum (suc (suc (suc (suc (suc (suc n))))))) (gcons o (gcons a b))) = binary (operator_back o) (back a) (back b)
+  back _ = constant (Truth false)
+
+  all_back : Gv → Trees
+  all_back (gcons a b) = trees (back a) (all_back b)
+  all_back _ = no_trees
+
+mutual
+  pub back-code : (t : Tree) → back (code t) ≡ t
+  back-code (constant v) = ap constant (value_back-value v)
+  back-code (place p) = ap place (place_back-place_code p)
+  back-code (listed p ts) = λ i. listed (place_back-place_code p i) (all_back-codes ts i)
+  back-code (parenthesized t) = ap parenthesized (back-code t)
+  back-code (signed s t) = λ i. signed (sign_back-sign s i) (back-code t i)
+  back-code (negated t) = ap negated (back-code t)
+  back-code (binary o a b) = λ i. binary (operator_back-operator o i) (back-code a i) (back-code b i)
+
+  all_back-codes : (ts : Trees) → all_back (codes ts) ≡ ts
+  all_back-codes no_trees = refl
+  all_back-codes (trees t ts) = λ i. trees (back-code t i) (all_back-codes ts i)
 
 abbrev pub tree_code : Coded Tree
 tree_code = code_by Gv itself code back back-code

@@ -1,8 +1,7 @@
 -- The units of a program and their statements.
-use Rattle.std.specs.Prelude.{ℕ, zero, suc, ◌+◌, Bool, true, false, if◌then◌else◌, List, [], ◌∷◌, Option, Some, None, slice_get, drop}
-use Rattle.hep_source.specs.declared.name.Name.{Name}
+use Rattle.std.specs.Prelude.{ℕ, suc, ◌+◌, Bool, true, false, if◌then◌else◌, List, [], ◌∷◌, Option, Some, None, slice_get, drop}
 use Rattle.hep_source.specs.declared.statement.Form.{Form}
-use Rattle.hep_source.specs.declared.statement.Form.TheVariants.{Program, Assign, Print, End}
+use Rattle.hep_source.specs.declared.statement.Form.TheVariants.{Program, Subroutine, Implicit, Declare, Dimension, Common, Parameter, Data, End}
 use Rattle.hep_source.specs.declared.statement.Statement.{Statement}
 use Rattle.hep_source.specs.Names.{spelling}
 
@@ -18,21 +17,35 @@ or_empty (Some statements) = statements
 abbrev pub unit_at : Units → ℕ → List Statement
 unit_at program u = or_empty (slice_get program u)
 
--- the main program is the one unit that a program has today
+-- the main program is the one unit of a program that runs today
 abbrev pub main_unit : ℕ
 main_unit = 0
 
--- the name that a unit has, MAIN (77 65 73 78) for a main program without PROGRAM statement: X3.9-1978, 14.1
+-- MAIN, the name of a main program without PROGRAM statement: X3.9-1978, 14.1
+abbrev pub main_name : List ℕ
+main_name = 77 ∷ 65 ∷ 73 ∷ 78 ∷ []
+
+abbrev pub name_by_header : Form → List ℕ
+name_by_header (Program p) = spelling p.name
+name_by_header (Subroutine p dummies) = spelling p.name
+name_by_header _ = main_name
+
+-- the name that a unit has
 abbrev pub unit_name : List Statement → List ℕ
-unit_name [] = 77 ∷ 65 ∷ 73 ∷ 78 ∷ []
-unit_name (s ∷ ss) = elim s.form [ Program x ↦ spelling x | Assign p t ↦ 77 ∷ 65 ∷ 73 ∷ 78 ∷ [] | Print items ↦ 77 ∷ 65 ∷ 73 ∷ 78 ∷ [] | End ↦ 77 ∷ 65 ∷ 73 ∷ 78 ∷ [] ]
+unit_name [] = main_name
+unit_name (s ∷ ss) = name_by_header s.form
 
 -- executable statements: X3.9-1978, 7.1
 abbrev pub is_executable : Form → Bool
-is_executable (Program x) = false
-is_executable (Assign p t) = true
-is_executable (Print items) = true
-is_executable End = true
+is_executable (Program p) = false
+is_executable (Subroutine p dummies) = false
+is_executable (Implicit groups) = false
+is_executable (Declare t declarators) = false
+is_executable (Dimension declarators) = false
+is_executable (Common blocks) = false
+is_executable (Parameter constants) = false
+is_executable (Data groups) = false
+is_executable _ = true
 
 -- how many statements stand before the first executable one
 abbrev pub passed_over : List Statement → ℕ

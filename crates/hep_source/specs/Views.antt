@@ -1,13 +1,13 @@
 -- What of a state is compared.
-use Rattle.std.specs.Prelude.{ℕ, suc, ◌+◌, Bool, List, [], ◌∷◌, ◌++◌, Option, Some, None, map}
+use Rattle.std.specs.Prelude.{ℕ, suc, Bool, List, [], ◌∷◌, ◌++◌, Option, map}
 use Rattle.hep_source.specs.declared.event.Fault.{Fault}
 use Rattle.hep_source.specs.declared.name.Name.{Name}
 use Rattle.hep_source.specs.declared.record.Item.{Item}
 use Rattle.hep_source.specs.declared.value.Value.{Value}
 use Rattle.hep_source.specs.Names.{variables_of}
 use Rattle.hep_source.specs.Units.{Units, unit_at, line_at}
-use Rattle.hep_source.specs.Storage.{Store, Cell, local}
-use Rattle.hep_source.specs.State.{Activation, Level, Process, State, unit_of}
+use Rattle.hep_source.specs.Storage.{Store, local}
+use Rattle.hep_source.specs.State.{Activation, Process, State, unit_of}
 
 -- where a living process is: its number, the unit and the line of its top statement
 pub record Standing : Type 0 where

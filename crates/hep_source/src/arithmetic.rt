@@ -4,7 +4,7 @@ ghost use Rattle.std.specs.Int.{int_pow};
 ghost use Rattle.hep_source.specs.Arithmetic.{fitted, result_of, signed_result, power_of, reciprocal_of};
 
 use crate::event::Kind;
-use crate::operator::{Operator, Sign};
+use crate::operator::{ArithmeticOperator, Sign};
 
 /// The result of an operator on two integers (X3.9-1978, 6.1 and 6.6).
 ///
@@ -12,15 +12,15 @@ use crate::operator::{Operator, Sign};
 ///
 /// `Divide` for a zero divisor or a negative power of zero, `Overflow` where the exact result is
 /// no 64-bit integer.
-pub fn apply(operator: Operator, left: i64, right: i64) -> Result<i64, Kind>
+pub fn apply(operator: ArithmeticOperator, left: i64, right: i64) -> Result<i64, Kind>
     ensures { result ≡ result_of operator left right }
 {
     match operator {
-        Operator::Add => left.checked_add(right).ok_or(Kind::Overflow),
-        Operator::Subtract => left.checked_sub(right).ok_or(Kind::Overflow),
-        Operator::Multiply => left.checked_mul(right).ok_or(Kind::Overflow),
-        Operator::Divide => quotient(left, right),
-        Operator::Power => power(left, right),
+        ArithmeticOperator::Add => left.checked_add(right).ok_or(Kind::Overflow),
+        ArithmeticOperator::Subtract => left.checked_sub(right).ok_or(Kind::Overflow),
+        ArithmeticOperator::Multiply => left.checked_mul(right).ok_or(Kind::Overflow),
+        ArithmeticOperator::Divide => quotient(left, right),
+        ArithmeticOperator::Power => power(left, right),
     }
 }
 
@@ -40,7 +40,7 @@ pub fn apply_sign(sign: Sign, operand: i64) -> Result<i64, Kind>
 
 // The quotient without its fraction (6.1.5).
 fn quotient(left: i64, right: i64) -> Result<i64, Kind>
-    ensures { result ≡ result_of Operator.Divide left right }
+    ensures { result ≡ result_of ArithmeticOperator.Divide left right }
 {
     if right == 0 {
         return Err(Kind::Divide);

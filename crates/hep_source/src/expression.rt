@@ -1,9 +1,10 @@
 //! Expressions.
-ghost use Rattle.std.specs.Prelude.{◌≡◌, IfOk};
+ghost use Rattle.std.specs.Prelude.{◌≡◌, ◌↔◌, IfOk, IsTrue};
 ghost use Rattle.hep_source.specs.Tree as tree;
 
 use crate::name::Place;
 use crate::operator::{Operator, Sign};
+use crate::syntax::Syntax;
 use crate::value::Value;
 use std::alloc::{AllocError, Global};
 use std::marker::Model;
@@ -20,10 +21,14 @@ pub struct Expr {
 #[derive(Drop)]
 pub enum Node {
     Constant(Value),
-    /// A variable's name.
+    /// A name without a list.
     Place(Place),
+    /// A name with a list in parentheses: an array element or a function reference (5.4.1, 15.2).
+    Listed(Place, Vec<Expr>),
     Parenthesized(Box<Expr>),
     Signed(Sign, Box<Expr>),
+    /// `.NOT.` and its operand (6.4.1).
+    Negated(Box<Expr>),
     Binary(Operator, Box<Expr>, Box<Expr>),
 }
 
@@ -56,12 +61,21 @@ impl Expr {
         }
     }
 
-    /// A variable's name.
+    /// A name without a list.
     pub fn place(place: Place) -> Expr
         ensures { result ≡ tree.place place }
     {
         Expr {
             node: Node::Place(place),
+        }
+    }
+
+    /// A name with a list in parentheses.
+    pub fn listed(place: Place, arguments: Vec<Expr>) -> Expr
+        ensures { result ≡ tree.listed place (tree.trees_of arguments.items) }
+    {
+        Expr {
+            node: Node::Listed(place, arguments),
         }
     }
 
@@ -91,6 +105,19 @@ impl Expr {
         })
     }
 
+    /// An operand with `.NOT.` before it.
+    ///
+    /// # Errors
+    ///
+    /// Only where memory was refused.
+    pub fn negated(alloc: Global, operand: Expr) -> Result<Expr, AllocError>
+        ensures { IfOk result (λ e. e ≡ tree.negated operand) }
+    {
+        Ok(Expr {
+            node: Node::Negated(Box::new(alloc, operand)?),
+        })
+    }
+
     /// Two operands with an operator between them.
     ///
     /// # Errors
@@ -109,5 +136,83 @@ impl Expr {
         Ok(Expr {
             node: Node::Binary(operator, left, right),
         })
+    }
+
+    /// The same expression, in memory of its own.
+    ///
+    /// # Errors
+    ///
+    /// Only where memory was refused.
+    #[cycle(copy)]
+    pub fn copy(&self, alloc: Global) -> Result<Expr, AllocError>
+        ensures { IfOk result (λ e. e ≡ self.now) }
+    {
+        match &self.node {
+            Node::Constant(value) => Ok(Expr::constant(*value)),
+            Node::Place(place) => Ok(Expr::place(*place)),
+            Node::Listed(place, arguments) => {
+                Ok(Expr::listed(*place, copy_arguments(alloc, arguments)?))
+            }
+            Node::Parenthesized(inner) => Expr::parenthesized(alloc, inner.copy(alloc)?),
+            Node::Signed(sign, term) => Expr::signed(alloc, *sign, term.copy(alloc)?),
+            Node::Negated(operand) => Expr::negated(alloc, operand.copy(alloc)?),
+            Node::Binary(operator, left, right) => {
+                let left = left.copy(alloc)?;
+                let right = right.copy(alloc)?;
+                Expr::binary(alloc, *operator, left, right)
+            }
+        }
+    }
+
+    /// Whether two expressions are one tree.
+    #[cycle(same)]
+    pub fn same(&self, other: &Expr) -> bool
+        ensures { IsTrue result ↔ (self.now ≡ other.now) }
+    {
+        match (&self.node, &other.node) {
+            (Node::Constant(a), Node::Constant(b)) => a == b,
+            (Node::Place(a), Node::Place(b)) => a == b,
+            (Node::Listed(f, xs), Node::Listed(g, ys)) => f == g && same_arguments(xs, ys),
+            (Node::Parenthesized(a), Node::Parenthesized(b)) => a.same(b),
+            (Node::Signed(s, a), Node::Signed(t, b)) => s == t && a.same(b),
+            (Node::Negated(a), Node::Negated(b)) => a.same(b),
+            (Node::Binary(o, a, b), Node::Binary(p, c, d)) => o == p && a.same(c) && b.same(d),
+            _ => false,
+        }
+    }
+}
+
+// Copies of the arguments of a name with a list.
+#[cycle(copy)]
+#[tactic(auto, using(crate::proofs::Children::child_less))]
+fn copy_arguments(alloc: Global, arguments: &Vec<Expr>) -> Result<Vec<Expr>, AllocError>
+    ensures { IfOk result (λ copies. copies.items ≡ arguments.now.items) }
+{
+    let mut copies = Vec::new(alloc);
+    for argument in arguments {
+        copies.push(argument.copy(alloc)?)?;
+    }
+    Ok(copies)
+}
+
+// Whether two lists of arguments are the same.
+#[cycle(same)]
+fn same_arguments(a: &[Expr], b: &[Expr]) -> bool
+    ensures { IsTrue result ↔ (a.now ≡ b.now) }
+{
+    match (a, b) {
+        ([], []) => true,
+        ([x, xs @ ..], [y, ys @ ..]) => x.same(y) && same_arguments(xs, ys),
+        _ => false,
+    }
+}
+
+impl Syntax for Expr {
+    fn copy(&self, alloc: Global) -> Result<Expr, AllocError> {
+        Expr::copy(self, alloc)
+    }
+
+    fn same(&self, other: &Expr) -> bool {
+        Expr::same(self, other)
     }
 }

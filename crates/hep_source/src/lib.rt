@@ -4,22 +4,31 @@
 #![tactic(auto)]
 
 pub mod arithmetic;
+pub mod declaration;
 pub mod event;
 pub mod expression;
 pub mod name;
 pub mod operator;
 pub mod program;
 pub mod record;
+pub mod sequence;
 pub mod statement;
+pub mod syntax;
 pub mod text;
 pub mod value;
 
+pub use declaration::{
+    CommonBlock, DataConstant, DataGroup, DataValue, Declarator, Dimension, ImplicitGroup,
+    LetterRange, NamedConstant, Repeat, Target, UpperBound, ValueType,
+};
 pub use event::{Entry, Fault, Kind};
 pub use expression::{Expr, Node};
 pub use name::{Name, Place};
-pub use operator::{Operator, Sign};
+pub use operator::{ArithmeticOperator, LogicalOperator, Operator, RelationalOperator, Sign};
 pub use program::{Program, Unit};
 pub use record::{Item, Record};
-pub use statement::{Form, PrintItem, PrintList, Statement};
+pub use sequence::Sequence;
+pub use statement::{DoControl, Form, PrintItem, SignLabels, Statement};
+pub use syntax::Syntax;
 pub use text::Text;
 pub use value::Value;

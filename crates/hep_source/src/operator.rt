@@ -7,12 +7,40 @@ pub enum Sign {
     Minus,
 }
 
-/// An operator between two operands (X3.9-1978, 6.1.1).
+/// An operator between two integers that gives an integer (X3.9-1978, 6.1.1).
 #[derive(Clone, Copy, Debug, PartialEq, Eq)]
-pub enum Operator {
+pub enum ArithmeticOperator {
     Add,
     Subtract,
     Multiply,
     Divide,
     Power,
+}
+
+/// An operator between two integers that gives a logical value (6.3.1).
+#[derive(Clone, Copy, Debug, PartialEq, Eq)]
+pub enum RelationalOperator {
+    Less,
+    LessOrEqual,
+    Equal,
+    NotEqual,
+    Greater,
+    GreaterOrEqual,
+}
+
+/// An operator between two logical values that gives one (6.4.1).
+#[derive(Clone, Copy, Debug, PartialEq, Eq)]
+pub enum LogicalOperator {
+    And,
+    Or,
+    Equivalent,
+    NotEquivalent,
+}
+
+/// An operator between two operands.
+#[derive(Clone, Copy, Debug, PartialEq, Eq)]
+pub enum Operator {
+    Arithmetic(ArithmeticOperator),
+    Relational(RelationalOperator),
+    Logical(LogicalOperator),
 }

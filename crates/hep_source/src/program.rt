@@ -1,7 +1,9 @@
 //! Program units and programs.
-ghost use Rattle.std.specs.Prelude.{◌≡◌};
+ghost use Rattle.std.specs.Prelude.{◌≡◌, ◌↔◌, IfOk, IsTrue};
 
 use crate::statement::Statement;
+use crate::syntax::{Syntax, copy_all, same_all};
+use std::alloc::{AllocError, Global};
 use std::marker::Model;
 
 /// A program unit (X3.9-1978, 2.4): its statements from the header, where it has one, to END.
@@ -88,5 +90,33 @@ impl Program {
         ensures { result.items ≡ self }
     {
         self.units
+    }
+
+    /// The same program, in memory of its own.
+    ///
+    /// # Errors
+    ///
+    /// Only where memory was refused.
+    pub fn copy(&self, alloc: Global) -> Result<Program, AllocError>
+        ensures { IfOk result (λ program. program ≡ self.now) }
+    {
+        Ok(Program::from(copy_all(alloc, &self.units)?))
+    }
+
+    /// Whether two programs are one.
+    pub fn same(&self, other: &Program) -> bool
+        ensures { IsTrue result ↔ (self.now ≡ other.now) }
+    {
+        same_all(&self.units, &other.units)
+    }
+}
+
+impl Syntax for Unit {
+    fn copy(&self, alloc: Global) -> Result<Unit, AllocError> {
+        Ok(Unit::from(copy_all(alloc, &self.statements)?))
+    }
+
+    fn same(&self, other: &Unit) -> bool {
+        same_all(&self.statements, &other.statements)
     }
 }

@@ -1,29 +1,22 @@
 -- One line, and the lines behind it.
 use Rattle.std.proofs.Common.{◌≡◌, ℕ, ◌+◌, true, false, List, [], ◌∷◌, ◌++◌, Option, Some, None, Result, Ok, Err, refl, sym, ap, ◌∙◌, append_assoc, length, arith}
+use Rattle.std.specs.Prelude.{nat_lt}
 use Rattle.std.proofs.lemmas.List.{append-nil}
 use Rattle.hep_text.specs.declared.constant.Place.TheVariants.{Outside}
 use Rattle.hep_text.specs.declared.statement.Stmt.{Stmt}
 use Rattle.hep_text.specs.Constant.{Character}
-use Rattle.hep_text.specs.Line.{comment, initial, continuation, refused, kind, lines}
-use Rattle.hep_text.specs.Reading.{Refusal, refusal, ◌>>=◌, Joined, joined, begun, columns, statement, each_statement, is_too_large, statements_of}
-use Rattle.hep_text.specs.Progress.{Started, longer, over, last_of, finish, with_last}
+use Rattle.hep_text.specs.Line.{initial, continuation, kind, lines}
+use Rattle.hep_text.specs.Reading.{Refusal, refusal, ◌>>=◌, Joined, joined, by_kind, begun, continued, columns, statement, each_statement, is_too_large, statements_of}
+use Rattle.hep_text.specs.Progress.{Started, longer, over, last_of, finish, with_last, count_of}
 use Rattle.hep_text.proofs.Text.{longer_twice}
 
 -- a statement of which nothing was read yet
 abbrev pub fresh : ℕ → Option ℕ → Started
-fresh n label = record { line = n; label = label; text = []; spans = []; place = Outside }
+fresh n label = record { line = n; label = label; continued = 0; text = []; spans = []; place = Outside }
 
-pub on_comment : (done : Result (List Stmt) Refusal) (current : Option Started) (n : ℕ) (l : List ℕ) (ls : List (List ℕ)) → kind l ≡ comment → finish done current (joined n (l ∷ ls)) ≡ finish done current (joined (n + 1) ls)
-unfolding joined
-on_comment done current n l ls e = rw e refl
-
-pub on_continuation : (done : Result (List Stmt) Refusal) (current : Option Started) (n : ℕ) (l : List ℕ) (ls : List (List ℕ)) → kind l ≡ continuation → finish done current (joined n (l ∷ ls)) ≡ refusal 104 n
-unfolding joined
-on_continuation done current n l ls e = rw e refl
-
-pub on_refused : (done : Result (List Stmt) Refusal) (current : Option Started) (n k : ℕ) (l : List ℕ) (ls : List (List ℕ)) → kind l ≡ refused k → finish done current (joined n (l ∷ ls)) ≡ refusal k n
-unfolding joined
-on_refused done current n k l ls e = rw e refl
+-- the lines behind a line, by the count of continuation lines
+abbrev pub behind_of : ℕ → List (List ℕ) → Option ℕ → Joined
+behind_of n ls = λ (c : Option ℕ). joined (n + 1) c ls
 
 -- a list with one statement, where it isn't at fault
 abbrev alone : Result Stmt Refusal → Result (List Stmt) Refusal
@@ -54,26 +47,44 @@ started_with done current n label body (Ok r) =
     ap (λ (b : Result (List Stmt) Refusal). done >>= λ ss. last_of current [] >>= λ l. b >>= λ ts. Ok (ss ++ (l ++ ts))) (behind ∙ ap (λ (o : Result Stmt Refusal). alone o >>= λ s. each_statement r.1 >>= λ ts. Ok (s ++ ts)) (sym whole))
     ∙ moved done (last_of current []) (alone (over (longer (longer (fresh n label) body) r.0))) (each_statement r.1)
 
-on_initial : (done : Result (List Stmt) Refusal) (current : Option Started) (n : ℕ) (l : List ℕ) (ls : List (List ℕ)) (label : Option ℕ) (body : List ℕ) → kind l ≡ initial label body → finish done current (joined n (l ∷ ls)) ≡ finish (with_last done current) (Some (longer (fresh n label) (columns 66 n 7 body))) (joined (n + 1) ls)
-unfolding joined
-on_initial done current n l ls label body e = rw e (started_with done current n label (columns 66 n 7 body) (joined (n + 1) ls))
-
 -- an initial line: the statement before it is over, and its own is begun
-pub on_begun : (done over : Result (List Stmt) Refusal) (current : Option Started) (p q : Started) (n : ℕ) (l : List ℕ) (ls : List (List ℕ)) (label : Option ℕ) (body : List ℕ) → kind l ≡ initial label body → over ≡ with_last done current → p ≡ longer q (columns 66 n 7 body) → q ≡ fresh n label → finish done current (joined n (l ∷ ls)) ≡ finish over (Some p) (joined (n + 1) ls)
-on_begun done over current p q n l ls label body e f g h =
-    on_initial done current n l ls label body e
-    ∙ ap (λ (r : Started). finish (with_last done current) (Some (longer r (columns 66 n 7 body))) (joined (n + 1) ls)) (sym h)
-    ∙ ap (λ (r : Started). finish (with_last done current) (Some r) (joined (n + 1) ls)) (sym g)
-    ∙ ap (λ (o : Result (List Stmt) Refusal). finish o (Some p) (joined (n + 1) ls)) (sym f)
+pub on_initial : (done over : Result (List Stmt) Refusal) (current : Option Started) (p q : Started) (n : ℕ) (ls : List (List ℕ)) (label : Option ℕ) (body : List ℕ) → over ≡ with_last done current → p ≡ longer q (columns 66 n 7 body) → q ≡ fresh n label → finish done current (by_kind n (count_of current) (initial label body) (behind_of n ls)) ≡ finish over (Some p) (joined (n + 1) (count_of (Some p)) ls)
+on_initial done over current p q n ls label body f g h =
+    let xs = columns 66 n 7 body in
+    let read : p ≡ longer (fresh n label) xs = g ∙ ap (λ (r : Started). longer r xs) h in
+    started_with done current n label xs (joined (n + 1) (Some 0) ls)
+    ∙ ap (λ (r : Started). finish (with_last done current) (Some r) (joined (n + 1) (count_of (Some r)) ls)) (sym read)
+    ∙ ap (λ (o : Result (List Stmt) Refusal). finish o (Some p) (joined (n + 1) (count_of (Some p)) ls)) (sym f)
+
+-- a statement with one more continuation line
+abbrev pub counted : Started → Started
+counted p = record { line = p.line; label = p.label; continued = p.continued + 1; text = p.text; spans = p.spans; place = p.place }
+
+continued_with : (done : Result (List Stmt) Refusal) (p : Started) (body : List Character) (behind : Joined) → finish done (Some p) (continued body behind) ≡ finish done (Some (longer (counted p) body)) behind
+continued_with done p body (Err e) = refl
+continued_with done p body (Ok r) =
+    let whole : over (longer p (body ++ r.0)) ≡ over (longer (longer (counted p) body) r.0) = ap over (longer_twice (counted p) body r.0) in
+    ap (λ (o : Result Stmt Refusal). done >>= λ ss. (o >>= λ s. Ok (s ∷ [])) >>= λ last. each_statement r.1 >>= λ ts. Ok (ss ++ (last ++ ts))) whole
+
+-- a continuation line: the statement goes on with it
+pub on_continuation : (done : Result (List Stmt) Refusal) (current : Option Started) (p q r : Started) (n : ℕ) (ls : List (List ℕ)) (body : List ℕ) → current ≡ Some p → nat_lt p.continued 19 ≡ true → q ≡ counted p → r ≡ longer q (columns 66 n 7 body) → finish done current (by_kind n (count_of current) (continuation body) (behind_of n ls)) ≡ finish done (Some r) (joined (n + 1) (count_of (Some r)) ls)
+on_continuation done current p q r n ls body e few f g =
+    let xs = columns 66 n 7 body in
+    let read : r ≡ longer (counted p) xs = g ∙ ap (λ (s : Started). longer s xs) f in
+    let counted_up : by_kind n (count_of (Some p)) (continuation body) (behind_of n ls) ≡ continued xs (joined (n + 1) (Some (p.continued + 1)) ls) = rw few refl in
+    ap (λ (c : Option Started). finish done c (by_kind n (count_of c) (continuation body) (behind_of n ls))) e
+    ∙ ap (finish done (Some p)) counted_up
+    ∙ continued_with done p xs (joined (n + 1) (Some (p.continued + 1)) ls)
+    ∙ ap (λ (s : Started). finish done (Some s) (joined (n + 1) (count_of (Some s)) ls)) (sym read)
 
 nothing_behind : (done last : Result (List Stmt) Refusal) → (done >>= λ ss. last >>= λ l. Ok (ss ++ (l ++ []))) ≡ (done >>= λ ss. last >>= λ l. Ok (ss ++ l))
 nothing_behind (Err e) last = refl
 nothing_behind (Ok ss) (Err e) = refl
 nothing_behind (Ok ss) (Ok l) = ap (λ (w : List Stmt). Ok (ss ++ w)) (append-nil l)
 
-pub at_end : (done : Result (List Stmt) Refusal) (current : Option Started) (n : ℕ) → finish done current (joined n []) ≡ with_last done current
+pub at_end : (done : Result (List Stmt) Refusal) (current : Option Started) (n : ℕ) (c : Option ℕ) → finish done current (joined n c []) ≡ with_last done current
 unfolding joined
-at_end done current n = nothing_behind done (last_of current [])
+at_end done current n c = nothing_behind done (last_of current [])
 
 first_behind : (behind : Result (List Stmt) Refusal) → (behind >>= λ ts. Ok ([] ++ ([] ++ ts))) ≡ behind
 first_behind (Err e) = refl
@@ -86,7 +97,7 @@ at_start (Ok r) = first_behind (each_statement r.1)
 
 -- what the lines of a text come to, however many they are
 abbrev pub whole : List ℕ → Result (List Stmt) Refusal
-whole s = joined 1 (lines s) >>= λ r. each_statement r.1
+whole s = joined 1 None (lines s) >>= λ r. each_statement r.1
 
 pub too_large : (s : List ℕ) → is_too_large s ≡ true → statements_of s ≡ refusal 107 0
 unfolding statements_of
@@ -97,11 +108,12 @@ unfolding statements_of
 not_too_large s e = rw e refl
 
 -- with no line left, the statements that are over are those of the text
-pub all_lines : (done : Result (List Stmt) Refusal) (current : Option Started) (n : ℕ) (rest s : List ℕ) → is_too_large s ≡ false → length rest ≡ 0 → finish done current (joined n (lines rest)) ≡ whole s → statements_of s ≡ with_last done current
-all_lines done current n [] s small e so_far = not_too_large s small ∙ sym so_far ∙ at_end done current n
+pub all_lines : (done : Result (List Stmt) Refusal) (current : Option Started) (n : ℕ) (rest s : List ℕ) → is_too_large s ≡ false → length rest ≡ 0 → finish done current (joined n (count_of current) (lines rest)) ≡ whole s → statements_of s ≡ with_last done current
+all_lines done current n [] s small e so_far = not_too_large s small ∙ sym so_far ∙ at_end done current n (count_of current)
 all_lines done current n (c ∷ rest) s small e so_far = absurd (omega arith)
 
--- with lines left, the next of them is line n
-pub next_of : (done : Result (List Stmt) Refusal) (current : Option Started) (n : ℕ) (rest s l behind : List ℕ) → is_too_large s ≡ false → lines rest ≡ l ∷ lines behind → finish done current (joined n (lines rest)) ≡ whole s → statements_of s ≡ finish done current (joined n (l ∷ lines behind))
-next_of done current n rest s l behind small cut so_far =
-    not_too_large s small ∙ sym so_far ∙ ap (λ (ls : List (List ℕ)). finish done current (joined n ls)) cut
+-- with lines left, the next of them is line n, which is of its kind
+pub next_of : (done : Result (List Stmt) Refusal) (current : Option Started) (n : ℕ) (rest s l behind : List ℕ) → lines rest ≡ l ∷ lines behind → finish done current (joined n (count_of current) (lines rest)) ≡ whole s → finish done current (by_kind n (count_of current) (kind l) (behind_of n (lines behind))) ≡ whole s
+unfolding joined
+next_of done current n rest s l behind cut so_far =
+    ap (λ (ls : List (List ℕ)). finish done current (joined n (count_of current) ls)) (sym cut) ∙ so_far

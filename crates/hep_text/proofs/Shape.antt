@@ -12,7 +12,7 @@ use Rattle.hep_text.specs.declared.statement.Stmt.{Stmt}
 use Rattle.std.specs.declared.alloc.Global.{Global}
 use Rattle.hep_text.specs.Constant.{Character, is_over, text_from, place_behind}
 use Rattle.hep_text.specs.Line.{Kind, comment, initial, continuation, refused, kind, labelled, numbered, label, label_of, is_digit, is_comment, is_tab, is_printable, is_blank_or_digit, is_continuation_mark, lines}
-use Rattle.hep_text.specs.Reading.{Refusal, refusal, ◌>>=◌, Joined, Lined, joined, by_kind, begun, columns, statement, each_statement, is_too_large, statements_of}
+use Rattle.hep_text.specs.Reading.{Refusal, refusal, ◌>>=◌, Joined, Lined, joined, by_kind, begun, continued, columns, statement, each_statement, is_too_large, statements_of}
 use Rattle.hep_text.specs.Shape.{LabelFits, HasShape}
 use Rattle.hep_text.proofs.Labels.{limit}
 
@@ -106,17 +106,26 @@ begun_fits : (n : ℕ) (a : Option ℕ) (body : List Character) (behind : Joined
 begun_fits n a body (Err e) h f all = tt
 begun_fits n a body (Ok r) h f all = All-cons LinedFits _ r.1 (h, f) all
 
-by_kind_fits : (n : ℕ) (k : Kind) (behind : Joined) → (1 ≤ n) × (n ≤ 65535) → ((a : Option ℕ) (t : List ℕ) → k ≡ initial a t → LabelFits a) → AllFit behind → AllFit (by_kind n k behind)
-by_kind_fits n comment behind h f all = all
-by_kind_fits n (initial a body) behind h f all = begun_fits n a (columns 66 n 7 body) behind h (f a body refl) all
-by_kind_fits n continuation behind h f all = tt
-by_kind_fits n (refused k) behind h f all = tt
+continued_fits : (body : List Character) (behind : Joined) → AllFit behind → AllFit (continued body behind)
+continued_fits body (Err e) all = tt
+continued_fits body (Ok r) all = all
 
-joined_fits : (n : ℕ) (ls : List (List ℕ)) → 1 ≤ n → n + length ls ≤ 65536 → AllFit (joined n ls)
+counted_fits : (b : Bool) (n : ℕ) (body : List Character) (behind : Joined) → AllFit behind → AllFit (if b then continued body behind else refusal 104 n)
+counted_fits true n body behind all = continued_fits body behind all
+counted_fits false n body behind all = tt
+
+by_kind_fits : (n : ℕ) (c : Option ℕ) (k : Kind) (behind : Option ℕ → Joined) → (1 ≤ n) × (n ≤ 65535) → ((a : Option ℕ) (t : List ℕ) → k ≡ initial a t → LabelFits a) → ((d : Option ℕ) → AllFit (behind d)) → AllFit (by_kind n c k behind)
+by_kind_fits n c comment behind h f all = all c
+by_kind_fits n c (initial a body) behind h f all = begun_fits n a (columns 66 n 7 body) (behind (Some 0)) h (f a body refl) (all (Some 0))
+by_kind_fits n None (continuation body) behind h f all = tt
+by_kind_fits n (Some m) (continuation body) behind h f all = counted_fits (nat_lt m 19) n (columns 66 n 7 body) (behind (Some (m + 1))) (all (Some (m + 1)))
+by_kind_fits n c (refused k) behind h f all = tt
+
+joined_fits : (n : ℕ) (c : Option ℕ) (ls : List (List ℕ)) → 1 ≤ n → n + length ls ≤ 65536 → AllFit (joined n c ls)
 unfolding joined
-joined_fits n [] low high = All-nil LinedFits
-joined_fits n (l ∷ ls) low high =
-    by_kind_fits n (kind l) (joined (n + 1) ls) (low, omega arith) (initial_fits l) (joined_fits (n + 1) ls (omega arith) (omega arith))
+joined_fits n c [] low high = All-nil LinedFits
+joined_fits n c (l ∷ ls) low high =
+    by_kind_fits n c (kind l) (λ (d : Option ℕ). joined (n + 1) d ls) (low, omega arith) (initial_fits l) (λ d. joined_fits (n + 1) d ls (omega arith) (omega arith))
 
 -- The statements of a text
 
@@ -158,7 +167,7 @@ statements_fit false r h = h refl
 each_has_shape : (s : List ℕ) (ts : List Stmt) → statements_of s ≡ Ok ts → All HasShape ts
 unfolding statements_of
 each_has_shape s ts e =
-    all_fit (statements_of s) ts (statements_fit (is_too_large s) _ (λ few. whole_fits (joined 1 (lines s)) (joined_fits 1 (lines s) (omega arith) (omega (arith, few_lines (length s) (length (lines s)) few))))) e
+    all_fit (statements_of s) ts (statements_fit (is_too_large s) _ (λ few. whole_fits (joined 1 None (lines s)) (joined_fits 1 None (lines s) (omega arith) (omega (arith, few_lines (length s) (length (lines s)) few))))) e
 
 -- what was read of a text has the shape that the text's statements have
 pub shape_of : (r : Result (Vec Stmt Global) TextFault) (s : List ℕ) (read : Result (List Stmt) Refusal) → statements_of s ≡ read → IfOk r (λ v. read ≡ Ok v.items) → IfOk r (λ v. All HasShape v.items)

@@ -26,13 +26,13 @@ pub longer_one : (p : Started) (x : Character) (xs : List Character) → longer 
 longer_one p x xs =
     let t = bytes_share (share p.place x.byte) x.span p.text (text_from (next p.place x.byte) xs) in
     let s = spans_share (share p.place x.byte) x.span p.spans (text_from (next p.place x.byte) xs) in
-    λ i. record { line = p.line; label = p.label; text = t i; spans = s i; place = place_behind (next p.place x.byte) xs }
+    λ i. record { line = p.line; label = p.label; continued = p.continued; text = t i; spans = s i; place = place_behind (next p.place x.byte) xs }
 
 pub longer_none : (p : Started) → longer p [] ≡ p
 longer_none p =
     let t = append-nil p.text in
     let s = append-nil p.spans in
-    λ i. record { line = p.line; label = p.label; text = t i; spans = s i; place = p.place }
+    λ i. record { line = p.line; label = p.label; continued = p.continued; text = t i; spans = s i; place = p.place }
 
 pub longer_twice : (p : Started) (xs ys : List Character) → longer p (xs ++ ys) ≡ longer (longer p xs) ys
 longer_twice p [] ys = ap (λ (q : Started). longer q ys) (sym (longer_none p))

@@ -67,12 +67,12 @@ label field = label_of (filter is_digit field)
 pub data Kind : Type 0 where
   comment : Kind
   initial : (label : Option ℕ) (body : List ℕ) → Kind
-  continuation : Kind
+  continuation : (body : List ℕ) → Kind
   refused : (number : ℕ) → Kind
 
 -- a line with a label field of digits and blanks, by its label and its column 6
 abbrev pub numbered : Option ℕ → Bool → List ℕ → Kind
-numbered None true body = continuation
+numbered None true body = continuation body
 numbered None false body = initial None body
 numbered (Some n) true body = refused 103
 numbered (Some n) false body = if nat_eq n 0 then refused 103 else initial (Some n) body
@@ -95,5 +95,5 @@ kind l =
 abbrev pub kind_view : code.LineKind → Kind
 kind_view variants.Comment = comment
 kind_view (variants.Initial label body) = initial label body.now
-kind_view variants.Continuation = continuation
+kind_view (variants.Continuation body) = continuation body.now
 kind_view (variants.Refused number) = refused number

@@ -1,29 +1,33 @@
 -- What a reading comes to, with the lines that are left.
-use Rattle.std.specs.Prelude.{ℕ, if◌then◌else◌, List, [], ◌∷◌, ◌++◌, map, Option, Some, None, Result, Ok}
+use Rattle.std.specs.Prelude.{◌≡◌, ℕ, ◌+◌, if◌then◌else◌, List, [], ◌∷◌, ◌++◌, map, Option, Some, None, Result, Ok}
 use Rattle.hep_text.specs.declared.constant.Place.{Place}
 use Rattle.hep_text.specs.declared.statement.Stmt.{Stmt}
 use Rattle.hep_text.specs.declared.statement.Span.{Span}
 use Rattle.hep_text.specs.declared.reading.Pending.{Pending}
 use Rattle.hep_text.specs.declared.reading.Reading.{Reading}
+use Rattle.hep_text.specs.declared.fault.TextFault.{TextFault}
 use Rattle.hep_text.specs.Constant.{Character, is_over, text_from, place_behind}
-use Rattle.hep_text.specs.Reading.{Refusal, refusal, ◌>>=◌, Joined, joined, each_statement}
+use Rattle.hep_text.specs.Line.{Kind}
+use Rattle.hep_text.specs.Reading.{Refusal, refusal, ◌>>=◌, Joined, by_kind, joined, each_statement, Tells}
 
 -- a statement that isn't over yet, without where it lies in memory
 pub record Started : Type 0 where
   pub line : ℕ
   pub label : Option ℕ
+  pub continued : ℕ
   pub text : List ℕ
   pub spans : List Span
   pub place : Place
 
 abbrev pub started : Pending → Started
-started p = record { line = p.line; label = p.label; text = p.text.items; spans = p.spans.items; place = p.place }
+started p = record { line = p.line; label = p.label; continued = p.continued; text = p.text.items; spans = p.spans.items; place = p.place }
 
 -- it with more characters behind it
 abbrev pub longer : Started → List Character → Started
 longer p xs = record {
   line = p.line;
   label = p.label;
+  continued = p.continued;
   text = p.text ++ map (λ x. x.byte) (text_from p.place xs);
   spans = p.spans ++ map (λ x. x.span) (text_from p.place xs);
   place = place_behind p.place xs;
@@ -57,9 +61,27 @@ pending_of (Some p) = Some (started p)
 abbrev pub done_of : Reading → Result (List Stmt) Refusal
 done_of r = done_so_far r.done.items r.open
 
+-- how many continuation lines it has, where a statement has begun
+abbrev pub count_of : Option Started → Option ℕ
+count_of None = None
+count_of (Some p) = Some p.continued
+
 -- what a reading comes to, with the lines from line n on
 abbrev pub total : Reading → ℕ → List (List ℕ) → Result (List Stmt) Refusal
-total r n ls = finish (done_of r) (pending_of r.pending) (joined n ls)
+total r n ls = finish (done_of r) (pending_of r.pending) (joined n (count_of (pending_of r.pending)) ls)
+
+-- what it comes to with line n of this kind, and the lines behind it
+abbrev pub total_with : Reading → ℕ → Kind → List (List ℕ) → Result (List Stmt) Refusal
+total_with r n k ls =
+    finish (done_of r) (pending_of r.pending) (by_kind n (count_of (pending_of r.pending)) k (λ (c : Option ℕ). joined (n + 1) c ls))
+
+-- one reading goes on to another with line n, which is of this kind
+abbrev pub GoesOn : Reading → Reading → ℕ → Kind → Type 0
+GoesOn r s n k = (ls : List (List ℕ)) → total_with r n k ls ≡ total s (n + 1) ls
+
+-- a reading ends in this fault at line n, which is of this kind
+abbrev pub Fails : TextFault → Reading → ℕ → Kind → Type 0
+Fails e r n k = (ls : List (List ℕ)) → Tells e (total_with r n k ls)
 
 -- the statements that are over, with the one that wasn't
 abbrev pub with_last : Result (List Stmt) Refusal → Option Started → Result (List Stmt) Refusal

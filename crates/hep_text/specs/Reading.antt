@@ -1,5 +1,5 @@
 -- The statements of a source text (X3.9-1978, 3.2 and 3.3).
-use Rattle.std.specs.Prelude.{◌≡◌, ℕ, zero, suc, ◌+◌, Bool, ◌||◌, if◌then◌else◌, nat_lt, List, [], ◌∷◌, ◌++◌, map, length, get_or, drop, Option, Result, Ok, Err}
+use Rattle.std.specs.Prelude.{◌≡◌, ℕ, zero, suc, ◌+◌, Bool, ◌||◌, if◌then◌else◌, nat_lt, List, [], ◌∷◌, ◌++◌, map, length, get_or, drop, Option, Some, None, Result, Ok, Err}
 use Rattle.hep_text.specs.declared.statement.Stmt.{Stmt}
 use Rattle.hep_text.specs.declared.constant.Place.TheVariants.{Outside}
 use Rattle.hep_text.specs.declared.fault.TextFault.{TextFault}
@@ -48,17 +48,28 @@ abbrev pub begun : ℕ → Option ℕ → List Character → Joined → Joined
 begun n label body behind =
     behind >>= λ r. Ok ([], record { line = n; label = label; characters = body ++ r.0 } ∷ r.1)
 
--- A line of each kind, and the lines behind it. A continuation line is refused (docs/LANGUAGE.md).
-abbrev pub by_kind : ℕ → Kind → Joined → Joined
-by_kind n comment behind = behind
-by_kind n (initial label body) behind = begun n label (columns 66 n 7 body) behind
-by_kind n continuation behind = refusal 104 n
-by_kind n (refused number) behind = refusal number n
+-- the characters of a continuation line, and those that go on with the statement behind it
+abbrev pub continued : List Character → Joined → Joined
+continued body behind = behind >>= λ r. Ok (body ++ r.0, r.1)
 
--- the lines from line n on
-unfoldable pub joined : ℕ → List (List ℕ) → Joined
-joined n [] = Ok ([], [])
-joined n (l ∷ ls) = by_kind n (kind l) (joined (n + 1) ls)
+-- A continuation line, where so many stand before it in its statement, or no statement has begun
+-- (X3.9-1978, 3.2.3). A statement has at most 19 of them (X3.9-1978, 3.3).
+abbrev pub continuing : ℕ → Option ℕ → List Character → (Option ℕ → Joined) → Joined
+continuing n None body behind = refusal 105 n
+continuing n (Some k) body behind = if nat_lt k 19 then continued body (behind (Some (k + 1))) else refusal 104 n
+
+-- A line of each kind, and what the lines behind it are by the count of continuation lines. A
+-- comment line may stand anywhere and isn't counted (X3.9-1978, 3.2.1).
+abbrev pub by_kind : ℕ → Option ℕ → Kind → (Option ℕ → Joined) → Joined
+by_kind n count comment behind = behind count
+by_kind n count (initial label body) behind = begun n label (columns 66 n 7 body) (behind (Some 0))
+by_kind n count (continuation body) behind = continuing n count (columns 66 n 7 body) behind
+by_kind n count (refused number) behind = refusal number n
+
+-- the lines from line n on, where so many continuation lines of the statement stand before them
+unfoldable pub joined : ℕ → Option ℕ → List (List ℕ) → Joined
+joined n count [] = Ok ([], [])
+joined n count (l ∷ ls) = by_kind n count (kind l) (λ (c : Option ℕ). joined (n + 1) c ls)
 
 -- A statement as the lines have it, with the text that matters. 106 is a character constant that is
 -- open at its end, or an empty one (X3.9-1978, 4.8.1).
@@ -85,7 +96,7 @@ is_too_large s = nat_lt 4194304 (length s) || nat_lt 65535 (length (lines s))
 -- fault, else the first statement whose constants are at fault.
 unfoldable pub statements_of : List ℕ → Result (List Stmt) Refusal
 statements_of s =
-    if is_too_large s then refusal 107 0 else (joined 1 (lines s) >>= λ r. each_statement r.1)
+    if is_too_large s then refusal 107 0 else (joined 1 None (lines s) >>= λ r. each_statement r.1)
 
 -- The fault that a text has, as the program tells it. Want of memory says nothing of the text.
 abbrev pub Tells : TextFault → Result (List Stmt) Refusal → Type 0

@@ -1,5 +1,5 @@
 -- Worked examples of the definitions: each has a whole text and what it comes to.
-use Rattle.std.specs.Prelude.{◌≡◌, ℕ, List, [], ◌∷◌, ◌++◌, Option, Some, None, Result, Ok, Err, refl, codes, map}
+use Rattle.std.specs.Prelude.{◌≡◌, ℕ, zero, suc, List, [], ◌∷◌, ◌++◌, Option, Some, None, Result, Ok, Err, refl, codes, map}
 use Rattle.hep_text.specs.declared.statement.Stmt.{Stmt}
 use Rattle.hep_text.specs.declared.statement.Span.{Span}
 use Rattle.hep_text.specs.Line.{kind, labelled}
@@ -28,6 +28,11 @@ spans (Err e) = Err e
 
 abbrev at : ℕ → ℕ → Span
 at n k = record { line = n; column = k }
+
+-- some characters so many times
+abbrev times : ℕ → List ℕ → List ℕ
+times zero l = []
+times (suc n) l = l ++ times n l
 
 no_lines : rows (statements_of (([]))) ≡ Ok []
 unfolding statements_of joined columns kind labelled
@@ -65,9 +70,81 @@ zero_in_column_6 : rows (statements_of ((codes "     0END"))) ≡ Ok (row 1 None
 unfolding statements_of joined columns kind labelled
 zero_in_column_6 = refl
 
-continuation_line : rows (statements_of (ended (codes "      A") ++ (codes "     +B"))) ≡ refusal 104 2
+continuation_line : rows (statements_of (ended (codes "      A = B") ++ (codes "     ++ C"))) ≡ Ok (row 1 None (codes "A=B+C") ∷ [])
 unfolding statements_of joined columns kind labelled
 continuation_line = refl
+
+word_over_two_lines : rows (statements_of (ended (codes "                                                                    PRIN") ++ (codes "     1T *, I"))) ≡ Ok (row 1 None (codes "PRINT*,I") ∷ [])
+unfolding statements_of joined columns kind labelled
+word_over_two_lines = refl
+
+continuation_lines_of_two_statements : rows (statements_of (ended (codes "  1   A") ++ ended (codes "     1B") ++ ended (codes "     2C") ++ ended (codes "      D") ++ (codes "     9e"))) ≡ Ok (row 1 (Some 1) (codes "ABC") ∷ row 4 None (codes "DE") ∷ [])
+unfolding statements_of joined columns kind labelled
+continuation_lines_of_two_statements = refl
+
+any_mark_in_column_6 : rows (statements_of (ended (codes "      A") ++ ended (codes "     'B") ++ ended (codes "     $C") ++ (codes "     !D"))) ≡ Ok (row 1 None (codes "ABCD") ∷ [])
+unfolding statements_of joined columns kind labelled
+any_mark_in_column_6 = refl
+
+zero_in_column_6_behind_a_statement : rows (statements_of (ended (codes "      A") ++ (codes "     0B"))) ≡ Ok (row 1 None (codes "A") ∷ row 2 None (codes "B") ∷ [])
+unfolding statements_of joined columns kind labelled
+zero_in_column_6_behind_a_statement = refl
+
+continuation_line_of_blanks : rows (statements_of (ended (codes "      A") ++ ended (codes "     +") ++ (codes "     +B"))) ≡ Ok (row 1 None (codes "AB") ∷ [])
+unfolding statements_of joined columns kind labelled
+continuation_line_of_blanks = refl
+
+comment_lines_between : rows (statements_of (ended (codes "      A") ++ ended (codes "C     X") ++ ended (codes "") ++ ended (codes "     +B") ++ ended (codes "*") ++ (codes "     +C"))) ≡ Ok (row 1 None (codes "ABC") ∷ [])
+unfolding statements_of joined columns kind labelled
+comment_lines_between = refl
+
+continuation_line_behind_END : rows (statements_of (ended (codes "      END") ++ ended (codes "C") ++ (codes "     +A"))) ≡ Ok (row 1 None (codes "ENDA") ∷ [])
+unfolding statements_of joined columns kind labelled
+continuation_line_behind_END = refl
+
+nineteen_continuation_lines : rows (statements_of (ended (codes "      A") ++ times 19 (ended (codes "     +B")) ++ (codes "      C"))) ≡ Ok (row 1 None (codes "ABBBBBBBBBBBBBBBBBBB") ∷ row 21 None (codes "C") ∷ [])
+unfolding statements_of joined columns kind labelled
+nineteen_continuation_lines = refl
+
+twentieth_continuation_line : rows (statements_of (ended (codes "      A") ++ times 19 (ended (codes "     +B")) ++ (codes "     +C"))) ≡ refusal 104 21
+unfolding statements_of joined columns kind labelled
+twentieth_continuation_line = refl
+
+comment_lines_are_no_continuation_lines : rows (statements_of (ended (codes "      A") ++ times 19 (ended (codes "C") ++ ended (codes "     +B")) ++ ended (codes "C") ++ (codes "     +C"))) ≡ refusal 104 41
+unfolding statements_of joined columns kind labelled
+comment_lines_are_no_continuation_lines = refl
+
+each_statement_has_nineteen : rows (statements_of (ended (codes "      A") ++ times 19 (ended (codes "     +B")) ++ ended (codes "      C") ++ (codes "     +D"))) ≡ Ok (row 1 None (codes "ABBBBBBBBBBBBBBBBBBB") ∷ row 21 None (codes "CD") ∷ [])
+unfolding statements_of joined columns kind labelled
+each_statement_has_nineteen = refl
+
+continuation_line_first : rows (statements_of (ended (codes "     +A") ++ (codes "      B"))) ≡ refusal 105 1
+unfolding statements_of joined columns kind labelled
+continuation_line_first = refl
+
+continuation_line_behind_comment_lines : rows (statements_of (ended (codes "C") ++ ended (codes "") ++ (codes "     +A"))) ≡ refusal 105 3
+unfolding statements_of joined columns kind labelled
+continuation_line_behind_comment_lines = refl
+
+label_on_a_continuation_line_first : rows (statements_of ((codes " 1   +A"))) ≡ refusal 103 1
+unfolding statements_of joined columns kind labelled
+label_on_a_continuation_line_first = refl
+
+label_of_zeros_on_a_continuation_line : rows (statements_of (ended (codes "      A") ++ (codes " 0   +B"))) ≡ refusal 103 2
+unfolding statements_of joined columns kind labelled
+label_of_zeros_on_a_continuation_line = refl
+
+unprintable_in_a_continuation_line : rows (statements_of (ended (codes "      A") ++ codes "     +B" ++ 127 ∷ [])) ≡ refusal 102 2
+unfolding statements_of joined columns kind labelled
+unprintable_in_a_continuation_line = refl
+
+tab_in_the_twentieth_continuation_line : rows (statements_of (ended (codes "      A") ++ times 19 (ended (codes "     +B")) ++ codes "     +" ++ 9 ∷ [])) ≡ refusal 101 21
+unfolding statements_of joined columns kind labelled
+tab_in_the_twentieth_continuation_line = refl
+
+later_line_not_looked_at : rows (statements_of (ended (codes "     +A") ++ (codes "1A    B"))) ≡ refusal 105 1
+unfolding statements_of joined columns kind labelled
+later_line_not_looked_at = refl
 
 continuation_line_with_a_label : rows (statements_of (ended (codes "      A") ++ (codes " 1   +B"))) ≡ refusal 103 2
 unfolding statements_of joined columns kind labelled
@@ -174,10 +251,40 @@ open_constant_told_behind_a_later_line : rows (statements_of (ended (codes "    
 unfolding statements_of joined columns kind labelled
 open_constant_told_behind_a_later_line = refl
 
-first_line_at_fault : rows (statements_of (ended (codes "     +A") ++ (9 ∷ []))) ≡ refusal 104 1
+first_line_at_fault : rows (statements_of (ended (codes "     +A") ++ (9 ∷ []))) ≡ refusal 105 1
 unfolding statements_of joined columns kind labelled
 first_line_at_fault = refl
+
+-- the blanks up to column 72 are in the constant
+constant_over_two_lines : rows (statements_of (ended (codes "      A = 'b") ++ (codes "     +c'"))) ≡ Ok (row 1 None (codes "A='b" ++ times 60 (codes " ") ++ codes "c'") ∷ [])
+unfolding statements_of joined columns kind labelled
+constant_over_two_lines = refl
+
+constant_over_a_comment_line : rows (statements_of (ended (codes "      'BBBBBBBBBBBBBBBBBBBBBBBBBBBBBBBBBBBBBBBBBBBBBBBBBBBBBBBBBBBBBBBBB") ++ ended (codes "C '") ++ (codes "     +C'"))) ≡ Ok (row 1 None (codes "'BBBBBBBBBBBBBBBBBBBBBBBBBBBBBBBBBBBBBBBBBBBBBBBBBBBBBBBBBBBBBBBBBC'") ∷ [])
+unfolding statements_of joined columns kind labelled
+constant_over_a_comment_line = refl
+
+-- they are one apostrophe of the constant
+apostrophes_in_columns_72_and_7 : rows (statements_of (ended (codes "      'BBBBBBBBBBBBBBBBBBBBBBBBBBBBBBBBBBBBBBBBBBBBBBBBBBBBBBBBBBBBBBBB'") ++ (codes "     +'C'"))) ≡ Ok (row 1 None (codes "'BBBBBBBBBBBBBBBBBBBBBBBBBBBBBBBBBBBBBBBBBBBBBBBBBBBBBBBBBBBBBBBB''C'") ∷ [])
+unfolding statements_of joined columns kind labelled
+apostrophes_in_columns_72_and_7 = refl
+
+empty_constant_over_two_lines : rows (statements_of (ended (codes "      BBBBBBBBBBBBBBBBBBBBBBBBBBBBBBBBBBBBBBBBBBBBBBBBBBBBBBBBBBBBBBBBB'") ++ (codes "     +'"))) ≡ refusal 106 1
+unfolding statements_of joined columns kind labelled
+empty_constant_over_two_lines = refl
+
+open_constant_in_a_continuation_line : rows (statements_of (ended (codes "      A") ++ ended (codes "      B") ++ ended (codes "     +'C") ++ (codes "     +D"))) ≡ refusal 106 2
+unfolding statements_of joined columns kind labelled
+open_constant_in_a_continuation_line = refl
+
+open_constant_told_behind_a_continuation_line : rows (statements_of (ended (codes "      A = 'B") ++ ended (codes "      END") ++ times 20 (ended (codes "     +C")))) ≡ refusal 104 22
+unfolding statements_of joined columns kind labelled
+open_constant_told_behind_a_continuation_line = refl
 
 where_each_character_stands : spans (statements_of (ended (codes "C") ++ (codes " 1    A (i)"))) ≡ Ok ((at 2 7 ∷ at 2 9 ∷ at 2 10 ∷ at 2 11 ∷ []) ∷ [])
 unfolding statements_of joined columns kind labelled
 where_each_character_stands = refl
+
+where_each_character_of_two_lines_stands : spans (statements_of (ended (codes "      A = I") ++ ended (codes "C") ++ (codes "     ++ 1"))) ≡ Ok ((at 1 7 ∷ at 1 9 ∷ at 1 11 ∷ at 3 7 ∷ at 3 9 ∷ []) ∷ [])
+unfolding statements_of joined columns kind labelled
+where_each_character_of_two_lines_stands = refl

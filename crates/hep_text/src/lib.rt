@@ -62,7 +62,7 @@ mod tests {
             (b"\tEND", "101 at line 1"),
             (b"\n      A\x7f", "102 at line 2"),
             (b"      A = 'B\n      END\n000   END\n", "103 at line 3"),
-            (b"      A\n     +B\n", "104 at line 2"),
+            (b"C\n     +B\n", "105 at line 2"),
             (b"      END\n      A = '' 'B'\n", "106 at line 2"),
         ];
         for (source, want) in rows {

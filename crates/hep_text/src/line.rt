@@ -9,8 +9,8 @@ pub enum LineKind<'a> {
     Comment,
     /// An initial line (X3.9-1978, 3.2.2): its label, and what stands from column 7 on.
     Initial(Option<u32>, &'a [u8]),
-    /// A continuation line (X3.9-1978, 3.2.3).
-    Continuation,
+    /// A continuation line (X3.9-1978, 3.2.3): what stands from column 7 on.
+    Continuation(&'a [u8]),
     /// A line that is refused, with the number of the refusal.
     Refused(u16),
 }
@@ -72,7 +72,7 @@ fn labelled<'a>(field: &[u8], mark: u8, rest: &'a [u8]) -> LineKind<'a>
     }
     match (label(field), is_continuation_mark(mark)) {
         (Some(0), _) | (Some(_), true) => LineKind::Refused(103),
-        (None, true) => LineKind::Continuation,
+        (None, true) => LineKind::Continuation(rest),
         (label, false) => LineKind::Initial(label, rest),
     }
 }

@@ -3,11 +3,12 @@ ghost use Rattle.std.specs.Prelude.{◌≡◌, ◌↔◌, ◌+◌, ◌≤◌, �
 ghost use Rattle.std.specs.List.{All};
 ghost use Rattle.hep_text.specs.Constant.{Character};
 ghost use Rattle.hep_text.specs.Grammar.{IsText, Gives};
-ghost use Rattle.hep_text.specs.Line.{lines};
+ghost use Rattle.hep_text.specs.Line as lines;
+ghost use Rattle.hep_text.specs.Line.{initial, continuation};
 ghost use Rattle.hep_text.specs.Reading as reading;
 ghost use Rattle.hep_text.specs.Reading.{statements_of, columns, Tells};
 ghost use Rattle.hep_text.specs.Shape.{HasShape};
-ghost use Rattle.hep_text.specs.Progress.{started, longer, over, pending_of, done_of, with_last, total};
+ghost use Rattle.hep_text.specs.Progress.{started, longer, over, pending_of, done_of, with_last, GoesOn, Fails};
 ghost use Rattle.hep_text.specs.declared.fault.TextFault.TheVariants.{NoMemory};
 
 use crate::bytes::Bytes;
@@ -23,11 +24,16 @@ const MOST_BYTES: usize = 4_194_304;
 /// The most lines of a source text.
 const MOST_LINES: usize = 65_535;
 
-/// A statement whose lines are being read, with where its next character stands.
+/// The most continuation lines of a statement (X3.9-1978, 3.3).
+const MOST_CONTINUATION_LINES: u32 = 19;
+
+/// A statement whose lines are being read, with how many continuation lines it has so far, and
+/// where its next character stands.
 #[derive(Drop)]
 struct Pending {
     line: u32,
     label: Option<u32>,
+    continued: u32,
     text: Vec<u8>,
     spans: Vec<Span>,
     place: Place,
@@ -46,9 +52,10 @@ struct Reading {
 ///
 /// Refused are, each with the first line at fault: a tab (101), another character that isn't
 /// printable (102), and a fault of columns 1 to 5 (103), in columns 1 to 72 of a line that is no
-/// comment; a continuation line (104); and where no line has one of these, the first statement with
-/// a character constant that is open or empty (106). A text of more than 65,535 lines or 4,194,304
-/// bytes is refused before all of these, at line 0 (107).
+/// comment; the twentieth continuation line of a statement (104); a continuation line before any
+/// initial line (105); and where no line has one of these, the first statement with a character
+/// constant that is open or empty (106). A text of more than 65,535 lines or 4,194,304 bytes is
+/// refused before all of these, at line 0 (107).
 #[tactic(auto, using(crate::proofs::Grammar::agrees))]
 pub fn statements(alloc: Global, source: &[u8]) -> Result<Vec<Stmt>, TextFault>
     ensures ok { IfOk result (λ v. statements_of source.now ≡ Ok v.items) }
@@ -85,7 +92,7 @@ fn is_too_large(text: &[u8]) -> bool
 
 /// How many lines a text has.
 fn line_count(text: &[u8]) -> usize
-    ensures { result ≡ length (lines text.now) }
+    ensures { result ≡ length (lines.lines text.now) }
 {
     let mut count: usize = 0;
     let mut rest = text;
@@ -104,27 +111,62 @@ fn take_line(
     number: u32,
     line: &[u8],
 ) -> Result<(), TextFault>
-    ensures ok { OnOk result ((ls : List (List ℕ)) → total reading.old number (line.now ∷ ls) ≡ total reading.new (number + 1) ls) }
-    ensures err { IfErr result (λ e. (ls : List (List ℕ)) → Tells e (total reading.old number (line.now ∷ ls))) }
+    ensures ok { OnOk result (GoesOn reading.old reading.new number (lines.kind line.now)) }
+    ensures err { IfErr result (λ e. Fails e reading.old number (lines.kind line.now)) }
 {
     match kind(line) {
         LineKind::Comment => Ok(()),
-        LineKind::Initial(label, body) => {
-            end_pending(reading)?;
-            let mut pending = Pending {
-                line: number,
-                label,
-                text: Vec::new(alloc),
-                spans: Vec::new(alloc),
-                place: Place::Outside,
-            };
-            take_text(&mut pending, number, body)?;
-            reading.pending = Some(pending);
-            Ok(())
-        }
-        LineKind::Continuation => Err(TextFault::refused(alloc, 104, number)),
+        LineKind::Initial(label, body) => take_initial(alloc, reading, number, label, body),
+        LineKind::Continuation(body) => take_continuation(alloc, reading, number, body),
         LineKind::Refused(fault) => Err(TextFault::refused(alloc, fault, number)),
     }
+}
+
+/// Reads an initial line: the statement before it is over, and its own begins.
+fn take_initial(
+    alloc: Global,
+    reading: &mut Reading,
+    number: u32,
+    label: Option<u32>,
+    body: &[u8],
+) -> Result<(), TextFault>
+    ensures ok { OnOk result (GoesOn reading.old reading.new number (initial label body.now)) }
+    ensures err { IfErr result (λ e. e ≡ NoMemory) }
+{
+    end_pending(reading)?;
+    let mut pending = Pending {
+        line: number,
+        label,
+        continued: 0,
+        text: Vec::new(alloc),
+        spans: Vec::new(alloc),
+        place: Place::Outside,
+    };
+    take_text(&mut pending, number, body)?;
+    reading.pending = Some(pending);
+    Ok(())
+}
+
+/// Reads a continuation line, which goes on with the statement that isn't over.
+fn take_continuation(
+    alloc: Global,
+    reading: &mut Reading,
+    number: u32,
+    body: &[u8],
+) -> Result<(), TextFault>
+    ensures ok { OnOk result (GoesOn reading.old reading.new number (continuation body.now)) }
+    ensures err { IfErr result (λ e. Fails e reading.old number (continuation body.now)) }
+{
+    let Some(mut pending) = reading.pending.take() else {
+        return Err(TextFault::refused(alloc, 105, number));
+    };
+    if pending.continued >= MOST_CONTINUATION_LINES {
+        return Err(TextFault::refused(alloc, 104, number));
+    }
+    pending.continued += 1;
+    take_text(&mut pending, number, body)?;
+    reading.pending = Some(pending);
+    Ok(())
 }
 
 /// Reads the columns 7 to 72 of a line, which are given from column 7 on.

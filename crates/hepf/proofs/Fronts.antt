@@ -18,12 +18,12 @@ too_long s h = rw (long (length s) h) refl
 
 refused_too : (s t : List ℕ) (number line : ℕ) (name : List ℕ) → statements_of s ≡ statements_of t → IsRefused t number line name → IsRefused s number line name
 refused_too s t number line name same (inl (e, none)) = inl (same ∙ e, none)
-refused_too s t number line name same (inr (inl (ss, e, first, none))) = inr (inl (ss, same ∙ e, first, none))
-refused_too s t number line name same (inr (inr (ss, p, x, e, program, first, is, named))) = inr (inr (ss, p, x, same ∙ e, program, first, is, named))
+refused_too s t number line name same (inr (inl (ss, e, first))) = inr (inl (ss, same ∙ e, first))
+refused_too s t number line name same (inr (inr (ss, p, e, program, unrun))) = inr (inr (ss, p, same ∙ e, program, unrun))
 
 outcome_too : (s t : List ℕ) (options : Options) (o : Outcome) → statements_of s ≡ statements_of t → IsOutcome t options o → IsOutcome s options o
 outcome_too s t options o same (inl (number, line, name, r, is)) = inl (number, line, name, refused_too s t number line name same r, is)
-outcome_too s t options o same (inr (p, (ss, e, program, typed), is)) = inr (p, (ss, same ∙ e, program, typed), is)
+outcome_too s t options o same (inr (p, (ss, e, program, runs, typed), is)) = inr (p, (ss, same ∙ e, program, runs, typed), is)
 
 front : (bytes rest : List ℕ) → (length bytes ≤ 4194304 → rest ≡ []) → statements_of (bytes ++ rest) ≡ statements_of bytes
 front bytes rest end = elim (cases_lt 4194304 (length bytes)) [

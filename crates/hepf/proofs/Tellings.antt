@@ -2,12 +2,10 @@
 use Rattle.std.proofs.Common.{ℕ, ◌+◌, ◌≤◌, List, ◌++◌, length, take, Option, sym, subst}
 use Rattle.std.proofs.lemmas.List.{take-append-le}
 use Rattle.std.proofs.Math.Seq.{take-length, take-append-add}
+use Rattle.std.specs.Prelude.{Result, Ok, Err, OnOk, IfErr}
 use Rattle.std.specs.Io.KnownBytes.{Appends}
 use Rattle.std.proofs.KnownBytes.{Appends-trans}
-
--- so many bytes of a text
-abbrev pub SomeOf : Option (List ℕ) → Option (List ℕ) → List ℕ → Type 0
-SomeOf a b text = (k : ℕ) × Appends a b (take k text)
+use Rattle.hepf.specs.Delivery.{SomeOf}
 
 pub of_first : (a b : Option (List ℕ)) (xs ys : List ℕ) (n : ℕ) → n ≤ length xs → Appends a b (take n xs) → SomeOf a b (xs ++ ys)
 of_first a b xs ys n h p = (n, subst (Appends a b) (sym (take-append-le n xs ys h)) p)
@@ -20,6 +18,16 @@ of_all a b xs p = (length xs, subst (Appends a b) (sym (take-length xs)) p)
 
 pub of_some : (a b : Option (List ℕ)) (xs : List ℕ) (n : ℕ) → Appends a b (take n xs) → SomeOf a b xs
 of_some a b xs n p = (n, p)
+
+-- where all of it was taken or some of it was, some of it was
+pub of_either : {E : Type 0} (r : Result (Unit {0}) E) (a b : Option (List ℕ)) (xs : List ℕ) → OnOk r (Appends a b xs) → IfErr r (λ _. SomeOf a b xs) → SomeOf a b xs
+of_either (Ok u) a b xs p q = of_all a b xs p
+of_either (Err e) a b xs p q = q
+
+-- what holds anyway holds of a failure too
+pub if_err_anyway : {A E P : Type 0} (r : Result A E) → P → IfErr r (λ _. P)
+if_err_anyway (Ok x) p = tt
+if_err_anyway (Err e) p = p
 
 -- behind what was taken of an earlier text
 pub told_behind : (a b c : Option (List ℕ)) (xs ys : List ℕ) → Appends a b xs → SomeOf b c ys → (k : ℕ) × Appends a c (xs ++ take k ys)

@@ -13,6 +13,10 @@ pub record IsDelivered (o : Outcome) (run : Run) (output output' messages messag
   pub output_taken : Appends output output' o.output
   pub messages_taken : Appends messages messages' o.messages
 
+-- a writer took some first bytes of a text
+abbrev pub SomeOf : Option (List ℕ) → Option (List ℕ) → List ℕ → Type 0
+SomeOf contents contents' text = (k : ℕ) × Appends contents contents' (take k text)
+
 -- the messages' writer took so many bytes of what it was told last
 abbrev pub Told : Option (List ℕ) → Option (List ℕ) → List ℕ → List ℕ → Type 0
 Told messages messages' before last = (k : ℕ) × Appends messages messages' (before ++ take k last)

@@ -15,6 +15,7 @@ use Rattle.hep_source.specs.Histories.{IsLegal}
 use Rattle.hep_core.specs.declared.stop.Stop.{Stop}
 use Rattle.hep_core.specs.declared.stop.Stop.TheVariants.{Halted, ArenaFull, StepLimit}
 use Rattle.hep_core.specs.Names.{names_of}
+use Rattle.hep_core.specs.Runnable.{first_unrun_in}
 use Rattle.hep_core.specs.Value.{ready_after}
 use Rattle.hepf.specs.declared.options.Options.{Options}
 use Rattle.hepf.specs.Texts.{records_text, faults_text, refusal_text, stop_text, choice_text}
@@ -28,17 +29,25 @@ pub record Outcome : Type 0 where
 
 -- ---- sources
 
+-- no core runs the program: 403 at its first statement that doesn't run today; where each runs, 301
+-- at the first name that is no integer
+abbrev pub IsUnrun : Units → ℕ → ℕ → List ℕ → Type 0
+IsUnrun program number line name =
+    ((first_unrun_in program ≡ Some line) × (number ≡ 403) × (name ≡ []))
+    ⊎ ((first_unrun_in program ≡ None) × (x : Name) × (first_untyped (unit_at program main_unit) ≡ Some (line, x)) × (number ≡ 301) × (name ≡ spelling x))
+
 -- the source is refused with this number, line and name
 abbrev pub IsRefused : List ℕ → ℕ → ℕ → List ℕ → Type 0
 IsRefused source number line name =
     ((statements_of source ≡ refusal number line) × (name ≡ []))
-    ⊎ ((statements : List Stmt) × (statements_of source ≡ Ok statements) × IsFirstFault statements number line × (name ≡ []))
-    ⊎ ((statements : List Stmt) × (program : Units) × (x : Name) × (statements_of source ≡ Ok statements) × IsProgram statements program × (first_untyped (unit_at program main_unit) ≡ Some (line, x)) × (number ≡ 301) × (name ≡ spelling x))
+    ⊎ ((statements : List Stmt) × (statements_of source ≡ Ok statements) × IsFirstFault statements number line name)
+    ⊎ ((statements : List Stmt) × (program : Units) × (statements_of source ≡ Ok statements) × IsProgram statements program × IsUnrun program number line name)
 
 -- the source is this program, and accepted
 abbrev pub IsAccepted : List ℕ → Units → Type 0
 IsAccepted source program =
-    (statements : List Stmt) × (statements_of source ≡ Ok statements) × IsProgram statements program × (first_untyped (unit_at program main_unit) ≡ None)
+    (statements : List Stmt) × (statements_of source ≡ Ok statements) × IsProgram statements program
+    × (first_unrun_in program ≡ None) × (first_untyped (unit_at program main_unit) ≡ None)
 
 -- ---- schedules
 

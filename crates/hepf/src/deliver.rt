@@ -1,9 +1,9 @@
 //! Writing what a run comes to.
-ghost use Rattle.std.specs.Prelude.{◌≡◌, ℕ, take};
+ghost use Rattle.std.specs.Prelude.{OnOk, IfErr};
 ghost use Rattle.std.specs.Io.KnownBytes.{Appends};
 ghost use Rattle.hepf.specs.Texts.{write_fault_text};
 ghost use Rattle.hepf.specs.Reports.{outcome_of};
-ghost use Rattle.hepf.specs.Delivery.{Leaves, Told};
+ghost use Rattle.hepf.specs.Delivery.{Leaves, SomeOf};
 
 use crate::options::Run;
 use crate::output::{PutFault, put_all};
@@ -15,9 +15,10 @@ use std::io::Write;
 ///
 /// # Errors
 ///
-/// Where `messages` fails too.
+/// Where `messages` fails too, with how much it took of the piece of the line that failed.
 pub fn put_write_fault<E: Write>(messages: &mut E, written: usize) -> Result<(), PutFault>
-    ensures { (k : ℕ) × Appends (E.contents messages.old) (E.contents messages.new) (take k (write_fault_text written)) }
+    ensures all { OnOk result (Appends (E.contents messages.old) (E.contents messages.new) (write_fault_text written)) }
+    ensures some { IfErr result (λ _. SomeOf (E.contents messages.old) (E.contents messages.new) (write_fault_text written)) }
 {
     put_all(messages, b"WRITE FAULT AFTER ")?;
     let mut buffer = Buffer::new();

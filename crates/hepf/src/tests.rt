@@ -6,7 +6,7 @@ use hep_core::{ChooseFault, Core, Stop, Verdict, image_of};
 use hep_parse::parse;
 use hep_source::Entry;
 use hep_text::statements;
-use std::alloc::Global;
+use std::alloc::{AllocError, Global};
 use std::io;
 use std::io::{Error, ErrorKind, Read, Write};
 use std::process::Abort;
@@ -64,7 +64,7 @@ struct Row {
 
 const UNDEFINED: &[u8] = b"      I=3\n      PRINT *,I*I-1\n      PRINT *,J\n      END\n";
 
-const ROWS: [Row; 25] = [
+const ROWS: [Row; 36] = [
     Row {
         source: b"      PRINT *,'A=',1+2*3,.TRUE.\n      END\n",
         output: b"\x20\x41\x3d\x37\x20\x54\x0a",
@@ -229,8 +229,66 @@ const ROWS: [Row; 25] = [
     },
     Row {
         source: b"      PRINT *,1\n     +,2\n      END\n",
+        output: b" 1 2\n",
+        messages: b"",
+        status: 0,
+        entries: 2,
+    },
+    // Comment lines between, and an apostrophe in column 6.
+    Row {
+        source: b"      PRINT *,1\nC     A comment\n     +,2\n\n*\n     ',3\n      END\n",
+        output: b" 1 2 3\n",
+        messages: b"",
+        status: 0,
+        entries: 2,
+    },
+    Row {
+        source: b"      PRINT *,1\n     0PRINT *,2\n      END\n",
+        output: b" 1\n 2\n",
+        messages: b"",
+        status: 0,
+        entries: 3,
+    },
+    // The blanks up to column 72 are in the constant.
+    Row {
+        source: b"      PRINT *,'A\n     +B'\n      END\n",
+        output: b" A                                                        B\n",
+        messages: b"",
+        status: 0,
+        entries: 2,
+    },
+    Row {
+        source: b"      I=1\n      PRI\n     +NT *,I/\n     +0\n      END\n",
         output: b"",
-        messages: b"REFUSED 104 LINE 2\n",
+        messages: b"FAULT 1 MAIN LINE 2 DIVIDE\n",
+        status: 3,
+        entries: 3,
+    },
+    Row {
+        source: b"      PRINT *,1\n      END\n     +I\n",
+        output: b"",
+        messages: b"REFUSED 201 LINE 2\n",
+        status: 1,
+        entries: 0,
+    },
+    Row {
+        source: b"     +PRINT *,1\n      END\n",
+        output: b"",
+        messages: b"REFUSED 105 LINE 1\n",
+        status: 1,
+        entries: 0,
+    },
+    Row {
+        source: b" 1   +PRINT *,1\n      END\n",
+        output: b"",
+        messages: b"REFUSED 103 LINE 1\n",
+        status: 1,
+        entries: 0,
+    },
+    Row {
+        source: b"      PRINT *,'A\n     +B\n      END\n",
+        output: b"",
+        messages: b"REFUSED 106 LINE 1\n",
         status: 1,
         entries: 0,
     },
@@ -240,6 +298,28 @@ const ROWS: [Row; 25] = [
         messages: b"REFUSED 205 LINE 2\n",
         status: 1,
         entries: 0,
+    },
+    Row {
+        source: b"      print *,'it''s'\n      end\n",
+        output: b" it's\n",
+        messages: b"",
+        status: 0,
+        entries: 2,
+    },
+    // Nothing counts from column 73 on.
+    Row {
+        source: b"      PRINT *,1                                                         +1\n      END\n",
+        output: b" 1\n",
+        messages: b"",
+        status: 0,
+        entries: 2,
+    },
+    Row {
+        source: b"      p R i N t * , 1 2 * 2 , . T r U e .\n      E N d\n",
+        output: b" 24 T\n",
+        messages: b"",
+        status: 0,
+        entries: 3,
     },
 ];
 
@@ -264,6 +344,229 @@ fn rows(rt: HostRuntime) {
             "history of {source:?}"
         );
     }
+}
+
+// Sources that are refused, each with what is said of it.
+#[derive(Clone, Copy)]
+struct Refusal {
+    source: &'static [u8],
+    messages: &'static [u8],
+}
+
+const REFUSALS: [Refusal; 17] = [
+    Refusal {
+        source: b"      READ *,I\n      END\n",
+        messages: b"REFUSED 202 LINE 1 NAME READ\n",
+    },
+    Refusal {
+        source: b"      INTEGER FUNCTION F(I)\n      END\n",
+        messages: b"REFUSED 202 LINE 1 NAME FUNCTION\n",
+    },
+    Refusal {
+        source: b"      IF (I.GT.0) WRITE (6) I\n      END\n",
+        messages: b"REFUSED 202 LINE 1 NAME WRITE\n",
+    },
+    Refusal {
+        source: b"      SUBROUTINE S\n      END\n",
+        messages: b"REFUSED 204 LINE 0\n",
+    },
+    Refusal {
+        source: b"      I=1\n      INTEGER K\n      END\n",
+        messages: b"REFUSED 205 LINE 2\n",
+    },
+    Refusal {
+        source: b"      DATA I/1/\n      PARAMETER (N=1)\n      END\n",
+        messages: b"REFUSED 205 LINE 2\n",
+    },
+    Refusal {
+        source: b"      SUBROUTINE S\n      END\n      I=1\n      PRINT *,I\n",
+        messages: b"REFUSED 205 LINE 4\n",
+    },
+    Refusal {
+        source: b"      GO TO 000010\n      END\n",
+        messages: b"REFUSED 201 LINE 1\n",
+    },
+    Refusal {
+        source: b"      I=A**-B\n      END\n",
+        messages: b"REFUSED 201 LINE 1\n",
+    },
+    Refusal {
+        source: b"      I=1\n      CONTINUE\n      END\n",
+        messages: b"REFUSED 403 LINE 2\n",
+    },
+    Refusal {
+        source: b"      I=1\n      IF (I.EQ.1) J=2\n      END\n",
+        messages: b"REFUSED 403 LINE 2\n",
+    },
+    Refusal {
+        source: b"      PRINT *,.TRUE..AND.1\n      END\n",
+        messages: b"REFUSED 403 LINE 1\n",
+    },
+    Refusal {
+        source: b"      END\n      SUBROUTINE S($X,Y)\n      $X=Y\n      END\n",
+        messages: b"REFUSED 403 LINE 2\n",
+    },
+    Refusal {
+        source: b"      d o 1 0 i = 1 , 3\n      end\n",
+        messages: b"REFUSED 403 LINE 1\n",
+    },
+    Refusal {
+        source: b"      d o 1 0 i = 1\n      end\n",
+        messages: b"REFUSED 301 LINE 1 NAME DO10I\n",
+    },
+    Refusal {
+        source: b"      i n t e g e r f u n c t i o n f ( i )\n      end\n",
+        messages: b"REFUSED 202 LINE 1 NAME FUNCTION\n",
+    },
+    Refusal {
+        source: b"      PROGRAM END\n      INTEGER INTEGE,REAL\n      COMMON /COMMON/ DATA\n      DATA PRINT/1/\n      CALL CALL(IF,DO)\n      CREATE CREATE\n      DO 10 DO=IF,END\n      PURGE $PURGE\n      GO TO (10),GOTO\n      IF (IF.EQ.THEN) THEN=ELSE\n      END\n      SUBROUTINE RETURN(STOP,$ELSE)\n      END\n",
+        messages: b"REFUSED 403 LINE 2\n",
+    },
+];
+
+#[test]
+fn refusals(rt: HostRuntime) {
+    for refusal in REFUSALS {
+        let outcome = outcome_of(rt.alloc(), refusal.source);
+        let source = refusal.source;
+        assert_eq!(rt; outcome.output.as_slice(), b"".as_slice());
+        assert_eq!(rt;
+            outcome.messages.as_slice(),
+            refusal.messages,
+            "messages of {source:?}"
+        );
+        assert_eq!(rt; outcome.run.status, 1);
+    }
+}
+
+// Each form of the language.
+const FORMS: [&[u8]; 35] = [
+    b"      PROGRAM P",
+    b"      IMPLICIT INTEGER (A-C,X), LOGICAL (L)",
+    b"      PARAMETER (N=2*3,M=-N)",
+    b"      INTEGER A(N),B(0:N,*)",
+    b"      LOGICAL Q,R",
+    b"      DIMENSION $X(2,-1:1)",
+    b"      COMMON C,D(2)/BLK/E,$F//G",
+    b"      DATA A/2*0,N*M,-1/,Q/.TRUE./",
+    b"      A(1)=X(2)+(3)",
+    b"      IF(3)=5",
+    b"      DO 10,I=1,3",
+    b"      DO10J=1,10,2",
+    b"      IF (I-2) 10,20,10",
+    b"      IF (L.AND..NOT.Q.OR.-I.LT.J) GO TO 10",
+    b"      IF (L.EQV.R) THEN",
+    b"      $X(1,0)=1",
+    b"      ELSE IF (I.GE.N.NEQV.L) THEN",
+    b"      GO TO (10,20),I",
+    b"      ELSE",
+    b"      GO TO (10) I",
+    b"      END IF",
+    b"10    CONTINUE",
+    b"      CREATE S(A,$X)",
+    b"      CALL S(A(2),(I))",
+    b"      PURGE $X,$F",
+    b"20    PRINT *,'IT''S',I**2,FULL($F)",
+    b"      PRINT=1",
+    b"      STOP 'DONE'",
+    b"      END",
+    b"      SUBROUTINE S(A,$B)",
+    b"      CALL T",
+    b"      CALL T()",
+    b"      STOP 77",
+    b"      RETURN",
+    b"      END",
+];
+
+// Lines, each with its end.
+fn source_of(alloc: Global, lines: &[&[u8]]) -> Result<Vec<u8>, AllocError> {
+    let mut source = Vec::new(alloc);
+    for line in lines {
+        source.extend_from_slice(line)?;
+        source.push(b'\n')?;
+    }
+    Ok(source)
+}
+
+#[test]
+fn forms(rt: HostRuntime) -> Result<(), Fail> {
+    let alloc = rt.alloc();
+    let source = source_of(alloc, &FORMS)?;
+    let program = parse(alloc, &statements(alloc, &source)?)?;
+    assert_eq!(rt; program.as_slice().len(), 2);
+    let copy = program.copy(alloc)?;
+    assert!(rt; program.same(&copy));
+    let other = parse(alloc, &statements(alloc, UNDEFINED)?)?;
+    assert!(rt; !program.same(&other));
+    let outcome = outcome_of(alloc, &source);
+    assert_eq!(rt;
+        outcome.messages.as_slice(),
+        b"REFUSED 403 LINE 2\n".as_slice()
+    );
+    Ok(())
+}
+
+// A statement of these characters from column 7 on, over as many lines as it needs, and END.
+fn over_lines(alloc: Global, text: &[u8]) -> Result<Vec<u8>, AllocError> {
+    let mut source = Vec::from_slice(alloc, b"      ")?;
+    for (index, byte) in text.iter().enumerate() {
+        if index > 0 && index % 66 == 0 {
+            source.extend_from_slice(b"\n     +")?;
+        }
+        source.push(*byte)?;
+    }
+    source.extend_from_slice(b"\n      END\n")?;
+    Ok(source)
+}
+
+// A PRINT with so many continuation lines, an item on each.
+fn long_print(alloc: Global, count: usize) -> Result<Vec<u8>, AllocError> {
+    let mut source = Vec::from_slice(alloc, b"      PRINT *,1\n")?;
+    for _line in 0..count {
+        source.extend_from_slice(b"     +,2\n")?;
+    }
+    source.extend_from_slice(b"      END\n")?;
+    Ok(source)
+}
+
+#[test]
+fn continuation_lines(rt: HostRuntime) -> Result<(), Fail> {
+    let alloc = rt.alloc();
+    let most = outcome_of(alloc, &long_print(alloc, 19)?);
+    assert_eq!(rt;
+        most.output.as_slice(),
+        b" 1 2 2 2 2 2 2 2 2 2 2 2 2 2 2 2 2 2 2 2\n".as_slice()
+    );
+    assert_eq!(rt; most.messages.as_slice(), b"".as_slice());
+    assert_eq!(rt; most.run.status, 0);
+    assert!(rt; is_single_steps(most.run.history.as_slice(), 2));
+    let more = outcome_of(alloc, &long_print(alloc, 20)?);
+    assert_eq!(rt; more.output.as_slice(), b"".as_slice());
+    assert_eq!(rt;
+        more.messages.as_slice(),
+        b"REFUSED 104 LINE 21\n".as_slice()
+    );
+    assert_eq!(rt; more.run.status, 1);
+    assert!(rt; is_single_steps(more.run.history.as_slice(), 0));
+    Ok(())
+}
+
+// The parser goes deeper with each parenthesis.
+#[test]
+fn deepest_parentheses(rt: HostRuntime) -> Result<(), Fail> {
+    let alloc = rt.alloc();
+    let mut text = Vec::from_slice(alloc, b"PRINT *,")?;
+    for _open in 0..300u32 {
+        text.push(b'(')?;
+    }
+    text.push(b'7')?;
+    for _close in 0..300u32 {
+        text.push(b')')?;
+    }
+    let deep = outcome_of(alloc, &over_lines(alloc, &text)?);
+    assert_eq!(rt; deep.messages.as_slice(), b"".as_slice());
+    assert_eq!(rt; deep.output.as_slice(), b" 7\n".as_slice());
+    Ok(())
 }
 
 #[test]

@@ -2,8 +2,8 @@ use super::*;
 use crate::fault::ImageFault;
 use crate::image::image_of;
 use hep_source::{
-    Expr, Form, Item, Kind, Name, Operator, Place, PrintItem, PrintList, Program, Statement, Unit,
-    Value,
+    ArithmeticOperator, Expr, Form, Item, Kind, Name, Operator, Place, PrintItem, Program,
+    Sequence, Statement, Target, Text, Unit, Value,
 };
 use std::test::Fail;
 
@@ -20,7 +20,15 @@ fn place(letter: u8) -> Place {
 fn print(alloc: Global, expression: Expr) -> Result<Form, Fail> {
     let mut items = Vec::new(alloc);
     items.push(PrintItem::Expression(expression))?;
-    Ok(Form::Print(PrintList::from(items)))
+    Ok(Form::Print(Sequence::from(items)))
+}
+
+fn assign(alloc: Global, letter: u8, expression: Expr) -> Form {
+    let target = Target {
+        place: place(letter),
+        subscripts: Sequence::from(Vec::new(alloc)),
+    };
+    Form::Assign(target, expression)
 }
 
 // The image of a main program with these statements, in lines from 1 on.
@@ -32,6 +40,7 @@ fn image(alloc: Global, forms: Vec<Form>) -> Result<Image, ImageFault> {
         statements.push(Statement {
             line,
             label: None,
+            conditions: Sequence::from(Vec::new(alloc)),
             form,
         })?;
     }
@@ -44,18 +53,18 @@ fn image(alloc: Global, forms: Vec<Form>) -> Result<Image, ImageFault> {
 fn worked(alloc: Global) -> Result<Image, Fail> {
     let square = Expr::binary(
         alloc,
-        Operator::Multiply,
+        Operator::Arithmetic(ArithmeticOperator::Multiply),
         Expr::place(place(b'I')),
         Expr::place(place(b'I')),
     )?;
     let less = Expr::binary(
         alloc,
-        Operator::Subtract,
+        Operator::Arithmetic(ArithmeticOperator::Subtract),
         square,
         Expr::constant(Value::Int(1)),
     )?;
     let mut forms = Vec::new(alloc);
-    forms.push(Form::Assign(place(b'I'), Expr::constant(Value::Int(3))))?;
+    forms.push(assign(alloc, b'I', Expr::constant(Value::Int(3))))?;
     forms.push(print(alloc, less)?)?;
     forms.push(print(alloc, Expr::place(place(b'J')))?)?;
     forms.push(Form::End)?;
@@ -130,8 +139,38 @@ fn refusal(alloc: Global, forms: Vec<Form>) -> Option<(u16, u32)> {
 fn refuses_a_real_variable(rt: HostRuntime) -> Result<(), Fail> {
     let alloc = rt.alloc();
     let mut forms = Vec::new(alloc);
-    forms.push(Form::Assign(place(b'I'), Expr::place(place(b'A'))))?;
+    forms.push(assign(alloc, b'I', Expr::place(place(b'A'))))?;
     forms.push(Form::End)?;
     assert_eq!(rt; refusal(alloc, forms), Some((301, 1)));
+    Ok(())
+}
+
+// I=A, CONTINUE, END: what doesn't run is refused before a variable's type is looked at.
+#[test]
+fn refuses_what_does_not_run(rt: HostRuntime) -> Result<(), Fail> {
+    let alloc = rt.alloc();
+    let mut forms = Vec::new(alloc);
+    forms.push(assign(alloc, b'I', Expr::place(place(b'A'))))?;
+    forms.push(Form::Continue)?;
+    forms.push(Form::End)?;
+    assert_eq!(rt; refusal(alloc, forms), Some((403, 2)));
+    Ok(())
+}
+
+// PRINT *,.TRUE. with a character constant runs, and an assignment of a truth doesn't.
+#[test]
+fn runs_a_truth_only_by_itself(rt: HostRuntime) -> Result<(), Fail> {
+    let alloc = rt.alloc();
+    let mut items = Vec::new(alloc);
+    items.push(PrintItem::Expression(Expr::constant(Value::Truth(true))))?;
+    items.push(PrintItem::Characters(Text::from(Vec::from_slice(alloc, b"A")?)))?;
+    let mut forms = Vec::new(alloc);
+    forms.push(Form::Print(Sequence::from(items)))?;
+    forms.push(Form::End)?;
+    assert!(rt; refusal(alloc, forms).is_none());
+    let mut forms = Vec::new(alloc);
+    forms.push(assign(alloc, b'L', Expr::constant(Value::Truth(true))))?;
+    forms.push(Form::End)?;
+    assert_eq!(rt; refusal(alloc, forms), Some((403, 1)));
     Ok(())
 }

@@ -1,6 +1,5 @@
 use super::*;
-use crate::fault::ParseFault;
-use hep_text::{Bytes, Spans, Stmt};
+use hep_text::{Bytes, Spans};
 use std::test::Fail;
 
 fn statements(alloc: Global, texts: &[&[u8]]) -> Result<Vec<Stmt>, Fail> {
@@ -18,45 +17,86 @@ fn statements(alloc: Global, texts: &[&[u8]]) -> Result<Vec<Stmt>, Fail> {
     Ok(all)
 }
 
-fn refusal(alloc: Global, texts: &[&[u8]]) -> Result<Option<(u16, u32)>, Fail> {
+/// How many units are read.
+fn units_of(alloc: Global, texts: &[&[u8]]) -> Result<usize, Fail> {
     let given = statements(alloc, texts)?;
     match parse(alloc, &given) {
-        Ok(_) => Ok(None),
-        Err(ParseFault::Refused { number, line, .. }) => Ok(Some((number, line))),
-        Err(ParseFault::NoMemory) => Ok(Some((0, 0))),
+        Ok(program) => Ok(program.as_slice().len()),
+        Err(_) => Ok(0),
+    }
+}
+
+/// Whether the statements are refused so.
+fn tells(alloc: Global, texts: &[&[u8]], refusal: (u16, u32, &[u8])) -> Result<bool, Fail> {
+    let given = statements(alloc, texts)?;
+    match parse(alloc, &given) {
+        Err(ParseFault::Refused { number, line, name }) => {
+            Ok((number, line) == (refusal.0, refusal.1) && name.as_slice() == refusal.2)
+        }
+        _ => Ok(false),
     }
 }
 
 #[test]
-fn reads_and_refuses(rt: HostRuntime) -> Result<(), Fail> {
+fn reads_a_program_of_three_units(rt: HostRuntime) -> Result<(), Fail> {
     let alloc = rt.alloc();
-    assert!(rt; refusal(alloc, &[b"END"])?.is_none());
+    let texts: [&[u8]; 18] = [
+        b"SUBROUTINEONE",
+        b"RETURN",
+        b"END",
+        b"PROGRAMP",
+        b"IMPLICITLOGICAL(L)",
+        b"PARAMETER(N=3)",
+        b"INTEGERA(N)",
+        b"PARAMETER(M=4)",
+        b"COMMON/C/B",
+        b"DATAA/3*0/",
+        b"CALLONE",
+        b"IF(A(1).EQ.0)CALLTWO(M)",
+        b"READ=1",
+        b"END",
+        b"SUBROUTINETWO(I)",
+        b"PRINT*,I",
+        b"IF(L)END",
+        b"END",
+    ];
+    assert!(rt; units_of(alloc, &texts)? == 3);
+    Ok(())
+}
+
+#[test]
+fn refuses_statements(rt: HostRuntime) -> Result<(), Fail> {
+    let alloc = rt.alloc();
+    assert!(rt; tells(alloc, &[b"J=1", b"I=A+-B", b"END"], (201, 2, b""))?);
+    assert!(rt; tells(alloc, &[b"READ(5,10)I", b"END"], (202, 1, b"READ"))?);
+    assert!(rt; tells(alloc, &[b"IF(L)WRITE(6)I", b"END"], (202, 1, b"WRITE"))?);
     assert!(rt;
-        refusal(
+        tells(
             alloc,
-            &[
-                b"PROGRAMP",
-                b"I=-A1*(B+2)**3**C-7/2",
-                b"PRINT*,I,'IT''S',.TRUE.",
-                b"PRINT*",
-                b"END"
-            ]
+            &[b"INTEGERFUNCTIONF(I)", b"END"],
+            (202, 1, b"FUNCTION")
         )?
-        .is_none()
     );
-    assert!(rt; refusal(alloc, &[])? == Some((204, 0)));
-    assert!(rt; refusal(alloc, &[b"I=A+-B", b"END"])? == Some((201, 1)));
+    assert!(rt; tells(alloc, &[b"READ=A+-B", b"END"], (201, 1, b""))?);
+    assert!(rt; tells(alloc, &[b"I=9223372036854775808", b"END"], (203, 1, b""))?);
+    Ok(())
+}
+
+#[test]
+fn refuses_places(rt: HostRuntime) -> Result<(), Fail> {
+    let alloc = rt.alloc();
+    assert!(rt; tells(alloc, &[], (204, 0, b""))?);
+    assert!(rt; tells(alloc, &[b"SUBROUTINES", b"END"], (204, 0, b""))?);
+    assert!(rt; tells(alloc, &[b"I=1", b"PROGRAMP", b"END"], (205, 2, b""))?);
     assert!(rt;
-        refusal(
+        tells(
             alloc,
-            &[b"I=9223372036854775807", b"I=9223372036854775808", b"END"]
-        )? == Some((203, 2))
+            &[b"INTEGERI", b"IMPLICITLOGICAL(L)", b"END"],
+            (205, 2, b"")
+        )?
     );
-    assert!(rt; refusal(alloc, &[b"I=1", b"PROGRAMP", b"END"])? == Some((205, 2)));
-    assert!(rt; refusal(alloc, &[b"I=1", b"END", b"END"])? == Some((205, 3)));
-    assert!(rt; refusal(alloc, &[b"I=1", b"PRINT*"])? == Some((205, 2)));
-    assert!(rt; refusal(alloc, &[b"PRINT*,", b"END"])? == Some((201, 1)));
-    assert!(rt; refusal(alloc, &[b"PRINT=1", b"END=2", b"PROGRA=3", b"END"])?.is_none());
-    assert!(rt; refusal(alloc, &[b"ABCDEFG=1", b"END"])? == Some((201, 1)));
+    assert!(rt; tells(alloc, &[b"DATAI/1/", b"INTEGERI", b"END"], (205, 2, b""))?);
+    assert!(rt; tells(alloc, &[b"I=1", b"END", b"END"], (205, 3, b""))?);
+    assert!(rt; tells(alloc, &[b"I=1", b"PRINT*"], (205, 2, b""))?);
     Ok(())
 }

@@ -1,28 +1,66 @@
-use Rattle.std.proofs.Common.{◌≡◌, ◌∙◌, ap, sym, None}
-use Rattle.std.proofs.lemmas.Result.{err_from_is_err_and, MatchResult-weaker}
-use Rattle.hep_source.specs.Names.{names_in, with_names, first_real}
+use Rattle.std.proofs.Common.{◌≡◌, ◌∙◌, ◌∷◌, [], None, ap, sym, refl, drop}
+use Rattle.std.proofs.lemmas.List.{take_rest}
+use Rattle.std.proofs.lemmas.Result.{err_from_is_err_and}
+use Rattle.hep_source.specs.Names.{names_in, names_in_all, with_names, first_real}
+use Rattle.hep_source.specs.Tree.{trees_of}
 use Rattle.hep_source.specs.View.{node_tree}
-use Rattle.hep_core.proofs.Declared.{with_names-append, first_real-behind, names-before, names-behind}
+use Rattle.hep_core.proofs.Declared.{declares-behind, names-before}
+use Rattle.hep_core.proofs.Lists.{ahead}
 use Rattle.hep_core.proofs.symbols.+declare_in.Goals as goal
 
-pub returns-in_err-declare_in-in-Binary : goal.returns-in_err-declare_in-in-Binary
-returns-in_err-declare_in-in-Binary t c =
-    let p = err_from_is_err_and c.from_residual.result c.from_residual.ensures.1 in
-    let e = ap names_in (sym c.expression.view_is ∙ ap node_tree c.in-Binary.is) in
-    rw (p.1, p.2, e) (names-before c.in_err-declare_in-in-Binary.field-0.0 c.args.line (names_in c.in-Binary.left.value) (names_in c.in-Binary.right.value) (rw (← c.deref-in-Binary.ensures) c.in_err-declare_in-in-Binary.ensures))
+-- ---- a name with a list: its name, and those of the list
 
-pub returns-in_ok-declare_in-in-Binary : goal.returns-in_ok-declare_in-in-Binary
-returns-in_ok-declare_in-in-Binary t c =
+pub declare_in-returns-in_err-declare-in-Listed : goal.declare_in-returns-in_err-declare-in-Listed
+declare_in-returns-in_err-declare-in-Listed t c =
+    let p = err_from_is_err_and c.from_residual.result c.from_residual.ensures.1 in
+    let e = ap names_in (sym c.expression.view_is ∙ ap node_tree c.in-Listed.is) in
+    let ys = c.in-Listed.place.name ∷ [] in
+    let zs = names_in_all (trees_of c.in-Listed.arguments.items) in
+    rw (p.1, p.2, e) (names-before c.in_err-declare-in-Listed.field-0.0 c.args.line ys zs c.in_err-declare-in-Listed.ensures)
+
+pub declare_in-returns-in_ok-declare-in-Listed : goal.declare_in-returns-in_ok-declare-in-Listed
+declare_in-returns-in_ok-declare-in-Listed t c =
+    let e = ap names_in (sym c.expression.view_is ∙ ap node_tree c.in-Listed.is) in
+    let ys = c.in-Listed.place.name ∷ [] in
+    let zs = names_in_all (trees_of c.in-Listed.arguments.items) in
+    let first = c.in_ok-declare-in-Listed.ensures in
+    rw e (declares-behind c.args.line c.args.symbols.now.keys ys zs c.declare-in-Listed.new.symbols.keys c.declare_in_all.new.symbols.keys c.declare_in_all.result first.0 first.1
+    (rw (← c.deref.ensures.value) c.declare_in_all.ensures))
+
+-- ---- two operands
+
+pub declare_in-returns-in_err-declare_in-in-Binary : goal.declare_in-returns-in_err-declare_in-in-Binary
+declare_in-returns-in_err-declare_in-in-Binary t c =
+    let p = err_from_is_err_and c.from_residual-in_err-declare_in-in-Binary.result c.from_residual-in_err-declare_in-in-Binary.ensures.1 in
     let e = ap names_in (sym c.expression.view_is ∙ ap node_tree c.in-Binary.is) in
     let ys = names_in c.in-Binary.left.value in
     let zs = names_in c.in-Binary.right.value in
-    let first = c.in_ok-declare_in-in-Binary.ensures in
-    let none : first_real ys ≡ None = rw (← c.deref-in-Binary.ensures) first.1 in
-    rw e (MatchResult-weaker c.declare_in-in-Binary-2.result c.declare_in-in-Binary-2.ensures
-    (λ x h. (
-      h.0 ∙ ap (λ t. with_names c.declare_in-in-Binary.new.symbols.keys (names_in t)) c.deref-in-Binary-2.ensures
-          ∙ ap (λ xs. with_names xs zs) (first.0 ∙ ap (λ t. with_names c.args.symbols.now.keys (names_in t)) c.deref-in-Binary.ensures)
-          ∙ sym (with_names-append c.args.symbols.now.keys ys zs),
-      first_real-behind ys zs none ∙ rw (← c.deref-in-Binary-2.ensures) h.1,
-    ))
-    (λ y h. names-behind y c.args.line ys zs none (rw (← c.deref-in-Binary-2.ensures) h)))
+    rw (p.1, p.2, e) (names-before c.in_err-declare_in-in-Binary.field-0.0 c.args.line ys zs (rw (← c.deref-in-Binary.ensures) c.in_err-declare_in-in-Binary.ensures))
+
+pub declare_in-returns-in_ok-declare_in-in-Binary : goal.declare_in-returns-in_ok-declare_in-in-Binary
+declare_in-returns-in_ok-declare_in-in-Binary t c =
+    let e = ap names_in (sym c.expression.view_is ∙ ap node_tree c.in-Binary.is) in
+    let ys = names_in c.in-Binary.left.value in
+    let zs = names_in c.in-Binary.right.value in
+    let first : (c.declare_in-in-Binary.new.symbols.keys ≡ with_names c.args.symbols.now.keys ys) × (first_real ys ≡ None) = rw (← c.deref-in-Binary.ensures) c.in_ok-declare_in-in-Binary.ensures in
+    rw e (declares-behind c.args.line c.args.symbols.now.keys ys zs c.declare_in-in-Binary.new.symbols.keys c.declare_in-in-Binary-2.new.symbols.keys c.declare_in-in-Binary-2.result first.0 first.1
+    (rw (← c.deref-in-Binary-2.ensures) c.declare_in-in-Binary-2.ensures))
+
+-- ---- the first expression, and those behind it
+
+pub declare_in_all-returns-in_err-declare_in-in-len1-up : goal.declare_in_all-returns-in_err-declare_in-in-len1-up
+declare_in_all-returns-in_err-declare_in-in-len1-up t c =
+    let p = err_from_is_err_and c.from_residual.result c.from_residual.ensures.1 in
+    let x = c.first-item.result in
+    let xs = c.args.expressions.now in
+    let e = ap (λ l. names_in_all (trees_of l)) (ahead xs 0 x x c.in-len1-up.len_at_least c.first-item.is refl) in
+    rw (p.1, p.2, e) (names-before c.in_err-declare_in-in-len1-up.field-0.0 c.args.line (names_in x) (names_in_all (trees_of (drop 1 xs))) c.in_err-declare_in-in-len1-up.ensures)
+
+pub declare_in_all-returns-in_ok-declare_in-in-len1-up : goal.declare_in_all-returns-in_ok-declare_in-in-len1-up
+declare_in_all-returns-in_ok-declare_in-in-len1-up t c =
+    let x = c.first-item.result in
+    let xs = c.args.expressions.now in
+    let e = ap (λ l. names_in_all (trees_of l)) (ahead xs 0 x x c.in-len1-up.len_at_least c.first-item.is refl) in
+    let first = c.in_ok-declare_in-in-len1-up.ensures in
+    rw e (declares-behind c.args.line c.args.symbols.now.keys (names_in x) (names_in_all (trees_of (drop 1 xs))) c.declare_in.new.symbols.keys c.declare_in_all.new.symbols.keys c.declare_in_all.result first.0 first.1
+    (rw (← take_rest xs 1) c.declare_in_all.ensures))

@@ -1,24 +1,34 @@
-use Rattle.std.proofs.Common.{◌≡◌, ◌∙◌, sym, refl, false, length}
+use Rattle.std.proofs.Common.{◌≡◌, ◌∙◌, sym, refl, false, length, arith}
 use Rattle.std.proofs.lemmas.Result.{err_from_is_err_and}
 use Rattle.std.proofs.lemmas.Bool.{eqb-true}
 use Rattle.hep_text.specs.Line.{lines}
 use Rattle.hep_text.specs.Reading.{is_too_large}
 use Rattle.hep_text.specs.Progress.{done_of, pending_of}
 use Rattle.hep_text.proofs.Shape.{shape_of}
-use Rattle.hep_text.proofs.Joining.{too_large, all_lines, next_of}
+use Rattle.hep_text.proofs.Joining.{too_large, not_too_large, all_lines, next_of}
 use Rattle.hep_text.proofs.reading.statements.Goals as goal
 
 pub returns-then-is_too_large-clause-refused : goal.returns-then-is_too_large-clause-refused
 returns-then-is_too_large-clause-refused c =
     rw c.refused.ensures (too_large c.args.source.now (sym c.is_too_large.ensures.value ∙ c.if-is_too_large.true), refl)
 
+pub loop-rest-preserved : goal.loop-rest-preserved
+loop-rest-preserved c =
+    let reading = c.loop-rest.reading in
+    let next = next_of (done_of reading) (pending_of reading.pending) c.loop-rest.number c.loop-rest.rest.now c.args.source.now c.next_line.result.0.now c.next_line.result.1.now c.next_line.ensures.cut c.loop-rest.invariant.joined in
+    record {
+      joined = sym (c.in_ok-take_line.ensures.ok (lines c.next_line.result.1.now)) ∙ next;
+      small = omega (arith, c.loop-rest.invariant.small, c.next_line.ensures.less);
+    }
+
 pub returns-in_err-take_line-clause-refused : goal.returns-in_err-take_line-clause-refused
 returns-in_err-take_line-clause-refused c =
     let reading = c.loop-rest.reading in
     let small : is_too_large c.args.source.now ≡ false = sym c.is_too_large.ensures.value ∙ c.if-is_too_large.false in
-    let next = next_of (done_of reading) (pending_of reading.pending) c.loop-rest.number c.loop-rest.rest.now c.args.source.now c.next_line.result.0.now c.next_line.result.1.now small c.next_line.ensures.cut c.loop-rest.invariant.joined in
+    let next = next_of (done_of reading) (pending_of reading.pending) c.loop-rest.number c.loop-rest.rest.now c.args.source.now c.next_line.result.0.now c.next_line.result.1.now c.next_line.ensures.cut c.loop-rest.invariant.joined in
+    let all = not_too_large c.args.source.now small ∙ sym next in
     let p = err_from_is_err_and c.from_residual.result c.from_residual.ensures.1 in
-    rw (p.1, p.2, next) (c.in_err-take_line.ensures.err (lines c.next_line.result.1.now))
+    rw (p.1, p.2, all) (c.in_err-take_line.ensures.err (lines c.next_line.result.1.now))
 
 pub returns-clause-ok : goal.returns-clause-ok
 returns-clause-ok c =

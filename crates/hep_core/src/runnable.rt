@@ -1,0 +1,95 @@
+//! What runs today. Everything else of the language is refused with 403 (docs/MACHINE.md).
+ghost use Rattle.std.specs.Prelude.{◌≡◌};
+ghost use Rattle.std.specs.List.{list_all};
+ghost use Rattle.hep_core.specs.Runnable as runnable;
+
+use hep_source::{Expr, Form, Node, Operator, PrintItem, Statement, Target, Unit, Value};
+
+/// Whether an expression is arithmetic (X3.9-1978, 6.1) and runs: integers and the names of
+/// variables without `$`, in parentheses, with signs and operators.
+pub fn is_arithmetic(expression: &Expr) -> bool
+    ensures { result ≡ runnable.is_arithmetic expression.now }
+{
+    match &expression.node {
+        Node::Constant(Value::Int(_)) => true,
+        Node::Place(place) => !place.name.asynchronous,
+        Node::Parenthesized(inner) => is_arithmetic(inner),
+        Node::Signed(_, term) => is_arithmetic(term),
+        Node::Binary(Operator::Arithmetic(_), left, right) => {
+            is_arithmetic(left) && is_arithmetic(right)
+        }
+        _ => false,
+    }
+}
+
+/// Whether an item of PRINT runs: an arithmetic expression, a logical constant by itself, or a
+/// character constant.
+pub fn runs_item(item: &PrintItem) -> bool
+    ensures { result ≡ runnable.runs_item item.now }
+{
+    match item {
+        PrintItem::Expression(expression) => match &expression.node {
+            Node::Constant(Value::Truth(_)) => true,
+            _ => is_arithmetic(expression),
+        },
+        PrintItem::Characters(_) => true,
+    }
+}
+
+// Whether each of these items runs.
+fn all_run(items: &[PrintItem]) -> bool
+    ensures { result ≡ list_all runnable.runs_item items.now }
+{
+    items.iter().all(|item| runs_item(item))
+}
+
+// Whether it is a variable without `$` and without subscripts.
+fn is_variable(target: &Target) -> bool
+    ensures { result ≡ runnable.is_variable target.now }
+{
+    !target.place.name.asynchronous && target.subscripts.as_slice().is_empty()
+}
+
+/// Whether what a statement says runs.
+pub fn runs_form(form: &Form) -> bool
+    ensures { result ≡ runnable.runs_form form.now }
+{
+    match form {
+        Form::Program(_) => true,
+        Form::Assign(target, expression) => is_variable(target) && is_arithmetic(expression),
+        Form::Print(list) => all_run(list.as_slice()),
+        Form::End => true,
+        _ => false,
+    }
+}
+
+/// Whether a statement runs: it is no logical IF, and what it says runs.
+pub fn runs(statement: &Statement) -> bool
+    ensures { result ≡ runnable.runs statement.now }
+{
+    statement.conditions.as_slice().is_empty() && runs_form(&statement.form)
+}
+
+/// The line of the first of these statements that doesn't run.
+pub fn first_unrun(statements: &[Statement]) -> Option<u32>
+    ensures { result ≡ runnable.first_unrun statements.now }
+{
+    for statement in statements {
+        if !runs(statement) {
+            return Some(statement.line);
+        }
+    }
+    None
+}
+
+/// The line of the first statement that doesn't run, over all units in the order of the source.
+pub fn first_unrun_in(units: &[Unit]) -> Option<u32>
+    ensures { result ≡ runnable.first_unrun_in units.now }
+{
+    for unit in units {
+        if let Some(line) = first_unrun(unit.as_slice()) {
+            return Some(line);
+        }
+    }
+    None
+}

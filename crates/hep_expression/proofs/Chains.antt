@@ -1,0 +1,94 @@
+-- One turn of the loops that read operators with their operands, and arguments.
+use Rattle.std.proofs.Common.{◌≡◌, ℕ, suc, ◌+◌, ◌-◌, ◌<◌, ◌≤◌, List, [], ◌∷◌, ◌++◌, Option, Some, None, refl, sym, ap, ◌∙◌, arith}
+use Rattle.hep_source.specs.Tree.{Tree, Trees, binary, no_trees, trees, trees_of}
+use Rattle.hep_source.specs.declared.operator.Operator.{Operator}
+use Rattle.hep_expression.specs.declared.unread.Unread.{Unread}
+use Rattle.hep_expression.specs.declared.unread.Unread.TheVariants as unread
+use Rattle.hep_expression.specs.Reading.{◌>>=◌, after, Fails}
+use Rattle.hep_expression.specs.ReadingExpression.{Reader, operator_at, chain, arguments}
+
+-- n turns are allowed, i of them are done, and the rest of the chain gives the whole.
+module _ (among : List Operator) (next : Reader) (n i : ℕ) (t : Tree) (s : List ℕ) (whole : Option (Tree × List ℕ)) where
+  pub chain_goes_on : (o : Operator) (y : Tree) (m r : List ℕ) → i < n → operator_at among s ≡ Some (o, m) → next m ≡ Some (y, r) → chain among next (n - i) t s ≡ whole → chain among next (n - (i + 1)) (binary o t y) r ≡ whole
+  unfolding chain
+  chain_goes_on o y m r lt is_operator is_operand so_far =
+      let left : n - i ≡ suc (n - (i + 1)) = omega arith in
+      let turn : chain among next (n - i) t s ≡ chain among next (n - (i + 1)) (binary o t y) r = rw (left, is_operator, is_operand) refl in
+      sym turn ∙ so_far
+
+  pub chain_ends : i < n → operator_at among s ≡ None → chain among next (n - i) t s ≡ whole → whole ≡ Some (t, s)
+  unfolding chain
+  chain_ends lt is_none so_far =
+      let left : n - i ≡ suc (n - (i + 1)) = omega arith in
+      let turn : chain among next (n - i) t s ≡ Some (t, s) = rw (left, is_none) refl in
+      sym so_far ∙ turn
+
+  pub chain_is_over : n ≤ i → chain among next (n - i) t s ≡ whole → whole ≡ Some (t, s)
+  unfolding chain
+  chain_is_over le so_far =
+      let left : n - i ≡ 0 = omega arith in
+      let turn : chain among next (n - i) t s ≡ Some (t, s) = rw left refl in
+      sym so_far ∙ turn
+
+  pub chain_fails : (why : Unread) (o : Operator) (m : List ℕ) → i < n → operator_at among s ≡ Some (o, m) → Fails why (next m) → chain among next (n - i) t s ≡ whole → Fails why whole
+  unfolding chain
+  chain_fails unread.NoMemory o m lt is_operator fails so_far = tt
+  chain_fails unread.NoReading o m lt is_operator fails so_far =
+      let left : n - i ≡ suc (n - (i + 1)) = omega arith in
+      let turn : chain among next (n - i) t s ≡ None = rw (left, is_operator, fails) refl in
+      sym so_far ∙ turn
+
+-- what is read behind arguments that were read before
+abbrev pub behind_read : List Tree → Option (Trees × List ℕ) → Option (Trees × List ℕ)
+behind_read [] read = read
+behind_read (t ∷ ts) read = behind_read ts read >>= λ x. Some (trees t x.0, x.1)
+
+nothing_behind : (ts : List Tree) → behind_read ts None ≡ None
+nothing_behind [] = refl
+nothing_behind (t ∷ ts) = ap (λ (read : Option (Trees × List ℕ)). read >>= λ x. Some (trees t x.0, x.1)) (nothing_behind ts)
+
+last_behind : (ts : List Tree) (u : Tree) (r : List ℕ) → behind_read ts (Some (trees u no_trees, r)) ≡ Some (trees_of (ts ++ u ∷ []), r)
+last_behind [] u r = refl
+last_behind (t ∷ ts) u r = ap (λ (read : Option (Trees × List ℕ)). read >>= λ x. Some (trees t x.0, x.1)) (last_behind ts u r)
+
+more_behind : (ts : List Tree) (u : Tree) (read : Option (Trees × List ℕ)) → behind_read ts (read >>= λ x. Some (trees u x.0, x.1)) ≡ behind_read (ts ++ u ∷ []) read
+more_behind [] u read = refl
+more_behind (t ∷ ts) u read = ap (λ (read : Option (Trees × List ℕ)). read >>= λ x. Some (trees t x.0, x.1)) (more_behind ts u read)
+
+-- The same for arguments: those in ts are read, and s follows them.
+module _ (inner : Reader) (n i : ℕ) (ts : List Tree) (s : List ℕ) (whole : Option (Trees × List ℕ)) where
+  pub arguments_go_on : (u : Tree) (r m : List ℕ) → i < n → inner s ≡ Some (u, r) → after 41 r ≡ None → after 44 r ≡ Some m → behind_read ts (arguments inner (n - i) s) ≡ whole → behind_read (ts ++ u ∷ []) (arguments inner (n - (i + 1)) m) ≡ whole
+  unfolding arguments
+  arguments_go_on u r m lt is_argument no_end comma so_far =
+      let left : n - i ≡ suc (n - (i + 1)) = omega arith in
+      let turn : behind_read ts (arguments inner (n - i) s) ≡ behind_read (ts ++ u ∷ []) (arguments inner (n - (i + 1)) m) = rw (left, is_argument, no_end, comma) (more_behind ts u (arguments inner (n - (i + 1)) m)) in
+      sym turn ∙ so_far
+
+  pub arguments_end : (u : Tree) (r m : List ℕ) → i < n → inner s ≡ Some (u, r) → after 41 r ≡ Some m → behind_read ts (arguments inner (n - i) s) ≡ whole → whole ≡ Some (trees_of (ts ++ u ∷ []), m)
+  unfolding arguments
+  arguments_end u r m lt is_argument end so_far =
+      let left : n - i ≡ suc (n - (i + 1)) = omega arith in
+      let turn : behind_read ts (arguments inner (n - i) s) ≡ Some (trees_of (ts ++ u ∷ []), m) = rw (left, is_argument, end) (last_behind ts u m) in
+      sym so_far ∙ turn
+
+  pub arguments_stop : (u : Tree) (r : List ℕ) → i < n → inner s ≡ Some (u, r) → after 41 r ≡ None → after 44 r ≡ None → behind_read ts (arguments inner (n - i) s) ≡ whole → whole ≡ None
+  unfolding arguments
+  arguments_stop u r lt is_argument no_end no_comma so_far =
+      let left : n - i ≡ suc (n - (i + 1)) = omega arith in
+      let turn : behind_read ts (arguments inner (n - i) s) ≡ None = rw (left, is_argument, no_end, no_comma) (nothing_behind ts) in
+      sym so_far ∙ turn
+
+  pub arguments_are_over : n ≤ i → behind_read ts (arguments inner (n - i) s) ≡ whole → whole ≡ None
+  unfolding arguments
+  arguments_are_over le so_far =
+      let left : n - i ≡ 0 = omega arith in
+      let turn : behind_read ts (arguments inner (n - i) s) ≡ None = rw left (nothing_behind ts) in
+      sym so_far ∙ turn
+
+  pub arguments_fail : (why : Unread) → i < n → Fails why (inner s) → behind_read ts (arguments inner (n - i) s) ≡ whole → Fails why whole
+  unfolding arguments
+  arguments_fail unread.NoMemory lt fails so_far = tt
+  arguments_fail unread.NoReading lt fails so_far =
+      let left : n - i ≡ suc (n - (i + 1)) = omega arith in
+      let turn : behind_read ts (arguments inner (n - i) s) ≡ None = rw (left, fails) (nothing_behind ts) in
+      sym so_far ∙ turn

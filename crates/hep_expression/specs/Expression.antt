@@ -1,0 +1,136 @@
+-- The grammar of expressions: which texts read as which trees (X3.9-1978, section 6).
+use Rattle.std.specs.Prelude.{◌≡◌, ℕ, ◌≤◌, codes, List, [], ◌++◌}
+use Rattle.hep_source.specs.Tree.{Tree, Trees, constant, place, listed, parenthesized, signed, negated, binary, no_trees, trees}
+use Rattle.hep_source.specs.declared.value.Value.TheVariants.{Int, Truth}
+use Rattle.hep_source.specs.declared.operator.Sign.{Sign}
+use Rattle.hep_source.specs.declared.operator.Sign.TheVariants.{Plus, Minus}
+use Rattle.hep_source.specs.declared.operator.Operator.{Operator}
+use Rattle.hep_source.specs.declared.operator.Operator.TheVariants.{Arithmetic, Relational, Logical}
+use Rattle.hep_source.specs.declared.operator.ArithmeticOperator.TheVariants.{Add, Subtract, Multiply, Divide, Power}
+use Rattle.hep_source.specs.declared.operator.RelationalOperator.TheVariants.{Less, LessOrEqual, Equal, NotEqual, Greater, GreaterOrEqual}
+use Rattle.hep_source.specs.declared.operator.LogicalOperator.TheVariants.{And, Or, Equivalent, NotEquivalent}
+use Rattle.hep_expression.specs.declared.characters.Context.{Context}
+use Rattle.hep_expression.specs.Characters.{ReadsPlace, IsDigits, IsInteger, truth_spelling}
+
+-- The levels of an expression, from the loosest to the tightest (X3.9-1978, 6.5, with 6.1.2, 6.3 and
+-- 6.4.2). An expression reads at the loosest level.
+abbrev pub equivalence : ℕ
+equivalence = 0
+
+abbrev pub disjunction : ℕ
+disjunction = 1
+
+abbrev pub conjunction : ℕ
+conjunction = 2
+
+abbrev pub negation : ℕ
+negation = 3
+
+abbrev pub relation : ℕ
+relation = 4
+
+abbrev pub sum : ℕ
+sum = 5
+
+abbrev pub term : ℕ
+term = 6
+
+abbrev pub power : ℕ
+power = 7
+
+abbrev pub primary : ℕ
+primary = 8
+
+-- the level of what an operator makes (X3.9-1978, 6.1.2, 6.3 and 6.4.2)
+abbrev pub level : Operator → ℕ
+level (Arithmetic Add) = sum
+level (Arithmetic Subtract) = sum
+level (Arithmetic Multiply) = term
+level (Arithmetic Divide) = term
+level (Arithmetic Power) = power
+level (Relational o) = relation
+level (Logical And) = conjunction
+level (Logical Or) = disjunction
+level (Logical Equivalent) = equivalence
+level (Logical NotEquivalent) = equivalence
+
+-- the level of its left operand: + - * / .AND. .OR. .EQV. .NEQV. go from left to right, and a
+-- relation is no operand of a relation
+abbrev pub left : Operator → ℕ
+left (Arithmetic Add) = sum
+left (Arithmetic Subtract) = sum
+left (Arithmetic Multiply) = term
+left (Arithmetic Divide) = term
+left (Arithmetic Power) = primary
+left (Relational o) = sum
+left (Logical And) = conjunction
+left (Logical Or) = disjunction
+left (Logical Equivalent) = equivalence
+left (Logical NotEquivalent) = equivalence
+
+-- the level of its right operand: ** goes from right to left
+abbrev pub right : Operator → ℕ
+right (Arithmetic Add) = term
+right (Arithmetic Subtract) = term
+right (Arithmetic Multiply) = power
+right (Arithmetic Divide) = power
+right (Arithmetic Power) = power
+right (Relational o) = sum
+right (Logical And) = negation
+right (Logical Or) = conjunction
+right (Logical Equivalent) = disjunction
+right (Logical NotEquivalent) = disjunction
+
+-- X3.9-1978, 6.1.1, 6.3.1 and 6.4.1
+abbrev pub spelling : Operator → List ℕ
+spelling (Arithmetic Add) = codes "+"
+spelling (Arithmetic Subtract) = codes "-"
+spelling (Arithmetic Multiply) = codes "*"
+spelling (Arithmetic Divide) = codes "/"
+spelling (Arithmetic Power) = codes "**"
+spelling (Relational Less) = codes ".LT."
+spelling (Relational LessOrEqual) = codes ".LE."
+spelling (Relational Equal) = codes ".EQ."
+spelling (Relational NotEqual) = codes ".NE."
+spelling (Relational Greater) = codes ".GT."
+spelling (Relational GreaterOrEqual) = codes ".GE."
+spelling (Logical And) = codes ".AND."
+spelling (Logical Or) = codes ".OR."
+spelling (Logical Equivalent) = codes ".EQV."
+spelling (Logical NotEquivalent) = codes ".NEQV."
+
+-- the same of a sign: it stands before the first term of a sum, and its operand is a whole term
+abbrev pub sign_level : Sign → ℕ
+sign_level Plus = sum
+sign_level Minus = sum
+
+abbrev pub operand : Sign → ℕ
+operand Plus = term
+operand Minus = term
+
+abbrev pub sign_spelling : Sign → List ℕ
+sign_spelling Plus = codes "+"
+sign_spelling Minus = codes "-"
+
+abbrev mutual
+  -- The text s begins with this tree, read at this level, and goes on with r.
+  pub Reads : Context → Tree → ℕ → List ℕ → List ℕ → Type 0
+  Reads k (constant (Int v)) l s r = (d : List ℕ) × IsDigits d × (s ≡ d ++ r) × IsInteger k.sizes d v
+  Reads k (constant (Truth b)) l s r = s ≡ truth_spelling b ++ r
+  Reads k (place p) l s r = ReadsPlace k p s r
+  Reads k (listed p ts) l s r = (m : List ℕ) × ReadsPlace k p s (codes "(" ++ m) × ReadsAll k ts m r
+  Reads k (parenthesized t) l s r = (m : List ℕ) × (s ≡ codes "(" ++ m) × Reads k t equivalence m (codes ")" ++ r)
+  Reads k (signed g t) l s r = (l ≤ sign_level g) × (m : List ℕ) × (s ≡ sign_spelling g ++ m) × Reads k t (operand g) m r
+  Reads k (negated t) l s r = (l ≤ negation) × (m : List ℕ) × (s ≡ codes ".NOT." ++ m) × Reads k t relation m r
+  Reads k (binary o a b) l s r = (l ≤ level o) × (m : List ℕ) × Reads k a (left o) s (spelling o ++ m) × Reads k b (right o) m r
+
+  -- The text s begins with these expressions with commas between them and `)` behind the last, and
+  -- goes on with r.
+  pub ReadsAll : Context → Trees → List ℕ → List ℕ → Type 0
+  ReadsAll k no_trees s r = ⊥
+  ReadsAll k (trees t no_trees) s r = Reads k t equivalence s (codes ")" ++ r)
+  ReadsAll k (trees t (trees u ts)) s r = (m : List ℕ) × Reads k t equivalence s (codes "," ++ m) × ReadsAll k (trees u ts) m r
+
+-- The whole text is this expression.
+abbrev pub IsExpression : Context → List ℕ → Tree → Type 0
+IsExpression k s t = Reads k t equivalence s []

@@ -1,0 +1,4 @@
+pub mod Characters
+pub mod Expression
+pub mod Reading
+pub mod ReadingExpression

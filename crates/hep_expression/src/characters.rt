@@ -1,0 +1,218 @@
+//! Names, constants and words.
+ghost use Rattle.std.specs.Prelude.{◌≡◌, false, ◌-◌, ◌≤◌, ◌^◌, MatchOption, length, option_map};
+ghost use Rattle.hep_expression.specs.Characters as grammar;
+ghost use Rattle.hep_expression.specs.Reading as reading;
+ghost use Rattle.hep_expression.specs.Reading.{Gives};
+ghost use Rattle.hep_expression.specs.declared.characters.Sizes.TheVariants.{Fitting};
+
+use crate::unread::Unread;
+use hep_source::{Name, Place};
+
+/// Which integer constants are read.
+#[derive(Clone, Copy, Debug, PartialEq, Eq)]
+pub enum Sizes {
+    /// Those up to 9223372036854775807.
+    Fitting,
+    /// Those of any size; one that is too large stands for the greatest integer.
+    Any,
+}
+
+/// What a reader knows of the statement.
+#[derive(Clone, Copy, Debug, PartialEq, Eq)]
+pub struct Context {
+    pub sizes: Sizes,
+    /// How many characters the statement's text has.
+    pub length: usize,
+}
+
+/// A class of characters (X3.9-1978, 3.1).
+#[derive(Clone, Copy, Debug, PartialEq, Eq)]
+enum Class {
+    Digits,
+    LettersAndDigits,
+}
+
+impl Class {
+    /// Whether the class has this character.
+    fn has(self, c: u8) -> bool
+        ensures { result ≡ reading.has self c }
+    {
+        match self {
+            Class::Digits => is_digit(c),
+            Class::LettersAndDigits => is_letter(c) || is_digit(c),
+        }
+    }
+}
+
+/// Whether a character is a digit (X3.9-1978, 3.1.2).
+fn is_digit(c: u8) -> bool
+    ensures { result ≡ grammar.is_digit c }
+{
+    b'0' <= c && c <= b'9'
+}
+
+/// Whether a character is a letter (X3.9-1978, 3.1.1).
+fn is_letter(c: u8) -> bool
+    ensures { result ≡ grammar.is_letter c }
+{
+    b'A' <= c && c <= b'Z'
+}
+
+/// The characters of a class that stand in a row at the front, and what follows them.
+fn split_front(class: Class, s: &[u8]) -> (&[u8], &[u8])
+    ensures front { result.0.now ≡ reading.front (reading.has class) s.now }
+    ensures behind { result.1.now ≡ reading.behind (reading.has class) s.now }
+{
+    for i in 0..s.len() {
+        if !class.has(s[i]) {
+            return (&s[..i], &s[i..]);
+        }
+    }
+    (s, &s[s.len()..])
+}
+
+/// What was read, where nothing follows it.
+///
+/// # Errors
+///
+/// No reading, where something follows.
+pub fn all_read<T: Drop>(read: T, rest: &[u8]) -> Result<T, Unread>
+    ensures { Gives (λ x. x) result (reading.all_read read rest.now) }
+{
+    match rest {
+        [] => Ok(read),
+        [_, ..] => Err(Unread::NoReading),
+    }
+}
+
+/// What follows where the text begins with this character.
+pub fn after(c: u8, s: &[u8]) -> Option<&[u8]>
+    ensures { option_map (λ x. x.now) result ≡ reading.after c s.now }
+{
+    let [first, rest @ ..] = s else { return None };
+    if *first == c { Some(rest) } else { None }
+}
+
+/// What follows where the text begins with these characters.
+pub fn after_text<'a>(word: &[u8], s: &'a [u8]) -> Option<&'a [u8]>
+    ensures { option_map (λ x. x.now) result ≡ reading.after_text word.now s.now }
+{
+    match word {
+        [] => Some(s),
+        [c, word @ ..] => {
+            let rest = after(*c, s)?;
+            after_text(word, rest)
+        }
+    }
+}
+
+/// A word with blanks behind it up to six characters.
+fn padded(word: &[u8]) -> [u8; 6]
+    requires { length word.now ≤ 6 }
+    ensures { result ≡ (grammar.named false word.now).letters }
+{
+    let mut letters = [b' '; 6];
+    letters[..word.len()].copy_from_slice(word);
+    letters
+}
+
+/// A name at the front (X3.9-1978, 2.2) behind its sign `$`, if it has one, and what follows it: one
+/// to six letters or digits, the first a letter. More letters and digits in a row are no name.
+fn letters_at(asynchronous: bool, s: &[u8]) -> Option<(Name, &[u8])>
+    ensures { option_map (λ x. (x.0, x.1.now)) result ≡ reading.letters_at asynchronous s.now }
+{
+    let [first, ..] = s else { return None };
+    if !is_letter(*first) {
+        return None;
+    }
+    let (word, rest) = split_front(Class::LettersAndDigits, s);
+    if word.len() > 6 {
+        return None;
+    }
+    let name = Name {
+        asynchronous,
+        letters: padded(word),
+    };
+    Some((name, rest))
+}
+
+/// A name at the front, which may have the sign `$`, and what follows it.
+fn name_at(s: &[u8]) -> Option<(Name, &[u8])>
+    ensures { option_map (λ x. (x.0, x.1.now)) result ≡ reading.name_at s.now }
+{
+    match after(b'$', s) {
+        Some(letters) => letters_at(true, letters),
+        None => letters_at(false, s),
+    }
+}
+
+/// How many characters of the statement stand before an end of its text.
+fn position_of(context: Context, s: &[u8]) -> usize
+    ensures { result ≡ context.length - length s.now }
+{
+    // s is an end of the statement's text, so nothing saturates.
+    context.length.saturating_sub(s.len())
+}
+
+/// A name at the front, which may have the sign `$`, with how many characters of the statement
+/// stand before it, and what follows it.
+pub fn place_at(context: Context, s: &[u8]) -> Option<(Place, &[u8])>
+    ensures { option_map (λ x. (x.0, x.1.now)) result ≡ reading.place_at context s.now }
+{
+    let (name, rest) = name_at(s)?;
+    let position = position_of(context, s);
+    Some((Place { name, position }, rest))
+}
+
+/// The same of a name without `$`.
+pub fn plain_place_at(context: Context, s: &[u8]) -> Option<(Place, &[u8])>
+    ensures { option_map (λ x. (x.0, x.1.now)) result ≡ reading.plain_place_at context s.now }
+{
+    let (name, rest) = letters_at(false, s)?;
+    let position = position_of(context, s);
+    Some((Place { name, position }, rest))
+}
+
+/// The number that digits stand for, where it has 64 bits.
+#[tactic(auto, using(crate::proofs::Decimals::goes_on, crate::proofs::Decimals::is_large))]
+fn number(digits: &[u8]) -> Option<u64>
+    ensures { MatchOption result (2 ^ 64 ≤ grammar.decimal digits.now) (λ n. n ≡ grammar.decimal digits.now) }
+{
+    let mut value: u64 = 0;
+    for c in digits {
+        let digit = c.saturating_sub(b'0') as u64;
+        value = value.checked_mul(10)?.checked_add(digit)?;
+    }
+    Some(value)
+}
+
+/// The integer that digits stand for, where it is not above the greatest.
+fn integer(digits: &[u8]) -> Option<i64>
+    ensures { result ≡ reading.integer Fitting (grammar.decimal digits.now) }
+{
+    i64::try_from(number(digits)?).ok()
+}
+
+/// An integer constant at the front (X3.9-1978, 4.3.1), and what follows it.
+pub fn integer_at(context: Context, s: &[u8]) -> Option<(i64, &[u8])>
+    ensures { option_map (λ x. (x.0, x.1.now)) result ≡ reading.integer_at context s.now }
+{
+    let (digits, rest) = split_front(Class::Digits, s);
+    let [_, ..] = digits else { return None };
+    match (integer(digits), context.sizes) {
+        (Some(value), _) => Some((value, rest)),
+        (None, Sizes::Any) => Some((i64::MAX, rest)),
+        (None, Sizes::Fitting) => None,
+    }
+}
+
+/// A logical constant at the front (X3.9-1978, 4.7.1), and what follows it.
+pub fn truth_at(s: &[u8]) -> Option<(bool, &[u8])>
+    ensures { option_map (λ x. (x.0, x.1.now)) result ≡ reading.truth_at s.now }
+{
+    if let Some(rest) = after_text(b".TRUE.", s) {
+        return Some((true, rest));
+    }
+    let rest = after_text(b".FALSE.", s)?;
+    Some((false, rest))
+}

@@ -1,0 +1,401 @@
+//! Reading expressions (X3.9-1978, section 6): a function for each level, from the loosest to the
+//! tightest, and one for the levels at which operators go from left to right.
+ghost use Rattle.std.specs.Prelude.{◌≡◌, length, option_map};
+ghost use Rattle.hep_source.specs.Tree.{trees_of};
+ghost use Rattle.hep_expression.specs.Expression as grammar;
+ghost use Rattle.hep_expression.specs.Reading.{Gives};
+ghost use Rattle.hep_expression.specs.ReadingExpression as reading;
+
+use crate::characters::{Context, after, after_text, all_read, integer_at, place_at, truth_at};
+use crate::unread::Unread;
+use hep_source::{
+    ArithmeticOperator, Expr, LogicalOperator, Operator, Place, RelationalOperator, Sign, Value,
+};
+use std::alloc::Global;
+
+/// How an operator is written (X3.9-1978, 6.1.1, 6.3.1 and 6.4.1).
+fn spelling(operator: Operator) -> &'static [u8]
+    ensures { result.now ≡ grammar.spelling operator }
+{
+    match operator {
+        Operator::Arithmetic(ArithmeticOperator::Add) => b"+",
+        Operator::Arithmetic(ArithmeticOperator::Subtract) => b"-",
+        Operator::Arithmetic(ArithmeticOperator::Multiply) => b"*",
+        Operator::Arithmetic(ArithmeticOperator::Divide) => b"/",
+        Operator::Arithmetic(ArithmeticOperator::Power) => b"**",
+        Operator::Relational(RelationalOperator::Less) => b".LT.",
+        Operator::Relational(RelationalOperator::LessOrEqual) => b".LE.",
+        Operator::Relational(RelationalOperator::Equal) => b".EQ.",
+        Operator::Relational(RelationalOperator::NotEqual) => b".NE.",
+        Operator::Relational(RelationalOperator::Greater) => b".GT.",
+        Operator::Relational(RelationalOperator::GreaterOrEqual) => b".GE.",
+        Operator::Logical(LogicalOperator::And) => b".AND.",
+        Operator::Logical(LogicalOperator::Or) => b".OR.",
+        Operator::Logical(LogicalOperator::Equivalent) => b".EQV.",
+        Operator::Logical(LogicalOperator::NotEquivalent) => b".NEQV.",
+    }
+}
+
+/// A level at which operators go from left to right (X3.9-1978, 6.1.2 and 6.4.2), from the loosest
+/// to the tightest.
+#[derive(Clone, Copy, Debug, PartialEq, Eq)]
+enum Level {
+    /// Of `.EQV.` and `.NEQV.`
+    Equivalence,
+    /// Of `.OR.`
+    Disjunction,
+    /// Of `.AND.`
+    Conjunction,
+    /// Of `+` and `-`
+    Sum,
+    /// Of `*` and `/`
+    Term,
+}
+
+impl Level {
+    /// The operators of the level.
+    fn operators(self) -> &'static [Operator]
+        ensures { result.now ≡ reading.operators self }
+    {
+        match self {
+            Level::Equivalence => &[
+                Operator::Logical(LogicalOperator::Equivalent),
+                Operator::Logical(LogicalOperator::NotEquivalent),
+            ],
+            Level::Disjunction => &[Operator::Logical(LogicalOperator::Or)],
+            Level::Conjunction => &[Operator::Logical(LogicalOperator::And)],
+            Level::Sum => &[
+                Operator::Arithmetic(ArithmeticOperator::Add),
+                Operator::Arithmetic(ArithmeticOperator::Subtract),
+            ],
+            Level::Term => &[
+                Operator::Arithmetic(ArithmeticOperator::Multiply),
+                Operator::Arithmetic(ArithmeticOperator::Divide),
+            ],
+        }
+    }
+}
+
+/// The operators of a relation (X3.9-1978, 6.3.1).
+fn comparing() -> &'static [Operator]
+    ensures { result.now ≡ reading.comparing }
+{
+    &[
+        Operator::Relational(RelationalOperator::Less),
+        Operator::Relational(RelationalOperator::LessOrEqual),
+        Operator::Relational(RelationalOperator::Equal),
+        Operator::Relational(RelationalOperator::NotEqual),
+        Operator::Relational(RelationalOperator::Greater),
+        Operator::Relational(RelationalOperator::GreaterOrEqual),
+    ]
+}
+
+/// The first of these operators that the text begins with, and what follows it.
+fn operator_at<'a>(among: &[Operator], s: &'a [u8]) -> Option<(Operator, &'a [u8])>
+    ensures { option_map (λ x. (x.0, x.1.now)) result ≡ reading.operator_at among.now s.now }
+{
+    match among {
+        [] => None,
+        [operator, others @ ..] => match after_text(spelling(*operator), s) {
+            Some(rest) => Some((*operator, rest)),
+            None => operator_at(others, s),
+        },
+    }
+}
+
+/// A sign at the front, and what follows it.
+fn sign_at(s: &[u8]) -> Option<(Sign, &[u8])>
+    ensures { option_map (λ x. (x.0, x.1.now)) result ≡ reading.sign_at s.now }
+{
+    if let Some(rest) = after_text(b"+", s) {
+        return Some((Sign::Plus, rest));
+    }
+    let rest = after_text(b"-", s)?;
+    Some((Sign::Minus, rest))
+}
+
+/// An expression at the front, and what follows it. The depth bounds how deep parentheses, lists
+/// and powers go.
+///
+/// # Errors
+///
+/// No reading, or no memory.
+#[cycle(expression)]
+#[tactic(auto, unfolding(crate::specs::ReadingExpression::expression))]
+fn expression(
+    alloc: Global,
+    context: Context,
+    depth: usize,
+    s: &[u8],
+) -> Result<(Expr, &[u8]), Unread>
+    ensures { Gives (λ x. (x.0, x.1.now)) result (reading.expression context depth s.now) }
+{
+    if depth == 0 {
+        return Err(Unread::NoReading);
+    }
+    at_level(alloc, context, depth - 1, Level::Equivalence, s)
+}
+
+/// Operands with operators of a level between them, from left to right.
+#[cycle(expression)]
+#[tactic(auto, using(crate::proofs::Chains::chain_goes_on, crate::proofs::Chains::chain_ends, crate::proofs::Chains::chain_is_over, crate::proofs::Chains::chain_fails))]
+fn at_level(
+    alloc: Global,
+    context: Context,
+    depth: usize,
+    level: Level,
+    s: &[u8],
+) -> Result<(Expr, &[u8]), Unread>
+    ensures { Gives (λ x. (x.0, x.1.now)) result (reading.at_level level (reading.power context depth) s.now) }
+{
+    let (mut left, mut rest) = first_operand(alloc, context, depth, level, s)?;
+    for _turn in 0..s.len() {
+        let Some((operator, after)) = operator_at(level.operators(), rest) else {
+            return Ok((left, rest));
+        };
+        let (right, after) = next_operand(alloc, context, depth, level, after)?;
+        left = Expr::binary(alloc, operator, left, right)?;
+        rest = after;
+    }
+    Ok((left, rest))
+}
+
+/// What stands first at a level: before the first term of a sum a sign may stand.
+#[cycle(expression)]
+fn first_operand(
+    alloc: Global,
+    context: Context,
+    depth: usize,
+    level: Level,
+    s: &[u8],
+) -> Result<(Expr, &[u8]), Unread>
+    ensures { Gives (λ x. (x.0, x.1.now)) result (reading.first_operand level (reading.power context depth) s.now) }
+{
+    match level {
+        Level::Sum => first_term(alloc, context, depth, s),
+        _ => next_operand(alloc, context, depth, level, s),
+    }
+}
+
+/// What stands behind an operator of a level.
+#[cycle(expression)]
+#[tactic(auto, unfolding(crate::specs::ReadingExpression::disjunction, crate::specs::ReadingExpression::conjunction, crate::specs::ReadingExpression::term))]
+fn next_operand(
+    alloc: Global,
+    context: Context,
+    depth: usize,
+    level: Level,
+    s: &[u8],
+) -> Result<(Expr, &[u8]), Unread>
+    ensures { Gives (λ x. (x.0, x.1.now)) result (reading.next_operand level (reading.power context depth) s.now) }
+{
+    match level {
+        Level::Equivalence => at_level(alloc, context, depth, Level::Disjunction, s),
+        Level::Disjunction => at_level(alloc, context, depth, Level::Conjunction, s),
+        Level::Conjunction => negation(alloc, context, depth, s),
+        Level::Sum => at_level(alloc, context, depth, Level::Term, s),
+        Level::Term => power(alloc, context, depth, s),
+    }
+}
+
+/// A relation, which may have `.NOT.` before it.
+#[cycle(expression)]
+#[tactic(auto, unfolding(crate::specs::ReadingExpression::negation))]
+fn negation(
+    alloc: Global,
+    context: Context,
+    depth: usize,
+    s: &[u8],
+) -> Result<(Expr, &[u8]), Unread>
+    ensures { Gives (λ x. (x.0, x.1.now)) result (reading.negation (reading.relation (reading.sum (reading.term (reading.power context depth)))) s.now) }
+{
+    match after_text(b".NOT.", s) {
+        None => relation(alloc, context, depth, s),
+        Some(after) => {
+            let (operand, rest) = relation(alloc, context, depth, after)?;
+            let negated = Expr::negated(alloc, operand)?;
+            Ok((negated, rest))
+        }
+    }
+}
+
+/// A sum, or two sums with an operator of a relation between them.
+#[cycle(expression)]
+#[tactic(auto, unfolding(crate::specs::ReadingExpression::relation, crate::specs::ReadingExpression::sum))]
+fn relation(
+    alloc: Global,
+    context: Context,
+    depth: usize,
+    s: &[u8],
+) -> Result<(Expr, &[u8]), Unread>
+    ensures { Gives (λ x. (x.0, x.1.now)) result (reading.relation (reading.sum (reading.term (reading.power context depth))) s.now) }
+{
+    let (left, rest) = at_level(alloc, context, depth, Level::Sum, s)?;
+    match operator_at(comparing(), rest) {
+        None => Ok((left, rest)),
+        Some((operator, after)) => {
+            let (right, rest) = at_level(alloc, context, depth, Level::Sum, after)?;
+            let compared = Expr::binary(alloc, operator, left, right)?;
+            Ok((compared, rest))
+        }
+    }
+}
+
+/// The first term of a sum, which may have a sign.
+#[cycle(expression)]
+#[tactic(auto, unfolding(crate::specs::ReadingExpression::first_term, crate::specs::ReadingExpression::term))]
+fn first_term(
+    alloc: Global,
+    context: Context,
+    depth: usize,
+    s: &[u8],
+) -> Result<(Expr, &[u8]), Unread>
+    ensures { Gives (λ x. (x.0, x.1.now)) result (reading.first_term (reading.term (reading.power context depth)) s.now) }
+{
+    match sign_at(s) {
+        None => at_level(alloc, context, depth, Level::Term, s),
+        Some((sign, after)) => {
+            let (operand, rest) = at_level(alloc, context, depth, Level::Term, after)?;
+            let signed = Expr::signed(alloc, sign, operand)?;
+            Ok((signed, rest))
+        }
+    }
+}
+
+/// A primary, or a primary raised to a power: `**` goes from right to left.
+#[cycle(expression)]
+#[tactic(auto, unfolding(crate::specs::ReadingExpression::power, crate::specs::ReadingExpression::power_of))]
+fn power(alloc: Global, context: Context, depth: usize, s: &[u8]) -> Result<(Expr, &[u8]), Unread>
+    ensures { Gives (λ x. (x.0, x.1.now)) result (reading.power context depth s.now) }
+{
+    if depth == 0 {
+        return Err(Unread::NoReading);
+    }
+    let (base, rest) = primary(alloc, context, depth - 1, s)?;
+    match after_text(b"**", rest) {
+        None => Ok((base, rest)),
+        Some(after) => {
+            let (exponent, rest) = power(alloc, context, depth - 1, after)?;
+            let raised = Expr::binary(
+                alloc,
+                Operator::Arithmetic(ArithmeticOperator::Power),
+                base,
+                exponent,
+            )?;
+            Ok((raised, rest))
+        }
+    }
+}
+
+/// A constant, a name, which may have a list, or an expression in parentheses.
+#[cycle(expression)]
+#[tactic(auto, unfolding(crate::specs::ReadingExpression::primary))]
+fn primary(alloc: Global, context: Context, depth: usize, s: &[u8]) -> Result<(Expr, &[u8]), Unread>
+    ensures { Gives (λ x. (x.0, x.1.now)) result (reading.primary context (reading.expression context depth) s.now) }
+{
+    if let Some((value, rest)) = integer_at(context, s) {
+        return Ok((Expr::constant(Value::Int(value)), rest));
+    }
+    if let Some((truth, rest)) = truth_at(s) {
+        return Ok((Expr::constant(Value::Truth(truth)), rest));
+    }
+    if let Some((place, rest)) = place_at(context, s) {
+        return named(alloc, context, depth, place, rest);
+    }
+    match after(b'(', s) {
+        Some(inside) => in_parentheses(alloc, context, depth, inside),
+        None => Err(Unread::NoReading),
+    }
+}
+
+/// A name that was read, with a list where `(` follows it.
+#[cycle(expression)]
+#[tactic(auto, unfolding(crate::specs::ReadingExpression::named))]
+fn named(
+    alloc: Global,
+    context: Context,
+    depth: usize,
+    place: Place,
+    s: &[u8],
+) -> Result<(Expr, &[u8]), Unread>
+    ensures { Gives (λ x. (x.0, x.1.now)) result (reading.named (reading.expression context depth) place s.now) }
+{
+    match after(b'(', s) {
+        None => Ok((Expr::place(place), s)),
+        Some(inside) => {
+            let (list, rest) = arguments(alloc, context, depth, inside)?;
+            Ok((Expr::listed(place, list), rest))
+        }
+    }
+}
+
+/// What follows `(` behind a name: expressions with commas between them and `)` behind the last.
+#[cycle(expression)]
+#[tactic(auto, using(crate::proofs::Chains::arguments_go_on, crate::proofs::Chains::arguments_end, crate::proofs::Chains::arguments_stop, crate::proofs::Chains::arguments_are_over, crate::proofs::Chains::arguments_fail))]
+fn arguments(
+    alloc: Global,
+    context: Context,
+    depth: usize,
+    s: &[u8],
+) -> Result<(Vec<Expr>, &[u8]), Unread>
+    ensures { Gives (λ x. (trees_of x.0.items, x.1.now)) result (reading.arguments (reading.expression context depth) (length s.now) s.now) }
+{
+    let mut list = Vec::new(alloc);
+    let mut rest = s;
+    for _turn in 0..s.len() {
+        let (argument, behind) = expression(alloc, context, depth, rest)?;
+        list.push(argument)?;
+        if let Some(behind) = after(b')', behind) {
+            return Ok((list, behind));
+        }
+        let Some(behind) = after(b',', behind) else {
+            return Err(Unread::NoReading);
+        };
+        rest = behind;
+    }
+    Err(Unread::NoReading)
+}
+
+/// What follows `(`: an expression and `)`.
+#[cycle(expression)]
+#[tactic(auto, unfolding(crate::specs::ReadingExpression::in_parentheses))]
+fn in_parentheses(
+    alloc: Global,
+    context: Context,
+    depth: usize,
+    s: &[u8],
+) -> Result<(Expr, &[u8]), Unread>
+    ensures { Gives (λ x. (x.0, x.1.now)) result (reading.in_parentheses (reading.expression context depth) s.now) }
+{
+    let (inner, rest) = expression(alloc, context, depth, s)?;
+    match after(b')', rest) {
+        Some(rest) => Ok((Expr::parenthesized(alloc, inner)?, rest)),
+        None => Err(Unread::NoReading),
+    }
+}
+
+/// An expression at the front, and what follows it.
+///
+/// # Errors
+///
+/// No reading, or no memory.
+#[tactic(auto, unfolding(crate::specs::ReadingExpression::expression_at))]
+pub fn expression_at(alloc: Global, context: Context, s: &[u8]) -> Result<(Expr, &[u8]), Unread>
+    ensures { Gives (λ x. (x.0, x.1.now)) result (reading.expression_at context s.now) }
+{
+    // Each parenthesis, each list and each power goes two down at most, and takes at least a character.
+    expression(alloc, context, s.len() + s.len() + 1, s)
+}
+
+/// The expression that a whole text is.
+///
+/// # Errors
+///
+/// No reading, or no memory.
+#[tactic(auto, unfolding(crate::specs::ReadingExpression::whole_expression))]
+pub fn whole_expression(alloc: Global, context: Context, s: &[u8]) -> Result<Expr, Unread>
+    ensures { Gives (λ e. e) result (reading.whole_expression context s.now) }
+{
+    let (found, rest) = expression_at(alloc, context, s)?;
+    all_read(found, rest)
+}

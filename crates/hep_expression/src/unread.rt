@@ -1,0 +1,35 @@
+//! Why a text isn't read.
+ghost use Rattle.std.specs.Prelude.{◌≡◌, []};
+
+use std::alloc::{AllocError, AllocFailed};
+
+/// Why a text isn't read as an expression or a form of statement.
+#[derive(Clone, Copy, Debug, PartialEq, Eq)]
+pub enum Unread {
+    /// Memory was refused.
+    NoMemory,
+    /// The grammar has no reading of the text.
+    NoReading,
+}
+
+impl From<AllocError> for Unread {
+    ghost use Rattle.std.specs.Prelude.{◌≡◌};
+    ghost use Rattle.hep_expression.specs.declared.unread.Unread.TheVariants.{NoMemory};
+
+    ghost from_gives = { λ _ why. why ≡ NoMemory };
+
+    fn from(_refused: AllocError) -> Unread {
+        Unread::NoMemory
+    }
+}
+
+impl<T: Drop> From<AllocFailed<T>> for Unread {
+    ghost use Rattle.std.specs.Prelude.{◌≡◌};
+    ghost use Rattle.hep_expression.specs.declared.unread.Unread.TheVariants.{NoMemory};
+
+    ghost from_gives = { λ _ why. why ≡ NoMemory };
+
+    fn from(_refused: AllocFailed<T>) -> Unread {
+        Unread::NoMemory
+    }
+}

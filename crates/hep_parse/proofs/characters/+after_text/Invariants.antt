@@ -1,5 +1,0 @@
-use Rattle.std.proofs.Common.{length}
-use Rattle.hep_parse.proofs.characters.+after_text.Given as goal
-
-abbrev pub decreases-after_text : goal.decreases-after_text
-decreases-after_text l = length l.word.now

@@ -1,5 +1,0 @@
-use Rattle.std.proofs.Common.{length}
-use Rattle.hep_parse.proofs.expression.+operator_at.Given as goal
-
-abbrev pub decreases-operator_at : goal.decreases-operator_at
-decreases-operator_at l = length l.among.now

@@ -1,0 +1,48 @@
+-- Reading parts in a row, as functions on lists.
+use Rattle.std.specs.Prelude.{ℕ, zero, suc, List, [], ◌∷◌, length, Option, Some, None}
+use Rattle.hep_expression.specs.Reading.{◌>>=◌, if_some, all_read, after}
+
+-- what is read at the front of a text, and what follows it
+abbrev pub Reader : Type 0 → Type 0
+Reader A = List ℕ → Option (A × List ℕ)
+
+abbrev pub behind_comma : {A : Type 0} → Reader A → Reader A
+behind_comma next s = after 44 s >>= next
+
+abbrev pub with_part : {A : Type 0} → A → Option (List A × List ℕ) → Option (List A × List ℕ)
+with_part x read = read >>= λ y. Some (x ∷ y.0, y.1)
+
+-- parts with a comma before each, as long as there are some; the number bounds how many
+unfoldable pub parts_behind : {A : Type 0} → Reader A → ℕ → Reader (List A)
+parts_behind next zero s = Some ([], s)
+parts_behind next (suc n) s = if_some (behind_comma next s) (λ x. with_part x.0 (parts_behind next n x.1)) (Some ([], s))
+
+-- one part or more, with commas between them
+unfoldable pub listed : {A : Type 0} → Reader A → Reader (List A)
+listed next s = next s >>= λ x. with_part x.0 (parts_behind next (length s) x.1)
+
+-- the same behind `(`, up to `)`
+unfoldable pub closed : {A : Type 0} → Reader A → Reader (List A)
+closed next s = listed next s >>= λ x. after 41 x.1 >>= λ r. Some (x.0, r)
+
+unfoldable pub enclosed : {A : Type 0} → Reader A → Reader (List A)
+enclosed next s = after 40 s >>= closed next
+
+-- the same, where a text without `(` has no parts
+unfoldable pub optional : {A : Type 0} → Reader A → Reader (List A)
+optional next s = elim (after 40 s) [ None ↦ Some ([], s) | Some m ↦ closed next m ]
+
+-- a whole text
+abbrev pub whole : {A B : Type 0} → (A → B) → Option (A × List ℕ) → Option B
+whole f read = read >>= λ x. all_read (f x.0) x.1
+
+unfoldable pub arguments_within : {A : Type 0} → Reader A → List ℕ → Option (List A)
+arguments_within next s = if_some (after 41 s) (λ r. all_read [] r) (whole (λ xs. xs) (closed next s))
+
+-- arguments in parentheses, which may be missing where there are none
+unfoldable pub arguments : {A : Type 0} → Reader A → List ℕ → Option (List A)
+arguments next s = elim (after 40 s) [ None ↦ all_read [] s | Some m ↦ arguments_within next m ]
+
+-- what follows a comma that may be missing
+abbrev pub behind_optional_comma : List ℕ → List ℕ
+behind_optional_comma s = elim (after 44 s) [ None ↦ s | Some m ↦ m ]
