@@ -1,5 +1,5 @@
 //! Reading expressions (X3.9-1978, section 6): a function for each level, from the loosest to the
-//! tightest, and one for the levels at which operators go from left to right.
+//! tightest, and one for what goes on from left to right behind a first operand.
 ghost use Rattle.std.specs.Prelude.{◌≡◌, length, option_map};
 ghost use Rattle.hep_source.specs.Tree.{trees_of};
 ghost use Rattle.hep_expression.specs.Expression as grammar;
@@ -121,7 +121,7 @@ fn sign_at(s: &[u8]) -> Option<(Sign, &[u8])>
 ///
 /// No reading, or no memory.
 #[cycle(expression)]
-#[tactic(auto, unfolding(crate::specs::ReadingExpression::expression))]
+#[tactic(auto, unfolding(crate::specs::ReadingExpression::expression, crate::specs::ReadingExpression::disjunction, crate::specs::ReadingExpression::conjunction))]
 fn expression(
     alloc: Global,
     context: Context,
@@ -133,23 +133,56 @@ fn expression(
     if depth == 0 {
         return Err(Unread::NoReading);
     }
-    at_level(alloc, context, depth - 1, Level::Equivalence, s)
+    let depth = depth - 1;
+    // A first operand is one of all levels: each goes on behind it in turn, so that an open
+    // parenthesis costs few calls.
+    let (first, rest) = negation(alloc, context, depth, s)?;
+    let (first, rest) = chain(
+        alloc,
+        context,
+        depth,
+        Level::Conjunction,
+        s.len(),
+        first,
+        rest,
+    )?;
+    let (first, rest) = chain(
+        alloc,
+        context,
+        depth,
+        Level::Disjunction,
+        s.len(),
+        first,
+        rest,
+    )?;
+    chain(
+        alloc,
+        context,
+        depth,
+        Level::Equivalence,
+        s.len(),
+        first,
+        rest,
+    )
 }
 
-/// Operands with operators of a level between them, from left to right.
+/// Operators of a level and their operands behind a first operand, from left to right. The turns
+/// bound how many there are.
 #[cycle(expression)]
 #[tactic(auto, using(crate::proofs::Chains::chain_goes_on, crate::proofs::Chains::chain_ends, crate::proofs::Chains::chain_is_over, crate::proofs::Chains::chain_fails))]
-fn at_level(
+fn chain(
     alloc: Global,
     context: Context,
     depth: usize,
     level: Level,
+    turns: usize,
+    first: Expr,
     s: &[u8],
 ) -> Result<(Expr, &[u8]), Unread>
-    ensures { Gives (λ x. (x.0, x.1.now)) result (reading.at_level level (reading.power context depth) s.now) }
+    ensures { Gives (λ x. (x.0, x.1.now)) result (reading.chain (reading.operators level) (reading.next_operand level (reading.power context depth)) turns first s.now) }
 {
-    let (mut left, mut rest) = first_operand(alloc, context, depth, level, s)?;
-    for _turn in 0..s.len() {
+    let (mut left, mut rest) = (first, s);
+    for _turn in 0..turns {
         let Some((operator, after)) = operator_at(level.operators(), rest) else {
             return Ok((left, rest));
         };
@@ -160,26 +193,8 @@ fn at_level(
     Ok((left, rest))
 }
 
-/// What stands first at a level: before the first term of a sum a sign may stand.
-#[cycle(expression)]
-fn first_operand(
-    alloc: Global,
-    context: Context,
-    depth: usize,
-    level: Level,
-    s: &[u8],
-) -> Result<(Expr, &[u8]), Unread>
-    ensures { Gives (λ x. (x.0, x.1.now)) result (reading.first_operand level (reading.power context depth) s.now) }
-{
-    match level {
-        Level::Sum => first_term(alloc, context, depth, s),
-        _ => next_operand(alloc, context, depth, level, s),
-    }
-}
-
 /// What stands behind an operator of a level.
 #[cycle(expression)]
-#[tactic(auto, unfolding(crate::specs::ReadingExpression::disjunction, crate::specs::ReadingExpression::conjunction, crate::specs::ReadingExpression::term))]
 fn next_operand(
     alloc: Global,
     context: Context,
@@ -190,12 +205,58 @@ fn next_operand(
     ensures { Gives (λ x. (x.0, x.1.now)) result (reading.next_operand level (reading.power context depth) s.now) }
 {
     match level {
-        Level::Equivalence => at_level(alloc, context, depth, Level::Disjunction, s),
-        Level::Disjunction => at_level(alloc, context, depth, Level::Conjunction, s),
+        Level::Equivalence => disjunction(alloc, context, depth, s),
+        Level::Disjunction => conjunction(alloc, context, depth, s),
         Level::Conjunction => negation(alloc, context, depth, s),
-        Level::Sum => at_level(alloc, context, depth, Level::Term, s),
+        Level::Sum => term(alloc, context, depth, s),
         Level::Term => power(alloc, context, depth, s),
     }
+}
+
+/// Operands with `.OR.` between them.
+#[cycle(expression)]
+#[tactic(auto, unfolding(crate::specs::ReadingExpression::disjunction))]
+fn disjunction(
+    alloc: Global,
+    context: Context,
+    depth: usize,
+    s: &[u8],
+) -> Result<(Expr, &[u8]), Unread>
+    ensures { Gives (λ x. (x.0, x.1.now)) result (reading.next_operand Level.Equivalence (reading.power context depth) s.now) }
+{
+    let (first, rest) = conjunction(alloc, context, depth, s)?;
+    chain(
+        alloc,
+        context,
+        depth,
+        Level::Disjunction,
+        s.len(),
+        first,
+        rest,
+    )
+}
+
+/// Operands with `.AND.` between them.
+#[cycle(expression)]
+#[tactic(auto, unfolding(crate::specs::ReadingExpression::conjunction))]
+fn conjunction(
+    alloc: Global,
+    context: Context,
+    depth: usize,
+    s: &[u8],
+) -> Result<(Expr, &[u8]), Unread>
+    ensures { Gives (λ x. (x.0, x.1.now)) result (reading.next_operand Level.Disjunction (reading.power context depth) s.now) }
+{
+    let (first, rest) = negation(alloc, context, depth, s)?;
+    chain(
+        alloc,
+        context,
+        depth,
+        Level::Conjunction,
+        s.len(),
+        first,
+        rest,
+    )
 }
 
 /// A relation, which may have `.NOT.` before it.
@@ -221,7 +282,7 @@ fn negation(
 
 /// A sum, or two sums with an operator of a relation between them.
 #[cycle(expression)]
-#[tactic(auto, unfolding(crate::specs::ReadingExpression::relation, crate::specs::ReadingExpression::sum))]
+#[tactic(auto, unfolding(crate::specs::ReadingExpression::relation))]
 fn relation(
     alloc: Global,
     context: Context,
@@ -230,20 +291,30 @@ fn relation(
 ) -> Result<(Expr, &[u8]), Unread>
     ensures { Gives (λ x. (x.0, x.1.now)) result (reading.relation (reading.sum (reading.term (reading.power context depth))) s.now) }
 {
-    let (left, rest) = at_level(alloc, context, depth, Level::Sum, s)?;
+    let (left, rest) = sum(alloc, context, depth, s)?;
     match operator_at(comparing(), rest) {
         None => Ok((left, rest)),
         Some((operator, after)) => {
-            let (right, rest) = at_level(alloc, context, depth, Level::Sum, after)?;
+            let (right, rest) = sum(alloc, context, depth, after)?;
             let compared = Expr::binary(alloc, operator, left, right)?;
             Ok((compared, rest))
         }
     }
 }
 
+/// Terms with `+` and `-` between them; the first one may have a sign.
+#[cycle(expression)]
+#[tactic(auto, unfolding(crate::specs::ReadingExpression::sum))]
+fn sum(alloc: Global, context: Context, depth: usize, s: &[u8]) -> Result<(Expr, &[u8]), Unread>
+    ensures { Gives (λ x. (x.0, x.1.now)) result (reading.sum (reading.term (reading.power context depth)) s.now) }
+{
+    let (first, rest) = first_term(alloc, context, depth, s)?;
+    chain(alloc, context, depth, Level::Sum, s.len(), first, rest)
+}
+
 /// The first term of a sum, which may have a sign.
 #[cycle(expression)]
-#[tactic(auto, unfolding(crate::specs::ReadingExpression::first_term, crate::specs::ReadingExpression::term))]
+#[tactic(auto, unfolding(crate::specs::ReadingExpression::first_term))]
 fn first_term(
     alloc: Global,
     context: Context,
@@ -253,13 +324,23 @@ fn first_term(
     ensures { Gives (λ x. (x.0, x.1.now)) result (reading.first_term (reading.term (reading.power context depth)) s.now) }
 {
     match sign_at(s) {
-        None => at_level(alloc, context, depth, Level::Term, s),
+        None => term(alloc, context, depth, s),
         Some((sign, after)) => {
-            let (operand, rest) = at_level(alloc, context, depth, Level::Term, after)?;
+            let (operand, rest) = term(alloc, context, depth, after)?;
             let signed = Expr::signed(alloc, sign, operand)?;
             Ok((signed, rest))
         }
     }
+}
+
+/// Powers with `*` and `/` between them.
+#[cycle(expression)]
+#[tactic(auto, unfolding(crate::specs::ReadingExpression::term))]
+fn term(alloc: Global, context: Context, depth: usize, s: &[u8]) -> Result<(Expr, &[u8]), Unread>
+    ensures { Gives (λ x. (x.0, x.1.now)) result (reading.term (reading.power context depth) s.now) }
+{
+    let (first, rest) = power(alloc, context, depth, s)?;
+    chain(alloc, context, depth, Level::Term, s.len(), first, rest)
 }
 
 /// A primary, or a primary raised to a power: `**` goes from right to left.

@@ -13,9 +13,9 @@ use Rattle.hep_parse.specs.declared.program.Stage.{Stage}
 use Rattle.hep_parse.specs.declared.program.Stage.TheVariants.{Start, Opening, Specification, Actions}
 use Rattle.hep_parse.specs.declared.program.State.{State}
 use Rattle.hep_parse.specs.Program.{IsStatement, part_of, may_precede, MayStandBehind, AreOrdered, begins_main, AreSubroutines, AreUnits, AreAllStatements, IsProgram}
-use Rattle.hep_parse.specs.ReadingStatement.{form}
+use Rattle.hep_statement.specs.ReadingStatement.{form}
 use Rattle.hep_parse.specs.ReadingProgram.{Refusal, or_refusal, or_told, with_line, refusal_of, statement, is_start, may_follow, stage_behind, state_behind, placed, behind_one, ended, units, nothing_read, program}
-use Rattle.hep_parse.proofs.Forms.{form_is, form_read}
+use Rattle.hep_statement.proofs.Forms.{form_is, form_read}
 
 -- ---- results
 

@@ -1,13 +1,2 @@
-pub mod Lists
-pub mod Declaration
-pub mod Executable
-pub mod Statement
 pub mod Program
-pub mod ReadingLists
-pub mod ReadingTarget
-pub mod ReadingDeclaration
-pub mod ReadingRule
-pub mod ReadingExecutable
-pub mod ReadingKeyword
-pub mod ReadingStatement
 pub mod ReadingProgram

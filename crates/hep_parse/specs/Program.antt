@@ -10,10 +10,10 @@ use Rattle.hep_expression.specs.declared.characters.Sizes.TheVariants.{Fitting, 
 use Rattle.hep_expression.specs.declared.characters.Context.{Context}
 use Rattle.hep_parse.specs.declared.fault.ParseFault.{ParseFault}
 use Rattle.hep_parse.specs.declared.fault.ParseFault.TheVariants.{NoMemory, Refused}
-use Rattle.hep_parse.specs.declared.rule.Rule.TheVariants.{Worded}
+use Rattle.hep_statement.specs.declared.rule.Rule.TheVariants.{Worded}
 use Rattle.hep_parse.specs.declared.program.Part.{Part}
 use Rattle.hep_parse.specs.declared.program.Part.TheVariants as part
-use Rattle.hep_parse.specs.Statement.{either, rule_of, IsLogicalIf, context, IsForm}
+use Rattle.hep_statement.specs.Statement.{either, rule_of, IsLogicalIf, context, IsForm}
 
 -- A text with its line and label is this statement.
 abbrev pub IsStatement : Stmt → Statement → Type 0

@@ -9,16 +9,16 @@ use Rattle.hep_expression.specs.declared.characters.Context.{Context}
 use Rattle.hep_expression.specs.Reading.{◌>>=◌, if_some, after_text}
 use Rattle.hep_parse.specs.declared.fault.ParseFault.{ParseFault}
 use Rattle.hep_parse.specs.declared.fault.ParseFault.TheVariants.{NoMemory, Refused}
-use Rattle.hep_parse.specs.declared.rule.Rule.{Rule}
-use Rattle.hep_parse.specs.declared.rule.Rule.TheVariants.{LogicalIf, Worded}
+use Rattle.hep_statement.specs.declared.rule.Rule.{Rule}
+use Rattle.hep_statement.specs.declared.rule.Rule.TheVariants.{LogicalIf, Worded}
 use Rattle.hep_parse.specs.declared.program.Part.{Part}
 use Rattle.hep_parse.specs.declared.program.Part.TheVariants as part
 use Rattle.hep_parse.specs.declared.program.Stage.{Stage}
 use Rattle.hep_parse.specs.declared.program.Stage.TheVariants.{Start, Opening, Specification, Actions}
 use Rattle.hep_parse.specs.declared.program.State.{State}
-use Rattle.hep_parse.specs.Statement.{rule_of, context}
+use Rattle.hep_statement.specs.Statement.{rule_of, context}
 use Rattle.hep_parse.specs.Program.{part_of, may_precede, begins_main, left_out_words}
-use Rattle.hep_parse.specs.ReadingStatement.{form, logical_if}
+use Rattle.hep_statement.specs.ReadingStatement.{form, logical_if}
 
 -- ---- answers
 

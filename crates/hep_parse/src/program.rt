@@ -9,10 +9,10 @@ ghost use Rattle.hep_parse.specs.ReadingProgram.{Tells, Answers};
 
 use crate::fault::ParseFault;
 use crate::left_out::left_out;
-use crate::statement::form;
 use hep_expression::Unread;
 use hep_expression::characters::{Context, Sizes};
 use hep_source::{Expr, Form, Program, Sequence, Statement, Unit};
+use hep_statement::form;
 use hep_text::Stmt;
 use std::alloc::Global;
 

@@ -556,11 +556,11 @@ fn continuation_lines(rt: HostRuntime) -> Result<(), Fail> {
 fn deepest_parentheses(rt: HostRuntime) -> Result<(), Fail> {
     let alloc = rt.alloc();
     let mut text = Vec::from_slice(alloc, b"PRINT *,")?;
-    for _open in 0..300u32 {
+    for _open in 0..500u32 {
         text.push(b'(')?;
     }
     text.push(b'7')?;
-    for _close in 0..300u32 {
+    for _close in 0..500u32 {
         text.push(b')')?;
     }
     let deep = outcome_of(alloc, &over_lines(alloc, &text)?);

@@ -3,9 +3,9 @@ use Rattle.hep_expression.specs.ReadingExpression.{operators, next_operand, expr
 use Rattle.hep_expression.proofs.Chains.{chain_goes_on, arguments_go_on, arguments_end}
 use Rattle.hep_expression.proofs.expression.+expression.Goals as goal
 
-pub at_level-loop-turn-preserved : goal.at_level-loop-turn-preserved
-at_level-loop-turn-preserved t c =
-    rw c.in_ok-left-2.ensures (chain_goes_on (operators c.args.level) (next_operand c.args.level (power c.args.context c.args.depth)) (length c.args.s.now) c.loop-turn._turn c.loop-turn.left c.loop-turn.rest.now _ c.in-Some.operator c.in_ok-right.right c.in-Some.after.now c.in_ok-right.after.now c.loop-turn-test.true (rw c.operators.ensures at (sym c.in-Some.ensures)) c.in_ok-right.ensures c.loop-turn.invariant)
+pub chain-loop-turn-preserved : goal.chain-loop-turn-preserved
+chain-loop-turn-preserved t c =
+    rw c.in_ok-left.ensures (chain_goes_on (operators c.args.level) (next_operand c.args.level (power c.args.context c.args.depth)) c.args.turns c.loop-turn._turn c.loop-turn.left c.loop-turn.rest.now _ c.in-Some.operator c.in_ok-right.right c.in-Some.after.now c.in_ok-right.after.now c.loop-turn-test.true (rw c.operators.ensures at (sym c.in-Some.ensures)) c.in_ok-right.ensures c.loop-turn.invariant)
 
 pub arguments-loop-turn-preserved : goal.arguments-loop-turn-preserved
 arguments-loop-turn-preserved t c =

@@ -1,38 +1,47 @@
 use Rattle.std.proofs.Common.{◌≡◌, ℕ, ◌+◌, ◌*◌, ◌-◌, length}
 use Rattle.hep_expression.specs.declared.expression.Level.{Level}
 use Rattle.hep_expression.specs.declared.expression.Level.TheVariants.{Equivalence, Disjunction, Conjunction, Sum, Term}
-use Rattle.hep_expression.specs.ReadingExpression.{operators, chain, next_operand, at_level, arguments, expression, power}
+use Rattle.hep_expression.specs.ReadingExpression.{operators, chain, next_operand, arguments, expression, power}
 use Rattle.hep_expression.proofs.Chains.{behind_read}
 use Rattle.hep_expression.proofs.expression.+expression.Given as goal
 
 -- the place of a level's operands in the order of calls at one depth: what calls has a greater one
 abbrev rank : Level → ℕ
-rank Equivalence = 23
-rank Disjunction = 20
-rank Conjunction = 17
+rank Equivalence = 22
+rank Disjunction = 19
+rank Conjunction = 16
 rank Sum = 11
 rank Term = 7
 
 abbrev pub decreases-expression : goal.decreases-expression
 decreases-expression l = 32 * l.depth + 1
 
-abbrev pub decreases-at_level : goal.decreases-at_level
-decreases-at_level l = 32 * l.depth + (rank l.level + 2)
-
-abbrev pub decreases-first_operand : goal.decreases-first_operand
-decreases-first_operand l = 32 * l.depth + (rank l.level + 1)
+abbrev pub decreases-chain : goal.decreases-chain
+decreases-chain l = 32 * l.depth + (rank l.level + 1)
 
 abbrev pub decreases-next_operand : goal.decreases-next_operand
 decreases-next_operand l = 32 * l.depth + rank l.level
 
+abbrev pub decreases-disjunction : goal.decreases-disjunction
+decreases-disjunction l = 32 * l.depth + 21
+
+abbrev pub decreases-conjunction : goal.decreases-conjunction
+decreases-conjunction l = 32 * l.depth + 18
+
 abbrev pub decreases-negation : goal.decreases-negation
-decreases-negation l = 32 * l.depth + 16
+decreases-negation l = 32 * l.depth + 15
 
 abbrev pub decreases-relation : goal.decreases-relation
-decreases-relation l = 32 * l.depth + 15
+decreases-relation l = 32 * l.depth + 14
+
+abbrev pub decreases-sum : goal.decreases-sum
+decreases-sum l = 32 * l.depth + 13
 
 abbrev pub decreases-first_term : goal.decreases-first_term
 decreases-first_term l = 32 * l.depth + 10
+
+abbrev pub decreases-term : goal.decreases-term
+decreases-term l = 32 * l.depth + 9
 
 abbrev pub decreases-power : goal.decreases-power
 decreases-power l = 32 * l.depth + 6
@@ -49,8 +58,8 @@ decreases-arguments l = 32 * l.depth + 3
 abbrev pub decreases-in_parentheses : goal.decreases-in_parentheses
 decreases-in_parentheses l = 32 * l.depth + 2
 
-abbrev pub invariant-at_level-loop-turn : goal.invariant-at_level-loop-turn
-invariant-at_level-loop-turn l = chain (operators l.level) (next_operand l.level (power l.context l.depth)) (length l.fn.s - l._turn) l.left l.rest ≡ at_level l.level (power l.context l.depth) l.fn.s
+abbrev pub invariant-chain-loop-turn : goal.invariant-chain-loop-turn
+invariant-chain-loop-turn l = chain (operators l.level) (next_operand l.level (power l.context l.depth)) (l.turns - l._turn) l.left l.rest ≡ chain (operators l.level) (next_operand l.level (power l.context l.depth)) l.turns l.fn.first l.fn.s
 
 -- what is read behind the arguments so far is the whole
 abbrev pub invariant-arguments-loop-turn : goal.invariant-arguments-loop-turn

@@ -1,0 +1,14 @@
+pub mod ListLoops
+pub mod Lists
+pub mod Targets
+pub mod Labels
+pub mod CharacterLoops
+pub mod Parts
+pub mod Items
+pub mod EndLoops
+pub mod Ends
+pub mod Headers
+pub mod Declarators
+pub mod Commons
+pub mod DataStatements
+pub mod Worked

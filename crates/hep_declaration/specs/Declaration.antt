@@ -1,0 +1,152 @@
+-- The forms of headers, specification statements and DATA: which texts read as which forms.
+use Rattle.std.specs.Prelude.{◌≡◌, ◌≢◌, ◌⊎◌, ℕ, ◌≤◌, Bool, true, false, IsTrue, codes, List, [], ◌∷◌, ◌++◌, length, ℤ, pos, neg_ℤ, Option, Some, None}
+use Rattle.hep_source.specs.Tree.{Tree}
+use Rattle.hep_source.specs.declared.name.Place.{Place}
+use Rattle.hep_source.specs.declared.operator.Sign.{Sign}
+use Rattle.hep_source.specs.declared.operator.Sign.TheVariants.{Plus, Minus}
+use Rattle.hep_source.specs.declared.value.Value.TheVariants.{Int, Truth}
+use Rattle.hep_source.specs.declared.declaration.ValueType.{ValueType}
+use Rattle.hep_source.specs.declared.declaration.ValueType.TheVariants.{Integer, Logical}
+use Rattle.hep_source.specs.declared.declaration.LetterRange.{LetterRange}
+use Rattle.hep_source.specs.declared.declaration.ImplicitGroup.{ImplicitGroup}
+use Rattle.hep_source.specs.declared.declaration.UpperBound.{UpperBound}
+use Rattle.hep_source.specs.declared.declaration.UpperBound.TheVariants.{Expression, Open}
+use Rattle.hep_source.specs.declared.declaration.Dimension.{Dimension}
+use Rattle.hep_source.specs.declared.declaration.Declarator.{Declarator}
+use Rattle.hep_source.specs.declared.declaration.CommonBlock.{CommonBlock}
+use Rattle.hep_source.specs.declared.declaration.NamedConstant.{NamedConstant}
+use Rattle.hep_source.specs.declared.declaration.Target.{Target}
+use Rattle.hep_source.specs.declared.declaration.Repeat.{Repeat}
+use Rattle.hep_source.specs.declared.declaration.Repeat.TheVariants.{Count, Named as RepeatName}
+use Rattle.hep_source.specs.declared.declaration.DataConstant.{DataConstant}
+use Rattle.hep_source.specs.declared.declaration.DataConstant.TheVariants.{Value as ConstantValue, Named as ConstantName}
+use Rattle.hep_source.specs.declared.declaration.DataValue.{DataValue}
+use Rattle.hep_source.specs.declared.declaration.DataGroup.{DataGroup}
+use Rattle.hep_expression.specs.declared.characters.Context.{Context}
+use Rattle.hep_expression.specs.Characters.{is_letter, ReadsPlace, ReadsPlainPlace, IsDigits, IsInteger, truth_spelling}
+use Rattle.hep_expression.specs.Expression.{Reads, equivalence, sign_spelling}
+use Rattle.hep_declaration.specs.Lists.{AreListed, AreEnclosed, AreOptional, IsOptionalComma}
+
+-- ---- types and letters
+
+-- X3.9-1978, 8.4
+abbrev pub type_spelling : ValueType → List ℕ
+type_spelling Integer = codes "INTEGER"
+type_spelling Logical = codes "LOGICAL"
+
+-- a letter, or two with `-` (45) between them, of which the first isn't behind the second (8.5)
+abbrev pub ReadsLetters : LetterRange → List ℕ → List ℕ → Type 0
+ReadsLetters x s r =
+    IsTrue (is_letter x.first) × IsTrue (is_letter x.last) × (x.first ≤ x.last)
+    × (((x.first ≡ x.last) × (s ≡ x.first ∷ r)) ⊎ (s ≡ x.first ∷ 45 ∷ x.last ∷ r))
+
+abbrev pub ReadsImplicit : ImplicitGroup → List ℕ → List ℕ → Type 0
+ReadsImplicit x s r = (m : List ℕ) × (s ≡ type_spelling x.value_type ++ m) × AreEnclosed ReadsLetters x.letters m r
+
+module _ (k : Context) where
+  abbrev pub ReadsExpression : Tree → List ℕ → List ℕ → Type 0
+  ReadsExpression t s r = Reads k t equivalence s r
+
+  -- ---- array declarators (X3.9-1978, 5.1)
+
+  abbrev pub ReadsUpper : UpperBound → List ℕ → List ℕ → Type 0
+  ReadsUpper (Expression t) s r = Reads k t equivalence s r
+  ReadsUpper Open s r = s ≡ codes "*" ++ r
+
+  abbrev pub ReadsLower : Option Tree → List ℕ → List ℕ → Type 0
+  ReadsLower None s r = s ≡ r
+  ReadsLower (Some t) s r = Reads k t equivalence s (codes ":" ++ r)
+
+  abbrev pub ReadsDimension : Dimension → List ℕ → List ℕ → Type 0
+  ReadsDimension x s r = (m : List ℕ) × ReadsLower x.lower s m × ReadsUpper x.upper m r
+
+  abbrev pub is_open : UpperBound → Bool
+  is_open (Expression t) = false
+  is_open Open = true
+
+  -- at most seven dimensions, of which only the last may be `*`
+  abbrev pub OnlyLastOpen : List Dimension → Type 0
+  OnlyLastOpen [] = Unit {0}
+  OnlyLastOpen (x ∷ []) = Unit {0}
+  OnlyLastOpen (x ∷ y ∷ more) = (is_open x.upper ≡ false) × OnlyLastOpen (y ∷ more)
+
+  -- a name alone, or with its dimensions
+  abbrev pub ReadsDeclarator : Declarator → List ℕ → List ℕ → Type 0
+  ReadsDeclarator x s r =
+      (m : List ℕ) × ReadsPlace k x.place s m × AreOptional ReadsDimension x.dimensions m r
+      × (length x.dimensions ≤ 7) × OnlyLastOpen x.dimensions
+
+  abbrev pub ReadsArrayDeclarator : Declarator → List ℕ → List ℕ → Type 0
+  ReadsArrayDeclarator x s r = (x.dimensions ≢ []) × ReadsDeclarator x s r
+
+  -- ---- COMMON (8.3)
+
+  -- the name of a block between two `/`, of blank COMMON none
+  abbrev pub ReadsBlockName : Option Place → List ℕ → List ℕ → Type 0
+  ReadsBlockName None s r = s ≡ codes "//" ++ r
+  ReadsBlockName (Some p) s r = (m : List ℕ) × (s ≡ codes "/" ++ m) × ReadsPlainPlace k p m (codes "/" ++ r)
+
+  -- the whole text is these blocks, behind others
+  abbrev pub AreMoreBlocks : List CommonBlock → List ℕ → Type 0
+  AreMoreBlocks [] s = s ≡ []
+  AreMoreBlocks (x ∷ more) s =
+      (m : List ℕ) × (n : List ℕ) × (r : List ℕ) × IsOptionalComma s m × ReadsBlockName x.block m n
+      × AreListed ReadsDeclarator x.entries n r × AreMoreBlocks more r
+
+  -- the first block is blank COMMON where it has no `/` before its list
+  abbrev pub ReadsFirstName : Option Place → List ℕ → List ℕ → Type 0
+  ReadsFirstName None s r = (s ≡ r) ⊎ (s ≡ codes "//" ++ r)
+  ReadsFirstName (Some p) s r = ReadsBlockName (Some p) s r
+
+  abbrev pub AreBlocks : List CommonBlock → List ℕ → Type 0
+  AreBlocks [] s = ⊥
+  AreBlocks (x ∷ more) s =
+      (n : List ℕ) × (r : List ℕ) × ReadsFirstName x.block s n × AreListed ReadsDeclarator x.entries n r
+      × AreMoreBlocks more r
+
+  -- ---- PARAMETER (8.6)
+
+  abbrev pub ReadsNamedConstant : NamedConstant → List ℕ → List ℕ → Type 0
+  ReadsNamedConstant x s r = (m : List ℕ) × ReadsPlainPlace k x.place s (codes "=" ++ m) × Reads k x.value equivalence m r
+
+  -- ---- DATA (section 9)
+
+  -- a name alone, or with subscripts
+  abbrev pub ReadsTarget : Target → List ℕ → List ℕ → Type 0
+  ReadsTarget x s r = (m : List ℕ) × ReadsPlace k x.place s m × AreOptional ReadsExpression x.subscripts m r
+
+  -- the sign of an integer constant, and what it makes of one
+  abbrev pub optional_sign : Option Sign → List ℕ
+  optional_sign None = []
+  optional_sign (Some g) = sign_spelling g
+
+  abbrev pub signed_value : Option Sign → ℤ → ℤ
+  signed_value None v = v
+  signed_value (Some Plus) v = v
+  signed_value (Some Minus) v = neg_ℤ v
+
+  abbrev pub ReadsDataConstant : DataConstant → List ℕ → List ℕ → Type 0
+  ReadsDataConstant (ConstantValue (Int v)) s r =
+      (g : Option Sign) × (d : List ℕ) × (u : ℤ) × IsDigits d × (s ≡ optional_sign g ++ (d ++ r)) × IsInteger k.sizes d u × (v ≡ signed_value g u)
+  ReadsDataConstant (ConstantValue (Truth b)) s r = s ≡ truth_spelling b ++ r
+  ReadsDataConstant (ConstantName p) s r = ReadsPlainPlace k p s r
+
+  -- a repeat count is 1 or more
+  abbrev pub ReadsRepeat : Option Repeat → List ℕ → List ℕ → Type 0
+  ReadsRepeat None s r = s ≡ r
+  ReadsRepeat (Some (Count n)) s r = (d : List ℕ) × IsDigits d × (s ≡ d ++ codes "*" ++ r) × IsInteger k.sizes d n × (n ≢ pos 0)
+  ReadsRepeat (Some (RepeatName p)) s r = ReadsPlainPlace k p s (codes "*" ++ r)
+
+  abbrev pub ReadsDataValue : DataValue → List ℕ → List ℕ → Type 0
+  ReadsDataValue x s r = (m : List ℕ) × ReadsRepeat x.repeat s m × ReadsDataConstant x.constant m r
+
+  abbrev pub ReadsGroup : DataGroup → List ℕ → List ℕ → Type 0
+  ReadsGroup x s r = (m : List ℕ) × AreListed ReadsTarget x.targets s (codes "/" ++ m) × AreListed ReadsDataValue x.values m (codes "/" ++ r)
+
+  abbrev pub AreMoreGroups : List DataGroup → List ℕ → Type 0
+  AreMoreGroups [] s = s ≡ []
+  AreMoreGroups (x ∷ more) s = (m : List ℕ) × (r : List ℕ) × IsOptionalComma s m × ReadsGroup x m r × AreMoreGroups more r
+
+  abbrev pub AreGroups : List DataGroup → List ℕ → Type 0
+  AreGroups [] s = ⊥
+  AreGroups (x ∷ more) s = (r : List ℕ) × ReadsGroup x s r × AreMoreGroups more r

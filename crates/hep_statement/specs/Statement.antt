@@ -1,0 +1,152 @@
+-- Which form a statement has (docs/LANGUAGE.md, 'Which form a statement has').
+use Rattle.std.specs.Prelude.{◌≡◌, ℕ, zero, suc, ◌&&◌, not, nat_eq, nat_le, Bool, true, false, if◌then◌else◌, codes, List, [], ◌∷◌, ◌++◌, length, Option, Some, None}
+use Rattle.hep_source.specs.Tree.{Tree}
+use Rattle.hep_source.specs.Units.{is_executable}
+use Rattle.hep_source.specs.declared.statement.Form.{Form}
+use Rattle.hep_source.specs.declared.statement.Form.TheVariants.{Program, Subroutine, Implicit, Declare, Dimension, Common, Parameter, Data, Assign, GoTo, ComputedGoTo, ArithmeticIf, IfThen, ElseIf, Else, EndIf, Do, Call, Create, Purge, Print, Continue, Return, Stop, End}
+use Rattle.hep_expression.specs.declared.characters.Sizes.{Sizes}
+use Rattle.hep_expression.specs.declared.characters.Context.{Context}
+use Rattle.hep_expression.specs.Characters.{is_digit, ReadsPlace, ReadsPlainPlace}
+use Rattle.hep_expression.specs.Expression.{Reads, equivalence}
+use Rattle.hep_expression.specs.Reading.{after_text}
+use Rattle.hep_declaration.specs.Lists.{AreListed, AreEnclosed, AreArguments}
+use Rattle.hep_declaration.specs.Declaration.{type_spelling, ReadsImplicit, ReadsExpression, ReadsDeclarator, ReadsArrayDeclarator, AreBlocks, ReadsNamedConstant, ReadsTarget, AreGroups}
+use Rattle.hep_statement.specs.Executable.{IsPrint, IsAssignment, IsGoTo, IsComputedGoTo, IsArithmeticIf, IsIfThen, IsElseIf, IsDo, IsStopText}
+use Rattle.hep_statement.specs.declared.rule.Rule.{Rule}
+use Rattle.hep_statement.specs.declared.rule.Rule.TheVariants.{Assignment, BlockIf, SignIf, LogicalIf, Unclosed, Worded}
+use Rattle.hep_statement.specs.declared.rule.Scan.{Scan}
+
+-- ---- the rules
+
+-- What stands behind the parenthesis that closes those that are open, so many of them, character
+-- constants passed over (39 is an apostrophe, 40 and 41 are parentheses).
+abbrev pub behind_closing : ℕ → Bool → List ℕ → Option (List ℕ)
+behind_closing depth quoted [] = None
+behind_closing depth true (c ∷ s) = behind_closing depth (not (nat_eq c 39)) s
+behind_closing zero false (c ∷ s) =
+    if nat_eq c 41 then Some s else behind_closing (if nat_eq c 40 then 1 else 0) (nat_eq c 39) s
+behind_closing (suc depth) false (c ∷ s) =
+    behind_closing (if nat_eq c 41 then depth else if nat_eq c 40 then suc (suc depth) else suc depth) (nat_eq c 39) s
+
+-- where a text has come to: how many parentheses were opened and closed, within a character
+-- constant or not, whether `=` (61) was found outside both, and a comma (44) there behind it
+abbrev pub beginning : Scan
+beginning = record { opened = 0; closed = 0; quoted = false; equals = false; comma = false }
+
+abbrev pub is_outside : Scan → Bool
+is_outside x = nat_le x.opened x.closed && not x.quoted
+
+abbrev pub either : Bool → Bool → Bool
+either true b = true
+either false b = b
+
+abbrev pub behind_character : Scan → ℕ → Scan
+behind_character x c =
+    record {
+      opened = if nat_eq c 40 && not x.quoted then suc x.opened else x.opened;
+      closed = if nat_eq c 41 && not x.quoted then suc x.closed else x.closed;
+      quoted = if nat_eq c 39 then not x.quoted else x.quoted;
+      equals = either x.equals (is_outside x && nat_eq c 61);
+      comma = either x.comma (x.equals && is_outside x && nat_eq c 44);
+    }
+
+abbrev pub scanned : Scan → List ℕ → Scan
+scanned x [] = x
+scanned x (c ∷ s) = scanned (behind_character x c) s
+
+abbrev pub is_assignment : Scan → Bool
+is_assignment x = x.equals && not x.comma
+
+abbrev pub is_nothing : Option (List ℕ) → Bool
+is_nothing None = false
+is_nothing (Some []) = true
+is_nothing (Some (c ∷ s)) = false
+
+-- the rule by what stands behind the parenthesis that closes that of IF
+abbrev pub rule_behind : Option (List ℕ) → Rule
+rule_behind None = Unclosed
+rule_behind (Some []) = LogicalIf
+rule_behind (Some (c ∷ s)) =
+    if nat_eq c 61 then Assignment
+    else if is_digit c then SignIf
+    else if is_nothing (after_text (codes "THEN") (c ∷ s)) then BlockIf else LogicalIf
+
+abbrev pub rule_by_word : Option (List ℕ) → List ℕ → Rule
+rule_by_word (Some s) whole = rule_behind (behind_closing 0 false s)
+rule_by_word None whole = if is_assignment (scanned beginning whole) then Assignment else Worded
+
+-- the rule that applies to a text: IF with its parenthesis first, then `=`, then the words
+abbrev pub rule_of : List ℕ → Rule
+rule_of s = rule_by_word (after_text (codes "IF(") s) s
+
+-- ---- the forms
+
+module _ (k : Context) where
+  -- a form that begins with its word
+  abbrev pub IsWorded : Form → List ℕ → Type 0
+  IsWorded (Program p) s = (m : List ℕ) × (s ≡ codes "PROGRAM" ++ m) × ReadsPlainPlace k p m []
+  IsWorded (Subroutine p ds) s = (m : List ℕ) × (n : List ℕ) × (s ≡ codes "SUBROUTINE" ++ m) × ReadsPlainPlace k p m n × AreArguments (ReadsPlace k) ds n
+  IsWorded (Implicit xs) s = (m : List ℕ) × (s ≡ codes "IMPLICIT" ++ m) × AreListed ReadsImplicit xs m []
+  IsWorded (Declare t xs) s = (m : List ℕ) × (s ≡ type_spelling t ++ m) × AreListed (ReadsDeclarator k) xs m []
+  IsWorded (Dimension xs) s = (m : List ℕ) × (s ≡ codes "DIMENSION" ++ m) × AreListed (ReadsArrayDeclarator k) xs m []
+  IsWorded (Common xs) s = (m : List ℕ) × (s ≡ codes "COMMON" ++ m) × AreBlocks k xs m
+  IsWorded (Parameter xs) s = (m : List ℕ) × (s ≡ codes "PARAMETER" ++ m) × AreEnclosed (ReadsNamedConstant k) xs m []
+  IsWorded (Data xs) s = (m : List ℕ) × (s ≡ codes "DATA" ++ m) × AreGroups k xs m
+  IsWorded (Assign x t) s = ⊥
+  IsWorded (GoTo x) s = IsGoTo k x s
+  IsWorded (ComputedGoTo xs t) s = IsComputedGoTo k xs t s
+  IsWorded (ArithmeticIf t x) s = ⊥
+  IsWorded (IfThen t) s = ⊥
+  IsWorded (ElseIf t) s = IsElseIf k t s
+  IsWorded Else s = s ≡ codes "ELSE"
+  IsWorded EndIf s = s ≡ codes "ENDIF"
+  IsWorded (Do x) s = IsDo k x s
+  IsWorded (Call p ts) s = (m : List ℕ) × (n : List ℕ) × (s ≡ codes "CALL" ++ m) × ReadsPlainPlace k p m n × AreArguments (ReadsExpression k) ts n
+  IsWorded (Create p ts) s = (m : List ℕ) × (n : List ℕ) × (s ≡ codes "CREATE" ++ m) × ReadsPlainPlace k p m n × AreArguments (ReadsExpression k) ts n
+  IsWorded (Purge xs) s = (m : List ℕ) × (s ≡ codes "PURGE" ++ m) × AreListed (ReadsTarget k) xs m []
+  IsWorded (Print items) s = IsPrint k items s
+  IsWorded Continue s = s ≡ codes "CONTINUE"
+  IsWorded Return s = s ≡ codes "RETURN"
+  IsWorded Stop s = (m : List ℕ) × (s ≡ codes "STOP" ++ m) × IsStopText m
+  IsWorded End s = s ≡ codes "END"
+
+  abbrev pub IsOfAssignment : Form → List ℕ → Type 0
+  IsOfAssignment (Assign x t) s = IsAssignment k x t s
+  IsOfAssignment _ s = ⊥
+
+  abbrev pub IsOfBlockIf : Form → List ℕ → Type 0
+  IsOfBlockIf (IfThen t) s = IsIfThen k t s
+  IsOfBlockIf _ s = ⊥
+
+  abbrev pub IsOfSignIf : Form → List ℕ → Type 0
+  IsOfSignIf (ArithmeticIf t x) s = IsArithmeticIf k t x s
+  IsOfSignIf _ s = ⊥
+
+  -- the form of a statement that is no logical IF, by the rule that applies
+  abbrev pub IsFormBy : Rule → Form → List ℕ → Type 0
+  IsFormBy Assignment f s = IsOfAssignment f s
+  IsFormBy BlockIf f s = IsOfBlockIf f s
+  IsFormBy SignIf f s = IsOfSignIf f s
+  IsFormBy LogicalIf f s = ⊥
+  IsFormBy Unclosed f s = ⊥
+  IsFormBy Worded f s = IsWorded f s
+
+  -- The text is a logical IF with this condition, and r is the statement that it holds (X3.9-1978,
+  -- 11.5).
+  abbrev pub IsLogicalIf : Tree → List ℕ → List ℕ → Type 0
+  IsLogicalIf t s r =
+      (m : List ℕ) × (s ≡ codes "IF(" ++ m) × (rule_of s ≡ LogicalIf) × (behind_closing 0 false m ≡ Some r)
+      × Reads k t equivalence m (codes ")" ++ r)
+
+  -- The whole text has this form, behind these conditions of logical IFs; a logical IF holds an
+  -- executable statement.
+  abbrev pub Says : List Tree → Form → List ℕ → Type 0
+  Says [] f s = IsFormBy (rule_of s) f s
+  Says (t ∷ more) f s = (r : List ℕ) × IsLogicalIf t s r × (is_executable f ≡ true) × Says more f r
+
+abbrev pub context : Sizes → List ℕ → Context
+context z s = record { sizes = z; length = length s }
+
+-- The whole text is this statement's.
+abbrev pub IsForm : Sizes → List ℕ → List Tree → Form → Type 0
+IsForm z s conditions f = Says (context z s) conditions f s

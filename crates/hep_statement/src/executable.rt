@@ -1,0 +1,282 @@
+//! Reading the forms of executable statements, each behind its word or as a whole.
+ghost use Rattle.std.specs.Prelude.{◌≡◌, option_map};
+ghost use Rattle.hep_expression.specs.Reading.{Gives};
+ghost use Rattle.hep_statement.specs.ReadingExecutable as reading;
+
+use hep_declaration::constant::constant_behind;
+use hep_declaration::label::{few_digits_at, label_at};
+use hep_declaration::list::{Part, arguments, behind_optional_comma, enclosed, listed};
+use hep_expression::Unread;
+use hep_expression::characters::{Context, after, after_text, all_read, place_at, plain_place_at};
+use hep_expression::expression::{expression_at, whole_expression};
+use hep_source::{DoControl, Expr, Form, PrintItem, Sequence, SignLabels, Target};
+use std::alloc::Global;
+
+/// The list of `PRINT *` (X3.9-1978, 12.8), behind the star.
+///
+/// # Errors
+///
+/// No reading, or no memory.
+#[tactic(auto, unfolding(crate::specs::ReadingExecutable::print))]
+pub fn print(alloc: Global, context: Context, s: &[u8]) -> Result<Form, Unread>
+    ensures { Gives (λ x. x) result (reading.print context s.now) }
+{
+    let Some(list) = after(b',', s) else {
+        let nothing = Sequence::from(Vec::new(alloc));
+        return all_read(Form::Print(nothing), s);
+    };
+    let (items, rest) = listed::<PrintItem>(alloc, context, list)?;
+    all_read(Form::Print(Sequence::from(items)), rest)
+}
+
+/// An assignment (10.1 and 10.2).
+///
+/// # Errors
+///
+/// No reading, or no memory.
+#[tactic(auto, unfolding(crate::specs::ReadingExecutable::assignment))]
+pub fn assignment(alloc: Global, context: Context, s: &[u8]) -> Result<Form, Unread>
+    ensures { Gives (λ x. x) result (reading.assignment context s.now) }
+{
+    let (target, rest) = Target::read(alloc, context, s)?;
+    let Some(behind) = after(b'=', rest) else {
+        return Err(Unread::NoReading);
+    };
+    let value = whole_expression(alloc, context, behind)?;
+    Ok(Form::Assign(target, value))
+}
+
+/// The labels of a computed GO TO and its expression (11.2).
+#[tactic(auto, unfolding(crate::specs::ReadingExecutable::computed_go_to))]
+fn computed_go_to(alloc: Global, context: Context, s: &[u8]) -> Result<Form, Unread>
+    ensures { Gives (λ x. x) result (reading.computed_go_to context s.now) }
+{
+    let (labels, rest) = enclosed::<u32>(alloc, context, s)?;
+    let index = whole_expression(alloc, context, behind_optional_comma(rest))?;
+    Ok(Form::ComputedGoTo(Sequence::from(labels), index))
+}
+
+/// What follows GO TO: a label (11.1), or labels in parentheses and an expression (11.2).
+///
+/// # Errors
+///
+/// No reading, or no memory.
+#[tactic(auto, unfolding(crate::specs::ReadingExecutable::go_to))]
+pub fn go_to(alloc: Global, context: Context, s: &[u8]) -> Result<Form, Unread>
+    ensures { Gives (λ x. x) result (reading.go_to context s.now) }
+{
+    match label_at(s) {
+        Some((label, rest)) => all_read(Form::GoTo(label), rest),
+        None => computed_go_to(alloc, context, s),
+    }
+}
+
+/// The labels of an arithmetic IF (11.4): three with commas between them, up to the end.
+fn sign_labels(s: &[u8]) -> Option<SignLabels>
+    ensures { result ≡ reading.sign_labels s.now }
+{
+    let (negative, rest) = label_at(s)?;
+    let (zero, rest) = label_at(after(b',', rest)?)?;
+    let (positive, rest) = label_at(after(b',', rest)?)?;
+    let labels = SignLabels {
+        negative,
+        zero,
+        positive,
+    };
+    match rest {
+        [] => Some(labels),
+        _ => None,
+    }
+}
+
+/// A condition and the parenthesis that closes it, and what follows them.
+#[tactic(auto, unfolding(crate::specs::ReadingExecutable::condition_at))]
+fn condition_at(alloc: Global, context: Context, s: &[u8]) -> Result<(Expr, &[u8]), Unread>
+    ensures { Gives (λ x. (x.0, x.1.now)) result (reading.condition_at context s.now) }
+{
+    let (condition, rest) = expression_at(alloc, context, s)?;
+    match after(b')', rest) {
+        Some(behind) => Ok((condition, behind)),
+        None => Err(Unread::NoReading),
+    }
+}
+
+/// The condition of an IF, which begins the text, and what follows the parenthesis that closes it.
+///
+/// # Errors
+///
+/// No reading, or no memory.
+pub fn if_condition_at(alloc: Global, context: Context, s: &[u8]) -> Result<(Expr, &[u8]), Unread>
+    ensures { Gives (λ x. (x.0, x.1.now)) result (reading.if_condition_at context s.now) }
+{
+    match after_text(b"IF(", s) {
+        Some(inside) => condition_at(alloc, context, inside),
+        None => Err(Unread::NoReading),
+    }
+}
+
+/// An arithmetic IF (11.4).
+///
+/// # Errors
+///
+/// No reading, or no memory.
+#[tactic(auto, unfolding(crate::specs::ReadingExecutable::arithmetic_if))]
+pub fn arithmetic_if(alloc: Global, context: Context, s: &[u8]) -> Result<Form, Unread>
+    ensures { Gives (λ x. x) result (reading.arithmetic_if context s.now) }
+{
+    let (condition, rest) = if_condition_at(alloc, context, s)?;
+    match sign_labels(rest) {
+        Some(labels) => Ok(Form::ArithmeticIf(condition, labels)),
+        None => Err(Unread::NoReading),
+    }
+}
+
+/// The condition, where THEN and no more follows it.
+fn before_then(condition: Expr, rest: &[u8]) -> Result<Expr, Unread>
+    ensures { Gives (λ x. x) result (reading.before_then (condition, rest.now)) }
+{
+    match after_text(b"THEN", rest) {
+        Some(behind) => all_read(condition, behind),
+        None => Err(Unread::NoReading),
+    }
+}
+
+/// A block IF (11.6).
+///
+/// # Errors
+///
+/// No reading, or no memory.
+#[tactic(auto, unfolding(crate::specs::ReadingExecutable::if_then))]
+pub fn if_then(alloc: Global, context: Context, s: &[u8]) -> Result<Form, Unread>
+    ensures { Gives (λ x. x) result (reading.if_then context s.now) }
+{
+    let (condition, rest) = if_condition_at(alloc, context, s)?;
+    let condition = before_then(condition, rest)?;
+    Ok(Form::IfThen(condition))
+}
+
+/// What follows `ELSEIF(` (11.7).
+///
+/// # Errors
+///
+/// No reading, or no memory.
+#[tactic(auto, unfolding(crate::specs::ReadingExecutable::else_if))]
+pub fn else_if(alloc: Global, context: Context, s: &[u8]) -> Result<Form, Unread>
+    ensures { Gives (λ x. x) result (reading.else_if context s.now) }
+{
+    let (condition, rest) = condition_at(alloc, context, s)?;
+    let condition = before_then(condition, rest)?;
+    Ok(Form::ElseIf(condition))
+}
+
+/// The limit of a DO and its increment, if it has one.
+#[tactic(auto, unfolding(crate::specs::ReadingExecutable::limits))]
+fn limits(alloc: Global, context: Context, s: &[u8]) -> Result<(Expr, Option<Expr>), Unread>
+    ensures { Gives (λ x. x) result (reading.limits context s.now) }
+{
+    let (limit, rest) = expression_at(alloc, context, s)?;
+    match after(b',', rest) {
+        Some(behind) => {
+            let increment = whole_expression(alloc, context, behind)?;
+            Ok((limit, Some(increment)))
+        }
+        None => all_read((limit, None), rest),
+    }
+}
+
+/// What follows DO (11.10.1).
+///
+/// # Errors
+///
+/// No reading, or no memory.
+#[tactic(auto, unfolding(crate::specs::ReadingExecutable::do_loop))]
+pub fn do_loop(alloc: Global, context: Context, s: &[u8]) -> Result<Form, Unread>
+    ensures { Gives (λ x. x) result (reading.do_loop context s.now) }
+{
+    let Some((terminal, rest)) = label_at(s) else {
+        return Err(Unread::NoReading);
+    };
+    let Some((variable, rest)) = place_at(context, behind_optional_comma(rest)) else {
+        return Err(Unread::NoReading);
+    };
+    let Some(rest) = after(b'=', rest) else {
+        return Err(Unread::NoReading);
+    };
+    let (initial, rest) = expression_at(alloc, context, rest)?;
+    let Some(rest) = after(b',', rest) else {
+        return Err(Unread::NoReading);
+    };
+    let (limit, increment) = limits(alloc, context, rest)?;
+    Ok(Form::Do(DoControl {
+        terminal,
+        variable,
+        initial,
+        limit,
+        increment,
+    }))
+}
+
+/// What follows CALL (15.6.2): the name of a subroutine, and arguments.
+///
+/// # Errors
+///
+/// No reading, or no memory.
+#[tactic(auto, unfolding(crate::specs::ReadingExecutable::call))]
+pub fn call(alloc: Global, context: Context, s: &[u8]) -> Result<Form, Unread>
+    ensures { Gives (λ x. x) result (reading.call context s.now) }
+{
+    let Some((subroutine, rest)) = plain_place_at(context, s) else {
+        return Err(Unread::NoReading);
+    };
+    let actuals = arguments::<Expr>(alloc, context, rest)?;
+    Ok(Form::Call(subroutine, Sequence::from(actuals)))
+}
+
+/// What follows CREATE (docs/LANGUAGE.md): the same as behind CALL.
+///
+/// # Errors
+///
+/// No reading, or no memory.
+#[tactic(auto, unfolding(crate::specs::ReadingExecutable::create))]
+pub fn create(alloc: Global, context: Context, s: &[u8]) -> Result<Form, Unread>
+    ensures { Gives (λ x. x) result (reading.create context s.now) }
+{
+    let Some((subroutine, rest)) = plain_place_at(context, s) else {
+        return Err(Unread::NoReading);
+    };
+    let actuals = arguments::<Expr>(alloc, context, rest)?;
+    Ok(Form::Create(subroutine, Sequence::from(actuals)))
+}
+
+/// What follows PURGE (docs/LANGUAGE.md): the places that become empty.
+///
+/// # Errors
+///
+/// No reading, or no memory.
+#[tactic(auto, unfolding(crate::specs::ReadingExecutable::purge))]
+pub fn purge(alloc: Global, context: Context, s: &[u8]) -> Result<Form, Unread>
+    ensures { Gives (λ x. x) result (reading.purge context s.now) }
+{
+    let (targets, rest) = listed::<Target>(alloc, context, s)?;
+    all_read(Form::Purge(Sequence::from(targets)), rest)
+}
+
+/// What follows STOP (11.12): nothing, one to five digits, or a character constant.
+///
+/// # Errors
+///
+/// No reading, or no memory.
+#[tactic(auto, unfolding(crate::specs::ReadingExecutable::stop))]
+pub fn stop(alloc: Global, s: &[u8]) -> Result<Form, Unread>
+    ensures { Gives (λ x. x) result (reading.stop s.now) }
+{
+    let [_, ..] = s else { return Ok(Form::Stop) };
+    if let Some((_digits, rest)) = few_digits_at(s) {
+        return all_read(Form::Stop, rest);
+    }
+    let Some(behind) = after(b'\'', s) else {
+        return Err(Unread::NoReading);
+    };
+    let (_characters, rest) = constant_behind(alloc, behind)?;
+    all_read(Form::Stop, rest)
+}
