@@ -2,10 +2,10 @@
 use Rattle.std.proofs.Common.{◌≡◌, ℕ, Bool, true, false, List, [], ◌∷◌, ◌++◌, refl, ap, sym, ◌∙◌, Option, Some, None, cond, subst}
 use Rattle.std.specs.Prelude.{Result, Ok, Err, MatchResult}
 use Rattle.hep_source.specs.declared.name.Name.{Name}
-use Rattle.hep_source.specs.Names.{with_name, with_names, first_real, is_integer_by_letter, or_later}
+use Rattle.hep_source.specs.Names.{with_name, with_names}
 use Rattle.hep_core.specs.declared.fault.ImageFault.{ImageFault}
 use Rattle.hep_core.specs.declared.fault.ImageFault.TheVariants.{NoMemory, Refused}
-use Rattle.hep_core.specs.Symbols.{untyped_in, Reports}
+use Rattle.hep_core.specs.Symbols.{first_real, is_integer_by_letter, or_later, untyped_in, Reports}
 
 pub with_names-append : (xs ys zs : List Name) → with_names xs (ys ++ zs) ≡ with_names (with_names xs ys) zs
 with_names-append xs [] zs = refl

@@ -1,10 +1,13 @@
+pub mod Running
 pub mod NameTests
 pub mod Declared
 pub mod Lists
+pub mod Locals
 pub mod Redexes
 pub mod Decided
 pub mod Variables
 pub mod Steps
+pub mod Waits
 pub mod Settled
 pub mod Histories
 pub mod Viewed

@@ -9,7 +9,8 @@ use Rattle.std.specs.Prelude.{◌&&◌, ◌||◌, Some, None, nat_eq, nat_lt, po
 use Rattle.std.specs.List.{position_or_len, list_any}
 use Rattle.std.specs.Option.{unwrap_or}
 use Rattle.hep_source.specs.declared.name.Name.{Name}
-use Rattle.hep_source.specs.Names.{same_name, same_truth, same_letters, is_among, with_name}
+use Rattle.hep_source.specs.Arithmetic.{same_truth}
+use Rattle.hep_source.specs.Names.{same_name, same_letters, is_among, with_name}
 use Rattle.hep_source.specs.contracts.name.NamePartialEq.TheImpl as impl
 use mathlib.Core.Bool.{beq}
 use lib.Pointwise.{pointwise}

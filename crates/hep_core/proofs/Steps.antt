@@ -1,25 +1,26 @@
 -- Each operation does what the step of the source machine does.
-use Rattle.std.proofs.Common.{◌≡◌, ◌≢◌, ℕ, zero, suc, ◌+◌, ◌-◌, ◌<◌, ◌≤◌, ⊎_elim, true, false, List, [], ◌∷◌, ◌++◌, map, drop, take, length, length-append, refl, sym, ap, ◌∙◌, subst, arith, Option, Some, None, ℤ}
-use Rattle.std.specs.Prelude.{slice_get, slice_set, Result, Ok, Err}
+use Rattle.std.proofs.Common.{◌≡◌, ◌≢◌, ℕ, zero, suc, ◌+◌, ◌-◌, ◌<◌, ◌≤◌, ⊎_elim, Bool, true, false, List, [], ◌∷◌, ◌++◌, map, drop, take, length, length-append, refl, sym, ap, ◌∙◌, subst, arith, Option, Some, None}
+use Rattle.std.specs.Prelude.{if◌then◌else◌, slice_get, slice_set, Result, Ok, Err}
 use Rattle.std.proofs.lemmas.Bool.{cases_lt}
 use Rattle.std.proofs.Math.Seq.{take-append_seam}
 use Rattle.hep_source.specs.declared.event.Kind.{Kind}
 use Rattle.hep_source.specs.declared.event.Fault.{Fault}
 use Rattle.hep_source.specs.declared.name.Name.{Name}
-use Rattle.hep_source.specs.declared.name.Place.{Place}
 use Rattle.hep_source.specs.declared.value.Value.{Value}
 use Rattle.hep_source.specs.declared.value.Value.TheVariants as value
 use Rattle.hep_source.specs.declared.record.Item.{Item}
 use Rattle.hep_source.specs.declared.statement.Form.{Form}
 use Rattle.hep_source.specs.declared.statement.Form.TheVariants as form
 use Rattle.hep_source.specs.declared.statement.Statement.{Statement}
-use Rattle.hep_source.specs.Arithmetic.{result_of, signed_result}
-use Rattle.hep_source.specs.Units.{Units, unit_at, main_unit, is_executable, line_at}
-use Rattle.hep_source.specs.Storage.{local, Store, with_value}
-use Rattle.hep_source.specs.Evaluation.{Redex, reading, signing, combining, item_of, Action, assigning, printing, leaving, Next, wants, does, next_of, plug_form}
-use Rattle.hep_source.specs.State.{Level, Process, State, level_at, unit_of}
-use Rattle.hep_source.specs.Step.{Answer, gives, fails, integer_of, by_result, by_value, answer_of, after_answer, after_next, goes_on, fault_of, step}
-use Rattle.hep_source.specs.Views.{values_of}
+use Rattle.hep_source.specs.declared.operator.Operator.TheVariants.{Arithmetic}
+use Rattle.hep_source.specs.Arithmetic.{as_value, integer_of, result_of, signed_result}
+use Rattle.hep_source.specs.Control.{goes_on}
+use Rattle.hep_source.specs.Places.{Scope, located}
+use Rattle.hep_source.specs.Units.{Units, unit_at, main_unit, executable_from, statement_at, line_at}
+use Rattle.hep_source.specs.Storage.{Location, local, Store, Cell, same_location, with_value}
+use Rattle.hep_source.specs.Evaluation.{Reference, Redex, reading, signing, combining, item_of, Action, assigning, printing, leaving, Next, wants, does, next_of_form, plug_form}
+use Rattle.hep_source.specs.State.{Level, Process, State, top_of, numbered, unit_of}
+use Rattle.hep_source.specs.Step.{Answer, gives, fails, by_result, by_value, read_at, answer_of, stepped, Top, scope_of, after_answer, after_assignment, after_next, fault_of, turn_of, turn_of_top, state_made, step}
 use Rattle.hep_core.specs.declared.operation.Evaluation.{Evaluation}
 use Rattle.hep_core.specs.declared.operation.Evaluation.TheVariants.{Load, Sign, Binary}
 use Rattle.hep_core.specs.declared.operation.Operation.{Operation}
@@ -27,11 +28,14 @@ use Rattle.hep_core.specs.declared.operation.Operation.TheVariants.{Evaluate, St
 use Rattle.hep_core.specs.declared.operation.Instruction.{Instruction}
 use Rattle.hep_core.specs.declared.operation.Instruction.TheVariants.{Push, Step}
 use Rattle.hep_core.specs.Code.{number_of, code_from, program_code}
-use Rattle.hep_core.specs.Machine.{Snapshot, operand_at, integer_in, value_in, arity, loaded, as_value, evaluated, with_result, with_fault, with_stored, with_printed, with_end}
-use Rattle.hep_core.specs.Shown.{main_variables, code_behind, Stands, IsAt, Shows}
-use Rattle.hep_core.proofs.Redexes.{evaluation_of, operands_of}
+use Rattle.hep_core.specs.Machine.{Snapshot, operand_at, integer_in, value_in, first_unit, arity, loaded, evaluated, with_result, with_fault, with_stored, with_printed, with_end}
+use Rattle.hep_core.specs.Shown.{values_of, level_of, code_behind, Stands, IsAt, Shows}
+use Rattle.hep_core.specs.Symbols.{main_variables, variables_of}
+use Rattle.hep_core.proofs.Running.{AllRun, units_run, main_runs, main_is_first, located_is, goes_on_is, level_from}
+use Rattle.hep_core.proofs.Locals.{main_variables_are}
+use Rattle.hep_core.proofs.Redexes.{IsPlain, DoesReduce, evaluation_of, operands_of, form_stays}
 use Rattle.hep_core.proofs.Decided.{IsWanted, Decides, decided, stands_at, code_behind_is}
-use Rattle.hep_core.proofs.Variables.{cell_of, cell_set, variables_distinct, unit_resolved, resolved_drop, IsResolved, AreResolved}
+use Rattle.hep_core.proofs.Variables.{cell_of, cell_set, IsDistinct, variables_distinct, unit_resolved, resolved_drop, IsResolved, AreResolved}
 
 -- ---- operands
 
@@ -62,10 +66,11 @@ value_is : (v : Value) → value_in (Some (item_of v)) ≡ v
 value_is (value.Int z) = refl
 value_is (value.Truth b) = refl
 
-arity_is : (symbols : List Name) (r : Redex) → length (operands_of r) ≡ arity (evaluation_of symbols r)
-arity_is symbols (reading p) = refl
-arity_is symbols (signing s v) = refl
-arity_is symbols (combining o v w) = refl
+arity_is : (symbols : List Name) (r : Redex) → DoesReduce r → length (operands_of r) ≡ arity (evaluation_of symbols r)
+arity_is symbols (reading x) d = refl
+arity_is symbols (signing s v) d = refl
+arity_is symbols (combining (Arithmetic o) v w) d = refl
+arity_is symbols _ d = absurd d
 
 -- what is left below the operands of a redex
 below : (xs ys : List Item) (n : ℕ) → length ys ≡ n → take (length (xs ++ ys) - n) (xs ++ ys) ≡ xs
@@ -83,8 +88,8 @@ loaded_is : (o : Option Value) (store : Store) → by_value o store ≡ as_answe
 loaded_is None store = refl
 loaded_is (Some v) store = refl
 
-result_is : (r : Result ℤ Kind) (store : Store) → by_result r store ≡ as_answer store (as_value r)
-result_is (Ok z) store = refl
+result_is : (r : Result Value Kind) (store : Store) → by_result r store ≡ as_answer store r
+result_is (Ok v) store = refl
 result_is (Err k) store = refl
 
 -- a variable that an operation reads is one of the unit's
@@ -93,79 +98,112 @@ IsBelow n (Load k) = k < n
 IsBelow n (Sign s) = Unit {0}
 IsBelow n (Binary o) = Unit {0}
 
-answer_is : (symbols : List Name) (store : Store) (before : List Item) (r : Redex) → IsBelow (length symbols) (evaluation_of symbols r) → answer_of 1 store r ≡ as_answer store (evaluated (values_of store 1 symbols) (before ++ operands_of r) (evaluation_of symbols r))
-answer_is symbols store before (reading p) lt =
-    loaded_is (store (local 1 p.name 1)).value store ∙ ap (λ o. as_answer store (loaded o)) (sym (cell_of symbols p.name store lt))
-answer_is symbols store before (signing s v) lt =
-    result_is (signed_result s (integer_of v)) store
+-- the main program's activation, as its statements see it
+pub main_scope : List Statement → Scope
+main_scope unit = record { unit = unit; number = 1; dummies = [] }
+
+pub read_is : (unit : List Statement) (store : Store) (x : Reference) → AllRun unit → IsPlain x → answer_of (main_scope unit) store (reading x) ≡ by_value (store (local 1 x.0 1)).value store
+unfolding main_scope
+read_is unit store x h plain =
+    ap (λ b. read_at b store (located (main_scope unit) x.0 x.1)) plain.0
+    ∙ ap (λ vs. read_at false store (located (main_scope unit) x.0 vs)) plain.1
+    ∙ ap (read_at false store) (located_is (main_scope unit) x.0 h)
+
+answer_is : (unit : List Statement) (symbols : List Name) (store : Store) (before : List Item) (r : Redex) → AllRun unit → DoesReduce r → IsBelow (length symbols) (evaluation_of symbols r) → answer_of (main_scope unit) store r ≡ as_answer store (evaluated (values_of store symbols) (before ++ operands_of r) (evaluation_of symbols r))
+answer_is unit symbols store before (reading x) h d lt =
+    read_is unit store x h d
+    ∙ loaded_is (store (local 1 x.0 1)).value store ∙ ap (λ o. as_answer store (loaded o)) (sym (cell_of symbols x.0 store lt))
+answer_is unit symbols store before (signing s v) h d lt =
+    result_is (as_value (signed_result s (integer_of v))) store
     ∙ ap (λ z. as_answer store (as_value (signed_result s z))) (sym (ap integer_in (one_deep before (item_of v)) ∙ integer_is v))
-answer_is symbols store before (combining o v w) lt =
-    result_is (result_of o (integer_of v) (integer_of w)) store
+answer_is unit symbols store before (combining (Arithmetic o) v w) h d lt =
+    result_is (as_value (result_of o (integer_of v) (integer_of w))) store
     ∙ ap (λ z. as_answer store (as_value (result_of o z (integer_of w)))) (sym (ap integer_in (two_deep before (item_of v) (item_of w)) ∙ integer_is v))
     ∙ ap (λ z. as_answer store (as_value (result_of o (integer_in (operand_at (before ++ item_of v ∷ item_of w ∷ []) 2)) z))) (sym (ap integer_in (one_of_two before (item_of v) (item_of w)) ∙ integer_is w))
+answer_is unit symbols store before _ h d lt = absurd d
 
 -- ---- what the operation ahead says of the statement
 
-module _ (symbols : List Name) (line : ℕ) (work : Form) (after : List Instruction) (operands : List Item) (rest : List Instruction) where
-  wanted : (n : Next) (e : Evaluation) → Decides symbols line work after n operands (Evaluate e) rest → (r : Redex) × (n ≡ wants r) × IsWanted symbols line work after r operands (Evaluate e) rest
+module _ (unit : List Statement) (symbols : List Name) (line : ℕ) (form : Form) (after : List Instruction) (operands : List Item) (rest : List Instruction) where
+  wanted : (n : Next) (e : Evaluation) → Decides unit symbols line form after n operands (Evaluate e) rest → (r : Redex) × (n ≡ wants r) × IsWanted unit symbols line form after r operands (Evaluate e) rest
   wanted (wants r) e d = (r, refl, d)
   wanted (does (assigning p v)) e d = absurd (let h = d.1 in cc)
   wanted (does (printing is)) e d = absurd (let h = d.1 in cc)
   wanted (does leaving) e d = absurd cc
+  wanted (does _) e d = absurd d
 
   record IsStored (n : Next) (j : ℕ) : Type 0 where
-    p : Place
+    p : Reference
     v : Value
     is : n ≡ does (assigning p v)
     operand : item_of v ∷ [] ≡ operands
-    number : number_of symbols p.name ≡ j
+    number : number_of symbols p.0 ≡ j
     onward : after ≡ rest
+    plain : IsPlain p
 
-  stored : (n : Next) (j : ℕ) → Decides symbols line work after n operands (Storing j) rest → IsStored n j
+  stored : (n : Next) (j : ℕ) → Decides unit symbols line form after n operands (Storing j) rest → IsStored n j
   stored (wants r) j d = absurd (let h = d.operation in cc)
-  stored (does (assigning p v)) j d = record { p = p; v = v; is = refl; operand = d.0; number = let h = d.1 in cc; onward = d.2 }
+  stored (does (assigning p v)) j d = record { p = p; v = v; is = refl; operand = d.0; number = let h = d.1 in cc; onward = d.2; plain = d.3 }
   stored (does (printing is)) j d = absurd (let h = d.1 in cc)
   stored (does leaving) j d = absurd cc
+  stored (does _) j d = absurd d
 
-  printed : (n : Next) → Decides symbols line work after n operands Print rest → (n ≡ does (printing operands)) × (after ≡ rest)
+  printed : (n : Next) → Decides unit symbols line form after n operands Print rest → (n ≡ does (printing operands)) × (after ≡ rest)
   printed (wants r) d = absurd (let h = d.operation in cc)
   printed (does (assigning p v)) d = absurd (let h = d.1 in cc)
   printed (does (printing is)) d = (ap (λ xs. does (printing xs)) d.0, d.2)
   printed (does leaving) d = absurd cc
+  printed (does _) d = absurd d
 
-  ended : (n : Next) → Decides symbols line work after n operands End rest → n ≡ does leaving
+  ended : (n : Next) → Decides unit symbols line form after n operands End rest → n ≡ does leaving
   ended (wants r) d = absurd (let h = d.operation in cc)
   ended (does (assigning p v)) d = absurd (let h = d.1 in cc)
   ended (does (printing is)) d = absurd (let h = d.1 in cc)
   ended (does leaving) d = refl
+  ended (does _) d = absurd d
 
 -- ---- states
 
-executable_plug : (work : Form) (v : Value) → is_executable (plug_form work v) ≡ is_executable work
-executable_plug (form.Assign x t) v = refl
-executable_plug (form.Print items) v = refl
-executable_plug _ v = refl
-
-plug_end : (work : Form) (v : Value) → work ≡ form.End → plug_form work v ≡ form.End
-plug_end work v e = rw e refl
+plug_end : (unit : List Statement) (f : Form) (v : Value) → f ≡ form.End → plug_form unit f v ≡ form.End
+plug_end unit f v e = ap (λ g. plug_form unit g v) e
 
 record Standing (program : Units) (m : Snapshot) (s : State) : Type 0 where
-  level : Level
-  processes : s.processes ≡ (level ∷ []) ∷ []
-  stands : Stands (main_variables program) (unit_at program main_unit) level m.operands (drop m.place (program_code program))
+  at : ℕ
+  form : Form
+  processes : s.processes ≡ (level_of at form ∷ []) ∷ []
+  stands : Stands (main_variables program) (unit_at program (main_unit program)) at form m.operands (drop m.place (program_code program))
 
 standing : (program : Units) (m : Snapshot) (s : State) → Shows program m s → m.is_living ≡ true → Standing program m s
 standing program m s k alive =
     let h = subst (λ b. IsAt program b m.operands (drop m.place (program_code program)) s.processes) alive k.process in
-    record { level = h.0; processes = h.1; stands = h.2 }
+    record { at = h.0; form = h.1; processes = h.2; stands = h.3 }
 
 -- the one activation is the main program's
-pub main_unit_of : (s : State) (a : ℕ) → s.activations ≡ record { unit = main_unit; parent = None } ∷ [] → a ≡ 1 → unit_of s a ≡ main_unit
-main_unit_of s a e f = rw (f, e) refl
+pub main_unit_of : (program : Units) (s : State) → s.activations ≡ record { unit = main_unit program; parent = None; dummies = [] } ∷ [] → unit_of s 1 ≡ main_unit program
+main_unit_of program s e = ap (λ xs. unit_of (record s { activations = xs }) 1) e
 
-step_is : (program : Units) (s : State) (level : Level) → s.halted ≡ false → s.processes ≡ (level ∷ []) ∷ [] → step program 1 s ≡ after_next program 1 level [] s (next_of level.work)
-unfolding step
-step_is program s level h e = rw (h, e) refl
+pub scope_is : (program : Units) (s : State) → s.activations ≡ record { unit = main_unit program; parent = None; dummies = [] } ∷ [] → scope_of program s 1 ≡ main_scope (unit_at program (main_unit program))
+unfolding main_scope
+scope_is program s e = ap (λ xs. scope_of program (record s { activations = xs }) 1) e
+
+-- process 1 with its one activation
+abbrev pub top_is : State → Level → Top
+top_is s level = record { state = s; process = 1; level = level; below = [] }
+
+pub turn_is : (program : Units) (s : State) (k : ℕ) (form : Form) → s.activations ≡ record { unit = main_unit program; parent = None; dummies = [] } ∷ [] → s.processes ≡ (level_of k form ∷ []) ∷ [] → turn_of program 1 s ≡ after_next program (top_is s (level_of k form)) (next_of_form (unit_at program (main_unit program)) form)
+unfolding turn_of
+turn_is program s k form activations processes =
+    ap (λ ps. turn_of_top program s 1 (top_of (numbered ps 1))) processes
+    ∙ ap (λ u. after_next program (top_is s (level_of k form)) (next_of_form (unit_at program u) form)) (main_unit_of program s activations)
+
+pub assigns : (program : Units) (s : State) (k : ℕ) (f : Form) → AllRun (unit_at program (main_unit program)) → s.activations ≡ record { unit = main_unit program; parent = None; dummies = [] } ∷ [] → (x : Reference) (v : Value) → IsPlain x → after_next program (top_is s (level_of k f)) (does (assigning x v)) ≡ after_assignment program (top_is s (level_of k f)) false (Ok (local 1 x.0 1)) v
+unfolding main_scope
+assigns program s k f h activations x v plain =
+    let top = top_is s (level_of k f) in
+    ap (λ b. after_assignment program top b (located (scope_of program s 1) x.0 x.1) v) plain.0
+    ∙ ap (λ vs. after_assignment program top false (located (scope_of program s 1) x.0 vs) v) plain.1
+    ∙ ap (λ scope. after_assignment program top false (located scope x.0 []) v) (scope_is program s activations)
+    ∙ ap (λ r. after_assignment program top false r v) (located_is (main_scope (unit_at program (main_unit program))) x.0 h)
 
 onward_drop : {A : Type 0} (xs : List A) (n : ℕ) (x : A) (ys : List A) → drop n xs ≡ x ∷ ys → drop (n + 1) xs ≡ ys
 onward_drop [] zero x ys e = absurd cc
@@ -173,79 +211,115 @@ onward_drop [] (suc n) x ys e = absurd cc
 onward_drop (z ∷ zs) zero x ys e = cc
 onward_drop (z ∷ zs) (suc n) x ys e = let f : suc n + 1 ≡ suc (n + 1) = omega arith in rw f (onward_drop zs n x ys e)
 
-pub code_resolved : (program : Units) → AreResolved (length (main_variables program)) (program_code program)
+pub code_resolved : (program : Units) → main_variables program ≡ variables_of (unit_at program (main_unit program)) → AreResolved (length (main_variables program)) (program_code program)
 unfolding program_code
-code_resolved program = unit_resolved (unit_at program main_unit)
+code_resolved program e =
+    let unit = unit_at program (main_unit program) in
+    subst (λ xs. AreResolved (length xs) (code_from xs unit)) (sym e) (unit_resolved unit)
 
 -- a statement with more to do isn't past the end
-within_unit : (unit : List Statement) (level : Level) (a : Action) → (length unit ≤ level.statement → level.work ≡ form.End) → next_of level.work ≡ does a → a ≢ leaving → level.statement < length unit
-within_unit unit level a past n ne =
-    ⊎_elim (λ lt. lt) (λ le. absurd (ne (let e : next_of level.work ≡ does leaving = ap next_of (past le) in cc))) (cases_lt level.statement (length unit))
+within_unit : (unit : List Statement) (k : ℕ) (f : Form) (a : Action) → (length unit ≤ k → f ≡ form.End) → next_of_form unit f ≡ does a → a ≢ leaving → k < length unit
+within_unit unit k f a past n ne =
+    ⊎_elim (λ lt. lt) (λ le. absurd (ne (let e : next_of_form unit f ≡ does leaving = ap (next_of_form unit) (past le) in cc))) (cases_lt k (length unit))
 
 is_below : (n l : ℕ) (e : Evaluation) → IsResolved n (Step l (Evaluate e)) → IsBelow n e
 is_below n l (Load j) h = h
 is_below n l (Sign s) h = tt
 is_below n l (Binary o) h = tt
 
+-- storing a value leaves each storage unit as full as it was
+plain_by : (b : Bool) (c d : Cell) (v : Option Value) → c.full ≡ false → d.full ≡ false → (if b then record { value = v; full = c.full } else d).full ≡ false
+plain_by true c d v e f = e
+plain_by false c d v e f = f
+
+stays_plain : (store : Store) (x : Location) (v : Option Value) → ((y : Location) → (store y).full ≡ false) → (y : Location) → (with_value store x v y).full ≡ false
+stays_plain store x v h y = plain_by (same_location y x) (store x) (store y) v (h x) (h y)
+
 module _ (program : Units) (m : Snapshot) (s : State) (l : ℕ) (o : Operation) (rest : List Instruction) (k : Shows program m s) (alive : m.is_living ≡ true) (ahead : drop m.place (program_code program) ≡ Step l o ∷ rest) where
   abbrev symbols : List Name
   symbols = main_variables program
 
   abbrev unit : List Statement
-  unit = unit_at program main_unit
+  unit = unit_at program (main_unit program)
+
+  all_run : AllRun unit
+  all_run = main_runs program k.runs
 
   abbrev here : Standing program m s
   here = standing program m s k alive
 
+  abbrev level_now : Level
+  level_now = level_of here.at here.form
+
+  abbrev top : Top
+  top = top_is s level_now
+
   abbrev next_level : Level
-  next_level = level_at unit 1 (here.level.statement + 1)
+  next_level = level_from unit (suc here.at)
 
   abbrev after : List Instruction
-  after = code_behind symbols (drop here.level.statement unit)
+  after = code_behind symbols (drop here.at unit)
 
-  says : (line_at unit here.level.statement ≡ l) × Decides symbols (line_at unit here.level.statement) here.level.work after (next_of here.level.work) m.operands o rest
-  says = decided symbols unit here.level m.operands (drop m.place (program_code program)) l o rest here.stands ahead
+  abbrev next_now : Next
+  next_now = next_of_form unit here.form
 
-  steps : step program 1 s ≡ after_next program 1 here.level [] s (next_of here.level.work)
-  steps = step_is program s here.level k.running here.processes
+  says : (line_at unit here.at ≡ l) × Decides unit symbols (line_at unit here.at) here.form after next_now m.operands o rest
+  says = decided symbols unit here.at here.form m.operands (drop m.place (program_code program)) l o rest all_run here.stands ahead
+
+  steps : (n : Next) (t : State) → next_now ≡ n → after_next program top n ≡ stepped t → step program 1 s ≡ Some t
+  steps n t is e =
+      ap (λ b. if b then None else state_made (turn_of program 1 s)) k.running
+      ∙ ap state_made (turn_is program s here.at here.form k.activations here.processes ∙ ap (after_next program top) is ∙ e)
 
   onward : drop (m.place + 1) (program_code program) ≡ rest
   onward = onward_drop (program_code program) m.place (Step l o) rest ahead
 
   resolved : AreResolved (length symbols) (Step l o ∷ rest)
-  resolved = subst (AreResolved (length symbols)) ahead (resolved_drop (length symbols) m.place (program_code program) (code_resolved program))
+  resolved = subst (AreResolved (length symbols)) ahead (resolved_drop (length symbols) m.place (program_code program) (code_resolved program (main_variables_are program k.runs)))
+
+  distinct : IsDistinct symbols
+  distinct = subst IsDistinct (sym (main_variables_are program k.runs)) (variables_distinct unit)
 
   -- the level in the place of the one that was there
   replaced : (q : Process) → slice_set s.processes (1 - 1) q ≡ q ∷ []
-  replaced q = rw here.processes refl
+  replaced q = ap (λ ps. slice_set ps (1 - 1) q) here.processes
+
+  abbrev unit_now : List Statement
+  unit_now = unit_at program (unit_of s 1)
+
+  unit_is : unit_now ≡ unit
+  unit_is = ap (unit_at program) (main_unit_of program s k.activations)
 
   -- after an action the next statement begins
-  goes_on_is : goes_on program s here.level ≡ next_level
-  goes_on_is = rw (main_unit_of s here.level.activation k.activations here.stands.activation, here.stands.activation) refl
+  abbrev onward_processes : List Process
+  onward_processes = slice_set s.processes (1 - 1) (goes_on unit_now level_now ∷ [])
 
-  next_stands : (a : Action) → next_of here.level.work ≡ does a → a ≢ leaving → after ≡ rest → Stands symbols unit next_level [] (drop (m.place + 1) (program_code program))
+  goes_onward : onward_processes ≡ (next_level ∷ []) ∷ []
+  goes_onward =
+      replaced (goes_on unit_now level_now ∷ [])
+      ∙ ap (λ u. (goes_on u level_now ∷ []) ∷ []) unit_is
+      ∙ ap (λ x. (x ∷ []) ∷ []) (goes_on_is unit here.at here.form all_run)
+
+  next_stands : (a : Action) → next_now ≡ does a → a ≢ leaving → after ≡ rest → Stands symbols unit (executable_from unit (suc here.at)) (statement_at unit (executable_from unit (suc here.at))).form [] (drop (m.place + 1) (program_code program))
   next_stands a n ne e =
-      let lt = within_unit unit here.level a here.stands.past n ne in
-      let same : code_from symbols (drop (here.level.statement + 1) unit) ≡ drop (m.place + 1) (program_code program) =
-      sym (code_behind_is symbols unit here.level.statement lt) ∙ e ∙ sym onward in
-      subst (Stands symbols unit next_level []) same (stands_at symbols unit (here.level.statement + 1))
+      let lt = within_unit unit here.at here.form a here.stands.past n ne in
+      let same : code_from symbols (drop (suc here.at) unit) ≡ drop (m.place + 1) (program_code program) =
+      sym (code_behind_is symbols unit here.at lt) ∙ e ∙ sym onward in
+      subst (Stands symbols unit (executable_from unit (suc here.at)) (statement_at unit (executable_from unit (suc here.at))).form []) same (stands_at symbols unit (suc here.at) all_run)
 
-  abbrev level_now : Level
-  level_now = here.level
-
-  decides_at : (p : Operation) → o ≡ p → Decides symbols (line_at unit level_now.statement) level_now.work after (next_of level_now.work) m.operands p rest
-  decides_at p is = subst (λ q. Decides symbols (line_at unit level_now.statement) level_now.work after (next_of level_now.work) m.operands q rest) is says.1
+  decides_at : (p : Operation) → o ≡ p → Decides unit symbols (line_at unit here.at) here.form after next_now m.operands p rest
+  decides_at p is = subst (λ q. Decides unit symbols (line_at unit here.at) here.form after next_now m.operands q rest) is says.1
 
   record Reduces (e : Evaluation) : Type 0 where
     r : Redex
-    is : next_of level_now.work ≡ wants r
+    is : next_now ≡ wants r
     same : evaluation_of symbols r ≡ e
-    wants_it : IsWanted symbols (line_at unit level_now.statement) level_now.work after r m.operands (Evaluate e) rest
-    answer : answer_of level_now.activation s.store r ≡ as_answer s.store (evaluated m.cells m.operands e)
+    wants_it : IsWanted unit symbols (line_at unit here.at) here.form after r m.operands (Evaluate e) rest
+    answer : answer_of (scope_of program s 1) s.store r ≡ as_answer s.store (evaluated m.cells m.operands e)
 
   reduces : (e : Evaluation) → o ≡ Evaluate e → Reduces e
   reduces e is =
-      let w = wanted symbols (line_at unit level_now.statement) level_now.work after m.operands rest (next_of level_now.work) e (decides_at (Evaluate e) is) in
+      let w = wanted unit symbols (line_at unit here.at) here.form after m.operands rest next_now e (decides_at (Evaluate e) is) in
       let same : evaluation_of symbols w.0 ≡ e = (let h = w.2.operation in cc) in
       let lt : IsBelow (length symbols) (evaluation_of symbols w.0) =
       subst (IsBelow (length symbols)) (sym same) (is_below (length symbols) l e (subst (λ q. IsResolved (length symbols) (Step l q)) is resolved.0)) in
@@ -254,36 +328,37 @@ module _ (program : Units) (m : Snapshot) (s : State) (l : ℕ) (o : Operation) 
         is = w.1;
         same = same;
         wants_it = w.2;
-        answer = ap (λ a. answer_of a s.store w.0) here.stands.activation
-            ∙ answer_is symbols s.store w.2.before w.0 lt
+        answer = ap (λ scope. answer_of scope s.store w.0) (scope_is program s k.activations)
+            ∙ answer_is unit symbols s.store w.2.before w.0 all_run w.2.does_reduce lt
             ∙ ap (λ cs. as_answer s.store (evaluated cs (w.2.before ++ operands_of w.0) (evaluation_of symbols w.0))) (sym k.values)
             ∙ ap (λ xs. as_answer s.store (evaluated m.cells xs (evaluation_of symbols w.0))) (sym w.2.operands_are)
             ∙ ap (λ x. as_answer s.store (evaluated m.cells m.operands x)) same;
       }
 
-  plugged : Value → Level
-  plugged v = record level_now { work = plug_form level_now.work v }
-
   -- a value
   pub gives_value : (e : Evaluation) (v : Value) → o ≡ Evaluate e → evaluated m.cells m.operands e ≡ Ok v → (s' : State) × (step program 1 s ≡ Some s') × Shows program (with_result m e v) s'
-  unfolding plugged
   gives_value e v is result =
       let h = reduces e is in
       let w = h.wants_it in
       let left : take (length m.operands - arity e) m.operands ≡ w.before =
-      ap (λ xs. take (length xs - arity e) xs) w.operands_are ∙ below w.before (operands_of h.r) (arity e) (arity_is symbols h.r ∙ ap arity h.same) in
-      let stands : Stands symbols unit (plugged v) (take (length m.operands - arity e) m.operands ++ item_of v ∷ []) (drop (m.place + 1) (program_code program)) = record {
-        activation = here.stands.activation;
-        executable = executable_plug level_now.work v ∙ here.stands.executable;
-        past = λ le. plug_end level_now.work v (here.stands.past le);
+      ap (λ xs. take (length xs - arity e) xs) w.operands_are ∙ below w.before (operands_of h.r) (arity e) (arity_is symbols h.r w.does_reduce ∙ ap arity h.same) in
+      let form_given = plug_form unit here.form v in
+      let stands : Stands symbols unit here.at form_given (take (length m.operands - arity e) m.operands ++ item_of v ∷ []) (drop (m.place + 1) (program_code program)) = record {
+        left = form_stays unit v here.form here.stands.left;
+        past = λ le. plug_end unit here.form v (here.stands.past le);
         code = w.given v ∙ ap (λ xs. map Push (xs ++ item_of v ∷ []) ++ rest) (sym left) ∙ ap (λ c. map Push (take (length m.operands - arity e) m.operands ++ item_of v ∷ []) ++ c) (sym onward);
-      } in (
-        record s { processes = slice_set s.processes (1 - 1) (plugged v ∷ []) },
-        steps ∙ ap (after_next program 1 level_now [] s) h.is ∙ ap (after_answer program 1 level_now [] s) (h.answer ∙ ap (as_answer s.store) result),
+      } in
+      let processes = slice_set s.processes (1 - 1) (level_of here.at (plug_form unit_now here.form v) ∷ []) in
+      let processes_are : processes ≡ (level_of here.at form_given ∷ []) ∷ [] =
+      replaced (level_of here.at (plug_form unit_now here.form v) ∷ []) ∙ ap (λ u. (level_of here.at (plug_form u here.form v) ∷ []) ∷ []) unit_is in (
+        record s { processes = processes },
+        steps (wants h.r) (record s { processes = processes }) h.is (ap (after_answer program top) (h.answer ∙ ap (as_answer s.store) result)),
         record {
-          process = subst (λ b. IsAt program b (take (length m.operands - arity e) m.operands ++ item_of v ∷ []) (drop (m.place + 1) (program_code program)) (slice_set s.processes (1 - 1) (plugged v ∷ []))) (sym alive) (plugged v, replaced (plugged v ∷ []), stands);
+          runs = k.runs;
+          process = subst (λ b. IsAt program b (take (length m.operands - arity e) m.operands ++ item_of v ∷ []) (drop (m.place + 1) (program_code program)) processes) (sym alive) (here.at, form_given, processes_are, stands);
           activations = k.activations;
           values = k.values;
+          plain = k.plain;
           records = k.records;
           faults = k.faults;
           running = k.running;
@@ -294,43 +369,48 @@ module _ (program : Units) (m : Snapshot) (s : State) (l : ℕ) (o : Operation) 
   pub gives_fault : (e : Evaluation) (f : Kind) → o ≡ Evaluate e → evaluated m.cells m.operands e ≡ Err f → (s' : State) × (step program 1 s ≡ Some s') × Shows program (with_fault m l f) s'
   gives_fault e f is result =
       let h = reduces e is in
-      let fault : Fault = record { process = 1; unit = main_unit; line = l; kind = f } in
-      let fault_is : fault_of program s 1 level_now f ≡ fault = rw (main_unit_of s level_now.activation k.activations here.stands.activation, says.0) refl in (
-        record s { faults = s.faults ++ fault_of program s 1 level_now f ∷ []; processes = slice_set s.processes (1 - 1) [] },
-        steps ∙ ap (after_next program 1 level_now [] s) h.is ∙ ap (after_answer program 1 level_now [] s) (h.answer ∙ ap (as_answer s.store) result),
+      let fault : Fault = record { process = 1; unit = first_unit; line = l; kind = f } in
+      let unit_number = main_unit_of program s k.activations ∙ main_is_first program (units_run program k.runs) in
+      let line = ap (λ u. line_at u here.at) unit_is ∙ says.0 in
+      let fault_is : fault_of program top f ≡ fault = λ i. record { process = 1; unit = unit_number i; line = line i; kind = f } in
+      let s' : State = record s { faults = s.faults ++ fault_of program top f ∷ []; processes = slice_set s.processes (1 - 1) [] } in (
+        s',
+        steps (wants h.r) s' h.is (ap (after_answer program top) (h.answer ∙ ap (as_answer s.store) result)),
         record {
+          runs = k.runs;
           process = replaced [];
           activations = k.activations;
           values = k.values;
+          plain = k.plain;
           records = k.records;
           faults = ap (λ xs. xs ++ fault ∷ []) k.faults ∙ ap (λ z. s.faults ++ z ∷ []) (sym fault_is);
           running = k.running;
         },
       )
 
-  onward_processes : slice_set s.processes (1 - 1) (goes_on program s level_now ∷ []) ≡ (next_level ∷ []) ∷ []
-  onward_processes = replaced (goes_on program s level_now ∷ []) ∙ ap (λ x. (x ∷ []) ∷ []) goes_on_is
-
   pub stores_value : (j : ℕ) → o ≡ Storing j → (s' : State) × (step program 1 s ≡ Some s') × Shows program (with_stored m j) s'
   stores_value j is =
-      let w = stored symbols (line_at unit level_now.statement) level_now.work after m.operands rest (next_of level_now.work) j (decides_at (Storing j) is) in
-      let x = w.p.name in
+      let w = stored unit symbols (line_at unit here.at) here.form after m.operands rest next_now j (decides_at (Storing j) is) in
+      let x = w.p.0 in
       let lt : number_of symbols x < length symbols =
       subst (λ n. n < length symbols) (sym w.number) (let b : IsResolved (length symbols) (Step l (Storing j)) = subst (λ q. IsResolved (length symbols) (Step l q)) is resolved.0 in b) in
       let none : [] ≡ take (length m.operands - 1) m.operands = ap (λ xs. take (length xs - 1) xs) w.operand in
-      let top : value_in (operand_at m.operands 1) ≡ w.v = sym (ap (λ xs. value_in (operand_at xs 1)) w.operand) ∙ value_is w.v in
-      let stands : Stands symbols unit next_level (take (length m.operands - 1) m.operands) (drop (m.place + 1) (program_code program)) =
-      subst (λ xs. Stands symbols unit next_level xs (drop (m.place + 1) (program_code program))) none (next_stands (assigning w.p w.v) w.is (λ e. cc) w.onward) in (
-        record s { store = with_value s.store (local level_now.activation x 1) (Some w.v); processes = slice_set s.processes (1 - 1) (goes_on program s level_now ∷ []) },
-        steps ∙ ap (after_next program 1 level_now [] s) w.is,
+      let top_value : value_in (operand_at m.operands 1) ≡ w.v = sym (ap (λ xs. value_in (operand_at xs 1)) w.operand) ∙ value_is w.v in
+      let behind = executable_from unit (suc here.at) in
+      let stands : Stands symbols unit behind (statement_at unit behind).form (take (length m.operands - 1) m.operands) (drop (m.place + 1) (program_code program)) =
+      subst (λ xs. Stands symbols unit behind (statement_at unit behind).form xs (drop (m.place + 1) (program_code program))) none (next_stands (assigning w.p w.v) w.is (λ e. cc) w.onward) in
+      let s' : State = record s { store = with_value s.store (local 1 x 1) (Some w.v); processes = onward_processes } in (
+        s',
+        steps (does (assigning w.p w.v)) s' w.is (assigns program s here.at here.form all_run k.activations w.p w.v w.plain),
         record {
-          process = subst (λ b. IsAt program b (take (length m.operands - 1) m.operands) (drop (m.place + 1) (program_code program)) (slice_set s.processes (1 - 1) (goes_on program s level_now ∷ []))) (sym alive) (next_level, onward_processes, stands);
+          runs = k.runs;
+          process = subst (λ b. IsAt program b (take (length m.operands - 1) m.operands) (drop (m.place + 1) (program_code program)) onward_processes) (sym alive) (behind, (statement_at unit behind).form, goes_onward, stands);
           activations = k.activations;
-          values = ap (λ z. slice_set m.cells j (Some z)) top
+          values = ap (λ z. slice_set m.cells j (Some z)) top_value
               ∙ ap (λ cs. slice_set cs j (Some w.v)) k.values
-              ∙ ap (λ i. slice_set (values_of s.store 1 symbols) i (Some w.v)) (sym w.number)
-              ∙ cell_set s.store x (Some w.v) symbols (variables_distinct unit) lt
-              ∙ ap (λ a. values_of (with_value s.store (local a x 1) (Some w.v)) 1 symbols) (sym here.stands.activation);
+              ∙ ap (λ i. slice_set (values_of s.store symbols) i (Some w.v)) (sym w.number)
+              ∙ cell_set s.store x (Some w.v) symbols distinct lt;
+          plain = stays_plain s.store (local 1 x 1) (Some w.v) k.plain;
           records = k.records;
           faults = k.faults;
           running = k.running;
@@ -339,14 +419,18 @@ module _ (program : Units) (m : Snapshot) (s : State) (l : ℕ) (o : Operation) 
 
   pub prints_record : o ≡ Print → (s' : State) × (step program 1 s ≡ Some s') × Shows program (with_printed m) s'
   prints_record is =
-      let w = printed symbols (line_at unit level_now.statement) level_now.work after m.operands rest (next_of level_now.work) (decides_at Print is) in
-      let stands = next_stands (printing m.operands) w.0 (λ e. cc) w.1 in (
-        record s { records = s.records ++ m.operands ∷ []; processes = slice_set s.processes (1 - 1) (goes_on program s level_now ∷ []) },
-        steps ∙ ap (after_next program 1 level_now [] s) w.0,
+      let w = printed unit symbols (line_at unit here.at) here.form after m.operands rest next_now (decides_at Print is) in
+      let behind = executable_from unit (suc here.at) in
+      let stands = next_stands (printing m.operands) w.0 (λ e. cc) w.1 in
+      let s' : State = record s { records = s.records ++ m.operands ∷ []; processes = onward_processes } in (
+        s',
+        steps (does (printing m.operands)) s' w.0 refl,
         record {
-          process = subst (λ b. IsAt program b [] (drop (m.place + 1) (program_code program)) (slice_set s.processes (1 - 1) (goes_on program s level_now ∷ []))) (sym alive) (next_level, onward_processes, stands);
+          runs = k.runs;
+          process = subst (λ b. IsAt program b [] (drop (m.place + 1) (program_code program)) onward_processes) (sym alive) (behind, (statement_at unit behind).form, goes_onward, stands);
           activations = k.activations;
           values = k.values;
+          plain = k.plain;
           records = ap (λ xs. xs ++ m.operands ∷ []) k.records;
           faults = k.faults;
           running = k.running;
@@ -355,13 +439,16 @@ module _ (program : Units) (m : Snapshot) (s : State) (l : ℕ) (o : Operation) 
 
   pub ends : o ≡ End → (s' : State) × (step program 1 s ≡ Some s') × Shows program (with_end m) s'
   ends is =
-      let n = ended symbols (line_at unit level_now.statement) level_now.work after m.operands rest (next_of level_now.work) (decides_at End is) in (
-        record s { processes = slice_set s.processes (1 - 1) [] },
-        steps ∙ ap (after_next program 1 level_now [] s) n,
+      let n = ended unit symbols (line_at unit here.at) here.form after m.operands rest next_now (decides_at End is) in
+      let s' : State = record s { processes = slice_set s.processes (1 - 1) [] } in (
+        s',
+        steps (does leaving) s' n refl,
         record {
+          runs = k.runs;
           process = replaced [];
           activations = k.activations;
           values = k.values;
+          plain = k.plain;
           records = k.records;
           faults = k.faults;
           running = k.running;

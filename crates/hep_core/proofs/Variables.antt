@@ -12,20 +12,19 @@ use Rattle.hep_source.specs.declared.statement.Form.TheVariants as form
 use Rattle.hep_source.specs.declared.statement.Statement.{Statement}
 use Rattle.hep_source.specs.declared.operator.Operator.TheVariants.{Arithmetic}
 use Rattle.hep_source.specs.Tree.{Tree, constant, place, parenthesized, signed, binary}
-use Rattle.hep_source.specs.Names.{same_name, same_truth, same_letters, is_among, with_name, with_names, with_statements, variables_of, names_in, names_in_items, names_in_form}
+use Rattle.hep_source.specs.Arithmetic.{same_truth}
+use Rattle.hep_source.specs.Names.{same_name, same_letters, is_among, with_name, with_names}
 use Rattle.hep_source.specs.Storage.{local, Store, with_value}
-use Rattle.hep_source.specs.Views.{values_of}
 use Rattle.hep_core.specs.declared.operation.Evaluation.TheVariants.{Load, Sign, Binary}
 use Rattle.hep_core.specs.declared.operation.Operation.TheVariants.{Evaluate, Store as Storing, Print, End}
 use Rattle.hep_core.specs.declared.operation.Instruction.{Instruction}
 use Rattle.hep_core.specs.declared.operation.Instruction.TheVariants.{Push, Step}
 use Rattle.hep_core.specs.Code.{number_of, tree_code, items_code, form_code, code_from}
+use Rattle.hep_core.specs.Shown.{values_of}
+use Rattle.hep_core.specs.Symbols.{with_statements, variables_of, names_in, names_in_items, names_in_form}
+use Rattle.hep_core.proofs.Running.{both}
 
 -- ---- names are the same where they are equal
-
-both : (a b : Bool) → (a && b) ≡ true → (a ≡ true) × (b ≡ true)
-both true b e = (refl, e)
-both false b e = absurd cc
 
 equal_truths : (a b : Bool) → same_truth a b ≡ true → a ≡ b
 equal_truths true true e = refl
@@ -242,7 +241,7 @@ number_found [] x lt = absurd (omega arith)
 number_found (y ∷ ys) x lt = found_by y ys x (number_of ys x) (same_name x y) refl (number_found ys x) lt
 
 -- a read
-pub cell_of : (xs : List Name) (x : Name) (store : Store) → number_of xs x < length xs → slice_get (values_of store 1 xs) (number_of xs x) ≡ Some (store (local 1 x 1)).value
+pub cell_of : (xs : List Name) (x : Name) (store : Store) → number_of xs x < length xs → slice_get (values_of store xs) (number_of xs x) ≡ Some (store (local 1 x 1)).value
 cell_of xs x store lt = slice_get-map (λ y. (store (local 1 y 1)).value) xs (number_of xs x) ∙ rw (number_found xs x lt) refl
 
 module _ (store : Store) (x : Name) (v : Option Value) where
@@ -276,6 +275,6 @@ module _ (store : Store) (x : Name) (v : Option Value) where
   written_by y ys n false e d h lt = ap (λ zs. before y ∷ zs) (h (omega arith)) ∙ ap (λ z. z ∷ map after ys) (sym (after_other y (other_way x y e)))
 
   -- a write
-  pub cell_set : (xs : List Name) → IsDistinct xs → number_of xs x < length xs → slice_set (values_of store 1 xs) (number_of xs x) v ≡ values_of (with_value store (local 1 x 1) v) 1 xs
+  pub cell_set : (xs : List Name) → IsDistinct xs → number_of xs x < length xs → slice_set (values_of store xs) (number_of xs x) v ≡ values_of (with_value store (local 1 x 1) v) xs
   cell_set [] d lt = absurd (omega arith)
   cell_set (y ∷ ys) d lt = written_by y ys (number_of ys x) (same_name x y) refl d.0 (cell_set ys d.1) lt

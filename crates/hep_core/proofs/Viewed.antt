@@ -1,68 +1,107 @@
 -- What is seen of a machine is what is seen of the state that it shows.
 use Rattle.std.proofs.Common.{◌≡◌, ℕ, Bool, true, false, List, [], ◌∷◌, ◌++◌, map, drop, length, refl, sym, ap, ◌∙◌, subst, None, replicate}
+use Rattle.std.specs.List.{flat_map}
 use Rattle.std.proofs.lemmas.List.{append-nil}
 use Rattle.hep_source.specs.declared.name.Name.{Name}
 use Rattle.hep_source.specs.declared.record.Item.{Item}
-use Rattle.hep_source.specs.Units.{Units, unit_at, main_unit, line_at}
-use Rattle.hep_source.specs.Storage.{unset}
-use Rattle.hep_source.specs.State.{Level, Process, State, level_at}
-use Rattle.hep_source.specs.Run.{opening}
-use Rattle.hep_source.specs.Views.{view_of, standings_from, values_of, values_from}
+use Rattle.hep_source.specs.declared.statement.Form.{Form}
+use Rattle.hep_source.specs.declared.statement.Statement.{Statement}
+use Rattle.hep_source.specs.Layout.{has_frame}
+use Rattle.hep_source.specs.Opening.{opening}
+use Rattle.hep_source.specs.Storage.{Cell, Location, Store, local, unset}
+use Rattle.hep_source.specs.State.{State}
+use Rattle.hep_source.specs.Units.{Units, unit_at, main_unit, executable_from, statement_at, line_at}
+use Rattle.hep_source.specs.Variables.{locals_of}
+use Rattle.hep_source.specs.Views.{view_of, standings_from, cells_at, cells_of_local, cells_of_block, cells_from}
 use Rattle.hep_core.specs.declared.operation.Instruction.{Instruction}
 use Rattle.hep_core.specs.declared.operation.Instruction.TheVariants.{Push}
 use Rattle.hep_core.specs.Code.{program_code}
-use Rattle.hep_core.specs.Machine.{Snapshot, opening_snapshot}
-use Rattle.hep_core.specs.Shown.{main_variables, Stands, IsAt, Shows}
+use Rattle.hep_core.specs.Machine.{Snapshot, first_unit, opening_snapshot}
+use Rattle.hep_core.specs.Runnable.{first_unrun_in}
+use Rattle.hep_core.specs.Shown.{plain_cell, values_of, Stands, IsAt, Shows}
+use Rattle.hep_core.specs.Symbols.{main_variables}
 use Rattle.hep_core.specs.Kept.{line_ahead, standing_if, kept_view}
+use Rattle.hep_core.proofs.Running.{AllRun, units_run, main_runs, main_is_first, one_cell, no_blocks_of, entry_is, opening_store}
 use Rattle.hep_core.proofs.Decided.{stands_at}
 use Rattle.hep_core.proofs.Settled.{stand_begins}
 use Rattle.hep_core.proofs.Steps.{main_unit_of}
+use Rattle.hep_core.proofs.Waits.{waits_for_nothing}
 
 line_behind : (xs : List Item) (ahead : List Instruction) → line_ahead (map Push xs ++ ahead) ≡ line_ahead ahead
 line_behind [] ahead = refl
 line_behind (x ∷ xs) ahead = line_behind xs ahead
 
 -- the line of the operation ahead is the statement's
-line_is : (symbols : List Name) (unit : List _) (level : Level) (operands : List Item) (ahead : List Instruction) → Stands symbols unit level operands ahead → line_ahead ahead ≡ line_at unit level.statement
-line_is symbols unit level operands ahead h =
-    let b = stand_begins symbols unit level operands ahead h in
+line_is : (symbols : List Name) (unit : List Statement) (k : ℕ) (f : Form) (operands : List Item) (ahead : List Instruction) → AllRun unit → Stands symbols unit k f operands ahead → line_ahead ahead ≡ line_at unit k
+line_is symbols unit k f operands ahead h stands =
+    let b = stand_begins symbols unit k f operands ahead h stands in
     sym (line_behind operands ahead) ∙ ap line_ahead b.is ∙ line_behind b.constants _
 
-standing_is : (program : Units) (s : State) (b : Bool) (operands : List Item) (ahead : List Instruction) (ps : List Process) → s.activations ≡ record { unit = main_unit; parent = None } ∷ [] → IsAt program b operands ahead ps → standing_if b (line_ahead ahead) ≡ standings_from program s 1 ps
-standing_is program s true operands ahead ps e h =
-    let unit = main_unit_of s h.0.activation e h.2.activation in
-    let line = line_is (main_variables program) (unit_at program main_unit) h.0 operands ahead h.2 in
-    rw (h.1, unit, line) refl
-standing_is program s false operands ahead ps e h = rw h refl
+standing_is : (program : Units) (s : State) (b : Bool) (operands : List Item) (ahead : List Instruction) → first_unrun_in program ≡ None → s.activations ≡ record { unit = main_unit program; parent = None; dummies = [] } ∷ [] → IsAt program b operands ahead s.processes → standing_if b (line_ahead ahead) ≡ standings_from program s 1 s.processes
+standing_is program s true operands ahead runs e h =
+    let unit = unit_at program (main_unit program) in
+    let number = main_unit_of program s e in
+    let first : first_unit ≡ _ = sym (number ∙ main_is_first program (units_run program runs)) in
+    let line = line_is (main_variables program) unit h.0 h.1 operands ahead (main_runs program runs) h.3 ∙ sym (ap (λ u. line_at (unit_at program u) h.0) number) in
+    let wanted = sym (waits_for_nothing program s h.0 h.1 runs e h.2 h.3.left) in
+    (λ i. record { process = 1; unit = first i; line = line i; wanted = wanted i } ∷ []) ∙ sym (ap (standings_from program s 1) h.2)
+standing_is program s false operands ahead runs e h = sym (ap (standings_from program s 1) h)
 
-values_are : (program : Units) (s : State) → s.activations ≡ record { unit = main_unit; parent = None } ∷ [] → values_of s.store 1 (main_variables program) ≡ values_from program s.store 1 s.activations
-values_are program s e = sym (append-nil (values_of s.store 1 (main_variables program))) ∙ ap (values_from program s.store 1) (sym e)
+whole_cell : (c : Cell) → c.full ≡ false → plain_cell c.value ≡ c
+whole_cell c e = λ i. record { value = c.value; full = sym e i }
 
-pub shows_view : (program : Units) (m : Snapshot) (s : State) → Shows program m s → kept_view program m ≡ view_of program s
+-- each variable's cell
+cells_of_locals : (unit : List Statement) (store : Store) → AllRun unit → ((at : Location) → (store at).full ≡ false) → (xs : List Name) → map plain_cell (values_of store xs) ≡ flat_map (cells_of_local store 1 unit) xs
+cells_of_locals unit store h plain [] = refl
+cells_of_locals unit store h plain (x ∷ xs) =
+    let at = local 1 x 1 in
+    ap (λ c. c ∷ map plain_cell (values_of store xs)) (whole_cell (store at) (plain at))
+    ∙ ap (λ cs. store at ∷ cs) (cells_of_locals unit store h plain xs)
+    ∙ sym (ap (λ n. cells_at store at n ++ flat_map (cells_of_local store 1 unit) xs) (one_cell unit h x))
+
+cells_are : (program : Units) (m : Snapshot) (s : State) → Shows program m s → map plain_cell m.cells ≡ cells_from program has_frame s 1 s.activations
+cells_are program m s k =
+    let unit = unit_at program (main_unit program) in
+    let all = flat_map (cells_of_local s.store 1 unit) (locals_of unit) in
+    ap (map plain_cell) k.values
+    ∙ cells_of_locals unit s.store (main_runs program k.runs) k.plain (locals_of unit)
+    ∙ sym (append-nil all)
+    ∙ sym (append-nil (all ++ []))
+    ∙ sym (ap (cells_from program has_frame s 1) k.activations)
+
+pub shows_view : (program : Units) (m : Snapshot) (s : State) → Shows program m s → kept_view program m ≡ view_of program has_frame s
 shows_view program m s k =
-    let standings = standing_is program s m.is_living m.operands (drop m.place (program_code program)) s.processes k.activations k.process in
-    let values = k.values ∙ values_are program s k.activations in
+    let standings = standing_is program s m.is_living m.operands (drop m.place (program_code program)) k.runs k.activations k.process in
+    let blocks = sym (ap (flat_map (cells_of_block program s.store)) (no_blocks_of program (units_run program k.runs))) in
+    let cells = cells_are program m s k in
     λ i. record {
       records = k.records i;
       faults = k.faults i;
       halted = sym k.running i;
       processes = standings i;
-      values = values i;
+      common_cells = blocks i;
+      cells = cells i;
     }
 
 -- ---- the opening
 
-unset_values : (xs : List Name) → replicate (length xs) None ≡ values_of (λ location. unset) 1 xs
+unset_values : (xs : List Name) → replicate (length xs) None ≡ values_of (λ location. unset) xs
 unset_values [] = refl
 unset_values (x ∷ xs) = ap (λ vs. None ∷ vs) (unset_values xs)
 
-pub shows_opening : (program : Units) (m : Snapshot) (n : ℕ) → m ≡ opening_snapshot n → n ≡ length (main_variables program) → Shows program m (opening program)
+pub shows_opening : (program : Units) (m : Snapshot) (n : ℕ) → first_unrun_in program ≡ None → m ≡ opening_snapshot n → n ≡ length (main_variables program) → Shows program m (opening program)
 unfolding opening program_code
-shows_opening program m n e f =
+shows_opening program m n runs e f =
+    let unit = unit_at program (main_unit program) in
+    let h = main_runs program runs in
+    let first = executable_from unit 0 in
+    let store = opening_store program h in
     subst (λ x. Shows program x (opening program)) (sym (e ∙ ap opening_snapshot f)) (record {
-      process = (level_at (unit_at program main_unit) 1 0, refl, stands_at (main_variables program) (unit_at program main_unit) 0);
+      runs = runs;
+      process = (first, (statement_at unit first).form, ap (λ x. (x ∷ []) ∷ []) (entry_is unit h), stands_at (main_variables program) unit 0 h);
       activations = refl;
-      values = unset_values (main_variables program);
+      values = unset_values (main_variables program) ∙ sym (ap (λ (st : Store). values_of st (main_variables program)) store);
+      plain = λ at. ap (λ (st : Store). (st at).full) store;
       records = refl;
       faults = refl;
       running = refl;

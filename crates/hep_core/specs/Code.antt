@@ -9,9 +9,11 @@ use Rattle.hep_source.specs.declared.statement.Statement.{Statement}
 use Rattle.hep_source.specs.declared.record.Item.TheVariants as item
 use Rattle.hep_source.specs.declared.operator.Operator.TheVariants.{Arithmetic}
 use Rattle.hep_source.specs.Tree.{Tree, constant, place, parenthesized, signed, binary}
-use Rattle.hep_source.specs.Names.{same_name, variables_of}
-use Rattle.hep_source.specs.Evaluation.{item_of, unreached}
+use Rattle.hep_source.specs.Names.{same_name}
+use Rattle.hep_source.specs.Evaluation.{item_of}
 use Rattle.hep_source.specs.Units.{Units, unit_at, main_unit}
+use Rattle.hep_source.specs.Unreached.{no_value}
+use Rattle.hep_core.specs.Symbols.{main_variables}
 use Rattle.hep_core.specs.declared.operation.Evaluation.TheVariants.{Load, Sign, Binary}
 use Rattle.hep_core.specs.declared.operation.Operation.TheVariants.{Evaluate, Store, Print, End}
 use Rattle.hep_core.specs.declared.operation.Instruction.{Instruction}
@@ -30,7 +32,7 @@ module _ (symbols : List Name) where
   tree_code line (parenthesized t) = tree_code line t
   tree_code line (signed s t) = tree_code line t ++ Step line (Evaluate (Sign s)) ∷ []
   tree_code line (binary (Arithmetic o) a b) = tree_code line a ++ (tree_code line b ++ Step line (Evaluate (Binary o)) ∷ [])
-  tree_code line _ = Push (item_of unreached) ∷ []
+  tree_code line _ = Push (item_of no_value) ∷ []
 
   abbrev pub items_code : ℕ → List PrintItem → List Instruction
   items_code line [] = []
@@ -59,4 +61,4 @@ module _ (symbols : List Name) where
 
 -- the operations of the main program
 unfoldable pub program_code : Units → List Instruction
-program_code program = let unit = unit_at program main_unit in code_from (variables_of unit) unit
+program_code program = code_from (main_variables program) (unit_at program (main_unit program))

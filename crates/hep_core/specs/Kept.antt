@@ -1,14 +1,16 @@
 -- What a core keeps, and what is seen of it.
-use Rattle.std.specs.Prelude.{ℕ, Bool, true, false, List, [], ◌∷◌, drop}
-use Rattle.hep_source.specs.Units.{Units, main_unit}
+use Rattle.std.specs.Prelude.{◌≡◌, ℕ, ◌<◌, Bool, true, false, List, [], ◌∷◌, None, drop, length, map}
+use Rattle.hep_source.specs.Units.{Units}
 use Rattle.hep_source.specs.Run.{state_after}
 use Rattle.hep_source.specs.Histories.{IsLegal}
+use Rattle.hep_source.specs.Schedules.{progress_after}
 use Rattle.hep_source.specs.Views.{View, Standing}
 use Rattle.hep_core.specs.declared.operation.Instruction.{Instruction}
 use Rattle.hep_core.specs.declared.operation.Instruction.TheVariants.{Push, Step}
 use Rattle.hep_core.specs.Code.{program_code}
-use Rattle.hep_core.specs.Machine.{Snapshot, snapshot_of}
-use Rattle.hep_core.specs.Shown.{Shows}
+use Rattle.hep_core.specs.Machine.{Snapshot, first_unit, snapshot_of}
+use Rattle.hep_core.specs.Shown.{Shows, plain_cell}
+use Rattle.hep_core.specs.Symbols.{main_variables}
 use Rattle.hep_core.specs.Value.{CoreValue, IsStop}
 use Rattle.hep_core.specs.declared.scheduler.Core.TheInside.{Inside}
 
@@ -19,10 +21,10 @@ line_ahead (Push i ∷ is) = line_ahead is
 line_ahead (Step line o ∷ is) = line
 
 abbrev pub standing_if : Bool → ℕ → List Standing
-standing_if true line = record { process = 1; unit = main_unit; line = line } ∷ []
+standing_if true line = record { process = 1; unit = first_unit; line = line; wanted = None } ∷ []
 standing_if false line = []
 
--- what is seen of a machine, read from what it keeps
+-- what is seen of a machine, read from what it keeps: it waits for nothing, and no storage unit is full
 abbrev pub kept_view : Units → Snapshot → View
 kept_view program m =
     record {
@@ -30,7 +32,8 @@ kept_view program m =
       faults = m.faults;
       halted = false;
       processes = standing_if m.is_living (line_ahead (drop m.place (program_code program)));
-      values = m.cells;
+      common_cells = [];
+      cells = map plain_cell m.cells;
     }
 
 abbrev pub core_value : Inside → CoreValue
@@ -46,5 +49,7 @@ core_value c =
 
 pub record IsKept (c : Inside) : Type 0 where
   pub shown : Shows c.image (snapshot_of c.machine) (state_after c.image c.history.items)
+  pub unlisted : progress_after c.image c.history.items ≡ record { state = state_after c.image c.history.items; listed = [] }
+  pub fits : length (main_variables c.image) < c.cells
   pub legal : IsLegal c.image c.cells c.limit c.history.items
   pub named : IsStop c.image c.limit c.history.items c.stop

@@ -2,7 +2,7 @@
 use Rattle.std.specs.Prelude.{ℕ, List, ◌++◌, map}
 use Rattle.hep_source.specs.Names.{spelling}
 use Rattle.hep_source.specs.Units.{Units, unit_name}
-use Rattle.hep_core.specs.Shown.{main_variables}
+use Rattle.hep_core.specs.Symbols.{main_variables}
 
 -- the names of its units, and then of its variables
 abbrev pub names_of : Units → List (List ℕ)

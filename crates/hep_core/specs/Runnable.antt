@@ -53,3 +53,24 @@ first_unrun (s ∷ ss) = if runs s then first_unrun ss else Some s.line
 abbrev pub first_unrun_in : Units → Option ℕ
 first_unrun_in [] = None
 first_unrun_in (unit ∷ units) = option_or (first_unrun unit) (first_unrun_in units)
+
+-- ---- what is left of a statement that runs: values, logical ones too, stand in the place of what was evaluated
+
+abbrev pub may_be_left : Tree → Bool
+may_be_left (constant v) = true
+may_be_left (place p) = not p.name.asynchronous
+may_be_left (parenthesized t) = may_be_left t
+may_be_left (signed s t) = may_be_left t
+may_be_left (binary (Arithmetic o) a b) = may_be_left a && may_be_left b
+may_be_left _ = false
+
+abbrev pub item_may_be_left : PrintItem → Bool
+item_may_be_left (Expression t) = may_be_left t
+item_may_be_left (Characters cs) = true
+
+-- of the executable ones
+abbrev pub form_may_be_left : Form → Bool
+form_may_be_left (Assign x t) = is_variable x && may_be_left t
+form_may_be_left (Print items) = list_all item_may_be_left items
+form_may_be_left End = true
+form_may_be_left _ = false

@@ -1,22 +1,37 @@
 -- How what is kept shows the state of the source machine.
-use Rattle.std.specs.Prelude.{◌≡◌, ◌≤◌, Bool, true, false, List, [], ◌∷◌, ◌++◌, Some, None, Result, Ok, Err, length, map, drop}
+use Rattle.std.specs.Prelude.{◌≡◌, ◌≤◌, ℕ, Bool, true, false, List, [], ◌∷◌, ◌++◌, Option, Some, None, Result, Ok, Err, length, map, drop}
 use Rattle.hep_source.specs.declared.name.Name.{Name}
 use Rattle.hep_source.specs.declared.record.Item.{Item}
+use Rattle.hep_source.specs.declared.statement.Form.{Form}
 use Rattle.hep_source.specs.declared.statement.Form.TheVariants.{End}
 use Rattle.hep_source.specs.declared.statement.Statement.{Statement}
-use Rattle.hep_source.specs.Names.{variables_of}
-use Rattle.hep_source.specs.Units.{Units, unit_at, main_unit, is_executable, line_at}
-use Rattle.hep_source.specs.State.{Level, Process, State}
+use Rattle.hep_source.specs.declared.value.Value.{Value}
+use Rattle.hep_source.specs.Storage.{Cell, Location, Store, local}
+use Rattle.hep_source.specs.Units.{Units, unit_at, main_unit, line_at}
+use Rattle.hep_source.specs.State.{Level, Process, State, doing}
 use Rattle.hep_source.specs.Step.{step}
-use Rattle.hep_source.specs.Views.{values_of}
 use Rattle.hep_core.specs.declared.operation.Instruction.{Instruction}
 use Rattle.hep_core.specs.declared.operation.Instruction.TheVariants.{Push}
 use Rattle.hep_core.specs.Code.{form_code, code_from, program_code}
 use Rattle.hep_core.specs.Machine.{Snapshot}
+use Rattle.hep_core.specs.Runnable.{first_unrun_in, form_may_be_left}
+use Rattle.hep_core.specs.Symbols.{main_variables}
 
--- the variables of the main program
-abbrev pub main_variables : Units → List Name
-main_variables program = variables_of (unit_at program main_unit)
+-- ---- storage
+
+-- no storage unit of a program that runs today is ever full
+abbrev pub plain_cell : Option Value → Cell
+plain_cell v = record { value = v; full = false }
+
+-- what the variables of the main program's activation hold
+abbrev pub values_of : Store → List Name → List (Option Value)
+values_of store names = map (λ x. (store (local 1 x 1)).value) names
+
+-- ---- the process
+
+-- the main program's activation at this statement, of which this is left
+abbrev pub level_of : ℕ → Form → Level
+level_of statement form = record { activation = 1; statement = statement; work = doing [] form; loops = [] }
 
 -- the operations behind the first of these statements
 abbrev pub code_behind : List Name → List Statement → List Instruction
@@ -24,22 +39,24 @@ code_behind symbols [] = []
 code_behind symbols (s ∷ ss) = code_from symbols ss
 
 -- what is left of a statement and of those behind it are these operands, as constants, and the operations ahead
-pub record Stands (symbols : List Name) (unit : List Statement) (level : Level) (operands : List Item) (ahead : List Instruction) : Type 0 where
-  pub activation : level.activation ≡ 1
-  pub executable : is_executable level.work ≡ true
-  pub past : length unit ≤ level.statement → level.work ≡ End
-  pub code : form_code symbols (line_at unit level.statement) level.work ++ code_behind symbols (drop level.statement unit) ≡ map Push operands ++ ahead
+pub record Stands (symbols : List Name) (unit : List Statement) (statement : ℕ) (form : Form) (operands : List Item) (ahead : List Instruction) : Type 0 where
+  pub left : form_may_be_left form ≡ true
+  pub past : length unit ≤ statement → form ≡ End
+  pub code : form_code symbols (line_at unit statement) form ++ code_behind symbols (drop statement unit) ≡ map Push operands ++ ahead
 
 -- process 1 stands there, or has ended
 abbrev pub IsAt : Units → Bool → List Item → List Instruction → List Process → Type 0
 IsAt program true operands ahead processes =
-    (level : Level) × (processes ≡ (level ∷ []) ∷ []) × Stands (main_variables program) (unit_at program main_unit) level operands ahead
+    (statement : ℕ) × (form : Form) × (processes ≡ (level_of statement form ∷ []) ∷ [])
+    × Stands (main_variables program) (unit_at program (main_unit program)) statement form operands ahead
 IsAt program false operands ahead processes = processes ≡ [] ∷ []
 
 pub record Shows (program : Units) (m : Snapshot) (s : State) : Type 0 where
+  pub runs : first_unrun_in program ≡ None
   pub process : IsAt program m.is_living m.operands (drop m.place (program_code program)) s.processes
-  pub activations : s.activations ≡ record { unit = main_unit; parent = None } ∷ []
-  pub values : m.cells ≡ values_of s.store 1 (main_variables program)
+  pub activations : s.activations ≡ record { unit = main_unit program; parent = None; dummies = [] } ∷ []
+  pub values : m.cells ≡ values_of s.store (main_variables program)
+  pub plain : (at : Location) → (s.store at).full ≡ false
   pub records : m.records ≡ s.records
   pub faults : m.faults ≡ s.faults
   pub running : s.halted ≡ false

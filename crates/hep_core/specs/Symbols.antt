@@ -1,9 +1,76 @@
--- What comes of declaring the variables of a unit.
-use Rattle.std.specs.Prelude.{◌≡◌, ℕ, List, [], Option, Some, None}
+-- The variables of the main program, and what comes of declaring them.
+use Rattle.std.specs.Prelude.{◌≡◌, ℕ, Bool, ◌&&◌, nat_le, get_or, if◌then◌else◌, List, [], ◌∷◌, ◌++◌, Option, Some, None}
+use Rattle.hep_source.specs.Tree.{Tree, Trees, constant, place, listed, parenthesized, signed, negated, binary, no_trees, trees}
 use Rattle.hep_source.specs.declared.name.Name.{Name}
-use Rattle.hep_source.specs.Names.{spelling, first_real, or_later}
+use Rattle.hep_source.specs.declared.statement.PrintItem.{PrintItem}
+use Rattle.hep_source.specs.declared.statement.PrintItem.TheVariants.{Expression, Characters}
+use Rattle.hep_source.specs.declared.statement.Form.{Form}
+use Rattle.hep_source.specs.declared.statement.Form.TheVariants.{Assign, Print}
+use Rattle.hep_source.specs.declared.statement.Statement.{Statement}
+use Rattle.hep_source.specs.Names.{spelling, with_names}
+use Rattle.hep_source.specs.Units.{Units, unit_at, main_unit}
+use Rattle.hep_source.specs.Variables.{locals_of}
 use Rattle.hep_core.specs.declared.fault.ImageFault.{ImageFault}
 use Rattle.hep_core.specs.declared.fault.ImageFault.TheVariants.{NoMemory, Refused}
+
+-- the variables of the main program
+abbrev pub main_variables : Units → List Name
+main_variables program = locals_of (unit_at program (main_unit program))
+
+-- ---- the variables of statements that run today
+
+abbrev mutual
+  -- the names of an expression, in the order of the text
+  pub names_in : Tree → List Name
+  names_in (constant v) = []
+  names_in (place p) = p.name ∷ []
+  names_in (listed p ts) = p.name ∷ names_in_all ts
+  names_in (parenthesized t) = names_in t
+  names_in (signed s t) = names_in t
+  names_in (negated t) = names_in t
+  names_in (binary o a b) = names_in a ++ names_in b
+
+  pub names_in_all : Trees → List Name
+  names_in_all no_trees = []
+  names_in_all (trees t ts) = names_in t ++ names_in_all ts
+
+abbrev pub names_in_items : List PrintItem → List Name
+names_in_items [] = []
+names_in_items (Expression t ∷ items) = names_in t ++ names_in_items items
+names_in_items (Characters cs ∷ items) = names_in_items items
+
+-- the variables of a statement, in the order of the text; statements that don't run today have none
+abbrev pub names_in_form : Form → List Name
+names_in_form (Assign x t) = x.place.name ∷ names_in t
+names_in_form (Print items) = names_in_items items
+names_in_form _ = []
+
+abbrev pub with_statements : List Name → List Statement → List Name
+with_statements xs [] = xs
+with_statements xs (s ∷ ss) = with_statements (with_names xs (names_in_form s.form)) ss
+
+-- the variables of a unit, each once, in order of first appearance
+abbrev pub variables_of : List Statement → List Name
+variables_of unit = with_statements [] unit
+
+-- ---- variables without a type
+
+-- without a declaration a name is an integer where its letter is I to N: X3.9-1978, 4.1.2
+abbrev pub is_integer_by_letter : Name → Bool
+is_integer_by_letter x = nat_le 73 (get_or x.letters 0 0) && nat_le (get_or x.letters 0 0) 78
+
+abbrev pub first_real : List Name → Option Name
+first_real [] = None
+first_real (x ∷ xs) = if is_integer_by_letter x then first_real xs else Some x
+
+abbrev pub or_later : ℕ → Option Name → Option (ℕ × Name) → Option (ℕ × Name)
+or_later line None later = later
+or_later line (Some x) later = Some (line, x)
+
+-- the first variable that is no integer, with the line of its statement
+abbrev pub first_untyped : List Statement → Option (ℕ × Name)
+first_untyped [] = None
+first_untyped (s ∷ ss) = or_later s.line (first_real (names_in_form s.form)) (first_untyped ss)
 
 -- the first of these names that is no integer, with the line of their statement
 abbrev pub untyped_in : ℕ → List Name → Option (ℕ × Name)

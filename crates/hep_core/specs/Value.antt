@@ -1,17 +1,19 @@
 -- What a core is to its callers, and what a choice makes of it.
-use Rattle.std.specs.Prelude.{◌≡◌, ◌≢◌, ◌⊎◌, ℕ, zero, suc, ◌<◌, ◌≤◌, Bool, true, false, nat_lt, if◌then◌else◌, List, [], ◌∷◌, ◌++◌, Option, Some, None, Result, Ok, Err, length}
+use Rattle.std.specs.Prelude.{◌≡◌, ◌≢◌, ◌⊎◌, ℕ, zero, suc, ◌<◌, Bool, true, false, if◌then◌else◌, List, [], ◌∷◌, ◌++◌, Option, Some, None, IsSome, Result, Ok, Err, length}
 use Rattle.hep_source.specs.declared.event.Entry.{Entry}
 use Rattle.hep_source.specs.Units.{Units}
-use Rattle.hep_source.specs.State.{Process, State, living}
+use Rattle.hep_source.specs.State.{State, living}
 use Rattle.hep_source.specs.Step.{step}
 use Rattle.hep_source.specs.Run.{state_after}
-use Rattle.hep_source.specs.Layout.{used_cells}
+use Rattle.hep_source.specs.Histories.{IsDisabled}
+use Rattle.hep_source.specs.Layout.{has_frame, opening_layout}
+use Rattle.hep_source.specs.Schedules.{living_from, next_ready, progress_after, ready_in}
 use Rattle.hep_source.specs.Views.{View, view_of}
 use Rattle.hep_core.specs.declared.stop.Stop.{Stop}
 use Rattle.hep_core.specs.declared.stop.Stop.TheVariants.{Halted, ArenaFull, StepLimit}
 use Rattle.hep_core.specs.declared.stop.Turn.{Turn}
 use Rattle.hep_core.specs.declared.stop.Verdict.{Verdict}
-use Rattle.hep_core.specs.declared.stop.Verdict.TheVariants.{Stopped, Done, Running}
+use Rattle.hep_core.specs.declared.stop.Verdict.TheVariants.{Stopped, Done, Waiting, Running}
 use Rattle.hep_core.specs.declared.fault.ChooseFault.{ChooseFault}
 use Rattle.hep_core.specs.declared.fault.ChooseFault.TheVariants as refused
 use Rattle.hep_core.specs.declared.fault.NewFault.{NewFault}
@@ -33,12 +35,12 @@ state_of core = state_after core.program core.history
 -- a core that has made no step
 abbrev pub opening_of : Units → ℕ → ℕ → CoreValue
 opening_of program cells limit =
-    record { program = program; cells = cells; limit = limit; history = []; stop = None; view = view_of program (state_after program []) }
+    record { program = program; cells = cells; limit = limit; history = []; stop = None; view = view_of program has_frame (state_after program []) }
 
--- there is no core where the main program's frame doesn't fit, and memory is asked for only where it does
+-- there is no core where the main program's frame has no gap in the arena, and memory is asked for only where it has
 abbrev pub Unmade : NewFault → Units → ℕ → Type 0
-Unmade unmade.NoMemory program cells = used_cells program ≤ cells
-Unmade unmade.ArenaFull program cells = cells < used_cells program
+Unmade unmade.NoMemory program cells = IsSome (opening_layout program cells)
+Unmade unmade.ArenaFull program cells = opening_layout program cells ≡ None
 
 -- ---- choices
 
@@ -48,13 +50,13 @@ stop_after s = if s.halted then Some Halted else None
 -- the core with one entry more, and in the state s
 abbrev pub grown : CoreValue → ℕ → ℕ → State → CoreValue
 grown old p n s =
-    record old { history = old.history ++ record { process = p; steps = n } ∷ []; stop = stop_after s; view = view_of old.program s }
+    record old { history = old.history ++ record { process = p; steps = n } ∷ []; stop = stop_after s; view = view_of old.program has_frame s }
 
 -- p made a step, or was found disabled
 abbrev pub Turned : CoreValue → ℕ → ℕ → Bool → CoreValue → Type 0
 Turned old p (suc zero) false new = (s : State) × (step old.program p (state_of old) ≡ Some s) × (new ≡ grown old p 1 s)
 Turned old p zero true new =
-    (living (state_of old) p ≢ None) × (step old.program p (state_of old) ≡ None) × (new ≡ grown old p 0 (state_of old))
+    IsDisabled old.program (state_of old) p × (new ≡ grown old p 0 (state_of old))
 Turned old p _ _ new = ⊥
 
 -- what came of a choice of p
@@ -68,48 +70,25 @@ Chosen old p (Err refused.NoMemory) new = new ≡ old
 
 -- ---- stops
 
--- a stop by its name; no step makes a frame today
+-- a stop by its name; no step of a program that runs today makes a frame
 abbrev pub IsStop : Units → ℕ → List Entry → Option Stop → Type 0
 IsStop program limit history None = Unit {0}
 IsStop program limit history (Some Halted) = (state_after program history).halted ≡ true
 IsStop program limit history (Some StepLimit) = length history ≡ limit
 IsStop program limit history (Some ArenaFull) = ⊥
 
--- the numbers of the living processes, of which none waits today
-abbrev pub living_from : ℕ → List Process → List ℕ
-living_from k [] = []
-living_from k ([] ∷ qs) = living_from (suc k) qs
-living_from k ((level ∷ levels) ∷ qs) = k ∷ living_from (suc k) qs
-
-abbrev pub verdict_by : Option Stop → List ℕ → Verdict
-verdict_by (Some stop) ready = Stopped stop
-verdict_by None [] = Done
-verdict_by None (p ∷ ps) = Running
+-- nothing lives, or all that lives is listed as waiting, or something is ready
+abbrev pub verdict_by : Option Stop → List ℕ → List ℕ → Verdict
+verdict_by (Some stop) alive ready = Stopped stop
+verdict_by None [] ready = Done
+verdict_by None (p ∷ ps) [] = Waiting
+verdict_by None (p ∷ ps) (q ∷ qs) = Running
 
 abbrev pub verdict_of : CoreValue → Verdict
-verdict_of core = verdict_by core.stop (living_from 1 (state_of core).processes)
+verdict_of core =
+    verdict_by core.stop (living_from 1 (state_of core).processes) (ready_in (progress_after core.program core.history))
 
 -- ---- the process that comes next by itself
 
-abbrev pub last_process : List Entry → ℕ
-last_process [] = 0
-last_process (e ∷ []) = e.process
-last_process (e ∷ f ∷ es) = last_process (f ∷ es)
-
-abbrev pub least : List ℕ → Option ℕ
-least [] = None
-least (p ∷ ps) = Some p
-
--- of rising numbers the first above n, or else the first
-abbrev pub first_above : ℕ → List ℕ → Option ℕ → Option ℕ
-first_above n [] other = other
-first_above n (p ∷ ps) other = if nat_lt n p then Some p else first_above n ps other
-
--- after a history, of the ready processes the least above that of the last entry, or else the least
-abbrev pub ready_after : Units → List Entry → Option ℕ
-ready_after program history =
-    let ready = living_from 1 (state_after program history).processes in
-    first_above (last_process history) ready (least ready)
-
 abbrev pub next_ready_of : CoreValue → Option ℕ
-next_ready_of core = ready_after core.program core.history
+next_ready_of core = next_ready core.program core.history

@@ -1,11 +1,10 @@
 //! Images: a program with its operations.
 ghost use Rattle.std.specs.Prelude.{◌≡◌, ◌<◌, ◌++◌, ◌^◌, ◌∷◌, [], None, Some, IfOk, OnOk, MatchResult, length, map, option_map, slice_get};
-ghost use Rattle.hep_source.specs.Names.{first_untyped, spelling as spelling_of};
+ghost use Rattle.hep_source.specs.Names.{spelling as spelling_of};
 ghost use Rattle.hep_source.specs.Units as units;
 ghost use Rattle.hep_core.specs.Runnable as runnable;
-ghost use Rattle.hep_core.specs.Symbols.{Refuses};
+ghost use Rattle.hep_core.specs.Symbols.{Refuses, first_untyped, main_variables};
 ghost use Rattle.hep_core.specs.Code.{program_code};
-ghost use Rattle.hep_core.specs.Shown.{main_variables};
 ghost use Rattle.hep_core.specs.Names as words;
 
 use crate::fault::ImageFault;
@@ -70,17 +69,19 @@ impl Image {
         &self.code
     }
 
-    /// How many variables the main program has.
+    /// How many variables the main program has; every statement of an image's program runs.
     pub fn variables(&self) -> usize
-        ensures { result ≡ length (main_variables self.now) }
+        ensures count { result ≡ length (main_variables self.now) }
+        ensures runs { runnable.first_unrun_in self.now ≡ None }
     {
         self.variables
     }
 }
 
-// The statements of the main program.
+// The statements of the main program, of a program that runs.
 fn main_statements(program: &Program) -> &[Statement]
-    ensures { result.now ≡ units.unit_at program.now units.main_unit }
+    requires { runnable.first_unrun_in program.now ≡ None }
+    ensures { result.now ≡ units.unit_at program.now (units.main_unit program.now) }
 {
     match program.as_slice() {
         [] => &[],
@@ -143,7 +144,7 @@ fn names_of(
 /// is none, 301 for the first variable whose letter isn't I to N, with its line and name; or want
 /// of memory.
 pub fn image_of(alloc: Global, program: Program) -> Result<Image, ImageFault>
-    ensures { MatchResult result (λ image. (image ≡ program) × (runnable.first_unrun_in program ≡ None) × (first_untyped (units.unit_at program units.main_unit) ≡ None)) (λ e. Refuses e (runnable.first_unrun_in program) (first_untyped (units.unit_at program units.main_unit))) }
+    ensures { MatchResult result (λ image. (image ≡ program) × (runnable.first_unrun_in program ≡ None) × (first_untyped (units.unit_at program (units.main_unit program)) ≡ None)) (λ e. Refuses e (runnable.first_unrun_in program) (first_untyped (units.unit_at program (units.main_unit program)))) }
 {
     if let Some(line) = first_unrun_in(program.as_slice()) {
         return Err(ImageFault::Refused {

@@ -1,7 +1,7 @@
 //! The core: a run of an image, one choice at a time, with its history.
-ghost use Rattle.std.specs.Prelude.{◌≡◌, ◌≤◌, ◌<◌, ◌++◌, ◌∷◌, [], None, Some, MatchResult, vec_len, vec_capacity};
+ghost use Rattle.std.specs.Prelude.{◌≡◌, ◌≤◌, ◌<◌, ◌++◌, ◌∷◌, [], None, Some, IsSome, MatchResult, vec_len, vec_capacity};
 ghost use Rattle.hep_source.specs.Histories.{IsLegal};
-ghost use Rattle.hep_source.specs.Layout.{used_cells};
+ghost use Rattle.hep_source.specs.Layout.{has_frame, opening_layout, used_cells};
 ghost use Rattle.hep_source.specs.Views.{view_of};
 ghost use Rattle.hep_core.specs.Value.{state_of, opening_of, Unmade, Chosen, IsStop, verdict_of, next_ready_of};
 
@@ -48,9 +48,9 @@ impl Core {
     ///
     /// # Errors
     ///
-    /// `ArenaFull` where the main program's frame has more cells than the arena, `NoMemory`.
+    /// `ArenaFull` where the main program's frame has no gap in the arena, `NoMemory`.
     pub fn new(alloc: Global, image: Image, cells: u32, steps: u64) -> Result<Core, NewFault>
-        ensures { MatchResult result (λ core. (used_cells image ≤ cells) × (core ≡ opening_of image cells steps)) (λ e. Unmade e image cells) }
+        ensures { MatchResult result (λ core. IsSome (opening_layout image cells) × (core ≡ opening_of image cells steps)) (λ e. Unmade e image cells) }
     {
         // A frame has one cell more than the unit has variables.
         let variables = image.variables();
@@ -101,7 +101,7 @@ impl Core {
     /// the source machine after the core's own history, the history is one that a core may have,
     /// and a stop is what its name says.
     pub fn headline(&self)
-        ensures view { self.now.view ≡ view_of self.now.program (state_of self.now) }
+        ensures view { self.now.view ≡ view_of self.now.program has_frame (state_of self.now) }
         ensures legal { IsLegal self.now.program self.now.cells self.now.limit self.now.history }
         ensures named { IsStop self.now.program self.now.limit self.now.history self.now.stop }
     {
@@ -133,7 +133,7 @@ impl Core {
 
     /// How many cells of the arena are taken.
     pub fn used(&self) -> u32
-        ensures { result ≡ used_cells self.now.program }
+        ensures { result ≡ used_cells self.now.program has_frame (state_of self.now) }
     {
         // The frame fits the arena, whose size is a u32.
         let _arena = self.cells;

@@ -2,6 +2,7 @@
 
 ghost use Rattle.std.specs.Prelude.{◌≡◌, ◌∷◌, [], None, IfOk, MatchResult};
 ghost use Rattle.hep_source.specs.Names as names;
+ghost use Rattle.hep_core.specs.Symbols as table;
 ghost use Rattle.hep_source.specs.Tree.{trees_of};
 ghost use Rattle.hep_core.specs.Symbols.{untyped_in, Reports};
 
@@ -13,7 +14,7 @@ use std::alloc::{AllocError, Global};
 /// Whether a variable of this name is an integer without a declaration: its letter is I to N
 /// (X3.9-1978, 4.1.2).
 pub fn is_integer_by_letter(name: &Name) -> bool
-    ensures { result ≡ names.is_integer_by_letter name.now }
+    ensures { result ≡ table.is_integer_by_letter name.now }
 {
     b'I' <= name.letters[0] && name.letters[0] <= b'N'
 }
@@ -44,7 +45,7 @@ fn declare(
     line: u32,
     name: Name,
 ) -> Result<(), ImageFault>
-    ensures { MatchResult result (λ _. (symbols.new.keys ≡ names.with_names symbols.old.keys (name ∷ [])) × (names.first_real (name ∷ []) ≡ None)) (λ e. Reports e (untyped_in line (name ∷ []))) }
+    ensures { MatchResult result (λ _. (symbols.new.keys ≡ names.with_names symbols.old.keys (name ∷ [])) × (table.first_real (name ∷ []) ≡ None)) (λ e. Reports e (untyped_in line (name ∷ []))) }
 {
     if !is_integer_by_letter(&name) {
         let name = spelling(alloc, &name)?;
@@ -65,7 +66,7 @@ fn declare_in(
     line: u32,
     expression: &Expr,
 ) -> Result<(), ImageFault>
-    ensures { MatchResult result (λ _. (symbols.new.keys ≡ names.with_names symbols.old.keys (names.names_in expression.now)) × (names.first_real (names.names_in expression.now) ≡ None)) (λ e. Reports e (untyped_in line (names.names_in expression.now))) }
+    ensures { MatchResult result (λ _. (symbols.new.keys ≡ names.with_names symbols.old.keys (table.names_in expression.now)) × (table.first_real (table.names_in expression.now) ≡ None)) (λ e. Reports e (untyped_in line (table.names_in expression.now))) }
 {
     match &expression.node {
         Node::Constant(_) => Ok(()),
@@ -92,7 +93,7 @@ fn declare_in_all(
     line: u32,
     expressions: &[Expr],
 ) -> Result<(), ImageFault>
-    ensures { MatchResult result (λ _. (symbols.new.keys ≡ names.with_names symbols.old.keys (names.names_in_all (trees_of expressions.now))) × (names.first_real (names.names_in_all (trees_of expressions.now)) ≡ None)) (λ e. Reports e (untyped_in line (names.names_in_all (trees_of expressions.now)))) }
+    ensures { MatchResult result (λ _. (symbols.new.keys ≡ names.with_names symbols.old.keys (table.names_in_all (trees_of expressions.now))) × (table.first_real (table.names_in_all (trees_of expressions.now)) ≡ None)) (λ e. Reports e (untyped_in line (table.names_in_all (trees_of expressions.now)))) }
 {
     match expressions {
         [] => Ok(()),
@@ -109,7 +110,7 @@ fn declare_items(
     line: u32,
     items: &[PrintItem],
 ) -> Result<(), ImageFault>
-    ensures { MatchResult result (λ _. (symbols.new.keys ≡ names.with_names symbols.old.keys (names.names_in_items items.now)) × (names.first_real (names.names_in_items items.now) ≡ None)) (λ e. Reports e (untyped_in line (names.names_in_items items.now))) }
+    ensures { MatchResult result (λ _. (symbols.new.keys ≡ names.with_names symbols.old.keys (table.names_in_items items.now)) × (table.first_real (table.names_in_items items.now) ≡ None)) (λ e. Reports e (untyped_in line (table.names_in_items items.now))) }
 {
     for item in items {
         match item {
@@ -125,7 +126,7 @@ fn declare_statement(
     symbols: &mut IndexSet<Name>,
     statement: &Statement,
 ) -> Result<(), ImageFault>
-    ensures { MatchResult result (λ _. (symbols.new.keys ≡ names.with_names symbols.old.keys (names.names_in_form statement.now.form)) × (names.first_real (names.names_in_form statement.now.form) ≡ None)) (λ e. Reports e (untyped_in statement.now.line (names.names_in_form statement.now.form))) }
+    ensures { MatchResult result (λ _. (symbols.new.keys ≡ names.with_names symbols.old.keys (table.names_in_form statement.now.form)) × (table.first_real (table.names_in_form statement.now.form) ≡ None)) (λ e. Reports e (untyped_in statement.now.line (table.names_in_form statement.now.form))) }
 {
     let line = statement.line;
     match &statement.form {
@@ -145,7 +146,7 @@ fn declare_statement(
 ///
 /// 301 for the first variable that is no integer by its letter, or want of memory.
 pub fn symbols_of(alloc: Global, statements: &[Statement]) -> Result<IndexSet<Name>, ImageFault>
-    ensures { MatchResult result (λ symbols. (symbols.keys ≡ names.variables_of statements.now) × (names.first_untyped statements.now ≡ None)) (λ e. Reports e (names.first_untyped statements.now)) }
+    ensures { MatchResult result (λ symbols. (symbols.keys ≡ table.variables_of statements.now) × (table.first_untyped statements.now ≡ None)) (λ e. Reports e (table.first_untyped statements.now)) }
 {
     let mut symbols = IndexSet::new(alloc);
     for statement in statements {

@@ -1,13 +1,133 @@
 -- Frames and the arena: docs/MACHINE.md.
-use Rattle.std.specs.Prelude.{ℕ, ◌+◌, List, length}
-use Rattle.hep_source.specs.declared.statement.Statement.{Statement}
-use Rattle.hep_source.specs.Names.{variables_of}
-use Rattle.hep_source.specs.Units.{Units, unit_at, main_unit}
+use Rattle.std.specs.Prelude.{ℕ, zero, suc, ◌+◌, max, Bool, true, nat_eq, nat_le, nat_lt, if◌then◌else◌, List, [], ◌∷◌, length, Option, Some, None}
+use Rattle.std.specs.Option.{option_map}
+use Rattle.std.specs.List.{flat_map, filter, list_any}
+use Rattle.hep_source.specs.Constants.{cells_of_all}
+use Rattle.hep_source.specs.Declarations.{Block, names_in_block, blocks_of}
+use Rattle.hep_source.specs.Opening.{opening}
+use Rattle.hep_source.specs.Run.{turn}
+use Rattle.hep_source.specs.State.{State, Process, unit_of, activation_of}
+use Rattle.hep_source.specs.Units.{Units, unit_at}
+use Rattle.hep_source.specs.Variables.{frame_cells}
 
--- the cells of a unit's frame: a header, and one for each local scalar
-abbrev pub frame_cells : List Statement → ℕ
-frame_cells unit = 1 + length (variables_of unit)
+-- ---- COMMON: each block at its greatest length, in order of first appearance (X3.9-1978, 8.3.3)
 
--- the cells that are taken: today the main program's frame, which stays for the whole run
-abbrev pub used_cells : Units → ℕ
-used_cells program = frame_cells (unit_at program main_unit)
+abbrev pub block_cells : Units → Block → ℕ
+block_cells [] b = 0
+block_cells (unit ∷ units) b = max (cells_of_all unit (names_in_block unit b)) (block_cells units b)
+
+abbrev pub cells_of_blocks : Units → List Block → ℕ
+cells_of_blocks program [] = 0
+cells_of_blocks program (b ∷ bs) = block_cells program b + cells_of_blocks program bs
+
+abbrev pub common_cells : Units → ℕ
+common_cells program = cells_of_blocks program (blocks_of program)
+
+-- ---- held activations
+
+abbrev pub activations_on : Process → List ℕ
+activations_on [] = []
+activations_on (l ∷ ls) = l.activation ∷ activations_on ls
+
+abbrev pub with_parent : Option ℕ → List ℕ → List ℕ
+with_parent None held = held
+with_parent (Some a) held = a ∷ held
+
+abbrev pub is_number_among : ℕ → List ℕ → Bool
+is_number_among a held = list_any (nat_eq a) held
+
+-- these, and the parents of those among them that have a number up to n; a parent has a lower number than its child
+abbrev pub with_parents : State → ℕ → List ℕ → List ℕ
+with_parents s zero held = held
+with_parents s (suc n) held =
+    with_parents s n (if is_number_among (suc n) held then with_parent (activation_of s (suc n)).parent held else held)
+
+-- the activations on a stack, and the parent of each held one
+abbrev pub held : State → List ℕ
+held s = with_parents s (length s.activations) (flat_map activations_on s.processes)
+
+abbrev pub is_held : State → ℕ → Bool
+is_held s a = is_number_among a (held s)
+
+-- every activation that was ever made
+abbrev pub is_made : State → ℕ → Bool
+is_made s a = true
+
+-- which activations have their frames in the arena: frames aren't given back today
+abbrev pub has_frame : State → ℕ → Bool
+has_frame s a = is_made s a
+
+-- ---- where frames are
+
+-- a frame: the activation, its first cell and how many there are
+pub record Frame : Type 0 where
+  pub activation : ℕ
+  pub first : ℕ
+  pub cells : ℕ
+
+-- the frames in the arena, by their first cells; COMMON is in front of them
+abbrev pub Layout : Type 0
+Layout = List Frame
+
+-- the first cell of the lowest gap of at least n cells, where everything before `from` is taken
+abbrev pub lowest_gap : ℕ → ℕ → ℕ → Layout → Option ℕ
+lowest_gap cells n from [] = if nat_le (from + n) cells then Some from else None
+lowest_gap cells n from (f ∷ fs) = if nat_le (from + n) f.first then Some from else lowest_gap cells n (f.first + f.cells) fs
+
+abbrev pub with_frame : Layout → Frame → Layout
+with_frame [] f = f ∷ []
+with_frame (g ∷ gs) f = if nat_lt f.first g.first then f ∷ (g ∷ gs) else g ∷ with_frame gs f
+
+-- the frame of a new activation goes to the front of the lowest gap that is long enough
+abbrev pub placed : Units → ℕ → Layout → ℕ → ℕ → Option Layout
+placed program cells layout a n =
+    option_map (λ first. with_frame layout (record { activation = a; first = first; cells = n })) (lowest_gap cells n (common_cells program) layout)
+
+abbrev pub frame_of : Units → State → ℕ → ℕ
+frame_of program s a = frame_cells (unit_at program (unit_of s a))
+
+-- a step makes one activation or none
+abbrev pub with_new : Units → ℕ → ℕ → State → Layout → Option Layout
+with_new program cells n s layout =
+    if nat_lt n (length s.activations) then placed program cells layout (length s.activations) (frame_of program s (length s.activations)) else Some layout
+
+abbrev pub kept_in : (State → ℕ → Bool) → State → Layout → Layout
+kept_in has s layout = filter (λ (f : Frame). has s f.activation) layout
+
+-- the layout after a turn from one state to the next, none where a frame has no gap
+abbrev pub layout_turned : Units → ℕ → (State → ℕ → Bool) → State → State → Layout → Option Layout
+layout_turned program cells has s s' layout = option_map (kept_in has s') (with_new program cells (length s.activations) s' layout)
+
+abbrev pub opening_layout : Units → ℕ → Option Layout
+opening_layout program cells = with_new program cells 0 (opening program) []
+
+-- a state, and where its frames are
+pub record Placing : Type 0 where
+  pub state : State
+  pub layout : Option Layout
+
+abbrev pub layout_after_turn : Units → ℕ → (State → ℕ → Bool) → State → State → Option Layout → Placing
+layout_after_turn program cells has s s' None = record { state = s'; layout = None }
+layout_after_turn program cells has s s' (Some layout) = record { state = s'; layout = layout_turned program cells has s s' layout }
+
+abbrev pub placing_turn : Units → ℕ → (State → ℕ → Bool) → Placing → ℕ → Placing
+placing_turn program cells has x p = layout_after_turn program cells has x.state (turn program p x.state) x.layout
+
+unfoldable pub placing_from : Units → ℕ → (State → ℕ → Bool) → Placing → List ℕ → Placing
+placing_from program cells has x [] = x
+placing_from program cells has x (p ∷ ps) = placing_from program cells has (placing_turn program cells has x p) ps
+
+-- where the frames are after turns of these processes; none once a frame had no gap
+abbrev pub layout_of : Units → ℕ → (State → ℕ → Bool) → List ℕ → Option Layout
+layout_of program cells has processes =
+    (placing_from program cells has (record { state = opening program; layout = opening_layout program cells }) processes).layout
+
+-- ---- cells in use
+
+abbrev pub frames_up_to : Units → (State → ℕ → Bool) → State → ℕ → ℕ
+frames_up_to program has s zero = 0
+frames_up_to program has s (suc n) = frames_up_to program has s n + (if has s (suc n) then frame_of program s (suc n) else 0)
+
+-- COMMON and all frames
+abbrev pub used_cells : Units → (State → ℕ → Bool) → State → ℕ
+used_cells program has s = common_cells program + frames_up_to program has s (length s.activations)

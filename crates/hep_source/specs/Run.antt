@@ -1,30 +1,15 @@
 -- Whole runs.
-use Rattle.std.specs.Prelude.{ℕ, false, List, [], ◌∷◌, ◌++◌, Option, Some, None, replicate}
+use Rattle.std.specs.Prelude.{ℕ, List, [], ◌∷◌, ◌++◌, replicate}
+use Rattle.std.specs.Option.{unwrap_or}
 use Rattle.hep_source.specs.declared.event.Entry.{Entry}
-use Rattle.hep_source.specs.Units.{Units, unit_at, main_unit}
-use Rattle.hep_source.specs.Storage.{unset}
-use Rattle.hep_source.specs.State.{State, level_at}
+use Rattle.hep_source.specs.Opening.{opening}
+use Rattle.hep_source.specs.State.{State}
 use Rattle.hep_source.specs.Step.{step}
-
--- process 1 at the first executable statement of the main program, and nothing stored
-unfoldable pub opening : Units → State
-opening program =
-    record {
-      processes = (level_at (unit_at program main_unit) 1 0 ∷ []) ∷ [];
-      activations = record { unit = main_unit; parent = None } ∷ [];
-      store = λ location. unset;
-      records = [];
-      faults = [];
-      halted = false;
-    }
-
-abbrev pub or_same : Option State → State → State
-or_same None s = s
-or_same (Some s') s = s'
+use Rattle.hep_source.specs.Units.{Units}
 
 -- the state after a step of p, and the same state where there is none
 abbrev pub turn : Units → ℕ → State → State
-turn program p s = or_same (step program p s) s
+turn program p s = unwrap_or (step program p s) s
 
 unfoldable pub run_from : Units → State → List ℕ → State
 run_from program s [] = s

@@ -1,14 +1,15 @@
 -- Storage units, and what they hold.
-use Rattle.std.specs.Prelude.{ℕ, Bool, false, ◌&&◌, nat_eq, if◌then◌else◌, Option, None}
+use Rattle.std.specs.Prelude.{ℕ, zero, suc, ◌+◌, Bool, false, ◌&&◌, nat_eq, if◌then◌else◌, Option, None}
 use Rattle.hep_source.specs.declared.name.Name.{Name}
 use Rattle.hep_source.specs.declared.value.Value.{Value}
+use Rattle.hep_source.specs.Declarations.{Block, same_block}
 use Rattle.hep_source.specs.Names.{same_name}
 
--- where a storage unit is: element number of a variable of an activation, or position in a common block
+-- where a storage unit is: an element of a variable of an activation, or a position in a common block, both counted from 1
 -- (X3.9-1978, 2.14 and 8.3)
 pub data Location : Type 0 where
   local : (activation : ℕ) (name : Name) (element : ℕ) → Location
-  common : (block : Name) (position : ℕ) → Location
+  common : (block : Block) (position : ℕ) → Location
 
 -- a storage unit: the value that was stored last, if any, and whether it is full
 pub record Cell : Type 0 where
@@ -26,7 +27,12 @@ abbrev pub same_location : Location → Location → Bool
 same_location (local a x i) (local b y j) = nat_eq a b && (same_name x y && nat_eq i j)
 same_location (local a x i) (common n k) = false
 same_location (common m j) (local b y i) = false
-same_location (common m j) (common n k) = same_name m n && nat_eq j k
+same_location (common m j) (common n k) = same_block m n && nat_eq j k
+
+-- so many elements further in the same sequence of storage units
+abbrev pub further : Location → ℕ → Location
+further (local a x i) n = local a x (i + n)
+further (common b k) n = common b (k + n)
 
 -- the store with this cell at a location
 abbrev pub with_cell : Store → Location → Cell → Store
@@ -35,3 +41,12 @@ with_cell store at cell location = if same_location location at then cell else s
 -- the store with this value at a plain location
 abbrev pub with_value : Store → Location → Option Value → Store
 with_value store at value = with_cell store at (record { value = value; full = (store at).full })
+
+-- the store with a location full or empty; what was stored stays
+abbrev pub with_state : Store → Location → Bool → Store
+with_state store at full = with_cell store at (record { value = (store at).value; full = full })
+
+-- the store with so many storage units empty, from a location on
+abbrev pub emptied_from : ℕ → Location → Store → Store
+emptied_from zero at store = store
+emptied_from (suc n) at store = emptied_from n (further at 1) (with_state store at false)

@@ -1,27 +1,25 @@
--- The units of a program and their statements.
-use Rattle.std.specs.Prelude.{ℕ, suc, ◌+◌, Bool, true, false, if◌then◌else◌, List, [], ◌∷◌, Option, Some, None, slice_get, drop}
+-- The units of a program and their statements: X3.9-1978, 2.4 and 3.5.
+use Rattle.std.specs.Prelude.{ℕ, suc, ◌+◌, Bool, true, false, List, [], ◌∷◌, Option, Some, None, slice_get, drop, if◌then◌else◌}
+use Rattle.std.specs.Option.{option_map, unwrap_or}
+use Rattle.hep_source.specs.declared.name.Name.{Name}
+use Rattle.hep_source.specs.declared.name.Place.{Place}
 use Rattle.hep_source.specs.declared.statement.Form.{Form}
 use Rattle.hep_source.specs.declared.statement.Form.TheVariants.{Program, Subroutine, Implicit, Declare, Dimension, Common, Parameter, Data, End}
 use Rattle.hep_source.specs.declared.statement.Statement.{Statement}
-use Rattle.hep_source.specs.Names.{spelling}
+use Rattle.hep_source.specs.Names.{spelling, same_name}
+use Rattle.hep_source.specs.Unreached.{no_unit}
 
 -- a program: the statements of each unit, in the order of the source
 abbrev pub Units : Type 0
 Units = List (List Statement)
 
-abbrev pub or_empty : Option (List Statement) → List Statement
-or_empty None = []
-or_empty (Some statements) = statements
-
 -- the statements of a unit
 abbrev pub unit_at : Units → ℕ → List Statement
-unit_at program u = or_empty (slice_get program u)
+unit_at program u = unwrap_or (slice_get program u) []
 
--- the main program is the one unit of a program that runs today
-abbrev pub main_unit : ℕ
-main_unit = 0
+-- ---- headers
 
--- MAIN, the name of a main program without PROGRAM statement: X3.9-1978, 14.1
+-- MAIN, the name of a main program without PROGRAM statement: 14.1
 abbrev pub main_name : List ℕ
 main_name = 77 ∷ 65 ∷ 73 ∷ 78 ∷ []
 
@@ -35,7 +33,52 @@ abbrev pub unit_name : List Statement → List ℕ
 unit_name [] = main_name
 unit_name (s ∷ ss) = name_by_header s.form
 
--- executable statements: X3.9-1978, 7.1
+abbrev pub subroutine_by_header : Form → Option Name
+subroutine_by_header (Subroutine p dummies) = Some p.name
+subroutine_by_header _ = None
+
+-- the name of a subroutine; a main program has none by which it is called
+abbrev pub subroutine_name : List Statement → Option Name
+subroutine_name [] = None
+subroutine_name (s ∷ ss) = subroutine_by_header s.form
+
+abbrev pub names_of_places : List Place → List Name
+names_of_places [] = []
+names_of_places (p ∷ ps) = p.name ∷ names_of_places ps
+
+abbrev pub dummies_by_header : Form → List Name
+dummies_by_header (Subroutine p dummies) = names_of_places dummies
+dummies_by_header _ = []
+
+-- the dummy arguments of a unit: 15.6.1
+abbrev pub dummies_of : List Statement → List Name
+dummies_of [] = []
+dummies_of (s ∷ ss) = dummies_by_header s.form
+
+abbrev pub is_named : Option Name → Name → Bool
+is_named None x = false
+is_named (Some y) x = same_name y x
+
+-- the number of the subroutine of a name
+abbrev pub subroutine_called : Units → Name → Option ℕ
+subroutine_called [] x = None
+subroutine_called (u ∷ us) x = if is_named (subroutine_name u) x then Some 0 else option_map suc (subroutine_called us x)
+
+abbrev pub is_main : Option Name → Bool
+is_main None = true
+is_main (Some x) = false
+
+abbrev pub main_among : Units → Option ℕ
+main_among [] = None
+main_among (u ∷ us) = if is_main (subroutine_name u) then Some 0 else option_map suc (main_among us)
+
+-- the number of the main program
+abbrev pub main_unit : Units → ℕ
+main_unit program = unwrap_or (main_among program) no_unit
+
+-- ---- statements
+
+-- executable statements: 7.1
 abbrev pub is_executable : Form → Bool
 is_executable (Program p) = false
 is_executable (Subroutine p dummies) = false
@@ -57,17 +100,12 @@ abbrev pub executable_from : List Statement → ℕ → ℕ
 executable_from unit k = k + passed_over (drop k unit)
 
 -- past its last statement a unit ends
-abbrev pub form_found : Option Statement → Form
-form_found None = End
-form_found (Some s) = s.form
-
-abbrev pub line_found : Option Statement → ℕ
-line_found None = 0
-line_found (Some s) = s.line
+abbrev pub end_of_unit : Statement
+end_of_unit = record { line = 0; label = None; conditions = []; form = End }
 
 -- the statement at place k of a unit
-abbrev pub form_at : List Statement → ℕ → Form
-form_at unit k = form_found (slice_get unit k)
+abbrev pub statement_at : List Statement → ℕ → Statement
+statement_at unit k = unwrap_or (slice_get unit k) end_of_unit
 
 abbrev pub line_at : List Statement → ℕ → ℕ
-line_at unit k = line_found (slice_get unit k)
+line_at unit k = (statement_at unit k).line

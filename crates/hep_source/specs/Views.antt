@@ -1,19 +1,27 @@
 -- What of a state is compared.
-use Rattle.std.specs.Prelude.{ℕ, suc, Bool, List, [], ◌∷◌, ◌++◌, Option, map}
+use Rattle.std.specs.Prelude.{ℕ, zero, suc, Bool, false, nat_eq, if◌then◌else◌, List, [], ◌∷◌, ◌++◌, Option}
+use Rattle.std.specs.List.{flat_map}
 use Rattle.hep_source.specs.declared.event.Fault.{Fault}
 use Rattle.hep_source.specs.declared.name.Name.{Name}
 use Rattle.hep_source.specs.declared.record.Item.{Item}
-use Rattle.hep_source.specs.declared.value.Value.{Value}
-use Rattle.hep_source.specs.Names.{variables_of}
+use Rattle.hep_source.specs.declared.statement.Statement.{Statement}
+use Rattle.hep_source.specs.Constants.{cells_of}
+use Rattle.hep_source.specs.Declarations.{Block, blocks_of}
+use Rattle.hep_source.specs.Layout.{block_cells}
+use Rattle.hep_source.specs.State.{Activation, Dummy, Process, State, unit_of}
+use Rattle.hep_source.specs.Step.{Wanted, wanted_by}
+use Rattle.hep_source.specs.Storage.{Cell, Location, local, common, Store, further}
 use Rattle.hep_source.specs.Units.{Units, unit_at, line_at}
-use Rattle.hep_source.specs.Storage.{Store, local}
-use Rattle.hep_source.specs.State.{Activation, Process, State, unit_of}
+use Rattle.hep_source.specs.Variables.{locals_of}
 
--- where a living process is: its number, the unit and the line of its top statement
+-- ---- processes
+
+-- where a living process is: its number, the unit and the line of its top statement, and what it waits for where it is disabled
 pub record Standing : Type 0 where
   pub process : ℕ
   pub unit : ℕ
   pub line : ℕ
+  pub wanted : Option Wanted
 
 abbrev pub standing_of : Units → State → ℕ → Process → List Standing
 standing_of program s p [] = []
@@ -22,34 +30,61 @@ standing_of program s p (level ∷ levels) =
       process = p;
       unit = unit_of s level.activation;
       line = line_at (unit_at program (unit_of s level.activation)) level.statement;
+      wanted = wanted_by program p s;
     } ∷ []
 
 abbrev pub standings_from : Units → State → ℕ → List Process → List Standing
 standings_from program s p [] = []
 standings_from program s p (q ∷ qs) = standing_of program s p q ++ standings_from program s (suc p) qs
 
--- the values of an activation's variables, in order of first appearance
-abbrev pub values_of : Store → ℕ → List Name → List (Option Value)
-values_of store a names = map (λ x. (store (local a x 1)).value) names
+-- ---- storage
 
-abbrev pub values_from : Units → Store → ℕ → List Activation → List (Option Value)
-values_from program store a [] = []
-values_from program store a (x ∷ xs) = values_of store a (variables_of (unit_at program x.unit)) ++ values_from program store (suc a) xs
+abbrev pub cells_at : Store → Location → ℕ → List Cell
+cells_at store at zero = []
+cells_at store at (suc n) = store at ∷ cells_at store (further at 1) n
 
--- records, faults, halted or not, each living process with its statement, and every variable that an activation owns
+abbrev pub cells_of_local : Store → ℕ → List Statement → Name → List Cell
+cells_of_local store a unit x = cells_at store (local a x 1) (cells_of unit x)
+
+abbrev pub is_owned : ℕ → Location → Bool
+is_owned a (local b x i) = nat_eq a b
+is_owned a (common b k) = false
+
+-- a dummy argument that stands for an expression is a variable of its own
+abbrev pub cells_of_dummy : Store → ℕ → Dummy → List Cell
+cells_of_dummy store a d = if is_owned a d.start then store d.start ∷ [] else []
+
+-- the storage units that an activation owns
+abbrev pub cells_of_activation : Units → Store → ℕ → Activation → List Cell
+cells_of_activation program store a x =
+    flat_map (cells_of_local store a (unit_at program x.unit)) (locals_of (unit_at program x.unit)) ++ flat_map (cells_of_dummy store a) x.dummies
+
+abbrev pub cells_from : Units → (State → ℕ → Bool) → State → ℕ → List Activation → List Cell
+cells_from program has s a [] = []
+cells_from program has s a (x ∷ xs) =
+    (if has s a then cells_of_activation program s.store a x else []) ++ cells_from program has s (suc a) xs
+
+abbrev pub cells_of_block : Units → Store → Block → List Cell
+cells_of_block program store b = cells_at store (common b 1) (block_cells program b)
+
+-- ---- the view
+
+-- records, faults, halted or not, each living process with its statement, COMMON, and every variable of the activations that have frames
 pub record View : Type 0 where
   pub records : List (List Item)
   pub faults : List Fault
   pub halted : Bool
   pub processes : List Standing
-  pub values : List (Option Value)
+  pub common_cells : List Cell
+  pub cells : List Cell
 
-abbrev pub view_of : Units → State → View
-view_of program s =
+abbrev pub view_of : Units → (State → ℕ → Bool) → State → View
+view_of program has s =
     record {
       records = s.records;
       faults = s.faults;
       halted = s.halted;
       processes = standings_from program s 1 s.processes;
-      values = values_from program s.store 1 s.activations;
+      common_cells = flat_map (cells_of_block program s.store) (blocks_of program);
+      cells = cells_from program has s 1 s.activations;
     }

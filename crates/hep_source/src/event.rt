@@ -7,8 +7,14 @@ pub enum Kind {
     Overflow,
     /// A division by zero.
     Divide,
+    /// A subscript outside its bounds, or an element past what the actual argument's array has.
+    Range,
     /// A variable that was read before a value was assigned to it.
     Undefined,
+    /// An array of an argument that has no shape, or more elements than the actual argument's.
+    Shape,
+    /// A DO whose increment is zero.
+    Step,
 }
 
 /// A fault: which process ended early, where and why.

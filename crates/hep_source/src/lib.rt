@@ -7,6 +7,8 @@ pub mod arithmetic;
 pub mod declaration;
 pub mod event;
 pub mod expression;
+pub mod function;
+pub mod laws;
 pub mod name;
 pub mod operator;
 pub mod program;
@@ -23,6 +25,7 @@ pub use declaration::{
 };
 pub use event::{Entry, Fault, Kind};
 pub use expression::{Expr, Node};
+pub use function::{PureFunction, StateFunction};
 pub use name::{Name, Place};
 pub use operator::{ArithmeticOperator, LogicalOperator, Operator, RelationalOperator, Sign};
 pub use program::{Program, Unit};

@@ -1,6 +1,7 @@
 -- A choice makes a history longer by one entry, of the process that comes next.
 use Rattle.std.proofs.Common.{◌≡◌, ℕ, zero, suc, ◌+◌, ◌<◌, ◌≤◌, Bool, true, false, List, [], ◌∷◌, ◌++◌, length, take, Option, Some, None, refl, sym, ap, ◌∙◌, subst, arith, inl, inr, Ok, Err, length-append}
-use Rattle.std.specs.Prelude.{◌≢◌, slice_get, nat_lt, if◌then◌else◌}
+use Rattle.std.specs.Prelude.{◌≢◌, slice_get, nat_lt, not, replicate, cond, if◌then◌else◌}
+use Rattle.std.specs.List.{filter}
 use Rattle.hep_core.specs.declared.stop.Stop.{Stop}
 use Rattle.hep_core.specs.declared.stop.Stop.TheVariants.{Halted, StepLimit}
 use Rattle.hep_core.specs.declared.fault.ChooseFault.TheVariants.{Stopped}
@@ -11,9 +12,11 @@ use Rattle.std.proofs.lemmas.Option.{slice_get_within, slice_get_past}
 use Rattle.hep_source.specs.declared.event.Entry.{Entry}
 use Rattle.hep_source.specs.Units.{Units}
 use Rattle.hep_source.specs.State.{State, Process, living, top_of}
-use Rattle.hep_source.specs.Run.{state_after}
+use Rattle.hep_source.specs.Opening.{opening}
+use Rattle.hep_source.specs.Run.{run, run_from, expand, state_after, turn}
+use Rattle.hep_source.specs.Schedules.{Progress, after_step, after_steps, after_entry, progress_from, progress_after, is_listed, living_from, ready_in, last_process, least, first_above, next_ready}
 use Rattle.hep_core.specs.declared.stop.Turn.{Turn}
-use Rattle.hep_core.specs.Value.{CoreValue, state_of, grown, stop_after, Turned, Chosen, living_from, least, first_above, last_process, ready_after}
+use Rattle.hep_core.specs.Value.{CoreValue, state_of, grown, stop_after, Turned, Chosen}
 use Rattle.hepf.specs.declared.options.Options.{Options}
 use Rattle.hepf.specs.Outcome.{first_choice, next_process, IsScheduled}
 use Rattle.hepf.specs.Progress.{IsStop, IsRunning}
@@ -49,7 +52,7 @@ one_more program choices h e so_far next k e' at = elim (cases_lt k (length h)) 
 
 -- a choice that isn't refused leaves a core with one entry more
 pub turned : (old new : CoreValue) (p steps : ℕ) (blocked : Bool) → Turned old p steps blocked new → (n : ℕ) × (s : State) × (new ≡ grown old p n s)
-turned old new p zero true t = (0, state_of old, t.2)
+turned old new p zero true t = (0, state_of old, t.1)
 turned old new p zero false t = absurd t
 turned old new p (suc zero) true t = absurd t
 turned old new p (suc zero) false t = (1, t.0, t.2)
@@ -134,16 +137,57 @@ lives : (s : State) (p : ℕ) → LivesFrom 0 s.processes p → living s p ≢ N
 unfolding LivesFrom
 lives s p l = let is : suc l.0 ≡ p = omega (arith, l.1) in subst (λ (q : ℕ). living s q ≢ None) is l.2
 
-pub ready_lives : (program : Units) (history : List Entry) (p : ℕ) → ready_after program history ≡ Some p → living (state_after program history) p ≢ None
+kept_by : (P : ℕ → Type 0) (b : Bool) (x : ℕ) (xs : List ℕ) → P x → AllOf P xs → AllOf P (cond b (x ∷ xs) xs)
+unfolding AllOf
+kept_by P true x xs here all = (here, all)
+kept_by P false x xs here all = all
+
+all_kept : (P : ℕ → Type 0) (test : ℕ → Bool) (xs : List ℕ) → AllOf P xs → AllOf P (filter test xs)
+unfolding AllOf
+all_kept P test [] all = tt
+all_kept P test (x ∷ xs) all = kept_by P (test x) x (filter test xs) all.0 (all_kept P test xs all.1)
+
+-- the state that the listing goes by is the one after the history
+steps_state : (program : Units) (x : Progress) (p n : ℕ) → (after_steps program x p n).state ≡ run_from program x.state (replicate n p)
+unfolding run_from
+steps_state program x p zero = refl
+steps_state program x p (suc n) = steps_state program (after_step program x p (turn program p x.state)) p n
+
+entry_state : (program : Units) (x : Progress) (e : Entry) (n : ℕ) → (after_entry program x e n).state ≡ run_from program x.state (replicate n e.process)
+unfolding run_from
+entry_state program x e zero = refl
+entry_state program x e (suc n) = steps_state program x e.process (suc n)
+
+run_from-append : (program : Units) (s : State) (ps qs : List ℕ) → run_from program s (ps ++ qs) ≡ run_from program (run_from program s ps) qs
+unfolding run_from
+run_from-append program s [] qs = refl
+run_from-append program s (p ∷ ps) qs = run_from-append program (turn program p s) ps qs
+
+from_state : (program : Units) (x : Progress) (es : List Entry) → (progress_from program x es).state ≡ run_from program x.state (expand es)
+unfolding progress_from run_from expand
+from_state program x [] = refl
+from_state program x (e ∷ es) =
+    from_state program (after_entry program x e e.steps) es
+    ∙ ap (λ s. run_from program s (expand es)) (entry_state program x e e.steps)
+    ∙ sym (run_from-append program x.state (replicate e.steps e.process) (expand es))
+
+progress_state : (program : Units) (history : List Entry) → (progress_after program history).state ≡ state_after program history
+unfolding state_after run
+progress_state program history = from_state program (record { state = opening program; listed = [] }) history
+
+pub ready_lives : (program : Units) (history : List Entry) (p : ℕ) → next_ready program history ≡ Some p → living (state_after program history) p ≢ None
 ready_lives program history p e =
-    let s = state_after program history in
-    let all = all_live 0 s.processes in
-    lives s p (first_of (LivesFrom 0 s.processes) (last_process history) (living_from 1 s.processes) (least (living_from 1 s.processes)) all (least_of (LivesFrom 0 s.processes) (living_from 1 s.processes) all) p e)
+    let x = progress_after program history in
+    let s = x.state in
+    let ready = ready_in x in
+    let all = all_kept (LivesFrom 0 s.processes) (λ q. not (is_listed x.listed q)) (living_from 1 s.processes) (all_live 0 s.processes) in
+    subst (λ (t : State). living t p ≢ None) (progress_state program history)
+    (lives s p (first_of (LivesFrom 0 s.processes) (last_process history) ready (least ready) all (least_of (LivesFrom 0 s.processes) ready all) p e))
 
 -- ---- once the choices are made
 
-pub next_is_ready : (program : Units) (choices : List ℕ) (history : List Entry) → length choices ≤ length history → next_process program choices history ≡ ready_after program history
-next_is_ready program choices history h = ap (λ (o : Option ℕ). first_choice o (ready_after program history)) (slice_get_past choices (length history) h)
+pub next_is_ready : (program : Units) (choices : List ℕ) (history : List Entry) → length choices ≤ length history → next_process program choices history ≡ next_ready program history
+next_is_ready program choices history h = ap (λ (o : Option ℕ). first_choice o (next_ready program history)) (slice_get_past choices (length history) h)
 
 -- a choice that meets a stop leaves the run at it
 pub stopped : (options : Options) (old new : CoreValue) (p : ℕ) (stop : Stop) → Chosen old p (Err (Stopped stop)) new → IsRunning options old → (old.stop ≡ None → next_process old.program options.choices old.history ≡ Some p) → IsRunning options new × (new.program ≡ old.program) × (new.stop ≢ None)

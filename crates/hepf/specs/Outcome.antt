@@ -1,14 +1,15 @@
 -- What a run of a source comes to, from its bytes to the bytes that it writes: docs/MACHINE.md, "The program".
-use Rattle.std.specs.Prelude.{◌≡◌, ◌≢◌, ◌⊎◌, ℕ, ◌+◌, ◌<◌, true, List, [], ◌∷◌, ◌++◌, length, take, slice_get, Option, Some, None, Ok}
+use Rattle.std.specs.Prelude.{◌≡◌, ◌≢◌, ◌⊎◌, ℕ, ◌+◌, true, List, [], ◌∷◌, ◌++◌, length, take, slice_get, Option, Some, None, Ok}
 use Rattle.hep_text.specs.declared.statement.Stmt.{Stmt}
 use Rattle.hep_text.specs.Reading.{statements_of, refusal}
 use Rattle.hep_parse.specs.Program.{IsProgram, IsFirstFault}
 use Rattle.hep_source.specs.declared.event.Entry.{Entry}
 use Rattle.hep_source.specs.declared.event.Fault.{Fault}
 use Rattle.hep_source.specs.declared.name.Name.{Name}
-use Rattle.hep_source.specs.Names.{first_untyped, spelling}
+use Rattle.hep_source.specs.Names.{spelling}
 use Rattle.hep_source.specs.Units.{Units, unit_at, main_unit}
-use Rattle.hep_source.specs.Layout.{used_cells}
+use Rattle.hep_source.specs.Layout.{opening_layout}
+use Rattle.hep_source.specs.Schedules.{next_ready}
 use Rattle.hep_source.specs.State.{living}
 use Rattle.hep_source.specs.Run.{state_after}
 use Rattle.hep_source.specs.Histories.{IsLegal}
@@ -16,7 +17,7 @@ use Rattle.hep_core.specs.declared.stop.Stop.{Stop}
 use Rattle.hep_core.specs.declared.stop.Stop.TheVariants.{Halted, ArenaFull, StepLimit}
 use Rattle.hep_core.specs.Names.{names_of}
 use Rattle.hep_core.specs.Runnable.{first_unrun_in}
-use Rattle.hep_core.specs.Value.{ready_after}
+use Rattle.hep_core.specs.Symbols.{first_untyped}
 use Rattle.hepf.specs.declared.options.Options.{Options}
 use Rattle.hepf.specs.Texts.{records_text, faults_text, refusal_text, stop_text, choice_text}
 
@@ -34,7 +35,7 @@ pub record Outcome : Type 0 where
 abbrev pub IsUnrun : Units → ℕ → ℕ → List ℕ → Type 0
 IsUnrun program number line name =
     ((first_unrun_in program ≡ Some line) × (number ≡ 403) × (name ≡ []))
-    ⊎ ((first_unrun_in program ≡ None) × (x : Name) × (first_untyped (unit_at program main_unit) ≡ Some (line, x)) × (number ≡ 301) × (name ≡ spelling x))
+    ⊎ ((first_unrun_in program ≡ None) × (x : Name) × (first_untyped (unit_at program (main_unit program)) ≡ Some (line, x)) × (number ≡ 301) × (name ≡ spelling x))
 
 -- the source is refused with this number, line and name
 abbrev pub IsRefused : List ℕ → ℕ → ℕ → List ℕ → Type 0
@@ -47,7 +48,7 @@ IsRefused source number line name =
 abbrev pub IsAccepted : List ℕ → Units → Type 0
 IsAccepted source program =
     (statements : List Stmt) × (statements_of source ≡ Ok statements) × IsProgram statements program
-    × (first_unrun_in program ≡ None) × (first_untyped (unit_at program main_unit) ≡ None)
+    × (first_unrun_in program ≡ None) × (first_untyped (unit_at program (main_unit program)) ≡ None)
 
 -- ---- schedules
 
@@ -57,7 +58,7 @@ first_choice None ready = ready
 
 -- the process that comes after a history: the choices in their order, and then what is ready
 abbrev pub next_process : Units → List ℕ → List Entry → Option ℕ
-next_process program choices history = first_choice (slice_get choices (length history)) (ready_after program history)
+next_process program choices history = first_choice (slice_get choices (length history)) (next_ready program history)
 
 -- each entry is of the process that came next
 abbrev pub IsScheduled : Units → List ℕ → List Entry → Type 0
@@ -117,7 +118,7 @@ ended program history stop =
       history = history;
     }
 
--- a program whose frame fits, by its history
+-- a program whose main program's frame has a gap in the arena, by its history
 abbrev pub IsRunOutcome : Units → Options → Outcome → Type 0
 IsRunOutcome program options o =
     (history : List Entry) × IsHistory program options history × (
@@ -126,7 +127,7 @@ IsRunOutcome program options o =
 
 -- an accepted program
 abbrev pub IsProgramOutcome : Units → Options → Outcome → Type 0
-IsProgramOutcome program options o = ((options.arena < used_cells program) × (o ≡ arena_full)) ⊎ IsRunOutcome program options o
+IsProgramOutcome program options o = ((opening_layout program options.arena ≡ None) × (o ≡ arena_full)) ⊎ IsRunOutcome program options o
 
 -- what a run of a source comes to by these options
 abbrev pub IsOutcome : List ℕ → Options → Outcome → Type 0

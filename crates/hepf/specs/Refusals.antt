@@ -1,7 +1,7 @@
 -- Why a source has no core, as the program keeps it.
-use Rattle.std.specs.Prelude.{ℕ, ◌<◌, List}
+use Rattle.std.specs.Prelude.{◌≡◌, ℕ, List, None}
 use Rattle.hep_source.specs.Units.{Units}
-use Rattle.hep_source.specs.Layout.{used_cells}
+use Rattle.hep_source.specs.Layout.{opening_layout}
 use Rattle.hep_text.specs.declared.fault.TextFault.{TextFault}
 use Rattle.hep_text.specs.declared.fault.TextFault.TheVariants as text
 use Rattle.hep_parse.specs.declared.fault.ParseFault.{ParseFault}
@@ -31,8 +31,8 @@ abbrev pub of_new : NewFault → Refusal
 of_new new.NoMemory = NoMemory
 of_new new.ArenaFull = ArenaFull
 
--- the refusal is that of the source, or its frame doesn't fit; want of memory says nothing of it
+-- the refusal is that of the source, or its frame has no gap in the arena; want of memory says nothing of it
 abbrev pub IsRefusalOf : List ℕ → Options → Refusal → Type 0
 IsRefusalOf source options NoMemory = Unit {0}
 IsRefusalOf source options (Source number line name) = IsRefused source number line name
-IsRefusalOf source options ArenaFull = (program : Units) × IsAccepted source program × (options.arena < used_cells program)
+IsRefusalOf source options ArenaFull = (program : Units) × IsAccepted source program × (opening_layout program options.arena ≡ None)

@@ -2,7 +2,7 @@
 use Rattle.std.specs.Prelude.{ℕ, Bool, true, false, not, ◌&&◌, if◌then◌else◌, List, [], ◌∷◌, ◌++◌, codes, Option, Some, None, slice_get}
 use Rattle.std.specs.Fmt.{decimal, signed_decimal}
 use Rattle.hep_source.specs.declared.event.Kind.{Kind}
-use Rattle.hep_source.specs.declared.event.Kind.TheVariants.{Overflow, Divide, Undefined}
+use Rattle.hep_source.specs.declared.event.Kind.TheVariants.{Overflow, Divide, Range, Undefined, Shape, Step}
 use Rattle.hep_source.specs.declared.event.Fault.{Fault}
 use Rattle.hep_source.specs.declared.record.Item.{Item}
 use Rattle.hep_source.specs.declared.record.Item.TheVariants.{Int, Truth, Text}
@@ -43,7 +43,10 @@ records_text (r ∷ rs) = record_text r ++ records_text rs
 abbrev pub kind_text : Kind → List ℕ
 kind_text Overflow = codes "OVERFLOW"
 kind_text Divide = codes "DIVIDE"
+kind_text Range = codes "RANGE"
 kind_text Undefined = codes "UNDEFINED"
+kind_text Shape = codes "SHAPE"
+kind_text Step = codes "STEP"
 
 -- where and why
 abbrev pub cause_text : Fault → List ℕ

@@ -1,7 +1,7 @@
 //! A source's bytes to what its run writes.
-ghost use Rattle.std.specs.Prelude.{◌≡◌, ◌+◌, ◌≤◌, [], None, IfOk, IfErr, OnOk, length};
+ghost use Rattle.std.specs.Prelude.{◌≡◌, ◌+◌, ◌≤◌, [], None, IsSome, IfOk, IfErr, OnOk, length};
 ghost use Rattle.hep_source.specs.Units.{Units};
-ghost use Rattle.hep_source.specs.Layout.{used_cells};
+ghost use Rattle.hep_source.specs.Layout.{opening_layout};
 ghost use Rattle.hep_core.specs.Value.{opening_of};
 ghost use Rattle.hepf.specs.Outcome.{IsAccepted, IsOutcome, IsRunOutcome, next_process};
 ghost use Rattle.hepf.specs.Refusals.{IsRefusalOf};
@@ -27,7 +27,7 @@ pub enum Halt {
 // The core at the opening of a source.
 fn core_of(alloc: Global, source: &[u8], options: &Options) -> Result<Core, Refusal>
     ensures made { IfOk result (λ core. (program : Units) × IsAccepted source.now program
-        × (used_cells program ≤ options.now.arena) × (core ≡ opening_of program options.now.arena options.now.steps)) }
+        × IsSome (opening_layout program options.now.arena) × (core ≡ opening_of program options.now.arena options.now.steps)) }
     ensures refused { IfErr result (IsRefusalOf source.now options.now) }
 {
     let statements = statements(alloc, source)?;

@@ -76,7 +76,10 @@ fn kind_text(kind: Kind) -> &'static [u8]
     match kind {
         Kind::Overflow => b"OVERFLOW",
         Kind::Divide => b"DIVIDE",
+        Kind::Range => b"RANGE",
         Kind::Undefined => b"UNDEFINED",
+        Kind::Shape => b"SHAPE",
+        Kind::Step => b"STEP",
     }
 }
 

@@ -1,7 +1,8 @@
 use Rattle.std.proofs.Common.{◌≡◌, ◌∙◌, ◌∷◌, [], None, ap, sym, refl, drop}
 use Rattle.std.proofs.lemmas.List.{take_rest}
 use Rattle.std.proofs.lemmas.Result.{err_from_is_err_and}
-use Rattle.hep_source.specs.Names.{names_in, names_in_all, with_names, first_real}
+use Rattle.hep_source.specs.Names.{with_names}
+use Rattle.hep_core.specs.Symbols.{names_in, names_in_all, first_real}
 use Rattle.hep_source.specs.Tree.{trees_of}
 use Rattle.hep_source.specs.View.{node_tree}
 use Rattle.hep_core.proofs.Declared.{declares-behind, names-before}

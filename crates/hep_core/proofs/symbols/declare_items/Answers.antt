@@ -1,8 +1,8 @@
 use Rattle.std.proofs.Common.{◌≡◌, ◌∙◌, ◌++◌, ap, sym, drop, ◌+◌}
 use Rattle.std.proofs.lemmas.Result.{err_from_is_err_and}
 use Rattle.hep_source.specs.declared.statement.PrintItem.TheVariants.{Expression, Characters}
-use Rattle.hep_source.specs.Names.{names_in, names_in_items, with_names, first_real}
-use Rattle.hep_core.specs.Symbols.{Reports, untyped_in}
+use Rattle.hep_source.specs.Names.{with_names}
+use Rattle.hep_core.specs.Symbols.{names_in, names_in_items, first_real, Reports, untyped_in}
 use Rattle.hep_core.proofs.Lists.{ahead}
 use Rattle.hep_core.proofs.Declared.{with_names-append, first_real-behind, names-before}
 use Rattle.hep_core.proofs.symbols.declare_items.Goals as goal

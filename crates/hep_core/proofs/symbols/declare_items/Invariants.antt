@@ -1,5 +1,6 @@
 use Rattle.std.proofs.Common.{◌≡◌, drop}
-use Rattle.hep_source.specs.Names.{with_names, names_in_items, first_real}
+use Rattle.hep_source.specs.Names.{with_names}
+use Rattle.hep_core.specs.Symbols.{names_in_items, first_real}
 use Rattle.hep_core.proofs.symbols.declare_items.Given as goal
 
 abbrev pub invariant-loop-item : goal.invariant-loop-item

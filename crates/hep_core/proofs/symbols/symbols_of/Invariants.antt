@@ -1,5 +1,5 @@
 use Rattle.std.proofs.Common.{◌≡◌, drop}
-use Rattle.hep_source.specs.Names.{with_statements, variables_of, first_untyped}
+use Rattle.hep_core.specs.Symbols.{with_statements, variables_of, first_untyped}
 use Rattle.hep_core.proofs.symbols.symbols_of.Given as goal
 
 abbrev pub invariant-loop-statement : goal.invariant-loop-statement

@@ -2,7 +2,7 @@ use Rattle.std.proofs.Common.{◌≡◌, ℕ, List, ◌∙◌, sym, ap, length, 
 use Rattle.std.specs.Prelude.{slice_get, Option}
 use Rattle.std.proofs.lemmas.Option.{slice_get-get_or}
 use Rattle.hepf.specs.Outcome.{first_choice, next_process}
-use Rattle.hep_core.specs.Value.{ready_after}
+use Rattle.hep_source.specs.Schedules.{next_ready}
 use Rattle.hepf.proofs.Schedules.{chosen}
 use Rattle.hepf.proofs.run.make_choices.Goals as goal
 
@@ -11,7 +11,7 @@ loop-index-preserved c =
     let old = c.loop-index.core in
     let all = c.as_slice-process-items.result.now in
     let i = c.loop-index.index in
-    let ready = ready_after old.program old.history in
+    let ready = next_ready old.program old.history in
     let here : slice_get all i ≡ Some (get_or all i 0) = slice_get-get_or all i 0 c.loop-index-test.true in
     let count : length old.history ≡ i = c.loop-index.invariant.made c.in-Ok.ensures.0 in
     let next : first_choice (slice_get all (length old.history)) ready ≡ Some (get_or all i 0) = ap (λ (k : ℕ). first_choice (slice_get all k) ready) count ∙ ap (λ (o : Option ℕ). first_choice o ready) here in

@@ -3,12 +3,13 @@ use Rattle.std.proofs.lemmas.Result.{err_from_is_err_and}
 use Rattle.hep_source.specs.declared.event.Entry.{Entry}
 use Rattle.hep_source.specs.Histories.{IsLegal}
 use Rattle.hep_source.specs.Run.{state_after}
+use Rattle.hep_source.specs.Schedules.{progress_after}
 use Rattle.hep_source.specs.Step.{step}
 use Rattle.hep_core.specs.Machine.{snapshot_of}
 use Rattle.hep_core.specs.Shown.{Shows}
 use Rattle.hep_core.specs.Kept.{core_value, kept_view}
 use Rattle.hep_core.specs.Value.{IsStop, stop_after}
-use Rattle.hep_core.proofs.Histories.{state_after-stepped, legal-stepped}
+use Rattle.hep_core.proofs.Histories.{state_after-stepped, unlisted-stepped, legal-stepped}
 use Rattle.hep_core.proofs.Viewed.{shows_view}
 use Rattle.hep_core.proofs.scheduler.Core.choose.Goals as goal
 
@@ -36,10 +37,13 @@ invariant_of-self-2 c =
     let lt : length h < i.limit = omega (arith, c.len.ensures) in
     let is : c.note.new.history.items ≡ h ++ e ∷ [] = c.note.ensures ∙ ap (λ xs. xs ++ e ∷ []) c.reserve.ensures.items in
     let h' = c.note.new.history.items in
+    let same : length s.activations ≡ length done.0.activations = ap length c.self.invariant.shown.activations ∙ sym (ap length done.2.activations) in
     let state : done.0 ≡ state_after i.image h' = sym (state_after-stepped i.image h p done.0 step_is) ∙ ap (state_after i.image) (sym is) in
     record {
       shown = subst (Shows i.image (snapshot_of c.step.new.self)) state done.2;
-      legal = subst (IsLegal i.image i.cells i.limit) (sym is) (legal-stepped i.image i.cells i.limit h p done.0 c.self.invariant.legal lt step_is);
+      unlisted = subst (λ es. progress_after i.image es ≡ record { state = state_after i.image es; listed = [] }) (sym is) (unlisted-stepped i.image h p done.0 c.self.invariant.unlisted step_is);
+      fits = c.self.invariant.fits;
+      legal = subst (IsLegal i.image i.cells i.limit) (sym is) (legal-stepped i.image i.cells i.limit h p done.0 c.self.invariant.legal lt same step_is);
       named = subst (IsStop i.image i.limit h') (sym none) tt;
     }
 

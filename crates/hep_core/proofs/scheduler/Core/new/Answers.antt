@@ -1,13 +1,18 @@
 use Rattle.std.proofs.Common.{◌≡◌, ◌≤◌, ◌∙◌, sym, ap, subst, arith, []}
-use Rattle.hep_source.specs.Layout.{used_cells}
+use Rattle.std.specs.Prelude.{IsSome}
+use Rattle.std.proofs.lemmas.Result.{err_from_is_err_and}
+use Rattle.hep_source.specs.Layout.{has_frame, layout_of}
 use Rattle.hep_source.specs.Histories.{AreEntries}
-use Rattle.hep_source.specs.Run.{state_after, opening}
+use Rattle.hep_source.specs.Opening.{opening}
+use Rattle.hep_source.specs.Run.{expand, state_after}
+use Rattle.hep_source.specs.Schedules.{progress_after}
 use Rattle.hep_source.specs.Views.{view_of}
 use Rattle.hep_core.specs.Machine.{snapshot_of}
 use Rattle.hep_core.specs.Shown.{Shows}
 use Rattle.hep_core.specs.Kept.{kept_view}
 use Rattle.hep_core.specs.Value.{opening_of}
-use Rattle.hep_core.proofs.Histories.{state_after-nil}
+use Rattle.hep_core.proofs.Running.{main_cells, has_gap, has_no_gap}
+use Rattle.hep_core.proofs.Histories.{state_after-nil, room-nil, unlisted-nil}
 use Rattle.hep_core.proofs.Viewed.{shows_view, shows_opening}
 use Rattle.hep_core.proofs.scheduler.Core.new.Goals as goal
 
@@ -17,12 +22,16 @@ invariant_of-result c =
     let none : c.new.result.items ≡ [] = c.new.ensures.items in
     let m = snapshot_of c.in_ok-machine.machine in
     let state = ap (state_after program) none ∙ state_after-nil program in
-    let shown : Shows program m (opening program) = shows_opening program m c.variables-variables.result c.in_ok-machine.ensures c.variables-variables.ensures in
+    let runs = c.variables-variables.ensures.runs in
+    let shown : Shows program m (opening program) = shows_opening program m c.variables-variables.result runs c.in_ok-machine.ensures c.variables-variables.ensures.count in
+    let fits : main_cells program ≤ c.args.cells = omega (arith, c.variables-variables.ensures.count) in
     record {
       shown = subst (Shows program m) (sym state) shown;
+      unlisted = subst (λ es. progress_after program es ≡ record { state = state_after program es; listed = [] }) (sym none) (unlisted-nil program);
+      fits = omega (arith, c.variables-variables.ensures.count);
       legal = record {
         within = rw none (omega arith);
-        room = omega (arith, c.variables-variables.ensures);
+        room = subst (λ es. IsSome (layout_of program c.args.cells has_frame (expand es))) (sym none) (room-nil program c.args.cells (has_gap program c.args.cells runs fits));
         entries = subst (AreEntries program (opening program)) (sym none) tt;
       };
       named = tt;
@@ -33,7 +42,19 @@ returns c =
     let program = c.args.image in
     let none : c.new.result.items ≡ [] = c.new.ensures.items in
     let m = snapshot_of c.in_ok-machine.machine in
-    let shown : Shows program m (opening program) = shows_opening program m c.variables-variables.result c.in_ok-machine.ensures c.variables-variables.ensures in
-    let view : kept_view program m ≡ view_of program (state_after program []) = shows_view program m (opening program) shown ∙ ap (view_of program) (sym (state_after-nil program)) in
-    let room : used_cells program ≤ c.args.cells = omega (arith, c.variables-variables.ensures) in
-    (room, λ i. record (opening_of program c.args.cells c.args.steps) { history = none i; view = view i })
+    let runs = c.variables-variables.ensures.runs in
+    let shown : Shows program m (opening program) = shows_opening program m c.variables-variables.result runs c.in_ok-machine.ensures c.variables-variables.ensures.count in
+    let view : kept_view program m ≡ view_of program has_frame (state_after program []) = shows_view program m (opening program) shown ∙ ap (view_of program has_frame) (sym (state_after-nil program)) in
+    let fits : main_cells program ≤ c.args.cells = omega (arith, c.variables-variables.ensures.count) in
+    (has_gap program c.args.cells runs fits, λ i. record (opening_of program c.args.cells c.args.steps) { history = none i; view = view i })
+
+pub returns-then-cells-variables : goal.returns-then-cells-variables
+returns-then-cells-variables c =
+    has_no_gap c.args.image c.args.cells c.variables-variables.ensures.runs (omega (arith, c.variables-variables.ensures.count, c.if-cells-variables.true))
+
+pub returns-in_err-machine : goal.returns-in_err-machine
+returns-in_err-machine c =
+    let program = c.args.image in
+    let p = err_from_is_err_and c.from_residual.result c.from_residual.ensures.1 in
+    let fits : main_cells program ≤ c.args.cells = omega (arith, c.variables-variables.ensures.count) in
+    rw (p.1, p.2) (has_gap program c.args.cells c.variables-variables.ensures.runs fits)

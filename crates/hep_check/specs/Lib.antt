@@ -1,0 +1,9 @@
+pub mod Violations
+pub mod Statements
+pub mod Names
+pub mod Types
+pub mod Common
+pub mod Labels
+pub mod Nesting
+pub mod Data
+pub mod Conditions

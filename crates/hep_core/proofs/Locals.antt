@@ -1,0 +1,92 @@
+-- The variables that the main program owns are those of the symbol table.
+use Rattle.std.proofs.Common.{◌≡◌, Bool, true, List, [], ◌∷◌, ◌++◌, length, refl, ap, ◌∙◌, None}
+use Rattle.std.specs.Prelude.{◌&&◌, ◌==◌, not, if◌then◌else◌, cond, is_some}
+use Rattle.std.specs.List.{list_all, flat_map, filter}
+use Rattle.hep_source.specs.declared.name.Name.{Name}
+use Rattle.hep_source.specs.declared.name.Place.{Place}
+use Rattle.hep_source.specs.declared.declaration.Target.{Target}
+use Rattle.hep_source.specs.declared.operator.Operator.TheVariants.{Arithmetic}
+use Rattle.hep_source.specs.declared.statement.PrintItem.{PrintItem}
+use Rattle.hep_source.specs.declared.statement.PrintItem.TheVariants.{Expression, Characters}
+use Rattle.hep_source.specs.declared.statement.Form.{Form}
+use Rattle.hep_source.specs.declared.statement.Form.TheVariants as form
+use Rattle.hep_source.specs.declared.statement.Statement.{Statement}
+use Rattle.hep_source.specs.Tree.{Tree, constant, place, parenthesized, signed, binary}
+use Rattle.hep_source.specs.Declarations.{is_nonempty, names_of_constants, common_block, is_constant_name}
+use Rattle.hep_source.specs.Names.{is_among, with_names}
+use Rattle.hep_source.specs.Units.{Units, unit_at, main_unit, names_of_places}
+use Rattle.hep_source.specs.Variables.{array_place, places_in, places_in_target, places_in_item, places_in_form, places_in_statement, is_local, names_of, locals_of}
+use Rattle.hep_core.specs.Runnable.{is_variable, may_be_left, runs_item, is_arithmetic, runs_form, first_unrun_in}
+use Rattle.hep_core.specs.Symbols.{main_variables, names_in, names_in_items, names_in_form, with_statements, variables_of}
+use Rattle.hep_core.proofs.Running.{AllRun, both, no_elements, arithmetic_may_be_left, item_left, no_named_constants, no_common_block, no_dummies, main_runs}
+use Rattle.hep_core.proofs.Declared.{with_names-append}
+
+names_append : (ps qs : List Place) → names_of_places (ps ++ qs) ≡ names_of_places ps ++ names_of_places qs
+names_append [] qs = refl
+names_append (p ∷ ps) qs = ap (λ xs. p.name ∷ xs) (names_append ps qs)
+
+module _ (unit : List Statement) where
+  -- ---- the names of a statement are those of its places
+
+  tree_names : (t : Tree) → may_be_left t ≡ true → names_of_places (places_in unit t) ≡ names_in t
+  tree_names (constant v) e = refl
+  tree_names (place p) e = refl
+  tree_names (parenthesized t) e = tree_names t e
+  tree_names (signed s t) e = tree_names t e
+  tree_names (binary (Arithmetic o) a b) e =
+      let f = both (may_be_left a) (may_be_left b) e in
+      names_append (places_in unit a) (places_in unit b) ∙ ap (λ xs. xs ++ names_of_places (places_in unit b)) (tree_names a f.0) ∙ ap (λ xs. names_in a ++ xs) (tree_names b f.1)
+  tree_names _ e = absurd cc
+
+  items_names : (items : List PrintItem) → list_all runs_item items ≡ true → names_of_places (flat_map (places_in_item unit) items) ≡ names_in_items items
+  items_names [] e = refl
+  items_names (Expression t ∷ items) e =
+      let f = both (runs_item (Expression t)) (list_all runs_item items) e in
+      names_append (places_in unit t) (flat_map (places_in_item unit) items)
+      ∙ ap (λ xs. xs ++ names_of_places (flat_map (places_in_item unit) items)) (tree_names t (item_left (Expression t) f.0))
+      ∙ ap (λ xs. names_in t ++ xs) (items_names items f.1)
+  items_names (Characters cs ∷ items) e = items_names items e
+
+  target_places : (x : Target) → is_variable x ≡ true → places_in_target unit x ≡ x.place ∷ []
+  target_places x e =
+      let f = both (not x.place.name.asynchronous) (length x.subscripts == 0) e in
+      ap (λ (ts : List Tree). (if is_nonempty ts then array_place unit x.place else x.place ∷ []) ++ flat_map (places_in unit) ts) (no_elements x.subscripts f.1)
+
+  form_names : (f : Form) → runs_form f ≡ true → names_of_places (places_in_form unit f) ≡ names_in_form f
+  form_names (form.Program p) e = refl
+  form_names (form.Assign x t) e =
+      let f = both (is_variable x) (is_arithmetic t) e in
+      ap (λ ps. names_of_places (ps ++ places_in unit t)) (target_places x f.0) ∙ ap (λ xs. x.place.name ∷ xs) (tree_names t (arithmetic_may_be_left t f.1))
+  form_names (form.Print items) e = items_names items e
+  form_names form.End e = refl
+  form_names _ e = absurd cc
+
+  statement_names : (s : Statement) → s.conditions ≡ [] → runs_form s.form ≡ true → names_of_places (places_in_statement unit s) ≡ names_in_form s.form
+  statement_names s none e = ap (λ (ts : List Tree). names_of_places (flat_map (places_in unit) ts ++ places_in_form unit s.form)) none ∙ form_names s.form e
+
+  all_names : (ss : List Statement) (xs : List Name) → AllRun ss → with_names xs (names_of_places (flat_map (places_in_statement unit) ss)) ≡ with_statements xs ss
+  all_names [] xs h = refl
+  all_names (s ∷ ss) xs h =
+      let more = names_of_places (flat_map (places_in_statement unit) ss) in
+      ap (with_names xs) (names_append (places_in_statement unit s) (flat_map (places_in_statement unit) ss))
+      ∙ ap (λ ys. with_names xs (ys ++ more)) (statement_names s h.0.0 h.0.1)
+      ∙ with_names-append xs (names_in_form s.form) more
+      ∙ all_names ss (with_names xs (names_in_form s.form)) h.1
+
+-- ---- all of them are local
+
+all_pass : (p : Name → Bool) → ((x : Name) → p x ≡ true) → (xs : List Name) → filter p xs ≡ xs
+all_pass p h [] = refl
+all_pass p h (x ∷ xs) = ap (λ b. cond b (x ∷ filter p xs) (filter p xs)) (h x) ∙ ap (λ ys. x ∷ ys) (all_pass p h xs)
+
+local_is : (unit : List Statement) → AllRun unit → (x : Name) → is_local unit x ≡ true
+local_is unit h x =
+    ap (λ ds. not (is_among x ds) && (not (is_some (common_block unit x)) && not (is_constant_name unit x))) (no_dummies unit h)
+    ∙ ap (λ o. not (is_some o) && not (is_constant_name unit x)) (no_common_block unit h x)
+    ∙ ap (λ cs. not (is_among x (names_of_constants cs))) (no_named_constants unit h)
+
+locals_are : (unit : List Statement) → AllRun unit → locals_of unit ≡ variables_of unit
+locals_are unit h = all_pass (is_local unit) (local_is unit h) (names_of unit) ∙ all_names unit unit [] h
+
+pub main_variables_are : (program : Units) → first_unrun_in program ≡ None → main_variables program ≡ variables_of (unit_at program (main_unit program))
+main_variables_are program e = locals_are (unit_at program (main_unit program)) (main_runs program e)

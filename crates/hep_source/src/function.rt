@@ -1,0 +1,33 @@
+//! Intrinsic functions.
+
+/// A function of integers that gives an integer (X3.9-1978, 15.10).
+#[derive(Clone, Copy, Debug, PartialEq, Eq)]
+pub enum PureFunction {
+    /// ABS and IABS.
+    AbsoluteValue,
+    /// MOD.
+    Remainder,
+    /// SIGN and ISIGN: the size of the first argument with the sign of the second.
+    TransferOfSign,
+    /// DIM and IDIM.
+    PositiveDifference,
+    /// MAX and MAX0.
+    Largest,
+    /// MIN and MIN0.
+    Smallest,
+}
+
+/// A function of an asynchronous scalar or element (`docs/LANGUAGE.md`).
+#[derive(Clone, Copy, Debug, PartialEq, Eq)]
+pub enum StateFunction {
+    /// FULL: whether it is full.
+    IsFull,
+    /// EMPTY: whether it is empty.
+    IsEmpty,
+    /// VALUE: its value, whatever its state is.
+    ValueOf,
+    /// SETE: its value, and it becomes empty.
+    SetEmpty,
+    /// WAITF: its value, once it is full.
+    WaitFull,
+}
