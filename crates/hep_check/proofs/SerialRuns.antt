@@ -7,7 +7,7 @@ use Rattle.hep_source.specs.declared.event.Kind.{Kind}
 use Rattle.hep_source.specs.declared.record.Item.{Item}
 use Rattle.hep_source.specs.declared.record.Item.TheVariants.{Int}
 use Rattle.hep_source.specs.declared.value.Value.TheVariants as value
-use Rattle.hep_source.specs.Layout.{Layout, layout_turned, opening_layout, used_cells, common_cells, is_made}
+use Rattle.hep_source.specs.Layout.{Layout, layout_turned, opening_layout, placing_from, layout_of, used_cells, common_cells, is_made}
 use Rattle.hep_source.specs.Opening.{opening}
 use Rattle.hep_source.specs.Schedules.{Progress, after_step, after_entry, ready_in, next_of_ready, living_from}
 use Rattle.hep_source.specs.Run.{turn, run, run_from, expand, state_after}
@@ -160,7 +160,7 @@ unfoldable pub runs : List String → Report
 unfolding report
 runs lines = report lines 65536 is_made 10000000 []
 
--- ---- the history, and the cells in use
+-- ---- the history, the cells in use, and where the frames are
 
 abbrev pub history_of : Result Units Refusal → ℕ → (State → ℕ → Bool) → ℕ → List ℕ → List Entry
 unfolding course
@@ -200,6 +200,16 @@ used_in (Ok program) has choices = used_behind program has (opening program) cho
 unfoldable pub used_along : List String → (State → ℕ → Bool) → List ℕ → List ℕ
 unfolding units_of opening turn_of
 used_along lines has choices = used_in (units_of lines) has choices
+
+abbrev pub layout_in : Result Units Refusal → ℕ → (State → ℕ → Bool) → List ℕ → Option Layout
+unfolding placing_from opening turn_of
+layout_in (Err e) cells has choices = None
+layout_in (Ok program) cells has choices = layout_of program cells has choices
+
+-- where the frames are in an arena of so many cells after these choices, none once a frame had no gap
+unfoldable pub layout_after : List String → ℕ → (State → ℕ → Bool) → List ℕ → Option Layout
+unfolding units_of placing_from opening turn_of
+layout_after lines cells has choices = layout_in (units_of lines) cells has choices
 
 abbrev pub frames_in : Result Units Refusal → List ℕ × ℕ
 frames_in (Err e) = ([], 0)

@@ -1,10 +1,10 @@
 -- Worked runs: what the definitions give for whole sources, from their lines to the end of the run.
-use Rattle.std.specs.Prelude.{◌≡◌, true, false, codes, List, [], ◌∷◌, ◌++◌, replicate, Some, refl}
+use Rattle.std.specs.Prelude.{◌≡◌, true, false, codes, List, [], ◌∷◌, ◌++◌, replicate, Some, None, refl}
 use Prim.Native.String.{String}
 use Rattle.hep_source.specs.declared.event.Kind.TheVariants.{Overflow, Range, Undefined, Shape, Step}
 use Rattle.hep_source.specs.declared.record.Item.TheVariants.{Truth, Text}
 use Rattle.hep_source.specs.Layout.{is_made, is_held}
-use Rattle.hep_check.proofs.SerialRuns.{report, runs, history, used_along, frames, view, done, all_wait, halted, arena_full, step_limit, no_such_process, refused, int, minus, one, numbers, fault, stands, waits_for_full, asynchronous, cell, unset_cell, entries_of}
+use Rattle.hep_check.proofs.SerialRuns.{report, runs, history, used_along, layout_after, frames, view, done, all_wait, halted, arena_full, step_limit, no_such_process, refused, int, minus, one, numbers, fault, stands, waits_for_full, asynchronous, cell, unset_cell, entries_of}
 
 -- ---- Reading
 
@@ -483,7 +483,7 @@ call_in_a_loop_kept_in_23_cells = refl
 
 abbrev call_in_a_longer_loop : List String
 call_in_a_longer_loop =
-    "      DO 10 I=1,200"
+    "      DO 10 I=1,1000"
     ∷ "   10 CALL S"
     ∷ "      END"
     ∷ "      SUBROUTINE S"
@@ -491,9 +491,40 @@ call_in_a_longer_loop =
     ∷ "      END"
     ∷ []
 
-call_in_a_longer_loop_runs : report call_in_a_longer_loop 6 is_held 10000000 [] ≡ record { records = []; faults = []; processes = []; entries = 802; used = 0; ending = done }
+call_in_a_longer_loop_in_6_cells : report call_in_a_longer_loop 6 is_held 10000000 [] ≡ record { records = []; faults = []; processes = []; entries = 4002; used = 0; ending = done }
 unfolding report
-call_in_a_longer_loop_runs = refl
+call_in_a_longer_loop_in_6_cells = refl
+
+call_in_a_longer_loop_history_in_6_cells : history call_in_a_longer_loop 6 is_held 10000000 [] ≡ entries_of (replicate 4002 (1, 1))
+unfolding history
+call_in_a_longer_loop_history_in_6_cells = refl
+
+-- no frame is left
+call_in_a_longer_loop_layout_in_6_cells : layout_after call_in_a_longer_loop 6 is_held (replicate 4002 1) ≡ Some []
+unfolding layout_after
+call_in_a_longer_loop_layout_in_6_cells = refl
+
+-- at the END of the last S
+call_in_a_longer_loop_in_3999_entries : report call_in_a_longer_loop 6 is_held 3999 [] ≡ record { records = []; faults = []; processes = stands 1 1 6 ∷ []; entries = 3999; used = 6; ending = step_limit }
+unfolding report
+call_in_a_longer_loop_in_3999_entries = refl
+
+-- the frame of the 1,000th S, behind that of the main program
+call_in_a_longer_loop_layout_in_3999_entries : layout_after call_in_a_longer_loop 6 is_held (replicate 3999 1) ≡ Some (record { activation = 1; first = 0; cells = 4 } ∷ record { activation = 1001; first = 4; cells = 2 } ∷ [])
+unfolding layout_after
+call_in_a_longer_loop_layout_in_3999_entries = refl
+
+call_in_a_longer_loop_in_5_cells : report call_in_a_longer_loop 5 is_held 10000000 [] ≡ record { records = []; faults = []; processes = stands 1 0 2 ∷ []; entries = 1; used = 4; ending = arena_full }
+unfolding report
+call_in_a_longer_loop_in_5_cells = refl
+
+call_in_a_longer_loop_history_in_5_cells : history call_in_a_longer_loop 5 is_held 10000000 [] ≡ entries_of ((1, 1) ∷ [])
+unfolding history
+call_in_a_longer_loop_history_in_5_cells = refl
+
+call_in_a_longer_loop_layout_in_5_cells : layout_after call_in_a_longer_loop 5 is_held (1 ∷ 1 ∷ []) ≡ None
+unfolding layout_after
+call_in_a_longer_loop_layout_in_5_cells = refl
 
 -- ---- Processes
 
@@ -666,6 +697,31 @@ creator_returns_uses = refl
 creator_returns_uses_given_back : used_along creator_returns is_held (1 ∷ 1 ∷ 1 ∷ 1 ∷ 2 ∷ 1 ∷ 2 ∷ []) ≡ 1 ∷ 3 ∷ 6 ∷ 6 ∷ 8 ∷ 8 ∷ 6 ∷ 0 ∷ []
 unfolding used_along
 creator_returns_uses_given_back = refl
+
+-- the frames of B, A and the main program, which have ended one after the other, stay until C has ended
+abbrev creators_return : List String
+creators_return =
+    "      PROGRAM P"
+    ∷ "      CALL A"
+    ∷ "      END"
+    ∷ "      SUBROUTINE A"
+    ∷ "      CALL B"
+    ∷ "      END"
+    ∷ "      SUBROUTINE B"
+    ∷ "      CREATE C(K)"
+    ∷ "      END"
+    ∷ "      SUBROUTINE C(J)"
+    ∷ "      J=7"
+    ∷ "      END"
+    ∷ []
+
+creators_return_uses : used_along creators_return is_held (1 ∷ 1 ∷ 1 ∷ 1 ∷ 1 ∷ 1 ∷ 2 ∷ 2 ∷ []) ≡ 1 ∷ 2 ∷ 4 ∷ 7 ∷ 7 ∷ 7 ∷ 7 ∷ 7 ∷ 0 ∷ []
+unfolding used_along
+creators_return_uses = refl
+
+creators_return_layout : layout_after creators_return 7 is_held (replicate 6 1) ≡ Some (record { activation = 1; first = 0; cells = 1 } ∷ record { activation = 2; first = 1; cells = 1 } ∷ record { activation = 3; first = 2; cells = 2 } ∷ record { activation = 4; first = 4; cells = 3 } ∷ [])
+unfolding layout_after
+creators_return_layout = refl
 
 abbrev states : List String
 states =

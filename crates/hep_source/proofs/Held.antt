@@ -1,17 +1,18 @@
 -- Which activations are held.
-use Rattle.std.proofs.Common.{◌≡◌, ◌⊎◌, inl, inr, ℕ, zero, suc, ◌<◌, ◌≤◌, Bool, true, false, List, [], ◌∷◌, ◌++◌, length, Option, Some, None, refl, sym, ap, ◌∙◌, subst, arith}
-use Rattle.std.specs.Prelude.{◌||◌, ◌↔◌, if◌then◌else◌, slice_get, nat_eq}
+use Rattle.std.proofs.Common.{◌≡◌, ◌⊎◌, inl, inr, ℕ, zero, suc, ◌≤◌, Bool, true, false, List, [], ◌∷◌, ◌++◌, Option, Some, None, refl, sym, ap, ◌∙◌, subst, arith}
+use Rattle.std.specs.Prelude.{◌||◌, ◌↔◌, slice_get, nat_eq}
 use Rattle.std.specs.List.{flat_map}
+use Rattle.std.specs.Option.{option_map_or}
 use Rattle.std.proofs.lemmas.Bool.{eq-eqb}
 use Rattle.std.proofs.lemmas.Bool.Decides.{eqb_tells}
 use Rattle.std.proofs.lemmas.List.Folds.{list_any-append}
 use Rattle.std.proofs.lemmas.Option.{none-some, same_Some}
 use Rattle.hep_source.specs.Laws.{parent_of, IsOnStack, HasHeldChild}
-use Rattle.hep_source.specs.Layout.{activations_on, with_parent, is_number_among, with_parents, is_held}
+use Rattle.hep_source.specs.Layout.{activations_on, is_number_among, ancestry, is_held}
 use Rattle.hep_source.specs.Run.{run}
 use Rattle.hep_source.specs.State.{Process, State, numbered}
 use Rattle.hep_source.specs.Units.{Units}
-use Rattle.hep_source.proofs.Ages.{IsAged, aged, older_parent}
+use Rattle.hep_source.proofs.Ages.{IsAged, aged, older_parent, on_stack_made}
 
 -- ---- numbers among others
 
@@ -30,82 +31,79 @@ or_right false b e = e
 among-append : (a : ℕ) (xs ys : List ℕ) → is_number_among a (xs ++ ys) ≡ (is_number_among a xs || is_number_among a ys)
 among-append a xs ys = list_any-append (nat_eq a) xs ys
 
--- ---- one parent
+among-head : (a : ℕ) (xs : List ℕ) → is_number_among a (a ∷ xs) ≡ true
+among-head a xs = or_left (nat_eq a a) (is_number_among a xs) (eq-eqb a a refl)
 
--- the numbers with the parent of one of them
-abbrev with_its_parent : State → ℕ → List ℕ → List ℕ
-with_its_parent s c xs = if is_number_among c xs then with_parent (parent_of s c) xs else xs
+among-tail : (a b : ℕ) (xs : List ℕ) → is_number_among a xs ≡ true → is_number_among a (b ∷ xs) ≡ true
+among-tail a b xs h = or_right (nat_eq a b) (is_number_among a xs) h
 
-among-with_parent : (a : ℕ) (parent : Option ℕ) (xs : List ℕ) → is_number_among a xs ≡ true → is_number_among a (with_parent parent xs) ≡ true
-among-with_parent a None xs h = h
-among-with_parent a (Some b) xs h = or_right (nat_eq a b) (is_number_among a xs) h
+among-cases : (a b : ℕ) (xs : List ℕ) → is_number_among a (b ∷ xs) ≡ true → (a ≡ b) ⊎ (is_number_among a xs ≡ true)
+among-cases a b xs h = elim (or_cases (nat_eq a b) (is_number_among a xs) h) [
+  | inl same ↦ elim (eqb_tells a b) [ inl t ↦ inl t.1 | inr t ↦ absurd cc ]
+  | inr behind ↦ inr behind
+]
 
-still_among : (s : State) (a c : ℕ) (xs : List ℕ) → is_number_among a xs ≡ true → is_number_among a (with_its_parent s c xs) ≡ true
-still_among s a c xs h =
-    elim (is_number_among c xs) as (λ (b : Bool). is_number_among a (if b then with_parent (parent_of s c) xs else xs) ≡ true)
-    [ true ↦ among-with_parent a (parent_of s c) xs h | false ↦ h ]
-
-parent_among : (s : State) (a c : ℕ) (xs : List ℕ) → is_number_among c xs ≡ true → parent_of s c ≡ Some a → is_number_among a (with_its_parent s c xs) ≡ true
-parent_among s a c xs h e = rw h (rw e (or_left (nat_eq a a) (is_number_among a xs) (eq-eqb a a refl)))
-
--- what is among them then was so before, or is that parent
-new_among : (s : State) (a c : ℕ) (xs : List ℕ) → is_number_among a (with_its_parent s c xs) ≡ true → (is_number_among a xs ≡ true) ⊎ ((is_number_among c xs ≡ true) × (parent_of s c ≡ Some a))
-new_among s a c xs h = by_child (is_number_among c xs) refl h where
-  by_parent : is_number_among c xs ≡ true → (o : Option ℕ) → parent_of s c ≡ o → is_number_among a (with_parent o xs) ≡ true → (is_number_among a xs ≡ true) ⊎ ((is_number_among c xs ≡ true) × (parent_of s c ≡ Some a))
-  by_parent child None e k = inl k
-  by_parent child (Some b) e k = elim (or_cases (nat_eq a b) (is_number_among a xs) k) [
-    | inl same ↦ elim (eqb_tells a b) [ inl t ↦ inr (child, e ∙ ap (λ n. Some n) (sym t.1)) | inr t ↦ absurd cc ]
-    | inr before ↦ inl before
-  ]
-
-  by_child : (b : Bool) → is_number_among c xs ≡ b → is_number_among a (if b then with_parent (parent_of s c) xs else xs) ≡ true → (is_number_among a xs ≡ true) ⊎ ((is_number_among c xs ≡ true) × (parent_of s c ≡ Some a))
-  by_child true e k = by_parent e (parent_of s c) refl k
-  by_child false e k = inl k
-
--- ---- all parents
-
-stays_among : (s : State) (n a : ℕ) (xs : List ℕ) → is_number_among a xs ≡ true → is_number_among a (with_parents s n xs) ≡ true
-stays_among s zero a xs h = h
-stays_among s (suc n) a xs h = stays_among s n a (with_its_parent s (suc n) xs) (still_among s a (suc n) xs h)
-
--- the parents of those up to n have lower numbers, so a higher one was there before
-higher_was : (s : State) (n a : ℕ) (xs : List ℕ) → IsAged s → n < a → is_number_among a (with_parents s n xs) ≡ true → is_number_among a xs ≡ true
-higher_was s zero a xs aged lt h = h
-higher_was s (suc n) a xs aged lt h =
-    elim (new_among s a (suc n) xs (higher_was s n a (with_its_parent s (suc n) xs) aged (omega arith) h)) [
-      | inl before ↦ before
-      | inr parent ↦ let older = older_parent s (suc n) a aged parent.1 in absurd (omega arith)
+-- what is among the lists of some numbers is among the list of one of them, and the other way round
+from_one : (lists : ℕ → List ℕ) (a : ℕ) (xs : List ℕ) → is_number_among a (flat_map lists xs) ≡ true → (x : ℕ) × (is_number_among x xs ≡ true) × (is_number_among a (lists x) ≡ true)
+from_one lists a [] h = absurd cc
+from_one lists a (x ∷ xs) h =
+    elim (or_cases (is_number_among a (lists x)) (is_number_among a (flat_map lists xs)) (sym (among-append a (lists x) (flat_map lists xs)) ∙ h)) [
+      | inl here ↦ (x, among-head x xs, here)
+      | inr behind ↦ let found = from_one lists a xs behind in (found.0, among-tail found.0 x xs found.1, found.2)
     ]
 
-highest_closed : (s : State) (n b : ℕ) (xs : List ℕ) → IsAged s → parent_of s (suc n) ≡ Some b → is_number_among (suc n) (with_parents s (suc n) xs) ≡ true → is_number_among b (with_parents s (suc n) xs) ≡ true
-highest_closed s n b xs aged e h =
-    let before : is_number_among (suc n) xs ≡ true =
-    elim (new_among s (suc n) (suc n) xs (higher_was s n (suc n) (with_its_parent s (suc n) xs) aged (omega arith) h)) [
-      | inl was ↦ was
-      | inr own ↦ let older = older_parent s (suc n) (suc n) aged own.1 in absurd (omega arith)
-    ] in
-    stays_among s n b (with_its_parent s (suc n) xs) (parent_among s b (suc n) xs before e)
-
-closed : (s : State) (n a b : ℕ) (xs : List ℕ) → IsAged s → 1 ≤ a → a ≤ n → parent_of s a ≡ Some b → is_number_among a (with_parents s n xs) ≡ true → is_number_among b (with_parents s n xs) ≡ true
-closed s zero a b xs aged one le e h = absurd (omega arith)
-closed s (suc n) a b xs aged one le e h = elim (eqb_tells a (suc n)) [
+to_all : (lists : ℕ → List ℕ) (a x : ℕ) (xs : List ℕ) → is_number_among x xs ≡ true → is_number_among a (lists x) ≡ true → is_number_among a (flat_map lists xs) ≡ true
+to_all lists a x [] e h = absurd cc
+to_all lists a x (y ∷ ys) e h = elim (among-cases x y ys e) [
   | inl same ↦
-      highest_closed s n b xs aged (subst (λ c. parent_of s c ≡ Some b) same.1 e) (subst (λ c. is_number_among c (with_parents s (suc n) xs) ≡ true) same.1 h)
-  | inr other ↦
-      let differ = other.1 in
-      closed s n a b (with_its_parent s (suc n) xs) aged one (omega arith) e h
+      let here = subst (λ z. is_number_among a (lists z) ≡ true) same h in
+      among-append a (lists y) (flat_map lists ys) ∙ or_left (is_number_among a (lists y)) (is_number_among a (flat_map lists ys)) here
+  | inr behind ↦
+      among-append a (lists y) (flat_map lists ys) ∙ or_right (is_number_among a (lists y)) (is_number_among a (flat_map lists ys)) (to_all lists a x ys behind h)
 ]
 
--- those that weren't there before are parents
-parents_among : (s : State) (n a : ℕ) (xs : List ℕ) → is_number_among a (with_parents s n xs) ≡ true → (is_number_among a xs ≡ true) ⊎ ((c : ℕ) × (is_number_among c (with_parents s n xs) ≡ true) × (parent_of s c ≡ Some a))
-parents_among s zero a xs h = inl h
-parents_among s (suc n) a xs h = elim (parents_among s n a (with_its_parent s (suc n) xs) h) [
-  | inl there ↦ elim (new_among s a (suc n) xs there) [
-    | inl before ↦ inl before
-    | inr parent ↦ inr (suc n, stays_among s n (suc n) (with_its_parent s (suc n) xs) (still_among s (suc n) (suc n) xs parent.0), parent.1)
+-- ---- ancestries
+
+-- the ancestry of a parent, if any
+abbrev above : State → ℕ → Option ℕ → List ℕ
+above s n o = option_map_or (ancestry s n) o []
+
+-- activation a is the parent of one of these
+abbrev HasChildAmong : State → ℕ → List ℕ → Type 0
+HasChildAmong s a xs = (c : ℕ) × (is_number_among c xs ≡ true) × (parent_of s c ≡ Some a)
+
+-- what is in the ancestry of x is x, or the parent of what is in it
+ancestor_is : (s : State) (n a x : ℕ) → is_number_among a (ancestry s n x) ≡ true → (a ≡ x) ⊎ HasChildAmong s a (ancestry s n x)
+ancestor_is s zero a x h = absurd cc
+ancestor_is s (suc n) a x h = elim (among-cases a x (above s n (parent_of s x)) h) [
+  | inl same ↦ inl same
+  | inr higher ↦ inr (by_parent (λ b. ancestor_is s n a b) (parent_of s x) refl higher)
+] where
+  by_parent : ((b : ℕ) → is_number_among a (ancestry s n b) ≡ true → (a ≡ b) ⊎ HasChildAmong s a (ancestry s n b)) → (o : Option ℕ) → parent_of s x ≡ o → is_number_among a (above s n o) ≡ true → HasChildAmong s a (x ∷ above s n o)
+  by_parent more None e k = absurd cc
+  by_parent more (Some b) e k = elim (more b k) [
+    | inl same ↦ (x, among-head x (ancestry s n b), e ∙ ap (λ m. Some m) (sym same))
+    | inr child ↦ (child.0, among-tail child.0 x (ancestry s n b) child.1, child.2)
   ]
-  | inr child ↦ inr child
-]
+
+-- an ancestry begins with its own activation
+itself : (s : State) (n a : ℕ) → 1 ≤ n → is_number_among a (ancestry s n a) ≡ true
+itself s zero a le = absurd (omega arith)
+itself s (suc n) a le = among-head a (above s n (parent_of s a))
+
+-- with an activation its parent is in an ancestry that is long enough
+closed : (s : State) (n a c x : ℕ) → IsAged s → x ≤ n → parent_of s c ≡ Some a → is_number_among c (ancestry s n x) ≡ true → is_number_among a (ancestry s n x) ≡ true
+closed s zero a c x aged le e h = absurd cc
+closed s (suc n) a c x aged le e h = elim (among-cases c x (above s n (parent_of s x)) h) [
+  | inl same ↦ let f = subst (λ m. parent_of s m ≡ Some a) same e in rw f (own f)
+  | inr higher ↦ among-tail a x (above s n (parent_of s x)) (by_parent (λ b. closed s n a c b aged) (parent_of s x) refl higher)
+] where
+  own : parent_of s x ≡ Some a → is_number_among a (x ∷ ancestry s n a) ≡ true
+  own f = let older = older_parent s x a aged f in among-tail a x (ancestry s n a) (itself s n a (omega arith))
+
+  by_parent : ((b : ℕ) → b ≤ n → parent_of s c ≡ Some a → is_number_among c (ancestry s n b) ≡ true → is_number_among a (ancestry s n b) ≡ true) → (o : Option ℕ) → parent_of s x ≡ o → is_number_among c (above s n o) ≡ true → is_number_among a (above s n o) ≡ true
+  by_parent more None f k = absurd cc
+  by_parent more (Some b) f k = let older = older_parent s x b aged f in more b (omega arith) e k
 
 -- ---- the activations on stacks
 
@@ -134,16 +132,29 @@ stack_among a qs (suc i) q e h = some_on a qs i q e h
 
 -- ---- held activations
 
+-- a held activation is in the ancestry of one on a stack
+below_held : (s : State) (a : ℕ) → is_held s a ≡ true → (x : ℕ) × (is_number_among x (flat_map activations_on s.processes) ≡ true) × (is_number_among a (ancestry s x x) ≡ true)
+below_held s a h = from_one (λ x. ancestry s x x) a (flat_map activations_on s.processes) h
+
+-- what is in such an ancestry is held
+ancestor_held : (s : State) (a x : ℕ) → is_number_among x (flat_map activations_on s.processes) ≡ true → is_number_among a (ancestry s x x) ≡ true → is_held s a ≡ true
+ancestor_held s a x on h = to_all (λ y. ancestry s y y) a x (flat_map activations_on s.processes) on h
+
 held_from : (s : State) (a : ℕ) → is_held s a ≡ true → IsOnStack s a ⊎ HasHeldChild s a
-held_from s a h = elim (parents_among s (length s.activations) a (flat_map activations_on s.processes) h)
-    [ inl on ↦ inl (from_stack s a on) | inr child ↦ inr child ]
+held_from s a h =
+    let found = below_held s a h in
+    elim (ancestor_is s found.0 a found.0 found.2) [
+      | inl same ↦ inl (from_stack s a (subst (λ x. is_number_among x (flat_map activations_on s.processes) ≡ true) (sym same) found.1))
+      | inr child ↦ inr (child.0, ancestor_held s child.0 found.0 found.1 child.1, child.2)
+    ]
 
 to_held : (s : State) (a : ℕ) → IsAged s → IsOnStack s a ⊎ HasHeldChild s a → is_held s a ≡ true
 to_held s a aged (inl on) =
-    stays_among s (length s.activations) a (flat_map activations_on s.processes) (stack_among a s.processes on.0 on.1 on.2 on.3)
+    let made = on_stack_made s a aged on in
+    ancestor_held s a a (stack_among a s.processes on.0 on.1 on.2 on.3) (itself s a a made.0)
 to_held s a aged (inr child) =
-    let older = older_parent s child.0 a aged child.2 in
-    closed s (length s.activations) child.0 a (flat_map activations_on s.processes) aged (omega arith) older.2 child.2 child.1
+    let found = below_held s child.0 child.1 in
+    ancestor_held s a found.0 found.1 (closed s found.0 a child.0 found.0 aged (omega arith) child.2 found.2)
 
 pub held_is : (program : Units) (ps : List ℕ) (a : ℕ) → (is_held (run program ps) a ≡ true) ↔ (IsOnStack (run program ps) a ⊎ HasHeldChild (run program ps) a)
 held_is program ps a = (held_from (run program ps) a, to_held (run program ps) a (aged program ps))

@@ -1,6 +1,6 @@
 -- Frames and the arena: docs/MACHINE.md.
 use Rattle.std.specs.Prelude.{ℕ, zero, suc, ◌+◌, max, Bool, true, nat_eq, nat_le, nat_lt, if◌then◌else◌, List, [], ◌∷◌, length, Option, Some, None}
-use Rattle.std.specs.Option.{option_map}
+use Rattle.std.specs.Option.{option_map, option_map_or}
 use Rattle.std.specs.List.{flat_map, filter, list_any}
 use Rattle.hep_source.specs.Constants.{cells_of_all}
 use Rattle.hep_source.specs.Declarations.{Block, names_in_block, blocks_of}
@@ -29,22 +29,17 @@ abbrev pub activations_on : Process → List ℕ
 activations_on [] = []
 activations_on (l ∷ ls) = l.activation ∷ activations_on ls
 
-abbrev pub with_parent : Option ℕ → List ℕ → List ℕ
-with_parent None held = held
-with_parent (Some a) held = a ∷ held
-
 abbrev pub is_number_among : ℕ → List ℕ → Bool
 is_number_among a held = list_any (nat_eq a) held
 
--- these, and the parents of those among them that have a number up to n; a parent has a lower number than its child
-abbrev pub with_parents : State → ℕ → List ℕ → List ℕ
-with_parents s zero held = held
-with_parents s (suc n) held =
-    with_parents s n (if is_number_among (suc n) held then with_parent (activation_of s (suc n)).parent held else held)
+-- an activation, its parent, the parent's parent and so on, n of them at most
+abbrev pub ancestry : State → ℕ → ℕ → List ℕ
+ancestry s zero a = []
+ancestry s (suc n) a = a ∷ option_map_or (ancestry s n) (activation_of s a).parent []
 
--- the activations on a stack, and the parent of each held one
+-- the activations on stacks, each with its ancestry: a parent has a lower number than its child, so that of a has no more than a
 abbrev pub held : State → List ℕ
-held s = with_parents s (length s.activations) (flat_map activations_on s.processes)
+held s = flat_map (λ a. ancestry s a a) (flat_map activations_on s.processes)
 
 abbrev pub is_held : State → ℕ → Bool
 is_held s a = is_number_among a (held s)
