@@ -11,9 +11,9 @@ use Rattle.hep_source.specs.Layout.{Layout, layout_turned, opening_layout, placi
 use Rattle.hep_source.specs.Opening.{opening}
 use Rattle.hep_source.specs.Schedules.{Progress, after_step, after_entry, ready_in, next_of_ready, living_from}
 use Rattle.hep_source.specs.Run.{turn, run, run_from, expand, state_after}
-use Rattle.hep_source.specs.State.{State}
+use Rattle.hep_source.specs.Processes.{living}
+use Rattle.hep_source.specs.State.{State, Level, Process, Cell, Location, local}
 use Rattle.hep_source.specs.Step.{Turn, stepped, waiting, absent, turn_of}
-use Rattle.hep_source.specs.Storage.{Cell, Location, local}
 use Rattle.hep_source.specs.Units.{Units}
 use Rattle.hep_source.specs.Variables.{frame_cells}
 use Rattle.hep_source.specs.Views.{Standing, standings_from, View, view_of}
@@ -95,9 +95,14 @@ abbrev pub if_turned : Course → Result Course Ending → (Course → Course ×
 if_turned c (Err e) more = (c, e)
 if_turned c (Ok d) more = more d
 
+-- where the history is full, and what comes next lives or doesn't
+abbrev pub cut_short : Option (Level × Process) → Ending
+cut_short None = no_such_process
+cut_short (Some top) = step_limit
+
 -- with at most n entries more
 unfoldable pub course_from : Units → ℕ → (State → ℕ → Bool) → ℕ → List ℕ → Course → Course × Ending
-course_from program cells has zero choices c = if c.progress.state.halted then (c, halted) else if_next c (next_of c choices) (λ x. (c, step_limit))
+course_from program cells has zero choices c = if c.progress.state.halted then (c, halted) else if_next c (next_of c choices) (λ x. (c, cut_short (living c.progress.state x.0)))
 course_from program cells has (suc n) choices c =
     if c.progress.state.halted then (c, halted)
     else if_next c (next_of c choices) (λ x. if_turned c (turned program cells has c x.0) (λ d. course_from program cells has n x.1 d))

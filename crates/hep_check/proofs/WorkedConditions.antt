@@ -1,43 +1,7 @@
 -- Worked sources: what is told of them, and neighbors that are accepted.
-use Rattle.std.specs.Prelude.{◌≡◌, ℕ, codes, List, [], ◌∷◌, Option, Some, None, Result, Ok, Err, refl}
-use Prim.Native.String.{String}
-use Rattle.hep_source.specs.declared.name.Name.{Name}
-use Rattle.hep_source.specs.Names.{spelling}
-use Rattle.hep_source.specs.Units.{Units}
+use Rattle.std.specs.Prelude.{codes, [], ◌∷◌, refl}
 use Rattle.hep_check.proofs.Sources.{units_of}
-use Rattle.hep_check.specs.declared.violation.Violation.{Violation}
-use Rattle.hep_check.specs.Conditions.{first_violation}
-
--- what is told of a source
-data Told : Type 0 where
-  accepted : Told
-  -- the number, the line and the name, if any
-  refused : (number line : ℕ) (name : List ℕ) → Told
-  unread : Told
-
-spelled : Option Name → List ℕ
-spelled None = []
-spelled (Some x) = spelling x
-
-told_of : Option Violation → Told
-told_of None = accepted
-told_of (Some v) = refused v.number v.line (spelled v.name)
-
-told_by : {E : Type 0} → Result Units E → Told
-told_by (Ok program) = told_of (first_violation program)
-told_by (Err e) = unread
-
-told : List String → Told
-told lines = told_by (units_of lines)
-
-accepts : List String → Type 0
-accepts lines = told lines ≡ accepted
-
-refuses : ℕ → ℕ → List String → Type 0
-refuses number line lines = told lines ≡ refused number line []
-
-names : ℕ → ℕ → List ℕ → List String → Type 0
-names number line name lines = told lines ≡ refused number line name
+use Rattle.hep_check.proofs.Told.{spelled, told_of, told_by, told, accepts, refuses, names}
 
 record Rows : Type 0 where
   untyped_name : names 301 1 (codes "DO10I") ("      DO10I=1" ∷ "      PRINT *,DO10I" ∷ "      END" ∷ [])
@@ -143,8 +107,12 @@ record Rows : Type 0 where
   jump_to_if_then : accepts ("      GO TO 10" ∷ "   10 IF(.TRUE.)THEN" ∷ "      END IF" ∷ "      END" ∷ [])
   type_twice : refuses 309 2 ("      INTEGER I" ∷ "      INTEGER I" ∷ "      END" ∷ [])
   bounds_twice : refuses 309 2 ("      INTEGER I(2)" ∷ "      DIMENSION I(2)" ∷ "      END" ∷ [])
+  bounds_twice_behind_common : refuses 309 5 ("      COMMON /B/ I(2)" ∷ "      END" ∷ "      SUBROUTINE S" ∷ "      COMMON /B/ I(2)" ∷ "      DIMENSION I(3)" ∷ "      END" ∷ [])
+  first_bounds_disagree : refuses 305 4 ("      COMMON /B/ I(2)" ∷ "      END" ∷ "      SUBROUTINE S" ∷ "      COMMON /B/ I(3)" ∷ "      DIMENSION I(1000000)" ∷ "      END" ∷ [])
+  bounds_twice_before_common : refuses 309 5 ("      COMMON /B/ I(2)" ∷ "      END" ∷ "      SUBROUTINE S" ∷ "      COMMON /B/ I" ∷ "      INTEGER I(2),I(3)" ∷ "      END" ∷ [])
   bounds_apart_from_type : accepts ("      INTEGER I" ∷ "      DIMENSION I(2)" ∷ "      END" ∷ [])
   common_twice : refuses 309 2 ("      COMMON I" ∷ "      COMMON /B/ I" ∷ "      END" ∷ [])
+  common_twice_in_a_block : refuses 309 4 ("      COMMON /B/ I" ∷ "      END" ∷ "      SUBROUTINE S" ∷ "      COMMON /B/ I,I" ∷ "      END" ∷ [])
   constant_twice : refuses 309 2 ("      PARAMETER (N=1)" ∷ "      PARAMETER (N=1)" ∷ "      END" ∷ [])
   letter_twice : refuses 309 2 ("      IMPLICIT INTEGER (A-C)" ∷ "      IMPLICIT INTEGER (C)" ∷ "      END" ∷ [])
   letters_apart : accepts ("      IMPLICIT INTEGER (A-C)" ∷ "      IMPLICIT LOGICAL (D)" ∷ "      END" ∷ [])
@@ -293,8 +261,12 @@ rows = record {
   jump_to_if_then = refl;
   type_twice = refl;
   bounds_twice = refl;
+  bounds_twice_behind_common = refl;
+  first_bounds_disagree = refl;
+  bounds_twice_before_common = refl;
   bounds_apart_from_type = refl;
   common_twice = refl;
+  common_twice_in_a_block = refl;
   constant_twice = refl;
   letter_twice = refl;
   letters_apart = refl;

@@ -4,7 +4,7 @@ use Prim.Native.String.{String}
 use Rattle.hep_source.specs.declared.event.Kind.TheVariants.{Divide, Range, Undefined}
 use Rattle.hep_source.specs.declared.record.Item.TheVariants.{Truth}
 use Rattle.hep_source.specs.Layout.{is_made, is_held}
-use Rattle.hep_source.specs.Storage.{common}
+use Rattle.hep_source.specs.State.{common}
 use Rattle.hep_check.proofs.SerialRuns.{report, runs, done, all_wait, halted, arena_full, no_such_process, int, one, fault, stands, waits_for_full, waits_for_empty, asynchronous}
 
 -- ---- Asynchronous variables

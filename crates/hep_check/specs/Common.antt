@@ -1,15 +1,17 @@
--- Conditions of common blocks: 305 (X3.9-1978, 8.3.3 and 8.3.4).
-use Rattle.std.specs.Prelude.{ℕ, Bool, true, false, not, ◌&&◌, ◌||◌, nat_eq, if◌then◌else◌, List, [], ◌∷◌, ◌++◌, length, replicate, Option, Some, None}
+-- Conditions of common blocks: 305 (X3.9-1978, 8.3.3 to 8.3.5).
+use Rattle.std.specs.Prelude.{ℕ, Bool, true, false, not, ◌&&◌, ◌||◌, nat_eq, if◌then◌else◌, List, [], ◌∷◌, ◌++◌, length, replicate, Option, Some, None, option_and_then}
 use Rattle.std.specs.List.{flat_map, list_any}
+use Rattle.std.specs.Option.{option_map_or}
 use Rattle.hep_source.specs.declared.declaration.CommonBlock.{CommonBlock}
 use Rattle.hep_source.specs.declared.declaration.ValueType.{ValueType}
 use Rattle.hep_source.specs.declared.name.Name.{Name}
 use Rattle.hep_source.specs.declared.statement.Statement.{Statement}
 use Rattle.hep_source.specs.Arithmetic.{same_truth}
-use Rattle.hep_source.specs.Constants.{constant_shape}
-use Rattle.hep_source.specs.Declarations.{Block, same_block, block_of, blocks_in, blocks_of, names_in_block, type_of}
-use Rattle.hep_source.specs.Shapes.{elements, Bounds}
+use Rattle.hep_source.specs.Declarations.{Block, same_block, block_of, blocks_in, blocks_of, common_block, names_in_block, type_of}
+use Rattle.hep_source.specs.Names.{is_among}
+use Rattle.hep_source.specs.Shapes.{elements}
 use Rattle.hep_source.specs.Units.{Units}
+use Rattle.hep_check.specs.Constants.{known_shape}
 use Rattle.hep_check.specs.Types.{same_declared}
 use Rattle.hep_check.specs.Violations.{Violations, at_line, when}
 
@@ -17,25 +19,30 @@ use Rattle.hep_check.specs.Violations.{Violations, at_line, when}
 abbrev pub Position : Type 0
 Position = Bool × Option ValueType
 
--- a unit's block: its positions up to the first array without a shape, and whether these are all
+-- a unit's block: its positions up to the first array of unknown shape or name that had a place in COMMON before, and whether
+-- these are all
 pub record Contents : Type 0 where
   pub positions : List Position
   pub whole : Bool
-
-abbrev pub known_cells : Option Bounds → Option ℕ
-known_cells None = None
-known_cells (Some bs) = elements bs
 
 abbrev pub with_cells : Option ℕ → Position → Contents → Contents
 with_cells None p behind = record { positions = []; whole = false }
 with_cells (Some n) p behind = record { positions = replicate n p ++ behind.positions; whole = behind.whole }
 
-abbrev pub contents_of : List Statement → List Name → Contents
-contents_of unit [] = record { positions = []; whole = true }
-contents_of unit (x ∷ xs) = with_cells (known_cells (constant_shape unit x)) (x.asynchronous, type_of unit x) (contents_of unit xs)
+-- a name's first place in COMMON is in this block, behind these names
+abbrev pub has_first_place : List Statement → Block → List Name → Name → Bool
+has_first_place unit b before x = option_map_or (same_block b) (common_block unit x) false && not (is_among x before)
+
+abbrev pub cells_at_place : List Statement → Block → List Name → Name → Option ℕ
+cells_at_place unit b before x = if has_first_place unit b before x then option_and_then elements (known_shape unit x) else None
+
+abbrev pub contents_of : List Statement → Block → List Name → List Name → Contents
+contents_of unit b before [] = record { positions = []; whole = true }
+contents_of unit b before (x ∷ xs) =
+    with_cells (cells_at_place unit b before x) (x.asynchronous, type_of unit x) (contents_of unit b (x ∷ before) xs)
 
 abbrev pub contents_of_block : List Statement → Block → Contents
-contents_of_block unit b = contents_of unit (names_in_block unit b)
+contents_of_block unit b = contents_of unit b [] (names_in_block unit b)
 
 abbrev pub same_positions : List Position → List Position → Bool
 same_positions (p ∷ ps) (q ∷ qs) = (same_truth p.0 q.0 && same_declared p.1 q.1) && same_positions ps qs
@@ -75,5 +82,5 @@ abbrev pub differing : List Block → Units → Violations
 differing bs [] = []
 differing bs (unit ∷ units) = flat_map (blocks_differ bs unit) units ++ differing bs units
 
-abbrev pub uncommon : Units → Violations
-uncommon program = differing (blocks_of program) program
+abbrev pub differing_blocks : Units → Violations
+differing_blocks program = differing (blocks_of program) program

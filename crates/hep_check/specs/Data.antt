@@ -1,90 +1,25 @@
 -- Conditions of DATA: 311 (X3.9-1978, section 9).
-use Rattle.std.specs.Prelude.{ℕ, zero, suc, pos, int_le, Bool, true, false, not, ◌&&◌, ◌||◌, nat_eq, if◌then◌else◌, List, [], ◌∷◌, ◌++◌, length, replicate, Option, Some, None, is_none, is_some}
+use Rattle.std.specs.Prelude.{Bool, true, false, not, ◌&&◌, ◌||◌, nat_eq, List, [], ◌∷◌, ◌++◌, length, Option, Some, None, is_none, is_some}
 use Rattle.std.specs.List.{flat_map, list_any}
-use Rattle.std.specs.Option.{option_map}
+use Rattle.std.specs.Option.{unwrap_or}
 use Rattle.hep_source.specs.Tree.{trees_of}
-use Rattle.hep_source.specs.declared.declaration.DataConstant.{DataConstant}
-use Rattle.hep_source.specs.declared.declaration.DataConstant.TheVariants as data_constant
 use Rattle.hep_source.specs.declared.declaration.DataGroup.{DataGroup}
 use Rattle.hep_source.specs.declared.declaration.DataValue.{DataValue}
-use Rattle.hep_source.specs.declared.declaration.Repeat.{Repeat}
-use Rattle.hep_source.specs.declared.declaration.Repeat.TheVariants as repeat
 use Rattle.hep_source.specs.declared.declaration.Target.{Target}
 use Rattle.hep_source.specs.declared.name.Name.{Name}
 use Rattle.hep_source.specs.declared.statement.Statement.{Statement}
 use Rattle.hep_source.specs.declared.value.Value.{Value}
-use Rattle.hep_source.specs.declared.value.Value.TheVariants.{Int, Truth}
 use Rattle.hep_source.specs.Arithmetic.{integers_of}
 use Rattle.hep_source.specs.Constants.{Constants, value_among, values_of, given_by, constant_shape}
 use Rattle.hep_source.specs.Declarations.{type_of, is_array, is_dummy, is_common, is_nonempty, constants_in}
 use Rattle.hep_source.specs.Names.{same_name}
-use Rattle.hep_source.specs.Opening.{groups_in}
-use Rattle.hep_source.specs.Shapes.{Bounds, elements, element_number, natural}
+use Rattle.hep_source.specs.Data.{groups_in, Element, elements_named, repeat_of, value_of_constant, values_given}
+use Rattle.hep_source.specs.Shapes.{Bounds, element_number}
 use Rattle.hep_source.specs.Units.{is_main, subroutine_name}
 use Rattle.hep_check.specs.Types.{agree, type_of_value}
 use Rattle.hep_check.specs.Violations.{Violations, at_line, when}
 
--- ---- what is given a value
-
--- an element of a variable, by its number
-pub record Element : Type 0 where
-  pub name : Name
-  pub number : ℕ
-
-abbrev pub elements_of : Name → ℕ → ℕ → List Element
-elements_of x k zero = []
-elements_of x k (suc n) = record { name = x; number = k } ∷ elements_of x (suc k) n
-
-abbrev pub all_elements : Name → Option Bounds → Option (List Element)
-all_elements x None = None
-all_elements x (Some bs) = option_map (elements_of x 1) (elements bs)
-
-abbrev pub numbered_element : Name → Option ℕ → Option (List Element)
-numbered_element x None = None
-numbered_element x (Some n) = Some (record { name = x; number = n } ∷ [])
-
-abbrev pub element_at : Name → Option Bounds → Option (List Value) → Option (List Element)
-element_at x None vs = None
-element_at x (Some bs) None = None
-element_at x (Some bs) (Some vs) = numbered_element x (element_number bs (integers_of vs))
-
--- the elements that a name in DATA stands for, none where another violation leaves them open
-abbrev pub elements_named : List Statement → Constants → Target → Option (List Element)
-elements_named unit known t =
-    if is_nonempty t.subscripts
-    then element_at t.place.name (constant_shape unit t.place.name) (values_of unit (value_among known) (trees_of t.subscripts))
-    else all_elements t.place.name (constant_shape unit t.place.name)
-
--- ---- the values
-
-abbrev pub is_count : Value → Bool
-is_count (Int z) = int_le (pos 1) z
-is_count (Truth b) = false
-
-abbrev pub count_by : Option Value → Option ℕ
-count_by None = None
-count_by (Some (Truth b)) = None
-count_by (Some (Int z)) = if int_le (pos 1) z then Some (natural z) else None
-
-abbrev pub repeat_of : Constants → Option Repeat → Option ℕ
-repeat_of known None = Some 1
-repeat_of known (Some (repeat.Count n)) = Some (natural n)
-repeat_of known (Some (repeat.Named p)) = count_by (value_among known p.name)
-
-abbrev pub value_of_constant : Constants → DataConstant → Option Value
-value_of_constant known (data_constant.Value v) = Some v
-value_of_constant known (data_constant.Named p) = value_among known p.name
-
-abbrev pub copied : Option ℕ → Option Value → Option (List Value)
-copied None v = None
-copied (Some n) None = None
-copied (Some n) (Some v) = Some (replicate n v)
-
--- a value as often as it stands, none where its name or its repeat count is no constant
-abbrev pub values_given : Constants → DataValue → Option (List Value)
-values_given known v = copied (repeat_of known v.repeat) (value_of_constant known v.constant)
-
--- ---- lists whose parts may be open
+-- ---- lists whose parts may be open: docs/LANGUAGE.md, 10
 
 -- what is known before the first open part, and whether that is all
 pub record Known (A : Type 0) : Type 0 where
@@ -97,27 +32,27 @@ before (Some xs) behind = record { items = xs ++ behind.items; whole = behind.wh
 
 abbrev pub known_targets : List Statement → Constants → List Target → Known Element
 known_targets unit known [] = record { items = []; whole = true }
-known_targets unit known (t ∷ ts) = before (elements_named unit known t) (known_targets unit known ts)
+known_targets unit known (t ∷ ts) = before (elements_named unit (value_among known) t) (known_targets unit known ts)
 
 abbrev pub known_values : Constants → List DataValue → Known Value
 known_values known [] = record { items = []; whole = true }
-known_values known (v ∷ vs) = before (values_given known v) (known_values known vs)
+known_values known (v ∷ vs) = before (values_given (value_among known) v) (known_values known vs)
 
--- ---- 311 in a group
+-- ---- 311 in a group: 9.1 and 9.2
 
--- each value is of the type of what it is given to (9.3)
+-- each value is of the type of what it is given to (9.2)
 abbrev pub have_types : List Statement → List Element → List Value → Bool
 have_types unit (e ∷ es) (v ∷ vs) = agree (Some (type_of unit e.name)) (Some (Some (type_of_value v))) && have_types unit es vs
 have_types unit _ _ = true
 
--- as many values as elements (9.3)
+-- as many values as elements (9.2)
 abbrev pub is_matched : Known Element → Known Value → Bool
 is_matched es vs = not (es.whole && vs.whole) || nat_eq (length es.items) (length vs.items)
 
 abbrev pub is_forbidden : List Statement → Name → Bool
 is_forbidden unit x = x.asynchronous || (is_dummy unit x || is_common unit x)
 
--- an element outside its bounds (5.4.3), where bounds and subscripts are known and as many
+-- an element outside its bounds (5.4.2), where bounds and subscripts are known and as many
 abbrev pub is_outside : Option Bounds → Option (List Value) → Bool
 is_outside None vs = false
 is_outside (Some bs) None = false
@@ -128,13 +63,8 @@ is_target_outside unit known t =
     is_nonempty t.subscripts && (is_array unit t.place.name && is_outside (constant_shape unit t.place.name) (values_of unit (value_among known) (trees_of t.subscripts)))
 
 -- a name in the place of a value or a repeat count is that of a constant given before, a repeat count an integer from 1
-abbrev pub is_repeat : Constants → Option Repeat → Bool
-is_repeat known None = true
-is_repeat known (Some (repeat.Count n)) = true
-is_repeat known (Some (repeat.Named p)) = is_some (count_by (value_among known p.name))
-
 abbrev pub is_value : Constants → DataValue → Bool
-is_value known v = is_repeat known v.repeat && is_some (value_of_constant known v.constant)
+is_value known v = is_some (repeat_of (value_among known) v.repeat) && is_some (value_of_constant (value_among known) v.constant)
 
 abbrev pub is_wrong_group : List Statement → Constants → DataGroup → Bool
 is_wrong_group unit known g =
@@ -143,7 +73,7 @@ is_wrong_group unit known g =
     || (not (is_matched (known_targets unit known g.targets) (known_values known g.values))
     || not (have_types unit (known_targets unit known g.targets).items (known_values known g.values).items)))
 
--- ---- 311 over a unit
+-- ---- 311 over a unit: 9.2
 
 -- DATA stands in the main program alone
 abbrev pub is_misplaced : List Statement → Statement → Bool
@@ -158,14 +88,10 @@ wrong_groups_from unit known (s ∷ ss) =
 abbrev pub same_element : Element → Element → Bool
 same_element a b = same_name a.name b.name && nat_eq a.number b.number
 
-abbrev pub elements_or_none : Option (List Element) → List Element
-elements_or_none None = []
-elements_or_none (Some es) = es
-
 -- the elements that a statement gives values
 abbrev pub elements_in : List Statement → Constants → Statement → List Element
 elements_in unit known s =
-    flat_map (λ (g : DataGroup). flat_map (λ (t : Target). elements_or_none (elements_named unit known t)) g.targets) (groups_in s.form)
+    flat_map (λ (g : DataGroup). flat_map (λ (t : Target). unwrap_or (elements_named unit (value_among known) t) []) g.targets) (groups_in s.form)
 
 -- an element that was given a value before, here or in an earlier statement
 abbrev pub is_given_twice : List Element → List Element → Bool
@@ -178,5 +104,5 @@ given_twice_from unit known given (s ∷ ss) =
     when (is_given_twice given (elements_in unit known s)) (at_line 311 s.line)
     ++ given_twice_from unit (given_by unit known (constants_in s.form)) (elements_in unit known s ++ given) ss
 
-abbrev pub misdata : List Statement → Violations
-misdata unit = wrong_groups_from unit [] unit ++ given_twice_from unit [] [] unit
+abbrev pub wrong_data : List Statement → Violations
+wrong_data unit = wrong_groups_from unit [] unit ++ given_twice_from unit [] [] unit

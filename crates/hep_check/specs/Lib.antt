@@ -1,7 +1,10 @@
 pub mod Violations
 pub mod Statements
 pub mod Names
+pub mod Counts
 pub mod Types
+pub mod Constants
+pub mod Arguments
 pub mod Common
 pub mod Labels
 pub mod Nesting

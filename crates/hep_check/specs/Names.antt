@@ -1,26 +1,26 @@
 -- Conditions of names: 301, 309 and 310.
-use Rattle.std.specs.Prelude.{ℕ, max, Bool, true, false, not, ◌&&◌, nat_le, if◌then◌else◌, List, [], ◌∷◌, ◌++◌, Some, None, is_none}
+use Rattle.std.specs.Prelude.{ℕ, max, Bool, true, false, not, ◌&&◌, nat_le, if◌then◌else◌, List, [], ◌∷◌, ◌++◌, is_none, option_to_list}
 use Rattle.std.specs.List.{flat_map, list_any}
 use Rattle.hep_source.specs.declared.declaration.CommonBlock.{CommonBlock}
 use Rattle.hep_source.specs.declared.declaration.Declarator.{Declarator}
 use Rattle.hep_source.specs.declared.declaration.ImplicitGroup.{ImplicitGroup}
 use Rattle.hep_source.specs.declared.declaration.LetterRange.{LetterRange}
-use Rattle.hep_source.specs.declared.declaration.NamedConstant.{NamedConstant}
 use Rattle.hep_source.specs.declared.declaration.Target.{Target}
 use Rattle.hep_source.specs.declared.name.Name.{Name}
 use Rattle.hep_source.specs.declared.name.Place.{Place}
 use Rattle.hep_source.specs.declared.statement.Form.{Form}
 use Rattle.hep_source.specs.declared.statement.Form.TheVariants as form
 use Rattle.hep_source.specs.declared.statement.Statement.{Statement}
-use Rattle.hep_source.specs.Declarations.{type_of, is_array, is_constant_name, is_nonempty, blocks_in, constants_in, declarators_in, block_of, Block}
+use Rattle.hep_source.specs.Declarations.{type_of, is_array, is_constant_name, is_nonempty, blocks_in, constants_in, names_of_constants, declarators_in, names_declared, block_of}
 use Rattle.hep_source.specs.Functions.{Listed, unknown, listed_meaning}
 use Rattle.hep_source.specs.Names.{same_name, is_among}
 use Rattle.hep_source.specs.Units.{Units, dummies_by_header, subroutine_called}
-use Rattle.hep_source.specs.Variables.{places_in_statement}
+use Rattle.hep_source.specs.Data.{groups_in}
+use Rattle.hep_source.specs.Variables.{places_in_statement, places_in_target}
 use Rattle.hep_check.specs.Statements.{NameWithList, names_with_lists, targets_assigned, targets_in_data, targets_purged, Calling, calls_in}
 use Rattle.hep_check.specs.Violations.{Violations, at_line, at_place, when}
 
--- ---- 301: a variable or named constant has no type (X3.9-1978, 4.1.2 and 8.4)
+-- ---- 301: a variable or named constant has no type (X3.9-1978, 4.1.2, 8.4 and 8.5)
 
 abbrev pub untyped_in : List Statement → Statement → Violations
 untyped_in unit s =
@@ -29,7 +29,7 @@ untyped_in unit s =
 abbrev pub untyped : List Statement → Violations
 untyped unit = flat_map (untyped_in unit) unit
 
--- ---- 309: a name stands for two things, or is given something twice (section 18)
+-- ---- 309: a name stands for two things, or is given something twice (18.1 and 18.2)
 
 -- a name with the line of the statement that names it so
 abbrev pub Use : Type 0
@@ -51,24 +51,22 @@ repeated uses = repeated_after [] uses
 abbrev pub both_ways : List Use → List Use → Violations
 both_ways us ws = flat_map (λ (u : Use). flat_map (λ (w : Use). when (same_name u.0 w.0) (at_line 309 (max u.1 w.1))) ws) us
 
-abbrev pub names_of_declarators : List Declarator → List Name
-names_of_declarators ds = flat_map (λ (d : Declarator). d.place.name ∷ []) ds
+abbrev pub names_typed : Form → List Name
+names_typed (form.Declare t ds) = names_declared ds
+names_typed _ = []
 
 abbrev pub typed_names : Statement → List Name
-typed_names s = by_form s.form where
-  by_form : Form → List Name
-  by_form (form.Declare t ds) = names_of_declarators ds
-  by_form _ = []
+typed_names s = names_typed s.form
 
 abbrev pub bounded_names : Statement → List Name
 bounded_names s =
     flat_map (λ (d : Declarator). if is_nonempty d.dimensions then d.place.name ∷ [] else []) (declarators_in s.form)
 
 abbrev pub common_names : Statement → List Name
-common_names s = flat_map (λ (b : CommonBlock). names_of_declarators b.entries) (blocks_in s.form)
+common_names s = flat_map (λ (b : CommonBlock). names_declared b.entries) (blocks_in s.form)
 
 abbrev pub constant_names : Statement → List Name
-constant_names s = flat_map (λ (c : NamedConstant). c.place.name ∷ []) (constants_in s.form)
+constant_names s = names_of_constants (constants_in s.form)
 
 abbrev pub dummy_names : Statement → List Name
 dummy_names s = dummies_by_header s.form
@@ -85,10 +83,15 @@ data_names s = names_of_targets (targets_in_data s.form)
 abbrev pub called_names : Statement → List Name
 called_names s = flat_map (λ (c : Calling). c.place.name ∷ []) (calls_in s.form)
 
+-- the places of a statement but for those of values and repeat counts in DATA, which are no variables' (311)
+abbrev pub places_of_variables : List Statement → Statement → List Place
+places_of_variables unit s =
+    if is_nonempty (groups_in s.form) then flat_map (places_in_target unit) (targets_in_data s.form) else places_in_statement unit s
+
 -- the variables of a statement; a constant's name is none
 abbrev pub variable_names : List Statement → Statement → List Name
 variable_names unit s =
-    flat_map (λ (p : Place). if is_constant_name unit p.name then [] else p.name ∷ []) (places_in_statement unit s)
+    flat_map (λ (p : Place). if is_constant_name unit p.name then [] else p.name ∷ []) (places_of_variables unit s)
 
 -- the letters that an IMPLICIT names, in order
 abbrev pub ranges_in : Form → List LetterRange
@@ -133,12 +136,9 @@ header_name _ = []
 abbrev pub unit_uses : List Statement → List Use
 unit_uses unit = uses_by (λ (s : Statement). header_name s.form) unit
 
-abbrev pub block_name : Block → List Name
-block_name None = []
-block_name (Some x) = x ∷ []
-
+-- blank COMMON has no name
 abbrev pub block_names : Statement → List Name
-block_names s = flat_map (λ (b : CommonBlock). block_name (block_of b)) (blocks_in s.form)
+block_names s = flat_map (λ (b : CommonBlock). option_to_list (block_of b)) (blocks_in s.form)
 
 -- two units, or a unit and a common block, have one name
 abbrev pub ambiguous_units : Units → Violations
@@ -148,7 +148,7 @@ ambiguous_units program =
 abbrev pub ambiguous : Units → Violations
 ambiguous program = ambiguous_units program ++ flat_map ambiguous_in program
 
--- ---- 310: a name is no subroutine, array or function (5.4.1, 15.5 and 15.6.2)
+-- ---- 310: a name is no subroutine, array or function (5.3, 15.3 and 15.6.2)
 
 abbrev pub is_unknown : Listed → Bool
 is_unknown unknown = true

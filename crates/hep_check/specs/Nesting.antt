@@ -15,7 +15,7 @@ use Rattle.hep_check.specs.Types.{same_declared}
 use Rattle.hep_check.specs.Statements.{targets_of_jump}
 use Rattle.hep_check.specs.Violations.{Violations, at_line, when}
 
--- ---- statements with their places in the unit
+-- ---- statements with their places in the unit: 3.5
 
 pub record Placed : Type 0 where
   pub place : ℕ
@@ -36,7 +36,7 @@ is_alone (t ∷ ts) = false
 abbrev pub is_unconditional : Statement → Bool
 is_unconditional s = is_alone s.conditions
 
--- ---- DO ranges: 11.10.2
+-- ---- DO ranges: 11.10.1
 
 -- a DO: its place, the place of its terminal statement and its variable
 pub record Range : Type 0 where
@@ -102,7 +102,7 @@ with_all bs (p ∷ ps) = with_all (with_role bs p.place (role_of p.statement)) p
 abbrev pub blocks_of : List Statement → Blocks
 blocks_of unit = with_all (record { unclosed = []; closed = []; stray = [] }) (placed unit)
 
--- ---- 307: statements by themselves
+-- ---- 307: statements by themselves (11.5 and 11.10)
 
 -- a terminal statement may be no unconditional GO TO, arithmetic IF, block IF, ELSE IF, ELSE, END IF, RETURN, STOP, END or DO: 11.10
 abbrev pub is_no_terminal : Form → Bool
@@ -136,7 +136,7 @@ holds_wrongly [] f = false
 holds_wrongly (t ∷ []) f = is_not_held f
 holds_wrongly (t ∷ u ∷ ts) f = true
 
--- a DO variable is a plain integer scalar: 11.10.1
+-- a DO variable is a plain integer scalar: 11.10
 abbrev pub is_loop_variable : List Statement → Name → Bool
 is_loop_variable unit x =
     not x.asynchronous && (not (is_array unit x) && (not (is_constant_name unit x) && same_declared (type_of unit x) (Some Integer)))
@@ -156,14 +156,14 @@ statement_violations unit p =
     when (holds_wrongly p.statement.conditions p.statement.form) (at_line 307 p.statement.line)
     ++ loop_violations unit p.statement.line p.place p.statement.form
 
--- ---- 307: block IFs by themselves
+-- ---- 307: block IFs by themselves (11.6 to 11.9)
 
 abbrev pub block_violations : List Statement → Violations
 block_violations unit =
     flat_map (λ k. at_line 307 (line_at unit k) ∷ []) (blocks_of unit).stray
     ++ flat_map (λ (b : BlockIf). at_line 307 (line_at unit b.start) ∷ []) (blocks_of unit).unclosed
 
--- ---- 307: what isn't nested
+-- ---- 307: what isn't nested (11.10.1)
 
 -- the later one begins within the range of the earlier one and ends behind it
 abbrev pub ranges_cross : Range → Range → Bool
@@ -206,7 +206,7 @@ nesting_violations unit =
 abbrev pub misnested : List Statement → Violations
 misnested unit = flat_map (statement_violations unit) (placed unit) ++ (block_violations unit ++ nesting_violations unit)
 
--- ---- 308: jumps into DO ranges and IF blocks (11.6.1, 11.7.2, 11.8.2 and 11.10.8)
+-- ---- 308: jumps into DO ranges and IF blocks (11.6.3, 11.7.2, 11.8.2 and 11.10.8)
 
 -- the places from behind one statement up to before another
 pub record Region : Type 0 where

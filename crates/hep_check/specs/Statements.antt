@@ -1,5 +1,5 @@
--- The expressions, labels and names of a statement.
-use Rattle.std.specs.Prelude.{ℕ, List, [], ◌∷◌, ◌++◌, Option, Some, None}
+-- The expressions, labels and names of a statement: X3.9-1978, sections 5 to 11.
+use Rattle.std.specs.Prelude.{ℕ, List, [], ◌∷◌, ◌++◌, option_to_list}
 use Rattle.std.specs.List.{flat_map}
 use Rattle.hep_source.specs.Tree.{Tree, Trees, constant, place, listed, parenthesized, signed, negated, binary, no_trees, trees}
 use Rattle.hep_source.specs.declared.declaration.DataGroup.{DataGroup}
@@ -16,20 +16,16 @@ use Rattle.hep_source.specs.declared.statement.Form.{Form}
 use Rattle.hep_source.specs.declared.statement.Form.TheVariants as form
 use Rattle.hep_source.specs.declared.statement.Statement.{Statement}
 use Rattle.hep_source.specs.Declarations.{declarators_in, constants_in}
-use Rattle.hep_source.specs.Opening.{groups_in}
+use Rattle.hep_source.specs.Data.{groups_in}
 
--- ---- expressions
-
-abbrev pub list_of : {A : Type 0} → Option A → List A
-list_of None = []
-list_of (Some x) = x ∷ []
+-- ---- expressions: section 6
 
 abbrev pub trees_in_upper : UpperBound → List Tree
 trees_in_upper (bound.Expression t) = t ∷ []
 trees_in_upper bound.Open = []
 
 abbrev pub trees_in_dimension : Dimension → List Tree
-trees_in_dimension d = list_of d.lower ++ trees_in_upper d.upper
+trees_in_dimension d = option_to_list d.lower ++ trees_in_upper d.upper
 
 abbrev pub trees_in_declarator : Declarator → List Tree
 trees_in_declarator d = flat_map trees_in_dimension d.dimensions
@@ -45,7 +41,7 @@ trees_in_form (form.ComputedGoTo labels t) = t ∷ []
 trees_in_form (form.ArithmeticIf t labels) = t ∷ []
 trees_in_form (form.IfThen t) = t ∷ []
 trees_in_form (form.ElseIf t) = t ∷ []
-trees_in_form (form.Do c) = c.initial ∷ c.limit ∷ list_of c.increment
+trees_in_form (form.Do c) = c.initial ∷ c.limit ∷ option_to_list c.increment
 trees_in_form (form.Call p ts) = ts
 trees_in_form (form.Create p ts) = ts
 trees_in_form (form.Purge targets) = flat_map (λ (t : Target). t.subscripts) targets
@@ -60,7 +56,7 @@ trees_in_statement s =
     ++ (flat_map (λ (c : NamedConstant). c.value ∷ []) (constants_in s.form)
     ++ (flat_map (λ (g : DataGroup). flat_map (λ (t : Target). t.subscripts) g.targets) (groups_in s.form) ++ trees_in_form s.form)))
 
--- ---- names with a list
+-- ---- names with a list: 5.3 and 15.2
 
 -- a name with a list, where it stands in an expression
 pub record NameWithList : Type 0 where
@@ -85,7 +81,7 @@ abbrev mutual
 abbrev pub names_with_lists : Statement → List NameWithList
 names_with_lists s = flat_map names_with_lists_in (trees_in_statement s)
 
--- ---- what is assigned, given a value by DATA, or purged
+-- ---- what is assigned (section 10), given a value by DATA (9.1), or purged (docs/LANGUAGE.md, 9)
 
 abbrev pub targets_assigned : Form → List Target
 targets_assigned (form.Assign x t) = x ∷ []
@@ -101,7 +97,7 @@ abbrev pub targets_purged : Form → List Target
 targets_purged (form.Purge targets) = targets
 targets_purged _ = []
 
--- ---- calls
+-- ---- calls: 15.6.2
 
 -- the subroutine that a statement calls or creates, and the actual arguments
 pub record Calling : Type 0 where
@@ -113,7 +109,7 @@ calls_in (form.Call p ts) = record { place = p; actuals = ts } ∷ []
 calls_in (form.Create p ts) = record { place = p; actuals = ts } ∷ []
 calls_in _ = []
 
--- ---- labels: where a statement may go, and the terminal statement of its DO
+-- ---- labels: where a statement may go (11.1, 11.2 and 11.4), and the terminal statement of its DO (11.10)
 
 abbrev pub targets_of_jump : Form → List ℕ
 targets_of_jump (form.GoTo s) = s ∷ []

@@ -1,4 +1,4 @@
--- Violations of conditions, and which one is told.
+-- Violations of conditions, and which one is told: docs/LANGUAGE.md, 10.
 use Rattle.std.specs.Prelude.{ℕ, Bool, ◌&&◌, ◌||◌, nat_eq, nat_lt, if◌then◌else◌, List, [], ◌∷◌, Option, Some, None}
 use Rattle.hep_source.specs.declared.name.Place.{Place}
 use Rattle.hep_check.specs.declared.violation.Violation.{Violation}

@@ -10,8 +10,9 @@ use Rattle.hep_source.specs.declared.record.Item.{Item}
 use Rattle.hep_source.specs.declared.statement.Form.{Form}
 use Rattle.hep_source.specs.declared.statement.Form.TheVariants as form
 use Rattle.hep_source.specs.declared.statement.Statement.{Statement}
-use Rattle.hep_source.specs.Units.{is_executable, passed_over, executable_from, end_of_unit, statement_at, line_at}
+use Rattle.hep_source.specs.Units.{is_executable, passed_over, executable_from, statement_at, line_at}
 use Rattle.hep_source.specs.Evaluation.{Redex, item_of, assigning, printing, leaving, Next, wants, does, next_of_form, plug_form}
+use Rattle.hep_source.specs.Unreached.{no_statement}
 use Rattle.hep_core.specs.declared.operation.Operation.{Operation}
 use Rattle.hep_core.specs.declared.operation.Operation.TheVariants.{Evaluate, Store, Print, End}
 use Rattle.hep_core.specs.declared.operation.Instruction.{Instruction}
@@ -132,7 +133,7 @@ module _ (symbols : List Name) where
   drop_ahead (s ∷ ss) (suc j) k = let e : suc j + k ≡ suc (j + k) = omega arith in rw e (drop_ahead ss j k)
 
   past_end : (unit : List Statement) (k : ℕ) → length unit ≤ k → (statement_at unit k).form ≡ form.End
-  past_end unit k le = ap (λ o. (unwrap_or o end_of_unit).form) (slice_get_past unit k le)
+  past_end unit k le = ap (λ o. (unwrap_or o no_statement).form) (slice_get_past unit k le)
 
   -- the main program's activation at the beginning of a statement
   pub stands_at : (unit : List Statement) (j : ℕ) → AllRun unit → Stands symbols unit (executable_from unit j) (statement_at unit (executable_from unit j)).form [] (code_from symbols (drop j unit))

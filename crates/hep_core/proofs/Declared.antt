@@ -5,7 +5,8 @@ use Rattle.hep_source.specs.declared.name.Name.{Name}
 use Rattle.hep_source.specs.Names.{with_name, with_names}
 use Rattle.hep_core.specs.declared.fault.ImageFault.{ImageFault}
 use Rattle.hep_core.specs.declared.fault.ImageFault.TheVariants.{NoMemory, Refused}
-use Rattle.hep_core.specs.Symbols.{first_real, is_integer_by_letter, or_later, untyped_in, Reports}
+use Rattle.hep_source.specs.Declarations.{is_integer_by_letter}
+use Rattle.hep_core.specs.Symbols.{first_real, or_later, untyped_in, Reports}
 
 pub with_names-append : (xs ys zs : List Name) → with_names xs (ys ++ zs) ≡ with_names (with_names xs ys) zs
 with_names-append xs [] zs = refl

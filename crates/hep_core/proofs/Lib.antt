@@ -2,6 +2,7 @@ pub mod Running
 pub mod NameTests
 pub mod Declared
 pub mod Lists
+pub mod Names
 pub mod Locals
 pub mod Redexes
 pub mod Decided

@@ -3,7 +3,6 @@ use Rattle.std.proofs.Common.{◌≡◌, Bool, true, List, [], ◌∷◌, ◌++�
 use Rattle.std.specs.Prelude.{◌&&◌, ◌==◌, not, if◌then◌else◌, cond, is_some}
 use Rattle.std.specs.List.{list_all, flat_map, filter}
 use Rattle.hep_source.specs.declared.name.Name.{Name}
-use Rattle.hep_source.specs.declared.name.Place.{Place}
 use Rattle.hep_source.specs.declared.declaration.Target.{Target}
 use Rattle.hep_source.specs.declared.operator.Operator.TheVariants.{Arithmetic}
 use Rattle.hep_source.specs.declared.statement.PrintItem.{PrintItem}
@@ -17,35 +16,31 @@ use Rattle.hep_source.specs.Names.{is_among, with_names}
 use Rattle.hep_source.specs.Units.{Units, unit_at, main_unit, names_of_places}
 use Rattle.hep_source.specs.Variables.{array_place, places_in, places_in_target, places_in_item, places_in_form, places_in_statement, is_local, names_of, locals_of}
 use Rattle.hep_core.specs.Runnable.{is_variable, may_be_left, runs_item, is_arithmetic, runs_form, first_unrun_in}
-use Rattle.hep_core.specs.Symbols.{main_variables, names_in, names_in_items, names_in_form, with_statements, variables_of}
+use Rattle.hep_core.specs.Symbols.{main_variables, names_in_form, with_statements, variables_of}
 use Rattle.hep_core.proofs.Running.{AllRun, both, no_elements, arithmetic_may_be_left, item_left, no_named_constants, no_common_block, no_dummies, main_runs}
 use Rattle.hep_core.proofs.Declared.{with_names-append}
-
-names_append : (ps qs : List Place) → names_of_places (ps ++ qs) ≡ names_of_places ps ++ names_of_places qs
-names_append [] qs = refl
-names_append (p ∷ ps) qs = ap (λ xs. p.name ∷ xs) (names_append ps qs)
+use Rattle.hep_core.proofs.Names.{names_append}
 
 module _ (unit : List Statement) where
-  -- ---- the names of a statement are those of its places
+  -- ---- what runs has no name with a list, so its places are the same in each unit
 
-  tree_names : (t : Tree) → may_be_left t ≡ true → names_of_places (places_in unit t) ≡ names_in t
-  tree_names (constant v) e = refl
-  tree_names (place p) e = refl
-  tree_names (parenthesized t) e = tree_names t e
-  tree_names (signed s t) e = tree_names t e
-  tree_names (binary (Arithmetic o) a b) e =
+  tree_places : (t : Tree) → may_be_left t ≡ true → places_in unit t ≡ places_in [] t
+  tree_places (constant v) e = refl
+  tree_places (place p) e = refl
+  tree_places (parenthesized t) e = tree_places t e
+  tree_places (signed s t) e = tree_places t e
+  tree_places (binary (Arithmetic o) a b) e =
       let f = both (may_be_left a) (may_be_left b) e in
-      names_append (places_in unit a) (places_in unit b) ∙ ap (λ xs. xs ++ names_of_places (places_in unit b)) (tree_names a f.0) ∙ ap (λ xs. names_in a ++ xs) (tree_names b f.1)
-  tree_names _ e = absurd cc
+      ap (λ ps. ps ++ places_in unit b) (tree_places a f.0) ∙ ap (λ ps. places_in [] a ++ ps) (tree_places b f.1)
+  tree_places _ e = absurd cc
 
-  items_names : (items : List PrintItem) → list_all runs_item items ≡ true → names_of_places (flat_map (places_in_item unit) items) ≡ names_in_items items
-  items_names [] e = refl
-  items_names (Expression t ∷ items) e =
+  items_places : (items : List PrintItem) → list_all runs_item items ≡ true → flat_map (places_in_item unit) items ≡ flat_map (places_in_item []) items
+  items_places [] e = refl
+  items_places (Expression t ∷ items) e =
       let f = both (runs_item (Expression t)) (list_all runs_item items) e in
-      names_append (places_in unit t) (flat_map (places_in_item unit) items)
-      ∙ ap (λ xs. xs ++ names_of_places (flat_map (places_in_item unit) items)) (tree_names t (item_left (Expression t) f.0))
-      ∙ ap (λ xs. names_in t ++ xs) (items_names items f.1)
-  items_names (Characters cs ∷ items) e = items_names items e
+      ap (λ ps. ps ++ flat_map (places_in_item unit) items) (tree_places t (item_left (Expression t) f.0))
+      ∙ ap (λ ps. places_in [] t ++ ps) (items_places items f.1)
+  items_places (Characters cs ∷ items) e = items_places items e
 
   target_places : (x : Target) → is_variable x ≡ true → places_in_target unit x ≡ x.place ∷ []
   target_places x e =
@@ -56,8 +51,8 @@ module _ (unit : List Statement) where
   form_names (form.Program p) e = refl
   form_names (form.Assign x t) e =
       let f = both (is_variable x) (is_arithmetic t) e in
-      ap (λ ps. names_of_places (ps ++ places_in unit t)) (target_places x f.0) ∙ ap (λ xs. x.place.name ∷ xs) (tree_names t (arithmetic_may_be_left t f.1))
-  form_names (form.Print items) e = items_names items e
+      ap (λ ps. names_of_places (ps ++ places_in unit t)) (target_places x f.0) ∙ ap (λ ps. x.place.name ∷ names_of_places ps) (tree_places t (arithmetic_may_be_left t f.1))
+  form_names (form.Print items) e = ap names_of_places (items_places items e)
   form_names form.End e = refl
   form_names _ e = absurd cc
 

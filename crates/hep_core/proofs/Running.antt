@@ -1,8 +1,8 @@
 -- What a program that runs today is to the source machine: it declares nothing, and has no DO and no block IF.
 use Rattle.std.proofs.Common.{◌≡◌, ℕ, zero, suc, ◌+◌, ◌<◌, ◌≤◌, Bool, true, false, List, [], ◌∷◌, ◌++◌, length, take, get_or, refl, sym, ap, ◌∙◌, subst, arith, Option, Some, None}
 use Rattle.std.specs.Prelude.{◌*◌, ◌&&◌, ◌==◌, nat_le, if◌then◌else◌, IsSome, Ok}
-use Rattle.std.specs.List.{list_all, flat_map}
-use Rattle.std.specs.Option.{option_or, option_map}
+use Rattle.std.specs.List.{list_all, flat_map, filter}
+use Rattle.std.specs.Option.{option_or, option_map, unwrap_or}
 use Rattle.std.proofs.lemmas.Bool.{eqb-true}
 use Rattle.std.proofs.lemmas.Bool.Decides.{nat_tests}
 use Rattle.hep_source.specs.declared.name.Name.{Name}
@@ -19,14 +19,15 @@ use Rattle.hep_source.specs.Control.{other, role_of_form, role_behind, role_of, 
 use Rattle.hep_source.specs.Declarations.{Block, declarators_in, dimensions_among, dimensions_of, is_nonempty, blocks_in, blocks_of_unit, block_holding, common_block, with_blocks, blocks_of, constants_in, named_constants}
 use Rattle.hep_source.specs.Layout.{Layout, cells_of_blocks, common_cells, with_frame, opening_layout, frames_up_to, used_cells, has_frame}
 use Rattle.hep_source.specs.Names.{place_among}
-use Rattle.hep_source.specs.Opening.{groups_in, data_groups, with_groups, initial_store, opening}
-use Rattle.hep_source.specs.Places.{Scope, Extent, shape_or_none, start_by_block, extent_by_place, extent_of, element_of, located_from, located}
+use Rattle.hep_source.specs.Data.{groups_in, data_groups}
+use Rattle.hep_source.specs.Opening.{with_groups, initial_store, opening}
+use Rattle.hep_source.specs.Places.{Scope, Extent, start_by_block, extent_by_place, extent_of, element_of, located_from, located}
 use Rattle.hep_source.specs.Shapes.{Bounds}
-use Rattle.hep_source.specs.State.{Level, Activation, State, doing}
+use Rattle.hep_source.specs.State.{Level, Activation, State, doing, local}
 use Rattle.hep_source.specs.Step.{entry_level}
-use Rattle.hep_source.specs.Storage.{local, unset}
+use Rattle.hep_source.specs.Storage.{unset}
 use Rattle.hep_source.specs.Units.{Units, unit_at, main_unit, subroutine_by_header, dummies_by_header, dummies_of, is_executable, executable_from, statement_at}
-use Rattle.hep_source.specs.Variables.{locals_of, do_statements, adjustable_dimensions_of_all, frame_cells}
+use Rattle.hep_source.specs.Variables.{locals_of, is_do, do_statements, adjustable_dimensions_of_all, frame_cells}
 use Rattle.hep_core.specs.Runnable.{is_arithmetic, runs_item, is_variable, runs_form, runs, first_unrun, first_unrun_in, may_be_left, item_may_be_left, form_may_be_left}
 use Rattle.hep_core.specs.Shown.{level_of}
 use Rattle.hep_core.specs.Symbols.{main_variables}
@@ -158,7 +159,7 @@ no_dummies (s ∷ ss) h = dummies_by s.form h.0.1
 -- ---- where a variable is
 
 extent_by : Scope → Name → Option Block → Option Bounds → Extent
-extent_by scope x b shape = record { start = start_by_block scope x b; rest = cells_of_shape shape; shape = shape_or_none shape }
+extent_by scope x b shape = record { start = start_by_block scope x b; rest = cells_of_shape shape; shape = unwrap_or shape [] }
 
 extent_is : (scope : Scope) (x : Name) → AllRun scope.unit → extent_of scope x ≡ record { start = local scope.number x 1; rest = 1; shape = [] }
 unfolding extent_by
@@ -288,13 +289,15 @@ one_cell_each unit (x ∷ xs) h = let here = one_cell unit h x in let more = one
 zero_and : (n : ℕ) → 0 + n ≡ n
 zero_and n = omega arith
 
-no_do : (s : Statement) (f : Form) (ss : List Statement) → runs_form f ≡ true → do_statements (record { line = s.line; label = s.label; conditions = s.conditions; form = f } ∷ ss) ≡ do_statements ss
-no_do s (form.Do c) ss e = absurd cc
-no_do s _ ss e = zero_and (do_statements ss)
+no_do : (f : Form) → runs_form f ≡ true → is_do f ≡ false
+no_do (form.Do c) e = absurd cc
+no_do _ e = refl
 
 no_dos : (unit : List Statement) → AllRun unit → do_statements unit ≡ 0
 no_dos [] h = refl
-no_dos (s ∷ ss) h = no_do s s.form ss h.0.1 ∙ no_dos ss h.1
+no_dos (s ∷ ss) h = ap (λ b. length (if b then s ∷ others ss else others ss)) (no_do s.form h.0.1) ∙ no_dos ss h.1 where
+  others : List Statement → List Statement
+  others ss = filter (λ (t : Statement). is_do t.form) ss
 
 cells_by : List Statement → List Name → ℕ → ℕ → ℕ
 cells_by unit dummies cells dos = 1 + (2 * length dummies + (cells + (2 * dos + 2 * adjustable_dimensions_of_all unit dummies)))

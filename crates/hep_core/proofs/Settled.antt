@@ -1,6 +1,6 @@
 -- Constants put on top change nothing of what is shown.
-use Rattle.std.proofs.Common.{◌≡◌, ℕ, Bool, true, false, List, [], ◌∷◌, ◌++◌, map, drop, sym, ap, ◌∙◌, subst, append_assoc, Some}
-use Rattle.std.specs.Prelude.{Result, Ok, Err, MatchResult}
+use Rattle.std.proofs.Common.{◌≡◌, ℕ, Bool, true, false, List, [], ◌∷◌, ◌++◌, map, drop, sym, ap, ◌∙◌, subst, append_assoc, None, Some}
+use Rattle.std.specs.Prelude.{◌≢◌, Result, Ok, Err, MatchResult}
 use Rattle.hep_source.specs.declared.name.Name.{Name}
 use Rattle.hep_source.specs.declared.record.Item.{Item}
 use Rattle.hep_source.specs.declared.statement.Statement.{Statement}
@@ -10,6 +10,7 @@ use Rattle.hep_source.specs.State.{Process, State}
 use Rattle.hep_source.specs.Step.{step}
 use Rattle.hep_source.specs.Evaluation.{Next, wants, does, assigning, printing, leaving, next_of_form, item_of, plug_form}
 use Rattle.hep_source.specs.declared.value.Value.{Value}
+use Rattle.hep_source.specs.Processes.{numbered, top_of, living}
 use Rattle.hep_core.specs.declared.operation.Operation.{Operation}
 use Rattle.hep_core.specs.declared.operation.Operation.TheVariants.{Evaluate, Store, Print, End}
 use Rattle.hep_core.specs.declared.operation.Instruction.{Instruction}
@@ -87,6 +88,12 @@ some_ahead program m s k alive none =
     let unit = unit_at program (main_unit program) in
     let b = stand_begins (main_variables program) unit h.0 h.1 m.operands (drop m.place (program_code program)) (main_runs program k.runs) h.3 in
     not_constants b.constants m.operands (line_at unit h.0) b.o b.rest (sym b.is ∙ ap (λ c. map Push m.operands ++ c) none)
+
+-- and is to the source machine what it is to the core
+pub process_lives : (program : Units) (m : Snapshot) (s : State) → Shows program m s → m.is_living ≡ true → living s 1 ≢ None
+process_lives program m s k alive =
+    let h = subst (λ b. IsAt program b m.operands (drop m.place (program_code program)) s.processes) alive k.process in
+    subst (λ (ps : List Process). top_of (numbered ps 1) ≢ None) (sym h.2) (λ e. absurd cc)
 
 -- ---- what came of a step
 

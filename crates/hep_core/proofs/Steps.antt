@@ -17,10 +17,11 @@ use Rattle.hep_source.specs.Arithmetic.{as_value, integer_of, result_of, signed_
 use Rattle.hep_source.specs.Control.{goes_on}
 use Rattle.hep_source.specs.Places.{Scope, located}
 use Rattle.hep_source.specs.Units.{Units, unit_at, main_unit, executable_from, statement_at, line_at}
-use Rattle.hep_source.specs.Storage.{Location, local, Store, Cell, same_location, with_value}
+use Rattle.hep_source.specs.Storage.{same_location, with_value}
 use Rattle.hep_source.specs.Evaluation.{Reference, Redex, reading, signing, combining, item_of, Action, assigning, printing, leaving, Next, wants, does, next_of_form, plug_form}
-use Rattle.hep_source.specs.State.{Level, Process, State, top_of, numbered, unit_of}
+use Rattle.hep_source.specs.State.{Level, Process, State, Location, local, Store, Cell}
 use Rattle.hep_source.specs.Step.{Answer, gives, fails, by_result, by_value, read_at, answer_of, stepped, Top, scope_of, after_answer, after_assignment, after_next, fault_of, turn_of, turn_of_top, state_made, step}
+use Rattle.hep_source.specs.Processes.{top_of, numbered, unit_of}
 use Rattle.hep_core.specs.declared.operation.Evaluation.{Evaluation}
 use Rattle.hep_core.specs.declared.operation.Evaluation.TheVariants.{Load, Sign, Binary}
 use Rattle.hep_core.specs.declared.operation.Operation.{Operation}

@@ -1,5 +1,5 @@
 -- The variables of a unit, and the cells that hold their values.
-use Rattle.std.proofs.Common.{◌≡◌, ℕ, zero, suc, ◌<◌, Bool, true, false, List, [], ◌∷◌, ◌++◌, map, drop, length, refl, sym, ap, ◌∙◌, arith, Option, Some}
+use Rattle.std.proofs.Common.{◌≡◌, ℕ, zero, suc, ◌<◌, Bool, true, false, List, [], ◌∷◌, ◌++◌, map, drop, length, refl, sym, ap, ◌∙◌, subst, arith, Option, Some}
 use Rattle.std.specs.Prelude.{slice_get, slice_set, if◌then◌else◌, ◌&&◌, nat_eq}
 use Rattle.std.proofs.lemmas.Bool.{eqb-true, eq-eqb}
 use Rattle.std.proofs.lemmas.Option.{slice_get-map}
@@ -14,7 +14,8 @@ use Rattle.hep_source.specs.declared.operator.Operator.TheVariants.{Arithmetic}
 use Rattle.hep_source.specs.Tree.{Tree, constant, place, parenthesized, signed, binary}
 use Rattle.hep_source.specs.Arithmetic.{same_truth}
 use Rattle.hep_source.specs.Names.{same_name, same_letters, is_among, with_name, with_names}
-use Rattle.hep_source.specs.Storage.{local, Store, with_value}
+use Rattle.hep_source.specs.Storage.{with_value}
+use Rattle.hep_source.specs.State.{local, Store}
 use Rattle.hep_core.specs.declared.operation.Evaluation.TheVariants.{Load, Sign, Binary}
 use Rattle.hep_core.specs.declared.operation.Operation.TheVariants.{Evaluate, Store as Storing, Print, End}
 use Rattle.hep_core.specs.declared.operation.Instruction.{Instruction}
@@ -22,6 +23,7 @@ use Rattle.hep_core.specs.declared.operation.Instruction.TheVariants.{Push, Step
 use Rattle.hep_core.specs.Code.{number_of, tree_code, items_code, form_code, code_from}
 use Rattle.hep_core.specs.Shown.{values_of}
 use Rattle.hep_core.specs.Symbols.{with_statements, variables_of, names_in, names_in_items, names_in_form}
+use Rattle.hep_core.proofs.Names.{binary_names, items_names}
 use Rattle.hep_core.proofs.Running.{both}
 
 -- ---- names are the same where they are equal
@@ -165,14 +167,16 @@ module _ (symbols : List Name) where
   tree_resolved line (parenthesized t) h = tree_resolved line t h
   tree_resolved line (signed s t) h = resolved_append (length symbols) (tree_code symbols line t) (Step line (Evaluate (Sign s)) ∷ []) (tree_resolved line t h) (tt, tt)
   tree_resolved line (binary (Arithmetic o) a b) h =
-      resolved_append (length symbols) (tree_code symbols line a) (tree_code symbols line b ++ Step line (Evaluate (Binary o)) ∷ []) (tree_resolved line a (front_among symbols (names_in a) (names_in b) h))
-      (resolved_append (length symbols) (tree_code symbols line b) (Step line (Evaluate (Binary o)) ∷ []) (tree_resolved line b (back_among symbols (names_in a) (names_in b) h)) (tt, tt))
+      let g = subst (AreAmong symbols) (binary_names (Arithmetic o) a b) h in
+      resolved_append (length symbols) (tree_code symbols line a) (tree_code symbols line b ++ Step line (Evaluate (Binary o)) ∷ []) (tree_resolved line a (front_among symbols (names_in a) (names_in b) g))
+      (resolved_append (length symbols) (tree_code symbols line b) (Step line (Evaluate (Binary o)) ∷ []) (tree_resolved line b (back_among symbols (names_in a) (names_in b) g)) (tt, tt))
   tree_resolved line _ h = (tt, tt)
 
   items_resolved : (line : ℕ) (items : List PrintItem) → AreAmong symbols (names_in_items items) → AreResolved (length symbols) (items_code symbols line items)
   items_resolved line [] h = tt
   items_resolved line (Expression t ∷ items) h =
-      resolved_append (length symbols) (tree_code symbols line t) (items_code symbols line items) (tree_resolved line t (front_among symbols (names_in t) (names_in_items items) h)) (items_resolved line items (back_among symbols (names_in t) (names_in_items items) h))
+      let g = subst (AreAmong symbols) (items_names t items) h in
+      resolved_append (length symbols) (tree_code symbols line t) (items_code symbols line items) (tree_resolved line t (front_among symbols (names_in t) (names_in_items items) g)) (items_resolved line items (back_among symbols (names_in t) (names_in_items items) g))
   items_resolved line (Characters cs ∷ items) h = (tt, items_resolved line items h)
 
   form_resolved : (line : ℕ) (f : Form) → AreAmong symbols (names_in_form f) → AreResolved (length symbols) (form_code symbols line f)

@@ -8,8 +8,8 @@ use Rattle.hep_source.specs.declared.statement.Form.{Form}
 use Rattle.hep_source.specs.declared.statement.Statement.{Statement}
 use Rattle.hep_source.specs.Layout.{has_frame}
 use Rattle.hep_source.specs.Opening.{opening}
-use Rattle.hep_source.specs.Storage.{Cell, Location, Store, local, unset}
-use Rattle.hep_source.specs.State.{State}
+use Rattle.hep_source.specs.Storage.{unset}
+use Rattle.hep_source.specs.State.{State, Cell, Location, Store, local}
 use Rattle.hep_source.specs.Units.{Units, unit_at, main_unit, executable_from, statement_at, line_at}
 use Rattle.hep_source.specs.Variables.{locals_of}
 use Rattle.hep_source.specs.Views.{view_of, standings_from, cells_at, cells_of_local, cells_of_block, cells_from}

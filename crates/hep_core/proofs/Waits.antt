@@ -8,9 +8,8 @@ use Rattle.hep_source.specs.declared.statement.Statement.{Statement}
 use Rattle.hep_source.specs.declared.value.Value.{Value}
 use Rattle.hep_source.specs.Arithmetic.{signed_value, combined_value}
 use Rattle.hep_source.specs.Evaluation.{Redex, reading, signing, combining, assigning, printing, leaving, Next, wants, does, next_of_form, plug_form}
-use Rattle.hep_source.specs.State.{State}
+use Rattle.hep_source.specs.State.{State, Store, local}
 use Rattle.hep_source.specs.Step.{Answer, gives, waits, fails, by_result, by_value, answer_of, Top, scope_of, after_answer, after_next, wanted_of, wanted_by}
-use Rattle.hep_source.specs.Storage.{Store, local}
 use Rattle.hep_source.specs.Units.{Units, unit_at, main_unit}
 use Rattle.hep_core.specs.declared.operation.Instruction.{Instruction}
 use Rattle.hep_core.specs.Code.{form_code}

@@ -1,4 +1,4 @@
--- What a core keeps, and what is seen of it.
+-- What a core keeps, and what is seen of it: docs/ARCHITECTURE.md, "Forms".
 use Rattle.std.specs.Prelude.{◌≡◌, ℕ, ◌<◌, Bool, true, false, List, [], ◌∷◌, None, drop, length, map}
 use Rattle.hep_source.specs.Units.{Units}
 use Rattle.hep_source.specs.Run.{state_after}

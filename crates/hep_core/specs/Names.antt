@@ -1,4 +1,4 @@
--- The names of a program.
+-- The names of a program: docs/MACHINE.md, "Names and units".
 use Rattle.std.specs.Prelude.{ℕ, List, ◌++◌, map}
 use Rattle.hep_source.specs.Names.{spelling}
 use Rattle.hep_source.specs.Units.{Units, unit_name}

@@ -1,4 +1,4 @@
--- What a core runs today: docs/MACHINE.md. Everything else of the language is refused with 403.
+-- What a core runs today: docs/MACHINE.md, "What runs today". Everything else of the language is refused with 403.
 use Rattle.std.specs.Prelude.{ℕ, Bool, true, false, not, ◌&&◌, ◌==◌, if◌then◌else◌, List, [], ◌∷◌, Option, Some, None, length}
 use Rattle.std.specs.List.{list_all}
 use Rattle.std.specs.Option.{option_or}

@@ -1,4 +1,4 @@
--- How what is kept shows the state of the source machine.
+-- How what is kept shows the state of the source machine: docs/ARCHITECTURE.md, "Forms".
 use Rattle.std.specs.Prelude.{◌≡◌, ◌≤◌, ℕ, Bool, true, false, List, [], ◌∷◌, ◌++◌, Option, Some, None, Result, Ok, Err, length, map, drop}
 use Rattle.hep_source.specs.declared.name.Name.{Name}
 use Rattle.hep_source.specs.declared.record.Item.{Item}
@@ -6,9 +6,8 @@ use Rattle.hep_source.specs.declared.statement.Form.{Form}
 use Rattle.hep_source.specs.declared.statement.Form.TheVariants.{End}
 use Rattle.hep_source.specs.declared.statement.Statement.{Statement}
 use Rattle.hep_source.specs.declared.value.Value.{Value}
-use Rattle.hep_source.specs.Storage.{Cell, Location, Store, local}
 use Rattle.hep_source.specs.Units.{Units, unit_at, main_unit, line_at}
-use Rattle.hep_source.specs.State.{Level, Process, State, doing}
+use Rattle.hep_source.specs.State.{Level, Process, State, doing, Cell, Location, Store, local}
 use Rattle.hep_source.specs.Step.{step}
 use Rattle.hep_core.specs.declared.operation.Instruction.{Instruction}
 use Rattle.hep_core.specs.declared.operation.Instruction.TheVariants.{Push}

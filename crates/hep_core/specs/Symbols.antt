@@ -1,15 +1,16 @@
--- The variables of the main program, and what comes of declaring them.
-use Rattle.std.specs.Prelude.{◌≡◌, ℕ, Bool, ◌&&◌, nat_le, get_or, if◌then◌else◌, List, [], ◌∷◌, ◌++◌, Option, Some, None}
-use Rattle.hep_source.specs.Tree.{Tree, Trees, constant, place, listed, parenthesized, signed, negated, binary, no_trees, trees}
+-- The variables of the main program, and what comes of declaring them: docs/LANGUAGE.md, 11.
+use Rattle.std.specs.Prelude.{◌≡◌, ℕ, if◌then◌else◌, List, [], ◌∷◌, Option, Some, None}
+use Rattle.std.specs.List.{flat_map}
+use Rattle.hep_source.specs.Tree.{Tree, Trees}
 use Rattle.hep_source.specs.declared.name.Name.{Name}
 use Rattle.hep_source.specs.declared.statement.PrintItem.{PrintItem}
-use Rattle.hep_source.specs.declared.statement.PrintItem.TheVariants.{Expression, Characters}
 use Rattle.hep_source.specs.declared.statement.Form.{Form}
 use Rattle.hep_source.specs.declared.statement.Form.TheVariants.{Assign, Print}
 use Rattle.hep_source.specs.declared.statement.Statement.{Statement}
 use Rattle.hep_source.specs.Names.{spelling, with_names}
-use Rattle.hep_source.specs.Units.{Units, unit_at, main_unit}
-use Rattle.hep_source.specs.Variables.{locals_of}
+use Rattle.hep_source.specs.Declarations.{is_integer_by_letter}
+use Rattle.hep_source.specs.Units.{Units, unit_at, main_unit, names_of_places}
+use Rattle.hep_source.specs.Variables.{places_in, places_in_all, places_in_item, locals_of}
 use Rattle.hep_core.specs.declared.fault.ImageFault.{ImageFault}
 use Rattle.hep_core.specs.declared.fault.ImageFault.TheVariants.{NoMemory, Refused}
 
@@ -19,25 +20,15 @@ main_variables program = locals_of (unit_at program (main_unit program))
 
 -- ---- the variables of statements that run today
 
-abbrev mutual
-  -- the names of an expression, in the order of the text
-  pub names_in : Tree → List Name
-  names_in (constant v) = []
-  names_in (place p) = p.name ∷ []
-  names_in (listed p ts) = p.name ∷ names_in_all ts
-  names_in (parenthesized t) = names_in t
-  names_in (signed s t) = names_in t
-  names_in (negated t) = names_in t
-  names_in (binary o a b) = names_in a ++ names_in b
+-- the variables of an expression, in the order of the text: no program that runs today declares an array
+abbrev pub names_in : Tree → List Name
+names_in t = names_of_places (places_in [] t)
 
-  pub names_in_all : Trees → List Name
-  names_in_all no_trees = []
-  names_in_all (trees t ts) = names_in t ++ names_in_all ts
+abbrev pub names_in_all : Trees → List Name
+names_in_all ts = names_of_places (places_in_all [] ts)
 
 abbrev pub names_in_items : List PrintItem → List Name
-names_in_items [] = []
-names_in_items (Expression t ∷ items) = names_in t ++ names_in_items items
-names_in_items (Characters cs ∷ items) = names_in_items items
+names_in_items items = names_of_places (flat_map (places_in_item []) items)
 
 -- the variables of a statement, in the order of the text; statements that don't run today have none
 abbrev pub names_in_form : Form → List Name
@@ -55,10 +46,7 @@ variables_of unit = with_statements [] unit
 
 -- ---- variables without a type
 
--- without a declaration a name is an integer where its letter is I to N: X3.9-1978, 4.1.2
-abbrev pub is_integer_by_letter : Name → Bool
-is_integer_by_letter x = nat_le 73 (get_or x.letters 0 0) && nat_le (get_or x.letters 0 0) 78
-
+-- the first name that is no integer without a declaration (X3.9-1978, 4.1.2)
 abbrev pub first_real : List Name → Option Name
 first_real [] = None
 first_real (x ∷ xs) = if is_integer_by_letter x then first_real xs else Some x

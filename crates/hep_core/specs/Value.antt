@@ -1,14 +1,15 @@
--- What a core is to its callers, and what a choice makes of it.
+-- What a core is to its callers, and what a choice makes of it: docs/MACHINE.md, "Histories" and "Which process comes next".
 use Rattle.std.specs.Prelude.{◌≡◌, ◌≢◌, ◌⊎◌, ℕ, zero, suc, ◌<◌, Bool, true, false, if◌then◌else◌, List, [], ◌∷◌, ◌++◌, Option, Some, None, IsSome, Result, Ok, Err, length}
 use Rattle.hep_source.specs.declared.event.Entry.{Entry}
 use Rattle.hep_source.specs.Units.{Units}
-use Rattle.hep_source.specs.State.{State, living}
+use Rattle.hep_source.specs.State.{State}
 use Rattle.hep_source.specs.Step.{step}
 use Rattle.hep_source.specs.Run.{state_after}
 use Rattle.hep_source.specs.Histories.{IsDisabled}
 use Rattle.hep_source.specs.Layout.{has_frame, opening_layout}
 use Rattle.hep_source.specs.Schedules.{living_from, next_ready, progress_after, ready_in}
 use Rattle.hep_source.specs.Views.{View, view_of}
+use Rattle.hep_source.specs.Processes.{living}
 use Rattle.hep_core.specs.declared.stop.Stop.{Stop}
 use Rattle.hep_core.specs.declared.stop.Stop.TheVariants.{Halted, ArenaFull, StepLimit}
 use Rattle.hep_core.specs.declared.stop.Turn.{Turn}
@@ -59,22 +60,26 @@ Turned old p zero true new =
     IsDisabled old.program (state_of old) p × (new ≡ grown old p 0 (state_of old))
 Turned old p _ _ new = ⊥
 
--- what came of a choice of p
+-- the core has no stop
+abbrev pub IsGoing : CoreValue → Type 0
+IsGoing core = (core.stop ≡ None) × ((state_of core).halted ≡ false)
+
+-- what came of a choice of p: a stop is told first, then that p doesn't live, then that the history is full, and want of memory last
 abbrev pub Chosen : CoreValue → ℕ → Result Turn ChooseFault → CoreValue → Type 0
-Chosen old p (Ok turn) new = (old.stop ≡ None) × (length old.history < old.limit) × Turned old p turn.steps turn.blocked new
+Chosen old p (Ok turn) new = IsGoing old × (length old.history < old.limit) × Turned old p turn.steps turn.blocked new
 Chosen old p (Err (refused.Stopped stop)) new =
     ((old.stop ≡ Some stop) × (new ≡ old))
-    ⊎ ((old.stop ≡ None) × (living (state_of old) p ≢ None) × (length old.history ≡ old.limit) × (stop ≡ StepLimit) × (new ≡ record old { stop = Some StepLimit }))
-Chosen old p (Err refused.NoSuchProcess) new = (old.stop ≡ None) × (living (state_of old) p ≡ None) × (new ≡ old)
-Chosen old p (Err refused.NoMemory) new = new ≡ old
+    ⊎ (IsGoing old × (living (state_of old) p ≢ None) × (length old.history ≡ old.limit) × (stop ≡ StepLimit) × (new ≡ record old { stop = Some StepLimit }))
+Chosen old p (Err refused.NoSuchProcess) new = IsGoing old × (living (state_of old) p ≡ None) × (new ≡ old)
+Chosen old p (Err refused.NoMemory) new = IsGoing old × (living (state_of old) p ≢ None) × (length old.history < old.limit) × (new ≡ old)
 
 -- ---- stops
 
--- a stop by its name; no step of a program that runs today makes a frame
+-- a stop by its name, and none: the core is Halted just where the machine is; no step of a program that runs today makes a frame
 abbrev pub IsStop : Units → ℕ → List Entry → Option Stop → Type 0
-IsStop program limit history None = Unit {0}
+IsStop program limit history None = (state_after program history).halted ≡ false
 IsStop program limit history (Some Halted) = (state_after program history).halted ≡ true
-IsStop program limit history (Some StepLimit) = length history ≡ limit
+IsStop program limit history (Some StepLimit) = ((state_after program history).halted ≡ false) × (length history ≡ limit)
 IsStop program limit history (Some ArenaFull) = ⊥
 
 -- nothing lives, or all that lives is listed as waiting, or something is ready

@@ -1,6 +1,7 @@
 //! The variables of a unit, in order of first appearance.
 
 ghost use Rattle.std.specs.Prelude.{◌≡◌, ◌∷◌, [], None, IfOk, MatchResult};
+ghost use Rattle.hep_source.specs.Declarations as declarations;
 ghost use Rattle.hep_source.specs.Names as names;
 ghost use Rattle.hep_core.specs.Symbols as table;
 ghost use Rattle.hep_source.specs.Tree.{trees_of};
@@ -14,7 +15,7 @@ use std::alloc::{AllocError, Global};
 /// Whether a variable of this name is an integer without a declaration: its letter is I to N
 /// (X3.9-1978, 4.1.2).
 pub fn is_integer_by_letter(name: &Name) -> bool
-    ensures { result ≡ table.is_integer_by_letter name.now }
+    ensures { result ≡ declarations.is_integer_by_letter name.now }
 {
     b'I' <= name.letters[0] && name.letters[0] <= b'N'
 }
@@ -71,10 +72,8 @@ fn declare_in(
     match &expression.node {
         Node::Constant(_) => Ok(()),
         Node::Place(place) => declare(alloc, symbols, line, place.name),
-        Node::Listed(place, arguments) => {
-            declare(alloc, symbols, line, place.name)?;
-            declare_in_all(alloc, symbols, line, arguments)
-        }
+        // A name with a list would be a variable only where the unit has that array.
+        Node::Listed(_, arguments) => declare_in_all(alloc, symbols, line, arguments),
         Node::Parenthesized(inner) => declare_in(alloc, symbols, line, inner),
         Node::Signed(_, term) => declare_in(alloc, symbols, line, term),
         Node::Negated(operand) => declare_in(alloc, symbols, line, operand),

@@ -1,4 +1,4 @@
--- Character constants, and the items of a PRINT list, which may be some.
+-- Character constants, and the items of a PRINT list, which may be some (X3.9-1978, 4.8 and 12.8).
 use Rattle.std.specs.Prelude.{◌≡◌, ◌≢◌, ℕ, nat_eq, if◌then◌else◌, List, [], ◌∷◌, ◌++◌}
 use Rattle.hep_source.specs.declared.statement.PrintItem.{PrintItem}
 use Rattle.hep_source.specs.declared.statement.PrintItem.TheVariants.{Expression, Characters}

@@ -1,4 +1,5 @@
--- The forms of headers, specification statements and DATA: which texts read as which forms.
+-- The forms of headers, specification statements and DATA: which texts read as which forms (X3.9-1978, sections 8, 9, 14 and 15,
+-- and docs/LANGUAGE.md, 5).
 use Rattle.std.specs.Prelude.{◌≡◌, ◌≢◌, ◌⊎◌, ℕ, ◌≤◌, Bool, true, false, IsTrue, codes, List, [], ◌∷◌, ◌++◌, length, ℤ, pos, neg_ℤ, Option, Some, None}
 use Rattle.hep_source.specs.Tree.{Tree}
 use Rattle.hep_source.specs.declared.name.Place.{Place}

@@ -14,10 +14,11 @@ use Rattle.hep_source.specs.Control.{goes_on, variable_of}
 use Rattle.hep_source.specs.Evaluation.{Redex, reading, signing, negating, combining, applying, testing, Actual, evaluated, referred, Action, assigning, jumping, choosing, branching, testing_condition, entering_block, entering_loop, ending_loop, calling, creating, purging, printing, continuing, leaving, stopping, Next, wants, does}
 use Rattle.hep_source.specs.Laws.{KeepsStatesBut, purges, top_purges, is_purge}
 use Rattle.hep_source.specs.Places.{Scope, located}
-use Rattle.hep_source.specs.State.{Dummy, Level, Loop, State, loop_at}
+use Rattle.hep_source.specs.State.{Dummy, Level, Loop, State, Location, local, common, Cell, Store}
 use Rattle.hep_source.specs.Step.{Answer, gives, waits, fails, by_result, by_value, once_full, read, read_at, tested, tested_at, answer_of, Top, unit_on_top, scope_of, after_answer, assigned, after_assignment, iterations, entered, turned_back, raised, ended, next_activation, called, created, unit_called, binding_of, after_action, after_next, step}
-use Rattle.hep_source.specs.Storage.{Location, local, common, Cell, Store, same_location, with_cell, with_value, with_state}
+use Rattle.hep_source.specs.Storage.{same_location, with_cell, with_value, with_state}
 use Rattle.hep_source.specs.Units.{Units, unit_at, dummies_of}
+use Rattle.hep_source.specs.Processes.{loop_at}
 use Rattle.hep_source.proofs.Locations.{equal_locations}
 use Rattle.hep_source.proofs.Changes.{Makes, by_step, next_on, top_in}
 

@@ -11,10 +11,10 @@ use Rattle.hep_source.specs.Control.{to_end_of, goes_on, goes_to_chosen, label_c
 use Rattle.hep_source.specs.Evaluation.{Action, assigning, jumping, choosing, branching, testing_condition, entering_block, entering_loop, ending_loop, calling, creating, purging, printing, continuing, leaving, stopping, Next, wants, does, next_of}
 use Rattle.hep_source.specs.Layout.{activations_on}
 use Rattle.hep_source.specs.Places.{located}
-use Rattle.hep_source.specs.State.{Activation, Level, Loop, Process, State, living, with_numbered, unit_of, loop_at, with_loop}
+use Rattle.hep_source.specs.State.{Activation, Level, Loop, Process, State, Location, Store}
 use Rattle.hep_source.specs.Step.{Answer, gives, waits, fails, answer_of, Turn, stepped, waiting, absent, Top, unit_on_top, scope_of, after_answer, assigned, after_assignment, all_purged, after_purge, iterations, turned, looped, entered, turned_back, raised, ended, entry_level, next_activation, called, created, unit_called, binding_of, returned, after_action, after_next, turn_of_top, turn_of, state_made, step}
-use Rattle.hep_source.specs.Storage.{Location, Store}
 use Rattle.hep_source.specs.Units.{Units, unit_at}
+use Rattle.hep_source.specs.Processes.{living, with_numbered, unit_of, loop_at, with_loop}
 
 -- ---- what a step can make of the processes and the activations
 

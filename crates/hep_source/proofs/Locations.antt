@@ -6,7 +6,8 @@ use Rattle.hep_source.specs.declared.name.Name.{Name}
 use Rattle.hep_source.specs.Arithmetic.{same_truth}
 use Rattle.hep_source.specs.Declarations.{Block, same_block}
 use Rattle.hep_source.specs.Names.{same_letters, same_name}
-use Rattle.hep_source.specs.Storage.{Location, local, common, same_location}
+use Rattle.hep_source.specs.Storage.{same_location}
+use Rattle.hep_source.specs.State.{Location, local, common}
 
 both : (a b : Bool) → (a && b) ≡ true → (a ≡ true) × (b ≡ true)
 both true b e = (refl, e)

@@ -6,9 +6,10 @@ use Rattle.std.proofs.lemmas.Bool.Decides.{eqb_tells}
 use Rattle.std.proofs.lemmas.List.{length-set, length-append}
 use Rattle.hep_source.specs.Laws.{IsSameOrOneMore}
 use Rattle.hep_source.specs.Run.{turn}
-use Rattle.hep_source.specs.State.{Process, State, top_of, living, numbered, with_numbered}
+use Rattle.hep_source.specs.State.{Process, State}
 use Rattle.hep_source.specs.Step.{Top, step}
 use Rattle.hep_source.specs.Units.{Units}
+use Rattle.hep_source.specs.Processes.{top_of, living, numbered, with_numbered}
 use Rattle.hep_source.proofs.Changes.{Change, moves, leaves, faults, calls, creates, stops, HasStack, HasStepped, top_in, step_changes}
 
 -- ---- lists with one element changed

@@ -6,9 +6,9 @@ use Rattle.hep_source.specs.Declarations.{is_array, is_nonempty}
 use Rattle.hep_source.specs.Evaluation.{Reference, Action, purging, Next, wants, does}
 use Rattle.hep_source.specs.Laws.{FillsNone, purges, top_purges, is_purge}
 use Rattle.hep_source.specs.Places.{Scope, extent_of, located}
-use Rattle.hep_source.specs.State.{State}
+use Rattle.hep_source.specs.State.{State, Location, Store}
 use Rattle.hep_source.specs.Step.{Top, scope_of, purged_at, purged, then_purged, all_purged, after_purge, after_action, after_next, step}
-use Rattle.hep_source.specs.Storage.{Location, Store, same_location, further, with_state, emptied_from}
+use Rattle.hep_source.specs.Storage.{same_location, further, with_state, emptied_from}
 use Rattle.hep_source.specs.Units.{Units}
 use Rattle.hep_source.proofs.Changes.{Makes, by_step, next_on, top_in}
 

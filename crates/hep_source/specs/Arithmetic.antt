@@ -19,7 +19,7 @@ use Rattle.hep_source.specs.declared.value.Value.{Value}
 use Rattle.hep_source.specs.declared.value.Value.TheVariants.{Int, Truth}
 use Rattle.hep_source.specs.Unreached.{no_integer, no_truth}
 
--- ---- integers
+-- ---- integers: 4.3 and 6.1
 
 -- an integer is from -9223372036854775808 to 9223372036854775807
 abbrev pub is_integer : ℤ → Bool
@@ -112,7 +112,7 @@ function_result Largest (x ∷ xs) = Ok (largest_of x xs)
 function_result Smallest (x ∷ xs) = Ok (smallest_of x xs)
 function_result _ _ = Ok no_integer
 
--- ---- values
+-- ---- values: 4.3 and 4.7
 
 abbrev pub integer_of : Value → ℤ
 integer_of (Int z) = z

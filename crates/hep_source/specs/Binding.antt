@@ -10,11 +10,11 @@ use Rattle.hep_source.specs.Declarations.{is_array, is_dummy, is_common, is_none
 use Rattle.hep_source.specs.Evaluation.{Actual, evaluated, referred, Reference}
 use Rattle.hep_source.specs.Places.{Scope, Extent, extent_of, element_of}
 use Rattle.hep_source.specs.Shapes.{Bounds, elements}
-use Rattle.hep_source.specs.State.{Dummy}
-use Rattle.hep_source.specs.Storage.{local, Store, with_value, further}
+use Rattle.hep_source.specs.State.{Dummy, local, Store}
+use Rattle.hep_source.specs.Storage.{with_value, further}
 use Rattle.hep_source.specs.Units.{dummies_of}
 
--- ---- actual arguments
+-- ---- actual arguments: 15.9.2 and 15.9.3
 
 -- a sequence that begins with an element of an array has the elements from there on
 abbrev pub from_element : Extent → Result ℕ Kind → Result Dummy Kind
@@ -72,7 +72,7 @@ abbrev pub with_shapes : Scope → Store → List Name → List Dummy → Result
 with_shapes scope store (x ∷ xs) (d ∷ ds) = dummy_before (with_shape scope store x d) (with_shapes scope store xs ds)
 with_shapes scope store _ _ = Ok []
 
--- ---- binding
+-- ---- binding: docs/MACHINE.md, "Binding"
 
 -- a new activation's dummy arguments, and the store that they are in
 pub record Binding : Type 0 where

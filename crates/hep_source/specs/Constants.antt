@@ -16,8 +16,9 @@ use Rattle.hep_source.specs.Declarations.{named_constants, dimensions_of, is_non
 use Rattle.hep_source.specs.Functions.{Listed, pure, listed_meaning}
 use Rattle.hep_source.specs.Names.{same_name}
 use Rattle.hep_source.specs.Shapes.{Bound, Bounds, is_shape, elements}
+use Rattle.hep_source.specs.Unreached.{no_cells}
 
--- ---- expressions
+-- ---- expressions: 6.1.3 and 6.4.4
 
 -- what names have as values
 abbrev pub Values : Type 0
@@ -86,7 +87,7 @@ constants_of unit = given_by unit [] (named_constants unit)
 abbrev pub constant_value : List Statement → Values
 constant_value unit x = value_among (constants_of unit) x
 
--- ---- shapes: 5.1
+-- ---- shapes: 5.1.1.2 and 5.2
 
 abbrev pub upper_value : List Statement → Values → UpperBound → Option (Option ℤ)
 upper_value unit values Open = Some None
@@ -126,7 +127,7 @@ constant_shape unit x = if is_nonempty (dimensions_of unit x) then shape_by unit
 
 -- the cells of a scalar or an array of constant shape
 abbrev pub cells_of_shape : Option Bounds → ℕ
-cells_of_shape None = 0
+cells_of_shape None = no_cells
 cells_of_shape (Some bs) = unwrap_or (elements bs) 0
 
 abbrev pub cells_of : List Statement → Name → ℕ
@@ -152,7 +153,7 @@ is_constant_dimension unit d = is_constant_lower unit d.lower && is_constant_upp
 abbrev pub adjustable_dimensions : List Statement → Name → ℕ
 adjustable_dimensions unit x = if list_all (is_constant_dimension unit) (dimensions_of unit x) then 0 else length (dimensions_of unit x)
 
--- ---- positions in common blocks: 8.3.1
+-- ---- positions in common blocks: 8.3.2
 
 abbrev pub cells_of_all : List Statement → List Name → ℕ
 cells_of_all unit [] = 0

@@ -1,5 +1,5 @@
 -- Which statement comes next: X3.9-1978, section 11.
-use Rattle.std.specs.Prelude.{ℕ, zero, suc, ◌+◌, ℤ, pos, negsuc, Bool, true, false, ◌&&◌, nat_eq, if◌then◌else◌, List, [], ◌∷◌, Option, Some, None, take, drop, length, slice_get}
+use Rattle.std.specs.Prelude.{ℕ, zero, suc, ◌+◌, ℤ, pos, negsuc, Bool, true, false, ◌&&◌, nat_eq, if◌then◌else◌, List, [], ◌∷◌, Option, Some, None, take, drop, slice_get}
 use Rattle.std.specs.Option.{option_map, unwrap_or}
 use Rattle.hep_source.specs.Tree.{Tree}
 use Rattle.hep_source.specs.declared.name.Name.{Name}
@@ -8,7 +8,7 @@ use Rattle.hep_source.specs.declared.statement.Form.TheVariants as form
 use Rattle.hep_source.specs.declared.statement.SignLabels.{SignLabels}
 use Rattle.hep_source.specs.declared.statement.Statement.{Statement}
 use Rattle.hep_source.specs.State.{Level, Work, doing, ending}
-use Rattle.hep_source.specs.Unreached.{no_name}
+use Rattle.hep_source.specs.Unreached.{no_name, no_place}
 use Rattle.hep_source.specs.Units.{is_executable, executable_from, statement_at}
 
 -- ---- labels: 3.4
@@ -28,9 +28,8 @@ place_found test (x ∷ xs) = if test x then Some 0 else option_map suc (place_f
 abbrev pub place_labelled : List Statement → ℕ → Option ℕ
 place_labelled unit l = place_found (is_labelled l) unit
 
--- where no statement has the label, the end of the unit
 abbrev pub place_of_label : List Statement → ℕ → ℕ
-place_of_label unit l = unwrap_or (place_labelled unit l) (length unit)
+place_of_label unit l = unwrap_or (place_labelled unit l) (no_place unit)
 
 -- ---- block IFs: 11.6 to 11.9
 
@@ -117,7 +116,7 @@ loops_among unit k j [] found = found
 loops_among unit k j (s ∷ ss) found =
     loops_among unit k (suc j) ss (if is_ended_at unit k (terminal_by_form s.conditions s.form) then j ∷ found else found)
 
--- the DO statements that end at place k, the innermost first
+-- the DO statements that end at place k, the innermost first: whoever is there is in all their ranges, by condition 308
 abbrev pub loops_ending_at : List Statement → ℕ → List ℕ
 loops_ending_at unit k = loops_among unit k 0 (take k unit) []
 
@@ -127,7 +126,7 @@ loops_around d [] = []
 loops_around d (e ∷ es) = if nat_eq e d then es else loops_around d es
 
 abbrev pub terminal_of : List Statement → ℕ → ℕ
-terminal_of unit d = unwrap_or (option_map (place_of_label unit) (terminal_by_form [] (statement_at unit d).form)) (length unit)
+terminal_of unit d = unwrap_or (option_map (place_of_label unit) (terminal_by_form [] (statement_at unit d).form)) (no_place unit)
 
 abbrev pub variable_by_form : Form → Name
 variable_by_form (form.Do c) = c.variable.name
@@ -137,12 +136,12 @@ variable_by_form _ = no_name
 abbrev pub variable_of : List Statement → ℕ → Name
 variable_of unit d = variable_by_form (statement_at unit d).form
 
--- ---- where an activation goes
+-- ---- where an activation goes: 3.6
 
 abbrev pub at_statement : List Statement → Level → ℕ → Level
 at_statement unit level k = record level { statement = k; work = doing (statement_at unit k).conditions (statement_at unit k).form }
 
--- to the end of the innermost of these DOs, which end at place k, or else to the next statement
+-- to the end of the innermost of these DOs, which end at place k (11.10.6), or else to the next statement
 abbrev pub to_end_of : List Statement → Level → ℕ → List ℕ → Level
 to_end_of unit level k [] = at_statement unit level (following unit k)
 to_end_of unit level k (d ∷ ds) = record level { statement = k; work = ending d }
@@ -155,7 +154,7 @@ goes_on unit level = to_end_of unit level level.statement (loops_ending_at unit 
 abbrev pub leaves_loop : List Statement → Level → ℕ → Level
 leaves_loop unit level d = to_end_of unit level (terminal_of unit d) (loops_around d (loops_ending_at unit (terminal_of unit d)))
 
--- to the first statement of the range of the DO at place d
+-- to the first statement of the range of the DO at place d: 11.10.5
 abbrev pub enters_range : List Statement → Level → ℕ → Level
 enters_range unit level d = at_statement unit level (following unit d)
 
@@ -178,7 +177,7 @@ label_by_sign labels (pos zero) = labels.zero
 label_by_sign labels (pos (suc n)) = labels.positive
 label_by_sign labels (negsuc n) = labels.negative
 
--- IF THEN and ELSE IF: 11.6.1 and 11.7.1
+-- IF THEN and ELSE IF: 11.6.3 and 11.7.2
 abbrev pub enters_block : List Statement → Level → Bool → Level
 enters_block unit level true = at_statement unit level (following unit level.statement)
 enters_block unit level false = at_statement unit level (alternative_of unit level.statement)

@@ -1,6 +1,6 @@
 -- What the specification statements of a unit say of a name: X3.9-1978, section 8.
 use Rattle.std.specs.Prelude.{ℕ, Bool, true, false, ◌&&◌, nat_le, if◌then◌else◌, List, [], ◌∷◌, ◌++◌, get_or, Option, Some, None, is_some}
-use Rattle.std.specs.Option.{option_or, option_map}
+use Rattle.std.specs.Option.{option_or, option_map, option_map_or}
 use Rattle.std.specs.List.{list_any, flat_map}
 use Rattle.hep_source.specs.declared.declaration.ValueType.{ValueType}
 use Rattle.hep_source.specs.declared.declaration.ValueType.TheVariants.{Integer}
@@ -48,16 +48,20 @@ abbrev pub implicit_type : ℕ → List Statement → Option ValueType
 implicit_type c [] = None
 implicit_type c (s ∷ ss) = option_or (type_by_implicit c s.form) (implicit_type c ss)
 
--- integers begin with I to N, and all other names are real, which no variable is here
-abbrev pub type_by_letter : ℕ → Option ValueType
-type_by_letter c = if nat_le 73 c && nat_le c 78 then Some Integer else None
-
 abbrev pub first_letter : Name → ℕ
 first_letter x = get_or x.letters 0 0
 
+-- without a declaration a name is an integer where its letter is I to N: 4.1.2
+abbrev pub is_integer_by_letter : Name → Bool
+is_integer_by_letter x = nat_le 73 (first_letter x) && nat_le (first_letter x) 78
+
+-- and else it is real, which no variable is here
+abbrev pub type_by_letter : Name → Option ValueType
+type_by_letter x = if is_integer_by_letter x then Some Integer else None
+
 -- the type of a name in a unit, none where it is real
 abbrev pub type_of : List Statement → Name → Option ValueType
-type_of unit x = option_or (declared_type x unit) (option_or (implicit_type (first_letter x) unit) (type_by_letter (first_letter x)))
+type_of unit x = option_or (declared_type x unit) (option_or (implicit_type (first_letter x) unit) (type_by_letter x))
 
 -- ---- arrays: 5.1, 8.1, 8.3 and 8.4
 
@@ -71,10 +75,17 @@ declarators_in (form.Dimension ds) = ds
 declarators_in (form.Common blocks) = entries_of_blocks blocks
 declarators_in _ = []
 
--- the dimensions that these declarators give a name, none where they give it none
+abbrev pub is_nonempty : {A : Type 0} → List A → Bool
+is_nonempty [] = false
+is_nonempty (x ∷ xs) = true
+
+-- the first of these declarators that gives a name dimensions
+abbrev pub declarator_among : Name → List Declarator → Option Declarator
+declarator_among x [] = None
+declarator_among x (d ∷ ds) = if same_name d.place.name x && is_nonempty d.dimensions then Some d else declarator_among x ds
+
 abbrev pub dimensions_among : Name → List Declarator → List Dimension
-dimensions_among x [] = []
-dimensions_among x (d ∷ ds) = if same_name d.place.name x then d.dimensions ++ dimensions_among x ds else dimensions_among x ds
+dimensions_among x ds = option_map_or (λ (d : Declarator). d.dimensions) (declarator_among x ds) []
 
 abbrev pub declarators_of : List Statement → List Declarator
 declarators_of unit = flat_map (λ (s : Statement). declarators_in s.form) unit
@@ -82,10 +93,6 @@ declarators_of unit = flat_map (λ (s : Statement). declarators_in s.form) unit
 -- the dimensions of a name in a unit; a scalar has none
 abbrev pub dimensions_of : List Statement → Name → List Dimension
 dimensions_of unit x = dimensions_among x (declarators_of unit)
-
-abbrev pub is_nonempty : {A : Type 0} → List A → Bool
-is_nonempty [] = false
-is_nonempty (x ∷ xs) = true
 
 abbrev pub is_array : List Statement → Name → Bool
 is_array unit x = is_nonempty (dimensions_of unit x)

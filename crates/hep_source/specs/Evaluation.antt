@@ -23,6 +23,8 @@ use Rattle.hep_source.specs.Functions.{Listed, element, pure, state, unknown, li
 use Rattle.hep_source.specs.State.{Work, doing, ending}
 use Rattle.hep_source.specs.Unreached.{no_value, no_name}
 
+-- ---- redexes: docs/MACHINE.md, "Evaluation"
+
 -- a redex: a part whose operands are values
 pub data Redex : Type 0 where
   reading : (reference : Name × List Value) → Redex
@@ -52,7 +54,7 @@ abbrev pub redex_of : {A B : Type 0} → (A → Redex) → Part A → Part B
 redex_of f (whole x) = hole (f x)
 redex_of f (hole r) = hole r
 
--- ---- expressions: operands from left to right
+-- ---- expressions: operands from left to right (6.6)
 
 -- a variable, an array or an element: its name with the values of its subscripts
 abbrev pub Reference : Type 0
@@ -124,7 +126,7 @@ abbrev mutual
   plug_all unit no_trees v = no_trees
   plug_all unit (trees t ts) v = plugged_first (part_of unit t) (trees (plug unit t v) ts) (trees t (plug_all unit ts v))
 
--- ---- lists of expressions
+-- ---- lists of expressions: 5.4 and 15.9.2
 
 abbrev pub list_part : List Statement → List Tree → Part (List Value)
 list_part unit ts = parts_of unit (trees_of ts)
@@ -133,7 +135,7 @@ abbrev pub plug_list : List Statement → List Tree → Value → List Tree
 plug_list unit [] v = []
 plug_list unit (t ∷ ts) v = plugged_first (part_of unit t) (plug unit t v ∷ ts) (t ∷ plug_list unit ts v)
 
--- ---- actual arguments: 15.9.3
+-- ---- actual arguments: 15.9.2 and 15.9.3
 
 -- an expression by its value; a variable, an element or a whole array by its place, which isn't read
 pub data Actual : Type 0 where
@@ -161,7 +163,7 @@ abbrev pub plug_actuals : List Statement → List Tree → Value → List Tree
 plug_actuals unit [] v = []
 plug_actuals unit (t ∷ ts) v = plugged_first (actual_of unit t) (plug unit t v ∷ ts) (t ∷ plug_actuals unit ts v)
 
--- ---- what is assigned or purged
+-- ---- what is assigned (10.1 and 10.2) or purged (docs/LANGUAGE.md, 9)
 
 abbrev pub target_part : List Statement → Target → Part Reference
 target_part unit t = mapped_part (λ vs. (t.place.name, vs)) (list_part unit t.subscripts)
@@ -177,7 +179,7 @@ abbrev pub plug_targets : List Statement → List Target → Value → List Targ
 plug_targets unit [] v = []
 plug_targets unit (t ∷ ts) v = plugged_first (target_part unit t) (plug_target unit t v ∷ ts) (t ∷ plug_targets unit ts v)
 
--- ---- items of a PRINT, from left to right
+-- ---- items of a PRINT, from left to right: 12.8.2
 
 abbrev pub item_of : Value → Item
 item_of (value.Int z) = item.Int z
@@ -199,7 +201,7 @@ abbrev pub plug_items : List Statement → List PrintItem → Value → List Pri
 plug_items unit [] v = []
 plug_items unit (i ∷ is) v = plugged_first (item_part unit i) (plug_item unit i v ∷ is) (i ∷ plug_items unit is v)
 
--- ---- DO: 11.10.1, its increment is 1 where it has none
+-- ---- DO: 11.10.3, its increment is 1 where it has none
 
 abbrev pub increment_of : Option Tree → Tree
 increment_of None = constant (value.Int (pos 1))
@@ -215,7 +217,7 @@ plug_control unit c v =
     plugged_first (part_of unit c.limit) (record c { limit = plug unit c.limit v }) (
     record c { increment = Some (plug unit (increment_of c.increment) v) }))
 
--- ---- statements
+-- ---- statements: docs/MACHINE.md, "Steps"
 
 -- what a statement does once all its operands are values
 pub data Action : Type 0 where

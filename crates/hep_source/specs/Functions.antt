@@ -23,7 +23,7 @@ pure_functions =
 abbrev pub state_functions : List (List ℕ × StateFunction)
 state_functions = (codes "FULL", IsFull) ∷ (codes "EMPTY", IsEmpty) ∷ (codes "VALUE", ValueOf) ∷ (codes "SETE", SetEmpty) ∷ (codes "WAITF", WaitFull) ∷ []
 
--- ---- what a name with a list is: an element of the unit's array, or a reference of a function (5.4.1 and 15.5)
+-- ---- what a name with a list is: an element of the unit's array, or a reference of a function (5.3 and 15.3)
 
 pub data Listed : Type 0 where
   element : Listed

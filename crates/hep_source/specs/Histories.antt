@@ -1,4 +1,4 @@
--- Histories that a core may have.
+-- Histories that a core may have: docs/MACHINE.md, "Histories".
 use Rattle.std.specs.Prelude.{◌≡◌, ◌≢◌, ◌⊎◌, ℕ, zero, suc, ◌≤◌, List, [], ◌∷◌, length, None, IsSome}
 use Rattle.hep_source.specs.declared.event.Entry.{Entry}
 use Rattle.hep_source.specs.Layout.{layout_of, has_frame}

@@ -1,14 +1,15 @@
--- Words of the laws of the source machine.
+-- Words of the laws of the source machine: docs/MACHINE.md.
 use Rattle.std.specs.Prelude.{◌≡◌, ◌≢◌, ◌⊎◌, ℕ, ◌+◌, ◌<◌, ◌≤◌, Bool, true, false, List, [], ◌∷◌, ◌++◌, Option, Some, None}
 use Rattle.hep_source.specs.declared.event.Entry.{Entry}
 use Rattle.hep_source.specs.Evaluation.{purging, Next, does, next_of}
 use Rattle.hep_source.specs.Histories.{turns}
 use Rattle.hep_source.specs.Layout.{activations_on, is_number_among, is_held, Layout}
 use Rattle.hep_source.specs.Run.{turn}
-use Rattle.hep_source.specs.State.{Level, Process, State, numbered, living, activation_of, unit_of}
+use Rattle.hep_source.specs.State.{Level, Process, State, Location, Store}
 use Rattle.hep_source.specs.Step.{step}
-use Rattle.hep_source.specs.Storage.{Location, Store, same_location}
+use Rattle.hep_source.specs.Storage.{same_location}
 use Rattle.hep_source.specs.Units.{Units, unit_at}
+use Rattle.hep_source.specs.Processes.{numbered, living, activation_of, unit_of}
 
 -- from a cell on, frames one behind the other: none is empty, each ends before the next one begins, and all end within the arena
 abbrev pub StandApart : ℕ → ℕ → Layout → Type 0

@@ -6,9 +6,10 @@ use Rattle.hep_source.specs.Constants.{cells_of_all}
 use Rattle.hep_source.specs.Declarations.{Block, names_in_block, blocks_of}
 use Rattle.hep_source.specs.Opening.{opening}
 use Rattle.hep_source.specs.Run.{turn}
-use Rattle.hep_source.specs.State.{State, Process, unit_of, activation_of}
+use Rattle.hep_source.specs.State.{State, Process}
 use Rattle.hep_source.specs.Units.{Units, unit_at}
 use Rattle.hep_source.specs.Variables.{frame_cells}
+use Rattle.hep_source.specs.Processes.{unit_of, activation_of}
 
 -- ---- COMMON: each block at its greatest length, in order of first appearance (X3.9-1978, 8.3.3)
 
@@ -23,7 +24,7 @@ cells_of_blocks program (b ∷ bs) = block_cells program b + cells_of_blocks pro
 abbrev pub common_cells : Units → ℕ
 common_cells program = cells_of_blocks program (blocks_of program)
 
--- ---- held activations
+-- ---- held activations: "Layout"
 
 abbrev pub activations_on : Process → List ℕ
 activations_on [] = []
@@ -52,7 +53,7 @@ is_made s a = true
 abbrev pub has_frame : State → ℕ → Bool
 has_frame s a = is_made s a
 
--- ---- where frames are
+-- ---- where frames are: "Layout"
 
 -- a frame: the activation, its first cell and how many there are
 pub record Frame : Type 0 where
@@ -117,7 +118,7 @@ abbrev pub layout_of : Units → ℕ → (State → ℕ → Bool) → List ℕ �
 layout_of program cells has processes =
     (placing_from program cells has (record { state = opening program; layout = opening_layout program cells }) processes).layout
 
--- ---- cells in use
+-- ---- cells in use: "Layout"
 
 abbrev pub frames_up_to : Units → (State → ℕ → Bool) → State → ℕ → ℕ
 frames_up_to program has s zero = 0

@@ -23,7 +23,7 @@ letters_of (c ∷ cs) = if nat_eq c 32 then letters_of cs else c ∷ letters_of 
 abbrev pub spelling : Name → List ℕ
 spelling x = (if x.asynchronous then 36 ∷ [] else []) ++ letters_of x.letters
 
--- ---- lists of names
+-- ---- lists of names: docs/MACHINE.md, "Names and units"
 
 abbrev pub is_among : Name → List Name → Bool
 is_among x [] = false

@@ -1,5 +1,5 @@
--- Which storage units a name is in an activation: X3.9-1978, 2.14, 5.4, 8.3 and 15.9.3.
-use Rattle.std.specs.Prelude.{ℕ, ◌+◌, ◌-◌, nat_le, if◌then◌else◌, List, [], Option, Some, None, Result, Ok, Err, slice_get}
+-- Which storage units a name is in an activation: X3.9-1978, 2.13, 2.14, 5.2.5, 8.3.2 and 15.9.3.
+use Rattle.std.specs.Prelude.{ℕ, ◌+◌, ◌-◌, nat_le, if◌then◌else◌, List, Option, Some, None, Result, Ok, Err, slice_get}
 use Rattle.std.specs.Option.{unwrap_or}
 use Rattle.hep_source.specs.declared.event.Kind.{Kind}
 use Rattle.hep_source.specs.declared.event.Kind.TheVariants.{Range}
@@ -11,19 +11,16 @@ use Rattle.hep_source.specs.Constants.{cells_of_shape, constant_shape, cells_bef
 use Rattle.hep_source.specs.Declarations.{Block, common_block, names_in_block}
 use Rattle.hep_source.specs.Names.{place_among}
 use Rattle.hep_source.specs.Shapes.{Bounds, elements, element_number}
-use Rattle.hep_source.specs.Storage.{Location, local, common, further}
-use Rattle.hep_source.specs.State.{Dummy}
+use Rattle.hep_source.specs.Storage.{further}
+use Rattle.hep_source.specs.State.{Dummy, Location, local, common}
 use Rattle.hep_source.specs.Units.{dummies_of}
+use Rattle.hep_source.specs.Unreached.{no_dummy, no_shape}
 
 -- an activation as its statements see it: the unit, the number, and what the dummy arguments stand for
 pub record Scope : Type 0 where
   pub unit : List Statement
   pub number : ℕ
   pub dummies : List Dummy
-
--- for a dummy argument that has no actual argument
-abbrev pub no_dummy : Dummy
-no_dummy = record { start = common None 0; rest = 0; shape = [] }
 
 abbrev pub dummy_at : List Dummy → ℕ → Dummy
 dummy_at dummies i = unwrap_or (slice_get dummies i) no_dummy
@@ -33,10 +30,6 @@ pub record Extent : Type 0 where
   pub start : Location
   pub rest : ℕ
   pub shape : Bounds
-
-abbrev pub shape_or_none : Option Bounds → Bounds
-shape_or_none None = []
-shape_or_none (Some bs) = bs
 
 abbrev pub start_by_block : Scope → Name → Option Block → Location
 start_by_block scope x None = local scope.number x 1
@@ -48,7 +41,7 @@ own_extent scope x =
     record {
       start = start_by_block scope x (common_block scope.unit x);
       rest = cells_of_shape (constant_shape scope.unit x);
-      shape = shape_or_none (constant_shape scope.unit x);
+      shape = unwrap_or (constant_shape scope.unit x) no_shape;
     }
 
 -- a dummy array of known shape has the elements of that shape, one that is open all that is left of its actual argument
@@ -62,7 +55,7 @@ extent_by_place scope x (Some i) = extent_of_dummy (dummy_at scope.dummies i)
 abbrev pub extent_of : Scope → Name → Extent
 extent_of scope x = extent_by_place scope x (place_among x (dummies_of scope.unit))
 
--- ---- elements
+-- ---- elements: 5.3 and 5.4
 
 abbrev pub element_in : Extent → Option ℕ → Result ℕ Kind
 element_in e None = Err Range

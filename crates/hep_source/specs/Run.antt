@@ -1,4 +1,4 @@
--- Whole runs.
+-- Whole runs: docs/MACHINE.md, "The opening and runs".
 use Rattle.std.specs.Prelude.{ℕ, List, [], ◌∷◌, ◌++◌, replicate}
 use Rattle.std.specs.Option.{unwrap_or}
 use Rattle.hep_source.specs.declared.event.Entry.{Entry}

@@ -8,7 +8,7 @@ use Rattle.hep_source.specs.State.{Process, State}
 use Rattle.hep_source.specs.Step.{wanted_by}
 use Rattle.hep_source.specs.Units.{Units}
 
--- ---- listed processes
+-- ---- listed processes: "Which process comes next"
 
 -- p lives and its next step waits for a storage unit
 abbrev pub is_waiting : Units → State → ℕ → Bool
@@ -48,7 +48,7 @@ progress_after program history = progress_from program (record { state = opening
 abbrev pub is_listed : List ℕ → ℕ → Bool
 is_listed ps p = list_any (nat_eq p) ps
 
--- ---- the process that comes next by itself
+-- ---- the process that comes next by itself: "Which process comes next"
 
 abbrev pub living_from : ℕ → List Process → List ℕ
 living_from k [] = []

@@ -13,7 +13,7 @@ abbrev pub natural : ℤ → ℕ
 natural (pos n) = n
 natural (negsuc n) = 0
 
--- how many subscripts lie from the lower to the upper bound: 5.1.1.2
+-- the size of a dimension, none where its upper bound is open: 5.2.2
 abbrev pub size_between : ℤ → Option ℤ → Option ℕ
 size_between l None = None
 size_between l (Some u) = Some (natural ((u -ℤ l) +ℤ pos 1))
@@ -26,7 +26,7 @@ product None n = None
 product (Some m) None = None
 product (Some m) (Some n) = Some (m * n)
 
--- how many elements an array has, none where its last bound is open: 5.2.2
+-- how many elements an array has, none where its last bound is open: 5.2.3
 abbrev pub elements : Bounds → Option ℕ
 elements [] = Some 1
 elements (b ∷ bs) = product (extent b) (elements bs)
@@ -34,7 +34,7 @@ elements (b ∷ bs) = product (extent b) (elements bs)
 abbrev pub most_elements : ℕ
 most_elements = 2 ^ 20
 
--- an upper bound below its lower one makes no dimension; an open one stands last
+-- an upper bound below its lower one makes no dimension (5.1.1.2); an open one stands last (5.1.2)
 abbrev pub is_between : ℤ → Option ℤ → Bounds → Bool
 is_between l None [] = true
 is_between l None (b ∷ bs) = false
@@ -48,11 +48,11 @@ abbrev pub is_most : Option ℕ → Bool
 is_most None = true
 is_most (Some n) = nat_le n most_elements
 
--- one to seven dimensions, and no more than 1,048,576 elements
+-- one to seven dimensions (5.1.1), and no more than 1,048,576 elements (docs/LANGUAGE.md, 7)
 abbrev pub is_shape : Bounds → Bool
 is_shape bs = nat_le 1 (length bs) && (nat_le (length bs) 7 && (are_dimensions bs && is_most (elements bs)))
 
--- ---- elements
+-- ---- elements: 5.2.4 and 5.4
 
 abbrev pub is_below : ℤ → Option ℤ → Bool
 is_below s None = true

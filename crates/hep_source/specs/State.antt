@@ -1,15 +1,30 @@
--- Activations, processes, and the state of the machine: docs/MACHINE.md.
-use Rattle.std.specs.Prelude.{ℕ, zero, suc, ◌-◌, ℤ, pos, Bool, nat_eq, if◌then◌else◌, List, [], ◌∷◌, Option, Some, None, slice_get, slice_set}
-use Rattle.std.specs.Option.{unwrap_or}
+-- What a state of the machine is: docs/MACHINE.md, "Storage" and "Activations and processes".
+use Rattle.std.specs.Prelude.{ℕ, ℤ, Bool, List, Option}
 use Rattle.hep_source.specs.Tree.{Tree}
 use Rattle.hep_source.specs.declared.event.Fault.{Fault}
+use Rattle.hep_source.specs.declared.name.Name.{Name}
 use Rattle.hep_source.specs.declared.record.Item.{Item}
 use Rattle.hep_source.specs.declared.statement.Form.{Form}
+use Rattle.hep_source.specs.declared.value.Value.{Value}
 use Rattle.hep_source.specs.Shapes.{Bounds}
-use Rattle.hep_source.specs.Storage.{Store, Location}
-use Rattle.hep_source.specs.Unreached.{no_unit}
 
--- ---- activations
+-- ---- storage: "Storage"
+
+-- where a storage unit is: an element of a variable of an activation, or a position in a common block, both counted from 1
+-- (X3.9-1978, 2.13, 5.2.5 and 8.3.2)
+pub data Location : Type 0 where
+  local : (activation : ℕ) (name : Name) (element : ℕ) → Location
+  common : (block : Option Name) (position : ℕ) → Location
+
+-- a storage unit: the value that was stored last, if any, and whether it is full
+pub record Cell : Type 0 where
+  pub value : Option Value
+  pub full : Bool
+
+abbrev pub Store : Type 0
+Store = Location → Cell
+
+-- ---- activations: "Activations and processes"
 
 -- what a dummy argument stands for: its first storage unit, how many the actual argument has from there, and its shape,
 -- fixed when the activation began
@@ -24,7 +39,7 @@ pub record Activation : Type 0 where
   pub parent : Option ℕ
   pub dummies : List Dummy
 
--- ---- processes
+-- ---- processes: "Activations and processes"
 
 -- what is left of a statement: the conditions before its form, or the end of the DO at a place (X3.9-1978, 11.10.4 to 11.10.7)
 pub data Work : Type 0 where
@@ -48,7 +63,7 @@ pub record Level : Type 0 where
 abbrev pub Process : Type 0
 Process = List Level
 
--- ---- the machine
+-- ---- the machine: "Activations and processes"
 
 pub record State : Type 0 where
   -- processes and activations by number, counted from 1
@@ -58,47 +73,3 @@ pub record State : Type 0 where
   pub records : List (List Item)
   pub faults : List Fault
   pub halted : Bool
-
--- what has this number, counted from 1
-abbrev pub numbered : {A : Type 0} → List A → ℕ → Option A
-numbered xs zero = None
-numbered xs (suc k) = slice_get xs k
-
-abbrev pub with_numbered : {A : Type 0} → List A → ℕ → A → List A
-with_numbered xs k x = slice_set xs (k - 1) x
-
-abbrev pub top_of : Option Process → Option (Level × Process)
-top_of None = None
-top_of (Some []) = None
-top_of (Some (level ∷ levels)) = Some (level, levels)
-
--- the top of a living process, and what is below it
-abbrev pub living : State → ℕ → Option (Level × Process)
-living s p = top_of (numbered s.processes p)
-
-abbrev pub with_process : State → ℕ → Process → State
-with_process s p q = record s { processes = with_numbered s.processes p q }
-
--- for a number that no activation has
-abbrev pub no_activation : Activation
-no_activation = record { unit = no_unit; parent = None; dummies = [] }
-
-abbrev pub activation_of : State → ℕ → Activation
-activation_of s a = unwrap_or (numbered s.activations a) no_activation
-
--- the unit of an activation, by its number in the program
-abbrev pub unit_of : State → ℕ → ℕ
-unit_of s a = (activation_of s a).unit
-
--- ---- DOs
-
-abbrev pub no_loop : ℕ → Loop
-no_loop d = record { place = d; count = pos 0; increment = pos 1 }
-
-abbrev pub loop_at : List Loop → ℕ → Loop
-loop_at [] d = no_loop d
-loop_at (l ∷ ls) d = if nat_eq l.place d then l else loop_at ls d
-
-abbrev pub with_loop : List Loop → Loop → List Loop
-with_loop [] l = l ∷ []
-with_loop (k ∷ ks) l = if nat_eq k.place l.place then l ∷ ks else k ∷ with_loop ks l

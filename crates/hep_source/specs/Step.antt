@@ -17,12 +17,14 @@ use Rattle.hep_source.specs.Control.{goes_on, goes_to, goes_to_chosen, label_cho
 use Rattle.hep_source.specs.Declarations.{is_array, is_nonempty}
 use Rattle.hep_source.specs.Evaluation.{Redex, reading, signing, negating, combining, applying, testing, Reference, Actual, Action, assigning, jumping, choosing, branching, testing_condition, entering_block, entering_loop, ending_loop, calling, creating, purging, printing, continuing, leaving, stopping, Next, wants, does, next_of, plug_work}
 use Rattle.hep_source.specs.Places.{Scope, extent_of, located}
-use Rattle.hep_source.specs.State.{Level, Loop, Process, State, doing, living, unit_of, activation_of, with_process, loop_at, with_loop}
-use Rattle.hep_source.specs.Storage.{Location, Store, with_value, with_cell, with_state, emptied_from}
+use Rattle.hep_source.specs.Shapes.{natural}
+use Rattle.hep_source.specs.State.{Level, Loop, Process, State, doing, Location, Store}
+use Rattle.hep_source.specs.Storage.{with_value, with_cell, with_state, emptied_from}
 use Rattle.hep_source.specs.Units.{Units, unit_at, line_at, executable_from, subroutine_called}
 use Rattle.hep_source.specs.Unreached.{no_unit}
+use Rattle.hep_source.specs.Processes.{living, unit_of, activation_of, with_process, loop_at, with_loop}
 
--- ---- a redex
+-- ---- a redex: "Steps"
 
 -- a storage unit, and the state that is waited for
 pub record Wanted : Type 0 where
@@ -39,7 +41,7 @@ abbrev pub by_result : Result Value Kind → Store → Answer
 by_result (Ok v) store = gives v store
 by_result (Err k) store = fails k
 
--- a value that was never stored is undefined: X3.9-1978, 17.2
+-- a value that was never stored is undefined: X3.9-1978, 2.11 and 17.3
 abbrev pub by_value : Option Value → Store → Answer
 by_value None store = fails Undefined
 by_value (Some v) store = gives v store
@@ -76,7 +78,7 @@ answer_of scope store (combining o v w) = by_result (combined_value o v w) store
 answer_of scope store (applying f vs) = by_result (function_value f vs) store
 answer_of scope store (testing f r) = tested_at f store (located scope r.0 r.1)
 
--- ---- what a turn of a process makes
+-- ---- what a turn of a process makes: "Steps"
 
 pub data Turn : Type 0 where
   stepped : (s : State) → Turn
@@ -104,7 +106,7 @@ moved t level = with_process t.state t.process (level ∷ t.below)
 abbrev pub stored : Top → Store → Level → State
 stored t store level = record (moved t level) { store = store }
 
--- ---- faults
+-- ---- faults: "Steps"
 
 abbrev pub fault_of : Units → Top → Kind → Fault
 fault_of program t k =
@@ -126,7 +128,7 @@ after_answer program t (gives v store) =
 after_answer program t (waits w) = waiting w
 after_answer program t (fails k) = faulted program t k
 
--- ---- assignment and PURGE
+-- ---- assignment (X3.9-1978, 10.1 and 10.2) and PURGE
 
 -- an asynchronous variable is filled by an assignment, which waits until it is empty
 abbrev pub assigned : Bool → Top → Location → Value → Level → Turn
@@ -166,15 +168,11 @@ after_purge program t (Ok store) = stepped (stored t store (goes_on (unit_on_top
 
 -- ---- DO: X3.9-1978, 11.10.3 to 11.10.7
 
-abbrev pub or_zero : ℤ → ℤ
-or_zero (pos n) = pos n
-or_zero (negsuc n) = pos 0
-
--- the iteration count, from the initial, the limit and the increment
+-- the iteration count, from the initial, the limit and the increment: 0 where the quotient is below it
 abbrev pub iterations : ℤ → ℤ → ℤ → Result ℤ Kind
 iterations m n (pos zero) = Err Step
-iterations m n (pos (suc k)) = fitted (or_zero (int_div ((n -ℤ m) +ℤ pos (suc k)) (pos (suc k))))
-iterations m n (negsuc k) = fitted (or_zero (int_div ((n -ℤ m) +ℤ negsuc k) (negsuc k)))
+iterations m n (pos (suc k)) = fitted (pos (natural (int_div ((n -ℤ m) +ℤ pos (suc k)) (pos (suc k)))))
+iterations m n (negsuc k) = fitted (pos (natural (int_div ((n -ℤ m) +ℤ negsuc k) (negsuc k))))
 
 -- into the range where turns are left, and else behind the DO
 abbrev pub turned : List Statement → Level → ℕ → ℤ → Level
@@ -249,7 +247,7 @@ abbrev pub returned : Units → State → Process → Process
 returned program s [] = []
 returned program s (level ∷ levels) = goes_on (unit_at program (unit_of s level.activation)) level ∷ levels
 
--- ---- actions
+-- ---- actions: "Steps"
 
 abbrev pub after_action : Units → Top → Action → Turn
 after_action program t (assigning r v) =

@@ -1,27 +1,13 @@
--- Storage units, and what they hold.
+-- Storage units and the store: docs/MACHINE.md, "Storage".
 use Rattle.std.specs.Prelude.{ℕ, zero, suc, ◌+◌, Bool, false, ◌&&◌, nat_eq, if◌then◌else◌, Option, None}
-use Rattle.hep_source.specs.declared.name.Name.{Name}
 use Rattle.hep_source.specs.declared.value.Value.{Value}
-use Rattle.hep_source.specs.Declarations.{Block, same_block}
+use Rattle.hep_source.specs.Declarations.{same_block}
 use Rattle.hep_source.specs.Names.{same_name}
+use Rattle.hep_source.specs.State.{Location, local, common, Cell, Store}
 
--- where a storage unit is: an element of a variable of an activation, or a position in a common block, both counted from 1
--- (X3.9-1978, 2.14 and 8.3)
-pub data Location : Type 0 where
-  local : (activation : ℕ) (name : Name) (element : ℕ) → Location
-  common : (block : Block) (position : ℕ) → Location
-
--- a storage unit: the value that was stored last, if any, and whether it is full
-pub record Cell : Type 0 where
-  pub value : Option Value
-  pub full : Bool
-
--- undefined (17.2), or empty without a value
+-- undefined (X3.9-1978, 2.11 and 17.3), or empty without a value
 abbrev pub unset : Cell
 unset = record { value = None; full = false }
-
-abbrev pub Store : Type 0
-Store = Location → Cell
 
 abbrev pub same_location : Location → Location → Bool
 same_location (local a x i) (local b y j) = nat_eq a b && (same_name x y && nat_eq i j)

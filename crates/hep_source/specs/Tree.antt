@@ -10,7 +10,7 @@ mutual
   pub data Tree : Type 0 where
     constant : (v : Value) → Tree
     place : (p : Place) → Tree
-    -- a name with a list: an array element or a function reference (5.4.1, 15.2)
+    -- a name with a list: an array element or a function reference (5.3, 15.2)
     listed : (p : Place) (arguments : Trees) → Tree
     parenthesized : (inner : Tree) → Tree
     signed : (s : Sign) (term : Tree) → Tree

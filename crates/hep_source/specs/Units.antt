@@ -4,10 +4,10 @@ use Rattle.std.specs.Option.{option_map, unwrap_or}
 use Rattle.hep_source.specs.declared.name.Name.{Name}
 use Rattle.hep_source.specs.declared.name.Place.{Place}
 use Rattle.hep_source.specs.declared.statement.Form.{Form}
-use Rattle.hep_source.specs.declared.statement.Form.TheVariants.{Program, Subroutine, Implicit, Declare, Dimension, Common, Parameter, Data, End}
+use Rattle.hep_source.specs.declared.statement.Form.TheVariants.{Program, Subroutine, Implicit, Declare, Dimension, Common, Parameter, Data}
 use Rattle.hep_source.specs.declared.statement.Statement.{Statement}
 use Rattle.hep_source.specs.Names.{spelling, same_name}
-use Rattle.hep_source.specs.Unreached.{no_unit}
+use Rattle.hep_source.specs.Unreached.{no_unit, no_statement}
 
 -- a program: the statements of each unit, in the order of the source
 abbrev pub Units : Type 0
@@ -17,7 +17,7 @@ Units = List (List Statement)
 abbrev pub unit_at : Units → ℕ → List Statement
 unit_at program u = unwrap_or (slice_get program u) []
 
--- ---- headers
+-- ---- headers: 14.1 and 15.6.1
 
 -- MAIN, the name of a main program without PROGRAM statement: 14.1
 abbrev pub main_name : List ℕ
@@ -76,7 +76,7 @@ main_among (u ∷ us) = if is_main (subroutine_name u) then Some 0 else option_m
 abbrev pub main_unit : Units → ℕ
 main_unit program = unwrap_or (main_among program) no_unit
 
--- ---- statements
+-- ---- statements: 3.5, 7.1 and 7.2
 
 -- executable statements: 7.1
 abbrev pub is_executable : Form → Bool
@@ -99,13 +99,9 @@ passed_over (s ∷ ss) = if is_executable s.form then 0 else suc (passed_over ss
 abbrev pub executable_from : List Statement → ℕ → ℕ
 executable_from unit k = k + passed_over (drop k unit)
 
--- past its last statement a unit ends
-abbrev pub end_of_unit : Statement
-end_of_unit = record { line = 0; label = None; conditions = []; form = End }
-
 -- the statement at place k of a unit
 abbrev pub statement_at : List Statement → ℕ → Statement
-statement_at unit k = unwrap_or (slice_get unit k) end_of_unit
+statement_at unit k = unwrap_or (slice_get unit k) no_statement
 
 abbrev pub line_at : List Statement → ℕ → ℕ
 line_at unit k = (statement_at unit k).line

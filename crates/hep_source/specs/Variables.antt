@@ -1,5 +1,5 @@
 -- The variables of a unit: X3.9-1978, 2.5 and 18.
-use Rattle.std.specs.Prelude.{ℕ, ◌+◌, ◌*◌, Bool, not, ◌&&◌, if◌then◌else◌, List, [], ◌∷◌, ◌++◌, Option, Some, None, length}
+use Rattle.std.specs.Prelude.{ℕ, ◌+◌, ◌*◌, Bool, true, false, not, ◌&&◌, if◌then◌else◌, List, [], ◌∷◌, ◌++◌, Option, Some, None, length}
 use Rattle.std.specs.List.{flat_map, filter}
 use Rattle.hep_source.specs.Tree.{Tree, Trees, constant, place, listed, parenthesized, signed, negated, binary, no_trees, trees}
 use Rattle.hep_source.specs.declared.declaration.CommonBlock.{CommonBlock}
@@ -28,7 +28,7 @@ use Rattle.hep_source.specs.Declarations.{is_array, is_dummy, is_common, is_cons
 use Rattle.hep_source.specs.Names.{with_names}
 use Rattle.hep_source.specs.Units.{dummies_of, names_of_places}
 
--- ---- where a statement names variables and constants, in the order of its text
+-- ---- where a statement names variables and constants, in the order of its text: section 18
 
 -- a name with a list is one only where the unit has that array
 abbrev pub array_place : List Statement → Place → List Place
@@ -117,7 +117,7 @@ places_in_form unit _ = []
 abbrev pub places_in_statement : List Statement → Statement → List Place
 places_in_statement unit s = flat_map (places_in unit) s.conditions ++ places_in_form unit s.form
 
--- ---- variables
+-- ---- variables: 2.5, 2.6 and 18.2
 
 abbrev pub places_of : List Statement → List Place
 places_of unit = flat_map (places_in_statement unit) unit
@@ -133,14 +133,14 @@ is_local unit x = not (is_dummy unit x) && (not (is_common unit x) && not (is_co
 abbrev pub locals_of : List Statement → List Name
 locals_of unit = filter (is_local unit) (names_of unit)
 
--- ---- frames: docs/MACHINE.md
+-- ---- frames: docs/MACHINE.md, "Variables and frames"
+
+abbrev pub is_do : Form → Bool
+is_do (form.Do c) = true
+is_do _ = false
 
 abbrev pub do_statements : List Statement → ℕ
-do_statements [] = 0
-do_statements (s ∷ ss) = by_form s.form + do_statements ss where
-  by_form : Form → ℕ
-  by_form (form.Do c) = 1
-  by_form _ = 0
+do_statements unit = length (filter (λ (s : Statement). is_do s.form) unit)
 
 abbrev pub adjustable_dimensions_of_all : List Statement → List Name → ℕ
 adjustable_dimensions_of_all unit [] = 0

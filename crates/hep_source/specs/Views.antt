@@ -1,4 +1,4 @@
--- What of a state is compared.
+-- What of a state is compared: docs/MACHINE.md, "What is compared".
 use Rattle.std.specs.Prelude.{ℕ, zero, suc, Bool, false, nat_eq, if◌then◌else◌, List, [], ◌∷◌, ◌++◌, Option}
 use Rattle.std.specs.List.{flat_map}
 use Rattle.hep_source.specs.declared.event.Fault.{Fault}
@@ -8,11 +8,12 @@ use Rattle.hep_source.specs.declared.statement.Statement.{Statement}
 use Rattle.hep_source.specs.Constants.{cells_of}
 use Rattle.hep_source.specs.Declarations.{Block, blocks_of}
 use Rattle.hep_source.specs.Layout.{block_cells}
-use Rattle.hep_source.specs.State.{Activation, Dummy, Process, State, unit_of}
+use Rattle.hep_source.specs.State.{Activation, Dummy, Process, State, Cell, Location, local, common, Store}
 use Rattle.hep_source.specs.Step.{Wanted, wanted_by}
-use Rattle.hep_source.specs.Storage.{Cell, Location, local, common, Store, further}
+use Rattle.hep_source.specs.Storage.{further}
 use Rattle.hep_source.specs.Units.{Units, unit_at, line_at}
 use Rattle.hep_source.specs.Variables.{locals_of}
+use Rattle.hep_source.specs.Processes.{unit_of}
 
 -- ---- processes
 

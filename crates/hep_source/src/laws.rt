@@ -6,10 +6,10 @@ ghost use Rattle.hep_source.specs.Laws.{AreSteps, FillsNone, HasHeldChild, IsOnS
 ghost use Rattle.hep_source.specs.Layout.{is_held, Layout, layout_of, common_cells};
 ghost use Rattle.hep_source.specs.Opening.{opening};
 ghost use Rattle.hep_source.specs.Run.{turn, run, expand, state_after};
-ghost use Rattle.hep_source.specs.State.{State, living, numbered};
+ghost use Rattle.hep_source.specs.State.{State, Location};
 ghost use Rattle.hep_source.specs.Step.{step};
-ghost use Rattle.hep_source.specs.Storage.{Location};
 ghost use Rattle.hep_source.specs.Units.{Units};
+ghost use Rattle.hep_source.specs.Processes.{living, numbered};
 
 /// A step of a process leaves the other processes as they are.
 pub fn other_processes_stay()

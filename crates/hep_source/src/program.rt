@@ -50,7 +50,7 @@ impl Unit {
     }
 }
 
-/// A program (X3.9-1978, 2.4.1): its units in the order of the source. Contracts see their list.
+/// A program (X3.9-1978, 2.4): its units in the order of the source. Contracts see their list.
 #[derive(Drop)]
 pub struct Program {
     units: Vec<Unit>,

@@ -18,7 +18,7 @@ pub enum PrintItem {
     Characters(Text),
 }
 
-/// What a DO statement has (X3.9-1978, 11.10.1).
+/// What a DO statement has (X3.9-1978, 11.10).
 #[derive(Drop)]
 pub struct DoControl {
     /// The label of the terminal statement.

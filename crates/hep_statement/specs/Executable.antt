@@ -1,4 +1,5 @@
--- The forms of executable statements: which texts read as which forms.
+-- The forms of executable statements: which texts read as which forms (X3.9-1978, sections 10 to 12 and 15, and
+-- docs/LANGUAGE.md, 5).
 use Rattle.std.specs.Prelude.{◌≡◌, ◌⊎◌, ℕ, ◌≤◌, codes, List, [], ◌++◌, length, Option, Some, None}
 use Rattle.hep_source.specs.Tree.{Tree}
 use Rattle.hep_source.specs.declared.declaration.Target.{Target}

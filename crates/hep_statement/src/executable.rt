@@ -184,7 +184,7 @@ fn limits(alloc: Global, context: Context, s: &[u8]) -> Result<(Expr, Option<Exp
     }
 }
 
-/// What follows DO (11.10.1).
+/// What follows DO (11.10).
 ///
 /// # Errors
 ///

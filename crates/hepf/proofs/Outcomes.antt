@@ -24,7 +24,7 @@ made options core running legal =
     }
 
 over : (options : Options) (value : CoreValue) (stop : Option Stop) → IsStop options value stop → (stop ≡ None → next_process value.program options.choices value.history ≡ None) → core.IsStop value.program value.limit value.history stop → IsOver value.program options value.history stop
-over options value None here none named = none refl
+over options value None here none named = (named, none refl)
 over options value (Some Halted) here none named = named
 over options value (Some ArenaFull) here none named = absurd here
 over options value (Some StepLimit) here none named = here

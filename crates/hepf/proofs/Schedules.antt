@@ -11,15 +11,21 @@ use Rattle.std.proofs.Math.Seq.{take-append_seam}
 use Rattle.std.proofs.lemmas.Option.{slice_get_within, slice_get_past}
 use Rattle.hep_source.specs.declared.event.Entry.{Entry}
 use Rattle.hep_source.specs.Units.{Units}
-use Rattle.hep_source.specs.State.{State, Process, living, top_of}
+use Rattle.hep_source.specs.State.{State, Process}
 use Rattle.hep_source.specs.Opening.{opening}
 use Rattle.hep_source.specs.Run.{run, run_from, expand, state_after, turn}
 use Rattle.hep_source.specs.Schedules.{Progress, after_step, after_steps, after_entry, progress_from, progress_after, is_listed, living_from, ready_in, last_process, least, first_above, next_ready}
+use Rattle.hep_source.specs.Processes.{living, top_of}
 use Rattle.hep_core.specs.declared.stop.Turn.{Turn}
-use Rattle.hep_core.specs.Value.{CoreValue, state_of, grown, stop_after, Turned, Chosen}
+use Rattle.hep_core.specs.Value.{CoreValue, state_of, grown, stop_after, IsGoing, Turned, Chosen}
 use Rattle.hepf.specs.declared.options.Options.{Options}
 use Rattle.hepf.specs.Outcome.{first_choice, next_process, IsScheduled}
 use Rattle.hepf.specs.Progress.{IsStop, IsRunning}
+
+-- without a STOP the choice comes next, or what is ready
+pub next_is_chosen : (program : Units) (choices : List ℕ) (history : List Entry) → (state_after program history).halted ≡ false → next_process program choices history ≡ first_choice (slice_get choices (length history)) (next_ready program history)
+next_is_chosen program choices history going =
+    ap (λ b. if b then None else first_choice (slice_get choices (length history)) (next_ready program history)) going
 
 -- ---- entries
 
@@ -186,23 +192,32 @@ ready_lives program history p e =
 
 -- ---- once the choices are made
 
-pub next_is_ready : (program : Units) (choices : List ℕ) (history : List Entry) → length choices ≤ length history → next_process program choices history ≡ next_ready program history
-next_is_ready program choices history h = ap (λ (o : Option ℕ). first_choice o (next_ready program history)) (slice_get_past choices (length history) h)
+choice_or_ready : (program : Units) (choices : List ℕ) (history : List Entry) → length choices ≤ length history → first_choice (slice_get choices (length history)) (next_ready program history) ≡ next_ready program history
+choice_or_ready program choices history h = ap (λ (o : Option ℕ). first_choice o (next_ready program history)) (slice_get_past choices (length history) h)
+
+pub next_is_ready : (program : Units) (choices : List ℕ) (history : List Entry) → (state_after program history).halted ≡ false → length choices ≤ length history → next_process program choices history ≡ next_ready program history
+next_is_ready program choices history going h = next_is_chosen program choices history going ∙ choice_or_ready program choices history h
+
+-- where nothing is ready nothing comes next, whether a STOP was made or not
+pub none_is_next : (program : Units) (choices : List ℕ) (history : List Entry) → length choices ≤ length history → next_ready program history ≡ None → next_process program choices history ≡ None
+none_is_next program choices history h none =
+    elim (state_after program history).halted as (λ b. (if b then None else first_choice (slice_get choices (length history)) (next_ready program history)) ≡ None)
+    [ true ↦ refl | false ↦ choice_or_ready program choices history h ∙ none ]
 
 -- a choice that meets a stop leaves the run at it
-pub stopped : (options : Options) (old new : CoreValue) (p : ℕ) (stop : Stop) → Chosen old p (Err (Stopped stop)) new → IsRunning options old → (old.stop ≡ None → next_process old.program options.choices old.history ≡ Some p) → IsRunning options new × (new.program ≡ old.program) × (new.stop ≢ None)
+pub stopped : (options : Options) (old new : CoreValue) (p : ℕ) (stop : Stop) → Chosen old p (Err (Stopped stop)) new → IsRunning options old → (IsGoing old → next_process old.program options.choices old.history ≡ Some p) → IsRunning options new × (new.program ≡ old.program) × (new.stop ≢ None)
 stopped options old new p stop c running next = elim c [ inl before ↦ at_stop before | inr now ↦ at_limit now ]
   where
     at_stop : (old.stop ≡ Some stop) × (new ≡ old) → IsRunning options new × (new.program ≡ old.program) × (new.stop ≢ None)
     at_stop (is, same) = (subst (IsRunning options) (sym same) running, ap (λ (v : CoreValue). v.program) same, λ none. absurd (let some : new.stop ≡ Some stop = ap (λ (v : CoreValue). v.stop) same ∙ is in cc))
 
-    at_limit : (old.stop ≡ None) × (living (state_of old) p ≢ None) × (length old.history ≡ old.limit) × (stop ≡ StepLimit) × (new ≡ record old { stop = Some StepLimit }) → IsRunning options new × (new.program ≡ old.program) × (new.stop ≢ None)
-    at_limit (none, alive, full, is, same) =
+    at_limit : IsGoing old × (living (state_of old) p ≢ None) × (length old.history ≡ old.limit) × (stop ≡ StepLimit) × (new ≡ record old { stop = Some StepLimit }) → IsRunning options new × (new.program ≡ old.program) × (new.stop ≢ None)
+    at_limit (going, alive, full, is, same) =
         let cut : IsRunning options (record old { stop = Some StepLimit }) = record {
           cells = running.cells;
           limit = running.limit;
           scheduled = running.scheduled;
-          stop = (full ∙ running.limit, p, next none, alive);
+          stop = (full ∙ running.limit, p, next going, alive);
         } in
         (subst (IsRunning options) (sym same) cut, ap (λ (v : CoreValue). v.program) same, λ none. absurd (let some : new.stop ≡ Some StepLimit = ap (λ (v : CoreValue). v.stop) same in cc))
 

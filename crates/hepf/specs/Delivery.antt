@@ -1,4 +1,4 @@
--- What a run leaves at its two outputs.
+-- What a run leaves at its two outputs: docs/MACHINE.md, "The program".
 use Rattle.std.specs.Prelude.{◌≡◌, ◌⊎◌, ℕ, List, [], ◌++◌, codes, take, Option, Some, None}
 use Rattle.std.specs.Io.KnownBytes.{Appends, Keeps}
 use Rattle.hepf.specs.declared.options.Options.{Options}

@@ -1,5 +1,5 @@
 -- What a run of a source comes to, from its bytes to the bytes that it writes: docs/MACHINE.md, "The program".
-use Rattle.std.specs.Prelude.{◌≡◌, ◌≢◌, ◌⊎◌, ℕ, ◌+◌, true, List, [], ◌∷◌, ◌++◌, length, take, slice_get, Option, Some, None, Ok}
+use Rattle.std.specs.Prelude.{◌≡◌, ◌≢◌, ◌⊎◌, ℕ, ◌+◌, true, false, if◌then◌else◌, List, [], ◌∷◌, ◌++◌, length, take, slice_get, Option, Some, None, Ok}
 use Rattle.hep_text.specs.declared.statement.Stmt.{Stmt}
 use Rattle.hep_text.specs.Reading.{statements_of, refusal}
 use Rattle.hep_parse.specs.Program.{IsProgram, IsFirstFault}
@@ -10,9 +10,9 @@ use Rattle.hep_source.specs.Names.{spelling}
 use Rattle.hep_source.specs.Units.{Units, unit_at, main_unit}
 use Rattle.hep_source.specs.Layout.{opening_layout}
 use Rattle.hep_source.specs.Schedules.{next_ready}
-use Rattle.hep_source.specs.State.{living}
 use Rattle.hep_source.specs.Run.{state_after}
 use Rattle.hep_source.specs.Histories.{IsLegal}
+use Rattle.hep_source.specs.Processes.{living}
 use Rattle.hep_core.specs.declared.stop.Stop.{Stop}
 use Rattle.hep_core.specs.declared.stop.Stop.TheVariants.{Halted, ArenaFull, StepLimit}
 use Rattle.hep_core.specs.Names.{names_of}
@@ -56,9 +56,10 @@ abbrev pub first_choice : Option ℕ → Option ℕ → Option ℕ
 first_choice (Some p) ready = Some p
 first_choice None ready = ready
 
--- the process that comes after a history: the choices in their order, and then what is ready
+-- the process that comes after a history: none after a STOP, else the choices in their order, and then what is ready
 abbrev pub next_process : Units → List ℕ → List Entry → Option ℕ
-next_process program choices history = first_choice (slice_get choices (length history)) (next_ready program history)
+next_process program choices history =
+    if (state_after program history).halted then None else first_choice (slice_get choices (length history)) (next_ready program history)
 
 -- each entry is of the process that came next
 abbrev pub IsScheduled : Units → List ℕ → List Entry → Type 0
@@ -77,15 +78,17 @@ IsCutShort program options history =
 
 -- the run is over after this history: no process comes next, or it stops
 abbrev pub IsOver : Units → Options → List Entry → Option Stop → Type 0
-IsOver program options history None = next_process program options.choices history ≡ None
+IsOver program options history None =
+    ((state_after program history).halted ≡ false) × (next_process program options.choices history ≡ None)
 IsOver program options history (Some StepLimit) = IsCutShort program options history
 IsOver program options history (Some Halted) = (state_after program history).halted ≡ true
 IsOver program options history (Some ArenaFull) = ⊥
 
--- the next choice names a process that doesn't live
+-- the next choice names a process that doesn't live; after a STOP there is no next one
 abbrev pub IsChoiceRefused : Units → Options → List Entry → Type 0
 IsChoiceRefused program options history =
-    (p : ℕ) × (slice_get options.choices (length history) ≡ Some p) × (living (state_after program history) p ≡ None)
+    ((state_after program history).halted ≡ false)
+    × (p : ℕ) × (slice_get options.choices (length history) ≡ Some p) × (living (state_after program history) p ≡ None)
 
 -- ---- outcomes
 

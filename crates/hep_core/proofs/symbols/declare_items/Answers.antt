@@ -4,6 +4,7 @@ use Rattle.hep_source.specs.declared.statement.PrintItem.TheVariants.{Expression
 use Rattle.hep_source.specs.Names.{with_names}
 use Rattle.hep_core.specs.Symbols.{names_in, names_in_items, first_real, Reports, untyped_in}
 use Rattle.hep_core.proofs.Lists.{ahead}
+use Rattle.hep_core.proofs.Names.{items_names}
 use Rattle.hep_core.proofs.Declared.{with_names-append, first_real-behind, names-before}
 use Rattle.hep_core.proofs.symbols.declare_items.Goals as goal
 use Rattle.hep_core.proofs.symbols.declare_items.Goals.{in-Expression+in_ok-declare_in-in-Expression, in-Characters}
@@ -15,8 +16,9 @@ returns-in_err-declare_in-in-Expression c =
     let i = c.loop-item.item-index in
     let t = c.in-Expression.expression in
     let e = c.in_err-declare_in-in-Expression.field-0.0 in
-    let rest = names_in_items (drop (i + 1) items) in
-    let here : names_in_items (drop i items) ≡ names_in t ++ rest = ap names_in_items (ahead items i c.item-item.result (Expression t) c.loop-item-test.true c.item-item.is c.in-Expression.is) in
+    let rest-items = drop (i + 1) items in
+    let rest = names_in_items rest-items in
+    let here : names_in_items (drop i items) ≡ names_in t ++ rest = ap names_in_items (ahead items i c.item-item.result (Expression t) c.loop-item-test.true c.item-item.is c.in-Expression.is) ∙ items_names t rest-items in
     let all : first_real (names_in t ++ rest) ≡ first_real (names_in_items items) = ap first_real (sym here) ∙ c.loop-item.invariant.typed in
     let h : Reports e (untyped_in c.args.line (names_in t ++ rest)) = names-before e c.args.line (names_in t) rest c.in_err-declare_in-in-Expression.ensures in
     rw (p.1, p.2, ← all) h
@@ -25,11 +27,12 @@ pub loop-item-preserved : goal.loop-item-preserved
 loop-item-preserved c =
     let items = c.args.items.now in
     let i = c.loop-item.item-index in
-    let rest = names_in_items (drop (i + 1) items) in
+    let rest-items = drop (i + 1) items in
+    let rest = names_in_items rest-items in
     elim c.match-item.branch [
       | in-Expression+in_ok-declare_in-in-Expression w ↦
           let t = w.in-Expression.expression in
-          let here : names_in_items (drop i items) ≡ names_in t ++ rest = ap names_in_items (ahead items i c.item-item.result (Expression t) c.loop-item-test.true c.item-item.is w.in-Expression.is) in
+          let here : names_in_items (drop i items) ≡ names_in t ++ rest = ap names_in_items (ahead items i c.item-item.result (Expression t) c.loop-item-test.true c.item-item.is w.in-Expression.is) ∙ items_names t rest-items in
           let done = w.in_ok-declare_in-in-Expression.ensures in
           record {
             keys = ap (λ s. with_names s.keys rest) w.symbols-is ∙ ap (λ xs. with_names xs rest) done.0 ∙ sym (with_names-append c.loop-item.symbols.keys (names_in t) rest)

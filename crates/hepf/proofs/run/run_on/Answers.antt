@@ -3,14 +3,14 @@ use Rattle.hep_core.specs.declared.fault.ChooseFault.{ChooseFault}
 use Rattle.hep_core.specs.declared.fault.ChooseFault.TheVariants.{Stopped, NoSuchProcess}
 use Rattle.hep_core.specs.Value.{Chosen}
 use Rattle.hepf.specs.Outcome.{next_process}
-use Rattle.hepf.proofs.Schedules.{chosen, stopped, next_is_ready, ready_lives, is_none}
+use Rattle.hepf.proofs.Schedules.{chosen, stopped, next_is_ready, none_is_next, ready_lives, is_none}
 use Rattle.hepf.proofs.run.run_on.Goals as goal
 
 pub loop-process-preserved : goal.loop-process-preserved
 loop-process-preserved c =
     let old = c.loop-process.core in
-    let past : length c.args.options.now.choices ≤ length old.history = c.loop-process.invariant.made c.in-Ok.ensures.0 in
-    let next : next_process old.program c.args.options.now.choices old.history ≡ Some c.in-Some.process = next_is_ready old.program c.args.options.now.choices old.history past ∙ sym c.in-Some.ensures in
+    let past : length c.args.options.now.choices ≤ length old.history = c.loop-process.invariant.made c.in-Ok.ensures.0.0 in
+    let next : next_process old.program c.args.options.now.choices old.history ≡ Some c.in-Some.process = next_is_ready old.program c.args.options.now.choices old.history c.in-Ok.ensures.0.1 past ∙ sym c.in-Some.ensures in
     let more = chosen c.args.options.now old c.choose.new.self c.in-Some.process c.in-Ok.field-0 c.in-Ok.ensures c.loop-process.invariant.running next in
     record {
       program = more.program ∙ c.loop-process.invariant.program;
@@ -24,7 +24,7 @@ returns-in-Err-Stopped-clause-running c =
     let new = c.choose.new.self in
     let p = c.in-Some.process in
     let was : Chosen old p (Err (Stopped c.in-Err-Stopped.field-0-0)) new = subst (λ (e : ChooseFault). Chosen old p (Err e) new) c.in-Err-Stopped.field-0-is c.in-Err-Stopped.ensures in
-    (stopped c.args.options.now old new p c.in-Err-Stopped.field-0-0 was c.loop-process.invariant.running (λ none. next_is_ready old.program c.args.options.now.choices old.history (c.loop-process.invariant.made none) ∙ sym c.in-Some.ensures)).0
+    (stopped c.args.options.now old new p c.in-Err-Stopped.field-0-0 was c.loop-process.invariant.running (λ going. next_is_ready old.program c.args.options.now.choices old.history going.1 (c.loop-process.invariant.made going.0) ∙ sym c.in-Some.ensures)).0
 
 pub unreachable-requires : goal.unreachable-requires
 unreachable-requires c =
@@ -35,4 +35,4 @@ unreachable-requires c =
 pub returns-clause-over : goal.returns-clause-over
 returns-clause-over c = λ none.
     let old = c.loop-process.core in
-    next_is_ready old.program c.args.options.now.choices old.history (c.loop-process.invariant.made none) ∙ sym c.next_ready.ensures ∙ is_none c.next_ready.result c.in_default.not-Some
+    none_is_next old.program c.args.options.now.choices old.history (c.loop-process.invariant.made none) (sym c.next_ready.ensures ∙ is_none c.next_ready.result c.in_default.not-Some)

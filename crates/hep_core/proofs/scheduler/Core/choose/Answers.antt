@@ -1,15 +1,18 @@
-use Rattle.std.proofs.Common.{◌≡◌, ◌<◌, ◌++◌, ◌∷◌, [], ◌∙◌, sym, ap, subst, rules, None, Some, length, arith, refl}
+use Rattle.std.proofs.Common.{◌≡◌, ◌<◌, ◌++◌, ◌∷◌, [], ◌∙◌, sym, ap, subst, rules, false, None, Some, length, arith, refl}
+use Rattle.std.specs.Prelude.{◌≢◌}
 use Rattle.std.proofs.lemmas.Result.{err_from_is_err_and}
 use Rattle.hep_source.specs.declared.event.Entry.{Entry}
 use Rattle.hep_source.specs.Histories.{IsLegal}
 use Rattle.hep_source.specs.Run.{state_after}
 use Rattle.hep_source.specs.Schedules.{progress_after}
 use Rattle.hep_source.specs.Step.{step}
+use Rattle.hep_source.specs.Processes.{living}
 use Rattle.hep_core.specs.Machine.{snapshot_of}
 use Rattle.hep_core.specs.Shown.{Shows}
 use Rattle.hep_core.specs.Kept.{core_value, kept_view}
 use Rattle.hep_core.specs.Value.{IsStop, stop_after}
 use Rattle.hep_core.proofs.Histories.{state_after-stepped, unlisted-stepped, legal-stepped}
+use Rattle.hep_core.proofs.Settled.{process_lives}
 use Rattle.hep_core.proofs.Viewed.{shows_view}
 use Rattle.hep_core.proofs.scheduler.Core.choose.Goals as goal
 
@@ -22,7 +25,10 @@ returns-in_err-step c =
     let p = err_from_is_err_and c.from_residual-in_err-step.result c.from_residual-in_err-step.ensures.1 in
     let value : record (core_value i) { history = c.reserve.new.self.items; view = kept_view i.image (snapshot_of c.step.new.self) } ≡ core_value i =
     λ j. record (core_value i) { history = c.reserve.ensures.items j; view = view j } in
-    rw (p.1, p.2) (value ∙ c.self.view_is)
+    let none : i.stop ≡ None = search rules in
+    let lives : living s c.args.p ≢ None = rw c.if-p-ne1.false (process_lives i.image (snapshot_of i.machine) s c.self.invariant.shown c.if-not-self.false) in
+    let lt : length i.history.items < i.limit = omega (arith, c.len.ensures) in
+    rw (p.1, p.2, ← c.self.view_is) ((none, c.self.invariant.shown.running), lives, lt, value)
 
 pub invariant_of-self-2 : goal.invariant_of-self-2
 invariant_of-self-2 c =
@@ -44,7 +50,7 @@ invariant_of-self-2 c =
       unlisted = subst (λ es. progress_after i.image es ≡ record { state = state_after i.image es; listed = [] }) (sym is) (unlisted-stepped i.image h p done.0 c.self.invariant.unlisted step_is);
       fits = c.self.invariant.fits;
       legal = subst (IsLegal i.image i.cells i.limit) (sym is) (legal-stepped i.image i.cells i.limit h p done.0 c.self.invariant.legal lt same step_is);
-      named = subst (IsStop i.image i.limit h') (sym none) tt;
+      named = subst (IsStop i.image i.limit h') (sym none) (subst (λ t. t.halted ≡ false) state done.2.running);
     }
 
 pub returns : goal.returns
@@ -61,4 +67,4 @@ returns c =
     let is : c.note.new.history.items ≡ h ++ e ∷ [] = c.note.ensures ∙ ap (λ xs. xs ++ e ∷ []) c.reserve.ensures.items in
     let view = shows_view i.image (snapshot_of c.step.new.self) done.0 done.2 in
     let stop : i.stop ≡ stop_after done.0 = none ∙ rw done.2.running refl in
-    rw (← c.self.view_is) (none, lt, (done.0, step_is, λ j. record (core_value i) { history = is j; stop = stop j; view = view j }))
+    rw (← c.self.view_is) ((none, c.self.invariant.shown.running), lt, (done.0, step_is, λ j. record (core_value i) { history = is j; stop = stop j; view = view j }))

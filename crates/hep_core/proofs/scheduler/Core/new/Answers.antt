@@ -1,4 +1,4 @@
-use Rattle.std.proofs.Common.{◌≡◌, ◌≤◌, ◌∙◌, sym, ap, subst, arith, []}
+use Rattle.std.proofs.Common.{◌≡◌, ◌≤◌, ◌∙◌, sym, ap, subst, arith, false, []}
 use Rattle.std.specs.Prelude.{IsSome}
 use Rattle.std.proofs.lemmas.Result.{err_from_is_err_and}
 use Rattle.hep_source.specs.Layout.{has_frame, layout_of}
@@ -34,7 +34,7 @@ invariant_of-result c =
         room = subst (λ es. IsSome (layout_of program c.args.cells has_frame (expand es))) (sym none) (room-nil program c.args.cells (has_gap program c.args.cells runs fits));
         entries = subst (AreEntries program (opening program)) (sym none) tt;
       };
-      named = tt;
+      named = subst (λ t. t.halted ≡ false) (sym state) shown.running;
     }
 
 pub returns : goal.returns
