@@ -267,6 +267,10 @@ record Rows : Type 0 where
   constant_with_bounds_behind_a_use : refuses 302 2 ("      PARAMETER (N=1)" ∷ "      INTEGER M(N)" ∷ "      DIMENSION N(2)" ∷ "      END" ∷ [])
   common_twice_in_two_blocks : refuses 309 5 ("      COMMON /B/ I,/C/ J" ∷ "      END" ∷ "      SUBROUTINE S" ∷ "      COMMON /B/ I" ∷ "      COMMON /C/ I,K" ∷ "      END" ∷ [])
   constant_by_a_refused_one : refuses 303 1 ("      PARAMETER (N=MAX(3),M=1/(N-3))" ∷ "      END" ∷ [])
+  variable_beside_a_wrong_count_in_a_constant : refuses 302 1 ("      PARAMETER (N=MOD(5)+J)" ∷ "      END" ∷ [])
+  variable_beside_a_wrong_count_in_a_bound : refuses 302 1 ("      INTEGER I(MOD(5)+J)" ∷ "      END" ∷ [])
+  constant_by_an_element : refuses 302 2 ("      INTEGER K(2)" ∷ "      PARAMETER (N=K(1))" ∷ "      END" ∷ [])
+  bound_of_a_dummy_by_a_division_by_zero : refuses 302 3 ("      END" ∷ "      SUBROUTINE S(K)" ∷ "      PARAMETER (N=1/0)" ∷ "      INTEGER K(N)" ∷ "      END" ∷ [])
   bounds_in_common_too_in_a_later_unit : refuses 309 5 ("      COMMON /B/ I(2)" ∷ "      END" ∷ "      SUBROUTINE S" ∷ "      INTEGER J(2)" ∷ "      COMMON /B/ J(2)" ∷ "      END" ∷ [])
 
 rows : Rows
@@ -533,6 +537,10 @@ rows = record {
   constant_with_bounds_behind_a_use = refl;
   common_twice_in_two_blocks = refl;
   constant_by_a_refused_one = refl;
+  variable_beside_a_wrong_count_in_a_constant = refl;
+  variable_beside_a_wrong_count_in_a_bound = refl;
+  constant_by_an_element = refl;
+  bound_of_a_dummy_by_a_division_by_zero = refl;
   bounds_in_common_too_in_a_later_unit = refl;
 }
 

@@ -1,7 +1,7 @@
 -- Conditions of constants and bounds: 302 (X3.9-1978, 5.1.1, 6.1.3, 8.6 and 9.2).
 use Rattle.std.specs.Prelude.{Bool, true, false, not, ◌&&◌, ◌||◌, if◌then◌else◌, List, [], ◌∷◌, ◌++◌, Option, Some, None, is_none, is_some, option_to_list}
 use Rattle.std.specs.List.{list_all, list_any}
-use Rattle.hep_source.specs.Tree.{Tree, constant, place, listed, parenthesized, signed, negated, binary}
+use Rattle.hep_source.specs.Tree.{Tree, Trees, constant, place, listed, parenthesized, signed, negated, binary, no_trees, trees}
 use Rattle.hep_source.specs.declared.declaration.DataGroup.{DataGroup}
 use Rattle.hep_source.specs.declared.declaration.Declarator.{Declarator}
 use Rattle.hep_source.specs.declared.declaration.Dimension.{Dimension}
@@ -18,6 +18,7 @@ use Rattle.hep_source.specs.declared.value.Value.{Value}
 use Rattle.hep_source.specs.Constants.{Constants, value_of, value_among, with_constant, bounds_of}
 use Rattle.hep_source.specs.Data.{groups_in}
 use Rattle.hep_source.specs.Declarations.{type_of, is_array, is_dummy, is_common, is_nonempty, constants_in, declarators_in, declarator_among}
+use Rattle.hep_source.specs.Functions.{Listed, pure, listed_meaning}
 use Rattle.hep_source.specs.Names.{is_among}
 use Rattle.hep_source.specs.Shapes.{Bounds, is_shape}
 use Rattle.hep_source.specs.Variables.{places_in}
@@ -41,11 +42,35 @@ abbrev pub is_open : List Statement → Parameters → Tree → Bool
 is_open unit ps t =
     list_any (λ (p : Place). is_among p.name ps.doubtful) (places_in unit t) || not (list_all (is_counted unit) (names_with_lists_in t))
 
+-- a name that was given a value before, which holds
+abbrev pub is_given : Parameters → Name → Bool
+is_given ps x = is_among x ps.doubtful || is_some (value_among ps.known x)
+
+abbrev pub is_pure : Listed → Bool
+is_pure (pure f) = true
+is_pure _ = false
+
+-- constants, names that were given a value before, and references of pure functions alone (6.1.3)
+abbrev mutual
+  pub is_constant_expression : List Statement → Parameters → Tree → Bool
+  is_constant_expression unit ps (constant v) = true
+  is_constant_expression unit ps (place p) = is_given ps p.name
+  is_constant_expression unit ps (listed p ts) = is_pure (listed_meaning unit p.name) && are_constant_expressions unit ps ts
+  is_constant_expression unit ps (parenthesized t) = is_constant_expression unit ps t
+  is_constant_expression unit ps (signed s t) = is_constant_expression unit ps t
+  is_constant_expression unit ps (negated t) = is_constant_expression unit ps t
+  is_constant_expression unit ps (binary o a b) = is_constant_expression unit ps a && is_constant_expression unit ps b
+
+  pub are_constant_expressions : List Statement → Parameters → Trees → Bool
+  are_constant_expressions unit ps no_trees = true
+  are_constant_expressions unit ps (trees t ts) = is_constant_expression unit ps t && are_constant_expressions unit ps ts
+
 abbrev pub value_by : List Statement → Parameters → Tree → Option Value
 value_by unit ps t = value_of unit (value_among ps.known) t
 
+-- a constant expression whose value is there, or is left open by a violation
 abbrev pub has_value : List Statement → Parameters → Tree → Bool
-has_value unit ps t = is_open unit ps t || is_some (value_by unit ps t)
+has_value unit ps t = is_constant_expression unit ps t && (is_open unit ps t || is_some (value_by unit ps t))
 
 -- ---- 302: constants (6.1.3, 6.4.4 and 8.6)
 
@@ -57,10 +82,6 @@ is_constant_of unit ps t e = is_typed_as unit t e && has_value unit ps e
 abbrev pub is_constant_given : List Statement → Parameters → NamedConstant → Bool
 is_constant_given unit ps c =
     is_typed unit c.value && (has_value unit ps c.value && agree (Some (type_of unit c.place.name)) (type_of_tree unit c.value))
-
--- a name that was given a value before, which holds
-abbrev pub is_given : Parameters → Name → Bool
-is_given ps x = is_among x ps.doubtful || is_some (value_among ps.known x)
 
 abbrev pub is_known : List Statement → Parameters → NamedConstant → Bool
 is_known unit ps c = not (is_open unit ps c.value) && is_constant_given unit ps c
