@@ -6,10 +6,11 @@ use Rattle.std.specs.Option.{unwrap_or}
 use Rattle.std.proofs.lemmas.Grind.{reverse_onto}
 use Rattle.std.proofs.lemmas.List.{length-reverse}
 use Rattle.hep_source.specs.declared.event.Entry.{Entry}
-use Rattle.hep_source.specs.Histories.{turns, IsEntry, AreEntries, IsLegal}
+use Rattle.hep_source.specs.Histories.{IsEntry, AreEntries, IsLegal}
+use Rattle.hep_source.specs.Laws.{state_replayed}
 use Rattle.hep_source.specs.Layout.{Layout, Placing, has_frame, layout_turned, opening_layout, placing_turn, placing_from}
 use Rattle.hep_source.specs.Opening.{opening}
-use Rattle.hep_source.specs.Run.{turn, expand}
+use Rattle.hep_source.specs.Run.{turn, run_from, turns_of, expand}
 use Rattle.hep_source.specs.Schedules.{Progress, after_step, after_entry, progress_from, progress_after, ready_in, last_process, next_of_ready, next_ready}
 use Rattle.hep_source.specs.State.{State}
 use Rattle.hep_source.specs.Step.{Turn, Wanted, stepped, waiting, absent, turn_of, state_made, wanted_of, step}
@@ -18,25 +19,18 @@ use Rattle.hep_check.proofs.SerialRuns.{Course, Ending, halted, entry, last_of, 
 
 -- ---- one entry more
 
--- the state behind entries, each with its steps
-turned_by : Units → State → List Entry → State
-turned_by program s [] = s
-turned_by program s (e ∷ es) = turned_by program (turns program s e.process e.steps) es
+replayed_append : (program : Units) (s : State) (es : List Entry) (e : Entry) → state_replayed program s (es ++ e ∷ []) ≡ run_from program (state_replayed program s es) (turns_of e)
+replayed_append program s [] e = refl
+replayed_append program s (f ∷ es) e = replayed_append program (run_from program s (turns_of f)) es e
 
-turned_append : (program : Units) (s : State) (es : List Entry) (e : Entry) → turned_by program s (es ++ e ∷ []) ≡ turns program (turned_by program s es) e.process e.steps
-unfolding turned_by
-turned_append program s [] e = refl
-turned_append program s (f ∷ es) e = turned_append program (turns program s f.process f.steps) es e
+replayed_behind : (program : Units) (es : List Entry) (e : Entry) → state_replayed program (opening program) (reverse (e ∷ es)) ≡ run_from program (state_replayed program (opening program) (reverse es)) (turns_of e)
+replayed_behind program es e = ap (state_replayed program (opening program)) (reverse_onto es e []) ∙ replayed_append program (opening program) (reverse es) e
 
-turned_behind : (program : Units) (es : List Entry) (e : Entry) → turned_by program (opening program) (reverse (e ∷ es)) ≡ turns program (turned_by program (opening program) (reverse es)) e.process e.steps
-turned_behind program es e = ap (turned_by program (opening program)) (reverse_onto es e []) ∙ turned_append program (opening program) (reverse es) e
-
-entries_append : (program : Units) (s : State) (es : List Entry) (e : Entry) → AreEntries program s es → IsEntry program (turned_by program s es) e → AreEntries program s (es ++ e ∷ [])
-unfolding turned_by
+entries_append : (program : Units) (s : State) (es : List Entry) (e : Entry) → AreEntries program s es → IsEntry program (state_replayed program s es) e → AreEntries program s (es ++ e ∷ [])
 entries_append program s [] e h k = (k, tt)
-entries_append program s (f ∷ es) e h k = (h.0, entries_append program (turns program s f.process f.steps) es e h.1 k)
+entries_append program s (f ∷ es) e h k = (h.0, entries_append program (run_from program s (turns_of f)) es e h.1 k)
 
-entries_behind : (program : Units) (es : List Entry) (e : Entry) → AreEntries program (opening program) (reverse es) → IsEntry program (turned_by program (opening program) (reverse es)) e → AreEntries program (opening program) (reverse (e ∷ es))
+entries_behind : (program : Units) (es : List Entry) (e : Entry) → AreEntries program (opening program) (reverse es) → IsEntry program (state_replayed program (opening program) (reverse es)) e → AreEntries program (opening program) (reverse (e ∷ es))
 entries_behind program es e h k =
     subst (AreEntries program (opening program)) (sym (reverse_onto es e [])) (entries_append program (opening program) (reverse es) e h k)
 
@@ -75,7 +69,7 @@ placing_behind program cells has es e =
 
 pub record Holds (program : Units) (cells : ℕ) (has : Frames) (c : Course) : Type 0 where
   pub progress : c.progress ≡ progress_after program (reverse c.history)
-  state : turned_by program (opening program) (reverse c.history) ≡ c.progress.state
+  state : state_replayed program (opening program) (reverse c.history) ≡ c.progress.state
   pub entries : AreEntries program (opening program) (reverse c.history)
   pub frames : placing_from program cells has (first_placing program cells) (expand (reverse c.history)) ≡ record { state = c.progress.state; layout = Some c.layout }
 
@@ -95,13 +89,13 @@ no_step : (program : Units) (s : State) (p : ℕ) (w : Wanted) → turn_of progr
 no_step program s p w e = inl (refl, ap (λ (u : Turn). is_some (wanted_of u)) e)
 
 step_holds : (program : Units) (cells : ℕ) (has : Frames) (c : Course) (p : ℕ) (s : State) (o : Option Layout) → Holds program cells has c → step program p c.progress.state ≡ Some s → layout_turned program cells has c.progress.state s c.layout ≡ o → OnCourse (Holds program cells has) (with_step program c p s o)
-unfolding placing_from
+unfolding placing_from run_from
 step_holds program cells has c p s None h e l = tt
 step_holds program cells has c p s (Some layout) h e l =
     let made : turn program p c.progress.state ≡ s = ap (λ (o : Option State). unwrap_or o c.progress.state) e in
     record {
       progress = ap (after_step program c.progress p) (sym made) ∙ (ap (λ (x : Progress). after_entry program x (entry p 1) 1) h.progress ∙ sym (progress_behind program c.history (entry p 1)));
-      state = turned_behind program c.history (entry p 1) ∙ (ap (λ (t : State). turns program t p 1) h.state ∙ made);
+      state = replayed_behind program c.history (entry p 1) ∙ (ap (λ (t : State). run_from program t (p ∷ [])) h.state ∙ made);
       entries = entries_behind program c.history (entry p 1) h.entries (subst (λ (t : State). IsEntry program t (entry p 1)) (sym h.state) (one_step program c.progress.state s p e));
       frames = placing_behind program cells has c.history (entry p 1) ∙ (ap (λ (x : Placing). placing_from program cells has x (p ∷ [])) h.frames
           ∙ (ap (λ (t : State). record { state = t; layout = layout_turned program cells has c.progress.state t c.layout }) made
@@ -109,13 +103,13 @@ step_holds program cells has c p s (Some layout) h e l =
     }
 
 turn_holds : (program : Units) (cells : ℕ) (has : Frames) (c : Course) (p : ℕ) (t : Turn) → Holds program cells has c → c.progress.state.halted ≡ false → turn_of program p c.progress.state ≡ t → OnCourse (Holds program cells has) (with_turn program cells has c p t)
-unfolding placing_from
+unfolding placing_from run_from
 turn_holds program cells has c p (stepped s) h running e =
     step_holds program cells has c p s (layout_turned program cells has c.progress.state s c.layout) h (step_made program p c.progress.state s running e) refl
 turn_holds program cells has c p (waiting w) h running e =
     record {
       progress = ap (λ (x : Progress). after_entry program x (entry p 0) 0) h.progress ∙ sym (progress_behind program c.history (entry p 0));
-      state = turned_behind program c.history (entry p 0) ∙ h.state;
+      state = replayed_behind program c.history (entry p 0) ∙ h.state;
       entries = entries_behind program c.history (entry p 0) h.entries (subst (λ (t : State). IsEntry program t (entry p 0)) (sym h.state) (no_step program c.progress.state p w e));
       frames = placing_behind program cells has c.history (entry p 0) ∙ h.frames;
     }
@@ -191,7 +185,7 @@ course_within program cells has limit (suc n) choices c h =
     course_within program cells has limit n x.1 d more)))
 
 first_holds : (program : Units) (cells : ℕ) (has : Frames) (layout : Layout) → opening_layout program cells ≡ Some layout → Holds program cells has (first_course program layout)
-unfolding turned_by progress_from placing_from expand
+unfolding progress_from placing_from expand
 first_holds program cells has layout e = record {
   progress = refl;
   state = refl;

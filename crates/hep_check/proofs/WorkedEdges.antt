@@ -267,6 +267,13 @@ record Rows : Type 0 where
   constant_with_bounds_behind_a_use : refuses 302 2 ("      PARAMETER (N=1)" ∷ "      INTEGER M(N)" ∷ "      DIMENSION N(2)" ∷ "      END" ∷ [])
   common_twice_in_two_blocks : refuses 309 5 ("      COMMON /B/ I,/C/ J" ∷ "      END" ∷ "      SUBROUTINE S" ∷ "      COMMON /B/ I" ∷ "      COMMON /C/ I,K" ∷ "      END" ∷ [])
   constant_by_a_refused_one : refuses 303 1 ("      PARAMETER (N=MAX(3),M=1/(N-3))" ∷ "      END" ∷ [])
+  terminal_of_a_do_in_a_logical_if : refuses 307 2 ("   10 STOP" ∷ "      IF(.TRUE.)DO 10 I=1,2" ∷ "      END" ∷ [])
+  fault_beside_a_wrong_count : refuses 302 1 ("      PARAMETER (N=MAX(1)+1/0)" ∷ "      END" ∷ [])
+  fault_in_a_list_of_a_wrong_count : refuses 302 1 ("      PARAMETER (N=MOD(1/0))" ∷ "      END" ∷ [])
+  fault_beside_a_refused_constant : refuses 302 1 ("      PARAMETER (N=MOD(5),M=1/0+N)" ∷ "      END" ∷ [])
+  value_beside_a_wrong_count : refuses 303 1 ("      PARAMETER (N=MAX(1)*(1/2))" ∷ "      END" ∷ [])
+  jump_into_a_block_before_else_without_end : refuses 308 1 ("      GO TO 10" ∷ "      IF(.TRUE.)THEN" ∷ "   10 CONTINUE" ∷ "      ELSE" ∷ "      END" ∷ [])
+  jump_behind_else_without_end : refuses 307 2 ("      GO TO 10" ∷ "      IF(.TRUE.)THEN" ∷ "      ELSE" ∷ "   10 CONTINUE" ∷ "      END" ∷ [])
   variable_beside_a_wrong_count_in_a_constant : refuses 302 1 ("      PARAMETER (N=MOD(5)+J)" ∷ "      END" ∷ [])
   variable_beside_a_wrong_count_in_a_bound : refuses 302 1 ("      INTEGER I(MOD(5)+J)" ∷ "      END" ∷ [])
   constant_by_an_element : refuses 302 2 ("      INTEGER K(2)" ∷ "      PARAMETER (N=K(1))" ∷ "      END" ∷ [])
@@ -537,6 +544,13 @@ rows = record {
   constant_with_bounds_behind_a_use = refl;
   common_twice_in_two_blocks = refl;
   constant_by_a_refused_one = refl;
+  terminal_of_a_do_in_a_logical_if = refl;
+  fault_beside_a_wrong_count = refl;
+  fault_in_a_list_of_a_wrong_count = refl;
+  fault_beside_a_refused_constant = refl;
+  value_beside_a_wrong_count = refl;
+  jump_into_a_block_before_else_without_end = refl;
+  jump_behind_else_without_end = refl;
   variable_beside_a_wrong_count_in_a_constant = refl;
   variable_beside_a_wrong_count_in_a_bound = refl;
   constant_by_an_element = refl;
@@ -553,9 +567,9 @@ cells_by (Ok program) = map_cells program where
   map_cells (u ∷ us) = frame_cells u ∷ map_cells us
 cells_by (Err e) = []
 
-cells_of_row_19 : cells_by (units_of ("      PROGRAM P" ∷ "      CREATE S" ∷ "      CREATE S" ∷ "      END" ∷ "      SUBROUTINE S" ∷ "      COMMON N" ∷ "      DO 10 I=1,1000" ∷ "   10 N=I" ∷ "      END" ∷ [])) ≡ 1 ∷ 4 ∷ []
+cells_of_counters_in_common : cells_by (units_of ("      PROGRAM P" ∷ "      CREATE S" ∷ "      CREATE S" ∷ "      END" ∷ "      SUBROUTINE S" ∷ "      COMMON N" ∷ "      DO 10 I=1,1000" ∷ "   10 N=I" ∷ "      END" ∷ [])) ≡ 1 ∷ 4 ∷ []
 unfolding cells_by units_of
-cells_of_row_19 = refl
+cells_of_counters_in_common = refl
 
 cells_of_an_adjustable_array : cells_by (units_of ("      SUBROUTINE S(A,B,N,M)" ∷ "      INTEGER A(N,*),B(2,*),C(3,2),$D(2),$E" ∷ "      DO 10 I=1,2" ∷ "   10 CONTINUE" ∷ "      END" ∷ "      END" ∷ [])) ≡ 25 ∷ 1 ∷ []
 unfolding cells_by units_of

@@ -1,4 +1,5 @@
 pub mod Violations
+pub mod Known
 pub mod Statements
 pub mod Names
 pub mod Counts

@@ -1,17 +1,16 @@
 -- Conditions of DO ranges and IF blocks: 307 and 308 (X3.9-1978, 11.5 to 11.10).
-use Rattle.std.specs.Prelude.{ℕ, suc, Bool, true, false, not, ◌&&◌, ◌||◌, nat_lt, nat_le, if◌then◌else◌, List, [], ◌∷◌, ◌++◌, Option, Some, None}
+use Rattle.std.specs.Prelude.{ℕ, suc, Bool, true, false, not, ◌&&◌, ◌||◌, nat_lt, nat_le, if◌then◌else◌, List, [], ◌∷◌, ◌++◌, map, Option, Some, None}
 use Rattle.std.specs.List.{flat_map, list_any}
 use Rattle.hep_source.specs.Tree.{Tree}
-use Rattle.hep_source.specs.declared.declaration.ValueType.TheVariants.{Integer}
 use Rattle.hep_source.specs.declared.name.Name.{Name}
 use Rattle.hep_source.specs.declared.statement.Form.{Form}
 use Rattle.hep_source.specs.declared.statement.Form.TheVariants as form
 use Rattle.hep_source.specs.declared.statement.Statement.{Statement}
 use Rattle.hep_source.specs.Control.{Role, opens, alternative, otherwise, closes, other, role_of, place_labelled}
-use Rattle.hep_source.specs.Declarations.{is_array, is_constant_name, type_of}
+use Rattle.hep_source.specs.Declarations.{is_constant_name, is_nonempty}
 use Rattle.hep_source.specs.Names.{same_name}
 use Rattle.hep_source.specs.Units.{line_at, statement_at}
-use Rattle.hep_check.specs.Types.{same_declared}
+use Rattle.hep_check.specs.Types.{is_plain_integer_scalar}
 use Rattle.hep_check.specs.Statements.{targets_of_jump}
 use Rattle.hep_check.specs.Violations.{Violations, at_line, when}
 
@@ -28,13 +27,9 @@ placed_from k (s ∷ ss) = record { place = k; statement = s } ∷ placed_from (
 abbrev pub placed : List Statement → List Placed
 placed unit = placed_from 0 unit
 
-abbrev pub is_alone : List Tree → Bool
-is_alone [] = true
-is_alone (t ∷ ts) = false
-
 -- a statement that is no logical IF
 abbrev pub is_unconditional : Statement → Bool
-is_unconditional s = is_alone s.conditions
+is_unconditional s = not (is_nonempty s.conditions)
 
 -- ---- DO ranges: 11.10.1
 
@@ -138,8 +133,7 @@ holds_wrongly (t ∷ u ∷ ts) f = true
 
 -- a DO variable is a plain integer scalar: 11.10
 abbrev pub is_loop_variable : List Statement → Name → Bool
-is_loop_variable unit x =
-    not x.asynchronous && (not (is_array unit x) && (not (is_constant_name unit x) && same_declared (type_of unit x) (Some Integer)))
+is_loop_variable unit x = is_plain_integer_scalar unit x && not (is_constant_name unit x)
 
 abbrev pub terminal_violations : List Statement → ℕ → ℕ → Option ℕ → Violations
 terminal_violations unit line k None = []
@@ -151,17 +145,18 @@ loop_violations unit line k (form.Do c) =
     when (not (is_loop_variable unit c.variable.name)) (at_line 307 line) ++ terminal_violations unit line k (place_labelled unit c.terminal)
 loop_violations unit line k _ = []
 
+-- a DO that a logical IF holds has no range, and so no terminal statement
 abbrev pub statement_violations : List Statement → Placed → Violations
 statement_violations unit p =
     when (holds_wrongly p.statement.conditions p.statement.form) (at_line 307 p.statement.line)
-    ++ loop_violations unit p.statement.line p.place p.statement.form
+    ++ (if is_unconditional p.statement then loop_violations unit p.statement.line p.place p.statement.form else [])
 
 -- ---- 307: block IFs by themselves (11.6 to 11.9)
 
 abbrev pub block_violations : List Statement → Violations
 block_violations unit =
-    flat_map (λ k. at_line 307 (line_at unit k) ∷ []) (blocks_of unit).stray
-    ++ flat_map (λ (b : BlockIf). at_line 307 (line_at unit b.start) ∷ []) (blocks_of unit).unclosed
+    map (λ k. at_line 307 (line_at unit k)) (blocks_of unit).stray
+    ++ map (λ (b : BlockIf). at_line 307 (line_at unit b.start)) (blocks_of unit).unclosed
 
 -- ---- 307: what isn't nested (11.10.1)
 
@@ -221,15 +216,20 @@ abbrev pub regions_before : ℕ → ℕ → List ℕ → List Region
 regions_before start end [] = record { behind = start; before = end } ∷ []
 regions_before start end (k ∷ ks) = record { behind = k; before = end } ∷ regions_before start k ks
 
+-- without an END IF those up to the last ELSE IF or ELSE
+abbrev pub regions_to_last : ℕ → List ℕ → List Region
+regions_to_last start [] = []
+regions_to_last start (k ∷ ks) = regions_before start k ks
+
 abbrev pub block_regions : BlockIf → List Region
 block_regions b = by_end b.end where
   by_end : Option ℕ → List Region
-  by_end None = []
+  by_end None = regions_to_last b.start b.divisions
   by_end (Some e) = regions_before b.start e b.divisions
 
 abbrev pub regions_of : List Statement → List Region
 regions_of unit =
-    flat_map (λ (r : Range). range_region r ∷ []) (ranges_of unit) ++ flat_map block_regions (blocks_of unit).closed
+    map range_region (ranges_of unit) ++ (flat_map block_regions (blocks_of unit).closed ++ flat_map block_regions (blocks_of unit).unclosed)
 
 abbrev pub is_in : Region → ℕ → Bool
 is_in r k = nat_lt r.behind k && nat_lt k r.before

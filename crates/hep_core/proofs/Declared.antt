@@ -1,12 +1,12 @@
 -- Reports declared one after the other.
 use Rattle.std.proofs.Common.{◌≡◌, ℕ, Bool, true, false, List, [], ◌∷◌, ◌++◌, refl, ap, sym, ◌∙◌, Option, Some, None, cond, subst}
-use Rattle.std.specs.Prelude.{Result, Ok, Err, MatchResult}
+use Rattle.std.specs.Prelude.{Result, Ok, Err}
 use Rattle.hep_source.specs.declared.name.Name.{Name}
 use Rattle.hep_source.specs.Names.{with_name, with_names}
 use Rattle.hep_core.specs.declared.fault.ImageFault.{ImageFault}
 use Rattle.hep_core.specs.declared.fault.ImageFault.TheVariants.{NoMemory, Refused}
 use Rattle.hep_source.specs.Declarations.{is_integer_by_letter}
-use Rattle.hep_core.specs.Symbols.{first_real, or_later, untyped_in, Reports}
+use Rattle.hep_core.specs.Symbols.{first_real, or_later, untyped_in, Reports, Declares}
 
 pub with_names-append : (xs ys zs : List Name) → with_names xs (ys ++ zs) ≡ with_names (with_names xs ys) zs
 with_names-append xs [] zs = refl
@@ -47,9 +47,6 @@ names-first (Refused n l x) line (Some y) later h = h
 
 -- ---- a declaration of names, and of others behind them
 
-abbrev pub Declares : ℕ → List Name → List Name → Result (Unit {0}) ImageFault → List Name → Type 0
-Declares line xs ys r new = MatchResult r (λ u. (new ≡ with_names xs ys) × (first_real ys ≡ None)) (λ e. Reports e (untyped_in line ys))
-
-pub declares-behind : (line : ℕ) (xs ys zs mid new : List Name) (r : Result (Unit {0}) ImageFault) → mid ≡ with_names xs ys → first_real ys ≡ None → Declares line mid zs r new → Declares line xs (ys ++ zs) r new
+pub declares-behind : (line : ℕ) (xs ys zs mid new : List Name) (r : Result (Unit {0}) ImageFault) → mid ≡ with_names xs ys → first_real ys ≡ None → Declares mid line zs r new → Declares xs line (ys ++ zs) r new
 declares-behind line xs ys zs mid new (Ok u) same none h = (h.0 ∙ ap (λ ns. with_names ns zs) same ∙ sym (with_names-append xs ys zs), first_real-behind ys zs none ∙ h.1)
 declares-behind line xs ys zs mid new (Err e) same none h = names-behind e line ys zs none h

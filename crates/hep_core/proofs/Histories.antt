@@ -2,7 +2,7 @@
 use Rattle.std.specs.Prelude.{if◌then◌else◌, nat_lt, IsSome}
 use Rattle.std.specs.Option.{option_map, unwrap_or}
 use Rattle.std.proofs.lemmas.Bool.Decides.{nat_tests}
-use Rattle.std.proofs.Common.{◌≡◌, ◌≢◌, Bool, true, false, inr, ℕ, zero, suc, ◌<◌, List, [], ◌∷◌, ◌++◌, length, length-append, refl, sym, ap, ◌∙◌, subst, append_assoc, arith, Option, Some, None, replicate}
+use Rattle.std.proofs.Common.{◌≡◌, ◌≢◌, Bool, true, false, inr, ℕ, ◌<◌, List, [], ◌∷◌, ◌++◌, length, length-append, refl, sym, ap, ◌∙◌, subst, append_assoc, arith, Option, Some, None, replicate}
 use Rattle.hep_source.specs.declared.event.Entry.{Entry}
 use Rattle.hep_source.specs.Units.{Units}
 use Rattle.hep_source.specs.State.{State}
@@ -10,8 +10,8 @@ use Rattle.hep_source.specs.Step.{step}
 use Rattle.hep_source.specs.Layout.{Layout, has_frame, placed, frame_of, kept_in, layout_after_turn, Placing, placing_turn, placing_from, layout_of, opening_layout}
 use Rattle.hep_source.specs.Opening.{opening}
 use Rattle.hep_source.specs.Schedules.{Progress, after_entry, progress_from, progress_after}
-use Rattle.hep_source.specs.Run.{run, run_from, expand, state_after, turn}
-use Rattle.hep_source.specs.Histories.{turns, IsEntry, AreEntries, IsLegal}
+use Rattle.hep_source.specs.Run.{run, run_from, turns_of, expand, state_after, turn}
+use Rattle.hep_source.specs.Histories.{IsEntry, AreEntries, IsLegal}
 
 -- ---- the state
 
@@ -118,19 +118,12 @@ room-stepped program cells es p s h same e =
 
 -- ---- legal histories
 
-turns_are : (program : Units) (s : State) (p n : ℕ) → turns program s p n ≡ run_from program s (replicate n p)
-unfolding run_from
-turns_are program s p zero = refl
-turns_are program s p (suc n) = turns_are program (turn program p s) p n
-
 entries-last : (program : Units) (es : List Entry) (e : Entry) (s : State) → AreEntries program s es → IsEntry program (run_from program s (expand es)) e → AreEntries program s (es ++ e ∷ [])
 unfolding run_from expand
 entries-last program [] e s h g = (g, tt)
 entries-last program (x ∷ es) e s h g =
-    let first = turns_are program s x.process x.steps in
-    let state : run_from program s (replicate x.steps x.process ++ expand es) ≡ run_from program (turns program s x.process x.steps) (expand es) =
-    run_from-append program s (replicate x.steps x.process) (expand es) ∙ ap (λ t. run_from program t (expand es)) (sym first) in
-    (h.0, entries-last program es e (turns program s x.process x.steps) h.1 (subst (λ t. IsEntry program t e) state g))
+    let state = run_from-append program s (turns_of x) (expand es) in
+    (h.0, entries-last program es e (run_from program s (turns_of x)) h.1 (subst (λ t. IsEntry program t e) state g))
 
 some_step : (o : Option State) (s : State) → o ≡ Some s → o ≢ None
 some_step o s e f = cc

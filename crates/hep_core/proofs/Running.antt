@@ -18,7 +18,7 @@ use Rattle.hep_source.specs.Constants.{constant_value, value_among, given_by, sh
 use Rattle.hep_source.specs.Control.{other, role_of_form, role_behind, role_of, past_block, following, terminal_by_form, is_ended_at, loops_among, loops_ending_at, to_end_of, at_statement, goes_on}
 use Rattle.hep_source.specs.Declarations.{Block, declarators_in, dimensions_among, dimensions_of, is_nonempty, blocks_in, blocks_of_unit, block_holding, common_block, with_blocks, blocks_of, constants_in, named_constants}
 use Rattle.hep_source.specs.Layout.{Layout, cells_of_blocks, common_cells, with_frame, opening_layout, frames_up_to, used_cells, has_frame}
-use Rattle.hep_source.specs.Names.{place_among}
+use Rattle.hep_source.specs.Names.{index_among}
 use Rattle.hep_source.specs.Data.{groups_in, data_groups}
 use Rattle.hep_source.specs.Opening.{with_groups, initial_store, opening}
 use Rattle.hep_source.specs.Places.{Scope, Extent, start_by_block, extent_by_place, extent_of, element_of, located_from, located}
@@ -147,7 +147,7 @@ module _ (unit : List Statement) (h : AllRun unit) where
   no_blocks_of_unit = nothing_in blocks_in no_blocks unit h
 
   pub no_common_block : (x : Name) → common_block unit x ≡ None
-  no_common_block x = ap (block_holding unit x) no_blocks_of_unit
+  no_common_block x = ap (block_holding x) no_blocks_of_unit
 
   pub no_data : data_groups unit ≡ []
   no_data = nothing_in groups_in no_groups unit h
@@ -164,7 +164,7 @@ extent_by scope x b shape = record { start = start_by_block scope x b; rest = ce
 extent_is : (scope : Scope) (x : Name) → AllRun scope.unit → extent_of scope x ≡ record { start = local scope.number x 1; rest = 1; shape = [] }
 unfolding extent_by
 extent_is scope x h =
-    ap (λ ds. extent_by_place scope x (place_among x ds)) (no_dummies scope.unit h)
+    ap (λ ds. extent_by_place scope x (index_among x ds)) (no_dummies scope.unit h)
     ∙ ap (λ b. extent_by scope x b (constant_shape scope.unit x)) (no_common_block scope.unit h x)
     ∙ ap (extent_by scope x None) (is_scalar scope.unit h x)
 

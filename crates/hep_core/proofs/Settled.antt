@@ -1,6 +1,6 @@
 -- Constants put on top change nothing of what is shown.
 use Rattle.std.proofs.Common.{◌≡◌, ℕ, Bool, true, false, List, [], ◌∷◌, ◌++◌, map, drop, sym, ap, ◌∙◌, subst, append_assoc, None, Some}
-use Rattle.std.specs.Prelude.{◌≢◌, Result, Ok, Err, MatchResult}
+use Rattle.std.specs.Prelude.{◌≢◌, Result, Ok, Err, OnOk, OnErr}
 use Rattle.hep_source.specs.declared.name.Name.{Name}
 use Rattle.hep_source.specs.declared.record.Item.{Item}
 use Rattle.hep_source.specs.declared.statement.Statement.{Statement}
@@ -97,6 +97,6 @@ process_lives program m s k alive =
 
 -- ---- what came of a step
 
-pub stepped_by : {E : Type 0} (program : Units) (s : State) (r : Result (Unit {0}) E) (new done same : Snapshot) → MatchResult r (λ x. new ≡ done) (λ e. new ≡ same) → (s' : State) × (step program 1 s ≡ Some s') × Shows program done s' → Shows program same s → Stepped program r new s
-stepped_by program s (Ok x) new done same h d k = (d.0, d.1, subst (λ m. Shows program m d.0) (sym h) d.2)
-stepped_by program s (Err e) new done same h d k = subst (λ m. Shows program m s) (sym h) k
+pub stepped_by : {E : Type 0} (program : Units) (s : State) (r : Result (Unit {0}) E) (new done same : Snapshot) → OnOk r (new ≡ done) → OnErr r (new ≡ same) → (s' : State) × (step program 1 s ≡ Some s') × Shows program done s' → Shows program same s → Stepped program r new s
+stepped_by program s (Ok x) new done same h g d k = (d.0, d.1, subst (λ m. Shows program m d.0) (sym h) d.2)
+stepped_by program s (Err e) new done same h g d k = subst (λ m. Shows program m s) (sym g) k

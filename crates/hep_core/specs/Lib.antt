@@ -5,5 +5,6 @@ pub mod Shown
 pub mod Names
 pub mod Image
 pub mod Runnable
+pub mod Refusals
 pub mod Value
 pub mod Kept

@@ -11,16 +11,25 @@ use Rattle.hep_source.specs.declared.statement.PrintItem.TheVariants.{Expression
 use Rattle.hep_source.specs.declared.statement.Form.{Form}
 use Rattle.hep_source.specs.declared.statement.Form.TheVariants.{Program, Assign, Print, End}
 use Rattle.hep_source.specs.declared.statement.Statement.{Statement}
+use Rattle.hep_source.specs.declared.value.Value.{Value}
 use Rattle.hep_source.specs.declared.value.Value.TheVariants.{Int, Truth}
 
--- integers and the names of variables without `$`, in parentheses, with signs and operators: X3.9-1978, 6.1
+-- values that pass a test and the names of variables without `$`, in parentheses, with signs and operators
+abbrev pub is_made_of : (Value → Bool) → Tree → Bool
+is_made_of passes (constant v) = passes v
+is_made_of passes (place p) = not p.name.asynchronous
+is_made_of passes (parenthesized t) = is_made_of passes t
+is_made_of passes (signed s t) = is_made_of passes t
+is_made_of passes (binary (Arithmetic o) a b) = is_made_of passes a && is_made_of passes b
+is_made_of passes _ = false
+
+abbrev pub is_integer : Value → Bool
+is_integer (Int z) = true
+is_integer (Truth b) = false
+
+-- an arithmetic expression is made of integers: X3.9-1978, 6.1
 abbrev pub is_arithmetic : Tree → Bool
-is_arithmetic (constant (Int z)) = true
-is_arithmetic (place p) = not p.name.asynchronous
-is_arithmetic (parenthesized t) = is_arithmetic t
-is_arithmetic (signed s t) = is_arithmetic t
-is_arithmetic (binary (Arithmetic o) a b) = is_arithmetic a && is_arithmetic b
-is_arithmetic _ = false
+is_arithmetic t = is_made_of is_integer t
 
 -- an arithmetic expression, a logical constant by itself, or a character constant: X3.9-1978, 12.8.2
 abbrev pub runs_item : PrintItem → Bool
@@ -32,13 +41,17 @@ runs_item (Characters cs) = true
 abbrev pub is_variable : Target → Bool
 is_variable x = not x.place.name.asynchronous && (length x.subscripts == 0)
 
--- PROGRAM, arithmetic assignment, PRINT and END: X3.9-1978, 14.1, 10.1, 12.8 and 11.14
+-- an assignment of an expression that passes a test, PRINT of items that pass one, and END: X3.9-1978, 10.1, 12.8 and 11.14
+abbrev pub acts_on : (Tree → Bool) → (PrintItem → Bool) → Form → Bool
+acts_on passes item_passes (Assign x t) = is_variable x && passes t
+acts_on passes item_passes (Print items) = list_all item_passes items
+acts_on passes item_passes End = true
+acts_on passes item_passes _ = false
+
+-- PROGRAM (X3.9-1978, 14.1), arithmetic assignment, PRINT and END
 abbrev pub runs_form : Form → Bool
 runs_form (Program p) = true
-runs_form (Assign x t) = is_variable x && is_arithmetic t
-runs_form (Print items) = list_all runs_item items
-runs_form End = true
-runs_form _ = false
+runs_form f = acts_on is_arithmetic runs_item f
 
 -- a logical IF (X3.9-1978, 11.5) doesn't run
 abbrev pub runs : Statement → Bool
@@ -56,13 +69,11 @@ first_unrun_in (unit ∷ units) = option_or (first_unrun unit) (first_unrun_in u
 
 -- ---- what is left of a statement that runs: values, logical ones too, stand in the place of what was evaluated
 
+abbrev pub is_value : Value → Bool
+is_value v = true
+
 abbrev pub may_be_left : Tree → Bool
-may_be_left (constant v) = true
-may_be_left (place p) = not p.name.asynchronous
-may_be_left (parenthesized t) = may_be_left t
-may_be_left (signed s t) = may_be_left t
-may_be_left (binary (Arithmetic o) a b) = may_be_left a && may_be_left b
-may_be_left _ = false
+may_be_left t = is_made_of is_value t
 
 abbrev pub item_may_be_left : PrintItem → Bool
 item_may_be_left (Expression t) = may_be_left t
@@ -70,7 +81,4 @@ item_may_be_left (Characters cs) = true
 
 -- of the executable ones
 abbrev pub form_may_be_left : Form → Bool
-form_may_be_left (Assign x t) = is_variable x && may_be_left t
-form_may_be_left (Print items) = list_all item_may_be_left items
-form_may_be_left End = true
-form_may_be_left _ = false
+form_may_be_left f = acts_on may_be_left item_may_be_left f

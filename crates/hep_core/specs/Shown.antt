@@ -64,3 +64,9 @@ pub record Shows (program : Units) (m : Snapshot) (s : State) : Type 0 where
 abbrev pub Stepped : {E : Type 0} → Units → Result (Unit {0}) E → Snapshot → State → Type 0
 Stepped program (Ok x) m s = (s' : State) × (step program 1 s ≡ Some s') × Shows program m s'
 Stepped program (Err e) m s = Shows program m s
+
+-- of a living process that shows a state of a program with this code, what came of a step is a step of the source machine
+abbrev pub Steps : {E : Type 0} → List Instruction → Snapshot → Result (Unit {0}) E → Snapshot → Type 0
+Steps code old result new =
+    (program : Units) (s : State) → code ≡ program_code program → old.is_living ≡ true → Shows program old s
+    → Stepped program result new s

@@ -1,5 +1,5 @@
 -- The variables of the main program, and what comes of declaring them: docs/LANGUAGE.md, 11.
-use Rattle.std.specs.Prelude.{◌≡◌, ℕ, if◌then◌else◌, List, [], ◌∷◌, Option, Some, None}
+use Rattle.std.specs.Prelude.{◌≡◌, ℕ, if◌then◌else◌, List, [], ◌∷◌, Option, Some, None, Result, MatchResult}
 use Rattle.std.specs.List.{flat_map}
 use Rattle.hep_source.specs.Tree.{Tree, Trees}
 use Rattle.hep_source.specs.declared.name.Name.{Name}
@@ -70,9 +70,12 @@ Reports NoMemory found = Unit {0}
 Reports (Refused number line name) None = ⊥
 Reports (Refused number line name) (Some x) = (number ≡ 301) × (line ≡ x.0) × (name ≡ spelling x.1)
 
--- with the line of the first statement that doesn't run and the first name that is no integer: the fault is 403 for that
--- line, without a name (docs/MACHINE.md), and 301 or want of memory only where every statement runs
-abbrev pub Refuses : ImageFault → Option ℕ → Option (ℕ × Name) → Type 0
-Refuses (Refused number line name) (Some unrun) untyped = (number ≡ 403) × (line ≡ unrun) × (name ≡ [])
-Refuses NoMemory (Some unrun) untyped = ⊥
-Refuses e None untyped = Reports e untyped
+-- ---- declarations
+
+-- what came of declaring these names, in a statement with this line: all are integers by their letters, and the new ones
+-- among them are variables behind the old ones; or the first that isn't is told
+abbrev pub Declares : List Name → ℕ → List Name → Result (Unit {0}) ImageFault → List Name → Type 0
+Declares old line names result new =
+    MatchResult result
+    (λ done. (new ≡ with_names old names) × (first_real names ≡ None))
+    (λ e. Reports e (untyped_in line names))

@@ -3,9 +3,8 @@ use Rattle.std.specs.Prelude.{◌≡◌, ◌≢◌, ◌⊎◌, ℕ, zero, suc, �
 use Rattle.hep_source.specs.declared.event.Entry.{Entry}
 use Rattle.hep_source.specs.Units.{Units}
 use Rattle.hep_source.specs.State.{State}
-use Rattle.hep_source.specs.Step.{step}
+use Rattle.hep_source.specs.Step.{step, is_waiting}
 use Rattle.hep_source.specs.Run.{state_after}
-use Rattle.hep_source.specs.Histories.{IsDisabled}
 use Rattle.hep_source.specs.Layout.{has_frame, opening_layout}
 use Rattle.hep_source.specs.Schedules.{living_from, next_ready, progress_after, ready_in}
 use Rattle.hep_source.specs.Views.{View, view_of}
@@ -57,7 +56,7 @@ grown old p n s =
 abbrev pub Turned : CoreValue → ℕ → ℕ → Bool → CoreValue → Type 0
 Turned old p (suc zero) false new = (s : State) × (step old.program p (state_of old) ≡ Some s) × (new ≡ grown old p 1 s)
 Turned old p zero true new =
-    IsDisabled old.program (state_of old) p × (new ≡ grown old p 0 (state_of old))
+    (is_waiting old.program (state_of old) p ≡ true) × (new ≡ grown old p 0 (state_of old))
 Turned old p _ _ new = ⊥
 
 -- the core has no stop

@@ -8,6 +8,7 @@ use thiserror::Error;
 /// Why a program has no image.
 #[derive(Debug, Drop, Error)]
 pub enum ImageFault {
+    /// Memory was refused.
     #[error("no memory")]
     NoMemory,
     /// 403, with the line and without a name: a statement doesn't run today (docs/MACHINE.md). Or
@@ -42,6 +43,7 @@ impl<T: Drop> From<AllocFailed<T>> for ImageFault {
 /// Why no core is made.
 #[derive(Clone, Copy, Debug, PartialEq, Eq, Error)]
 pub enum NewFault {
+    /// Memory was refused.
     #[error("no memory")]
     NoMemory,
     /// The main program's frame doesn't fit the arena.
@@ -74,13 +76,14 @@ impl<T: Drop> From<AllocFailed<T>> for NewFault {
 /// Why a choice is refused. A refused choice changes nothing, save that a stop may be set.
 #[derive(Clone, Copy, Debug, PartialEq, Eq, Error)]
 pub enum ChooseFault {
-    /// 503: the core has stopped, now or before.
+    /// The core has stopped, now or before, for this reason.
     #[error("stopped")]
     Stopped(Stop),
-    /// 501: the process was never made or has ended.
+    /// The process was never made or has ended. As a choice that the user made this is refused with
+    /// 501 (docs/MACHINE.md, "The program").
     #[error("no such process")]
     NoSuchProcess,
-    /// 504: a growth was refused; nothing has changed.
+    /// Memory was refused; nothing has changed.
     #[error("no memory")]
     NoMemory,
 }

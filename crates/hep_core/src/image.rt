@@ -1,9 +1,10 @@
 //! Images: a program with its operations.
-ghost use Rattle.std.specs.Prelude.{◌≡◌, ◌<◌, ◌++◌, ◌^◌, ◌∷◌, [], None, Some, IfOk, OnOk, MatchResult, length, map, option_map, slice_get};
+ghost use Rattle.std.specs.Prelude.{◌≡◌, ◌<◌, ◌++◌, ◌^◌, ◌∷◌, [], None, Some, IfOk, OnOk, IfErr, length, map, option_map, slice_get};
 ghost use Rattle.hep_source.specs.Names.{spelling as spelling_of};
 ghost use Rattle.hep_source.specs.Units as units;
 ghost use Rattle.hep_core.specs.Runnable as runnable;
-ghost use Rattle.hep_core.specs.Symbols.{Refuses, first_untyped, main_variables};
+ghost use Rattle.hep_core.specs.Refusals.{IsRunnable, Refuses};
+ghost use Rattle.hep_core.specs.Symbols.{main_variables};
 ghost use Rattle.hep_core.specs.Code.{program_code};
 ghost use Rattle.hep_core.specs.Names as words;
 
@@ -16,6 +17,9 @@ use hep_source::{Form, Name, Program, Statement, Text, Unit};
 use indexmap::IndexSet;
 use std::alloc::{AllocError, Global};
 use std::marker::Model;
+
+/// The name of a main program without PROGRAM statement (X3.9-1978, 14.1).
+pub const MAIN_NAME: &[u8] = b"MAIN";
 
 /// A program that can run: its tree, its operations and its names. Contracts see the program.
 #[derive(Drop)]
@@ -46,10 +50,11 @@ impl Model for Image {
 
 impl Image {
     /// The name with this number, of a unit or a variable: first the units in the order of the
-    /// source, a main program without PROGRAM statement as `MAIN`, then the variables in order of
-    /// first appearance. None where there is no such number.
+    /// source, a main program without PROGRAM statement as `MAIN_NAME`, then the variables in order
+    /// of first appearance. None where there is no such number.
     pub fn name(&self, number: u32) -> Option<&[u8]>
-        ensures { option_map (λ name. name.now) result ≡ slice_get (words.names_of self.now) number }
+        ensures { option_map (λ name. name.now) result
+            ≡ slice_get (words.names_of self.now) number }
     {
         let name = self.names.get(number as usize)?;
         Some(name.as_slice())
@@ -89,7 +94,7 @@ fn main_statements(program: &Program) -> &[Statement]
     }
 }
 
-// The name of a unit, or MAIN where it has no header.
+// The name of a unit, or that of a main program where it has no header.
 fn unit_name(alloc: Global, statements: &[Statement]) -> Result<Text, AllocError>
     ensures { IfOk result (λ name. name ≡ units.unit_name statements.now) }
 {
@@ -98,7 +103,7 @@ fn unit_name(alloc: Global, statements: &[Statement]) -> Result<Text, AllocError
             return spelling(alloc, &place.name);
         }
     }
-    Ok(Text::from(Vec::from_slice(alloc, b"MAIN")?))
+    Ok(Text::from(Vec::from_slice(alloc, MAIN_NAME)?))
 }
 
 // Appends the names of these units.
@@ -144,7 +149,9 @@ fn names_of(
 /// is none, 301 for the first variable whose letter isn't I to N, with its line and name; or want
 /// of memory.
 pub fn image_of(alloc: Global, program: Program) -> Result<Image, ImageFault>
-    ensures { MatchResult result (λ image. (image ≡ program) × (runnable.first_unrun_in program ≡ None) × (first_untyped (units.unit_at program (units.main_unit program)) ≡ None)) (λ e. Refuses e (runnable.first_unrun_in program) (first_untyped (units.unit_at program (units.main_unit program)))) }
+    ensures ok { IfOk result (λ image. image ≡ program) }
+    ensures runs { OnOk result (IsRunnable program) }
+    ensures refused { IfErr result (Refuses program) }
 {
     if let Some(line) = first_unrun_in(program.as_slice()) {
         return Err(ImageFault::Refused {

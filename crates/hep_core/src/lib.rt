@@ -3,15 +3,16 @@
 
 pub mod fault;
 pub mod image;
-pub mod lower;
-pub mod machine;
-pub mod operation;
-pub mod runnable;
+mod lower;
+mod machine;
+mod operation;
+mod runnable;
 pub mod scheduler;
 pub mod stop;
-pub mod symbols;
+mod symbols;
 
 pub use fault::{ChooseFault, ImageFault, NewFault};
-pub use image::{Image, image_of};
+pub use image::{Image, MAIN_NAME, image_of};
+pub use operation::{Evaluation, Instruction, Operation};
 pub use scheduler::Core;
 pub use stop::{Stop, Turn, Verdict};

@@ -4,7 +4,7 @@ ghost use Rattle.hep_source.specs.Evaluation as evaluation;
 ghost use Rattle.hep_core.specs.Code as code_words;
 
 use crate::operation::{Evaluation, Instruction, Operation};
-use hep_source::{Expr, Form, Item, Name, Node, Operator, PrintItem, Statement, Text, Value};
+use hep_source::{Expr, Form, Item, Name, Node, Operator, PrintItem, Statement, Syntax, Value};
 use indexmap::IndexSet;
 use std::alloc::{AllocError, Global};
 
@@ -18,7 +18,8 @@ fn emit(code: &mut Vec<Instruction>, instruction: Instruction) -> Result<(), All
 
 // Appends an operation of a statement with this line.
 fn emit_step(code: &mut Vec<Instruction>, line: u32, operation: Operation) -> Result<(), AllocError>
-    ensures { OnOk result (code.new.items ≡ code.old.items ++ Instruction.Step line operation ∷ []) }
+    ensures { OnOk result (code.new.items
+        ≡ code.old.items ++ Instruction.Step line operation ∷ []) }
 {
     emit(code, Instruction::Step { line, operation })
 }
@@ -40,24 +41,14 @@ fn number_of(symbols: &IndexSet<Name>, name: Name) -> usize
     symbols.get_index_of(&name).unwrap_or(symbols.len())
 }
 
-/// A text's characters in memory of their own.
-///
-/// # Errors
-///
-/// Only where memory was refused.
-pub fn copy_of_text(alloc: Global, text: &Text) -> Result<Text, AllocError>
-    ensures { IfOk result (λ copy. copy ≡ text.now) }
-{
-    Ok(Text::from(text.as_slice().to_vec(alloc)?))
-}
-
 fn emit_expression(
     code: &mut Vec<Instruction>,
     symbols: &IndexSet<Name>,
     line: u32,
     expression: &Expr,
 ) -> Result<(), AllocError>
-    ensures { OnOk result (code.new.items ≡ code.old.items ++ code_words.tree_code symbols.now.keys line expression.now) }
+    ensures { OnOk result (code.new.items
+        ≡ code.old.items ++ code_words.tree_code symbols.now.keys line expression.now) }
 {
     match &expression.node {
         Node::Constant(value) => emit(code, Instruction::Push(item_of(*value))),
@@ -91,12 +82,13 @@ fn emit_item(
     line: u32,
     item: &PrintItem,
 ) -> Result<(), AllocError>
-    ensures { OnOk result (code.new.items ≡ code.old.items ++ code_words.items_code symbols.now.keys line (item.now ∷ [])) }
+    ensures { OnOk result (code.new.items
+        ≡ code.old.items ++ code_words.items_code symbols.now.keys line (item.now ∷ [])) }
 {
     match item {
         PrintItem::Expression(expression) => emit_expression(code, symbols, line, expression),
         PrintItem::Characters(text) => {
-            let text = copy_of_text(alloc, text)?;
+            let text = text.copy(alloc)?;
             emit(code, Instruction::Push(Item::Text(text)))
         }
     }
@@ -109,7 +101,8 @@ fn emit_items(
     line: u32,
     items: &[PrintItem],
 ) -> Result<(), AllocError>
-    ensures { OnOk result (code.new.items ≡ code.old.items ++ code_words.items_code symbols.now.keys line items.now) }
+    ensures { OnOk result (code.new.items
+        ≡ code.old.items ++ code_words.items_code symbols.now.keys line items.now) }
 {
     for item in items {
         emit_item(alloc, code, symbols, line, item)?;
@@ -124,7 +117,9 @@ fn emit_statement(
     symbols: &IndexSet<Name>,
     statement: &Statement,
 ) -> Result<(), AllocError>
-    ensures { OnOk result (code.new.items ≡ code.old.items ++ code_words.form_code symbols.now.keys statement.now.line statement.now.form) }
+    ensures { OnOk result (code.new.items
+        ≡ code.old.items
+        ++ code_words.form_code symbols.now.keys statement.now.line statement.now.form) }
 {
     let line = statement.line;
     match &statement.form {
@@ -161,7 +156,8 @@ pub fn code_of(
     symbols: &IndexSet<Name>,
     statements: &[Statement],
 ) -> Result<Vec<Instruction>, AllocError>
-    ensures { IfOk result (λ code. code.items ≡ code_words.code_from symbols.now.keys statements.now) }
+    ensures { IfOk result (λ code.
+        code.items ≡ code_words.code_from symbols.now.keys statements.now) }
 {
     let mut code = Vec::new(alloc);
     for statement in statements {

@@ -1,22 +1,26 @@
 //! The state of a run: the process, its operands, the variables, the records and the faults.
-ghost use Rattle.std.specs.Prelude.{◌≡◌, ◌≢◌, ◌+◌, ◌-◌, ◌<◌, ◌≤◌, ◌++◌, ◌∷◌, [], Some, None, true, IfOk, OnOk, MatchResult, length, map, drop, take, replicate, slice_get, ◌^◌, vec_len, vec_capacity};
-ghost use Rattle.hep_source.specs.declared.record.Item.{Item};
-ghost use Rattle.hep_source.specs.Units.{Units};
-ghost use Rattle.hep_source.specs.State.{State};
-ghost use Rattle.hep_core.specs.Code.{program_code};
+ghost use Rattle.std.specs.Prelude.{◌≡◌, ◌+◌, ◌<◌, ◌++◌, ◌∷◌, ◌^◌, [], IfOk, OnOk, OnErr, vec_len, vec_capacity};
 ghost use Rattle.hep_core.specs.Machine as words;
-ghost use Rattle.hep_core.specs.Shown.{Shows, Stepped};
+ghost use Rattle.hep_core.specs.Shown.{Steps};
 
-use crate::lower::{copy_of_text, item_of};
+use crate::lower::item_of;
 use crate::operation::{Evaluation, Instruction, Operation};
 use hep_source::arithmetic::{apply, apply_sign};
-use hep_source::{Fault, Item, Kind, Record, Value};
+use hep_source::{Fault, Item, Kind, Record, Syntax, Value};
 use std::alloc::{AllocError, Global};
 use std::mem;
 
-/// The state of a run. Today there is one process, with number 1.
+/// The process that a run begins with; today there is no other.
+pub const MAIN_PROCESS: u64 = 1;
+
+// The main program's number among the units: the main program of a program that runs today is its
+// first unit.
+const MAIN_UNIT: u32 = 0;
+
+/// The state of a run, of its one process.
 #[derive(Drop)]
 pub struct Machine {
+    /// Whether the process hasn't ended yet.
     pub is_living: bool,
     /// The place of the next operation.
     pub place: usize,
@@ -24,7 +28,9 @@ pub struct Machine {
     pub operands: Vec<Item>,
     /// The value of each variable, if it was ever assigned.
     pub cells: Vec<Option<Value>>,
+    /// What was printed so far, in order.
     pub records: Vec<Record>,
+    /// The faults so far, in order.
     pub faults: Vec<Fault>,
 }
 
@@ -35,7 +41,7 @@ fn copy_of_item(alloc: Global, item: &Item) -> Result<Item, AllocError>
     match item {
         Item::Int(integer) => Ok(Item::Int(*integer)),
         Item::Truth(truth) => Ok(Item::Truth(*truth)),
-        Item::Text(text) => Ok(Item::Text(copy_of_text(alloc, text)?)),
+        Item::Text(text) => Ok(Item::Text(text.copy(alloc)?)),
     }
 }
 
@@ -80,8 +86,9 @@ fn settle(
     operands: &mut Vec<Item>,
     place: &mut usize,
 ) -> Result<(), AllocError>
-    ensures same { map Instruction.Push operands.new.items ++ drop place.new code.now ≡ map Instruction.Push operands.old.items ++ drop place.old code.now }
-    ensures settled { OnOk result ((item : Item) → slice_get code.now place.new ≢ Some (Instruction.Push item)) }
+    ensures same { words.left_to_do operands.new.items place.new code.now
+        ≡ words.left_to_do operands.old.items place.old code.now }
+    ensures settled { OnOk result (words.IsAtStep code.now place.new) }
 {
     while let Some(Instruction::Push(item)) = code.get(*place) {
         let item = copy_of_item(alloc, item)?;
@@ -93,7 +100,8 @@ fn settle(
 
 // Puts an item where the last operands were, so many of them; a refusal leaves all as it was.
 fn replace_operands(operands: &mut Vec<Item>, taken: usize, item: Item) -> Result<(), AllocError>
-    ensures { MatchResult result (λ _. operands.new.items ≡ take (length operands.old.items - taken) operands.old.items ++ item ∷ []) (λ _. operands.new.items ≡ operands.old.items) }
+    ensures done { OnOk result (operands.new.items ≡ words.replaced operands.old.items taken item) }
+    ensures refused { OnErr result (operands.new.items ≡ operands.old.items) }
 {
     operands.reserve(1)?;
     operands.truncate(operands.len().saturating_sub(taken));
@@ -116,13 +124,14 @@ impl Machine {
     ///
     /// Only where memory was refused.
     pub fn opening(alloc: Global, variables: usize) -> Result<Machine, AllocError>
-        ensures { IfOk result (λ machine. words.snapshot_of machine ≡ words.opening_snapshot variables) }
+        ensures { IfOk result (λ machine.
+            words.snapshot_of machine ≡ words.opening_snapshot variables) }
     {
         Ok(Machine {
             is_living: true,
             place: 0,
             operands: Vec::new(alloc),
-            cells: unassigned(alloc, variables)?,
+            cells: vec![in alloc; None; variables]?,
             records: Vec::new(alloc),
             faults: Vec::new(alloc),
         })
@@ -134,7 +143,7 @@ impl Machine {
     ///
     /// Only where memory was refused; the machine then shows the same state.
     pub fn step(&mut self, alloc: Global, code: &[Instruction]) -> Result<(), AllocError>
-        ensures { (program : Units) (s : State) → code.now ≡ program_code program → self.old.is_living ≡ true → Shows program (words.snapshot_of self.old) s → Stepped program result (words.snapshot_of self.new) s }
+        ensures { Steps code.now (words.snapshot_of self.old) result (words.snapshot_of self.new) }
     {
         settle(alloc, code, &mut self.operands, &mut self.place)?;
         // A living process always has an operation ahead: the code ends with an END.
@@ -160,7 +169,8 @@ impl Machine {
 
     // What an operation gives: its value, or the fault that ends the process.
     fn evaluate(&self, evaluation: Evaluation) -> Result<Value, Kind>
-        ensures { result ≡ words.evaluated self.now.cells.items self.now.operands.items evaluation }
+        ensures { result
+            ≡ words.evaluated self.now.cells.items self.now.operands.items evaluation }
     {
         match evaluation {
             Evaluation::Load(number) => match self.cells.get(number) {
@@ -181,7 +191,9 @@ impl Machine {
     // Goes on with the value of an operation in the place of its operands.
     fn give(&mut self, evaluation: Evaluation, value: Value) -> Result<(), AllocError>
         requires { self.old.place + 1 < 2 ^ 64 }
-        ensures { MatchResult result (λ _. words.snapshot_of self.new ≡ words.with_result (words.snapshot_of self.old) evaluation value) (λ _. words.snapshot_of self.new ≡ words.snapshot_of self.old) }
+        ensures done { OnOk result (words.snapshot_of self.new
+            ≡ words.with_result (words.snapshot_of self.old) evaluation value) }
+        ensures refused { OnErr result (words.snapshot_of self.new ≡ words.snapshot_of self.old) }
     {
         replace_operands(&mut self.operands, evaluation.arity(), item_of(value))?;
         self.place += 1;
@@ -190,11 +202,13 @@ impl Machine {
 
     // Ends the process with a fault.
     fn fail(&mut self, line: u32, kind: Kind) -> Result<(), AllocError>
-        ensures { MatchResult result (λ _. words.snapshot_of self.new ≡ words.with_fault (words.snapshot_of self.old) line kind) (λ _. words.snapshot_of self.new ≡ words.snapshot_of self.old) }
+        ensures done { OnOk result (words.snapshot_of self.new
+            ≡ words.with_fault (words.snapshot_of self.old) line kind) }
+        ensures refused { OnErr result (words.snapshot_of self.new ≡ words.snapshot_of self.old) }
     {
         self.faults.push(Fault {
-            process: 1,
-            unit: 0,
+            process: MAIN_PROCESS,
+            unit: MAIN_UNIT,
             line,
             kind,
         })?;
@@ -205,7 +219,8 @@ impl Machine {
     // Assigns the topmost operand to a variable.
     fn store(&mut self, number: usize)
         requires { self.old.place + 1 < 2 ^ 64 }
-        ensures { words.snapshot_of self.new ≡ words.with_stored (words.snapshot_of self.old) number }
+        ensures { words.snapshot_of self.new
+            ≡ words.with_stored (words.snapshot_of self.old) number }
     {
         let value = topmost_value(&self.operands);
         if let Some(cell) = self.cells.get_mut(number) {
@@ -218,7 +233,9 @@ impl Machine {
     // Adds a record of all operands.
     fn print(&mut self, alloc: Global) -> Result<(), AllocError>
         requires { self.old.place + 1 < 2 ^ 64 }
-        ensures { MatchResult result (λ _. words.snapshot_of self.new ≡ words.with_printed (words.snapshot_of self.old)) (λ _. words.snapshot_of self.new ≡ words.snapshot_of self.old) }
+        ensures done { OnOk result (words.snapshot_of self.new
+            ≡ words.with_printed (words.snapshot_of self.old)) }
+        ensures refused { OnErr result (words.snapshot_of self.new ≡ words.snapshot_of self.old) }
     {
         self.records.reserve(1)?;
         let items = mem::replace(&mut self.operands, Vec::new(alloc));
@@ -234,15 +251,4 @@ fn add_record(records: &mut Vec<Record>, added: Record)
     ensures { records.new.items ≡ records.old.items ++ added ∷ [] }
 {
     let _ = records.push(added);
-}
-
-// So many variables, none assigned.
-fn unassigned(alloc: Global, variables: usize) -> Result<Vec<Option<Value>>, AllocError>
-    ensures { IfOk result (λ cells. cells.items ≡ replicate variables None) }
-{
-    let mut cells = Vec::with_capacity(alloc, variables)?;
-    for _variable in 0..variables {
-        cells.push(None)?;
-    }
-    Ok(cells)
 }

@@ -16,6 +16,7 @@ pub enum Evaluation {
 /// One step of a statement.
 #[derive(Clone, Copy)]
 pub enum Operation {
+    /// Takes operands and puts a value in their place, or ends the process with a fault.
     Evaluate(Evaluation),
     /// Assigns the topmost operand to a variable, by its number in the symbol table, and goes on.
     Store(usize),
@@ -30,6 +31,6 @@ pub enum Operation {
 pub enum Instruction {
     /// Puts a constant on top; this is no step.
     Push(Item),
-    /// An operation, with the initial line of its statement.
+    /// An operation, with the initial line of its statement; 0 for the END behind the last one.
     Step { line: u32, operation: Operation },
 }

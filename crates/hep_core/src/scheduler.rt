@@ -1,5 +1,5 @@
 //! The core: a run of an image, one choice at a time, with its history.
-ghost use Rattle.std.specs.Prelude.{◌≡◌, ◌≤◌, ◌<◌, ◌++◌, ◌∷◌, [], None, Some, IsSome, MatchResult, vec_len, vec_capacity};
+ghost use Rattle.std.specs.Prelude.{◌≡◌, ◌≤◌, ◌<◌, ◌++◌, ◌∷◌, [], None, Some, IsSome, IfOk, OnOk, IfErr, vec_len, vec_capacity};
 ghost use Rattle.hep_source.specs.Histories.{IsLegal};
 ghost use Rattle.hep_source.specs.Layout.{has_frame, opening_layout, used_cells};
 ghost use Rattle.hep_source.specs.Views.{view_of};
@@ -7,7 +7,7 @@ ghost use Rattle.hep_core.specs.Value.{state_of, opening_of, Unmade, Chosen, IsS
 
 use crate::fault::{ChooseFault, NewFault};
 use crate::image::Image;
-use crate::machine::Machine;
+use crate::machine::{MAIN_PROCESS, Machine};
 use crate::stop::{Stop, Turn, Verdict};
 use hep_source::{Entry, Fault, Record};
 use std::alloc::Global;
@@ -50,7 +50,9 @@ impl Core {
     ///
     /// `ArenaFull` where the main program's frame has no gap in the arena, `NoMemory`.
     pub fn new(alloc: Global, image: Image, cells: u32, steps: u64) -> Result<Core, NewFault>
-        ensures { MatchResult result (λ core. IsSome (opening_layout image cells) × (core ≡ opening_of image cells steps)) (λ e. Unmade e image cells) }
+        ensures fits { OnOk result (IsSome (opening_layout image cells)) }
+        ensures made { IfOk result (λ core. core ≡ opening_of image cells steps) }
+        ensures unmade { IfErr result (λ e. Unmade e image cells) }
     {
         // A frame has one cell more than the unit has variables.
         let variables = image.variables();
@@ -81,7 +83,7 @@ impl Core {
         if let Some(stop) = self.stop {
             return Err(ChooseFault::Stopped(stop));
         }
-        if p != 1 || !self.machine.is_living {
+        if p != MAIN_PROCESS || !self.machine.is_living {
             return Err(ChooseFault::NoSuchProcess);
         }
         if self.limit <= self.history.len() as u64 {
@@ -114,7 +116,7 @@ impl Core {
         ensures { result ≡ next_ready_of self.now }
     {
         if self.machine.is_living {
-            Some(1)
+            Some(MAIN_PROCESS)
         } else {
             None
         }

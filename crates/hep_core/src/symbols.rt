@@ -1,11 +1,11 @@
 //! The variables of a unit, in order of first appearance.
 
-ghost use Rattle.std.specs.Prelude.{◌≡◌, ◌∷◌, [], None, IfOk, MatchResult};
+ghost use Rattle.std.specs.Prelude.{◌≡◌, ◌∷◌, [], None, IfOk, OnOk, IfErr};
 ghost use Rattle.hep_source.specs.Declarations as declarations;
 ghost use Rattle.hep_source.specs.Names as names;
 ghost use Rattle.hep_core.specs.Symbols as table;
 ghost use Rattle.hep_source.specs.Tree.{trees_of};
-ghost use Rattle.hep_core.specs.Symbols.{untyped_in, Reports};
+ghost use Rattle.hep_core.specs.Symbols.{Declares, Reports};
 
 use crate::fault::ImageFault;
 use hep_source::{Expr, Form, Name, Node, PrintItem, Statement, Text};
@@ -46,7 +46,7 @@ fn declare(
     line: u32,
     name: Name,
 ) -> Result<(), ImageFault>
-    ensures { MatchResult result (λ _. (symbols.new.keys ≡ names.with_names symbols.old.keys (name ∷ [])) × (table.first_real (name ∷ []) ≡ None)) (λ e. Reports e (untyped_in line (name ∷ []))) }
+    ensures { Declares symbols.old.keys line (name ∷ []) result symbols.new.keys }
 {
     if !is_integer_by_letter(&name) {
         let name = spelling(alloc, &name)?;
@@ -67,7 +67,8 @@ fn declare_in(
     line: u32,
     expression: &Expr,
 ) -> Result<(), ImageFault>
-    ensures { MatchResult result (λ _. (symbols.new.keys ≡ names.with_names symbols.old.keys (table.names_in expression.now)) × (table.first_real (table.names_in expression.now) ≡ None)) (λ e. Reports e (untyped_in line (table.names_in expression.now))) }
+    ensures { Declares symbols.old.keys line
+        (table.names_in expression.now) result symbols.new.keys }
 {
     match &expression.node {
         Node::Constant(_) => Ok(()),
@@ -92,7 +93,8 @@ fn declare_in_all(
     line: u32,
     expressions: &[Expr],
 ) -> Result<(), ImageFault>
-    ensures { MatchResult result (λ _. (symbols.new.keys ≡ names.with_names symbols.old.keys (table.names_in_all (trees_of expressions.now))) × (table.first_real (table.names_in_all (trees_of expressions.now)) ≡ None)) (λ e. Reports e (untyped_in line (table.names_in_all (trees_of expressions.now)))) }
+    ensures { Declares symbols.old.keys line
+        (table.names_in_all (trees_of expressions.now)) result symbols.new.keys }
 {
     match expressions {
         [] => Ok(()),
@@ -109,7 +111,8 @@ fn declare_items(
     line: u32,
     items: &[PrintItem],
 ) -> Result<(), ImageFault>
-    ensures { MatchResult result (λ _. (symbols.new.keys ≡ names.with_names symbols.old.keys (table.names_in_items items.now)) × (table.first_real (table.names_in_items items.now) ≡ None)) (λ e. Reports e (untyped_in line (table.names_in_items items.now))) }
+    ensures { Declares symbols.old.keys line
+        (table.names_in_items items.now) result symbols.new.keys }
 {
     for item in items {
         match item {
@@ -125,7 +128,8 @@ fn declare_statement(
     symbols: &mut IndexSet<Name>,
     statement: &Statement,
 ) -> Result<(), ImageFault>
-    ensures { MatchResult result (λ _. (symbols.new.keys ≡ names.with_names symbols.old.keys (table.names_in_form statement.now.form)) × (table.first_real (table.names_in_form statement.now.form) ≡ None)) (λ e. Reports e (untyped_in statement.now.line (table.names_in_form statement.now.form))) }
+    ensures { Declares symbols.old.keys statement.now.line
+        (table.names_in_form statement.now.form) result symbols.new.keys }
 {
     let line = statement.line;
     match &statement.form {
@@ -145,7 +149,9 @@ fn declare_statement(
 ///
 /// 301 for the first variable that is no integer by its letter, or want of memory.
 pub fn symbols_of(alloc: Global, statements: &[Statement]) -> Result<IndexSet<Name>, ImageFault>
-    ensures { MatchResult result (λ symbols. (symbols.keys ≡ table.variables_of statements.now) × (table.first_untyped statements.now ≡ None)) (λ e. Reports e (table.first_untyped statements.now)) }
+    ensures keys { IfOk result (λ symbols. symbols.keys ≡ table.variables_of statements.now) }
+    ensures typed { OnOk result (table.first_untyped statements.now ≡ None) }
+    ensures refused { IfErr result (λ e. Reports e (table.first_untyped statements.now)) }
 {
     let mut symbols = IndexSet::new(alloc);
     for statement in statements {

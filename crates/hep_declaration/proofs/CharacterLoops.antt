@@ -1,7 +1,8 @@
 -- The loop that reads the characters of a constant.
 use Rattle.std.proofs.Common.{◌≡◌, ℕ, suc, ◌+◌, ◌-◌, ◌<◌, ◌≤◌, List, [], ◌∷◌, ◌++◌, Option, Some, None, refl, sym, ap, ◌∙◌, arith, append_assoc, append-nil}
 use Rattle.hep_expression.specs.Reading.{◌>>=◌, after}
-use Rattle.hep_declaration.specs.ReadingConstant.{character_at, with_character, characters}
+use Rattle.hep_declaration.specs.ReadingLists.{with_part}
+use Rattle.hep_declaration.specs.ReadingConstant.{character_at, characters}
 
 -- In all of these n turns are allowed, i of them are done, and what is left gives the whole with what
 -- was read before.
@@ -13,7 +14,7 @@ left_over n i lt = omega arith
 abbrev pub with_characters : List ℕ → Option (List ℕ × List ℕ) → Option (List ℕ × List ℕ)
 with_characters done read = read >>= λ x. Some (done ++ x.0, x.1)
 
-one_character_more : (done : List ℕ) (c : ℕ) (read : Option (List ℕ × List ℕ)) → with_characters done (with_character c read) ≡ with_characters (done ++ c ∷ []) read
+one_character_more : (done : List ℕ) (c : ℕ) (read : Option (List ℕ × List ℕ)) → with_characters done (with_part c read) ≡ with_characters (done ++ c ∷ []) read
 one_character_more done c None = refl
 one_character_more done c (Some x) = ap (λ (l : List ℕ). Some (l, x.1)) (sym (append_assoc done (c ∷ []) x.0))
 

@@ -54,7 +54,7 @@ module _ (k : Context) where
   -- ---- constants
 
   constant_shortens : (x : DataConstant) (s r : List ℕ) → ReadsDataConstant k x s r → length r ≤ length s
-  constant_shortens (ConstantValue (Int v)) s r h = omega (arith, ap length h.4, length-append (optional_sign k h.0) (h.1 ++ r), length-append h.1 r)
+  constant_shortens (ConstantValue (Int v)) s r h = omega (arith, ap length h.4, length-append (optional_sign h.0) (h.1 ++ r), length-append h.1 r)
   constant_shortens (ConstantValue (Truth b)) s r h = shorter (truth_spelling b) r s h
   constant_shortens (ConstantName p) s r h = omega (arith, place_fits k p s r h.1)
 
@@ -110,7 +110,7 @@ module _ (k : Context) where
         go [] h = absurd h
         go (c ∷ d) h = let from : 48 ≤ c = digit_from c h.0 in rw (above c g (omega arith)) refl
 
-  integer_read : (g : Option Sign) (d r : List ℕ) (u : ℤ) → IsDigits d → IsInteger k.sizes d u → AfterWord r → data_constant_at k (optional_sign k g ++ (d ++ r)) ≡ Some (ConstantValue (Int (signed_value k g u)), r)
+  integer_read : (g : Option Sign) (d r : List ℕ) (u : ℤ) → IsDigits d → IsInteger k.sizes d u → AfterWord r → data_constant_at k (optional_sign g ++ (d ++ r)) ≡ Some (ConstantValue (Int (signed_value g u)), r)
   integer_read None d r u are is f =
       rw (digits_no_truth d r are, digits_no_name d r are, digits_no_sign d r are 45 (omega arith), digits_no_sign d r are 43 (omega arith), digits_read k d r u are is f) refl
   integer_read (Some Plus) d r u are is f = rw (digits_read k d r u are is f) refl
@@ -184,7 +184,7 @@ module _ (k : Context) where
   abbrev AfterValue : List ℕ → Type 0
   AfterValue r = AfterWord r × (after 42 r ≡ None)
 
-  integer_no_repeat : (g : Option Sign) (d r : List ℕ) (u : ℤ) → IsDigits d → IsInteger k.sizes d u → AfterValue r → repeat_at k (optional_sign k g ++ (d ++ r)) ≡ None
+  integer_no_repeat : (g : Option Sign) (d r : List ℕ) (u : ℤ) → IsDigits d → IsInteger k.sizes d u → AfterValue r → repeat_at k (optional_sign g ++ (d ++ r)) ≡ None
   integer_no_repeat None d r u are is f = rw (digits_read k d r u are is f.0, f.1, digits_no_name d r are) refl
   integer_no_repeat (Some Plus) d r u are is f = refl
   integer_no_repeat (Some Minus) d r u are is f = refl

@@ -1,6 +1,6 @@
 -- What is read as declarators is so by the grammar, and the other way round: type statements and
 -- DIMENSION.
-use Rattle.std.proofs.Common.{◌≡◌, ◌≢◌, inl, inr, ℕ, ◌≤◌, Bool, true, false, List, [], ◌∷◌, length, Option, Some, None, refl, sym, ap, subst, ◌∙◌, arith}
+use Rattle.std.proofs.Common.{◌≡◌, ◌≢◌, inl, inr, ℕ, ◌≤◌, Bool, true, false, List, [], ◌∷◌, length, Option, Some, None, refl, sym, ap, subst, arith}
 use Rattle.std.specs.Prelude.{nat_le, not, if◌then◌else◌}
 use Rattle.std.specs.List.{list_all}
 use Rattle.hep_source.specs.Tree.{Tree}
@@ -22,7 +22,7 @@ use Rattle.hep_expression.proofs.Complete.{place_read, AfterExpression, after_co
 use Rattle.hep_declaration.specs.Lists.{AreBehind, AreListed}
 use Rattle.hep_declaration.specs.ReadingLists.{listed, optional, whole}
 use Rattle.hep_declaration.specs.Declaration.{ReadsUpper, ReadsLower, ReadsDimension, is_open, OnlyLastOpen, ReadsDeclarator, ReadsArrayDeclarator}
-use Rattle.hep_declaration.specs.ReadingDeclaration.{upper_bound_at, dimension_behind, dimension_at, is_star, only_last_open, are_dimensions, declarator_at, declare, is_array, dimension}
+use Rattle.hep_declaration.specs.ReadingDeclaration.{upper_bound_at, dimension_behind, dimension_at, only_last_open, are_dimensions, declarator_at, declare, is_array, dimension}
 use Rattle.hep_declaration.proofs.Lists.{IsSound, Shortens, IsComplete, optional_shortens, listed_sound, optional_sound, listed_complete, optional_complete}
 use Rattle.hep_declaration.proofs.Targets.{begins_expression, expression_begins, AfterName, name_ends}
 use Rattle.hep_declaration.proofs.Headers.{carried, all_read_is, whole_is}
@@ -99,25 +99,21 @@ dimension_complete k x s r h f = dimension_read k x.lower x.upper s h.0 r h.1 h.
 
 -- ---- which dimensions an array can have
 
-open_is_star : (k : Context) (u : UpperBound) → is_open k u ≡ is_star u
-open_is_star k (Expression t) = refl
-open_is_star k Open = refl
-
 not_true : (b : Bool) → not b ≡ true → b ≡ false
 not_true true e = absurd cc
 not_true false e = refl
 
-last_open_is : (k : Context) (xs : List Dimension) → only_last_open xs ≡ true → OnlyLastOpen k xs
-last_open_is k [] e = tt
-last_open_is k (x ∷ []) e = tt
-last_open_is k (x ∷ y ∷ more) e =
-    let b = and_parts (not (is_star x.upper)) (only_last_open (y ∷ more)) e in
-    (open_is_star k x.upper ∙ not_true (is_star x.upper) b.0, last_open_is k (y ∷ more) b.1)
+last_open_is : (xs : List Dimension) → only_last_open xs ≡ true → OnlyLastOpen xs
+last_open_is [] e = tt
+last_open_is (x ∷ []) e = tt
+last_open_is (x ∷ y ∷ more) e =
+    let b = and_parts (not (is_open x.upper)) (only_last_open (y ∷ more)) e in
+    (not_true (is_open x.upper) b.0, last_open_is (y ∷ more) b.1)
 
-last_open_test : (k : Context) (xs : List Dimension) → OnlyLastOpen k xs → only_last_open xs ≡ true
-last_open_test k [] h = refl
-last_open_test k (x ∷ []) h = refl
-last_open_test k (x ∷ y ∷ more) h = rw (sym (open_is_star k x.upper) ∙ h.0, last_open_test k (y ∷ more) h.1) refl
+last_open_test : (xs : List Dimension) → OnlyLastOpen xs → only_last_open xs ≡ true
+last_open_test [] h = refl
+last_open_test (x ∷ []) h = refl
+last_open_test (x ∷ y ∷ more) h = rw (h.0, last_open_test (y ∷ more) h.1) refl
 
 -- ---- declarators
 
@@ -136,7 +132,7 @@ declarator_sound k s x fit e =
       | inl d ↦ (
           let a = and_parts (nat_le (length c.0.0) 7) (only_last_open c.0.0) d.0 in
           carried (λ (y : Declarator × List ℕ). ReadsDeclarator k y.0 s y.1) (record { place = b.0.0; dimensions = c.0.0 }, c.0.1) x d.1
-          (b.0.1, one, two, le_of (length c.0.0) 7 a.0, last_open_is k c.0.0 a.1))
+          (b.0.1, one, two, le_of (length c.0.0) 7 a.0, last_open_is c.0.0 a.1))
       | inr d ↦ absurd (none_is x d.1)
     ]
 
@@ -145,7 +141,7 @@ unfolding declarator_at
 declarator_complete k x s r h f =
     let one = place_read k x.place s h.0 h.1 (name_ends (ReadsDimension k) x.dimensions h.0 r h.2 f.0) in
     let two = optional_complete (ReadsDimension k) (dimension_shortens k) (dimension_at k) AfterDimension (dimension_complete k) (λ m. (after_comma m, refl)) (λ m. (after_parenthesis m, refl)) x.dimensions h.0 r h.2 f.1 in
-    rw (one, two, le_test (length x.dimensions) 7 h.3, last_open_test k x.dimensions h.4) refl
+    rw (one, two, le_test (length x.dimensions) 7 h.3, last_open_test x.dimensions h.4) refl
 
 -- ---- type statements
 

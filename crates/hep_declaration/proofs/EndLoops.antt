@@ -2,9 +2,9 @@
 use Rattle.std.proofs.Common.{◌≡◌, ℕ, suc, ◌+◌, ◌-◌, ◌<◌, ◌≤◌, List, [], ◌∷◌, ◌++◌, Option, Some, None, Result, Ok, Err, refl, sym, ap, ◌∙◌, arith, append-nil, append_assoc}
 use Rattle.hep_expression.specs.declared.unread.Unread.{Unread}
 use Rattle.hep_expression.specs.declared.unread.Unread.TheVariants as unread
-use Rattle.hep_expression.specs.Reading.{◌>>=◌, Gives, all_read}
+use Rattle.hep_expression.specs.Reading.{Reader, ◌>>=◌, Gives, all_read}
 use Rattle.hep_expression.proofs.Leaves.{some_is, none_is}
-use Rattle.hep_declaration.specs.ReadingLists.{Reader, behind_optional_comma}
+use Rattle.hep_declaration.specs.ReadingLists.{behind_optional_comma}
 use Rattle.hep_declaration.specs.ReadingDeclaration.{parts_to_end}
 
 -- parts that were read before the others

@@ -1,10 +1,10 @@
 -- What is read as parts up to the end of a text is so, and the other way round.
 use Rattle.std.proofs.Common.{◌≡◌, inl, inr, ℕ, zero, suc, ◌+◌, ◌≤◌, List, [], ◌∷◌, length, Option, Some, None, refl, sym, ap, subst, ◌∙◌, arith}
 use Rattle.hep_expression.specs.declared.characters.Context.{Context}
-use Rattle.hep_expression.specs.Reading.{◌>>=◌, all_read, after}
+use Rattle.hep_expression.specs.Reading.{Reader, ◌>>=◌, all_read, after}
 use Rattle.hep_expression.proofs.Leaves.{bind_some, either_some, some_is, none_is, after_is}
 use Rattle.hep_declaration.specs.Lists.{IsOptionalComma}
-use Rattle.hep_declaration.specs.ReadingLists.{Reader, behind_optional_comma}
+use Rattle.hep_declaration.specs.ReadingLists.{behind_optional_comma}
 use Rattle.hep_declaration.specs.ReadingDeclaration.{parts_to_end, up_to_end}
 use Rattle.hep_declaration.proofs.Lists.{IsSound, IsComplete}
 

@@ -3,11 +3,12 @@ use Rattle.std.proofs.Common.{◌≡◌, inl, inr, ℕ, zero, suc, ◌+◌, ◌-
 use Rattle.std.specs.Prelude.{◌^◌, IsTrue, ℤ, pos, min, nat_le, Result, Ok, Err, FitsSigned, unsigned_abs}
 use Rattle.std.specs.Result.{OkIff, is_ok, result_ok}
 use Rattle.std.specs.Int.{FitsUnsignedBits}
+use Rattle.std.specs.List.{list_all}
 use Rattle.std.proofs.lemmas.Int.{to_z-of_z, fits_signed_from_abs}
 use Rattle.std.proofs.lemmas.Bool.Decides.{nat_tests}
 use Rattle.hep_expression.specs.declared.characters.Sizes.TheVariants.{Any}
 use Rattle.hep_expression.specs.declared.characters.Context.{Context}
-use Rattle.hep_expression.specs.Characters.{is_digit, all, decimal, decimal_after, greatest}
+use Rattle.hep_expression.specs.Characters.{is_digit, number_of_digits, number_behind, greatest}
 use Rattle.hep_expression.specs.Reading.{begins, front, behind, integer_at}
 use Rattle.hep_expression.proofs.Leaves.{and_parts, some_is, none_is, chosen, le_of, le_test, front_splits}
 use Rattle.hep_declaration.specs.ReadingLabel.{few_digits_at}
@@ -25,11 +26,11 @@ nines_grow : (b n : ℕ) → b ≤ with_nines b n
 nines_grow b zero = omega arith
 nines_grow b (suc n) = omega (arith, nines_grow (b * 10 + 9) n)
 
-few_are_small : (n v b : ℕ) (d : List ℕ) → v ≤ b → length d ≤ n → IsTrue (all is_digit d) → decimal_after v d ≤ with_nines b n
+few_are_small : (n v b : ℕ) (d : List ℕ) → v ≤ b → length d ≤ n → IsTrue (list_all is_digit d) → number_behind v d ≤ with_nines b n
 few_are_small n v b [] le few h = omega (arith, nines_grow b n)
 few_are_small zero v b (c ∷ d) le few h = absurd (omega (arith, few))
 few_are_small (suc n) v b (c ∷ d) le few h =
-    let parts = and_parts (is_digit c) (all is_digit d) h in
+    let parts = and_parts (is_digit c) (list_all is_digit d) h in
     let upper : c ≤ 57 = le_of c 57 (and_parts (nat_le 48 c) (nat_le c 57) parts.0).1 in
     few_are_small n (v * 10 + (c - 48)) (b * 10 + 9) d (omega arith) (omega (arith, few)) parts.1
 
@@ -43,10 +44,10 @@ module _ (s : List ℕ) (v : ℤ) (r : List ℕ) (e : integer_at (any_size s) s 
   abbrev row : List ℕ
   row = front is_digit s
 
-  read_is : (begins is_digit s ≡ true) × (v ≡ pos (min (decimal row) greatest)) × (behind is_digit s ≡ r)
-  read_is = elim (chosen (begins is_digit s) (Some (pos (min (decimal row) greatest), behind is_digit s)) None (Some (v, r)) e) [
+  read_is : (begins is_digit s ≡ true) × (v ≡ pos (min (number_of_digits row) greatest)) × (behind is_digit s ≡ r)
+  read_is = elim (chosen (begins is_digit s) (Some (pos (min (number_of_digits row) greatest), behind is_digit s)) None (Some (v, r)) e) [
     | inl h ↦ (
-        let same = some_is (pos (min (decimal row) greatest), behind is_digit s) (v, r) h.1 in
+        let same = some_is (pos (min (number_of_digits row) greatest), behind is_digit s) (v, r) h.1 in
         (h.0, sym (ap (λ (x : ℤ × List ℕ). x.0) same), ap (λ (x : ℤ × List ℕ). x.1) same))
     | inr h ↦ absurd (none_is (v, r) h.1)
   ]
@@ -67,9 +68,9 @@ module _ (s : List ℕ) (v : ℤ) (r : List ℕ) (e : integer_at (any_size s) s 
   pub small : length s - length r ≤ 5 → (n : ℕ) × (v ≡ pos n) × (n ≤ 99999) × (Some (n, r) ≡ few_digits_at s)
   small le =
       let few : length row ≤ 5 = omega (arith, row_is) in
-      let bound : decimal row ≤ 99999 = few_are_small 5 0 0 row (omega arith) few (front_splits is_digit s).0 in
-      let same : min (decimal row) greatest ≡ decimal row = omega arith in
-      (decimal row, read_is.1 ∙ ap pos same, bound, rw (read_is.0, le_test (length row) 5 few, read_is.2) refl)
+      let bound : number_of_digits row ≤ 99999 = few_are_small 5 0 0 row (omega arith) few (front_splits is_digit s).0 in
+      let same : min (number_of_digits row) greatest ≡ number_of_digits row = omega arith in
+      (number_of_digits row, read_is.1 ∙ ap pos same, bound, rw (read_is.0, le_test (length row) 5 few, read_is.2) refl)
 
 -- ---- the number as a label
 

@@ -2,8 +2,8 @@
 use Rattle.std.proofs.Common.{◌≡◌, ℕ, suc, ◌+◌, ◌-◌, ◌<◌, ◌≤◌, List, [], ◌∷◌, ◌++◌, length, Option, Some, None, refl, sym, ap, ◌∙◌, arith, append-nil, append_assoc}
 use Rattle.hep_expression.specs.declared.unread.Unread.{Unread}
 use Rattle.hep_expression.specs.declared.unread.Unread.TheVariants as unread
-use Rattle.hep_expression.specs.Reading.{Fails}
-use Rattle.hep_declaration.specs.ReadingLists.{Reader, behind_comma, with_part, parts_behind, listed}
+use Rattle.hep_expression.specs.Reading.{Reader, Fails}
+use Rattle.hep_declaration.specs.ReadingLists.{behind_comma, with_part, parts_behind, listed}
 
 -- no reading, and memory wasn't refused
 pub nothing_read : {Y : Type 0} (why : Unread) (read : Option Y) → why ≡ unread.NoReading → Fails why read → read ≡ None

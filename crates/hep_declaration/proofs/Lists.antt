@@ -1,10 +1,10 @@
 -- What is read as parts in a row is so by the grammar, and the other way round.
 use Rattle.std.proofs.Common.{◌≡◌, inl, inr, ℕ, zero, suc, ◌+◌, ◌≤◌, List, [], ◌∷◌, length, Option, Some, None, refl, sym, ap, subst, ◌∙◌, arith}
 use Rattle.hep_expression.specs.declared.characters.Context.{Context}
-use Rattle.hep_expression.specs.Reading.{◌>>=◌, all_read, after}
+use Rattle.hep_expression.specs.Reading.{Reader, ◌>>=◌, all_read, after}
 use Rattle.hep_expression.proofs.Leaves.{bind_some, either_some, some_is, none_is, after_is}
 use Rattle.hep_declaration.specs.Lists.{AreBehind, AreListed, AreEnclosed, AreOptional, AreArguments}
-use Rattle.hep_declaration.specs.ReadingLists.{Reader, behind_comma, with_part, parts_behind, listed, closed, enclosed, optional, whole, arguments_within, arguments}
+use Rattle.hep_declaration.specs.ReadingLists.{behind_comma, with_part, parts_behind, listed, closed, enclosed, optional, whole, arguments_within, arguments}
 
 module _ {A : Type 0} where
   -- what a reader reads of the end of a statement's text is so

@@ -4,15 +4,15 @@ use Rattle.std.specs.Prelude.{nat_eq, nat_le, ◌&&◌, if◌then◌else◌}
 use Rattle.std.proofs.lemmas.Bool.{eqb-true}
 use Rattle.std.proofs.lemmas.Bool.Decides.{nat_tests}
 use Rattle.hep_expression.specs.declared.characters.Context.{Context}
-use Rattle.hep_expression.specs.Characters.{is_digit, IsDigits, decimal}
+use Rattle.hep_expression.specs.Characters.{is_digit, IsDigits, number_of_digits}
 use Rattle.hep_expression.specs.Reading.{◌>>=◌, all_read, begins, front, behind, after}
 use Rattle.hep_expression.proofs.Leaves.{bind_some, either_some, some_is, none_is, chosen, and_parts, le_of, le_test, after_is, front_splits, front_row, digits_are}
 use Rattle.hep_declaration.specs.Lists.{IsOptionalComma}
 use Rattle.hep_declaration.specs.Label.{ReadsLabel}
 use Rattle.hep_declaration.specs.Constant.{quoted}
-use Rattle.hep_declaration.specs.ReadingLists.{whole, behind_optional_comma}
+use Rattle.hep_declaration.specs.ReadingLists.{with_part, whole, behind_optional_comma}
 use Rattle.hep_declaration.specs.ReadingLabel.{few_digits_at, not_zero, label_at, label_part}
-use Rattle.hep_declaration.specs.ReadingConstant.{character_at, with_character, characters, some_characters, constant_behind}
+use Rattle.hep_declaration.specs.ReadingConstant.{character_at, characters, some_characters, constant_behind}
 use Rattle.hep_declaration.proofs.Lists.{IsSound, Shortens, IsComplete}
 
 -- ---- the end of a text, and a comma that may be missing
@@ -44,11 +44,11 @@ comma_read s r (inr e) none = rw e refl
 
 -- ---- labels
 
-pub few_are : (s : List ℕ) (x : ℕ × List ℕ) → few_digits_at s ≡ Some x → (d : List ℕ) × IsDigits d × (length d ≤ 5) × (s ≡ d ++ x.1) × (x.0 ≡ decimal d)
-few_are s x e = elim (chosen (begins is_digit s && nat_le (length (front is_digit s)) 5) (Some (decimal (front is_digit s), behind is_digit s)) None (Some x) e) [
+pub few_are : (s : List ℕ) (x : ℕ × List ℕ) → few_digits_at s ≡ Some x → (d : List ℕ) × IsDigits d × (length d ≤ 5) × (s ≡ d ++ x.1) × (x.0 ≡ number_of_digits d)
+few_are s x e = elim (chosen (begins is_digit s && nat_le (length (front is_digit s)) 5) (Some (number_of_digits (front is_digit s), behind is_digit s)) None (Some x) e) [
   | inl h ↦ (
       let b = and_parts (begins is_digit s) (nat_le (length (front is_digit s)) 5) h.0 in
-      subst (λ (y : ℕ × List ℕ). (d : List ℕ) × IsDigits d × (length d ≤ 5) × (s ≡ d ++ y.1) × (y.0 ≡ decimal d)) (some_is (decimal (front is_digit s), behind is_digit s) x h.1)
+      subst (λ (y : ℕ × List ℕ). (d : List ℕ) × IsDigits d × (length d ≤ 5) × (s ≡ d ++ y.1) × (y.0 ≡ number_of_digits d)) (some_is (number_of_digits (front is_digit s), behind is_digit s) x h.1)
       (front is_digit s, digits_are s b.0, le_of (length (front is_digit s)) 5 b.1, (front_splits is_digit s).1, refl))
   | inr h ↦ absurd (none_is x h.1)
 ]
@@ -57,7 +57,7 @@ few_are s x e = elim (chosen (begins is_digit s && nat_le (length (front is_digi
 abbrev pub AfterDigits : List ℕ → Type 0
 AfterDigits r = begins is_digit r ≡ false
 
-pub few_read : (d r : List ℕ) → IsDigits d → length d ≤ 5 → AfterDigits r → few_digits_at (d ++ r) ≡ Some (decimal d, r)
+pub few_read : (d r : List ℕ) → IsDigits d → length d ≤ 5 → AfterDigits r → few_digits_at (d ++ r) ≡ Some (number_of_digits d, r)
 few_read [] r h le q = absurd h
 few_read (c ∷ d) r h le q =
     let row = front_row is_digit d r h.1 q in
@@ -80,7 +80,7 @@ label_is s x e =
 
 pub label_read : (x : ℕ) (s r : List ℕ) → ReadsLabel x s r → AfterDigits r → label_at s ≡ Some (x, r)
 label_read x s r h q =
-    let found : few_digits_at s ≡ Some (decimal h.0, r) = ap few_digits_at h.3 ∙ few_read h.0 r h.1 h.2 q in
+    let found : few_digits_at s ≡ Some (number_of_digits h.0, r) = ap few_digits_at h.3 ∙ few_read h.0 r h.1 h.2 q in
     let same : few_digits_at s ≡ Some (x, r) = found ∙ ap (λ (n : ℕ). Some (n, r)) (sym h.4) in
     ap (λ (o : Option (ℕ × List ℕ)). o >>= not_zero) same ∙ rw (not_zero_test x h.5) refl
 
@@ -117,7 +117,7 @@ character_is (c ∷ s) x t r e h = elim (chosen (nat_eq c 39) (after 39 s >>= λ
 characters_are : (n : ℕ) (s : List ℕ) (x : List ℕ × List ℕ) → characters n s ≡ Some x → s ≡ quoted x.0 ++ 39 ∷ x.1
 unfolding characters
 characters_are zero s x e = absurd (none_is x e)
-characters_are (suc n) s x e = elim (either_some (character_at s) (λ y. with_character y.0 (characters n y.1)) (after 39 s >>= λ r. Some ([], r)) x e) [
+characters_are (suc n) s x e = elim (either_some (character_at s) (λ y. with_part y.0 (characters n y.1)) (after 39 s >>= λ r. Some ([], r)) x e) [
   | inl g ↦ (
       let b = bind_some (characters n g.0.1) (λ y. Some (g.0.0 ∷ y.0, y.1)) x g.2 in
       let rest = characters_are n g.0.1 b.0 b.1 in

@@ -10,14 +10,14 @@ use Rattle.hep_source.specs.declared.declaration.Target.{Target}
 use Rattle.hep_expression.specs.declared.characters.Context.{Context}
 use Rattle.hep_expression.specs.Characters.{is_digit, is_letter, is_letter_or_digit, IsName, name_sign, IsDigits, ReadsPlace}
 use Rattle.hep_expression.specs.Expression as levels
-use Rattle.hep_expression.specs.Expression.{Reads, left, spelling, sign_spelling}
+use Rattle.hep_expression.specs.Expression.{Reads, ReadsExpression, left, spelling, sign_spelling}
 use Rattle.hep_expression.specs.Reading.{◌>>=◌, begins, after, place_at}
 use Rattle.hep_expression.proofs.Leaves.{bind_some, some_is, place_fits, is_place, fits}
 use Rattle.hep_expression.proofs.Sound.{expression_at_sound}
 use Rattle.hep_expression.proofs.Complete.{place_read, AfterExpression, after_comma, after_parenthesis, expression_read}
 use Rattle.hep_declaration.specs.Lists.{AreOptional}
 use Rattle.hep_declaration.specs.ReadingLists.{optional}
-use Rattle.hep_declaration.specs.Declaration.{ReadsExpression, ReadsTarget}
+use Rattle.hep_declaration.specs.Declaration.{ReadsTarget}
 use Rattle.hep_declaration.specs.ReadingTarget.{expression_part, target_at}
 use Rattle.hep_declaration.proofs.Lists.{IsSound, Shortens, IsComplete, optional_shortens, optional_sound, optional_complete}
 

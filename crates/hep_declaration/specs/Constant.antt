@@ -3,20 +3,21 @@ use Rattle.std.specs.Prelude.{◌≡◌, ◌≢◌, ℕ, nat_eq, if◌then◌els
 use Rattle.hep_source.specs.declared.statement.PrintItem.{PrintItem}
 use Rattle.hep_source.specs.declared.statement.PrintItem.TheVariants.{Expression, Characters}
 use Rattle.hep_expression.specs.declared.characters.Context.{Context}
-use Rattle.hep_expression.specs.Expression.{Reads, equivalence}
+use Rattle.hep_expression.specs.Characters.{apostrophe}
+use Rattle.hep_expression.specs.Expression.{ReadsExpression}
 
--- the characters of a character constant (X3.9-1978, 4.8) as a text has them: an apostrophe (39)
--- stands there twice
+-- the characters of a character constant (X3.9-1978, 4.8) as a text has them: an apostrophe stands
+-- there twice
 abbrev pub quoted : List ℕ → List ℕ
 quoted [] = []
-quoted (c ∷ s) = if nat_eq c 39 then 39 ∷ 39 ∷ quoted s else c ∷ quoted s
+quoted (c ∷ s) = if nat_eq c apostrophe then apostrophe ∷ apostrophe ∷ quoted s else c ∷ quoted s
 
 -- one character or more, between apostrophes
 abbrev pub ReadsCharacters : List ℕ → List ℕ → List ℕ → Type 0
-ReadsCharacters t s r = (t ≢ []) × (s ≡ 39 ∷ (quoted t ++ 39 ∷ r))
+ReadsCharacters t s r = (t ≢ []) × (s ≡ apostrophe ∷ (quoted t ++ apostrophe ∷ r))
 
 -- an item of a PRINT list (12.8)
 module _ (k : Context) where
   abbrev pub ReadsItem : PrintItem → List ℕ → List ℕ → Type 0
-  ReadsItem (Expression t) s r = Reads k t equivalence s r
+  ReadsItem (Expression t) s r = ReadsExpression k t s r
   ReadsItem (Characters t) s r = ReadsCharacters t s r

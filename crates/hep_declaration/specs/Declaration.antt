@@ -24,8 +24,8 @@ use Rattle.hep_source.specs.declared.declaration.DataConstant.TheVariants.{Value
 use Rattle.hep_source.specs.declared.declaration.DataValue.{DataValue}
 use Rattle.hep_source.specs.declared.declaration.DataGroup.{DataGroup}
 use Rattle.hep_expression.specs.declared.characters.Context.{Context}
-use Rattle.hep_expression.specs.Characters.{is_letter, ReadsPlace, ReadsPlainPlace, IsDigits, IsInteger, truth_spelling}
-use Rattle.hep_expression.specs.Expression.{Reads, equivalence, sign_spelling}
+use Rattle.hep_expression.specs.Characters.{minus, is_letter, ReadsPlace, ReadsPlainPlace, IsDigits, IsInteger, truth_spelling}
+use Rattle.hep_expression.specs.Expression.{ReadsExpression, sign_spelling}
 use Rattle.hep_declaration.specs.Lists.{AreListed, AreEnclosed, AreOptional, IsOptionalComma}
 
 -- ---- types and letters
@@ -35,47 +35,67 @@ abbrev pub type_spelling : ValueType → List ℕ
 type_spelling Integer = codes "INTEGER"
 type_spelling Logical = codes "LOGICAL"
 
--- a letter, or two with `-` (45) between them, of which the first isn't behind the second (8.5)
+-- a letter, or two with `-` between them, of which the first isn't behind the second (8.5)
 abbrev pub ReadsLetters : LetterRange → List ℕ → List ℕ → Type 0
 ReadsLetters x s r =
     IsTrue (is_letter x.first) × IsTrue (is_letter x.last) × (x.first ≤ x.last)
-    × (((x.first ≡ x.last) × (s ≡ x.first ∷ r)) ⊎ (s ≡ x.first ∷ 45 ∷ x.last ∷ r))
+    × (((x.first ≡ x.last) × (s ≡ x.first ∷ r)) ⊎ (s ≡ x.first ∷ minus ∷ x.last ∷ r))
 
+-- a type and its letters in parentheses (8.5)
 abbrev pub ReadsImplicit : ImplicitGroup → List ℕ → List ℕ → Type 0
 ReadsImplicit x s r = (m : List ℕ) × (s ≡ type_spelling x.value_type ++ m) × AreEnclosed ReadsLetters x.letters m r
 
+-- ---- which dimensions an array can have (X3.9-1978, 5.1.1 and 5.1.2)
+
+-- the most dimensions of an array
+abbrev pub most_dimensions : ℕ
+most_dimensions = 7
+
+-- whether the bound is `*`
+abbrev pub is_open : UpperBound → Bool
+is_open (Expression t) = false
+is_open Open = true
+
+-- no dimension but the last is `*`
+abbrev pub OnlyLastOpen : List Dimension → Type 0
+OnlyLastOpen [] = Unit {0}
+OnlyLastOpen (x ∷ []) = Unit {0}
+OnlyLastOpen (x ∷ y ∷ more) = (is_open x.upper ≡ false) × OnlyLastOpen (y ∷ more)
+
+-- ---- signs of constants (4.3.1)
+
+-- the sign of an integer constant
+abbrev pub optional_sign : Option Sign → List ℕ
+optional_sign None = []
+optional_sign (Some g) = sign_spelling g
+
+-- what it makes of one
+abbrev pub signed_value : Option Sign → ℤ → ℤ
+signed_value None v = v
+signed_value (Some Plus) v = v
+signed_value (Some Minus) v = neg_ℤ v
+
 module _ (k : Context) where
-  abbrev pub ReadsExpression : Tree → List ℕ → List ℕ → Type 0
-  ReadsExpression t s r = Reads k t equivalence s r
+  -- ---- array declarators (5.1)
 
-  -- ---- array declarators (X3.9-1978, 5.1)
-
+  -- an upper bound: an expression, or `*`
   abbrev pub ReadsUpper : UpperBound → List ℕ → List ℕ → Type 0
-  ReadsUpper (Expression t) s r = Reads k t equivalence s r
+  ReadsUpper (Expression t) s r = ReadsExpression k t s r
   ReadsUpper Open s r = s ≡ codes "*" ++ r
 
+  -- a lower bound with its `:`, which may be missing
   abbrev pub ReadsLower : Option Tree → List ℕ → List ℕ → Type 0
   ReadsLower None s r = s ≡ r
-  ReadsLower (Some t) s r = Reads k t equivalence s (codes ":" ++ r)
+  ReadsLower (Some t) s r = ReadsExpression k t s (codes ":" ++ r)
 
   abbrev pub ReadsDimension : Dimension → List ℕ → List ℕ → Type 0
   ReadsDimension x s r = (m : List ℕ) × ReadsLower x.lower s m × ReadsUpper x.upper m r
-
-  abbrev pub is_open : UpperBound → Bool
-  is_open (Expression t) = false
-  is_open Open = true
-
-  -- at most seven dimensions, of which only the last may be `*`
-  abbrev pub OnlyLastOpen : List Dimension → Type 0
-  OnlyLastOpen [] = Unit {0}
-  OnlyLastOpen (x ∷ []) = Unit {0}
-  OnlyLastOpen (x ∷ y ∷ more) = (is_open x.upper ≡ false) × OnlyLastOpen (y ∷ more)
 
   -- a name alone, or with its dimensions
   abbrev pub ReadsDeclarator : Declarator → List ℕ → List ℕ → Type 0
   ReadsDeclarator x s r =
       (m : List ℕ) × ReadsPlace k x.place s m × AreOptional ReadsDimension x.dimensions m r
-      × (length x.dimensions ≤ 7) × OnlyLastOpen x.dimensions
+      × (length x.dimensions ≤ most_dimensions) × OnlyLastOpen x.dimensions
 
   abbrev pub ReadsArrayDeclarator : Declarator → List ℕ → List ℕ → Type 0
   ReadsArrayDeclarator x s r = (x.dimensions ≢ []) × ReadsDeclarator x s r
@@ -108,23 +128,13 @@ module _ (k : Context) where
   -- ---- PARAMETER (8.6)
 
   abbrev pub ReadsNamedConstant : NamedConstant → List ℕ → List ℕ → Type 0
-  ReadsNamedConstant x s r = (m : List ℕ) × ReadsPlainPlace k x.place s (codes "=" ++ m) × Reads k x.value equivalence m r
+  ReadsNamedConstant x s r = (m : List ℕ) × ReadsPlainPlace k x.place s (codes "=" ++ m) × ReadsExpression k x.value m r
 
   -- ---- DATA (section 9)
 
-  -- a name alone, or with subscripts
+  -- a name alone, or with subscripts (5.3; in an assignment, section 10, and in PURGE, docs/LANGUAGE.md, 5, too)
   abbrev pub ReadsTarget : Target → List ℕ → List ℕ → Type 0
-  ReadsTarget x s r = (m : List ℕ) × ReadsPlace k x.place s m × AreOptional ReadsExpression x.subscripts m r
-
-  -- the sign of an integer constant, and what it makes of one
-  abbrev pub optional_sign : Option Sign → List ℕ
-  optional_sign None = []
-  optional_sign (Some g) = sign_spelling g
-
-  abbrev pub signed_value : Option Sign → ℤ → ℤ
-  signed_value None v = v
-  signed_value (Some Plus) v = v
-  signed_value (Some Minus) v = neg_ℤ v
+  ReadsTarget x s r = (m : List ℕ) × ReadsPlace k x.place s m × AreOptional (ReadsExpression k) x.subscripts m r
 
   abbrev pub ReadsDataConstant : DataConstant → List ℕ → List ℕ → Type 0
   ReadsDataConstant (ConstantValue (Int v)) s r =

@@ -1,4 +1,4 @@
--- Parts of a statement in a row.
+-- Parts of a statement in a row (X3.9-1978, 2.10).
 use Rattle.std.specs.Prelude.{◌≡◌, ◌⊎◌, ℕ, codes, List, [], ◌∷◌, ◌++◌}
 
 -- The text s begins with these parts, a comma before each, and goes on with r.

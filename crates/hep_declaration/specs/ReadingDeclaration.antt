@@ -24,11 +24,11 @@ use Rattle.hep_source.specs.declared.declaration.DataGroup.{DataGroup}
 use Rattle.hep_source.specs.declared.statement.Form.{Form}
 use Rattle.hep_source.specs.declared.statement.Form.TheVariants as form
 use Rattle.hep_expression.specs.declared.characters.Context.{Context}
-use Rattle.hep_expression.specs.Characters.{is_letter}
-use Rattle.hep_expression.specs.Reading.{◌>>=◌, if_some, all_read, after, one_of, place_at, plain_place_at, integer_at, truth_at}
+use Rattle.hep_expression.specs.Characters.{asterisk, plus, minus, slash, colon, equals, is_letter}
+use Rattle.hep_expression.specs.Reading.{Reader, ◌>>=◌, if_some, all_read, after, one_of, place_at, plain_place_at, integer_at, truth_at}
 use Rattle.hep_expression.specs.ReadingExpression.{expression_at}
-use Rattle.hep_declaration.specs.Declaration.{type_spelling}
-use Rattle.hep_declaration.specs.ReadingLists.{Reader, listed, enclosed, optional, arguments, whole, behind_optional_comma}
+use Rattle.hep_declaration.specs.Declaration.{type_spelling, most_dimensions, is_open}
+use Rattle.hep_declaration.specs.ReadingLists.{listed, enclosed, optional, arguments, whole, behind_optional_comma}
 use Rattle.hep_declaration.specs.ReadingTarget.{target_at}
 
 -- ---- headers
@@ -44,21 +44,21 @@ subroutine_header k s = plain_place_at k s >>= λ x. arguments (dummy_at k) x.1 
 
 -- ---- IMPLICIT
 
-abbrev pub letter_at : List ℕ → Option (ℕ × List ℕ)
+abbrev pub letter_at : Reader ℕ
 letter_at [] = None
 letter_at (c ∷ s) = if is_letter c then Some (c, s) else None
 
 -- a letter, or two with `-` between them, of which the first isn't behind the second
 abbrev pub letter_range_at : Reader LetterRange
 letter_range_at s =
-    letter_at s >>= λ x. if_some (after 45 x.1)
+    letter_at s >>= λ x. if_some (after minus x.1)
     (λ m. letter_at m >>= λ y. if nat_le x.0 y.0 then Some (record { first = x.0; last = y.0 }, y.1) else None)
     (Some (record { first = x.0; last = x.0 }, x.1))
 
 abbrev pub letter_range_part : Context → Reader LetterRange
 letter_range_part k s = letter_range_at s
 
-abbrev pub value_type_at : List ℕ → Option (ValueType × List ℕ)
+abbrev pub value_type_at : Reader ValueType
 value_type_at s = one_of type_spelling (Integer ∷ Logical ∷ []) s
 
 unfoldable pub implicit_group_at : Context → Reader ImplicitGroup
@@ -69,32 +69,28 @@ implicit k s = whole form.Implicit (listed (implicit_group_at k) s)
 
 -- ---- array declarators
 
-abbrev pub upper_bound_at : Context → List ℕ → Option (UpperBound × List ℕ)
-upper_bound_at k s = if_some (after 42 s) (λ r. Some (Open, r)) (expression_at k s >>= λ x. Some (Expression x.0, x.1))
+abbrev pub upper_bound_at : Context → Reader UpperBound
+upper_bound_at k s = if_some (after asterisk s) (λ r. Some (Open, r)) (expression_at k s >>= λ x. Some (Expression x.0, x.1))
 
 -- the dimension that begins with this expression
-abbrev pub dimension_behind : Context → Tree → List ℕ → Option (Dimension × List ℕ)
+abbrev pub dimension_behind : Context → Tree → Reader Dimension
 dimension_behind k t s =
-    if_some (after 58 s) (λ m. upper_bound_at k m >>= λ y. Some (record { lower = Some t; upper = y.0 }, y.1))
+    if_some (after colon s) (λ m. upper_bound_at k m >>= λ y. Some (record { lower = Some t; upper = y.0 }, y.1))
     (Some (record { lower = None; upper = Expression t }, s))
 
 unfoldable pub dimension_at : Context → Reader Dimension
 dimension_at k s =
-    if_some (after 42 s) (λ r. Some (record { lower = None; upper = Open }, r))
+    if_some (after asterisk s) (λ r. Some (record { lower = None; upper = Open }, r))
     (expression_at k s >>= λ x. dimension_behind k x.0 x.1)
-
-abbrev pub is_star : UpperBound → Bool
-is_star (Expression t) = false
-is_star Open = true
 
 -- whether no dimension but the last is `*`
 abbrev pub only_last_open : List Dimension → Bool
 only_last_open [] = true
 only_last_open (x ∷ []) = true
-only_last_open (x ∷ y ∷ more) = not (is_star x.upper) && only_last_open (y ∷ more)
+only_last_open (x ∷ y ∷ more) = not (is_open x.upper) && only_last_open (y ∷ more)
 
 abbrev pub are_dimensions : List Dimension → Bool
-are_dimensions xs = nat_le (length xs) 7 && only_last_open xs
+are_dimensions xs = nat_le (length xs) most_dimensions && only_last_open xs
 
 -- a name alone, or with its dimensions
 unfoldable pub declarator_at : Context → Reader Declarator
@@ -125,23 +121,23 @@ up_to_end next x s = parts_to_end next (length s) s >>= λ more. Some (x ∷ mor
 -- ---- COMMON
 
 -- the name of a block behind its first `/`, of blank COMMON none
-abbrev pub block_name_at : Context → List ℕ → Option (Option Place × List ℕ)
+abbrev pub block_name_at : Context → Reader (Option Place)
 block_name_at k s =
-    if_some (after 47 s) (λ r. Some (None, r))
-    (plain_place_at k s >>= λ x. after 47 x.1 >>= λ r. Some (Some x.0, r))
+    if_some (after slash s) (λ r. Some (None, r))
+    (plain_place_at k s >>= λ x. after slash x.1 >>= λ r. Some (Some x.0, r))
 
-abbrev pub entries_at : Context → Option Place → List ℕ → Option (CommonBlock × List ℕ)
+abbrev pub entries_at : Context → Option Place → Reader CommonBlock
 entries_at k b s = listed (declarator_at k) s >>= λ y. Some (record { block = b; entries = y.0 }, y.1)
 
-abbrev pub block_behind : Context → List ℕ → Option (CommonBlock × List ℕ)
+abbrev pub block_behind : Context → Reader CommonBlock
 block_behind k s = block_name_at k s >>= λ x. entries_at k x.0 x.1
 
 unfoldable pub block_at : Context → Reader CommonBlock
-block_at k s = after 47 s >>= block_behind k
+block_at k s = after slash s >>= block_behind k
 
 -- the first block is blank COMMON where it has no `/` before its list
-abbrev pub first_block_at : Context → List ℕ → Option (CommonBlock × List ℕ)
-first_block_at k s = if_some (after 47 s) (block_behind k) (entries_at k None s)
+abbrev pub first_block_at : Context → Reader CommonBlock
+first_block_at k s = if_some (after slash s) (block_behind k) (entries_at k None s)
 
 unfoldable pub common : Context → List ℕ → Option Form
 common k s = first_block_at k s >>= λ x. up_to_end (block_at k) x.0 x.1 >>= λ xs. Some (form.Common xs)
@@ -150,19 +146,19 @@ common k s = first_block_at k s >>= λ x. up_to_end (block_at k) x.0 x.1 >>= λ 
 
 unfoldable pub named_constant_at : Context → Reader NamedConstant
 named_constant_at k s =
-    plain_place_at k s >>= λ x. after 61 x.1 >>= λ m. expression_at k m >>= λ y. Some (record { place = x.0; value = y.0 }, y.1)
+    plain_place_at k s >>= λ x. after equals x.1 >>= λ m. expression_at k m >>= λ y. Some (record { place = x.0; value = y.0 }, y.1)
 
 unfoldable pub parameter : Context → List ℕ → Option Form
 parameter k s = whole form.Parameter (enclosed (named_constant_at k) s)
 
 -- ---- DATA
 
-abbrev pub signed_integer_at : Context → List ℕ → Option (ℤ × List ℕ)
+abbrev pub signed_integer_at : Context → Reader ℤ
 signed_integer_at k s =
-    if_some (after 45 s) (λ m. integer_at k m >>= λ x. Some (neg_ℤ x.0, x.1))
-    (if_some (after 43 s) (integer_at k) (integer_at k s))
+    if_some (after minus s) (λ m. integer_at k m >>= λ x. Some (neg_ℤ x.0, x.1))
+    (if_some (after plus s) (integer_at k) (integer_at k s))
 
-abbrev pub data_constant_at : Context → List ℕ → Option (DataConstant × List ℕ)
+abbrev pub data_constant_at : Context → Reader DataConstant
 data_constant_at k s =
     if_some (truth_at s) (λ x. Some (ConstantValue (Truth x.0), x.1))
     (if_some (plain_place_at k s) (λ x. Some (ConstantName x.0, x.1))
@@ -173,14 +169,14 @@ is_zero (pos zero) = true
 is_zero (pos (suc n)) = false
 is_zero (negsuc n) = false
 
-abbrev pub count_at : Context → List ℕ → Option (Repeat × List ℕ)
-count_at k s = integer_at k s >>= λ x. after 42 x.1 >>= λ r. if is_zero x.0 then None else Some (Count x.0, r)
+abbrev pub count_at : Context → Reader Repeat
+count_at k s = integer_at k s >>= λ x. after asterisk x.1 >>= λ r. if is_zero x.0 then None else Some (Count x.0, r)
 
 -- a repeat count with its `*`: a number but 0, or a name
-abbrev pub repeat_at : Context → List ℕ → Option (Repeat × List ℕ)
+abbrev pub repeat_at : Context → Reader Repeat
 repeat_at k s =
     if_some (count_at k s) (λ x. Some x)
-    (plain_place_at k s >>= λ x. after 42 x.1 >>= λ r. Some (RepeatName x.0, r))
+    (plain_place_at k s >>= λ x. after asterisk x.1 >>= λ r. Some (RepeatName x.0, r))
 
 unfoldable pub data_value_at : Context → Reader DataValue
 data_value_at k s =
@@ -190,7 +186,7 @@ data_value_at k s =
 -- names up to a `/`, and values between it and the next
 unfoldable pub group_at : Context → Reader DataGroup
 group_at k s =
-    listed (target_at k) s >>= λ x. after 47 x.1 >>= λ m. listed (data_value_at k) m >>= λ y. after 47 y.1 >>= λ r.
+    listed (target_at k) s >>= λ x. after slash x.1 >>= λ m. listed (data_value_at k) m >>= λ y. after slash y.1 >>= λ r.
     Some (record { targets = x.0; values = y.0 }, r)
 
 unfoldable pub data_statement : Context → List ℕ → Option Form

@@ -1,15 +1,15 @@
--- Reading statement labels, as functions on lists.
+-- Reading statement labels, as functions on lists (docs/ARCHITECTURE.md, "Forms").
 use Rattle.std.specs.Prelude.{ℕ, nat_eq, nat_le, ◌&&◌, if◌then◌else◌, List, length, Option, Some, None}
 use Rattle.hep_expression.specs.declared.characters.Context.{Context}
-use Rattle.hep_expression.specs.Characters.{is_digit, decimal}
-use Rattle.hep_expression.specs.Reading.{◌>>=◌, begins, front, behind}
-use Rattle.hep_declaration.specs.ReadingLists.{Reader}
+use Rattle.hep_expression.specs.Characters.{is_digit, number_of_digits}
+use Rattle.hep_expression.specs.Reading.{Reader, ◌>>=◌, begins, front, behind}
+use Rattle.hep_declaration.specs.Label.{most_digits}
 
 -- one to five digits in a row: what they stand for, and what follows them
 abbrev pub few_digits_at : Reader ℕ
 few_digits_at s =
-    if begins is_digit s && nat_le (length (front is_digit s)) 5
-    then Some (decimal (front is_digit s), behind is_digit s)
+    if begins is_digit s && nat_le (length (front is_digit s)) most_digits
+    then Some (number_of_digits (front is_digit s), behind is_digit s)
     else None
 
 abbrev pub not_zero : ℕ × List ℕ → Option (ℕ × List ℕ)

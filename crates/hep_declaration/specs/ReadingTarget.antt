@@ -4,9 +4,9 @@ use Rattle.std.specs.Prelude.{Some}
 use Rattle.hep_source.specs.Tree.{Tree}
 use Rattle.hep_source.specs.declared.declaration.Target.{Target}
 use Rattle.hep_expression.specs.declared.characters.Context.{Context}
-use Rattle.hep_expression.specs.Reading.{◌>>=◌, place_at}
+use Rattle.hep_expression.specs.Reading.{Reader, ◌>>=◌, place_at}
 use Rattle.hep_expression.specs.ReadingExpression.{expression_at}
-use Rattle.hep_declaration.specs.ReadingLists.{Reader, optional}
+use Rattle.hep_declaration.specs.ReadingLists.{optional}
 
 abbrev pub expression_part : Context → Reader Tree
 expression_part k s = expression_at k s

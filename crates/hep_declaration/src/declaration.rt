@@ -17,6 +17,9 @@ use hep_source::{
 };
 use std::alloc::Global;
 
+/// The most dimensions of an array (X3.9-1978, 5.1.1).
+const MOST_DIMENSIONS: usize = 7;
+
 /// The header of a main program (X3.9-1978, 14.1): its name.
 ///
 /// # Errors
@@ -25,9 +28,7 @@ use std::alloc::Global;
 pub fn program_header(context: Context, s: &[u8]) -> Result<Form, Unread>
     ensures { Gives (λ x. x) result (reading.program_header context s.now) }
 {
-    let Some((name, rest)) = plain_place_at(context, s) else {
-        return Err(Unread::NoReading);
-    };
+    let (name, rest) = plain_place_at(context, s).ok_or(Unread::NoReading)?;
     all_read(Form::Program(name), rest)
 }
 
@@ -38,10 +39,7 @@ impl Part for Place {
     ghost part_at = { dummy_at };
 
     fn read(_alloc: Global, context: Context, s: &[u8]) -> Result<(Place, &[u8]), Unread> {
-        match place_at(context, s) {
-            Some(found) => Ok(found),
-            None => Err(Unread::NoReading),
-        }
+        place_at(context, s).ok_or(Unread::NoReading)
     }
 }
 
@@ -54,9 +52,7 @@ impl Part for Place {
 pub fn subroutine_header(alloc: Global, context: Context, s: &[u8]) -> Result<Form, Unread>
     ensures { Gives (λ x. x) result (reading.subroutine_header context s.now) }
 {
-    let Some((name, rest)) = plain_place_at(context, s) else {
-        return Err(Unread::NoReading);
-    };
+    let (name, rest) = plain_place_at(context, s).ok_or(Unread::NoReading)?;
     let dummies = arguments::<Place>(alloc, context, rest)?;
     Ok(Form::Subroutine(name, Sequence::from(dummies)))
 }
@@ -97,10 +93,7 @@ impl Part for LetterRange {
     ghost part_at = { letter_range_part };
 
     fn read(_alloc: Global, _context: Context, s: &[u8]) -> Result<(LetterRange, &[u8]), Unread> {
-        match letter_range_at(s) {
-            Some(found) => Ok(found),
-            None => Err(Unread::NoReading),
-        }
+        letter_range_at(s).ok_or(Unread::NoReading)
     }
 }
 
@@ -123,9 +116,7 @@ impl Part for ImplicitGroup {
 
     #[tactic(auto, unfolding(crate::specs::ReadingDeclaration::implicit_group_at))]
     fn read(alloc: Global, context: Context, s: &[u8]) -> Result<(ImplicitGroup, &[u8]), Unread> {
-        let Some((value_type, rest)) = value_type_at(s) else {
-            return Err(Unread::NoReading);
-        };
+        let (value_type, rest) = value_type_at(s).ok_or(Unread::NoReading)?;
         let (letters, rest) = enclosed::<LetterRange>(alloc, context, rest)?;
         let letters = Sequence::from(letters);
         let group = ImplicitGroup {
@@ -204,7 +195,7 @@ fn only_last_open(dimensions: &[Dimension]) -> bool
 fn are_dimensions(dimensions: &[Dimension]) -> bool
     ensures { result ≡ reading.are_dimensions dimensions.now }
 {
-    dimensions.len() <= 7 && only_last_open(dimensions)
+    dimensions.len() <= MOST_DIMENSIONS && only_last_open(dimensions)
 }
 
 /// A name alone, or with its dimensions (5.1).
@@ -215,9 +206,7 @@ impl Part for Declarator {
 
     #[tactic(auto, unfolding(crate::specs::ReadingDeclaration::declarator_at))]
     fn read(alloc: Global, context: Context, s: &[u8]) -> Result<(Declarator, &[u8]), Unread> {
-        let Some((place, rest)) = place_at(context, s) else {
-            return Err(Unread::NoReading);
-        };
+        let (place, rest) = place_at(context, s).ok_or(Unread::NoReading)?;
         let (dimensions, rest) = optional::<Dimension>(alloc, context, rest)?;
         if !are_dimensions(&dimensions) {
             return Err(Unread::NoReading);
@@ -322,9 +311,7 @@ fn entries_at(
 fn block_behind(alloc: Global, context: Context, s: &[u8]) -> Result<(CommonBlock, &[u8]), Unread>
     ensures { Gives (λ x. (x.0, x.1.now)) result (reading.block_behind context s.now) }
 {
-    let Some((name, rest)) = block_name_at(context, s) else {
-        return Err(Unread::NoReading);
-    };
+    let (name, rest) = block_name_at(context, s).ok_or(Unread::NoReading)?;
     entries_at(alloc, context, name, rest)
 }
 
@@ -376,12 +363,8 @@ impl Part for NamedConstant {
 
     #[tactic(auto, unfolding(crate::specs::ReadingDeclaration::named_constant_at))]
     fn read(alloc: Global, context: Context, s: &[u8]) -> Result<(NamedConstant, &[u8]), Unread> {
-        let Some((place, rest)) = plain_place_at(context, s) else {
-            return Err(Unread::NoReading);
-        };
-        let Some(rest) = after(b'=', rest) else {
-            return Err(Unread::NoReading);
-        };
+        let (place, rest) = plain_place_at(context, s).ok_or(Unread::NoReading)?;
+        let rest = after(b'=', rest).ok_or(Unread::NoReading)?;
         let (value, rest) = expression_at(alloc, context, rest)?;
         Ok((NamedConstant { place, value }, rest))
     }
@@ -479,10 +462,7 @@ impl Part for DataValue {
     ghost part_at = { data_value_at };
 
     fn read(_alloc: Global, context: Context, s: &[u8]) -> Result<(DataValue, &[u8]), Unread> {
-        match data_value_at(context, s) {
-            Some(found) => Ok(found),
-            None => Err(Unread::NoReading),
-        }
+        data_value_at(context, s).ok_or(Unread::NoReading)
     }
 }
 
@@ -495,13 +475,9 @@ impl Part for DataGroup {
     #[tactic(auto, unfolding(crate::specs::ReadingDeclaration::group_at))]
     fn read(alloc: Global, context: Context, s: &[u8]) -> Result<(DataGroup, &[u8]), Unread> {
         let (targets, rest) = listed::<Target>(alloc, context, s)?;
-        let Some(rest) = after(b'/', rest) else {
-            return Err(Unread::NoReading);
-        };
+        let rest = after(b'/', rest).ok_or(Unread::NoReading)?;
         let (values, rest) = listed::<DataValue>(alloc, context, rest)?;
-        let Some(rest) = after(b'/', rest) else {
-            return Err(Unread::NoReading);
-        };
+        let rest = after(b'/', rest).ok_or(Unread::NoReading)?;
         let targets = Sequence::from(targets);
         let values = Sequence::from(values);
         Ok((DataGroup { targets, values }, rest))

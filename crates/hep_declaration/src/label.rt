@@ -7,6 +7,9 @@ use hep_expression::characters::{Context, integer_at};
 use hep_expression::{Sizes, Unread};
 use std::alloc::Global;
 
+/// The most digits of a label (X3.9-1978, 3.4) and of what STOP tells (11.12).
+const MOST_DIGITS: usize = 5;
+
 /// One to five digits in a row at the front: what they stand for, and what follows them.
 pub fn few_digits_at(s: &[u8]) -> Option<(u32, &[u8])>
     ensures { option_map (λ x. (x.0, x.1.now)) result ≡ reading.few_digits_at s.now }
@@ -17,7 +20,7 @@ pub fn few_digits_at(s: &[u8]) -> Option<(u32, &[u8])>
     };
     let (value, rest) = integer_at(context, s)?;
     let digits = s.len() - rest.len();
-    if digits > 5 {
+    if digits > MOST_DIGITS {
         return None;
     }
     let number = u32::try_from(value).ok()?;

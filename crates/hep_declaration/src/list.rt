@@ -85,9 +85,7 @@ pub fn enclosed<P: Part>(
 ) -> Result<(Vec<P>, &[u8]), Unread>
     ensures { Gives (λ x. (x.0.items, x.1.now)) result (reading.enclosed (P.part_at context) s.now) }
 {
-    let Some(inside) = after(b'(', s) else {
-        return Err(Unread::NoReading);
-    };
+    let inside = after(b'(', s).ok_or(Unread::NoReading)?;
     closed::<P>(alloc, context, inside)
 }
 

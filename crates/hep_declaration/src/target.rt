@@ -26,9 +26,7 @@ impl Part for Target {
 
     #[tactic(auto, unfolding(crate::specs::ReadingTarget::target_at))]
     fn read(alloc: Global, context: Context, s: &[u8]) -> Result<(Target, &[u8]), Unread> {
-        let Some((place, rest)) = place_at(context, s) else {
-            return Err(Unread::NoReading);
-        };
+        let (place, rest) = place_at(context, s).ok_or(Unread::NoReading)?;
         let (subscripts, rest) = optional::<Expr>(alloc, context, rest)?;
         let subscripts = Sequence::from(subscripts);
         Ok((Target { place, subscripts }, rest))

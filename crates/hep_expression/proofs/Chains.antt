@@ -4,11 +4,11 @@ use Rattle.hep_source.specs.Tree.{Tree, Trees, binary, no_trees, trees, trees_of
 use Rattle.hep_source.specs.declared.operator.Operator.{Operator}
 use Rattle.hep_expression.specs.declared.unread.Unread.{Unread}
 use Rattle.hep_expression.specs.declared.unread.Unread.TheVariants as unread
-use Rattle.hep_expression.specs.Reading.{◌>>=◌, after, Fails}
-use Rattle.hep_expression.specs.ReadingExpression.{Reader, operator_at, chain, arguments}
+use Rattle.hep_expression.specs.Reading.{Reader, ◌>>=◌, after, Fails}
+use Rattle.hep_expression.specs.ReadingExpression.{operator_at, chain, arguments}
 
 -- n turns are allowed, i of them are done, and the rest of the chain gives the whole.
-module _ (among : List Operator) (next : Reader) (n i : ℕ) (t : Tree) (s : List ℕ) (whole : Option (Tree × List ℕ)) where
+module _ (among : List Operator) (next : Reader Tree) (n i : ℕ) (t : Tree) (s : List ℕ) (whole : Option (Tree × List ℕ)) where
   pub chain_goes_on : (o : Operator) (y : Tree) (m r : List ℕ) → i < n → operator_at among s ≡ Some (o, m) → next m ≡ Some (y, r) → chain among next (n - i) t s ≡ whole → chain among next (n - (i + 1)) (binary o t y) r ≡ whole
   unfolding chain
   chain_goes_on o y m r lt is_operator is_operand so_far =
@@ -56,7 +56,7 @@ more_behind [] u read = refl
 more_behind (t ∷ ts) u read = ap (λ (read : Option (Trees × List ℕ)). read >>= λ x. Some (trees t x.0, x.1)) (more_behind ts u read)
 
 -- The same for arguments: those in ts are read, and s follows them.
-module _ (inner : Reader) (n i : ℕ) (ts : List Tree) (s : List ℕ) (whole : Option (Trees × List ℕ)) where
+module _ (inner : Reader Tree) (n i : ℕ) (ts : List Tree) (s : List ℕ) (whole : Option (Trees × List ℕ)) where
   pub arguments_go_on : (u : Tree) (r m : List ℕ) → i < n → inner s ≡ Some (u, r) → after 41 r ≡ None → after 44 r ≡ Some m → behind_read ts (arguments inner (n - i) s) ≡ whole → behind_read (ts ++ u ∷ []) (arguments inner (n - (i + 1)) m) ≡ whole
   unfolding arguments
   arguments_go_on u r m lt is_argument no_end comma so_far =

@@ -18,12 +18,12 @@ use Rattle.hep_expression.specs.declared.characters.Sizes.TheVariants.{Fitting, 
 use Rattle.hep_expression.specs.declared.characters.Context.{Context}
 use Rattle.hep_expression.specs.declared.expression.Level.{Level}
 use Rattle.hep_expression.specs.declared.expression.Level.TheVariants.{Equivalence, Disjunction, Conjunction, Sum, Term}
-use Rattle.hep_expression.specs.Characters.{is_digit, is_letter, is_letter_or_digit, IsName, name_sign, named, ReadsPlace, ReadsPlainPlace, IsDigits, decimal, greatest, IsInteger, truth_spelling}
+use Rattle.hep_expression.specs.Characters.{is_digit, is_letter, is_letter_or_digit, IsName, name_sign, named, ReadsPlace, ReadsPlainPlace, IsDigits, number_of_digits, greatest, IsInteger, truth_spelling}
 use Rattle.hep_expression.specs.Expression as levels
-use Rattle.hep_expression.specs.Expression.{level, left, right, spelling, sign_level, operand, sign_spelling, Reads, ReadsAll, IsExpression}
-use Rattle.hep_expression.specs.Reading.{◌>>=◌, begins, after, letters_at, name_at, place_at, plain_place_at, integer, integer_at, truth_at}
+use Rattle.hep_expression.specs.Expression.{level, left, right, spelling, sign_spelling, Reads, ReadsAll, IsExpression}
+use Rattle.hep_expression.specs.Reading.{Reader, ◌>>=◌, begins, after, letters_at, name_at, place_at, plain_place_at, integer, integer_at, truth_at}
 use Rattle.hep_expression.specs.ReadingExpression as reading
-use Rattle.hep_expression.specs.ReadingExpression.{Reader, operator_at, sign_at, power_at, not_at, comparing, operators, chain, in_parentheses, arguments, primary, power_of, term, first_term, sum, relation, negation, conjunction, disjunction, next_operand, first_operand, at_level, expression, power, expression_at, whole_expression}
+use Rattle.hep_expression.specs.ReadingExpression.{operator_at, sign_at, power_at, not_at, comparing, operators, chain, in_parentheses, arguments, primary, power_of, term, first_term, sum, relation, negation, conjunction, disjunction, next_operand, first_operand, at_level, expression, power, expression_at, whole_expression}
 use Rattle.hep_expression.proofs.Leaves.{and_parts, or_parts, le_of, le_test, front_row, fits, all_fit}
 
 -- ---- which characters a word begins with
@@ -168,8 +168,8 @@ plain_place_read k p s r g q =
     let at : k.length - length s ≡ p.position = omega (arith, h.4) in
     rw (found, at, ← is_named) refl
 
-integer_read : (z : Sizes) (d : List ℕ) (v : ℤ) → IsInteger z d v → integer z (decimal d) ≡ Some v
-integer_read Fitting d v h = rw (le_test (decimal d) greatest h.0, h.1) refl
+integer_read : (z : Sizes) (d : List ℕ) (v : ℤ) → IsInteger z d v → integer z (number_of_digits d) ≡ Some v
+integer_read Fitting d v h = rw (le_test (number_of_digits d) greatest h.0, h.1) refl
 integer_read Any d v h = rw h refl
 
 pub digits_read : (k : Context) (d r : List ℕ) (v : ℤ) → IsDigits d → IsInteger k.sizes d v → begins is_letter_or_digit r ≡ false → integer_at k (d ++ r) ≡ Some (v, r)
@@ -251,7 +251,7 @@ spine_le l _ = omega arith
 same_number : (l : ℕ) → nat_eq l l ≡ true
 same_number l = grind (arith, nat_tests)
 
-abbrev links : Level → Reader → ℕ → Reader
+abbrev links : Level → Reader Tree → ℕ → Reader Tree
 links v p turns s = first_operand v p s >>= λ x. chain (operators v) (next_operand v p) turns x.0 x.1
 
 -- A tree that is read at a level is what the chain of this level has made where it comes to r.
@@ -259,7 +259,7 @@ links v p turns s = first_operand v p s >>= λ x. chain (operators v) (next_oper
 abbrev Chained : Context → Level → Tree → Type 0
 Chained k v t = (n : ℕ) → nodes t + nodes t ≤ n → (turns : ℕ) (s r : List ℕ) → Reads k t (number v) s r → AfterOperand v r → links v (power k n) (turns + spine (number v) t) s ≡ chain (operators v) (next_operand v (power k n)) turns t r
 
-chain_stops : (among : List Operator) (next : Reader) (turns : ℕ) (t : Tree) (r : List ℕ) → operator_at among r ≡ None → chain among next turns t r ≡ Some (t, r)
+chain_stops : (among : List Operator) (next : Reader Tree) (turns : ℕ) (t : Tree) (r : List ℕ) → operator_at among r ≡ None → chain among next turns t r ≡ Some (t, r)
 unfolding chain
 chain_stops among next zero t r e = refl
 chain_stops among next (suc turns) t r e = rw e refl
@@ -486,15 +486,14 @@ listed_read k p ts q n s r le h f =
 
 -- ---- signs, negations and operators
 
-first_signed_read : (k : Context) (g : Sign) (t : Tree) → operand g ≡ levels.term → ((m : List ℕ) → sign_at (sign_spelling g ++ m) ≡ Some (g, m)) → Chained k Term t → (n : ℕ) (s r : List ℕ) → nodes (signed g t) + nodes (signed g t) ≤ n → Reads k (signed g t) levels.sum s r → AfterTerm r → first_term (term (power k n)) s ≡ Some (signed g t, r)
+first_signed_read : (k : Context) (g : Sign) (t : Tree) → ((m : List ℕ) → sign_at (sign_spelling g ++ m) ≡ Some (g, m)) → Chained k Term t → (n : ℕ) (s r : List ℕ) → nodes (signed g t) + nodes (signed g t) ≤ n → Reads k (signed g t) levels.sum s r → AfterTerm r → first_term (term (power k n)) s ≡ Some (signed g t, r)
 unfolding first_term
-first_signed_read k g t is_term is_sign p n s r le h f =
-    let inner : Reads k t levels.term h.1 r = subst (λ (l : ℕ). Reads k t l h.1 r) is_term h.3 in
+first_signed_read k g t is_sign p n s r le h f =
     let found : sign_at s ≡ Some (g, h.1) = ap sign_at h.2 ∙ is_sign h.1 in
-    rw (found, term_read k t p n h.1 r (omega arith) inner f) refl
+    rw (found, term_read k t p n h.1 r (omega arith) h.3 f) refl
 
-signed_read : (k : Context) (g : Sign) (t : Tree) → operand g ≡ levels.term → ((m : List ℕ) → sign_at (sign_spelling g ++ m) ≡ Some (g, m)) → Chained k Term t → Chained k Sum (signed g t)
-signed_read k g t is_term is_sign p = chained_one k Sum (signed g t) refl (first_signed_read k g t is_term is_sign p)
+signed_read : (k : Context) (g : Sign) (t : Tree) → ((m : List ℕ) → sign_at (sign_spelling g ++ m) ≡ Some (g, m)) → Chained k Term t → Chained k Sum (signed g t)
+signed_read k g t is_sign p = chained_one k Sum (signed g t) refl (first_signed_read k g t is_sign p)
 
 negated_read : (k : Context) (t : Tree) → RelationRead k t → NegationRead k (negated t)
 unfolding negation
@@ -532,10 +531,10 @@ after_star m o = ((refl, refl), rw o.1 refl)
 
 -- ---- the claim at the own level of each kind of tree
 
-signed_tops : (k : Context) (g : Sign) (t : Tree) → sign_level g ≡ levels.sum → Tops k (signed g t) levels.sum
-signed_tops k g t e = record {
-  up = λ l m s r le h. (omega (arith, e), h.1, h.2, h.3);
-  never = λ l s r lt most h. absurd (omega (arith, e, h.0));
+signed_tops : (k : Context) (g : Sign) (t : Tree) → Tops k (signed g t) levels.sum
+signed_tops k g t = record {
+  up = λ l m s r le h. (le, h.1, h.2, h.3);
+  never = λ l s r lt most h. absurd (omega (arith, h.0));
   flat = λ l lt. refl;
 }
 
@@ -602,8 +601,8 @@ mutual
   known k (place p) j = primary_each k (place p) (λ l m s r h. h) (λ l. refl) (name_place_read k p) j
   known k (listed p ts) j = primary_each k (listed p ts) (λ l m s r h. h) (λ l. refl) (listed_read k p ts (all_known k ts)) j
   known k (parenthesized t) j = primary_each k (parenthesized t) (λ l m s r h. h) (λ l. refl) (parenthesized_read k t (known k t 8)) j
-  known k (signed Plus t) j = each k (signed Plus t) levels.sum (signed_tops k Plus t refl) 3 refl (signed_read k Plus t refl (λ m. refl) (known k t 2)) j
-  known k (signed Minus t) j = each k (signed Minus t) levels.sum (signed_tops k Minus t refl) 3 refl (signed_read k Minus t refl (λ m. refl) (known k t 2)) j
+  known k (signed Plus t) j = each k (signed Plus t) levels.sum (signed_tops k Plus t) 3 refl (signed_read k Plus t (λ m. refl) (known k t 2)) j
+  known k (signed Minus t) j = each k (signed Minus t) levels.sum (signed_tops k Minus t) 3 refl (signed_read k Minus t (λ m. refl) (known k t 2)) j
   known k (negated t) j = each k (negated t) levels.negation (negated_tops k t) 5 refl (negated_read k t (known k t 4)) j
   known k (binary (Logical Equivalent) a b) j = equated_each k a b (Logical Equivalent) refl refl refl (λ m. ((((((((refl, refl), refl), refl), refl), refl), refl), refl), refl)) (known k a 8) (known k b 7) j
   known k (binary (Logical NotEquivalent) a b) j = equated_each k a b (Logical NotEquivalent) refl refl refl (λ m. ((((((((refl, refl), refl), refl), refl), refl), refl), refl), refl)) (known k a 8) (known k b 7) j

@@ -1,6 +1,7 @@
 -- Names, constants and words: what a text that was read is, and how long it is.
 use Rattle.std.proofs.Common.{◌≡◌, ◌⊎◌, inl, inr, ℕ, ◌+◌, ◌-◌, ◌≤◌, Bool, true, false, cond, List, [], ◌∷◌, ◌++◌, length, Option, Some, None, refl, sym, ap, subst, ◌∙◌, arith, length-append}
 use Rattle.std.specs.Prelude.{IsTrue, nat_eq, nat_le, ◌&&◌, ◌||◌, ℤ, pos, min}
+use Rattle.std.specs.List.{list_all}
 use Rattle.std.proofs.lemmas.Bool.{eqb-true}
 use Rattle.std.proofs.lemmas.Bool.Decides.{nat_tests}
 use Rattle.hep_source.specs.Tree.{Tree, Trees, constant, place, listed, parenthesized, signed, negated, binary, no_trees, trees, nodes, nodes_of_all}
@@ -17,8 +18,8 @@ use Rattle.hep_source.specs.declared.operator.LogicalOperator.TheVariants.{And, 
 use Rattle.hep_expression.specs.declared.characters.Sizes.{Sizes}
 use Rattle.hep_expression.specs.declared.characters.Sizes.TheVariants.{Fitting, Any}
 use Rattle.hep_expression.specs.declared.characters.Context.{Context}
-use Rattle.hep_expression.specs.Characters.{is_digit, is_letter, is_letter_or_digit, all, IsName, name_sign, named, ReadsPlace, ReadsPlainPlace, IsDigits, decimal, greatest, IsInteger, truth_spelling}
-use Rattle.hep_expression.specs.Expression.{left, right, spelling, sign_spelling, operand, Reads, ReadsAll}
+use Rattle.hep_expression.specs.Characters.{is_digit, is_letter, is_letter_or_digit, IsName, name_sign, named, ReadsPlace, ReadsPlainPlace, IsDigits, number_of_digits, greatest, IsInteger, truth_spelling}
+use Rattle.hep_expression.specs.Expression.{left, right, spelling, sign_spelling, term, Reads, ReadsAll}
 use Rattle.hep_expression.specs.Reading.{◌>>=◌, if_some, begins, front, behind, after, after_text, one_of, letters_at, name_at, with_position, place_at, plain_place_at, integer, integer_at, truth_at}
 
 -- ---- options and truths
@@ -89,20 +90,20 @@ shorter w r s e = omega (arith, ap length e, length-append w r)
 
 -- ---- rows of characters
 
-pub front_splits : (p : ℕ → Bool) (s : List ℕ) → IsTrue (all p (front p s)) × (s ≡ front p s ++ behind p s)
+pub front_splits : (p : ℕ → Bool) (s : List ℕ) → IsTrue (list_all p (front p s)) × (s ≡ front p s ++ behind p s)
 front_splits p [] = (refl, refl)
 front_splits p (c ∷ s) = go (p c) refl (front_splits p s)
   where
-    go : (b : Bool) → p c ≡ b → IsTrue (all p (front p s)) × (s ≡ front p s ++ behind p s) → IsTrue (all p (front p (c ∷ s))) × (c ∷ s ≡ front p (c ∷ s) ++ behind p (c ∷ s))
+    go : (b : Bool) → p c ≡ b → IsTrue (list_all p (front p s)) × (s ≡ front p s ++ behind p s) → IsTrue (list_all p (front p (c ∷ s))) × (c ∷ s ≡ front p (c ∷ s) ++ behind p (c ∷ s))
     go true e i = (rw (e, e) i.0, rw e (ap (λ (l : List ℕ). c ∷ l) i.1))
     go false e i = (rw e refl, rw e refl)
 
 -- a row that ends where it ends
-pub front_row : (p : ℕ → Bool) (w r : List ℕ) → IsTrue (all p w) → begins p r ≡ false → (front p (w ++ r) ≡ w) × (behind p (w ++ r) ≡ r)
+pub front_row : (p : ℕ → Bool) (w r : List ℕ) → IsTrue (list_all p w) → begins p r ≡ false → (front p (w ++ r) ≡ w) × (behind p (w ++ r) ≡ r)
 front_row p [] [] h e = (refl, refl)
 front_row p [] (c ∷ r) h e = (rw e refl, rw e refl)
 front_row p (c ∷ w) r h e =
-    let a = and_parts (p c) (all p w) h in
+    let a = and_parts (p c) (list_all p w) h in
     let i = front_row p w r a.1 e in
     (rw (a.0, i.0) refl, rw (a.0, i.1) refl)
 
@@ -174,17 +175,17 @@ is_plain_place k s x le e =
     let m = subst (λ (r : List ℕ). SpellsName s x.0.name r) p.3 n in
     (sym (ap (λ (y : Name). y.asynchronous) p.2) ∙ i.1, (m.0, m.1, m.2, m.3, p.4))
 
-is_integer : (z : Sizes) (d : List ℕ) (v : ℤ) → integer z (decimal d) ≡ Some v → IsInteger z d v
-is_integer Fitting d v e = elim (chosen (nat_le (decimal d) greatest) (Some (pos (decimal d))) None (Some v) e) [
-  | inl h ↦ (le_of (decimal d) greatest h.0, sym (some_is (pos (decimal d)) v h.1))
+is_integer : (z : Sizes) (d : List ℕ) (v : ℤ) → integer z (number_of_digits d) ≡ Some v → IsInteger z d v
+is_integer Fitting d v e = elim (chosen (nat_le (number_of_digits d) greatest) (Some (pos (number_of_digits d))) None (Some v) e) [
+  | inl h ↦ (le_of (number_of_digits d) greatest h.0, sym (some_is (pos (number_of_digits d)) v h.1))
   | inr h ↦ absurd (none_is v h.1)
 ]
-is_integer Any d v e = sym (some_is (pos (min (decimal d) greatest)) v e)
+is_integer Any d v e = sym (some_is (pos (min (number_of_digits d) greatest)) v e)
 
 pub is_constant : (k : Context) (s : List ℕ) (x : ℤ × List ℕ) → integer_at k s ≡ Some x → (d : List ℕ) × IsDigits d × (s ≡ d ++ x.1) × IsInteger k.sizes d x.0
-is_constant k s x e = elim (chosen (begins is_digit s) (integer k.sizes (decimal (front is_digit s)) >>= λ v. Some (v, behind is_digit s)) None (Some x) e) [
+is_constant k s x e = elim (chosen (begins is_digit s) (integer k.sizes (number_of_digits (front is_digit s)) >>= λ v. Some (v, behind is_digit s)) None (Some x) e) [
   | inl h ↦ (
-      let b = bind_some (integer k.sizes (decimal (front is_digit s))) (λ v. Some (v, behind is_digit s)) x h.1 in
+      let b = bind_some (integer k.sizes (number_of_digits (front is_digit s))) (λ v. Some (v, behind is_digit s)) x h.1 in
       subst (λ (y : ℤ × List ℕ). (d : List ℕ) × IsDigits d × (s ≡ d ++ y.1) × IsInteger k.sizes d y.0) (some_is (b.0, behind is_digit s) x b.2)
       (front is_digit s, digits_are s h.0, (front_splits is_digit s).1, is_integer k.sizes (front is_digit s) b.0 b.1))
   | inr h ↦ absurd (none_is x h.1)
@@ -239,7 +240,7 @@ mutual
   fits k (place p) l s r h = place_fits k p s r h
   fits k (listed p ts) l s r h = omega (arith, place_fits k p s (40 ∷ h.0) h.1, all_fit k ts h.0 r h.2)
   fits k (parenthesized t) l s r h = omega (arith, ap length h.1, fits k t 0 h.0 (41 ∷ r) h.2)
-  fits k (signed g t) l s r h = omega (arith, ap length h.2, length-append (sign_spelling g) h.1, sign_is_long g, fits k t (operand g) h.1 r h.3)
+  fits k (signed g t) l s r h = omega (arith, ap length h.2, length-append (sign_spelling g) h.1, sign_is_long g, fits k t term h.1 r h.3)
   fits k (negated t) l s r h = omega (arith, ap length h.2, fits k t 4 h.1 r h.3)
   fits k (binary o a b) l s r h = omega (arith, fits k a (left o) s (spelling o ++ h.1) h.2, fits k b (right o) h.1 r h.3, length-append (spelling o) h.1, operator_is_long o)
 

@@ -13,9 +13,9 @@ use Rattle.hep_expression.specs.declared.characters.Context.{Context}
 use Rattle.hep_expression.specs.Characters.{ReadsPlace}
 use Rattle.hep_expression.specs.declared.expression.Level.TheVariants.{Equivalence, Disjunction, Conjunction, Sum, Term}
 use Rattle.hep_expression.specs.Expression as levels
-use Rattle.hep_expression.specs.Expression.{level, left, right, spelling, sign_level, operand, sign_spelling, Reads, ReadsAll, IsExpression}
-use Rattle.hep_expression.specs.Reading.{◌>>=◌, if_some, all_read, after, place_at, integer_at, truth_at}
-use Rattle.hep_expression.specs.ReadingExpression.{Reader, operator_at, sign_at, power_at, not_at, comparing, operators, chain, left_to_right, in_parentheses, arguments, named, primary, power_of, term, first_term, sum, relation, negation, conjunction, disjunction, expression, power, expression_at, whole_expression}
+use Rattle.hep_expression.specs.Expression.{level, left, right, spelling, sign_spelling, Reads, ReadsAll, IsExpression}
+use Rattle.hep_expression.specs.Reading.{Reader, ◌>>=◌, if_some, all_read, after, place_at, integer_at, truth_at}
+use Rattle.hep_expression.specs.ReadingExpression.{operator_at, sign_at, power_at, not_at, comparing, operators, chain, left_to_right, in_parentheses, arguments, named, primary, power_of, term, first_term, sum, relation, negation, conjunction, disjunction, expression, power, expression_at, whole_expression}
 use Rattle.hep_expression.proofs.Leaves.{bind_some, either_some, some_is, none_is, after_is, text_is, AllOf, one_is, shorter, is_place, is_constant, is_truth, place_fits, fits}
 
 -- what is read at a level is read at each looser one
@@ -30,17 +30,17 @@ looser k (negated t) l m s r le h = (omega (arith, h.0), h.1, h.2, h.3)
 looser k (binary o a b) l m s r le h = (omega (arith, h.0), h.1, h.2, h.3)
 
 -- what a reader reads of the end of a statement's text
-abbrev pub Sound : Context → ℕ → Reader → Type 0
+abbrev pub Sound : Context → ℕ → Reader Tree → Type 0
 Sound k l read = (s r : List ℕ) (t : Tree) → length s ≤ k.length → read s ≡ Some (t, r) → Reads k t l s r
 
-loosened : (k : Context) (l m : ℕ) (read : Reader) → l ≤ m → Sound k m read → Sound k l read
+loosened : (k : Context) (l m : ℕ) (read : Reader Tree) → l ≤ m → Sound k m read → Sound k l read
 loosened k l m read le p s r t fit e = looser k t l m s r le (p s r t fit e)
 
 -- the operators of a level whose operands go from left to right
 abbrev GoRight : ℕ → Operator → Type 0
 GoRight l o = (level o ≡ l) × (left o ≡ l) × (right o ≡ suc l)
 
-chain_sound : (k : Context) (l : ℕ) (among : List Operator) → AllOf (GoRight l) among → (next : Reader) → Sound k (suc l) next → (n : ℕ) (t u : Tree) (s m r : List ℕ) → length s ≤ k.length → Reads k t l s m → chain among next n t m ≡ Some (u, r) → Reads k u l s r
+chain_sound : (k : Context) (l : ℕ) (among : List Operator) → AllOf (GoRight l) among → (next : Reader Tree) → Sound k (suc l) next → (n : ℕ) (t u : Tree) (s m r : List ℕ) → length s ≤ k.length → Reads k t l s m → chain among next n t m ≡ Some (u, r) → Reads k u l s r
 unfolding chain
 chain_sound k l among ops next p zero t u s m r fit h e = subst (λ (x : Tree × List ℕ). Reads k x.0 l s x.1) (some_is (t, m) (u, r) e) h
 chain_sound k l among ops next p (suc n) t u s m r fit h e =
@@ -56,12 +56,12 @@ chain_sound k l among ops next p (suc n) t u s m r fit h e =
       | inr g ↦ subst (λ (x : Tree × List ℕ). Reads k x.0 l s x.1) (some_is (t, m) (u, r) g.1) h
     ]
 
-left_to_right_sound : (k : Context) (l : ℕ) (among : List Operator) → AllOf (GoRight l) among → (first next : Reader) → Sound k l first → Sound k (suc l) next → Sound k l (left_to_right among first next)
+left_to_right_sound : (k : Context) (l : ℕ) (among : List Operator) → AllOf (GoRight l) among → (first next : Reader Tree) → Sound k l first → Sound k (suc l) next → Sound k l (left_to_right among first next)
 left_to_right_sound k l among ops first next q p s r t fit e =
     let b = bind_some (first s) (λ x. chain among next (length s) x.0 x.1) (t, r) e in
     chain_sound k l among ops next p (length s) b.0.0 t s b.0.1 r fit (q s b.0.1 b.0.0 fit b.1) b.2
 
-parentheses_sound : (k : Context) (inner : Reader) → Sound k levels.equivalence inner → (s r : List ℕ) (t : Tree) → length s ≤ k.length → in_parentheses inner s ≡ Some (t, r) → Reads k t levels.primary (40 ∷ s) r
+parentheses_sound : (k : Context) (inner : Reader Tree) → Sound k levels.equivalence inner → (s r : List ℕ) (t : Tree) → length s ≤ k.length → in_parentheses inner s ≡ Some (t, r) → Reads k t levels.primary (40 ∷ s) r
 unfolding in_parentheses
 parentheses_sound k inner p s r t fit e =
     let b = bind_some (inner s) (λ x. after 41 x.1 >>= λ r. Some (parenthesized x.0, r)) (t, r) e in
@@ -73,7 +73,7 @@ parentheses_sound k inner p s r t fit e =
 abbrev with_first : Tree → Option (Trees × List ℕ) → Option (Trees × List ℕ)
 with_first t read = read >>= λ x. Some (trees t x.0, x.1)
 
-more_sound : (k : Context) (inner : Reader) (n : ℕ) (t : Tree) (s m r : List ℕ) (ts : Trees) → Reads k t levels.equivalence s (44 ∷ m) → ((q : List ℕ) (us : Trees) → arguments inner n m ≡ Some (us, q) → ReadsAll k us m q) → with_first t (arguments inner n m) ≡ Some (ts, r) → ReadsAll k ts s r
+more_sound : (k : Context) (inner : Reader Tree) (n : ℕ) (t : Tree) (s m r : List ℕ) (ts : Trees) → Reads k t levels.equivalence s (44 ∷ m) → ((q : List ℕ) (us : Trees) → arguments inner n m ≡ Some (us, q) → ReadsAll k us m q) → with_first t (arguments inner n m) ≡ Some (ts, r) → ReadsAll k ts s r
 more_sound k inner n t s m r ts h p e =
     let b = bind_some (arguments inner n m) (λ y. Some (trees t y.0, y.1)) (ts, r) e in
     subst (λ (x : Trees × List ℕ). ReadsAll k x.0 s x.1) (some_is (trees t b.0.0, b.0.1) (ts, r) b.2) (both b.0.0 b.0.1 (p b.0.1 b.0.0 b.1))
@@ -82,7 +82,7 @@ more_sound k inner n t s m r ts h p e =
     both no_trees q i = absurd i
     both (trees u us) q i = (m, h, i)
 
-arguments_sound : (k : Context) (inner : Reader) → Sound k levels.equivalence inner → (n : ℕ) (s r : List ℕ) (ts : Trees) → length s ≤ k.length → arguments inner n s ≡ Some (ts, r) → ReadsAll k ts s r
+arguments_sound : (k : Context) (inner : Reader Tree) → Sound k levels.equivalence inner → (n : ℕ) (s r : List ℕ) (ts : Trees) → length s ≤ k.length → arguments inner n s ≡ Some (ts, r) → ReadsAll k ts s r
 unfolding arguments
 arguments_sound k inner p zero s r ts fit e = absurd (none_is (ts, r) e)
 arguments_sound k inner p (suc n) s r ts fit e =
@@ -98,7 +98,7 @@ arguments_sound k inner p (suc n) s r ts fit e =
           more_sound k inner n b.0.0 s c.0 r ts first (λ q us i. arguments_sound k inner p n c.0 q us fit' i) c.2)
     ]
 
-named_sound : (k : Context) (inner : Reader) → Sound k levels.equivalence inner → (a : Place) (s m r : List ℕ) (t : Tree) → length s ≤ k.length → ReadsPlace k a s m → named inner a m ≡ Some (t, r) → Reads k t levels.primary s r
+named_sound : (k : Context) (inner : Reader Tree) → Sound k levels.equivalence inner → (a : Place) (s m r : List ℕ) (t : Tree) → length s ≤ k.length → ReadsPlace k a s m → named inner a m ≡ Some (t, r) → Reads k t levels.primary s r
 unfolding named
 named_sound k inner p a s m r t fit h e =
     elim (either_some (after 40 m) (λ n. arguments inner (length n) n >>= λ x. Some (listed a x.0, x.1)) (Some (place a, m)) (t, r) e) [
@@ -111,7 +111,7 @@ named_sound k inner p a s m r t fit h e =
       | inr g ↦ subst (λ (x : Tree × List ℕ). Reads k x.0 levels.primary s x.1) (some_is (place a, m) (t, r) g.1) h
     ]
 
-primary_sound : (k : Context) (inner : Reader) → Sound k levels.equivalence inner → Sound k levels.primary (primary k inner)
+primary_sound : (k : Context) (inner : Reader Tree) → Sound k levels.equivalence inner → Sound k levels.primary (primary k inner)
 unfolding primary
 primary_sound k inner p s r t fit e =
     elim (either_some (integer_at k s) (λ x. Some (constant (Int x.0), x.1)) (if_some (truth_at s) (λ x. Some (constant (Truth x.0), x.1)) (if_some (place_at k s) (λ x. named inner x.0 x.1) (after 40 s >>= in_parentheses inner))) (t, r) e) [
@@ -129,7 +129,7 @@ primary_sound k inner p s r t fit e =
       ])
     ]
 
-power_sound : (k : Context) (base next : Reader) → Sound k levels.primary base → Sound k levels.power next → Sound k levels.power (power_of base next)
+power_sound : (k : Context) (base next : Reader Tree) → Sound k levels.primary base → Sound k levels.power next → Sound k levels.power (power_of base next)
 unfolding power_of
 power_sound k base next p q s r t fit e =
     let b = bind_some (base s) (λ x. if_some (power_at x.1) (λ m. next m >>= λ y. Some (binary (Arithmetic Power) x.0 y.0, y.1)) (Some x)) (t, r) e in
@@ -144,31 +144,31 @@ power_sound k base next p q s r t fit e =
       | inr g ↦ subst (λ (x : Tree × List ℕ). Reads k x.0 levels.power s x.1) (some_is b.0 (t, r) g.1) (looser k b.0.0 levels.power levels.primary s b.0.1 (omega arith) one)
     ]
 
-term_sound : (k : Context) (next : Reader) → Sound k levels.power next → Sound k levels.term (term next)
+term_sound : (k : Context) (next : Reader Tree) → Sound k levels.power next → Sound k levels.term (term next)
 unfolding term
 term_sound k next p = left_to_right_sound k levels.term (operators Term) ((refl, refl, refl), ((refl, refl, refl), tt)) next next (loosened k levels.term levels.power next (omega arith) p) p
 
-first_sound : (k : Context) (next : Reader) → Sound k levels.term next → Sound k levels.sum (first_term next)
+first_sound : (k : Context) (next : Reader Tree) → Sound k levels.term next → Sound k levels.sum (first_term next)
 unfolding first_term
 first_sound k next p s r t fit e =
     elim (either_some (sign_at s) (λ g. next g.1 >>= λ x. Some (signed g.0 x.0, x.1)) (next s) (t, r) e) [
       | inl g ↦ (
-          let w = one_is sign_spelling (λ (o : Sign). (sign_level o ≡ levels.sum) × (operand o ≡ levels.term)) (Plus ∷ Minus ∷ []) ((refl, refl), ((refl, refl), tt)) s g.0 g.1 in
+          let w = one_is sign_spelling (λ (o : Sign). Unit {0}) (Plus ∷ Minus ∷ []) (tt, (tt, tt)) s g.0 g.1 in
           let b = bind_some (next g.0.1) (λ x. Some (signed g.0.0 x.0, x.1)) (t, r) g.2 in
           let fit' : length g.0.1 ≤ k.length = omega (arith, shorter (sign_spelling g.0.0) g.0.1 s w.0) in
-          let inner : Reads k b.0.0 (operand g.0.0) g.0.1 b.0.1 = rw w.1.1 (p g.0.1 b.0.1 b.0.0 fit' b.1) in
-          subst (λ (x : Tree × List ℕ). Reads k x.0 levels.sum s x.1) (some_is (signed g.0.0 b.0.0, b.0.1) (t, r) b.2) (omega (arith, w.1.0), g.0.1, w.0, inner))
+          let inner = p g.0.1 b.0.1 b.0.0 fit' b.1 in
+          subst (λ (x : Tree × List ℕ). Reads k x.0 levels.sum s x.1) (some_is (signed g.0.0 b.0.0, b.0.1) (t, r) b.2) (omega arith, g.0.1, w.0, inner))
       | inr g ↦ looser k t levels.sum levels.term s r (omega arith) (p s r t fit g.1)
     ]
 
-sum_sound : (k : Context) (next : Reader) → Sound k levels.term next → Sound k levels.sum (sum next)
+sum_sound : (k : Context) (next : Reader Tree) → Sound k levels.term next → Sound k levels.sum (sum next)
 unfolding sum
 sum_sound k next p = left_to_right_sound k levels.sum (operators Sum) ((refl, refl, refl), ((refl, refl, refl), tt)) (first_term next) next (first_sound k next p) p
 
 abbrev Compares : Operator → Type 0
 Compares o = (level o ≡ levels.relation) × (left o ≡ levels.sum) × (right o ≡ levels.sum)
 
-relation_sound : (k : Context) (next : Reader) → Sound k levels.sum next → Sound k levels.relation (relation next)
+relation_sound : (k : Context) (next : Reader Tree) → Sound k levels.sum next → Sound k levels.relation (relation next)
 unfolding relation
 relation_sound k next p s r t fit e =
     let b = bind_some (next s) (λ x. if_some (operator_at comparing x.1) (λ o. next o.1 >>= λ y. Some (binary o.0 x.0 y.0, y.1)) (Some x)) (t, r) e in
@@ -186,7 +186,7 @@ relation_sound k next p s r t fit e =
       | inr g ↦ subst (λ (x : Tree × List ℕ). Reads k x.0 levels.relation s x.1) (some_is b.0 (t, r) g.1) (looser k b.0.0 levels.relation levels.sum s b.0.1 (omega arith) one)
     ]
 
-negation_sound : (k : Context) (next : Reader) → Sound k levels.relation next → Sound k levels.negation (negation next)
+negation_sound : (k : Context) (next : Reader Tree) → Sound k levels.relation next → Sound k levels.negation (negation next)
 unfolding negation
 negation_sound k next p s r t fit e =
     elim (either_some (not_at s) (λ m. next m >>= λ x. Some (negated x.0, x.1)) (next s) (t, r) e) [
@@ -198,19 +198,19 @@ negation_sound k next p s r t fit e =
       | inr g ↦ looser k t levels.negation levels.relation s r (omega arith) (p s r t fit g.1)
     ]
 
-conjunction_sound : (k : Context) (next : Reader) → Sound k levels.negation next → Sound k levels.conjunction (conjunction next)
+conjunction_sound : (k : Context) (next : Reader Tree) → Sound k levels.negation next → Sound k levels.conjunction (conjunction next)
 unfolding conjunction
 conjunction_sound k next p = left_to_right_sound k levels.conjunction (operators Conjunction) ((refl, refl, refl), tt) next next (loosened k levels.conjunction levels.negation next (omega arith) p) p
 
-disjunction_sound : (k : Context) (next : Reader) → Sound k levels.conjunction next → Sound k levels.disjunction (disjunction next)
+disjunction_sound : (k : Context) (next : Reader Tree) → Sound k levels.conjunction next → Sound k levels.disjunction (disjunction next)
 unfolding disjunction
 disjunction_sound k next p = left_to_right_sound k levels.disjunction (operators Disjunction) ((refl, refl, refl), tt) next next (loosened k levels.disjunction levels.conjunction next (omega arith) p) p
 
-equivalence_sound : (k : Context) (next : Reader) → Sound k levels.disjunction next → Sound k levels.equivalence (left_to_right (operators Equivalence) next next)
+equivalence_sound : (k : Context) (next : Reader Tree) → Sound k levels.disjunction next → Sound k levels.equivalence (left_to_right (operators Equivalence) next next)
 equivalence_sound k next p = left_to_right_sound k levels.equivalence (operators Equivalence) ((refl, refl, refl), ((refl, refl, refl), tt)) next next (loosened k levels.equivalence levels.disjunction next (omega arith) p) p
 
 -- the levels above a power
-levels_sound : (k : Context) (p : Reader) → Sound k levels.power p → Sound k levels.disjunction (disjunction (conjunction (negation (relation (sum (term p))))))
+levels_sound : (k : Context) (p : Reader Tree) → Sound k levels.power p → Sound k levels.disjunction (disjunction (conjunction (negation (relation (sum (term p))))))
 levels_sound k p h =
     disjunction_sound k (conjunction (negation (relation (sum (term p))))) (conjunction_sound k (negation (relation (sum (term p)))) (negation_sound k (relation (sum (term p))) (relation_sound k (sum (term p)) (sum_sound k (term p) (term_sound k p h)))))
 

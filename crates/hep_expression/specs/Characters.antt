@@ -1,36 +1,102 @@
 -- Names and constants, of a text without blanks.
 use Rattle.std.specs.Prelude.{codes, ◌≡◌, ℕ, ◌+◌, ◌-◌, ◌*◌, ◌≤◌, ◌&&◌, ◌||◌, nat_le, min, Bool, true, false, IsTrue, List, [], ◌∷◌, ◌++◌, length, drop, ℤ, pos}
+use Rattle.std.specs.List.{list_all}
 use Rattle.hep_source.specs.declared.name.Name.{Name}
 use Rattle.hep_source.specs.declared.name.Place.{Place}
 use Rattle.hep_expression.specs.declared.characters.Sizes.{Sizes}
 use Rattle.hep_expression.specs.declared.characters.Sizes.TheVariants.{Fitting, Any}
 use Rattle.hep_expression.specs.declared.characters.Context.{Context}
 
+-- ---- special characters by their names (X3.9-1978, 3.1.4), as codes of ASCII
+
+abbrev pub blank : ℕ
+blank = 32
+
+-- `$`
+abbrev pub currency_symbol : ℕ
+currency_symbol = 36
+
+-- `'`
+abbrev pub apostrophe : ℕ
+apostrophe = 39
+
+-- `(`
+abbrev pub left_parenthesis : ℕ
+left_parenthesis = 40
+
+-- `)`
+abbrev pub right_parenthesis : ℕ
+right_parenthesis = 41
+
+-- `*`
+abbrev pub asterisk : ℕ
+asterisk = 42
+
+-- `+`
+abbrev pub plus : ℕ
+plus = 43
+
+-- `,`
+abbrev pub comma : ℕ
+comma = 44
+
+-- `-`
+abbrev pub minus : ℕ
+minus = 45
+
+-- `/`
+abbrev pub slash : ℕ
+slash = 47
+
+-- `:`
+abbrev pub colon : ℕ
+colon = 58
+
+-- `=`
+abbrev pub equals : ℕ
+equals = 61
+
+-- ---- digits and letters, which ASCII has in a row each
+
+-- `0`
+abbrev pub first_digit : ℕ
+first_digit = 48
+
+-- `9`
+abbrev pub last_digit : ℕ
+last_digit = 57
+
 -- X3.9-1978, 3.1.2
 abbrev pub is_digit : ℕ → Bool
-is_digit c = nat_le 48 c && nat_le c 57
+is_digit c = nat_le first_digit c && nat_le c last_digit
+
+-- `A`
+abbrev pub first_letter : ℕ
+first_letter = 65
+
+-- `Z`
+abbrev pub last_letter : ℕ
+last_letter = 90
 
 -- X3.9-1978, 3.1.1
 abbrev pub is_letter : ℕ → Bool
-is_letter c = nat_le 65 c && nat_le c 90
+is_letter c = nat_le first_letter c && nat_le c last_letter
 
 -- X3.9-1978, 3.1.3
 abbrev pub is_letter_or_digit : ℕ → Bool
 is_letter_or_digit c = is_letter c || is_digit c
 
-abbrev pub all : (ℕ → Bool) → List ℕ → Bool
-all p [] = true
-all p (c ∷ s) = p c && all p s
+-- ---- names
 
 -- a symbolic name: one to six letters or digits, the first a letter (X3.9-1978, 2.2)
 abbrev pub IsName : List ℕ → Type 0
 IsName [] = ⊥
-IsName (c ∷ s) = IsTrue (is_letter c) × IsTrue (all is_letter_or_digit s) × (length s ≤ 5)
+IsName (c ∷ s) = IsTrue (is_letter c) × IsTrue (list_all is_letter_or_digit s) × (length s ≤ 5)
 
 abbrev pub six_blanks : List ℕ
-six_blanks = 32 ∷ 32 ∷ 32 ∷ 32 ∷ 32 ∷ 32 ∷ []
+six_blanks = blank ∷ blank ∷ blank ∷ blank ∷ blank ∷ blank ∷ []
 
--- the sign `$` before a name makes it asynchronous (docs/LANGUAGE.md)
+-- the sign `$` before a name makes it asynchronous (docs/LANGUAGE.md, 3)
 abbrev pub name_sign : Bool → List ℕ
 name_sign true = codes "$"
 name_sign false = []
@@ -47,28 +113,30 @@ ReadsPlace k p s r = (w : List ℕ) × IsName w × (s ≡ name_sign p.name.async
 abbrev pub ReadsPlainPlace : Context → Place → List ℕ → List ℕ → Type 0
 ReadsPlainPlace k p s r = (p.name.asynchronous ≡ false) × ReadsPlace k p s r
 
+-- ---- constants
+
 -- the digits of an integer constant (X3.9-1978, 4.3.1)
 abbrev pub IsDigits : List ℕ → Type 0
 IsDigits [] = ⊥
-IsDigits (c ∷ s) = IsTrue (is_digit c) × IsTrue (all is_digit s)
+IsDigits (c ∷ s) = IsTrue (is_digit c) × IsTrue (list_all is_digit s)
 
 -- the number that digits give behind those that gave n
-abbrev pub decimal_after : ℕ → List ℕ → ℕ
-decimal_after n [] = n
-decimal_after n (c ∷ s) = decimal_after (n * 10 + (c - 48)) s
+abbrev pub number_behind : ℕ → List ℕ → ℕ
+number_behind n [] = n
+number_behind n (c ∷ s) = number_behind (n * 10 + (c - first_digit)) s
 
 -- the number that digits stand for in base ten (X3.9-1978, 4.3.1)
-abbrev pub decimal : List ℕ → ℕ
-decimal d = decimal_after 0 d
+abbrev pub number_of_digits : List ℕ → ℕ
+number_of_digits d = number_behind 0 d
 
--- the greatest integer of a run (docs/LANGUAGE.md)
+-- the greatest integer of a run (docs/LANGUAGE.md, 3)
 abbrev pub greatest : ℕ
 greatest = 9223372036854775807
 
 -- The digits are an integer constant of this value.
 abbrev pub IsInteger : Sizes → List ℕ → ℤ → Type 0
-IsInteger Fitting d v = (decimal d ≤ greatest) × (v ≡ pos (decimal d))
-IsInteger Any d v = v ≡ pos (min (decimal d) greatest)
+IsInteger Fitting d v = (number_of_digits d ≤ greatest) × (v ≡ pos (number_of_digits d))
+IsInteger Any d v = v ≡ pos (min (number_of_digits d) greatest)
 
 -- how a logical constant is written (X3.9-1978, 4.7.1)
 abbrev pub truth_spelling : Bool → List ℕ

@@ -1,5 +1,5 @@
 -- The grammar of expressions: which texts read as which trees (X3.9-1978, section 6).
-use Rattle.std.specs.Prelude.{◌≡◌, ℕ, ◌≤◌, codes, List, [], ◌++◌}
+use Rattle.std.specs.Prelude.{◌≡◌, ℕ, suc, ◌≤◌, codes, List, [], ◌++◌}
 use Rattle.hep_source.specs.Tree.{Tree, Trees, constant, place, listed, parenthesized, signed, negated, binary, no_trees, trees}
 use Rattle.hep_source.specs.declared.value.Value.TheVariants.{Int, Truth}
 use Rattle.hep_source.specs.declared.operator.Sign.{Sign}
@@ -54,32 +54,39 @@ level (Logical Or) = disjunction
 level (Logical Equivalent) = equivalence
 level (Logical NotEquivalent) = equivalence
 
--- the level of its left operand: + - * / .AND. .OR. .EQV. .NEQV. go from left to right, and a
--- relation is no operand of a relation
-abbrev pub left : Operator → ℕ
-left (Arithmetic Add) = sum
-left (Arithmetic Subtract) = sum
-left (Arithmetic Multiply) = term
-left (Arithmetic Divide) = term
-left (Arithmetic Power) = primary
-left (Relational o) = sum
-left (Logical And) = conjunction
-left (Logical Or) = disjunction
-left (Logical Equivalent) = equivalence
-left (Logical NotEquivalent) = equivalence
+-- How operators of one level stand in a row: they apply from the left, or from the right, or a single
+-- one stands there
+pub data Associativity : Type 0 where
+  from_left : Associativity
+  from_right : Associativity
+  single : Associativity
 
--- the level of its right operand: ** goes from right to left
+-- `**` goes from right to left (X3.9-1978, 6.1.2), a relation is no operand of a relation (6.3), and
+-- all others go from left to right (6.1.2 and 6.4.2).
+abbrev pub associativity : Operator → Associativity
+associativity (Arithmetic Power) = from_right
+associativity (Arithmetic _) = from_left
+associativity (Relational o) = single
+associativity (Logical o) = from_left
+
+-- the levels of the operands where an operator of level l goes so
+abbrev pub left_level : Associativity → ℕ → ℕ
+left_level from_left l = l
+left_level from_right l = suc l
+left_level single l = suc l
+
+abbrev pub right_level : Associativity → ℕ → ℕ
+right_level from_left l = suc l
+right_level from_right l = l
+right_level single l = suc l
+
+-- the level of an operator's left operand
+abbrev pub left : Operator → ℕ
+left o = left_level (associativity o) (level o)
+
+-- and of its right one
 abbrev pub right : Operator → ℕ
-right (Arithmetic Add) = term
-right (Arithmetic Subtract) = term
-right (Arithmetic Multiply) = power
-right (Arithmetic Divide) = power
-right (Arithmetic Power) = power
-right (Relational o) = sum
-right (Logical And) = negation
-right (Logical Or) = conjunction
-right (Logical Equivalent) = disjunction
-right (Logical NotEquivalent) = disjunction
+right o = right_level (associativity o) (level o)
 
 -- X3.9-1978, 6.1.1, 6.3.1 and 6.4.1
 abbrev pub spelling : Operator → List ℕ
@@ -99,15 +106,7 @@ spelling (Logical Or) = codes ".OR."
 spelling (Logical Equivalent) = codes ".EQV."
 spelling (Logical NotEquivalent) = codes ".NEQV."
 
--- the same of a sign: it stands before the first term of a sum, and its operand is a whole term
-abbrev pub sign_level : Sign → ℕ
-sign_level Plus = sum
-sign_level Minus = sum
-
-abbrev pub operand : Sign → ℕ
-operand Plus = term
-operand Minus = term
-
+-- X3.9-1978, 6.1.1
 abbrev pub sign_spelling : Sign → List ℕ
 sign_spelling Plus = codes "+"
 sign_spelling Minus = codes "-"
@@ -120,7 +119,8 @@ abbrev mutual
   Reads k (place p) l s r = ReadsPlace k p s r
   Reads k (listed p ts) l s r = (m : List ℕ) × ReadsPlace k p s (codes "(" ++ m) × ReadsAll k ts m r
   Reads k (parenthesized t) l s r = (m : List ℕ) × (s ≡ codes "(" ++ m) × Reads k t equivalence m (codes ")" ++ r)
-  Reads k (signed g t) l s r = (l ≤ sign_level g) × (m : List ℕ) × (s ≡ sign_spelling g ++ m) × Reads k t (operand g) m r
+  -- a sign stands before the first term of a sum, and its operand is a whole term (X3.9-1978, 6.1.2)
+  Reads k (signed g t) l s r = (l ≤ sum) × (m : List ℕ) × (s ≡ sign_spelling g ++ m) × Reads k t term m r
   Reads k (negated t) l s r = (l ≤ negation) × (m : List ℕ) × (s ≡ codes ".NOT." ++ m) × Reads k t relation m r
   Reads k (binary o a b) l s r = (l ≤ level o) × (m : List ℕ) × Reads k a (left o) s (spelling o ++ m) × Reads k b (right o) m r
 
@@ -131,6 +131,10 @@ abbrev mutual
   ReadsAll k (trees t no_trees) s r = Reads k t equivalence s (codes ")" ++ r)
   ReadsAll k (trees t (trees u ts)) s r = (m : List ℕ) × Reads k t equivalence s (codes "," ++ m) × ReadsAll k (trees u ts) m r
 
+-- The text s begins with this expression, and goes on with r.
+abbrev pub ReadsExpression : Context → Tree → List ℕ → List ℕ → Type 0
+ReadsExpression k t s r = Reads k t equivalence s r
+
 -- The whole text is this expression.
 abbrev pub IsExpression : Context → List ℕ → Tree → Type 0
-IsExpression k s t = Reads k t equivalence s []
+IsExpression k s t = ReadsExpression k t s []

@@ -1,4 +1,4 @@
--- Reading a text, as functions on lists: names, constants and words.
+-- Reading a text, as functions on lists: names, constants and words (docs/ARCHITECTURE.md, "Forms").
 use Rattle.std.specs.Prelude.{◌≡◌, ℕ, ◌-◌, ◌&&◌, nat_eq, nat_le, min, Bool, true, false, if◌then◌else◌, List, [], ◌∷◌, length, ℤ, pos, Option, Some, None, Result, Ok, Err}
 use Rattle.hep_source.specs.declared.name.Name.{Name}
 use Rattle.hep_source.specs.declared.name.Place.{Place}
@@ -9,7 +9,7 @@ use Rattle.hep_expression.specs.declared.characters.Sizes.TheVariants.{Fitting, 
 use Rattle.hep_expression.specs.declared.characters.Context.{Context}
 use Rattle.hep_expression.specs.declared.unread.Unread.{Unread}
 use Rattle.hep_expression.specs.declared.unread.Unread.TheVariants as unread
-use Rattle.hep_expression.specs.Characters.{is_digit, is_letter, is_letter_or_digit, named, decimal, greatest, truth_spelling}
+use Rattle.hep_expression.specs.Characters.{is_digit, is_letter, is_letter_or_digit, currency_symbol, named, number_of_digits, greatest, truth_spelling}
 
 infixl 10 ◌>>=◌
 abbrev pub ◌>>=◌ : {A B : Type 0} → Option A → (A → Option B) → Option B
@@ -19,6 +19,10 @@ None >>= f = None
 abbrev pub if_some : {A B : Type 0} → Option A → (A → Option B) → Option B → Option B
 if_some None f other = other
 if_some (Some x) f other = f x
+
+-- what is read at the front of a text, and what follows it
+abbrev pub Reader : Type 0 → Type 0
+Reader A = List ℕ → Option (A × List ℕ)
 
 -- What a function answers, seen by view, is what was read, unless memory was refused.
 abbrev pub Fails : {Y : Type 0} → Unread → Option Y → Type 0
@@ -64,41 +68,41 @@ after_text [] s = Some s
 after_text (c ∷ w) s = after c s >>= after_text w
 
 -- the first of these whose spelling the text begins with, and what follows it
-abbrev pub one_of : {A : Type 0} → (A → List ℕ) → List A → List ℕ → Option (A × List ℕ)
+abbrev pub one_of : {A : Type 0} → (A → List ℕ) → List A → Reader A
 one_of spelling [] s = None
 one_of spelling (a ∷ more) s = if_some (after_text (spelling a) s) (λ r. Some (a, r)) (one_of spelling more s)
 
 -- ---- names and constants
 
 -- a name behind its sign `$`, if it has one
-abbrev pub letters_at : Bool → List ℕ → Option (Name × List ℕ)
+abbrev pub letters_at : Bool → Reader Name
 letters_at a s =
     if begins is_letter s && nat_le (length (front is_letter_or_digit s)) 6
     then Some (named a (front is_letter_or_digit s), behind is_letter_or_digit s)
     else None
 
-abbrev pub name_at : List ℕ → Option (Name × List ℕ)
-name_at s = if_some (after 36 s) (letters_at true) (letters_at false s)
+abbrev pub name_at : Reader Name
+name_at s = if_some (after currency_symbol s) (letters_at true) (letters_at false s)
 
 abbrev pub with_position : Context → List ℕ → Option (Name × List ℕ) → Option (Place × List ℕ)
 with_position k s read = read >>= λ x. Some (record { name = x.0; position = k.length - length s }, x.1)
 
-abbrev pub place_at : Context → List ℕ → Option (Place × List ℕ)
+abbrev pub place_at : Context → Reader Place
 place_at k s = with_position k s (name_at s)
 
 -- a name without `$`
-abbrev pub plain_place_at : Context → List ℕ → Option (Place × List ℕ)
+abbrev pub plain_place_at : Context → Reader Place
 plain_place_at k s = with_position k s (letters_at false s)
 
 abbrev pub integer : Sizes → ℕ → Option ℤ
 integer Fitting n = if nat_le n greatest then Some (pos n) else None
 integer Any n = Some (pos (min n greatest))
 
-abbrev pub integer_at : Context → List ℕ → Option (ℤ × List ℕ)
+abbrev pub integer_at : Context → Reader ℤ
 integer_at k s =
     if begins is_digit s
-    then (integer k.sizes (decimal (front is_digit s)) >>= λ v. Some (v, behind is_digit s))
+    then (integer k.sizes (number_of_digits (front is_digit s)) >>= λ v. Some (v, behind is_digit s))
     else None
 
-abbrev pub truth_at : List ℕ → Option (Bool × List ℕ)
+abbrev pub truth_at : Reader Bool
 truth_at s = one_of truth_spelling (true ∷ false ∷ []) s

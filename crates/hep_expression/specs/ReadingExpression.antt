@@ -15,17 +15,15 @@ use Rattle.hep_expression.specs.declared.characters.Context.{Context}
 use Rattle.hep_expression.specs.declared.expression.Level.{Level}
 use Rattle.hep_expression.specs.declared.expression.Level.TheVariants.{Equivalence, Disjunction, Conjunction, Sum, Term}
 use Rattle.hep_expression.specs.Expression.{spelling, sign_spelling}
-use Rattle.hep_expression.specs.Reading.{◌>>=◌, if_some, all_read, after, after_text, one_of, place_at, integer_at, truth_at}
-
-abbrev pub Reader : Type 0
-Reader = List ℕ → Option (Tree × List ℕ)
+use Rattle.hep_expression.specs.Characters.{left_parenthesis, right_parenthesis, comma}
+use Rattle.hep_expression.specs.Reading.{Reader, ◌>>=◌, if_some, all_read, after, after_text, one_of, place_at, integer_at, truth_at}
 
 -- ---- operators
 
-abbrev pub operator_at : List Operator → List ℕ → Option (Operator × List ℕ)
+abbrev pub operator_at : List Operator → Reader Operator
 operator_at among s = one_of spelling among s
 
-abbrev pub sign_at : List ℕ → Option (Sign × List ℕ)
+abbrev pub sign_at : Reader Sign
 sign_at s = one_of sign_spelling (Plus ∷ Minus ∷ []) s
 
 abbrev pub power_at : List ℕ → Option (List ℕ)
@@ -46,62 +44,62 @@ operators Sum = Arithmetic Add ∷ Arithmetic Subtract ∷ []
 operators Term = Arithmetic Multiply ∷ Arithmetic Divide ∷ []
 
 -- operators and operands behind a first one, from left to right; the number bounds the turns
-unfoldable pub chain : List Operator → Reader → ℕ → Tree → Reader
+unfoldable pub chain : List Operator → Reader Tree → ℕ → Tree → Reader Tree
 chain among next zero t s = Some (t, s)
 chain among next (suc n) t s = if_some (operator_at among s) (λ o. next o.1 >>= λ y. chain among next n (binary o.0 t y.0) y.1) (Some (t, s))
 
-abbrev pub left_to_right : List Operator → Reader → Reader → Reader
+abbrev pub left_to_right : List Operator → Reader Tree → Reader Tree → Reader Tree
 left_to_right among first next s = first s >>= λ x. chain among next (length s) x.0 x.1
 
 -- ---- primaries and powers
 
-unfoldable pub in_parentheses : Reader → Reader
-in_parentheses inner s = inner s >>= λ x. after 41 x.1 >>= λ r. Some (parenthesized x.0, r)
+unfoldable pub in_parentheses : Reader Tree → Reader Tree
+in_parentheses inner s = inner s >>= λ x. after right_parenthesis x.1 >>= λ r. Some (parenthesized x.0, r)
 
 -- expressions with commas between them and `)` behind the last; the number bounds the turns
-unfoldable pub arguments : Reader → ℕ → List ℕ → Option (Trees × List ℕ)
+unfoldable pub arguments : Reader Tree → ℕ → Reader Trees
 arguments inner zero s = None
 arguments inner (suc n) s =
-    inner s >>= λ x. if_some (after 41 x.1) (λ r. Some (trees x.0 no_trees, r)) (after 44 x.1 >>= λ m. arguments inner n m >>= λ y. Some (trees x.0 y.0, y.1))
+    inner s >>= λ x. if_some (after right_parenthesis x.1) (λ r. Some (trees x.0 no_trees, r)) (after comma x.1 >>= λ m. arguments inner n m >>= λ y. Some (trees x.0 y.0, y.1))
 
 -- a name that was read, with a list where `(` follows it
-unfoldable pub named : Reader → Place → Reader
-named inner p s = if_some (after 40 s) (λ m. arguments inner (length m) m >>= λ x. Some (listed p x.0, x.1)) (Some (place p, s))
+unfoldable pub named : Reader Tree → Place → Reader Tree
+named inner p s = if_some (after left_parenthesis s) (λ m. arguments inner (length m) m >>= λ x. Some (listed p x.0, x.1)) (Some (place p, s))
 
-unfoldable pub primary : Context → Reader → Reader
+unfoldable pub primary : Context → Reader Tree → Reader Tree
 primary k inner s =
     if_some (integer_at k s) (λ x. Some (constant (Int x.0), x.1))
     (if_some (truth_at s) (λ x. Some (constant (Truth x.0), x.1))
-    (if_some (place_at k s) (λ x. named inner x.0 x.1) (after 40 s >>= in_parentheses inner)))
+    (if_some (place_at k s) (λ x. named inner x.0 x.1) (after left_parenthesis s >>= in_parentheses inner)))
 
-unfoldable pub power_of : Reader → Reader → Reader
+unfoldable pub power_of : Reader Tree → Reader Tree → Reader Tree
 power_of base next s = base s >>= λ x. if_some (power_at x.1) (λ m. next m >>= λ y. Some (binary (Arithmetic Power) x.0 y.0, y.1)) (Some x)
 
 -- ---- the levels above
 
-unfoldable pub term : Reader → Reader
+unfoldable pub term : Reader Tree → Reader Tree
 term next s = left_to_right (operators Term) next next s
 
-unfoldable pub first_term : Reader → Reader
+unfoldable pub first_term : Reader Tree → Reader Tree
 first_term next s = if_some (sign_at s) (λ g. next g.1 >>= λ x. Some (signed g.0 x.0, x.1)) (next s)
 
-unfoldable pub sum : Reader → Reader
+unfoldable pub sum : Reader Tree → Reader Tree
 sum next s = left_to_right (operators Sum) (first_term next) next s
 
-unfoldable pub relation : Reader → Reader
+unfoldable pub relation : Reader Tree → Reader Tree
 relation next s = next s >>= λ x. if_some (operator_at comparing x.1) (λ o. next o.1 >>= λ y. Some (binary o.0 x.0 y.0, y.1)) (Some x)
 
-unfoldable pub negation : Reader → Reader
+unfoldable pub negation : Reader Tree → Reader Tree
 negation next s = if_some (not_at s) (λ m. next m >>= λ x. Some (negated x.0, x.1)) (next s)
 
-unfoldable pub conjunction : Reader → Reader
+unfoldable pub conjunction : Reader Tree → Reader Tree
 conjunction next s = left_to_right (operators Conjunction) next next s
 
-unfoldable pub disjunction : Reader → Reader
+unfoldable pub disjunction : Reader Tree → Reader Tree
 disjunction next s = left_to_right (operators Disjunction) next next s
 
 -- what stands behind an operator of a level, where powers are read so
-abbrev pub next_operand : Level → Reader → Reader
+abbrev pub next_operand : Level → Reader Tree → Reader Tree
 next_operand Equivalence powers = disjunction (conjunction (negation (relation (sum (term powers)))))
 next_operand Disjunction powers = conjunction (negation (relation (sum (term powers))))
 next_operand Conjunction powers = negation (relation (sum (term powers)))
@@ -109,7 +107,7 @@ next_operand Sum powers = term powers
 next_operand Term powers = powers
 
 -- what stands first at a level: before the first term of a sum a sign may stand
-abbrev pub first_operand : Level → Reader → Reader
+abbrev pub first_operand : Level → Reader Tree → Reader Tree
 first_operand Equivalence powers = next_operand Equivalence powers
 first_operand Disjunction powers = next_operand Disjunction powers
 first_operand Conjunction powers = next_operand Conjunction powers
@@ -117,21 +115,21 @@ first_operand Sum powers = first_term (next_operand Sum powers)
 first_operand Term powers = next_operand Term powers
 
 -- what is read at a level
-abbrev pub at_level : Level → Reader → Reader
+abbrev pub at_level : Level → Reader Tree → Reader Tree
 at_level level powers s = left_to_right (operators level) (first_operand level powers) (next_operand level powers) s
 
 -- The number bounds how deep parentheses, lists and powers go.
 unfoldable mutual
-  pub expression : Context → ℕ → Reader
+  pub expression : Context → ℕ → Reader Tree
   expression k zero s = None
   expression k (suc n) s = at_level Equivalence (power k n) s
 
-  pub power : Context → ℕ → Reader
+  pub power : Context → ℕ → Reader Tree
   power k zero s = None
   power k (suc n) s = power_of (primary k (expression k n)) (power k n) s
 
 -- an expression and what follows it, where parentheses, lists and powers go as deep as the text allows
-unfoldable pub expression_at : Context → Reader
+unfoldable pub expression_at : Context → Reader Tree
 expression_at k s = expression k (length s + length s + 1) s
 
 unfoldable pub whole_expression : Context → List ℕ → Option Tree

@@ -20,6 +20,7 @@ pub enum Sizes {
 /// What a reader knows of the statement.
 #[derive(Clone, Copy, Debug, PartialEq, Eq)]
 pub struct Context {
+    /// Which integer constants are read.
     pub sizes: Sizes,
     /// How many characters the statement's text has.
     pub length: usize,
@@ -28,7 +29,9 @@ pub struct Context {
 /// A class of characters (X3.9-1978, 3.1).
 #[derive(Clone, Copy, Debug, PartialEq, Eq)]
 enum Class {
+    /// Digits (3.1.2).
     Digits,
+    /// Letters and digits (3.1.3).
     LettersAndDigits,
 }
 
@@ -176,7 +179,7 @@ pub fn plain_place_at(context: Context, s: &[u8]) -> Option<(Place, &[u8])>
 /// The number that digits stand for, where it has 64 bits.
 #[tactic(auto, using(crate::proofs::Decimals::goes_on, crate::proofs::Decimals::is_large))]
 fn number(digits: &[u8]) -> Option<u64>
-    ensures { MatchOption result (2 ^ 64 ≤ grammar.decimal digits.now) (λ n. n ≡ grammar.decimal digits.now) }
+    ensures { MatchOption result (2 ^ 64 ≤ grammar.number_of_digits digits.now) (λ n. n ≡ grammar.number_of_digits digits.now) }
 {
     let mut value: u64 = 0;
     for c in digits {
@@ -188,7 +191,7 @@ fn number(digits: &[u8]) -> Option<u64>
 
 /// The integer that digits stand for, where it is not above the greatest.
 fn integer(digits: &[u8]) -> Option<i64>
-    ensures { result ≡ reading.integer Fitting (grammar.decimal digits.now) }
+    ensures { result ≡ reading.integer Fitting (grammar.number_of_digits digits.now) }
 {
     i64::try_from(number(digits)?).ok()
 }

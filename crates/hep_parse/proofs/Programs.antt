@@ -1,6 +1,6 @@
 -- What is read as a program is one, and the other way round.
 use Rattle.std.proofs.Common.{◌≡◌, ◌⊎◌, inl, inr, ℕ, Bool, true, false, List, [], ◌∷◌, ◌++◌, Option, Some, None, Result, Ok, Err, refl, sym, ap, subst, ◌∙◌}
-use Rattle.std.specs.Prelude.{◌≢◌, not, ◌&&◌, ◌||◌}
+use Rattle.std.specs.Prelude.{◌≢◌, ok_or, not, ◌&&◌, ◌||◌}
 use Rattle.hep_source.specs.Tree.{Tree}
 use Rattle.hep_source.specs.declared.statement.Form.{Form}
 use Rattle.hep_source.specs.declared.statement.Statement.{Statement}
@@ -14,7 +14,7 @@ use Rattle.hep_parse.specs.declared.program.Stage.TheVariants.{Start, Opening, S
 use Rattle.hep_parse.specs.declared.program.State.{State}
 use Rattle.hep_parse.specs.Program.{IsStatement, part_of, may_precede, MayStandBehind, AreOrdered, begins_main, AreSubroutines, AreUnits, AreAllStatements, IsProgram}
 use Rattle.hep_statement.specs.ReadingStatement.{form}
-use Rattle.hep_parse.specs.ReadingProgram.{Refusal, or_refusal, or_told, with_line, refusal_of, statement, is_start, may_follow, stage_behind, state_behind, placed, behind_one, ended, units, nothing_read, program}
+use Rattle.hep_parse.specs.ReadingProgram.{Refusal, or_refusal, with_line, refusal_of, statement, is_start, may_follow, stage_behind, state_behind, placed, behind_one, ended, units, nothing_read, program}
 use Rattle.hep_statement.proofs.Forms.{form_is, form_read}
 
 -- ---- results
@@ -39,7 +39,7 @@ pub ok_of : {A B : Type 0} (r : Result A Refusal) (f : A → Result B Refusal) (
 ok_of (Ok x) f y e = (x, refl, e)
 ok_of (Err n) f y e = absurd (not_both y n e)
 
-told_of : {A : Type 0} (o : Option A) (e : Refusal) (x : A) → or_told o e ≡ Ok x → o ≡ Some x
+told_of : {A : Type 0} (o : Option A) (e : Refusal) (x : A) → ok_or o e ≡ Ok x → o ≡ Some x
 told_of None e x h = absurd (not_both x e h)
 told_of (Some y) e x h = ap (λ z. Some z) (ok_is y x h)
 
@@ -222,7 +222,7 @@ unfolding placed statement
 placed_is x given y e = go (form Fitting given.text) refl
   where
     told : Statement → Result (Statement × State) Refusal
-    told read = or_refusal (or_told (state_behind x (part_of read.conditions read.form) (begins_main read.form)) (205, given.line, [])) (λ next. Ok (read, next))
+    told read = or_refusal (ok_or (state_behind x (part_of read.conditions read.form) (begins_main read.form)) (205, given.line, [])) (λ next. Ok (read, next))
 
     go : (o : Option (List Tree × Form)) → form Fitting given.text ≡ o → (c : List Tree × Form) × (form Fitting given.text ≡ Some c) × (state_behind x (part_of c.0 c.1) (begins_main c.1) ≡ Some y.1) × (with_line given c ≡ y.0)
     go None none =
@@ -230,7 +230,7 @@ placed_is x given y e = go (form Fitting given.text) refl
         absurd (not_both y (refusal_of given) (sym turn ∙ e))
     go (Some c) found =
         let turn : placed x given ≡ told (with_line given c) = rw found refl in
-        let b = ok_of (or_told (state_behind x (part_of c.0 c.1) (begins_main c.1)) (205, given.line, [])) (λ next. Ok (with_line given c, next)) y (sym turn ∙ e) in
+        let b = ok_of (ok_or (state_behind x (part_of c.0 c.1) (begins_main c.1)) (205, given.line, [])) (λ next. Ok (with_line given c, next)) y (sym turn ∙ e) in
         let next = told_of (state_behind x (part_of c.0 c.1) (begins_main c.1)) (205, given.line, []) b.0 b.1 in
         let is_y : (with_line given c, b.0) ≡ y = ok_is (with_line given c, b.0) y b.2 in
         (c, found, next ∙ ap (λ (z : Statement × State). Some z.1) is_y, ap (λ (z : Statement × State). z.0) is_y)

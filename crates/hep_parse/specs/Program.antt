@@ -1,5 +1,5 @@
 -- Programs, and why some statements are none: docs/LANGUAGE.md, 6.
-use Rattle.std.specs.Prelude.{◌≡◌, ◌≢◌, ◌⊎◌, ℕ, Bool, true, false, IsTrue, codes, List, [], ◌∷◌, ◌++◌, Result, Ok, Err}
+use Rattle.std.specs.Prelude.{◌≡◌, ◌≢◌, ◌⊎◌, ℕ, ◌||◌, Bool, true, false, IsTrue, codes, List, [], ◌∷◌, ◌++◌, Result, Ok, Err}
 use Rattle.hep_source.specs.Tree.{Tree}
 use Rattle.hep_source.specs.declared.statement.Form.{Form}
 use Rattle.hep_source.specs.declared.statement.Form.TheVariants.{Program, Subroutine, Implicit, Declare, Dimension, Common, Parameter, End}
@@ -13,7 +13,7 @@ use Rattle.hep_parse.specs.declared.fault.ParseFault.TheVariants.{NoMemory, Refu
 use Rattle.hep_statement.specs.declared.rule.Rule.TheVariants.{Worded}
 use Rattle.hep_parse.specs.declared.program.Part.{Part}
 use Rattle.hep_parse.specs.declared.program.Part.TheVariants as part
-use Rattle.hep_statement.specs.Statement.{either, rule_of, IsLogicalIf, context, IsForm}
+use Rattle.hep_statement.specs.Statement.{rule_of, IsLogicalIf, context, IsForm}
 
 -- A text with its line and label is this statement.
 abbrev pub IsStatement : Stmt → Statement → Type 0
@@ -36,19 +36,13 @@ part_of [] _ = part.Action
 
 -- whether a statement of the one part may stand anywhere before one of the other in a unit
 abbrev pub may_precede : Part → Part → Bool
-may_precede part.Header part.Header = false
-may_precede part.Header _ = true
-may_precede part.Implicit part.Header = false
-may_precede part.Implicit _ = true
-may_precede part.Parameter part.Header = false
-may_precede part.Parameter _ = true
-may_precede part.Specification part.Header = false
-may_precede part.Specification part.Implicit = false
-may_precede part.Specification _ = true
+may_precede part.End _ = false
+may_precede _ part.Header = false
 may_precede part.Action part.Action = true
 may_precede part.Action part.End = true
 may_precede part.Action _ = false
-may_precede part.End _ = false
+may_precede part.Specification part.Implicit = false
+may_precede _ _ = true
 
 -- a part may stand behind those before it in its unit
 abbrev pub MayStandBehind : List Part → Part → Type 0
@@ -96,7 +90,7 @@ AreAllStatements given (unit ∷ units) = (left : List Stmt) × AreStatements gi
 abbrev pub IsProgram : List Stmt → List (List Statement) → Type 0
 IsProgram given units = AreAllStatements given units × AreUnits units
 
--- ---- refusals (docs/LANGUAGE.md)
+-- ---- refusals (docs/LANGUAGE.md, 5 and 6)
 
 abbrev pub HasReading : Sizes → Stmt → Type 0
 HasReading z s = (conditions : List Tree) × (f : Form) × IsForm z s.text conditions f
@@ -155,7 +149,7 @@ parts_behind before x = before ++ x ∷ []
 
 -- whether a main program is there behind one more statement
 abbrev pub main_behind : List Part → Bool → Form → Bool
-main_behind [] main_is_there f = either main_is_there (begins_main f)
+main_behind [] main_is_there f = main_is_there || begins_main f
 main_behind (x ∷ before) main_is_there f = main_is_there
 
 -- The first fault of the statements behind these parts of a unit, with its number, line and name:

@@ -1,5 +1,5 @@
--- Reading a program, as functions on lists.
-use Rattle.std.specs.Prelude.{◌≡◌, ℕ, zero, suc, Bool, true, false, not, ◌&&◌, ◌||◌, if◌then◌else◌, List, [], ◌∷◌, ◌++◌, length, Option, Some, None, Result, Ok, Err}
+-- Reading a program, as functions on lists (docs/ARCHITECTURE.md, "Forms").
+use Rattle.std.specs.Prelude.{◌≡◌, ℕ, zero, suc, Bool, true, false, not, ◌&&◌, ◌||◌, if◌then◌else◌, List, [], ◌∷◌, ◌++◌, length, Option, Some, None, ok_or, Result, Ok, Err}
 use Rattle.hep_source.specs.Tree.{Tree}
 use Rattle.hep_source.specs.declared.statement.Form.{Form}
 use Rattle.hep_source.specs.declared.statement.Statement.{Statement}
@@ -44,10 +44,6 @@ abbrev pub or_refusal : {A B : Type 0} → Result A Refusal → (A → Result B 
 or_refusal (Ok x) f = f x
 or_refusal (Err e) f = Err e
 
-abbrev pub or_told : {A : Type 0} → Option A → Refusal → Result A Refusal
-or_told None e = Err e
-or_told (Some x) e = Ok x
-
 -- ---- statements that the language leaves out
 
 -- the name of the first of these words with which a text begins
@@ -88,7 +84,7 @@ unfoldable pub refusal_of : Stmt → Refusal
 refusal_of given = refusal_unless_found (203, given.line, []) (nameless_refusal given) (form Any given.text)
 
 unfoldable pub statement : Stmt → Result Statement Refusal
-statement given = or_refusal (or_told (form Fitting given.text) (refusal_of given)) (λ x. Ok (with_line given x))
+statement given = or_refusal (ok_or (form Fitting given.text) (refusal_of given)) (λ x. Ok (with_line given x))
 
 -- ---- the order of statements
 
@@ -120,7 +116,7 @@ state_behind x p begins =
 unfoldable pub placed : State → Stmt → Result (Statement × State) Refusal
 placed x given =
     or_refusal (statement given) (λ read.
-    or_refusal (or_told (state_behind x (part_of read.conditions read.form) (begins_main read.form)) (205, given.line, [])) (λ next.
+    or_refusal (ok_or (state_behind x (part_of read.conditions read.form) (begins_main read.form)) (205, given.line, [])) (λ next.
     Ok (read, next)))
 
 -- ---- units

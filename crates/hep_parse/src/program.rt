@@ -19,13 +19,17 @@ use std::alloc::Global;
 /// The part of a program unit to which a statement belongs (X3.9-1978, 3.5).
 #[derive(Clone, Copy, Debug, PartialEq, Eq)]
 pub enum Part {
+    /// PROGRAM and SUBROUTINE.
     Header,
+    /// IMPLICIT.
     Implicit,
+    /// PARAMETER.
     Parameter,
     /// Types, DIMENSION and COMMON.
     Specification,
     /// Executable statements but END, and DATA.
     Action,
+    /// END.
     End,
 }
 

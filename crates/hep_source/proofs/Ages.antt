@@ -5,14 +5,14 @@ use Rattle.std.specs.Option.{unwrap_or}
 use Rattle.std.proofs.lemmas.Bool.{eqb-true}
 use Rattle.std.proofs.lemmas.List.{length-append}
 use Rattle.std.proofs.lemmas.Option.{none-some, same_Some, slice_get_within}
-use Rattle.hep_source.specs.Laws.{IsOnStack, parent_of}
-use Rattle.hep_source.specs.Layout.{activations_on, is_number_among}
+use Rattle.hep_source.specs.Laws.{IsOnStack}
+use Rattle.hep_source.specs.Layout.{activations_on}
 use Rattle.hep_source.specs.Opening.{opening}
 use Rattle.hep_source.specs.Run.{turn, run_from, run}
 use Rattle.hep_source.specs.State.{Activation, Level, Process, State}
 use Rattle.hep_source.specs.Step.{Top, next_activation}
 use Rattle.hep_source.specs.Units.{Units}
-use Rattle.hep_source.specs.Processes.{top_of, numbered, with_numbered}
+use Rattle.hep_source.specs.Processes.{top_of, numbered, with_numbered, parent_of, is_number_among}
 use Rattle.hep_source.specs.Unreached.{no_activation}
 use Rattle.hep_source.proofs.Changes.{stack, HasStack, HasSame, Change, moves, leaves, faults, calls, creates, stops, top_in, step_changes}
 use Rattle.hep_source.proofs.Others.{each_turn}

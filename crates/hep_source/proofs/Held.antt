@@ -7,12 +7,12 @@ use Rattle.std.proofs.lemmas.Bool.{eq-eqb}
 use Rattle.std.proofs.lemmas.Bool.Decides.{eqb_tells}
 use Rattle.std.proofs.lemmas.List.Folds.{list_any-append}
 use Rattle.std.proofs.lemmas.Option.{none-some, same_Some}
-use Rattle.hep_source.specs.Laws.{parent_of, IsOnStack, HasHeldChild}
-use Rattle.hep_source.specs.Layout.{activations_on, is_number_among, ancestry, is_held}
+use Rattle.hep_source.specs.Laws.{IsOnStack, HasHeldChild}
+use Rattle.hep_source.specs.Layout.{activations_on, ancestry, is_held}
 use Rattle.hep_source.specs.Run.{run}
 use Rattle.hep_source.specs.State.{Process, State}
 use Rattle.hep_source.specs.Units.{Units}
-use Rattle.hep_source.specs.Processes.{numbered}
+use Rattle.hep_source.specs.Processes.{numbered, parent_of, is_number_among}
 use Rattle.hep_source.proofs.Ages.{IsAged, aged, older_parent, on_stack_made}
 
 -- ---- numbers among others

@@ -1,5 +1,5 @@
 -- How dummy arguments get what they stand for: X3.9-1978, 15.9.3.
-use Rattle.std.specs.Prelude.{ℕ, ◌+◌, ◌-◌, Bool, not, ◌&&◌, ◌||◌, nat_le, if◌then◌else◌, List, [], ◌∷◌, Option, Some, None, Result, Ok, Err}
+use Rattle.std.specs.Prelude.{ℕ, ◌+◌, ◌-◌, Bool, not, ◌&&◌, ◌||◌, if◌then◌else◌, List, [], ◌∷◌, Option, Some, None, Result, Ok, Err}
 use Rattle.std.specs.Option.{option_or, unwrap_or}
 use Rattle.hep_source.specs.declared.event.Kind.{Kind}
 use Rattle.hep_source.specs.declared.event.Kind.TheVariants.{Shape}
@@ -9,7 +9,7 @@ use Rattle.hep_source.specs.Constants.{Values, constant_value, shape_by}
 use Rattle.hep_source.specs.Declarations.{is_array, is_dummy, is_common, is_nonempty}
 use Rattle.hep_source.specs.Evaluation.{Actual, evaluated, referred, Reference}
 use Rattle.hep_source.specs.Places.{Scope, Extent, extent_of, element_of}
-use Rattle.hep_source.specs.Shapes.{Bounds, elements}
+use Rattle.hep_source.specs.Shapes.{Bounds, fits}
 use Rattle.hep_source.specs.State.{Dummy, local, Store}
 use Rattle.hep_source.specs.Storage.{with_value, further}
 use Rattle.hep_source.specs.Units.{dummies_of}
@@ -56,9 +56,6 @@ abbrev pub bound_values : Scope → Store → Values
 bound_values scope store x =
     option_or (constant_value scope.unit x) (
     if is_dummy scope.unit x || is_common scope.unit x then (store (extent_of scope x).start).value else None)
-
-abbrev pub fits : Bounds → ℕ → Bool
-fits bs rest = nat_le (unwrap_or (elements bs) 0) rest
 
 abbrev pub shaped : Dummy → Option Bounds → Result Dummy Kind
 shaped d None = Err Shape

@@ -15,7 +15,8 @@ use Rattle.hep_source.specs.Arithmetic.{signed_value, negated_value, combined_va
 use Rattle.hep_source.specs.Declarations.{named_constants, dimensions_of, is_nonempty}
 use Rattle.hep_source.specs.Functions.{Listed, pure, listed_meaning}
 use Rattle.hep_source.specs.Names.{same_name}
-use Rattle.hep_source.specs.Shapes.{Bound, Bounds, is_shape, elements}
+use Rattle.hep_source.specs.declared.shape.Bound.{Bound}
+use Rattle.hep_source.specs.Shapes.{Bounds, is_shape, elements}
 use Rattle.hep_source.specs.Unreached.{no_cells}
 
 -- ---- expressions: 6.1.3 and 6.4.4
@@ -42,7 +43,7 @@ both None vs = None
 both (Some v) None = None
 both (Some v) (Some vs) = Some (v ∷ vs)
 
--- only pure functions may stand in such an expression
+-- only pure functions may stand in such an expression: docs/LANGUAGE.md, 7
 abbrev pub by_meaning : Listed → Option (List Value) → Option Value
 by_meaning (pure f) (Some vs) = without_fault (function_value f vs)
 by_meaning _ _ = None

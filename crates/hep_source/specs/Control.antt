@@ -7,6 +7,7 @@ use Rattle.hep_source.specs.declared.statement.Form.{Form}
 use Rattle.hep_source.specs.declared.statement.Form.TheVariants as form
 use Rattle.hep_source.specs.declared.statement.SignLabels.{SignLabels}
 use Rattle.hep_source.specs.declared.statement.Statement.{Statement}
+use Rattle.hep_source.specs.Names.{index_where}
 use Rattle.hep_source.specs.State.{Level, Work, doing, ending}
 use Rattle.hep_source.specs.Unreached.{no_name, no_place}
 use Rattle.hep_source.specs.Units.{is_executable, executable_from, statement_at}
@@ -20,13 +21,9 @@ has_label l (Some k) = nat_eq k l
 abbrev pub is_labelled : ℕ → Statement → Bool
 is_labelled l s = is_executable s.form && has_label l s.label
 
-abbrev pub place_found : {A : Type 0} → (A → Bool) → List A → Option ℕ
-place_found test [] = None
-place_found test (x ∷ xs) = if test x then Some 0 else option_map suc (place_found test xs)
-
 -- the place of the first executable statement with a label
 abbrev pub place_labelled : List Statement → ℕ → Option ℕ
-place_labelled unit l = place_found (is_labelled l) unit
+place_labelled unit l = index_where (is_labelled l) unit
 
 abbrev pub place_of_label : List Statement → ℕ → ℕ
 place_of_label unit l = unwrap_or (place_labelled unit l) (no_place unit)

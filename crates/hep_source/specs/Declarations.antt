@@ -1,7 +1,7 @@
 -- What the specification statements of a unit say of a name: X3.9-1978, section 8.
-use Rattle.std.specs.Prelude.{ℕ, Bool, true, false, ◌&&◌, nat_le, if◌then◌else◌, List, [], ◌∷◌, ◌++◌, get_or, Option, Some, None, is_some}
+use Rattle.std.specs.Prelude.{ℕ, Bool, true, false, ◌&&◌, nat_le, if◌then◌else◌, List, [], ◌∷◌, ◌++◌, map, get_or, Option, Some, None, is_some}
 use Rattle.std.specs.Option.{option_or, option_map, option_map_or}
-use Rattle.std.specs.List.{list_any, flat_map}
+use Rattle.std.specs.List.{list_any, find, flat_map}
 use Rattle.hep_source.specs.declared.declaration.ValueType.{ValueType}
 use Rattle.hep_source.specs.declared.declaration.ValueType.TheVariants.{Integer}
 use Rattle.hep_source.specs.declared.declaration.LetterRange.{LetterRange}
@@ -21,8 +21,7 @@ use Rattle.hep_source.specs.Units.{dummies_of, Units}
 -- ---- types: 4.1.2, 8.4 and 8.5
 
 abbrev pub names_declared : List Declarator → List Name
-names_declared [] = []
-names_declared (d ∷ ds) = d.place.name ∷ names_declared ds
+names_declared ds = map (λ (d : Declarator). d.place.name) ds
 
 -- the type that a type statement gives a name
 abbrev pub type_by_statement : Name → Form → Option ValueType
@@ -66,8 +65,7 @@ type_of unit x = option_or (declared_type x unit) (option_or (implicit_type (fir
 -- ---- arrays: 5.1, 8.1, 8.3 and 8.4
 
 abbrev pub entries_of_blocks : List CommonBlock → List Declarator
-entries_of_blocks [] = []
-entries_of_blocks (b ∷ bs) = b.entries ++ entries_of_blocks bs
+entries_of_blocks blocks = flat_map (λ (b : CommonBlock). b.entries) blocks
 
 abbrev pub declarators_in : Form → List Declarator
 declarators_in (form.Declare t ds) = ds
@@ -81,8 +79,7 @@ is_nonempty (x ∷ xs) = true
 
 -- the first of these declarators that gives a name dimensions
 abbrev pub declarator_among : Name → List Declarator → Option Declarator
-declarator_among x [] = None
-declarator_among x (d ∷ ds) = if same_name d.place.name x && is_nonempty d.dimensions then Some d else declarator_among x ds
+declarator_among x ds = find (λ (d : Declarator). same_name d.place.name x && is_nonempty d.dimensions) ds
 
 abbrev pub dimensions_among : Name → List Declarator → List Dimension
 dimensions_among x ds = option_map_or (λ (d : Declarator). d.dimensions) (declarator_among x ds) []
@@ -139,12 +136,12 @@ abbrev pub blocks_of : Units → List Block
 blocks_of program = with_blocks [] (flat_map blocks_of_unit program)
 
 -- the block in which a name of a unit is
-abbrev pub block_holding : List Statement → Name → List CommonBlock → Option Block
-block_holding unit x [] = None
-block_holding unit x (c ∷ cs) = if is_among x (names_declared c.entries) then Some (block_of c) else block_holding unit x cs
+abbrev pub block_holding : Name → List CommonBlock → Option Block
+block_holding x [] = None
+block_holding x (c ∷ cs) = if is_among x (names_declared c.entries) then Some (block_of c) else block_holding x cs
 
 abbrev pub common_block : List Statement → Name → Option Block
-common_block unit x = block_holding unit x (blocks_of_unit unit)
+common_block unit x = block_holding x (blocks_of_unit unit)
 
 abbrev pub is_common : List Statement → Name → Bool
 is_common unit x = is_some (common_block unit x)
@@ -159,8 +156,7 @@ abbrev pub named_constants : List Statement → List NamedConstant
 named_constants unit = flat_map (λ (s : Statement). constants_in s.form) unit
 
 abbrev pub names_of_constants : List NamedConstant → List Name
-names_of_constants [] = []
-names_of_constants (c ∷ cs) = c.place.name ∷ names_of_constants cs
+names_of_constants constants = map (λ (c : NamedConstant). c.place.name) constants
 
 abbrev pub is_constant_name : List Statement → Name → Bool
 is_constant_name unit x = is_among x (names_of_constants (named_constants unit))

@@ -1,4 +1,4 @@
--- Each part of a node has fewer nodes than the whole.
+-- Each part of a node has fewer nodes than the whole (docs/ARCHITECTURE.md, "Forms").
 use Rattle.std.specs.Prelude.{◌+◌, ◌≤◌, max, List, [], ◌∷◌}
 use Rattle.std.proofs.Common.{arith}
 use denote.Param.Weighed.{most}

@@ -1,4 +1,4 @@
--- The functions that are there without a declaration: X3.9-1978, 15.10, and docs/LANGUAGE.md.
+-- The functions that are there without a declaration: X3.9-1978, 15.10, and docs/LANGUAGE.md, 8.
 use Rattle.std.specs.Prelude.{ℕ, if◌then◌else◌, codes, List, [], ◌∷◌, Option, Some, None}
 use Rattle.hep_source.specs.declared.function.PureFunction.{PureFunction}
 use Rattle.hep_source.specs.declared.function.PureFunction.TheVariants.{AbsoluteValue, Remainder, TransferOfSign, PositiveDifference, Largest, Smallest}

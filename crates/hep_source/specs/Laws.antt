@@ -1,30 +1,23 @@
--- Words of the laws of the source machine: docs/MACHINE.md.
-use Rattle.std.specs.Prelude.{◌≡◌, ◌≢◌, ◌⊎◌, ℕ, ◌+◌, ◌<◌, ◌≤◌, Bool, true, false, List, [], ◌∷◌, ◌++◌, Option, Some, None}
+-- Words of the laws of the source machine: docs/MACHINE.md, "Laws".
+use Rattle.std.specs.Prelude.{◌≡◌, ◌⊎◌, ℕ, ◌+◌, ◌<◌, ◌≤◌, Bool, true, false, List, [], ◌∷◌, ◌++◌, Option, Some, None}
 use Rattle.hep_source.specs.declared.event.Entry.{Entry}
 use Rattle.hep_source.specs.Evaluation.{purging, Next, does, next_of}
-use Rattle.hep_source.specs.Histories.{turns}
-use Rattle.hep_source.specs.Layout.{activations_on, is_number_among, is_held, Layout}
-use Rattle.hep_source.specs.Run.{turn}
+use Rattle.hep_source.specs.Layout.{activations_on, is_held, Layout}
+use Rattle.hep_source.specs.Run.{run_from, turns_of}
 use Rattle.hep_source.specs.State.{Level, Process, State, Location, Store}
-use Rattle.hep_source.specs.Step.{step}
 use Rattle.hep_source.specs.Storage.{same_location}
 use Rattle.hep_source.specs.Units.{Units, unit_at}
-use Rattle.hep_source.specs.Processes.{numbered, living, activation_of, unit_of}
+use Rattle.hep_source.specs.Processes.{numbered, living, unit_of, parent_of, is_number_among}
 
 -- from a cell on, frames one behind the other: none is empty, each ends before the next one begins, and all end within the arena
 abbrev pub StandApart : ℕ → ℕ → Layout → Type 0
 StandApart cells from [] = from ≤ cells
 StandApart cells from (f ∷ fs) = (from ≤ f.first) × (0 < f.cells) × StandApart cells (f.first + f.cells) fs
 
--- each of these turns, one after the other, makes a step
-abbrev pub AreSteps : Units → State → List ℕ → Type 0
-AreSteps program s [] = Unit {0}
-AreSteps program s (p ∷ ps) = (step program p s ≢ None) × AreSteps program (turn program p s) ps
-
 -- the state after the turns of each entry, one entry after the other
 abbrev pub state_replayed : Units → State → List Entry → State
 state_replayed program s [] = s
-state_replayed program s (e ∷ es) = state_replayed program (turns program s e.process e.steps) es
+state_replayed program s (e ∷ es) = state_replayed program (run_from program s (turns_of e)) es
 
 -- the same list, or that list with one more behind it
 abbrev pub IsSameOrOneMore : {A : Type 0} → List A → List A → Type 0
@@ -51,10 +44,6 @@ top_purges program s (Some top) = purges (next_of (unit_at program (unit_of s to
 -- in the next step of process p a PURGE acts
 abbrev pub is_purge : Units → State → ℕ → Bool
 is_purge program s p = top_purges program s (living s p)
-
--- the activation that called or created this one, if any
-abbrev pub parent_of : State → ℕ → Option ℕ
-parent_of s a = (activation_of s a).parent
 
 -- a process has this activation on its stack
 abbrev pub IsOnStack : State → ℕ → Type 0

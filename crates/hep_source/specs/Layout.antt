@@ -1,15 +1,15 @@
--- Frames and the arena: docs/MACHINE.md.
-use Rattle.std.specs.Prelude.{ℕ, zero, suc, ◌+◌, max, Bool, true, nat_eq, nat_le, nat_lt, if◌then◌else◌, List, [], ◌∷◌, length, Option, Some, None}
+-- Frames and the arena: docs/MACHINE.md, "Layout".
+use Rattle.std.specs.Prelude.{ℕ, zero, suc, ◌+◌, max, Bool, true, nat_le, nat_lt, if◌then◌else◌, List, [], ◌∷◌, map, length, Option, Some, None}
 use Rattle.std.specs.Option.{option_map, option_map_or}
-use Rattle.std.specs.List.{flat_map, filter, list_any}
+use Rattle.std.specs.List.{flat_map, filter}
 use Rattle.hep_source.specs.Constants.{cells_of_all}
 use Rattle.hep_source.specs.Declarations.{Block, names_in_block, blocks_of}
 use Rattle.hep_source.specs.Opening.{opening}
 use Rattle.hep_source.specs.Run.{turn}
-use Rattle.hep_source.specs.State.{State, Process}
+use Rattle.hep_source.specs.State.{State, Level, Process}
 use Rattle.hep_source.specs.Units.{Units, unit_at}
 use Rattle.hep_source.specs.Variables.{frame_cells}
-use Rattle.hep_source.specs.Processes.{unit_of, activation_of}
+use Rattle.hep_source.specs.Processes.{unit_of, parent_of, is_number_among}
 
 -- ---- COMMON: each block at its greatest length, in order of first appearance (X3.9-1978, 8.3.3)
 
@@ -27,16 +27,12 @@ common_cells program = cells_of_blocks program (blocks_of program)
 -- ---- held activations: "Layout"
 
 abbrev pub activations_on : Process → List ℕ
-activations_on [] = []
-activations_on (l ∷ ls) = l.activation ∷ activations_on ls
-
-abbrev pub is_number_among : ℕ → List ℕ → Bool
-is_number_among a held = list_any (nat_eq a) held
+activations_on stack = map (λ (l : Level). l.activation) stack
 
 -- an activation, its parent, the parent's parent and so on, n of them at most
 abbrev pub ancestry : State → ℕ → ℕ → List ℕ
 ancestry s zero a = []
-ancestry s (suc n) a = a ∷ option_map_or (ancestry s n) (activation_of s a).parent []
+ancestry s (suc n) a = a ∷ option_map_or (ancestry s n) (parent_of s a) []
 
 -- the activations on stacks, each with its ancestry: a parent has a lower number than its child, so that of a has no more than a
 abbrev pub held : State → List ℕ

@@ -2,16 +2,15 @@ pub mod Tree
 pub mod TreeCode
 pub mod View
 pub mod Falls
-pub mod Shapes
-pub mod State
-pub mod Unreached
 pub mod Arithmetic
 pub mod Names
 pub mod Units
 pub mod Declarations
 pub mod Functions
+pub mod Shapes
 pub mod Constants
 pub mod Variables
+pub mod State
 pub mod Storage
 pub mod Processes
 pub mod Places
@@ -27,3 +26,4 @@ pub mod Histories
 pub mod Views
 pub mod Schedules
 pub mod Laws
+pub mod Unreached

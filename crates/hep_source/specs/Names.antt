@@ -23,16 +23,19 @@ letters_of (c ∷ cs) = if nat_eq c 32 then letters_of cs else c ∷ letters_of 
 abbrev pub spelling : Name → List ℕ
 spelling x = (if x.asynchronous then 36 ∷ [] else []) ++ letters_of x.letters
 
--- ---- lists of names: docs/MACHINE.md, "Names and units"
+-- ---- lists of names: docs/MACHINE.md, "Variables and frames"
 
 abbrev pub is_among : Name → List Name → Bool
 is_among x [] = false
 is_among x (y ∷ ys) = if same_name x y then true else is_among x ys
 
--- how many names stand before a name in a list
-abbrev pub place_among : Name → List Name → Option ℕ
-place_among x [] = None
-place_among x (y ∷ ys) = if same_name x y then Some 0 else option_map suc (place_among x ys)
+-- how many elements of a list stand before the first one that passes a test
+abbrev pub index_where : {A : Type 0} → (A → Bool) → List A → Option ℕ
+index_where test [] = None
+index_where test (x ∷ xs) = if test x then Some 0 else option_map suc (index_where test xs)
+
+abbrev pub index_among : Name → List Name → Option ℕ
+index_among x xs = index_where (same_name x) xs
 
 -- the names with one more behind them, unless it is among them
 abbrev pub with_name : List Name → Name → List Name

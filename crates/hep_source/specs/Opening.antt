@@ -1,4 +1,4 @@
--- The first state of a run: what DATA gives (X3.9-1978, section 9), and process 1 at the main program (14.1).
+-- The first state of a run: what DATA gives (X3.9-1978, section 9), and process 1 at the main program (3.6).
 use Rattle.std.specs.Prelude.{◌-◌, false, List, [], ◌∷◌, Some, None}
 use Rattle.std.specs.Option.{unwrap_or}
 use Rattle.std.specs.List.{flat_map}

@@ -9,7 +9,7 @@ use Rattle.hep_source.specs.declared.value.Value.{Value}
 use Rattle.hep_source.specs.Arithmetic.{integers_of}
 use Rattle.hep_source.specs.Constants.{cells_of_shape, constant_shape, cells_before}
 use Rattle.hep_source.specs.Declarations.{Block, common_block, names_in_block}
-use Rattle.hep_source.specs.Names.{place_among}
+use Rattle.hep_source.specs.Names.{index_among}
 use Rattle.hep_source.specs.Shapes.{Bounds, elements, element_number}
 use Rattle.hep_source.specs.Storage.{further}
 use Rattle.hep_source.specs.State.{Dummy, Location, local, common}
@@ -53,7 +53,7 @@ extent_by_place scope x None = own_extent scope x
 extent_by_place scope x (Some i) = extent_of_dummy (dummy_at scope.dummies i)
 
 abbrev pub extent_of : Scope → Name → Extent
-extent_of scope x = extent_by_place scope x (place_among x (dummies_of scope.unit))
+extent_of scope x = extent_by_place scope x (index_among x (dummies_of scope.unit))
 
 -- ---- elements: 5.3 and 5.4
 

@@ -1,10 +1,14 @@
 -- Processes, activations and DOs in a state: docs/MACHINE.md, "Activations and processes".
-use Rattle.std.specs.Prelude.{ℕ, zero, suc, ◌-◌, nat_eq, if◌then◌else◌, List, [], ◌∷◌, Option, Some, None, slice_get, slice_set}
+use Rattle.std.specs.Prelude.{ℕ, zero, suc, ◌-◌, Bool, nat_eq, if◌then◌else◌, List, [], ◌∷◌, Option, Some, None, slice_get, slice_set}
+use Rattle.std.specs.List.{list_any}
 use Rattle.std.specs.Option.{unwrap_or}
 use Rattle.hep_source.specs.State.{Activation, Level, Loop, Process, State}
 use Rattle.hep_source.specs.Unreached.{no_activation, no_loop}
 
--- ---- processes: "Activations and processes"
+-- ---- numbers: "Activations and processes"
+
+abbrev pub is_number_among : ℕ → List ℕ → Bool
+is_number_among n ns = list_any (nat_eq n) ns
 
 -- what has this number, counted from 1
 abbrev pub numbered : {A : Type 0} → List A → ℕ → Option A
@@ -13,6 +17,8 @@ numbered xs (suc k) = slice_get xs k
 
 abbrev pub with_numbered : {A : Type 0} → List A → ℕ → A → List A
 with_numbered xs k x = slice_set xs (k - 1) x
+
+-- ---- processes: "Activations and processes"
 
 abbrev pub top_of : Option Process → Option (Level × Process)
 top_of None = None
@@ -34,6 +40,10 @@ activation_of s a = unwrap_or (numbered s.activations a) no_activation
 -- the unit of an activation, by its number in the program
 abbrev pub unit_of : State → ℕ → ℕ
 unit_of s a = (activation_of s a).unit
+
+-- the activation that called or created this one, none for the main program's
+abbrev pub parent_of : State → ℕ → Option ℕ
+parent_of s a = (activation_of s a).parent
 
 -- ---- DOs: X3.9-1978, 11.10.3
 

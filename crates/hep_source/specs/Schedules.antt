@@ -1,18 +1,15 @@
--- Which processes wait, and which one comes next by itself: docs/MACHINE.md.
-use Rattle.std.specs.Prelude.{ℕ, zero, suc, Bool, not, nat_eq, nat_lt, if◌then◌else◌, List, [], ◌∷◌, Option, Some, None, is_some}
-use Rattle.std.specs.List.{filter, list_any}
+-- Which processes wait, and which one comes next by itself: docs/MACHINE.md, "Which process comes next".
+use Rattle.std.specs.Prelude.{ℕ, zero, suc, not, nat_eq, nat_lt, if◌then◌else◌, List, [], ◌∷◌, Option, Some, slice_get}
+use Rattle.std.specs.List.{filter}
 use Rattle.hep_source.specs.declared.event.Entry.{Entry}
 use Rattle.hep_source.specs.Opening.{opening}
+use Rattle.hep_source.specs.Processes.{is_number_among}
 use Rattle.hep_source.specs.Run.{turn}
 use Rattle.hep_source.specs.State.{Process, State}
-use Rattle.hep_source.specs.Step.{wanted_by}
+use Rattle.hep_source.specs.Step.{is_waiting}
 use Rattle.hep_source.specs.Units.{Units}
 
 -- ---- listed processes: "Which process comes next"
-
--- p lives and its next step waits for a storage unit
-abbrev pub is_waiting : Units → State → ℕ → Bool
-is_waiting program s p = is_some (wanted_by program p s)
 
 -- the state after a history, and the processes that it has found waiting and that have waited in every state since
 pub record Progress : Type 0 where
@@ -45,9 +42,6 @@ progress_from program x (e ∷ es) = progress_from program (after_entry program 
 abbrev pub progress_after : Units → List Entry → Progress
 progress_after program history = progress_from program (record { state = opening program; listed = [] }) history
 
-abbrev pub is_listed : List ℕ → ℕ → Bool
-is_listed ps p = list_any (nat_eq p) ps
-
 -- ---- the process that comes next by itself: "Which process comes next"
 
 abbrev pub living_from : ℕ → List Process → List ℕ
@@ -57,16 +51,12 @@ living_from k ((level ∷ levels) ∷ qs) = k ∷ living_from (suc k) qs
 
 -- the living processes that aren't listed, by rising numbers
 abbrev pub ready_in : Progress → List ℕ
-ready_in x = filter (λ p. not (is_listed x.listed p)) (living_from 1 x.state.processes)
+ready_in x = filter (λ p. not (is_number_among p x.listed)) (living_from 1 x.state.processes)
 
 abbrev pub last_process : List Entry → ℕ
 last_process [] = 0
 last_process (e ∷ []) = e.process
 last_process (e ∷ f ∷ es) = last_process (f ∷ es)
-
-abbrev pub least : List ℕ → Option ℕ
-least [] = None
-least (p ∷ ps) = Some p
 
 -- of rising numbers the first above n, or else the first
 abbrev pub first_above : ℕ → List ℕ → Option ℕ → Option ℕ
@@ -74,7 +64,7 @@ first_above n [] other = other
 first_above n (p ∷ ps) other = if nat_lt n p then Some p else first_above n ps other
 
 abbrev pub next_of_ready : ℕ → List ℕ → Option ℕ
-next_of_ready n ready = first_above n ready (least ready)
+next_of_ready n ready = first_above n ready (slice_get ready 0)
 
 -- after a history, of the ready processes the least above that of the last entry, or else the least
 abbrev pub next_ready : Units → List Entry → Option ℕ

@@ -1,11 +1,9 @@
 -- Dimensions and shapes of arrays, and the number of an element: X3.9-1978, section 5.
 use Rattle.std.specs.Prelude.{ℕ, ◌+◌, ◌*◌, ◌^◌, ℤ, pos, negsuc, ◌+ℤ◌, ◌-ℤ◌, int_le, Bool, true, false, ◌&&◌, nat_le, if◌then◌else◌, List, [], ◌∷◌, length, Option, Some, None}
+use Rattle.std.specs.Option.{unwrap_or}
+use Rattle.hep_source.specs.declared.shape.Bound.{Bound}
 
--- the bounds of a dimension; no upper bound where it is written `*`: 5.1.1
-pub record Bound : Type 0 where
-  pub lower : ℤ
-  pub upper : Option ℤ
-
+-- the bounds of each dimension; no upper bound where it is written `*`: 5.1.1
 abbrev pub Bounds : Type 0
 Bounds = List Bound
 
@@ -61,10 +59,6 @@ is_below s (Some u) = int_le s u
 abbrev pub is_within : Bound → ℤ → Bool
 is_within b s = int_le b.lower s && is_below s b.upper
 
-abbrev pub or_one : Option ℕ → ℕ
-or_one None = 1
-or_one (Some n) = n
-
 abbrev pub sum : ℕ → Option ℕ → Option ℕ
 sum m None = None
 sum m (Some n) = Some (m + n)
@@ -75,8 +69,16 @@ before_element size [] [] = Some 0
 before_element size [] (s ∷ ss) = None
 before_element size (b ∷ bs) [] = None
 before_element size (b ∷ bs) (s ∷ ss) =
-    if is_within b s then sum (natural (s -ℤ b.lower) * size) (before_element (size * or_one (extent b)) bs ss) else None
+    if is_within b s then sum (natural (s -ℤ b.lower) * size) (before_element (size * unwrap_or (extent b) 1) bs ss) else None
 
 -- the number of an element, counted from 1; none where the number of subscripts or one of them is wrong. A scalar is its one element
 abbrev pub element_number : Bounds → List ℤ → Option ℕ
 element_number bs ss = sum 1 (before_element 1 bs ss)
+
+-- no number of an element is above 1,048,576, not even where the last bound is open: docs/LANGUAGE.md, 7
+abbrev pub counted_element : Bounds → List ℤ → Option ℕ
+counted_element bs ss = if is_most (element_number bs ss) then element_number bs ss else None
+
+-- an array has no more elements than these; what is open fits anywhere: 15.9.3.3
+abbrev pub fits : Bounds → ℕ → Bool
+fits bs rest = nat_le (unwrap_or (elements bs) 0) rest

@@ -1,5 +1,5 @@
--- One step of a process: docs/MACHINE.md.
-use Rattle.std.specs.Prelude.{ℕ, zero, suc, ◌+◌, ℤ, pos, negsuc, ◌+ℤ◌, ◌-ℤ◌, int_div, int_lt, Bool, true, false, not, ◌&&◌, if◌then◌else◌, List, [], ◌∷◌, ◌++◌, length, Option, Some, None, Result, Ok, Err}
+-- One step of a process: docs/MACHINE.md, "Steps".
+use Rattle.std.specs.Prelude.{ℕ, zero, suc, ◌+◌, ℤ, pos, negsuc, ◌+ℤ◌, ◌-ℤ◌, int_div, int_lt, Bool, true, false, not, ◌&&◌, if◌then◌else◌, List, [], ◌∷◌, ◌++◌, length, Option, Some, None, is_some, Result, Ok, Err}
 use Rattle.std.specs.Option.{unwrap_or}
 use Rattle.hep_source.specs.declared.event.Kind.{Kind}
 use Rattle.hep_source.specs.declared.event.Kind.TheVariants.{Undefined, Step}
@@ -309,3 +309,7 @@ wanted_of absent = None
 -- what process p waits for, where it lives and is disabled
 abbrev pub wanted_by : Units → ℕ → State → Option Wanted
 wanted_by program p s = wanted_of (turn_of program p s)
+
+-- p lives and its next step waits for a storage unit
+abbrev pub is_waiting : Units → State → ℕ → Bool
+is_waiting program s p = is_some (wanted_by program p s)

@@ -1,12 +1,12 @@
 -- The units of a program and their statements: X3.9-1978, 2.4 and 3.5.
-use Rattle.std.specs.Prelude.{ℕ, suc, ◌+◌, Bool, true, false, List, [], ◌∷◌, Option, Some, None, slice_get, drop, if◌then◌else◌}
-use Rattle.std.specs.Option.{option_map, unwrap_or}
+use Rattle.std.specs.Prelude.{ℕ, suc, ◌+◌, Bool, true, false, codes, List, [], ◌∷◌, map, Option, Some, None, slice_get, drop, if◌then◌else◌}
+use Rattle.std.specs.Option.{unwrap_or}
 use Rattle.hep_source.specs.declared.name.Name.{Name}
 use Rattle.hep_source.specs.declared.name.Place.{Place}
 use Rattle.hep_source.specs.declared.statement.Form.{Form}
 use Rattle.hep_source.specs.declared.statement.Form.TheVariants.{Program, Subroutine, Implicit, Declare, Dimension, Common, Parameter, Data}
 use Rattle.hep_source.specs.declared.statement.Statement.{Statement}
-use Rattle.hep_source.specs.Names.{spelling, same_name}
+use Rattle.hep_source.specs.Names.{spelling, same_name, index_where}
 use Rattle.hep_source.specs.Unreached.{no_unit, no_statement}
 
 -- a program: the statements of each unit, in the order of the source
@@ -19,9 +19,9 @@ unit_at program u = unwrap_or (slice_get program u) []
 
 -- ---- headers: 14.1 and 15.6.1
 
--- MAIN, the name of a main program without PROGRAM statement: 14.1
+-- how a main program without PROGRAM statement is called: docs/MACHINE.md, "Names and units"
 abbrev pub main_name : List ℕ
-main_name = 77 ∷ 65 ∷ 73 ∷ 78 ∷ []
+main_name = codes "MAIN"
 
 abbrev pub name_by_header : Form → List ℕ
 name_by_header (Program p) = spelling p.name
@@ -43,8 +43,7 @@ subroutine_name [] = None
 subroutine_name (s ∷ ss) = subroutine_by_header s.form
 
 abbrev pub names_of_places : List Place → List Name
-names_of_places [] = []
-names_of_places (p ∷ ps) = p.name ∷ names_of_places ps
+names_of_places ps = map (λ (p : Place). p.name) ps
 
 abbrev pub dummies_by_header : Form → List Name
 dummies_by_header (Subroutine p dummies) = names_of_places dummies
@@ -61,16 +60,14 @@ is_named (Some y) x = same_name y x
 
 -- the number of the subroutine of a name
 abbrev pub subroutine_called : Units → Name → Option ℕ
-subroutine_called [] x = None
-subroutine_called (u ∷ us) x = if is_named (subroutine_name u) x then Some 0 else option_map suc (subroutine_called us x)
+subroutine_called program x = index_where (λ unit. is_named (subroutine_name unit) x) program
 
 abbrev pub is_main : Option Name → Bool
 is_main None = true
 is_main (Some x) = false
 
 abbrev pub main_among : Units → Option ℕ
-main_among [] = None
-main_among (u ∷ us) = if is_main (subroutine_name u) then Some 0 else option_map suc (main_among us)
+main_among program = index_where (λ unit. is_main (subroutine_name unit)) program
 
 -- the number of the main program
 abbrev pub main_unit : Units → ℕ

@@ -28,7 +28,7 @@ use Rattle.hep_source.specs.Declarations.{is_array, is_dummy, is_common, is_cons
 use Rattle.hep_source.specs.Names.{with_names}
 use Rattle.hep_source.specs.Units.{dummies_of, names_of_places}
 
--- ---- where a statement names variables and constants, in the order of its text: section 18
+-- ---- where a statement names variables and constants, in the order of its text: docs/MACHINE.md, "Variables and frames"
 
 -- a name with a list is one only where the unit has that array
 abbrev pub array_place : List Statement → Place → List Place

@@ -23,7 +23,7 @@ pub enum Node {
     Constant(Value),
     /// A name without a list.
     Place(Place),
-    /// A name with a list in parentheses: an array element or a function reference (5.4.1, 15.2).
+    /// A name with a list in parentheses: an array element or a function reference (5.3, 15.2).
     Listed(Place, Vec<Expr>),
     Parenthesized(Box<Expr>),
     Signed(Sign, Box<Expr>),

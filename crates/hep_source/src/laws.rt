@@ -2,14 +2,14 @@
 ghost use Rattle.std.specs.Prelude.{◌≡◌, ◌≢◌, ◌⊎◌, ◌↔◌, ◌<◌, ◌≤◌, ◌+◌, ℕ, Bool, true, false, List, length, Some, None};
 ghost use Rattle.hep_source.specs.declared.event.Entry.{Entry};
 ghost use Rattle.hep_source.specs.Histories.{IsLegal};
-ghost use Rattle.hep_source.specs.Laws.{AreSteps, FillsNone, HasHeldChild, IsOnStack, IsSameOrOneMore, KeepsStatesBut, StandApart, is_purge, parent_of, state_replayed};
+ghost use Rattle.hep_source.specs.Laws.{FillsNone, HasHeldChild, IsOnStack, IsSameOrOneMore, KeepsStatesBut, StandApart, is_purge, state_replayed};
 ghost use Rattle.hep_source.specs.Layout.{is_held, Layout, layout_of, common_cells};
 ghost use Rattle.hep_source.specs.Opening.{opening};
-ghost use Rattle.hep_source.specs.Run.{turn, run, expand, state_after};
+ghost use Rattle.hep_source.specs.Run.{AreSteps, turn, run, expand, state_after};
 ghost use Rattle.hep_source.specs.State.{State, Location};
 ghost use Rattle.hep_source.specs.Step.{step};
 ghost use Rattle.hep_source.specs.Units.{Units};
-ghost use Rattle.hep_source.specs.Processes.{living, numbered};
+ghost use Rattle.hep_source.specs.Processes.{living, numbered, parent_of};
 
 /// A step of a process leaves the other processes as they are.
 pub fn other_processes_stay()

@@ -14,6 +14,7 @@ pub mod operator;
 pub mod program;
 pub mod record;
 pub mod sequence;
+pub mod shape;
 pub mod statement;
 pub mod syntax;
 pub mod text;
@@ -31,6 +32,7 @@ pub use operator::{ArithmeticOperator, LogicalOperator, Operator, RelationalOper
 pub use program::{Program, Unit};
 pub use record::{Item, Record};
 pub use sequence::Sequence;
+pub use shape::Bound;
 pub use statement::{DoControl, Form, PrintItem, SignLabels, Statement};
 pub use syntax::Syntax;
 pub use text::Text;

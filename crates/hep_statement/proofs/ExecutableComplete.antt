@@ -10,13 +10,13 @@ use Rattle.hep_source.specs.declared.statement.DoControl.{DoControl}
 use Rattle.hep_source.specs.declared.statement.SignLabels.{SignLabels}
 use Rattle.hep_source.specs.declared.statement.Form.TheVariants.{Assign, GoTo, ComputedGoTo, ArithmeticIf, IfThen, ElseIf, Do, Call, Create, Purge, Print, Stop}
 use Rattle.hep_expression.specs.declared.characters.Context.{Context}
-use Rattle.hep_expression.specs.Characters.{is_digit, is_letter, is_letter_or_digit, IsDigits, decimal, ReadsPlace, ReadsPlainPlace}
-use Rattle.hep_expression.specs.Expression.{Reads, IsExpression, equivalence}
+use Rattle.hep_expression.specs.Characters.{is_digit, is_letter, is_letter_or_digit, IsDigits, number_of_digits, ReadsPlace, ReadsPlainPlace}
+use Rattle.hep_expression.specs.Expression.{ReadsExpression, Reads, IsExpression, equivalence}
 use Rattle.hep_expression.specs.Reading.{begins, place_at}
 use Rattle.hep_expression.specs.ReadingExpression.{expression_at}
 use Rattle.hep_expression.proofs.Complete.{letter_is_no_digit, place_read, plain_place_read, AfterExpression, after_end, after_comma, after_parenthesis, expression_read, whole_expression_read}
 use Rattle.hep_declaration.specs.Lists.{AreBehind, AreListed, AreEnclosed, AreArguments, IsOptionalComma}
-use Rattle.hep_declaration.specs.Declaration.{ReadsExpression, ReadsTarget}
+use Rattle.hep_declaration.specs.Declaration.{ReadsTarget}
 use Rattle.hep_declaration.specs.Label.{ReadsLabel}
 use Rattle.hep_declaration.specs.Constant.{ReadsItem}
 use Rattle.hep_statement.specs.Executable.{IsAssignment, AreLimits, IsStopText}
@@ -159,7 +159,7 @@ digits_stop : (s : List ℕ) → IsDigits s → length s ≤ 5 → stop s ≡ So
 unfolding stop
 digits_stop [] h le = absurd h
 digits_stop (c ∷ s) h le =
-    let found : few_digits_at (c ∷ s) ≡ Some (decimal (c ∷ s), []) = ap few_digits_at (sym (append-nil (c ∷ s))) ∙ few_read (c ∷ s) [] h le refl in
+    let found : few_digits_at (c ∷ s) ≡ Some (number_of_digits (c ∷ s), []) = ap few_digits_at (sym (append-nil (c ∷ s))) ∙ few_read (c ∷ s) [] h le refl in
     rw found refl
 
 pub stop_read : (s : List ℕ) → IsStopText s → stop s ≡ Some Stop

@@ -8,13 +8,13 @@ use Rattle.hep_source.specs.declared.statement.Form.{Form}
 use Rattle.hep_source.specs.declared.statement.Form.TheVariants.{Assign, GoTo, ComputedGoTo, ArithmeticIf, IfThen, ElseIf, Do, Call, Create, Purge, Print, Stop}
 use Rattle.hep_expression.specs.declared.characters.Context.{Context}
 use Rattle.hep_expression.specs.Characters.{ReadsPlace, IsDigits}
-use Rattle.hep_expression.specs.Expression.{Reads, equivalence}
+use Rattle.hep_expression.specs.Expression.{ReadsExpression, Reads, equivalence}
 use Rattle.hep_expression.specs.Reading.{◌>>=◌, if_some, all_read, after, after_text, place_at, plain_place_at}
 use Rattle.hep_expression.specs.ReadingExpression.{expression_at, whole_expression}
 use Rattle.hep_expression.proofs.Leaves.{bind_some, either_some, some_is, after_is, text_is, is_place, is_plain_place, place_fits, fits}
 use Rattle.hep_expression.proofs.Sound.{expression_at_sound, is_expression}
 use Rattle.hep_declaration.specs.Lists.{AreBehind, AreListed}
-use Rattle.hep_declaration.specs.Declaration.{ReadsExpression, ReadsTarget}
+use Rattle.hep_declaration.specs.Declaration.{ReadsTarget}
 use Rattle.hep_declaration.specs.Label.{ReadsLabel}
 use Rattle.hep_declaration.specs.Constant.{quoted, ReadsItem}
 use Rattle.hep_statement.specs.Executable.{AreLimits, IsStopText}

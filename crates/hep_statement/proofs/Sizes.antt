@@ -23,10 +23,10 @@ use Rattle.hep_source.specs.declared.statement.Form.TheVariants.{Program, Subrou
 use Rattle.hep_expression.specs.declared.characters.Sizes.{Sizes}
 use Rattle.hep_expression.specs.declared.characters.Sizes.TheVariants.{Fitting, Any}
 use Rattle.hep_expression.specs.declared.characters.Context.{Context}
-use Rattle.hep_expression.specs.Characters.{decimal, greatest, IsInteger, ReadsPlace}
-use Rattle.hep_expression.specs.Expression.{Reads, ReadsAll, equivalence, relation, left, right, operand, spelling}
+use Rattle.hep_expression.specs.Characters.{number_of_digits, greatest, IsInteger, ReadsPlace}
+use Rattle.hep_expression.specs.Expression.{ReadsExpression, Reads, ReadsAll, equivalence, relation, left, right, term, spelling}
 use Rattle.hep_declaration.specs.Lists.{AreBehind, AreListed, AreEnclosed, AreOptional, AreArguments}
-use Rattle.hep_declaration.specs.Declaration.{ReadsExpression, ReadsUpper, ReadsLower, ReadsDimension, ReadsDeclarator, ReadsArrayDeclarator, ReadsBlockName, AreMoreBlocks, ReadsFirstName, AreBlocks, ReadsNamedConstant, ReadsTarget, ReadsDataConstant, ReadsRepeat, ReadsDataValue, ReadsGroup, AreMoreGroups, AreGroups}
+use Rattle.hep_declaration.specs.Declaration.{ReadsUpper, ReadsLower, ReadsDimension, ReadsDeclarator, ReadsArrayDeclarator, ReadsBlockName, AreMoreBlocks, ReadsFirstName, AreBlocks, ReadsNamedConstant, ReadsTarget, ReadsDataConstant, ReadsRepeat, ReadsDataValue, ReadsGroup, AreMoreGroups, AreGroups}
 use Rattle.hep_declaration.specs.Constant.{ReadsItem}
 use Rattle.hep_statement.specs.Executable.{AreLimits}
 use Rattle.hep_statement.specs.declared.rule.Rule.{Rule}
@@ -69,7 +69,7 @@ module _ (n : ℕ) where
 
   any_integer : (d : List ℕ) (v : ℤ) → IsInteger Fitting d v → IsInteger Any d v
   any_integer d v h =
-      let same : min (decimal d) greatest ≡ decimal d = omega (arith, h.0) in
+      let same : min (number_of_digits d) greatest ≡ number_of_digits d = omega (arith, h.0) in
       rw same h.1
 
   mutual
@@ -79,7 +79,7 @@ module _ (n : ℕ) where
     any_reads (place p) l s r h = h
     any_reads (listed p ts) l s r h = (h.0, h.1, any_all ts h.0 r h.2)
     any_reads (parenthesized t) l s r h = (h.0, h.1, any_reads t equivalence h.0 (codes ")" ++ r) h.2)
-    any_reads (signed g t) l s r h = (h.0, h.1, h.2, any_reads t (operand g) h.1 r h.3)
+    any_reads (signed g t) l s r h = (h.0, h.1, h.2, any_reads t term h.1 r h.3)
     any_reads (negated t) l s r h = (h.0, h.1, h.2, any_reads t relation h.1 r h.3)
     any_reads (binary o a b) l s r h = (h.0, h.1, any_reads a (left o) s (spelling o ++ h.1) h.2, any_reads b (right o) h.1 r h.3)
 

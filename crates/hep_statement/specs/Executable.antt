@@ -8,15 +8,15 @@ use Rattle.hep_source.specs.declared.statement.DoControl.{DoControl}
 use Rattle.hep_source.specs.declared.statement.SignLabels.{SignLabels}
 use Rattle.hep_expression.specs.declared.characters.Context.{Context}
 use Rattle.hep_expression.specs.Characters.{ReadsPlace, IsDigits}
-use Rattle.hep_expression.specs.Expression.{Reads, IsExpression, equivalence}
+use Rattle.hep_expression.specs.Expression.{ReadsExpression, IsExpression}
 use Rattle.hep_declaration.specs.Lists.{AreBehind, AreEnclosed, IsOptionalComma}
-use Rattle.hep_declaration.specs.Label.{ReadsLabel}
+use Rattle.hep_declaration.specs.Label.{most_digits, ReadsLabel}
 use Rattle.hep_declaration.specs.Constant.{ReadsCharacters, ReadsItem}
 use Rattle.hep_declaration.specs.Declaration.{ReadsTarget}
 
 -- what may stand behind STOP: nothing, one to five digits, or a character constant (11.12)
 abbrev pub IsStopText : List ℕ → Type 0
-IsStopText s = (s ≡ []) ⊎ (IsDigits s × (length s ≤ 5)) ⊎ ((t : List ℕ) × ReadsCharacters t s [])
+IsStopText s = (s ≡ []) ⊎ (IsDigits s × (length s ≤ most_digits)) ⊎ ((t : List ℕ) × ReadsCharacters t s [])
 
 module _ (k : Context) where
   -- ---- PRINT (12.8)
@@ -44,23 +44,23 @@ module _ (k : Context) where
   abbrev pub IsArithmeticIf : Tree → SignLabels → List ℕ → Type 0
   IsArithmeticIf t x s =
       (m : List ℕ) × (n : List ℕ) × (p : List ℕ) × (q : List ℕ) × (s ≡ codes "IF(" ++ m)
-      × Reads k t equivalence m (codes ")" ++ n) × ReadsLabel x.negative n (codes "," ++ p)
+      × ReadsExpression k t m (codes ")" ++ n) × ReadsLabel x.negative n (codes "," ++ p)
       × ReadsLabel x.zero p (codes "," ++ q) × ReadsLabel x.positive q []
 
   abbrev pub IsIfThen : Tree → List ℕ → Type 0
-  IsIfThen t s = (m : List ℕ) × (s ≡ codes "IF(" ++ m) × Reads k t equivalence m (codes ")THEN")
+  IsIfThen t s = (m : List ℕ) × (s ≡ codes "IF(" ++ m) × ReadsExpression k t m (codes ")THEN")
 
   abbrev pub IsElseIf : Tree → List ℕ → Type 0
-  IsElseIf t s = (m : List ℕ) × (s ≡ codes "ELSEIF(" ++ m) × Reads k t equivalence m (codes ")THEN")
+  IsElseIf t s = (m : List ℕ) × (s ≡ codes "ELSEIF(" ++ m) × ReadsExpression k t m (codes ")THEN")
 
-  -- ---- DO (11.10.1)
+  -- ---- DO (11.10)
 
   abbrev pub AreLimits : Tree → Option Tree → List ℕ → Type 0
   AreLimits t None s = IsExpression k s t
-  AreLimits t (Some u) s = (m : List ℕ) × Reads k t equivalence s (codes "," ++ m) × IsExpression k m u
+  AreLimits t (Some u) s = (m : List ℕ) × ReadsExpression k t s (codes "," ++ m) × IsExpression k m u
 
   abbrev pub IsDo : DoControl → List ℕ → Type 0
   IsDo x s =
       (m : List ℕ) × (n : List ℕ) × (p : List ℕ) × (q : List ℕ) × (l : List ℕ) × (s ≡ codes "DO" ++ m)
       × ReadsLabel x.terminal m n × IsOptionalComma n p × ReadsPlace k x.variable p (codes "=" ++ q)
-      × Reads k x.initial equivalence q (codes "," ++ l) × AreLimits x.limit x.increment l
+      × ReadsExpression k x.initial q (codes "," ++ l) × AreLimits x.limit x.increment l

@@ -1,13 +1,14 @@
--- Reading the forms of executable statements, as functions on lists.
+-- Reading the forms of executable statements, as functions on lists (docs/ARCHITECTURE.md, "Forms").
 use Rattle.std.specs.Prelude.{ℕ, codes, List, [], ◌∷◌, Option, Some, None}
 use Rattle.hep_source.specs.Tree.{Tree}
 use Rattle.hep_source.specs.declared.statement.SignLabels.{SignLabels}
 use Rattle.hep_source.specs.declared.statement.Form.{Form}
 use Rattle.hep_source.specs.declared.statement.Form.TheVariants.{Assign, GoTo, ComputedGoTo, ArithmeticIf, IfThen, ElseIf, Do, Call, Create, Purge, Print, Stop}
 use Rattle.hep_expression.specs.declared.characters.Context.{Context}
-use Rattle.hep_expression.specs.Reading.{◌>>=◌, if_some, all_read, after, after_text, place_at, plain_place_at}
+use Rattle.hep_expression.specs.Characters.{apostrophe, right_parenthesis, comma, equals}
+use Rattle.hep_expression.specs.Reading.{Reader, ◌>>=◌, if_some, all_read, after, after_text, place_at, plain_place_at}
 use Rattle.hep_expression.specs.ReadingExpression.{expression_at, whole_expression}
-use Rattle.hep_declaration.specs.ReadingLists.{Reader, whole, listed, enclosed, arguments, behind_optional_comma}
+use Rattle.hep_declaration.specs.ReadingLists.{whole, listed, enclosed, arguments, behind_optional_comma}
 use Rattle.hep_declaration.specs.ReadingLabel.{few_digits_at, label_at, label_part}
 use Rattle.hep_declaration.specs.ReadingConstant.{constant_behind, item_at}
 use Rattle.hep_declaration.specs.ReadingTarget.{expression_part, target_at}
@@ -15,12 +16,12 @@ use Rattle.hep_declaration.specs.ReadingTarget.{expression_part, target_at}
 -- ---- PRINT
 
 unfoldable pub print : Context → List ℕ → Option Form
-print k s = elim (after 44 s) [ None ↦ all_read (Print []) s | Some m ↦ whole Print (listed (item_at k) m) ]
+print k s = elim (after comma s) [ None ↦ all_read (Print []) s | Some m ↦ whole Print (listed (item_at k) m) ]
 
 -- ---- assignment
 
 unfoldable pub assignment : Context → List ℕ → Option Form
-assignment k s = target_at k s >>= λ x. after 61 x.1 >>= λ m. whole_expression k m >>= λ t. Some (Assign x.0 t)
+assignment k s = target_at k s >>= λ x. after equals x.1 >>= λ m. whole_expression k m >>= λ t. Some (Assign x.0 t)
 
 -- ---- GO TO
 
@@ -34,12 +35,12 @@ go_to k s = if_some (label_at s) (λ x. all_read (GoTo x.0) x.1) (computed_go_to
 
 abbrev pub sign_labels : List ℕ → Option SignLabels
 sign_labels s =
-    label_at s >>= λ x. after 44 x.1 >>= λ p. label_at p >>= λ y. after 44 y.1 >>= λ q. label_at q >>= λ z.
+    label_at s >>= λ x. after comma x.1 >>= λ p. label_at p >>= λ y. after comma y.1 >>= λ q. label_at q >>= λ z.
     all_read (record { negative = x.0; zero = y.0; positive = z.0 }) z.1
 
 -- a condition and the parenthesis that closes it
 unfoldable pub condition_at : Context → Reader Tree
-condition_at k s = expression_at k s >>= λ x. after 41 x.1 >>= λ r. Some (x.0, r)
+condition_at k s = expression_at k s >>= λ x. after right_parenthesis x.1 >>= λ r. Some (x.0, r)
 
 -- the same behind `IF(`
 abbrev pub if_condition_at : Context → Reader Tree
@@ -64,12 +65,12 @@ else_if k s = condition_at k s >>= λ x. before_then x >>= λ t. Some (ElseIf t)
 unfoldable pub limits : Context → List ℕ → Option (Tree × Option Tree)
 limits k s =
     expression_at k s >>= λ x.
-    if_some (after 44 x.1) (λ m. whole_expression k m >>= λ u. Some (x.0, Some u)) (all_read (x.0, None) x.1)
+    if_some (after comma x.1) (λ m. whole_expression k m >>= λ u. Some (x.0, Some u)) (all_read (x.0, None) x.1)
 
 unfoldable pub do_loop : Context → List ℕ → Option Form
 do_loop k s =
-    label_at s >>= λ x. place_at k (behind_optional_comma x.1) >>= λ v. after 61 v.1 >>= λ q. expression_at k q >>= λ a.
-    after 44 a.1 >>= λ l. limits k l >>= λ y.
+    label_at s >>= λ x. place_at k (behind_optional_comma x.1) >>= λ v. after equals v.1 >>= λ q. expression_at k q >>= λ a.
+    after comma a.1 >>= λ l. limits k l >>= λ y.
     Some (Do (record { terminal = x.0; variable = v.0; initial = a.0; limit = y.0; increment = y.1 }))
 
 -- ---- CALL, CREATE and PURGE
@@ -86,7 +87,7 @@ purge k s = whole Purge (listed (target_at k) s)
 -- ---- STOP
 
 abbrev pub digits_or_characters : List ℕ → Option Form
-digits_or_characters s = if_some (few_digits_at s) (λ x. all_read Stop x.1) (after 39 s >>= λ m. constant_behind m >>= λ x. all_read Stop x.1)
+digits_or_characters s = if_some (few_digits_at s) (λ x. all_read Stop x.1) (after apostrophe s >>= λ m. constant_behind m >>= λ x. all_read Stop x.1)
 
 unfoldable pub stop : List ℕ → Option Form
 stop s = elim s [ [] ↦ Some Stop | c ∷ m ↦ digits_or_characters (c ∷ m) ]

@@ -1,6 +1,6 @@
--- Reading the words with which a form of statement begins, as functions on lists.
-use Rattle.std.specs.Prelude.{ℕ, codes, List, [], ◌∷◌, Option}
-use Rattle.hep_expression.specs.Reading.{one_of}
+-- Reading the words with which a form of statement begins, as functions on lists (docs/ARCHITECTURE.md, "Forms").
+use Rattle.std.specs.Prelude.{ℕ, codes, List, [], ◌∷◌}
+use Rattle.hep_expression.specs.Reading.{Reader, one_of}
 use Rattle.hep_statement.specs.declared.keyword.Keyword.{Keyword}
 use Rattle.hep_statement.specs.declared.keyword.Keyword.TheVariants.{Program, Subroutine, Implicit, Integer, Logical, Dimension, Common, Parameter, Data, GoTo, ElseIf, Else, EndIf, End, Do, Call, Create, Purge, Print, Continue, Return, Stop}
 
@@ -34,8 +34,8 @@ keywords =
     Program ∷ Subroutine ∷ Implicit ∷ Integer ∷ Logical ∷ Dimension ∷ Common ∷ Parameter ∷ Data ∷ GoTo ∷ ElseIf ∷ Else
     ∷ EndIf ∷ End ∷ Do ∷ Call ∷ Create ∷ Purge ∷ Print ∷ Continue ∷ Return ∷ Stop ∷ []
 
-abbrev pub keyword_among : List Keyword → List ℕ → Option (Keyword × List ℕ)
+abbrev pub keyword_among : List Keyword → Reader Keyword
 keyword_among among s = one_of spelling among s
 
-abbrev pub keyword_at : List ℕ → Option (Keyword × List ℕ)
+abbrev pub keyword_at : Reader Keyword
 keyword_at s = keyword_among keywords s

@@ -1,4 +1,4 @@
--- Finding the rule of a statement, as functions on lists.
+-- Finding the rule of a statement, as functions on lists (docs/ARCHITECTURE.md, "Forms").
 use Rattle.std.specs.Prelude.{ℕ, Bool, false, codes, List, Option, Some, None}
 use Rattle.hep_expression.specs.Reading.{◌>>=◌, after_text}
 use Rattle.hep_statement.specs.Statement.{behind_closing}

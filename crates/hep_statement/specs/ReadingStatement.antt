@@ -1,4 +1,4 @@
--- Reading a statement, as functions on lists.
+-- Reading a statement, as functions on lists (docs/ARCHITECTURE.md, "Forms").
 use Rattle.std.specs.Prelude.{ℕ, zero, suc, nat_eq, Bool, true, if◌then◌else◌, List, [], ◌∷◌, length, Option, Some, None}
 use Rattle.std.specs.Cmp.Lexicographic.{pointwise}
 use Rattle.hep_source.specs.Tree.{Tree}
@@ -7,7 +7,7 @@ use Rattle.hep_source.specs.declared.statement.Form.{Form}
 use Rattle.hep_source.specs.declared.statement.Form.TheVariants as forms
 use Rattle.hep_expression.specs.declared.characters.Sizes.{Sizes}
 use Rattle.hep_expression.specs.declared.characters.Context.{Context}
-use Rattle.hep_expression.specs.Reading.{◌>>=◌, all_read}
+use Rattle.hep_expression.specs.Reading.{Reader, ◌>>=◌, all_read}
 use Rattle.hep_statement.specs.Statement.{rule_of, context}
 use Rattle.hep_statement.specs.ReadingRule.{behind_if}
 use Rattle.hep_statement.specs.declared.rule.Rule.{Rule}
@@ -49,16 +49,9 @@ behind_word k words.Print s = print k s
 behind_word k words.Continue s = all_read forms.Continue s
 behind_word k words.Return s = all_read forms.Return s
 behind_word k words.Stop s = stop s
-behind_word k words.Program s = declaration k words.Program s
-behind_word k words.Subroutine s = declaration k words.Subroutine s
-behind_word k words.Implicit s = declaration k words.Implicit s
-behind_word k words.Integer s = declaration k words.Integer s
-behind_word k words.Logical s = declaration k words.Logical s
-behind_word k words.Dimension s = declaration k words.Dimension s
-behind_word k words.Common s = declaration k words.Common s
-behind_word k words.Parameter s = declaration k words.Parameter s
-behind_word k words.Data s = declaration k words.Data s
+behind_word k w s = declaration k w s
 
+-- a form that begins with its word
 unfoldable pub worded : Context → List ℕ → Option Form
 worded k s = keyword_at s >>= λ x. behind_word k x.0 x.1
 
@@ -78,12 +71,13 @@ abbrev pub closed_there : Option (List ℕ) → Tree × List ℕ → Option (Tre
 closed_there None x = None
 closed_there (Some r) x = if pointwise nat_eq x.1 r then Some x else None
 
-abbrev pub held_by : Context → Rule → List ℕ → Option (Tree × List ℕ)
+-- the condition of a logical IF, and the statement that it holds, where the rule is that of one
+abbrev pub held_by : Context → Rule → Reader Tree
 held_by k LogicalIf s = if_condition_at k s >>= closed_there (behind_if s)
 held_by k _ s = None
 
 -- the condition of a logical IF, and the statement that it holds
-unfoldable pub logical_if : Context → List ℕ → Option (Tree × List ℕ)
+unfoldable pub logical_if : Context → Reader Tree
 logical_if k s = held_by k (rule_of s) s
 
 -- a condition with those behind it, or none

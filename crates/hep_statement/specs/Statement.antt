@@ -1,16 +1,16 @@
 -- Which form a statement has (docs/LANGUAGE.md, 'Which form a statement has').
-use Rattle.std.specs.Prelude.{◌≡◌, ℕ, zero, suc, ◌&&◌, not, nat_eq, nat_le, Bool, true, false, if◌then◌else◌, codes, List, [], ◌∷◌, ◌++◌, length, Option, Some, None}
+use Rattle.std.specs.Prelude.{◌≡◌, ℕ, zero, suc, ◌&&◌, ◌||◌, not, nat_eq, nat_le, Bool, true, false, if◌then◌else◌, codes, List, [], ◌∷◌, ◌++◌, length, Option, Some, None}
 use Rattle.hep_source.specs.Tree.{Tree}
 use Rattle.hep_source.specs.Units.{is_executable}
 use Rattle.hep_source.specs.declared.statement.Form.{Form}
 use Rattle.hep_source.specs.declared.statement.Form.TheVariants.{Program, Subroutine, Implicit, Declare, Dimension, Common, Parameter, Data, Assign, GoTo, ComputedGoTo, ArithmeticIf, IfThen, ElseIf, Else, EndIf, Do, Call, Create, Purge, Print, Continue, Return, Stop, End}
 use Rattle.hep_expression.specs.declared.characters.Sizes.{Sizes}
 use Rattle.hep_expression.specs.declared.characters.Context.{Context}
-use Rattle.hep_expression.specs.Characters.{is_digit, ReadsPlace, ReadsPlainPlace}
-use Rattle.hep_expression.specs.Expression.{Reads, equivalence}
+use Rattle.hep_expression.specs.Characters.{apostrophe, left_parenthesis, right_parenthesis, comma, equals, is_digit, ReadsPlace, ReadsPlainPlace}
+use Rattle.hep_expression.specs.Expression.{ReadsExpression}
 use Rattle.hep_expression.specs.Reading.{after_text}
 use Rattle.hep_declaration.specs.Lists.{AreListed, AreEnclosed, AreArguments}
-use Rattle.hep_declaration.specs.Declaration.{type_spelling, ReadsImplicit, ReadsExpression, ReadsDeclarator, ReadsArrayDeclarator, AreBlocks, ReadsNamedConstant, ReadsTarget, AreGroups}
+use Rattle.hep_declaration.specs.Declaration.{type_spelling, ReadsImplicit, ReadsDeclarator, ReadsArrayDeclarator, AreBlocks, ReadsNamedConstant, ReadsTarget, AreGroups}
 use Rattle.hep_statement.specs.Executable.{IsPrint, IsAssignment, IsGoTo, IsComputedGoTo, IsArithmeticIf, IsIfThen, IsElseIf, IsDo, IsStopText}
 use Rattle.hep_statement.specs.declared.rule.Rule.{Rule}
 use Rattle.hep_statement.specs.declared.rule.Rule.TheVariants.{Assignment, BlockIf, SignIf, LogicalIf, Unclosed, Worded}
@@ -18,36 +18,32 @@ use Rattle.hep_statement.specs.declared.rule.Scan.{Scan}
 
 -- ---- the rules
 
--- What stands behind the parenthesis that closes those that are open, so many of them, character
--- constants passed over (39 is an apostrophe, 40 and 41 are parentheses).
+-- What stands behind the parenthesis that closes those that are open: one, and so many more.
+-- Character constants are passed over.
 abbrev pub behind_closing : ℕ → Bool → List ℕ → Option (List ℕ)
 behind_closing depth quoted [] = None
-behind_closing depth true (c ∷ s) = behind_closing depth (not (nat_eq c 39)) s
+behind_closing depth true (c ∷ s) = behind_closing depth (not (nat_eq c apostrophe)) s
 behind_closing zero false (c ∷ s) =
-    if nat_eq c 41 then Some s else behind_closing (if nat_eq c 40 then 1 else 0) (nat_eq c 39) s
+    if nat_eq c right_parenthesis then Some s else behind_closing (if nat_eq c left_parenthesis then 1 else 0) (nat_eq c apostrophe) s
 behind_closing (suc depth) false (c ∷ s) =
-    behind_closing (if nat_eq c 41 then depth else if nat_eq c 40 then suc (suc depth) else suc depth) (nat_eq c 39) s
+    behind_closing (if nat_eq c right_parenthesis then depth else if nat_eq c left_parenthesis then suc (suc depth) else suc depth) (nat_eq c apostrophe) s
 
 -- where a text has come to: how many parentheses were opened and closed, within a character
--- constant or not, whether `=` (61) was found outside both, and a comma (44) there behind it
+-- constant or not, whether `=` was found outside both, and a comma there behind it
 abbrev pub beginning : Scan
 beginning = record { opened = 0; closed = 0; quoted = false; equals = false; comma = false }
 
 abbrev pub is_outside : Scan → Bool
 is_outside x = nat_le x.opened x.closed && not x.quoted
 
-abbrev pub either : Bool → Bool → Bool
-either true b = true
-either false b = b
-
 abbrev pub behind_character : Scan → ℕ → Scan
 behind_character x c =
     record {
-      opened = if nat_eq c 40 && not x.quoted then suc x.opened else x.opened;
-      closed = if nat_eq c 41 && not x.quoted then suc x.closed else x.closed;
-      quoted = if nat_eq c 39 then not x.quoted else x.quoted;
-      equals = either x.equals (is_outside x && nat_eq c 61);
-      comma = either x.comma (x.equals && is_outside x && nat_eq c 44);
+      opened = if nat_eq c left_parenthesis && not x.quoted then suc x.opened else x.opened;
+      closed = if nat_eq c right_parenthesis && not x.quoted then suc x.closed else x.closed;
+      quoted = if nat_eq c apostrophe then not x.quoted else x.quoted;
+      equals = x.equals || (is_outside x && nat_eq c equals);
+      comma = x.comma || (x.equals && is_outside x && nat_eq c comma);
     }
 
 abbrev pub scanned : Scan → List ℕ → Scan
@@ -67,7 +63,7 @@ abbrev pub rule_behind : Option (List ℕ) → Rule
 rule_behind None = Unclosed
 rule_behind (Some []) = LogicalIf
 rule_behind (Some (c ∷ s)) =
-    if nat_eq c 61 then Assignment
+    if nat_eq c equals then Assignment
     else if is_digit c then SignIf
     else if is_nothing (after_text (codes "THEN") (c ∷ s)) then BlockIf else LogicalIf
 
@@ -136,7 +132,7 @@ module _ (k : Context) where
   abbrev pub IsLogicalIf : Tree → List ℕ → List ℕ → Type 0
   IsLogicalIf t s r =
       (m : List ℕ) × (s ≡ codes "IF(" ++ m) × (rule_of s ≡ LogicalIf) × (behind_closing 0 false m ≡ Some r)
-      × Reads k t equivalence m (codes ")" ++ r)
+      × ReadsExpression k t m (codes ")" ++ r)
 
   -- The whole text has this form, behind these conditions of logical IFs; a logical IF holds an
   -- executable statement.

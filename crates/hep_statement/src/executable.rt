@@ -39,9 +39,7 @@ pub fn assignment(alloc: Global, context: Context, s: &[u8]) -> Result<Form, Unr
     ensures { Gives (λ x. x) result (reading.assignment context s.now) }
 {
     let (target, rest) = Target::read(alloc, context, s)?;
-    let Some(behind) = after(b'=', rest) else {
-        return Err(Unread::NoReading);
-    };
+    let behind = after(b'=', rest).ok_or(Unread::NoReading)?;
     let value = whole_expression(alloc, context, behind)?;
     Ok(Form::Assign(target, value))
 }
@@ -193,19 +191,11 @@ fn limits(alloc: Global, context: Context, s: &[u8]) -> Result<(Expr, Option<Exp
 pub fn do_loop(alloc: Global, context: Context, s: &[u8]) -> Result<Form, Unread>
     ensures { Gives (λ x. x) result (reading.do_loop context s.now) }
 {
-    let Some((terminal, rest)) = label_at(s) else {
-        return Err(Unread::NoReading);
-    };
-    let Some((variable, rest)) = place_at(context, behind_optional_comma(rest)) else {
-        return Err(Unread::NoReading);
-    };
-    let Some(rest) = after(b'=', rest) else {
-        return Err(Unread::NoReading);
-    };
+    let (terminal, rest) = label_at(s).ok_or(Unread::NoReading)?;
+    let (variable, rest) = place_at(context, behind_optional_comma(rest)).ok_or(Unread::NoReading)?;
+    let rest = after(b'=', rest).ok_or(Unread::NoReading)?;
     let (initial, rest) = expression_at(alloc, context, rest)?;
-    let Some(rest) = after(b',', rest) else {
-        return Err(Unread::NoReading);
-    };
+    let rest = after(b',', rest).ok_or(Unread::NoReading)?;
     let (limit, increment) = limits(alloc, context, rest)?;
     Ok(Form::Do(DoControl {
         terminal,
@@ -225,9 +215,7 @@ pub fn do_loop(alloc: Global, context: Context, s: &[u8]) -> Result<Form, Unread
 pub fn call(alloc: Global, context: Context, s: &[u8]) -> Result<Form, Unread>
     ensures { Gives (λ x. x) result (reading.call context s.now) }
 {
-    let Some((subroutine, rest)) = plain_place_at(context, s) else {
-        return Err(Unread::NoReading);
-    };
+    let (subroutine, rest) = plain_place_at(context, s).ok_or(Unread::NoReading)?;
     let actuals = arguments::<Expr>(alloc, context, rest)?;
     Ok(Form::Call(subroutine, Sequence::from(actuals)))
 }
@@ -241,9 +229,7 @@ pub fn call(alloc: Global, context: Context, s: &[u8]) -> Result<Form, Unread>
 pub fn create(alloc: Global, context: Context, s: &[u8]) -> Result<Form, Unread>
     ensures { Gives (λ x. x) result (reading.create context s.now) }
 {
-    let Some((subroutine, rest)) = plain_place_at(context, s) else {
-        return Err(Unread::NoReading);
-    };
+    let (subroutine, rest) = plain_place_at(context, s).ok_or(Unread::NoReading)?;
     let actuals = arguments::<Expr>(alloc, context, rest)?;
     Ok(Form::Create(subroutine, Sequence::from(actuals)))
 }
@@ -274,9 +260,7 @@ pub fn stop(alloc: Global, s: &[u8]) -> Result<Form, Unread>
     if let Some((_digits, rest)) = few_digits_at(s) {
         return all_read(Form::Stop, rest);
     }
-    let Some(behind) = after(b'\'', s) else {
-        return Err(Unread::NoReading);
-    };
+    let behind = after(b'\'', s).ok_or(Unread::NoReading)?;
     let (_characters, rest) = constant_behind(alloc, behind)?;
     all_read(Form::Stop, rest)
 }

@@ -7,29 +7,49 @@ use hep_expression::characters::after_text;
 /// A word with which a form of statement begins (docs/LANGUAGE.md).
 #[derive(Clone, Copy, Debug, PartialEq, Eq)]
 pub enum Keyword {
+    /// PROGRAM (X3.9-1978, 14.1).
     Program,
+    /// SUBROUTINE (15.6.1).
     Subroutine,
+    /// IMPLICIT (8.5).
     Implicit,
+    /// INTEGER (8.4.1).
     Integer,
+    /// LOGICAL (8.4.1).
     Logical,
+    /// DIMENSION (8.1).
     Dimension,
+    /// COMMON (8.3).
     Common,
+    /// PARAMETER (8.6).
     Parameter,
+    /// DATA (section 9).
     Data,
+    /// GO TO, of both kinds (11.1 and 11.2).
     GoTo,
-    /// With its parenthesis.
+    /// ELSE IF with its parenthesis (11.7).
     ElseIf,
+    /// ELSE (11.8).
     Else,
+    /// END IF (11.9).
     EndIf,
+    /// END (11.14).
     End,
+    /// DO (11.10).
     Do,
+    /// CALL (15.6.2).
     Call,
+    /// CREATE, which begins a process (docs/LANGUAGE.md).
     Create,
+    /// PURGE, which makes variables empty (docs/LANGUAGE.md).
     Purge,
-    /// With its star.
+    /// PRINT with its star (12.8).
     Print,
+    /// CONTINUE (11.11).
     Continue,
+    /// RETURN (15.8).
     Return,
+    /// STOP (11.12).
     Stop,
 }
 

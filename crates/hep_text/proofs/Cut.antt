@@ -3,17 +3,18 @@ use Rattle.std.proofs.Common.{◌≡◌, ℕ, zero, suc, ◌+◌, ◌<◌, ◌�
 use Rattle.std.specs.Prelude.{nat_eq, ◌-◌, ◌&&◌}
 use Rattle.std.proofs.Math.Seq.{take-length, drop-length}
 use Rattle.std.proofs.lemmas.List.{length-drop, take_all, drop_all}
-use Rattle.hep_text.specs.Line.{lines, with_byte}
+use Rattle.std.specs.List.{onto_first}
+use Rattle.hep_text.specs.Line.{lines}
 
 -- bytes in front of the first of some lines
 abbrev pub with_bytes : List ℕ → List (List ℕ) → List (List ℕ)
 with_bytes [] ls = ls
-with_bytes (c ∷ cs) ls = with_byte c (with_bytes cs ls)
+with_bytes (c ∷ cs) ls = onto_first c (with_bytes cs ls)
 
 step : (s : List ℕ) (i : ℕ) → i < length s → nat_eq (get_or s i 0) 10 ≡ false → (nat_eq (get_or s i 0) 13 && nat_eq (get_or s (suc i) 32) 10) ≡ false → with_bytes (take i s) (lines (drop i s)) ≡ with_bytes (take (suc i) s) (lines (drop (suc i) s))
 step [] i h e f = absurd (omega arith)
 step (c ∷ s) zero h e f = rw (e, f) refl
-step (c ∷ s) (suc i) h e f = ap (with_byte c) (step s i (omega arith) e f)
+step (c ∷ s) (suc i) h e f = ap (onto_first c) (step s i (omega arith) e f)
 
 pub goes_on : (s : List ℕ) (i : ℕ) → i < length s → nat_eq (get_or s i 0) 10 ≡ false → (nat_eq (get_or s i 0) 13 && nat_eq (get_or s (i + 1) 32) 10) ≡ false → lines s ≡ with_bytes (take i s) (lines (drop i s)) → lines s ≡ with_bytes (take (i + 1) s) (lines (drop (i + 1) s))
 goes_on s i h e f so_far = let g = rw add-one at f in rw add-one (so_far ∙ step s i h e g)
@@ -25,7 +26,7 @@ rest_is s n = ap (λ (k : ℕ). take k (drop n s)) (sym (length-drop n s)) ∙ t
 at_feed : (s : List ℕ) (i : ℕ) → i < length s → nat_eq (get_or s i 0) 10 ≡ true → with_bytes (take i s) (lines (drop i s)) ≡ take i s ∷ lines (drop (suc i) s)
 at_feed [] i h e = absurd (omega arith)
 at_feed (c ∷ s) zero h e = rw e refl
-at_feed (c ∷ s) (suc i) h e = ap (with_byte c) (at_feed s i (omega arith) e)
+at_feed (c ∷ s) (suc i) h e = ap (onto_first c) (at_feed s i (omega arith) e)
 
 pub ends : (s : List ℕ) (i : ℕ) → i < length s → nat_eq (get_or s i 0) 10 ≡ true → lines s ≡ with_bytes (take i s) (lines (drop i s)) → lines s ≡ take i s ∷ lines (take (length s - (i + 1)) (drop (i + 1) s))
 ends s i h e so_far = rw rest_is (rw add-one (so_far ∙ at_feed s i h e))
@@ -37,7 +38,7 @@ behind_return c (d ∷ s) e f g = rw (e, f, g) refl
 at_return : (s : List ℕ) (i : ℕ) → i < length s → nat_eq (get_or s i 0) 10 ≡ false → nat_eq (get_or s i 0) 13 ≡ true → nat_eq (get_or s (suc i) 32) 10 ≡ true → with_bytes (take i s) (lines (drop i s)) ≡ take i s ∷ lines (drop (suc (suc i)) s)
 at_return [] i h e f g = absurd (omega arith)
 at_return (c ∷ s) zero h e f g = behind_return c s e f g
-at_return (c ∷ s) (suc i) h e f g = ap (with_byte c) (at_return s i (omega arith) e f g)
+at_return (c ∷ s) (suc i) h e f g = ap (onto_first c) (at_return s i (omega arith) e f g)
 
 both : (a b : Bool) → (a && b) ≡ true → (a ≡ true) × (b ≡ true)
 both true b h = (refl, h)
@@ -51,7 +52,7 @@ ends_at_return s i h e f so_far =
 
 whole : (c : ℕ) (s : List ℕ) → with_bytes (c ∷ s) [] ≡ (c ∷ s) ∷ []
 whole c [] = refl
-whole c (d ∷ s) = ap (with_byte c) (whole d s)
+whole c (d ∷ s) = ap (onto_first c) (whole d s)
 
 pub is_last : (s : List ℕ) (i : ℕ) → 0 < length s → length s ≤ i → lines s ≡ with_bytes (take i s) (lines (drop i s)) → lines s ≡ s ∷ lines (take (length s - length s) (drop (length s) s))
 is_last [] i h le so_far = absurd (omega arith)

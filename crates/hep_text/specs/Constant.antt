@@ -1,16 +1,17 @@
 -- Which characters of a statement are its text: blanks, letter case and character constants.
 use Rattle.std.specs.Prelude.{ℕ, ◌-◌, Bool, true, false, ◌&&◌, if◌then◌else◌, nat_eq, nat_le, List, [], ◌∷◌, Option, Some, None}
+use Rattle.hep_text.specs.Characters.{blank, apostrophe, first_lower_case, last_lower_case, case_distance}
 use Rattle.hep_text.specs.declared.statement.Span.{Span}
 use Rattle.hep_text.specs.declared.constant.Place.{Place}
 use Rattle.hep_text.specs.declared.constant.Place.TheVariants.{Outside, Opened, Filled, Closing, Empty, Faulty}
 
 -- the apostrophe (X3.9-1978, 3.1.4)
 abbrev pub is_apostrophe : ℕ → Bool
-is_apostrophe c = nat_eq c 39
+is_apostrophe c = nat_eq c apostrophe
 
 -- the upper-case letter of a lower-case one, and any other character as it is
 abbrev pub raised : ℕ → ℕ
-raised c = if nat_le 97 c && nat_le c 122 then c - 32 else c
+raised c = if nat_le first_lower_case c && nat_le c last_lower_case then c - case_distance else c
 
 -- A constant stands between apostrophes, and within it two apostrophes side by side stand for one
 -- (X3.9-1978, 4.8.1). So an apostrophe in a constant ends it unless another one follows.
@@ -25,7 +26,7 @@ next Faulty c = Faulty
 -- Blanks outside constants don't matter (X3.9-1978, 3.1.6), and a lower-case letter there is the
 -- upper-case one.
 abbrev pub outside_share : ℕ → Option ℕ
-outside_share c = if nat_eq c 32 then None else Some (raised c)
+outside_share c = if nat_eq c blank then None else Some (raised c)
 
 -- what the text has of a character
 abbrev pub share : Place → ℕ → Option ℕ

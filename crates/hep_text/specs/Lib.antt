@@ -1,3 +1,4 @@
+pub mod Characters
 pub mod Constant
 pub mod Line
 pub mod Reading

@@ -1,62 +1,62 @@
 -- The lines of a text and their kinds (X3.9-1978, 3.2).
 use Rattle.std.specs.Prelude.{ℕ, ◌+◌, ◌-◌, ◌*◌, Bool, true, false, ◌&&◌, ◌||◌, not, if◌then◌else◌, nat_eq, nat_le, List, [], ◌∷◌, take, drop, get_or, Option, Some, None}
-use Rattle.std.specs.List.{filter, fold, list_all, list_any}
+use Rattle.std.specs.List.{filter, fold, list_all, list_any, onto_first}
+use Rattle.hep_text.specs.Characters.{tab, line_feed, carriage_return, blank, last_printable, asterisk, first_digit, last_digit, letter_c, lower_case_c, last_column, label_columns, columns_before_text}
 use Rattle.hep_text.specs.declared.line.LineKind as code
 use Rattle.hep_text.specs.declared.line.LineKind.TheVariants as variants
 
--- a byte in front of the first of some lines
-abbrev pub with_byte : ℕ → List (List ℕ) → List (List ℕ)
-with_byte c [] = (c ∷ []) ∷ []
-with_byte c (l ∷ ls) = (c ∷ l) ∷ ls
+-- whether a carriage return stands at an index, and a line feed behind it
+abbrev pub is_return_before_feed : List ℕ → ℕ → Bool
+is_return_before_feed s i = nat_eq (get_or s i 0) carriage_return && nat_eq (get_or s (i + 1) blank) line_feed
 
 -- The lines of a text: each ends at a line feed, and the last one may lack it. A carriage return
--- that stands before a line feed belongs to no line (docs/LANGUAGE.md).
+-- that stands before a line feed belongs to no line (docs/LANGUAGE.md, 1).
 abbrev pub lines : List ℕ → List (List ℕ)
 lines [] = []
 lines (c ∷ s) =
-    if nat_eq c 10 then [] ∷ lines s
-    else (if nat_eq c 13 && nat_eq (get_or s 0 32) 10 then lines s else with_byte c (lines s))
+    if nat_eq c line_feed then [] ∷ lines s
+    else (if is_return_before_feed (c ∷ s) 0 then lines s else onto_first c (lines s))
 
 -- the blank (X3.9-1978, 3.1.6)
 abbrev pub is_blank : ℕ → Bool
-is_blank c = nat_eq c 32
+is_blank c = nat_eq c blank
 
--- the horizontal tab, which only comments may have (docs/LANGUAGE.md)
+-- the horizontal tab, which only comments may have (docs/LANGUAGE.md, 1)
 abbrev pub is_tab : ℕ → Bool
-is_tab c = nat_eq c 9
+is_tab c = nat_eq c tab
 
--- the printable characters of ASCII (docs/LANGUAGE.md)
+-- the printable characters of ASCII (docs/LANGUAGE.md, 1)
 abbrev pub is_printable : ℕ → Bool
-is_printable c = nat_le 32 c && nat_le c 126
+is_printable c = nat_le blank c && nat_le c last_printable
 
 -- a digit (X3.9-1978, 3.1.2)
 abbrev pub is_digit : ℕ → Bool
-is_digit c = nat_le 48 c && nat_le c 57
+is_digit c = nat_le first_digit c && nat_le c last_digit
 
 abbrev pub is_blank_or_digit : ℕ → Bool
 is_blank_or_digit c = is_blank c || is_digit c
 
 -- `C`, `c` or `*`, in column 1 (X3.9-1978, 3.2.1)
 abbrev pub is_comment_mark : ℕ → Bool
-is_comment_mark c = nat_eq c 67 || (nat_eq c 99 || nat_eq c 42)
+is_comment_mark c = nat_eq c letter_c || (nat_eq c lower_case_c || nat_eq c asterisk)
 
 -- in column 6, any character but a blank and the digit 0 (X3.9-1978, 3.2.3)
 abbrev pub is_continuation_mark : ℕ → Bool
-is_continuation_mark c = not (is_blank c || nat_eq c 48)
+is_continuation_mark c = not (is_blank c || nat_eq c first_digit)
 
 -- A comment line has a mark in column 1, or only blanks in columns 1 to 72 (X3.9-1978, 3.2.1). A
 -- line that is shorter counts as padded with blanks.
 abbrev pub is_comment : List ℕ → Bool
-is_comment l = is_comment_mark (get_or l 0 32) || list_all is_blank (take 72 l)
+is_comment l = is_comment_mark (get_or l 0 blank) || list_all is_blank (take last_column l)
 
 -- the number that digits write, from the left
-abbrev pub value : List ℕ → ℕ
-value digits = fold (λ n d. 10 * n + (d - 48)) 0 digits
+abbrev pub number_of_digits : List ℕ → ℕ
+number_of_digits digits = fold (λ n d. 10 * n + (d - first_digit)) 0 digits
 
 -- the label that some digits write
 abbrev pub label_of : List ℕ → Option ℕ
 label_of [] = None
-label_of (d ∷ ds) = Some (value (d ∷ ds))
+label_of (d ∷ ds) = Some (number_of_digits (d ∷ ds))
 
 -- The label in columns 1 to 5 (X3.9-1978, 3.4): blanks among its digits and zeros in front of them
 -- don't matter.
@@ -88,8 +88,9 @@ labelled field mark body =
 unfoldable pub kind : List ℕ → Kind
 kind l =
     if is_comment l then comment
-    else (if list_any is_tab (take 72 l) then refused 101
-    else (if list_all is_printable (take 72 l) then labelled (take 5 l) (get_or l 5 32) (drop 6 l) else refused 102))
+    else (if list_any is_tab (take last_column l) then refused 101
+    else (if list_all is_printable (take last_column l) then labelled (take label_columns l) (get_or l label_columns blank) (drop columns_before_text l)
+    else refused 102))
 
 -- the kind of a line as the program has it
 abbrev pub kind_view : code.LineKind → Kind

@@ -1,4 +1,4 @@
--- What a reading comes to, with the lines that are left.
+-- What a reading comes to, with the lines that are left: docs/ARCHITECTURE.md, "Forms".
 use Rattle.std.specs.Prelude.{◌≡◌, ℕ, ◌+◌, if◌then◌else◌, List, [], ◌∷◌, ◌++◌, map, Option, Some, None, Result, Ok}
 use Rattle.hep_text.specs.declared.constant.Place.{Place}
 use Rattle.hep_text.specs.declared.statement.Stmt.{Stmt}

@@ -4,10 +4,11 @@ use Rattle.hep_text.specs.declared.statement.Stmt.{Stmt}
 use Rattle.hep_text.specs.declared.constant.Place.TheVariants.{Outside}
 use Rattle.hep_text.specs.declared.fault.TextFault.{TextFault}
 use Rattle.hep_text.specs.declared.fault.TextFault.TheVariants as faults
+use Rattle.hep_text.specs.Characters.{blank, first_text_column, text_columns}
 use Rattle.hep_text.specs.Constant.{Character, is_over, text_from, place_behind}
 use Rattle.hep_text.specs.Line.{Kind, comment, initial, continuation, refused, kind, lines}
 
--- the number of a refusal, and the line at fault
+-- the number of a refusal, and the line at fault (docs/LANGUAGE.md, 1 and 2)
 pub record Refusal : Type 0 where
   pub number : ℕ
   pub line : ℕ
@@ -27,10 +28,10 @@ abbrev pub character : ℕ → ℕ → ℕ → Character
 character c n k = record { byte = c; span = record { line = n; column = k } }
 
 -- So many columns of line n, from column k on (X3.9-1978, 3.2). A line that is shorter counts as
--- padded with blanks (docs/LANGUAGE.md).
+-- padded with blanks (docs/LANGUAGE.md, 1).
 unfoldable pub columns : ℕ → ℕ → ℕ → List ℕ → List Character
 columns zero n k l = []
-columns (suc m) n k l = character (get_or l 0 32) n k ∷ columns m n (k + 1) (drop 1 l)
+columns (suc m) n k l = character (get_or l 0 blank) n k ∷ columns m n (k + 1) (drop 1 l)
 
 -- A statement as its lines have it (X3.9-1978, 3.3): the line that it begins on, its label, and the
 -- columns 7 to 72 of its lines.
@@ -52,18 +53,22 @@ begun n label body behind =
 abbrev pub continued : List Character → Joined → Joined
 continued body behind = behind >>= λ r. Ok (body ++ r.0, r.1)
 
+-- the most continuation lines of a statement (X3.9-1978, 3.3)
+abbrev pub most_continuation_lines : ℕ
+most_continuation_lines = 19
+
 -- A continuation line, where so many stand before it in its statement, or no statement has begun
--- (X3.9-1978, 3.2.3). A statement has at most 19 of them (X3.9-1978, 3.3).
+-- (X3.9-1978, 3.2.3).
 abbrev pub continuing : ℕ → Option ℕ → List Character → (Option ℕ → Joined) → Joined
 continuing n None body behind = refusal 105 n
-continuing n (Some k) body behind = if nat_lt k 19 then continued body (behind (Some (k + 1))) else refusal 104 n
+continuing n (Some k) body behind = if nat_lt k most_continuation_lines then continued body (behind (Some (k + 1))) else refusal 104 n
 
 -- A line of each kind, and what the lines behind it are by the count of continuation lines. A
 -- comment line may stand anywhere and isn't counted (X3.9-1978, 3.2.1).
 abbrev pub by_kind : ℕ → Option ℕ → Kind → (Option ℕ → Joined) → Joined
 by_kind n count comment behind = behind count
-by_kind n count (initial label body) behind = begun n label (columns 66 n 7 body) (behind (Some 0))
-by_kind n count (continuation body) behind = continuing n count (columns 66 n 7 body) behind
+by_kind n count (initial label body) behind = begun n label (columns text_columns n first_text_column body) (behind (Some 0))
+by_kind n count (continuation body) behind = continuing n count (columns text_columns n first_text_column body) behind
 by_kind n count (refused number) behind = refusal number n
 
 -- the lines from line n on, where so many continuation lines of the statement stand before them
@@ -88,9 +93,16 @@ abbrev pub each_statement : List Lined → Result (List Stmt) Refusal
 each_statement [] = Ok []
 each_statement (s ∷ ss) = statement s >>= λ t. each_statement ss >>= λ ts. Ok (t ∷ ts)
 
--- a text with more than 4194304 bytes, or more than 65535 lines
+-- the most bytes and lines of a text (docs/LANGUAGE.md, 1)
+abbrev pub most_bytes : ℕ
+most_bytes = 4194304
+
+abbrev pub most_lines : ℕ
+most_lines = 65535
+
+-- a text with more bytes or more lines
 abbrev pub is_too_large : List ℕ → Bool
-is_too_large s = nat_lt 4194304 (length s) || nat_lt 65535 (length (lines s))
+is_too_large s = nat_lt most_bytes (length s) || nat_lt most_lines (length (lines s))
 
 -- The statements of a text, or its first fault: 107 where it is too large, else the first line at
 -- fault, else the first statement whose constants are at fault.

@@ -2,6 +2,9 @@
 ghost use Rattle.std.specs.Prelude.{◌≡◌};
 ghost use Rattle.hep_text.specs.Constant as constant;
 
+/// How far a lower-case letter stands behind its upper-case one.
+const CASE_DISTANCE: u8 = 32;
+
 /// Where a character of a statement stands, by those before it.
 #[derive(Clone, Copy, Debug, PartialEq, Eq)]
 pub enum Place {
@@ -77,7 +80,7 @@ fn raised(byte: u8) -> u8
     ensures { result ≡ constant.raised byte }
 {
     if b'a' <= byte && byte <= b'z' {
-        byte - 32
+        byte - CASE_DISTANCE
     } else {
         byte
     }

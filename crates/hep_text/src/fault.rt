@@ -12,10 +12,16 @@ pub enum TextFault {
     /// There was too little memory, which says nothing of the text.
     #[error("out of memory")]
     NoMemory,
-    /// The text is refused. The numbers are those of docs/LANGUAGE.md, 101 to 107; `line` is the
-    /// line at fault, or 0 where the whole text is; `name` is empty for each of them.
+    /// The text is refused.
     #[error("{number} at line {line}")]
-    Refused { number: u16, line: u32, name: Bytes },
+    Refused {
+        /// The number of the rule, 101 to 107 (docs/LANGUAGE.md).
+        number: u16,
+        /// The line at fault, counted from 1; 0 where the whole text is.
+        line: u32,
+        /// The name that the rule is about: always empty, since none of these is about a name.
+        name: Bytes,
+    },
 }
 
 impl From<AllocError> for TextFault {

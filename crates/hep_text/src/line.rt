@@ -1,7 +1,17 @@
 //! Lines and their kinds (X3.9-1978, 3.2).
-ghost use Rattle.std.specs.Prelude.{◌≡◌, ◌<◌, ◌≤◌, ◌∷◌, ◌+◌, ◌&&◌, nat_eq, IsTrue, length, take, drop, get_or};
+ghost use Rattle.std.specs.Prelude.{◌≡◌, ◌<◌, ◌≤◌, ◌∷◌, ◌+◌, IsTrue, length, take, drop, get_or};
 ghost use Rattle.std.specs.List.{list_all};
+ghost use Rattle.hep_text.specs.Characters.{blank, label_columns};
 ghost use Rattle.hep_text.specs.Line as lines;
+
+/// The columns of a line that count (X3.9-1978, 3.2).
+const COLUMNS: usize = 72;
+
+/// The columns of the label (X3.9-1978, 3.2.2).
+const LABEL_COLUMNS: usize = 5;
+
+/// The columns of the label, and column 6, which marks a continuation line (X3.9-1978, 3.2.3).
+const COLUMNS_BEFORE_TEXT: usize = 6;
 
 /// What a line is, by its columns 1 to 72.
 pub enum LineKind<'a> {
@@ -36,7 +46,7 @@ pub fn next_line(text: &[u8]) -> (&[u8], &[u8])
 /// Whether a carriage return stands at an index, and a line feed behind it.
 fn is_return_before_feed(text: &[u8], index: usize) -> bool
     requires { index < length text.now }
-    ensures value { result ≡ (nat_eq (get_or text.now index 0) 13 && nat_eq (get_or text.now (index + 1) 32) 10) }
+    ensures value { result ≡ lines.is_return_before_feed text.now index }
     ensures room { IsTrue result → index + 1 < length text.now }
 {
     text[index] == b'\r' && column(text, index + 1) == b'\n'
@@ -50,21 +60,25 @@ pub fn kind(line: &[u8]) -> LineKind<'_>
     if is_comment(line) {
         return LineKind::Comment;
     }
-    let columns = front(72, line);
+    let columns = front(COLUMNS, line);
     if columns.contains(&b'\t') {
         return LineKind::Refused(101);
     }
     if !all_printable(columns) {
         return LineKind::Refused(102);
     }
-    labelled(front(5, line), column(line, 5), behind(6, line))
+    labelled(
+        front(LABEL_COLUMNS, line),
+        column(line, LABEL_COLUMNS),
+        behind(COLUMNS_BEFORE_TEXT, line),
+    )
 }
 
 /// The kind of a line of printable characters that is no comment, by its columns 1 to 5, its
 /// column 6 and what stands behind.
 #[tactic(auto, unfolding(crate::specs::Line::labelled))]
 fn labelled<'a>(field: &[u8], mark: u8, rest: &'a [u8]) -> LineKind<'a>
-    requires { length field.now ≤ 5 }
+    requires { length field.now ≤ label_columns }
     ensures { lines.kind_view result ≡ lines.labelled field.now mark rest.now }
 {
     if !all_blank_or_digit(field) {
@@ -80,7 +94,7 @@ fn labelled<'a>(field: &[u8], mark: u8, rest: &'a [u8]) -> LineKind<'a>
 /// The number that the digits of a label field write, or none where it has no digit.
 #[tactic(auto, using(crate::proofs::Labels::label_more, crate::proofs::Labels::limit_five))]
 fn label(field: &[u8]) -> Option<u32>
-    requires { length field.now ≤ 5 }
+    requires { length field.now ≤ label_columns }
     ensures { result ≡ lines.label field.now }
 {
     let mut number = None;
@@ -96,7 +110,7 @@ fn label(field: &[u8]) -> Option<u32>
 fn is_comment(line: &[u8]) -> bool
     ensures { result ≡ lines.is_comment line.now }
 {
-    is_comment_mark(column(line, 0)) || all_blank(front(72, line))
+    is_comment_mark(column(line, 0)) || all_blank(front(COLUMNS, line))
 }
 
 fn all_blank(columns: &[u8]) -> bool
@@ -132,7 +146,7 @@ fn is_continuation_mark(byte: u8) -> bool
 fn is_printable(byte: u8) -> bool
     ensures { result ≡ lines.is_printable byte }
 {
-    32 <= byte && byte <= 126
+    b' ' <= byte && byte <= b'~'
 }
 
 fn is_digit(byte: u8) -> bool
@@ -171,7 +185,7 @@ fn behind(count: usize, bytes: &[u8]) -> &[u8]
 
 /// The byte at an index, or a blank behind the end: shorter lines count as padded with blanks.
 pub fn column(line: &[u8], index: usize) -> u8
-    ensures { result ≡ get_or line.now index 32 }
+    ensures { result ≡ get_or line.now index blank }
 {
     line.get(index).copied().unwrap_or(b' ')
 }

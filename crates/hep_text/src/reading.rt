@@ -1,12 +1,13 @@
 //! The statements of a source text.
 ghost use Rattle.std.specs.Prelude.{◌≡◌, ◌↔◌, ◌+◌, ◌≤◌, ℕ, false, List, [], ◌∷◌, length, OnOk, IfOk, IfErr, None, Some, Ok};
 ghost use Rattle.std.specs.List.{All};
+ghost use Rattle.hep_text.specs.Characters.{first_text_column, text_columns};
 ghost use Rattle.hep_text.specs.Constant.{Character};
 ghost use Rattle.hep_text.specs.Grammar.{IsText, Gives};
 ghost use Rattle.hep_text.specs.Line as lines;
 ghost use Rattle.hep_text.specs.Line.{initial, continuation};
 ghost use Rattle.hep_text.specs.Reading as reading;
-ghost use Rattle.hep_text.specs.Reading.{statements_of, columns, Tells};
+ghost use Rattle.hep_text.specs.Reading.{statements_of, columns, most_bytes, Tells};
 ghost use Rattle.hep_text.specs.Shape.{HasShape};
 ghost use Rattle.hep_text.specs.Progress.{started, longer, over, pending_of, done_of, with_last, GoesOn, Fails};
 ghost use Rattle.hep_text.specs.declared.fault.TextFault.TheVariants.{NoMemory};
@@ -24,38 +25,53 @@ const MOST_BYTES: usize = 4_194_304;
 /// The most lines of a source text.
 const MOST_LINES: usize = 65_535;
 
+/// The first column of a statement's text on a line (X3.9-1978, 3.3).
+const FIRST_TEXT_COLUMN: u32 = 7;
+
+/// The columns of a statement's text on a line, 7 to 72.
+const TEXT_COLUMNS: usize = 66;
+
 /// The most continuation lines of a statement (X3.9-1978, 3.3).
 const MOST_CONTINUATION_LINES: u32 = 19;
 
-/// A statement whose lines are being read, with how many continuation lines it has so far, and
-/// where its next character stands.
+/// A statement whose lines are being read.
 #[derive(Drop)]
 struct Pending {
+    /// The line that it begins on.
     line: u32,
+    /// Its label.
     label: Option<u32>,
+    /// How many continuation lines it has so far.
     continued: u32,
+    /// Its text so far.
     text: Vec<u8>,
+    /// Where each character of the text stands.
     spans: Vec<Span>,
+    /// Where its next character stands, by those before it.
     place: Place,
 }
 
-/// What was read so far: the statements that are over, the one that isn't, and the line of the
-/// first statement whose constants aren't as they must be.
+/// What was read so far.
 #[derive(Drop)]
 struct Reading {
+    /// The statements that are over and at no fault.
     done: Vec<Stmt>,
+    /// The one that isn't over.
     pending: Option<Pending>,
+    /// The line of the first statement whose constants aren't as they must be.
     open: Option<u32>,
 }
 
 /// The statements of a source text in fixed form, in their order (X3.9-1978, 3.2 and 3.3).
 ///
-/// Refused are, each with the first line at fault: a tab (101), another character that isn't
+/// # Errors
+///
+/// [`TextFault::Refused`] with the first line at fault: a tab (101), another character that isn't
 /// printable (102), and a fault of columns 1 to 5 (103), in columns 1 to 72 of a line that is no
 /// comment; the twentieth continuation line of a statement (104); a continuation line before any
 /// initial line (105); and where no line has one of these, the first statement with a character
 /// constant that is open or empty (106). A text of more than 65,535 lines or 4,194,304 bytes is
-/// refused before all of these, at line 0 (107).
+/// refused before all of these, at line 0 (107). [`TextFault::NoMemory`] where memory was refused.
 #[tactic(auto, using(crate::proofs::Grammar::agrees))]
 pub fn statements(alloc: Global, source: &[u8]) -> Result<Vec<Stmt>, TextFault>
     ensures ok { IfOk result (λ v. statements_of source.now ≡ Ok v.items) }
@@ -85,7 +101,7 @@ pub fn statements(alloc: Global, source: &[u8]) -> Result<Vec<Stmt>, TextFault>
 /// Whether a text has too many bytes or lines.
 fn is_too_large(text: &[u8]) -> bool
     ensures value { result ≡ reading.is_too_large text.now }
-    ensures bytes { result ≡ false → length text.now ≤ 4194304 }
+    ensures bytes { result ≡ false → length text.now ≤ most_bytes }
 {
     text.len() > MOST_BYTES || line_count(text) > MOST_LINES
 }
@@ -172,13 +188,13 @@ fn take_continuation(
 /// Reads the columns 7 to 72 of a line, which are given from column 7 on.
 #[tactic(auto, using(crate::proofs::Text::one_column, crate::proofs::Text::all_columns))]
 fn take_text(pending: &mut Pending, number: u32, body: &[u8]) -> Result<(), TextFault>
-    ensures ok { OnOk result (started pending.new ≡ longer (started pending.old) (columns 66 number 7 body.now)) }
+    ensures ok { OnOk result (started pending.new ≡ longer (started pending.old) (columns text_columns number first_text_column body.now)) }
     ensures err { IfErr result (λ e. e ≡ NoMemory) }
 {
-    for index in 0..66usize {
+    for index in 0..TEXT_COLUMNS {
         let span = Span {
             line: number,
-            column: index as u32 + 7,
+            column: index as u32 + FIRST_TEXT_COLUMN,
         };
         take_character(pending, column(body, index), span)?;
     }

@@ -23,7 +23,7 @@ refused_too s t number line name same (inr (inr (ss, p, e, program, unrun))) = i
 
 outcome_too : (s t : List ℕ) (options : Options) (o : Outcome) → statements_of s ≡ statements_of t → IsOutcome t options o → IsOutcome s options o
 outcome_too s t options o same (inl (number, line, name, r, is)) = inl (number, line, name, refused_too s t number line name same r, is)
-outcome_too s t options o same (inr (p, (ss, e, program, runs, typed), is)) = inr (p, (ss, same ∙ e, program, runs, typed), is)
+outcome_too s t options o same (inr (p, (ss, e, program, runnable), is)) = inr (p, (ss, same ∙ e, program, runnable), is)
 
 front : (bytes rest : List ℕ) → (length bytes ≤ 4194304 → rest ≡ []) → statements_of (bytes ++ rest) ≡ statements_of bytes
 front bytes rest end = elim (cases_lt 4194304 (length bytes)) [

@@ -14,8 +14,8 @@ use Rattle.hep_source.specs.Units.{Units}
 use Rattle.hep_source.specs.State.{State, Process}
 use Rattle.hep_source.specs.Opening.{opening}
 use Rattle.hep_source.specs.Run.{run, run_from, expand, state_after, turn}
-use Rattle.hep_source.specs.Schedules.{Progress, after_step, after_steps, after_entry, progress_from, progress_after, is_listed, living_from, ready_in, last_process, least, first_above, next_ready}
-use Rattle.hep_source.specs.Processes.{living, top_of}
+use Rattle.hep_source.specs.Schedules.{Progress, after_step, after_steps, after_entry, progress_from, progress_after, living_from, ready_in, last_process, first_above, next_ready}
+use Rattle.hep_source.specs.Processes.{living, top_of, is_number_among}
 use Rattle.hep_core.specs.declared.stop.Turn.{Turn}
 use Rattle.hep_core.specs.Value.{CoreValue, state_of, grown, stop_after, IsGoing, Turned, Chosen}
 use Rattle.hepf.specs.declared.options.Options.{Options}
@@ -134,7 +134,7 @@ unfolding AllOf
 first_of P n [] other all o p e = o p e
 first_of P n (x ∷ xs) other all o p e = pick P (nat_lt n x) x p (first_above n xs other) all.0 (first_of P n xs other all.1 o p) e
 
-least_of : (P : ℕ → Type 0) (xs : List ℕ) → AllOf P xs → (p : ℕ) → least xs ≡ Some p → P p
+least_of : (P : ℕ → Type 0) (xs : List ℕ) → AllOf P xs → (p : ℕ) → slice_get xs 0 ≡ Some p → P p
 unfolding AllOf
 least_of P [] all p e = absurd cc
 least_of P (x ∷ xs) all p e = let same : x ≡ p = cc in subst P same all.0
@@ -186,9 +186,9 @@ ready_lives program history p e =
     let x = progress_after program history in
     let s = x.state in
     let ready = ready_in x in
-    let all = all_kept (LivesFrom 0 s.processes) (λ q. not (is_listed x.listed q)) (living_from 1 s.processes) (all_live 0 s.processes) in
+    let all = all_kept (LivesFrom 0 s.processes) (λ q. not (is_number_among q x.listed)) (living_from 1 s.processes) (all_live 0 s.processes) in
     subst (λ (t : State). living t p ≢ None) (progress_state program history)
-    (lives s p (first_of (LivesFrom 0 s.processes) (last_process history) ready (least ready) all (least_of (LivesFrom 0 s.processes) ready all) p e))
+    (lives s p (first_of (LivesFrom 0 s.processes) (last_process history) ready (slice_get ready 0) all (least_of (LivesFrom 0 s.processes) ready all) p e))
 
 -- ---- once the choices are made
 

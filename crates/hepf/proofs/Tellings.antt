@@ -1,11 +1,13 @@
 -- What a writer took of pieces that are written one after the other.
-use Rattle.std.proofs.Common.{ℕ, ◌+◌, ◌≤◌, List, ◌++◌, length, take, Option, sym, subst}
+use Rattle.std.proofs.Common.{ℕ, ◌+◌, ◌≤◌, List, ◌++◌, length, take, Option, sym, subst, inl, inr}
 use Rattle.std.proofs.lemmas.List.{take-append-le}
 use Rattle.std.proofs.Math.Seq.{take-length, take-append-add}
 use Rattle.std.specs.Prelude.{Result, Ok, Err, OnOk, IfErr}
 use Rattle.std.specs.Io.KnownBytes.{Appends}
 use Rattle.std.proofs.KnownBytes.{Appends-trans}
-use Rattle.hepf.specs.Delivery.{SomeOf}
+use Rattle.hepf.specs.declared.options.Run.{Run}
+use Rattle.hepf.specs.Outcome.{Outcome}
+use Rattle.hepf.specs.Delivery.{SomeOf, Says, Leaves}
 
 pub of_first : (a b : Option (List ℕ)) (xs ys : List ℕ) (n : ℕ) → n ≤ length xs → Appends a b (take n xs) → SomeOf a b (xs ++ ys)
 of_first a b xs ys n h p = (n, subst (Appends a b) (sym (take-append-le n xs ys h)) p)
@@ -32,3 +34,10 @@ if_err_anyway (Err e) p = p
 -- behind what was taken of an earlier text
 pub told_behind : (a b c : Option (List ℕ)) (xs ys : List ℕ) → Appends a b xs → SomeOf b c ys → (k : ℕ) × Appends a c (xs ++ take k ys)
 told_behind a b c xs ys p q = (q.0, Appends-trans a b c xs (take q.0 ys) p q.1)
+
+-- where the output took all, what became of the messages
+pub left_by : (o : Outcome) (run : Run) (output output' messages messages' : Option (List ℕ)) → Appends output output' o.output → Says o.messages o.status o.history run messages messages' → Leaves o run output output' messages messages'
+left_by o run output output' messages messages' taken (same, inl (status, all)) =
+    inl (record { status = status; history = same; output_taken = taken; messages_taken = all })
+left_by o run output output' messages messages' taken (same, inr (status, n, told)) =
+    inr (record { status = status; history = same; taken = inr (n, taken, told) })

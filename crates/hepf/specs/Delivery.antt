@@ -1,14 +1,18 @@
 -- What a run leaves at its two outputs: docs/MACHINE.md, "The program".
 use Rattle.std.specs.Prelude.{◌≡◌, ◌⊎◌, ℕ, List, [], ◌++◌, codes, take, Option, Some, None}
 use Rattle.std.specs.Io.KnownBytes.{Appends, Keeps}
+use Rattle.hep_source.specs.declared.event.Entry.{Entry}
 use Rattle.hepf.specs.declared.options.Options.{Options}
 use Rattle.hepf.specs.declared.options.Run.{Run}
+use Rattle.hepf.specs.declared.status.Status.{Status}
+use Rattle.hepf.specs.declared.status.Status.TheVariants.{NoMemory, DeviceFailed}
+use Rattle.hepf.specs.Statuses.{status_code}
 use Rattle.hepf.specs.Texts.{write_fault_text}
 use Rattle.hepf.specs.Outcome.{Outcome, IsOutcome}
 
 -- the run has this outcome, and both outputs took all of it
 pub record IsDelivered (o : Outcome) (run : Run) (output output' messages messages' : Option (List ℕ)) : Type 0 where
-  pub status : run.status ≡ o.status
+  pub status : run.status ≡ status_code o.status
   pub history : run.history ≡ o.history
   pub output_taken : Appends output output' o.output
   pub messages_taken : Appends messages messages' o.messages
@@ -33,7 +37,7 @@ MessagesFailed o output output' messages messages' =
 
 -- a write failed
 pub record IsBroken (o : Outcome) (run : Run) (output output' messages messages' : Option (List ℕ)) : Type 0 where
-  pub status : run.status ≡ 8
+  pub status : run.status ≡ status_code DeviceFailed
   pub history : run.history ≡ o.history
   pub taken : OutputFailed o output output' messages messages' ⊎ MessagesFailed o output output' messages messages'
 
@@ -42,12 +46,12 @@ abbrev pub Leaves : Outcome → Run → Option (List ℕ) → Option (List ℕ) 
 Leaves o run output output' messages messages' =
     IsDelivered o run output output' messages messages' ⊎ IsBroken o run output output' messages messages'
 
--- a run that has no outcome says this line, with this status, or fails at it
-abbrev pub Says : List ℕ → ℕ → Run → Option (List ℕ) → Option (List ℕ) → Type 0
-Says line status run messages messages' =
-    (run.history ≡ [])
-    × (((run.status ≡ status) × Appends messages messages' line)
-    ⊎ ((run.status ≡ 8) × (n : ℕ) × Told messages messages' (take n line) (write_fault_text n)))
+-- a run with this history says these lines, with this status, or fails at them
+abbrev pub Says : List ℕ → Status → List Entry → Run → Option (List ℕ) → Option (List ℕ) → Type 0
+Says lines status history run messages messages' =
+    (run.history ≡ history)
+    × (((run.status ≡ status_code status) × Appends messages messages' lines)
+    ⊎ ((run.status ≡ status_code DeviceFailed) × (n : ℕ) × Told messages messages' (take n lines) (write_fault_text n)))
 
 -- an outcome of these bytes, where they are known
 abbrev pub IsOutcomeOf : Option (List ℕ) → Options → Outcome → Type 0
@@ -58,6 +62,6 @@ IsOutcomeOf (Some source) options o = IsOutcome source options o
 -- the reader's bytes.
 abbrev pub RunsSource : Option (List ℕ) → Options → Run → Option (List ℕ) → Option (List ℕ) → Option (List ℕ) → Option (List ℕ) → Type 0
 RunsSource source options run output output' messages messages' =
-    (Keeps output output' × Says (codes "NO MEMORY\n") 7 run messages messages')
-    ⊎ (Keeps output output' × Says (codes "READ FAULT\n") 8 run messages messages')
+    (Keeps output output' × Says (codes "NO MEMORY\n") NoMemory [] run messages messages')
+    ⊎ (Keeps output output' × Says (codes "READ FAULT\n") DeviceFailed [] run messages messages')
     ⊎ ((o : Outcome) × IsOutcomeOf source options o × Leaves o run output output' messages messages')

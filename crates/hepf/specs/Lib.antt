@@ -1,4 +1,5 @@
 pub mod Texts
+pub mod Statuses
 pub mod Outcome
 pub mod Refusals
 pub mod Reports

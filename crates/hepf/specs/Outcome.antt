@@ -5,9 +5,7 @@ use Rattle.hep_text.specs.Reading.{statements_of, refusal}
 use Rattle.hep_parse.specs.Program.{IsProgram, IsFirstFault}
 use Rattle.hep_source.specs.declared.event.Entry.{Entry}
 use Rattle.hep_source.specs.declared.event.Fault.{Fault}
-use Rattle.hep_source.specs.declared.name.Name.{Name}
-use Rattle.hep_source.specs.Names.{spelling}
-use Rattle.hep_source.specs.Units.{Units, unit_at, main_unit}
+use Rattle.hep_source.specs.Units.{Units}
 use Rattle.hep_source.specs.Layout.{opening_layout}
 use Rattle.hep_source.specs.Schedules.{next_ready}
 use Rattle.hep_source.specs.Run.{state_after}
@@ -16,26 +14,20 @@ use Rattle.hep_source.specs.Processes.{living}
 use Rattle.hep_core.specs.declared.stop.Stop.{Stop}
 use Rattle.hep_core.specs.declared.stop.Stop.TheVariants.{Halted, ArenaFull, StepLimit}
 use Rattle.hep_core.specs.Names.{names_of}
-use Rattle.hep_core.specs.Runnable.{first_unrun_in}
-use Rattle.hep_core.specs.Symbols.{first_untyped}
+use Rattle.hep_core.specs.Refusals.{IsRunnable, IsUnrun}
 use Rattle.hepf.specs.declared.options.Options.{Options}
+use Rattle.hepf.specs.declared.status.Status.{Status}
+use Rattle.hepf.specs.declared.status.Status.TheVariants as statuses
 use Rattle.hepf.specs.Texts.{records_text, faults_text, refusal_text, stop_text, choice_text}
 
 -- what a run writes to its two outputs, its status, and its history
 pub record Outcome : Type 0 where
   pub output : List ℕ
   pub messages : List ℕ
-  pub status : ℕ
+  pub status : Status
   pub history : List Entry
 
 -- ---- sources
-
--- no core runs the program: 403 at its first statement that doesn't run today; where each runs, 301
--- at the first name that is no integer
-abbrev pub IsUnrun : Units → ℕ → ℕ → List ℕ → Type 0
-IsUnrun program number line name =
-    ((first_unrun_in program ≡ Some line) × (number ≡ 403) × (name ≡ []))
-    ⊎ ((first_unrun_in program ≡ None) × (x : Name) × (first_untyped (unit_at program (main_unit program)) ≡ Some (line, x)) × (number ≡ 301) × (name ≡ spelling x))
 
 -- the source is refused with this number, line and name
 abbrev pub IsRefused : List ℕ → ℕ → ℕ → List ℕ → Type 0
@@ -47,8 +39,7 @@ IsRefused source number line name =
 -- the source is this program, and accepted
 abbrev pub IsAccepted : List ℕ → Units → Type 0
 IsAccepted source program =
-    (statements : List Stmt) × (statements_of source ≡ Ok statements) × IsProgram statements program
-    × (first_unrun_in program ≡ None) × (first_untyped (unit_at program (main_unit program)) ≡ None)
+    (statements : List Stmt) × (statements_of source ≡ Ok statements) × IsProgram statements program × IsRunnable program
 
 -- ---- schedules
 
@@ -93,24 +84,24 @@ IsChoiceRefused program options history =
 -- ---- outcomes
 
 abbrev pub refused : ℕ → ℕ → List ℕ → Outcome
-refused number line name = record { output = []; messages = refusal_text number line name; status = 1; history = [] }
+refused number line name = record { output = []; messages = refusal_text number line name; status = statuses.Refused; history = [] }
 
 abbrev pub arena_full : Outcome
-arena_full = record { output = []; messages = stop_text (Some ArenaFull); status = 5; history = [] }
+arena_full = record { output = []; messages = stop_text (Some ArenaFull); status = statuses.ArenaFull; history = [] }
 
 -- choices are counted from 1
 abbrev pub choice_refused : List Entry → Outcome
-choice_refused history = record { output = []; messages = choice_text (length history + 1); status = 2; history = history }
+choice_refused history = record { output = []; messages = choice_text (length history + 1); status = statuses.ChoiceRefused; history = history }
 
-abbrev pub status_by_faults : List Fault → ℕ
-status_by_faults [] = 0
-status_by_faults (f ∷ fs) = 3
+abbrev pub status_by_faults : List Fault → Status
+status_by_faults [] = statuses.Done
+status_by_faults (f ∷ fs) = statuses.Faulted
 
-abbrev pub status_of : Option Stop → List Fault → ℕ
+abbrev pub status_of : Option Stop → List Fault → Status
 status_of None faults = status_by_faults faults
 status_of (Some Halted) faults = status_by_faults faults
-status_of (Some ArenaFull) faults = 5
-status_of (Some StepLimit) faults = 6
+status_of (Some ArenaFull) faults = statuses.ArenaFull
+status_of (Some StepLimit) faults = statuses.StepLimit
 
 abbrev pub ended : Units → List Entry → Option Stop → Outcome
 ended program history stop =

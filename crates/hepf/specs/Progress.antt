@@ -1,12 +1,20 @@
--- How far a run has come.
-use Rattle.std.specs.Prelude.{◌≡◌, ◌+◌, length, Option, Some, None}
+-- How far a run has come: docs/ARCHITECTURE.md, "Forms".
+use Rattle.std.specs.Prelude.{◌≡◌, ℕ, ◌+◌, List, length, Option, Some, None, IsSome}
+use Rattle.hep_source.specs.Units.{Units}
+use Rattle.hep_source.specs.Layout.{opening_layout}
 use Rattle.hep_core.specs.declared.stop.Stop.{Stop}
 use Rattle.hep_core.specs.declared.stop.Stop.TheVariants.{Halted, ArenaFull, StepLimit}
-use Rattle.hep_core.specs.Value.{CoreValue}
+use Rattle.hep_core.specs.Value.{CoreValue, opening_of}
 use Rattle.hepf.specs.declared.options.Options.{Options}
 use Rattle.hepf.specs.declared.run.Halt.{Halt}
 use Rattle.hepf.specs.declared.run.Halt.TheVariants.{NoMemory, NoSuchProcess}
-use Rattle.hepf.specs.Outcome.{IsScheduled, IsCutShort, IsChoiceRefused}
+use Rattle.hepf.specs.Outcome.{IsAccepted, IsScheduled, IsCutShort, IsChoiceRefused}
+
+-- the core is at the opening of the accepted program that the source is, whose main program's frame has a gap in the arena
+abbrev pub IsOpening : List ℕ → Options → CoreValue → Type 0
+IsOpening source options core =
+    (program : Units) × IsAccepted source program
+    × IsSome (opening_layout program options.arena) × (core ≡ opening_of program options.arena options.steps)
 
 abbrev pub IsStop : Options → CoreValue → Option Stop → Type 0
 IsStop options core None = Unit {0}

@@ -1,4 +1,4 @@
--- Why a source has no core, as the program keeps it.
+-- Why a source has no core, as the program keeps it: docs/ARCHITECTURE.md, "Forms".
 use Rattle.std.specs.Prelude.{◌≡◌, ℕ, List, None}
 use Rattle.hep_source.specs.Units.{Units}
 use Rattle.hep_source.specs.Layout.{opening_layout}

@@ -1,4 +1,4 @@
--- What a report says.
+-- What a report says: docs/ARCHITECTURE.md, "Forms".
 use Rattle.hepf.specs.declared.report.Report.{Report}
 use Rattle.hepf.specs.Outcome.{Outcome}
 

@@ -6,6 +6,7 @@ use Rattle.hep_source.specs.declared.event.Kind.TheVariants.{Overflow, Divide, R
 use Rattle.hep_source.specs.declared.event.Fault.{Fault}
 use Rattle.hep_source.specs.declared.record.Item.{Item}
 use Rattle.hep_source.specs.declared.record.Item.TheVariants.{Int, Truth, Text}
+use Rattle.hep_source.specs.Units.{main_name}
 use Rattle.hep_core.specs.declared.stop.Stop.{Stop}
 use Rattle.hep_core.specs.declared.stop.Stop.TheVariants.{Halted, ArenaFull, StepLimit}
 
@@ -68,7 +69,7 @@ refusal_text number line name = codes "REFUSED " ++ decimal number ++ codes " LI
 -- ---- the texts of a whole run
 
 abbrev pub name_found : Option (List ℕ) → List ℕ
-name_found None = codes "MAIN"
+name_found None = main_name
 name_found (Some name) = name
 
 -- the lines of faults, whose units have these names by number
@@ -83,8 +84,9 @@ stop_text (Some Halted) = []
 stop_text (Some ArenaFull) = codes "STOPPED ARENA FULL\n"
 stop_text (Some StepLimit) = codes "STOPPED STEP LIMIT\n"
 
+-- the refusal of the k-th choice has k for its line
 abbrev pub choice_text : ℕ → List ℕ
-choice_text k = codes "REFUSED 501 LINE " ++ decimal k ++ codes "\n"
+choice_text k = refusal_text 501 k []
 
 abbrev pub write_fault_text : ℕ → List ℕ
 write_fault_text n = codes "WRITE FAULT AFTER " ++ decimal n ++ codes "\n"

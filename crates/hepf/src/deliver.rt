@@ -3,11 +3,12 @@ ghost use Rattle.std.specs.Prelude.{OnOk, IfErr};
 ghost use Rattle.std.specs.Io.KnownBytes.{Appends};
 ghost use Rattle.hepf.specs.Texts.{write_fault_text};
 ghost use Rattle.hepf.specs.Reports.{outcome_of};
-ghost use Rattle.hepf.specs.Delivery.{Leaves, SomeOf};
+ghost use Rattle.hepf.specs.Delivery.{Leaves, Says, SomeOf};
 
-use crate::options::Run;
+use crate::options::{History, Run};
 use crate::output::{PutFault, put_all};
 use crate::report::Report;
+use crate::status::Status;
 use itoa::Buffer;
 use std::io::Write;
 
@@ -17,8 +18,10 @@ use std::io::Write;
 ///
 /// Where `messages` fails too, with how much it took of the piece of the line that failed.
 pub fn put_write_fault<E: Write>(messages: &mut E, written: usize) -> Result<(), PutFault>
-    ensures all { OnOk result (Appends (E.contents messages.old) (E.contents messages.new) (write_fault_text written)) }
-    ensures some { IfErr result (λ _. SomeOf (E.contents messages.old) (E.contents messages.new) (write_fault_text written)) }
+    ensures all { OnOk result (Appends (E.contents messages.old) (E.contents messages.new)
+        (write_fault_text written)) }
+    ensures some { IfErr result (λ _. SomeOf (E.contents messages.old) (E.contents messages.new)
+        (write_fault_text written)) }
 {
     put_all(messages, b"WRITE FAULT AFTER ")?;
     let mut buffer = Buffer::new();
@@ -27,12 +30,30 @@ pub fn put_write_fault<E: Write>(messages: &mut E, written: usize) -> Result<(),
     Ok(())
 }
 
+/// Writes the messages of a run that has this history and comes to this status.
+///
+/// Where that fails, `messages` is told how many bytes it took, and the run comes to
+/// `DeviceFailed`; if this fails too, no more is said.
+pub fn say<E: Write>(messages: &mut E, lines: &[u8], status: Status, history: History) -> Run
+    ensures { Says lines.now status history result
+        (E.contents messages.old) (E.contents messages.new) }
+{
+    match put_all(messages, lines) {
+        Ok(()) => Run::new(status, history),
+        Err(fault) => {
+            let _ = put_write_fault(messages, fault.written);
+            Run::new(Status::DeviceFailed, history)
+        }
+    }
+}
+
 /// Writes a report, the records first.
 ///
-/// Where a writer fails, `messages` is told how many bytes that stream took, and the status is 8;
-/// if this fails too, no more is said.
+/// Where a writer fails, `messages` is told how many bytes that stream took, and the run comes to
+/// `DeviceFailed`; if this fails too, no more is said.
 pub fn deliver<W: Write, E: Write>(report: Report, output: &mut W, messages: &mut E) -> Run
-    ensures { Leaves (outcome_of report) result (W.contents output.old) (W.contents output.new) (E.contents messages.old) (E.contents messages.new) }
+    ensures { Leaves (outcome_of report) result (W.contents output.old) (W.contents output.new)
+        (E.contents messages.old) (E.contents messages.new) }
 {
     let Report {
         output: records,
@@ -40,18 +61,9 @@ pub fn deliver<W: Write, E: Write>(report: Report, output: &mut W, messages: &mu
         status,
         history,
     } = report;
-    match put_all(output, &records) {
-        Ok(()) => {}
-        Err(fault) => {
-            let _ = put_write_fault(messages, fault.written);
-            return Run { status: 8, history };
-        }
+    if let Err(fault) = put_all(output, &records) {
+        let _ = put_write_fault(messages, fault.written);
+        return Run::new(Status::DeviceFailed, history);
     }
-    match put_all(messages, &lines) {
-        Ok(()) => Run { status, history },
-        Err(fault) => {
-            let _ = put_write_fault(messages, fault.written);
-            Run { status: 8, history }
-        }
-    }
+    say(messages, &lines, status, history)
 }

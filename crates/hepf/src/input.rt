@@ -12,6 +12,7 @@ pub const MOST_READS: u32 = 5_000_000;
 /// Why an input couldn't be read.
 #[derive(Clone, Copy, Debug, PartialEq, Eq, Error)]
 pub enum ReadFault {
+    /// Memory was refused.
     #[error("no memory")]
     NoMemory,
     /// A read failed, or there were too many.

@@ -9,6 +9,7 @@ pub mod refusal;
 pub mod report;
 pub mod run;
 pub mod source;
+pub mod status;
 #[cfg(test)]
 mod tests;
 pub mod texts;

@@ -1,6 +1,8 @@
 //! What a run is asked to do, and what it leaves.
 ghost use Rattle.std.specs.Prelude.{◌≡◌, []};
+ghost use Rattle.hepf.specs.Statuses.{status_code};
 
+use crate::status::Status;
 use hep_source::Entry;
 use std::alloc::Global;
 use std::marker::Model;
@@ -71,9 +73,11 @@ impl History {
 /// How a source is run.
 #[derive(Drop)]
 pub struct Options {
-    /// The arena's size in cells, from 1 to 16,777,216.
+    /// The arena's size in cells. A caller is to hand in 1 to 16,777,216; of any other number the
+    /// calls promise the same, so that no frame fits an arena of none.
     pub arena: u32,
-    /// How many entries the history may have, from 1 to 2^40.
+    /// How many entries the history may have. A caller is to hand in 1 to 2^40; of any other number
+    /// the calls promise the same, so that a history of none is full before the first step.
     pub steps: u64,
     /// The choices that the scheduler makes first.
     pub choices: Choices,
@@ -94,9 +98,24 @@ impl Options {
     }
 }
 
-/// What a run came to: the status of the program, and the history.
+/// What a run came to.
 #[derive(Drop)]
 pub struct Run {
+    /// The exit status of the program: the code of a `Status`.
     pub status: u8,
+    /// An entry for each choice that was made.
     pub history: History,
+}
+
+impl Run {
+    // A run that came to this status and has this history.
+    pub(crate) fn new(status: Status, history: History) -> Run
+        ensures status { result.status ≡ status_code status }
+        ensures history { result.history ≡ history }
+    {
+        Run {
+            status: status.code(),
+            history,
+        }
+    }
 }

@@ -9,6 +9,7 @@ use thiserror::Error;
 #[derive(Clone, Copy, Debug, PartialEq, Eq, Error)]
 #[error("write fault after {written}")]
 pub struct PutFault {
+    /// How many bytes were taken.
     pub written: usize,
 }
 

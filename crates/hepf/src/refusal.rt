@@ -8,6 +8,7 @@ use hep_text::TextFault;
 /// Why a source has no core.
 #[derive(Drop)]
 pub enum Refusal {
+    /// Memory was refused.
     NoMemory,
     /// Refused by number, with a line of the source.
     Source { number: u16, line: u32, name: Text },

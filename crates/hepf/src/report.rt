@@ -6,7 +6,8 @@ ghost use Rattle.hepf.specs.Outcome.{ended, choice_refused};
 ghost use Rattle.hepf.specs.Reports.{outcome_of};
 
 use crate::options::History;
-use crate::texts::{put_faults, put_number, put_records, put_refusal};
+use crate::status::Status;
+use crate::texts::{put_faults, put_records, put_refusal};
 use hep_core::{Core, Stop, Verdict};
 use hep_source::{Fault, Text};
 use std::alloc::{AllocError, Global};
@@ -14,15 +15,19 @@ use std::alloc::{AllocError, Global};
 /// What a run writes to both outputs, its status and its history.
 #[derive(Drop)]
 pub struct Report {
+    /// The lines of the records.
     pub output: Vec<u8>,
+    /// The lines of the faults and of a stop, or that of a refusal.
     pub messages: Vec<u8>,
-    pub status: u8,
+    /// What the run came to.
+    pub status: Status,
+    /// An entry for each choice that was made.
     pub history: History,
 }
 
 impl Report {
     /// The same as an outcome, with no record.
-    fn silent(alloc: Global, messages: Vec<u8>, status: u8, history: History) -> Report
+    fn silent(alloc: Global, messages: Vec<u8>, status: Status, history: History) -> Report
         ensures output { result.output.items ≡ [] }
         ensures messages { result.messages ≡ messages }
         ensures status { result.status ≡ status }
@@ -47,14 +52,14 @@ fn stop_text(stop: Option<Stop>) -> &'static [u8]
     }
 }
 
-fn status_of(stop: Option<Stop>, faults: &[Fault]) -> u8
+fn status_of(stop: Option<Stop>, faults: &[Fault]) -> Status
     ensures { result ≡ outcome.status_of stop faults.now }
 {
     match (stop, faults) {
-        (Some(Stop::ArenaFull), _) => 5,
-        (Some(Stop::StepLimit), _) => 6,
-        (None | Some(Stop::Halted), []) => 0,
-        (None | Some(Stop::Halted), [_, ..]) => 3,
+        (Some(Stop::ArenaFull), _) => Status::ArenaFull,
+        (Some(Stop::StepLimit), _) => Status::StepLimit,
+        (None | Some(Stop::Halted), []) => Status::Done,
+        (None | Some(Stop::Halted), [_, ..]) => Status::Faulted,
     }
 }
 
@@ -80,7 +85,8 @@ fn history_of(alloc: Global, core: &Core) -> Result<History, AllocError>
 ///
 /// Only where memory was refused.
 pub fn ended_report(alloc: Global, core: &Core) -> Result<Report, AllocError>
-    ensures { IfOk result (λ r. outcome_of r ≡ ended core.now.program core.now.history core.now.stop) }
+    ensures { IfOk result (λ r.
+        outcome_of r ≡ ended core.now.program core.now.history core.now.stop) }
 {
     let stop = stop_of(core);
     let history = history_of(alloc, core)?;
@@ -107,10 +113,9 @@ pub fn choice_report(alloc: Global, core: &Core, choice: usize) -> Result<Report
     ensures { IfOk result (λ r. outcome_of r ≡ choice_refused core.now.history) }
 {
     let history = history_of(alloc, core)?;
-    let mut messages = Vec::from_slice(alloc, b"REFUSED 501 LINE ")?;
-    put_number(&mut messages, choice)?;
-    messages.extend_from_slice(b"\n")?;
-    Ok(Report::silent(alloc, messages, 2, history))
+    let mut messages = Vec::new(alloc);
+    put_refusal(&mut messages, 501, choice as u64, b"")?;
+    Ok(Report::silent(alloc, messages, Status::ChoiceRefused, history))
 }
 
 /// What a refused source leaves.
@@ -127,9 +132,9 @@ pub fn refused_report(
     ensures { IfOk result (λ r. outcome_of r ≡ outcome.refused number line name.now) }
 {
     let mut messages = Vec::new(alloc);
-    put_refusal(&mut messages, number, line, name.as_slice())?;
+    put_refusal(&mut messages, number, u64::from(line), name.as_slice())?;
     let history = History::from(Vec::new(alloc));
-    Ok(Report::silent(alloc, messages, 1, history))
+    Ok(Report::silent(alloc, messages, Status::Refused, history))
 }
 
 /// What a program leaves whose frame doesn't fit the arena.
@@ -140,7 +145,7 @@ pub fn refused_report(
 pub fn full_report(alloc: Global) -> Result<Report, AllocError>
     ensures { IfOk result (λ r. outcome_of r ≡ outcome.arena_full) }
 {
-    let messages = Vec::from_slice(alloc, b"STOPPED ARENA FULL\n")?;
+    let messages = Vec::from_slice(alloc, stop_text(Some(Stop::ArenaFull)))?;
     let history = History::from(Vec::new(alloc));
-    Ok(Report::silent(alloc, messages, 5, history))
+    Ok(Report::silent(alloc, messages, Status::ArenaFull, history))
 }

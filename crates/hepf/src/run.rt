@@ -1,12 +1,10 @@
 //! A source's bytes to what its run writes.
-ghost use Rattle.std.specs.Prelude.{◌≡◌, ◌+◌, ◌≤◌, [], None, IsSome, IfOk, IfErr, OnOk, length};
-ghost use Rattle.hep_source.specs.Units.{Units};
-ghost use Rattle.hep_source.specs.Layout.{opening_layout};
+ghost use Rattle.std.specs.Prelude.{◌≡◌, ◌≤◌, [], None, IfOk, IfErr, OnOk, length};
 ghost use Rattle.hep_core.specs.Value.{opening_of};
-ghost use Rattle.hepf.specs.Outcome.{IsAccepted, IsOutcome, IsRunOutcome, next_process};
+ghost use Rattle.hepf.specs.Outcome.{IsOutcome, IsRunOutcome, next_process};
 ghost use Rattle.hepf.specs.Refusals.{IsRefusalOf};
 ghost use Rattle.hepf.specs.Reports.{outcome_of};
-ghost use Rattle.hepf.specs.Progress.{IsRunning, IsHaltedBy};
+ghost use Rattle.hepf.specs.Progress.{IsOpening, IsRunning, IsHaltedBy};
 
 use crate::options::Options;
 use crate::refusal::Refusal;
@@ -19,6 +17,7 @@ use std::alloc::{AllocError, Global};
 /// Why the choices weren't all made.
 #[derive(Clone, Copy, Debug, PartialEq, Eq)]
 pub enum Halt {
+    /// Memory was refused.
     NoMemory,
     /// This choice, counted from 1, names no living process.
     NoSuchProcess(usize),
@@ -26,8 +25,7 @@ pub enum Halt {
 
 // The core at the opening of a source.
 fn core_of(alloc: Global, source: &[u8], options: &Options) -> Result<Core, Refusal>
-    ensures made { IfOk result (λ core. (program : Units) × IsAccepted source.now program
-        × IsSome (opening_layout program options.now.arena) × (core ≡ opening_of program options.now.arena options.now.steps)) }
+    ensures made { IfOk result (IsOpening source.now options.now) }
     ensures refused { IfErr result (IsRefusalOf source.now options.now) }
 {
     let statements = statements(alloc, source)?;
@@ -44,7 +42,8 @@ fn make_choices(core: &mut Core, options: &Options) -> Result<(), Halt>
     requires going { core.old.stop ≡ None }
     ensures program { core.new.program ≡ core.old.program }
     ensures running { OnOk result (IsRunning options.now core.new) }
-    ensures made { OnOk result (core.new.stop ≡ None → length options.now.choices ≤ length core.new.history) }
+    ensures made { OnOk result (core.new.stop ≡ None
+        → length options.now.choices ≤ length core.new.history) }
     ensures halted { IfErr result (IsHaltedBy options.now core.new) }
 {
     for (index, process) in options.choices.as_slice().iter().enumerate() {
@@ -61,7 +60,8 @@ fn make_choices(core: &mut Core, options: &Options) -> Result<(), Halt>
 // Chooses what is ready, until nothing is or the run stops.
 fn run_on(core: &mut Core, options: &Options) -> Result<(), AllocError>
     requires running { IsRunning options.now core.old }
-    requires made { core.old.stop ≡ None → length options.now.choices ≤ length core.old.history }
+    requires made { core.old.stop ≡ None
+        → length options.now.choices ≤ length core.old.history }
     ensures program { core.new.program ≡ core.old.program }
     ensures running { OnOk result (IsRunning options.now core.new) }
     ensures over { OnOk result (core.new.stop ≡ None

@@ -1,37 +1,28 @@
 //! The program's work on one source, from its reader to its two writers.
-ghost use Rattle.hepf.specs.Delivery.{RunsSource, Says};
+ghost use Rattle.hepf.specs.Delivery.{RunsSource};
 
-use crate::deliver::{deliver, put_write_fault};
+use crate::deliver::{deliver, say};
 use crate::input::{ReadFault, read_input};
 use crate::options::{History, Options, Run};
-use crate::output::put_all;
 use crate::run::report_of;
+use crate::status::Status;
 use std::alloc::Global;
 use std::io::{Read, Write};
 
-/// A source has at most so many bytes.
+/// The most bytes of a source; its reading ends once more have come.
+///
+/// It is `MOST_BYTES` of `hep_text`, which refuses a longer source with 107. Were it less, a front
+/// of a source could be run in the place of the source; `run_source` is proved for just this number
+/// in both.
 pub const MOST_BYTES: usize = 4_194_304;
 
-// Says why there is no outcome.
-fn say<E: Write>(alloc: Global, messages: &mut E, line: &[u8], status: u8) -> Run
-    ensures { Says line.now status result (E.contents messages.old) (E.contents messages.new) }
-{
-    let history = History::from(Vec::new(alloc));
-    match put_all(messages, line) {
-        Ok(()) => Run { status, history },
-        Err(fault) => {
-            let _ = put_write_fault(messages, fault.written);
-            Run { status: 8, history }
-        }
-    }
-}
+// The line where memory was refused.
+const NO_MEMORY: &[u8] = b"NO MEMORY\n";
 
 /// Runs a source: reads it, checks it, runs it by the options, and then writes the records to
 /// `output` and the faults, the stop or the refusal to `messages`.
 ///
-/// The status is 0 for a run that is done, 1 for a refused source, 2 for a choice that names no
-/// living process, 3 for faults, 5 for a full arena, 6 at the step limit, 7 for want of memory,
-/// 8 where a read or a write failed.
+/// The run's status is the code of a `Status`.
 pub fn run_source<R: Read, W: Write, E: Write>(
     alloc: Global,
     source: &mut R,
@@ -39,15 +30,20 @@ pub fn run_source<R: Read, W: Write, E: Write>(
     output: &mut W,
     messages: &mut E,
 ) -> Run
-    ensures { RunsSource (R.remaining source.old) options.now result (W.contents output.old) (W.contents output.new) (E.contents messages.old) (E.contents messages.new) }
+    ensures { RunsSource (R.remaining source.old) options.now result
+        (W.contents output.old) (W.contents output.new)
+        (E.contents messages.old) (E.contents messages.new) }
 {
+    let none = History::from(Vec::new(alloc));
     let bytes = match read_input(alloc, source, MOST_BYTES) {
         Ok(bytes) => bytes,
-        Err(ReadFault::NoMemory) => return say(alloc, messages, b"NO MEMORY\n", 7),
-        Err(ReadFault::Failed) => return say(alloc, messages, b"READ FAULT\n", 8),
+        Err(ReadFault::NoMemory) => return say(messages, NO_MEMORY, Status::NoMemory, none),
+        Err(ReadFault::Failed) => {
+            return say(messages, b"READ FAULT\n", Status::DeviceFailed, none);
+        }
     };
     match report_of(alloc, &bytes, options) {
         Ok(report) => deliver(report, output, messages),
-        Err(_) => say(alloc, messages, b"NO MEMORY\n", 7),
+        Err(_) => say(messages, NO_MEMORY, Status::NoMemory, none),
     }
 }

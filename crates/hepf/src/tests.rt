@@ -666,16 +666,22 @@ fn step_limit(rt: HostRuntime) -> Result<(), Fail> {
 
 // ---- readers and writers that behave badly
 
-// Gives so many bytes of a text a call, again and again where it is endless.
+// Gives a byte of a text a call, again and again where it is endless; where it is interrupted, its
+// first call gives none.
 #[derive(Drop)]
 struct Trickle {
     text: &'static [u8],
     place: usize,
     is_endless: bool,
+    is_interrupted: bool,
 }
 
 impl Read for Trickle {
     fn read(&mut self, buf: &mut [u8]) -> io::Result<usize> {
+        if self.is_interrupted {
+            self.is_interrupted = false;
+            return Err(Error::from(ErrorKind::Interrupted));
+        }
         let place = if self.is_endless && self.text.len() <= self.place {
             0
         } else {
@@ -752,12 +758,21 @@ fn readers(rt: HostRuntime) {
         text: FIRST,
         place: 0,
         is_endless: false,
+        is_interrupted: false,
     };
     read_from(&rt, alloc, &mut slow, b"", 0);
+    let mut once_interrupted = Trickle {
+        text: FIRST,
+        place: 0,
+        is_endless: false,
+        is_interrupted: true,
+    };
+    read_from(&rt, alloc, &mut once_interrupted, b"", 0);
     let mut endless = Trickle {
         text: FIRST,
         place: 0,
         is_endless: true,
+        is_interrupted: false,
     };
     read_from(&rt, alloc, &mut endless, b"REFUSED 107 LINE 0\n", 1);
     let mut broken = Broken {

@@ -4,12 +4,16 @@ ghost use Rattle.hep_core.specs.Names.{names_of};
 ghost use Rattle.hepf.specs.Texts as texts;
 ghost use Rattle.hepf.specs.Texts.{item_text, record_text, fault_text, refusal_text};
 
-use hep_core::Image;
+use hep_core::{Image, MAIN_NAME};
 use hep_source::{Fault, Item, Kind, Record};
 use itoa::{Buffer, Integer};
 use std::alloc::AllocError;
 
 /// Appends a number in decimal.
+///
+/// # Errors
+///
+/// Only where memory was refused.
 pub fn put_number<I: Integer>(text: &mut Vec<u8>, number: I) -> Result<(), AllocError>
     ensures { OnOk result (text.new.items ≡ text.old.items ++ I.text number) }
 {
@@ -31,15 +35,13 @@ fn put_item(text: &mut Vec<u8>, item: &Item) -> Result<(), AllocError>
 fn is_text(item: &Item) -> bool
     ensures { result ≡ texts.is_text item.now }
 {
-    match item {
-        Item::Text(_) => true,
-        _ => false,
-    }
+    matches!(item, Item::Text(_))
 }
 
 // An item, with a blank before it where it follows another that is no character constant either.
 fn put_next(text: &mut Vec<u8>, follows: bool, item: &Item) -> Result<(), AllocError>
-    ensures { OnOk result (text.new.items ≡ text.old.items ++ (texts.gap follows item.now ++ item_text item.now)) }
+    ensures { OnOk result (text.new.items
+        ≡ text.old.items ++ (texts.gap follows item.now ++ item_text item.now)) }
 {
     if follows && !is_text(item) {
         text.extend_from_slice(b" ")?;
@@ -61,6 +63,10 @@ fn put_items(text: &mut Vec<u8>, items: &[Item]) -> Result<(), AllocError>
 
 /// Appends the line of a record: a blank, then the items, with one blank between two neighbours
 /// that are both no character constants.
+///
+/// # Errors
+///
+/// Only where memory was refused.
 pub fn put_record(text: &mut Vec<u8>, line: &Record) -> Result<(), AllocError>
     ensures { OnOk result (text.new.items ≡ text.old.items ++ record_text line.now) }
 {
@@ -96,6 +102,10 @@ fn put_cause(text: &mut Vec<u8>, fault: &Fault) -> Result<(), AllocError>
 }
 
 /// Appends the line of a fault in a unit of this name: `FAULT p unit LINE n fault`.
+///
+/// # Errors
+///
+/// Only where memory was refused.
 pub fn put_fault(text: &mut Vec<u8>, unit: &[u8], fault: &Fault) -> Result<(), AllocError>
     ensures { OnOk result (text.new.items ≡ text.old.items ++ fault_text unit.now fault.now) }
 {
@@ -109,10 +119,14 @@ pub fn put_fault(text: &mut Vec<u8>, unit: &[u8], fault: &Fault) -> Result<(), A
 
 /// Appends the line of a refusal: `REFUSED number LINE n`, with the name behind it where it has
 /// one.
+///
+/// # Errors
+///
+/// Only where memory was refused.
 pub fn put_refusal(
     text: &mut Vec<u8>,
     number: u16,
-    line: u32,
+    line: u64,
     name: &[u8],
 ) -> Result<(), AllocError>
     ensures { OnOk result (text.new.items ≡ text.old.items ++ refusal_text number line name.now) }
@@ -130,6 +144,10 @@ pub fn put_refusal(
 }
 
 /// Appends the lines of records, in order.
+///
+/// # Errors
+///
+/// Only where memory was refused.
 pub fn put_records(text: &mut Vec<u8>, records: &[Record]) -> Result<(), AllocError>
     ensures { OnOk result (text.new.items ≡ text.old.items ++ texts.records_text records.now) }
 {
@@ -145,13 +163,18 @@ fn unit_name(image: &Image, number: u32) -> &[u8]
 {
     match image.name(number) {
         Some(name) => name,
-        None => b"MAIN",
+        None => MAIN_NAME,
     }
 }
 
 /// Appends the lines of faults, in order.
+///
+/// # Errors
+///
+/// Only where memory was refused.
 pub fn put_faults(text: &mut Vec<u8>, image: &Image, faults: &[Fault]) -> Result<(), AllocError>
-    ensures { OnOk result (text.new.items ≡ text.old.items ++ texts.faults_text (names_of image.now) faults.now) }
+    ensures { OnOk result (text.new.items
+        ≡ text.old.items ++ texts.faults_text (names_of image.now) faults.now) }
 {
     for fault in faults {
         put_fault(text, unit_name(image, fault.unit), fault)?;

@@ -22,7 +22,7 @@ returns-in-Ok c = λ program s is alive k.
     let here = ahead code place step.field-0.now (Step step.line step.operation) step.ensures.lookup.3.0 step.ensures.lookup.1 step.field-0-is in
     let front : drop place (program_code program) ≡ Step step.line step.operation ∷ drop (place + 1) (program_code program) = subst (λ c. drop place c ≡ Step step.line step.operation ∷ drop (place + 1) c) is here in
     let rest = drop (place + 1) (program_code program) in
-    stepped_by program s c.give.result (snapshot_of c.give.new.self) (with_result m c.in-Evaluate.evaluation c.in-Ok.value) m c.give.ensures
+    stepped_by program s c.give.result (snapshot_of c.give.new.self) (with_result m c.in-Evaluate.evaluation c.in-Ok.value) m c.give.ensures.done c.give.ensures.refused
     (gives_value program m s step.line step.operation rest shown alive front c.in-Evaluate.evaluation c.in-Ok.value c.in-Evaluate.is (sym c.evaluate.ensures ∙ c.in-Ok.is)) shown
 
 pub returns-in-Err : goal.returns-in-Err
@@ -36,7 +36,7 @@ returns-in-Err c = λ program s is alive k.
     let here = ahead code place step.field-0.now (Step step.line step.operation) step.ensures.lookup.3.0 step.ensures.lookup.1 step.field-0-is in
     let front : drop place (program_code program) ≡ Step step.line step.operation ∷ drop (place + 1) (program_code program) = subst (λ c. drop place c ≡ Step step.line step.operation ∷ drop (place + 1) c) is here in
     let rest = drop (place + 1) (program_code program) in
-    stepped_by program s c.fail.result (snapshot_of c.fail.new.self) (with_fault m step.line c.in-Err.kind) m c.fail.ensures
+    stepped_by program s c.fail.result (snapshot_of c.fail.new.self) (with_fault m step.line c.in-Err.kind) m c.fail.ensures.done c.fail.ensures.refused
     (gives_fault program m s step.line step.operation rest shown alive front c.in-Evaluate.evaluation c.in-Err.kind c.in-Evaluate.is (sym c.evaluate.ensures ∙ c.in-Err.is)) shown
 
 pub returns-in-Store : goal.returns-in-Store
@@ -64,7 +64,7 @@ returns-in-Print c = λ program s is alive k.
     let here = ahead code place step.field-0.now (Step step.line step.operation) step.ensures.lookup.3.0 step.ensures.lookup.1 step.field-0-is in
     let front : drop place (program_code program) ≡ Step step.line step.operation ∷ drop (place + 1) (program_code program) = subst (λ c. drop place c ≡ Step step.line step.operation ∷ drop (place + 1) c) is here in
     let rest = drop (place + 1) (program_code program) in
-    stepped_by program s c.print.result (snapshot_of c.print.new.self) (with_printed m) m c.print.ensures
+    stepped_by program s c.print.result (snapshot_of c.print.new.self) (with_printed m) m c.print.ensures.done c.print.ensures.refused
     (prints_record program m s step.line step.operation rest shown alive front c.in-Print.is) shown
 
 pub returns-in-End : goal.returns-in-End

@@ -26,7 +26,7 @@ returns-in_err-step c =
     let value : record (core_value i) { history = c.reserve.new.self.items; view = kept_view i.image (snapshot_of c.step.new.self) } ≡ core_value i =
     λ j. record (core_value i) { history = c.reserve.ensures.items j; view = view j } in
     let none : i.stop ≡ None = search rules in
-    let lives : living s c.args.p ≢ None = rw c.if-p-ne1.false (process_lives i.image (snapshot_of i.machine) s c.self.invariant.shown c.if-not-self.false) in
+    let lives : living s c.args.p ≢ None = rw c.if-p-ne-MAIN_PROCESS.false (process_lives i.image (snapshot_of i.machine) s c.self.invariant.shown c.if-not-self.false) in
     let lt : length i.history.items < i.limit = omega (arith, c.len.ensures) in
     rw (p.1, p.2, ← c.self.view_is) ((none, c.self.invariant.shown.running), lives, lt, value)
 
@@ -38,7 +38,7 @@ invariant_of-self-2 c =
     let p = c.args.p in
     let e : Entry = record { process = p; steps = 1 } in
     let done = c.in_ok-step.ensures i.image s c.code.ensures c.if-not-self.false c.self.invariant.shown in
-    let step_is : step i.image p s ≡ Some done.0 = rw c.if-p-ne1.false done.1 in
+    let step_is : step i.image p s ≡ Some done.0 = rw c.if-p-ne-MAIN_PROCESS.false done.1 in
     let none : i.stop ≡ None = search rules in
     let lt : length h < i.limit = omega (arith, c.len.ensures) in
     let is : c.note.new.history.items ≡ h ++ e ∷ [] = c.note.ensures ∙ ap (λ xs. xs ++ e ∷ []) c.reserve.ensures.items in
@@ -61,7 +61,7 @@ returns c =
     let p = c.args.p in
     let e : Entry = record { process = p; steps = 1 } in
     let done = c.in_ok-step.ensures i.image s c.code.ensures c.if-not-self.false c.self.invariant.shown in
-    let step_is : step i.image p s ≡ Some done.0 = rw c.if-p-ne1.false done.1 in
+    let step_is : step i.image p s ≡ Some done.0 = rw c.if-p-ne-MAIN_PROCESS.false done.1 in
     let none : i.stop ≡ None = search rules in
     let lt : length h < i.limit = omega (arith, c.len.ensures) in
     let is : c.note.new.history.items ≡ h ++ e ∷ [] = c.note.ensures ∙ ap (λ xs. xs ++ e ∷ []) c.reserve.ensures.items in

@@ -37,23 +37,27 @@ invariant_of-result c =
       named = subst (λ t. t.halted ≡ false) (sym state) shown.running;
     }
 
-pub returns : goal.returns
-returns c =
+pub returns-clause-fits : goal.returns-clause-fits
+returns-clause-fits c =
+    let fits : main_cells c.args.image ≤ c.args.cells = omega (arith, c.variables-variables.ensures.count) in
+    has_gap c.args.image c.args.cells c.variables-variables.ensures.runs fits
+
+pub returns-clause-made : goal.returns-clause-made
+returns-clause-made c =
     let program = c.args.image in
     let none : c.new.result.items ≡ [] = c.new.ensures.items in
     let m = snapshot_of c.in_ok-machine.machine in
     let runs = c.variables-variables.ensures.runs in
     let shown : Shows program m (opening program) = shows_opening program m c.variables-variables.result runs c.in_ok-machine.ensures c.variables-variables.ensures.count in
     let view : kept_view program m ≡ view_of program has_frame (state_after program []) = shows_view program m (opening program) shown ∙ ap (view_of program has_frame) (sym (state_after-nil program)) in
-    let fits : main_cells program ≤ c.args.cells = omega (arith, c.variables-variables.ensures.count) in
-    (has_gap program c.args.cells runs fits, λ i. record (opening_of program c.args.cells c.args.steps) { history = none i; view = view i })
+    λ i. record (opening_of program c.args.cells c.args.steps) { history = none i; view = view i }
 
-pub returns-then-cells-variables : goal.returns-then-cells-variables
-returns-then-cells-variables c =
+pub returns-then-cells-variables-clause-unmade : goal.returns-then-cells-variables-clause-unmade
+returns-then-cells-variables-clause-unmade c =
     has_no_gap c.args.image c.args.cells c.variables-variables.ensures.runs (omega (arith, c.variables-variables.ensures.count, c.if-cells-variables.true))
 
-pub returns-in_err-machine : goal.returns-in_err-machine
-returns-in_err-machine c =
+pub returns-in_err-machine-clause-unmade : goal.returns-in_err-machine-clause-unmade
+returns-in_err-machine-clause-unmade c =
     let program = c.args.image in
     let p = err_from_is_err_and c.from_residual.result c.from_residual.ensures.1 in
     let fits : main_cells program ≤ c.args.cells = omega (arith, c.variables-variables.ensures.count) in

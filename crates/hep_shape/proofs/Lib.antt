@@ -1,0 +1,4 @@
+pub mod Extents
+pub mod Columns
+pub mod Counts
+mod Worked
