@@ -6,26 +6,26 @@ use Rattle.hep_source.specs.declared.name.Name.{Name}
 use Rattle.hep_source.specs.declared.statement.Form.{Form}
 use Rattle.hep_source.specs.declared.statement.Form.TheVariants as form
 use Rattle.hep_source.specs.declared.statement.Statement.{Statement}
-use Rattle.hep_source.specs.Control.{Role, opens, alternative, otherwise, closes, other, role_of, place_labelled}
-use Rattle.hep_source.specs.Declarations.{is_constant_name, is_nonempty}
+use Rattle.hep_machine.specs.Control.{Role, opens, alternative, otherwise, closes, other, role_of, index_labelled}
+use Rattle.hep_machine.specs.Declarations.{is_constant_name, is_nonempty}
 use Rattle.hep_source.specs.Names.{same_name}
 use Rattle.hep_source.specs.Units.{line_at, statement_at}
 use Rattle.hep_check.specs.Types.{is_plain_integer_scalar}
 use Rattle.hep_check.specs.Statements.{targets_of_jump}
 use Rattle.hep_check.specs.Violations.{Violations, at_line, when}
 
--- ---- statements with their places in the unit: 3.5
+-- ---- statements with their indexes in the unit: 3.5
 
-pub record Placed : Type 0 where
-  pub place : ℕ
+pub record IndexedStatement : Type 0 where
+  pub index : ℕ
   pub statement : Statement
 
-abbrev pub placed_from : ℕ → List Statement → List Placed
-placed_from k [] = []
-placed_from k (s ∷ ss) = record { place = k; statement = s } ∷ placed_from (suc k) ss
+abbrev pub indexed_from : ℕ → List Statement → List IndexedStatement
+indexed_from k [] = []
+indexed_from k (s ∷ ss) = record { index = k; statement = s } ∷ indexed_from (suc k) ss
 
-abbrev pub placed : List Statement → List Placed
-placed unit = placed_from 0 unit
+abbrev pub indexed_statements : List Statement → List IndexedStatement
+indexed_statements unit = indexed_from 0 unit
 
 -- a statement that is no logical IF
 abbrev pub is_unconditional : Statement → Bool
@@ -33,24 +33,24 @@ is_unconditional s = not (is_nonempty s.conditions)
 
 -- ---- DO ranges: 11.10.1
 
--- a DO: its place, the place of its terminal statement and its variable
-pub record Range : Type 0 where
+-- a DO: its place, the index of its terminal statement and its variable
+pub record DoRange : Type 0 where
   pub start : ℕ
   pub terminal : ℕ
   pub variable : Name
 
-abbrev pub range_to : ℕ → Name → Option ℕ → List Range
+abbrev pub range_to : ℕ → Name → Option ℕ → List DoRange
 range_to k x None = []
 range_to k x (Some t) = if nat_lt k t then record { start = k; terminal = t; variable = x } ∷ [] else []
 
-abbrev pub range_by : List Statement → ℕ → Form → List Range
-range_by unit k (form.Do c) = range_to k c.variable.name (place_labelled unit c.terminal)
+abbrev pub range_by : List Statement → ℕ → Form → List DoRange
+range_by unit k (form.Do c) = range_to k c.variable.name (index_labelled unit c.terminal)
 range_by unit k _ = []
 
--- the DOs of a unit that have their terminal statements behind them; one within a logical IF has no range
-abbrev pub ranges_of : List Statement → List Range
+-- the DOs of a unit that have their terminal statements after them; one within a logical IF has no range
+abbrev pub ranges_of : List Statement → List DoRange
 ranges_of unit =
-    flat_map (λ (p : Placed). if is_unconditional p.statement then range_by unit p.place p.statement.form else []) (placed unit)
+    flat_map (λ (p : IndexedStatement). if is_unconditional p.statement then range_by unit p.index p.statement.form else []) (indexed_statements unit)
 
 -- ---- IF blocks: 11.6 to 11.9
 
@@ -62,40 +62,40 @@ pub record BlockIf : Type 0 where
   pub end : Option ℕ
 
 -- what was read of a unit: block IFs that are open, the innermost first, those that are closed, and statements that fit none
-pub record Blocks : Type 0 where
+pub record BlockIfs : Type 0 where
   pub unclosed : List BlockIf
   pub closed : List BlockIf
   pub stray : List ℕ
 
-abbrev pub opened : Blocks → ℕ → Blocks
-opened bs k = record bs { unclosed = record { start = k; divisions = []; has_else = false; end = None } ∷ bs.unclosed }
+abbrev pub with_block_if : BlockIfs → ℕ → BlockIfs
+with_block_if bs k = record bs { unclosed = record { start = k; divisions = []; has_else = false; end = None } ∷ bs.unclosed }
 
-abbrev pub strayed : Blocks → ℕ → Blocks
-strayed bs k = record bs { stray = k ∷ bs.stray }
+abbrev pub with_stray : BlockIfs → ℕ → BlockIfs
+with_stray bs k = record bs { stray = k ∷ bs.stray }
 
-abbrev pub divided : Blocks → ℕ → Bool → List BlockIf → Blocks
-divided bs k is_else [] = strayed bs k
-divided bs k is_else (b ∷ more) =
-    if b.has_else then strayed bs k else record bs { unclosed = record b { divisions = k ∷ b.divisions; has_else = is_else } ∷ more }
+abbrev pub with_division : BlockIfs → ℕ → Bool → List BlockIf → BlockIfs
+with_division bs k is_else [] = with_stray bs k
+with_division bs k is_else (b ∷ more) =
+    if b.has_else then with_stray bs k else record bs { unclosed = record b { divisions = k ∷ b.divisions; has_else = is_else } ∷ more }
 
-abbrev pub closed_at : Blocks → ℕ → List BlockIf → Blocks
-closed_at bs k [] = strayed bs k
-closed_at bs k (b ∷ more) = record bs { unclosed = more; closed = record b { end = Some k } ∷ bs.closed }
+abbrev pub with_end_if : BlockIfs → ℕ → List BlockIf → BlockIfs
+with_end_if bs k [] = with_stray bs k
+with_end_if bs k (b ∷ more) = record bs { unclosed = more; closed = record b { end = Some k } ∷ bs.closed }
 
-abbrev pub with_role : Blocks → ℕ → Role → Blocks
-with_role bs k opens = opened bs k
-with_role bs k alternative = divided bs k false bs.unclosed
-with_role bs k otherwise = divided bs k true bs.unclosed
-with_role bs k closes = closed_at bs k bs.unclosed
+abbrev pub with_role : BlockIfs → ℕ → Role → BlockIfs
+with_role bs k opens = with_block_if bs k
+with_role bs k alternative = with_division bs k false bs.unclosed
+with_role bs k otherwise = with_division bs k true bs.unclosed
+with_role bs k closes = with_end_if bs k bs.unclosed
 with_role bs k other = bs
 
-abbrev pub with_all : Blocks → List Placed → Blocks
+abbrev pub with_all : BlockIfs → List IndexedStatement → BlockIfs
 with_all bs [] = bs
-with_all bs (p ∷ ps) = with_all (with_role bs p.place (role_of p.statement)) ps
+with_all bs (p ∷ ps) = with_all (with_role bs p.index (role_of p.statement)) ps
 
 -- block IFs are matched among themselves, without regard to DOs
-abbrev pub blocks_of : List Statement → Blocks
-blocks_of unit = with_all (record { unclosed = []; closed = []; stray = [] }) (placed unit)
+abbrev pub block_ifs_of : List Statement → BlockIfs
+block_ifs_of unit = with_all (record { unclosed = []; closed = []; stray = [] }) (indexed_statements unit)
 
 -- ---- 307: statements by themselves (11.5 and 11.10)
 
@@ -142,79 +142,79 @@ terminal_violations unit line k (Some t) =
 
 abbrev pub loop_violations : List Statement → ℕ → ℕ → Form → Violations
 loop_violations unit line k (form.Do c) =
-    when (not (is_loop_variable unit c.variable.name)) (at_line 307 line) ++ terminal_violations unit line k (place_labelled unit c.terminal)
+    when (not (is_loop_variable unit c.variable.name)) (at_line 307 line) ++ terminal_violations unit line k (index_labelled unit c.terminal)
 loop_violations unit line k _ = []
 
 -- a DO that a logical IF holds has no range, and so no terminal statement
-abbrev pub statement_violations : List Statement → Placed → Violations
+abbrev pub statement_violations : List Statement → IndexedStatement → Violations
 statement_violations unit p =
     when (holds_wrongly p.statement.conditions p.statement.form) (at_line 307 p.statement.line)
-    ++ (if is_unconditional p.statement then loop_violations unit p.statement.line p.place p.statement.form else [])
+    ++ (if is_unconditional p.statement then loop_violations unit p.statement.line p.index p.statement.form else [])
 
 -- ---- 307: block IFs by themselves (11.6 to 11.9)
 
 abbrev pub block_violations : List Statement → Violations
 block_violations unit =
-    map (λ k. at_line 307 (line_at unit k)) (blocks_of unit).stray
-    ++ map (λ (b : BlockIf). at_line 307 (line_at unit b.start)) (blocks_of unit).unclosed
+    map (λ k. at_line 307 (line_at unit k)) (block_ifs_of unit).stray
+    ++ map (λ (b : BlockIf). at_line 307 (line_at unit b.start)) (block_ifs_of unit).unclosed
 
 -- ---- 307: what isn't nested (11.10.1)
 
--- the later one begins within the range of the earlier one and ends behind it
-abbrev pub ranges_cross : Range → Range → Bool
+-- the later one begins within the range of the earlier one and ends after it
+abbrev pub ranges_cross : DoRange → DoRange → Bool
 ranges_cross a b = nat_lt a.start b.start && (nat_le b.start a.terminal && nat_lt a.terminal b.terminal)
 
 -- a DO in the range of another, with its variable
-abbrev pub shares_variable : Range → Range → Bool
+abbrev pub shares_variable : DoRange → DoRange → Bool
 shares_variable a b = nat_lt a.start b.start && (nat_le b.start a.terminal && same_name a.variable b.variable)
 
-abbrev pub range_pair : List Statement → Range → Range → Violations
+abbrev pub range_pair : List Statement → DoRange → DoRange → Violations
 range_pair unit a b = when (ranges_cross a b || shares_variable a b) (at_line 307 (line_at unit b.start))
 
 abbrev pub is_between : ℕ → ℕ → ℕ → Bool
 is_between low high k = nat_lt low k && nat_le k high
 
-abbrev pub ends_behind : ℕ → Option ℕ → Bool
-ends_behind t None = false
-ends_behind t (Some e) = nat_lt t e
+abbrev pub ends_after : ℕ → Option ℕ → Bool
+ends_after t None = false
+ends_after t (Some e) = nat_lt t e
 
 abbrev pub end_between : ℕ → ℕ → Option ℕ → Bool
 end_between low high None = false
 end_between low high (Some e) = is_between low high e
 
 -- a block IF that begins in the range of a DO ends in it
-abbrev pub leaves_range : Range → BlockIf → Bool
-leaves_range r b = is_between r.start r.terminal b.start && ends_behind r.terminal b.end
+abbrev pub leaves_range : DoRange → BlockIf → Bool
+leaves_range r b = is_between r.start r.terminal b.start && ends_after r.terminal b.end
 
 -- the range of a DO that begins in a block ends in that block
-abbrev pub leaves_block : Range → BlockIf → Bool
+abbrev pub leaves_block : DoRange → BlockIf → Bool
 leaves_block r b =
     nat_lt b.start r.start && (list_any (is_between r.start r.terminal) b.divisions || end_between r.start r.terminal b.end)
 
-abbrev pub crossing : List Statement → Range → BlockIf → Violations
+abbrev pub crossing : List Statement → DoRange → BlockIf → Violations
 crossing unit r b = when (leaves_range r b) (at_line 307 (line_at unit b.start)) ++ when (leaves_block r b) (at_line 307 (line_at unit r.start))
 
 abbrev pub nesting_violations : List Statement → Violations
 nesting_violations unit =
-    flat_map (λ (a : Range). flat_map (range_pair unit a) (ranges_of unit) ++ flat_map (crossing unit a) (blocks_of unit).closed) (ranges_of unit)
+    flat_map (λ (a : DoRange). flat_map (range_pair unit a) (ranges_of unit) ++ flat_map (crossing unit a) (block_ifs_of unit).closed) (ranges_of unit)
 
-abbrev pub misnested : List Statement → Violations
-misnested unit = flat_map (statement_violations unit) (placed unit) ++ (block_violations unit ++ nesting_violations unit)
+abbrev pub structure_violations : List Statement → Violations
+structure_violations unit = flat_map (statement_violations unit) (indexed_statements unit) ++ (block_violations unit ++ nesting_violations unit)
 
 -- ---- 308: jumps into DO ranges and IF blocks (11.6.3, 11.7.2, 11.8.2 and 11.10.8)
 
--- the places from behind one statement up to before another
+-- the indexes from after one statement up to before another
 pub record Region : Type 0 where
-  pub behind : ℕ
+  pub after : ℕ
   pub before : ℕ
 
-abbrev pub range_region : Range → Region
-range_region r = record { behind = r.start; before = suc r.terminal }
+abbrev pub range_region : DoRange → Region
+range_region r = record { after = r.start; before = suc r.terminal }
 
 -- the blocks of a block IF, from its end to its start
 abbrev pub regions_before : ℕ → ℕ → List ℕ → List Region
-regions_before start end [] = record { behind = start; before = end } ∷ []
-regions_before start end (k ∷ ks) = record { behind = k; before = end } ∷ regions_before start k ks
+regions_before start end [] = record { after = start; before = end } ∷ []
+regions_before start end (k ∷ ks) = record { after = k; before = end } ∷ regions_before start k ks
 
 -- without an END IF those up to the last ELSE IF or ELSE
 abbrev pub regions_to_last : ℕ → List ℕ → List Region
@@ -229,10 +229,10 @@ block_regions b = by_end b.end where
 
 abbrev pub regions_of : List Statement → List Region
 regions_of unit =
-    map range_region (ranges_of unit) ++ (flat_map block_regions (blocks_of unit).closed ++ flat_map block_regions (blocks_of unit).unclosed)
+    map range_region (ranges_of unit) ++ (flat_map block_regions (block_ifs_of unit).closed ++ flat_map block_regions (block_ifs_of unit).unclosed)
 
 abbrev pub is_in : Region → ℕ → Bool
-is_in r k = nat_lt r.behind k && nat_lt k r.before
+is_in r k = nat_lt r.after k && nat_lt k r.before
 
 abbrev pub enters : ℕ → ℕ → Region → Bool
 enters k j r = is_in r j && not (is_in r k)
@@ -245,10 +245,10 @@ is_division _ = false
 abbrev pub is_wrong_jump : List Statement → ℕ → ℕ → Bool
 is_wrong_jump unit k j = list_any (enters k j) (regions_of unit) || is_division (role_of (statement_at unit j))
 
-abbrev pub jump_to : List Statement → Placed → Option ℕ → Violations
+abbrev pub jump_to : List Statement → IndexedStatement → Option ℕ → Violations
 jump_to unit p None = []
-jump_to unit p (Some j) = when (is_wrong_jump unit p.place j) (at_line 308 p.statement.line)
+jump_to unit p (Some j) = when (is_wrong_jump unit p.index j) (at_line 308 p.statement.line)
 
-abbrev pub misdirected : List Statement → Violations
-misdirected unit =
-    flat_map (λ (p : Placed). flat_map (λ l. jump_to unit p (place_labelled unit l)) (targets_of_jump p.statement.form)) (placed unit)
+abbrev pub jump_violations : List Statement → Violations
+jump_violations unit =
+    flat_map (λ (p : IndexedStatement). flat_map (λ l. jump_to unit p (index_labelled unit l)) (targets_of_jump p.statement.form)) (indexed_statements unit)

@@ -6,19 +6,19 @@ use Rattle.std.proofs.lemmas.Option.{slice_get_past}
 use Rattle.std.proofs.Math.Seq.{drop-nil}
 use Rattle.hep_source.specs.declared.name.Name.{Name}
 use Rattle.hep_source.specs.declared.value.Value.{Value}
-use Rattle.hep_source.specs.declared.record.Item.{Item}
+use Rattle.hep_machine.specs.declared.record.Item.{Item}
 use Rattle.hep_source.specs.declared.statement.Form.{Form}
 use Rattle.hep_source.specs.declared.statement.Form.TheVariants as form
 use Rattle.hep_source.specs.declared.statement.Statement.{Statement}
 use Rattle.hep_source.specs.Units.{is_executable, passed_over, executable_from, statement_at, line_at}
-use Rattle.hep_source.specs.Evaluation.{Redex, item_of, assigning, printing, leaving, Next, wants, does, next_of_form, plug_form}
-use Rattle.hep_source.specs.Unreached.{no_statement}
+use Rattle.hep_machine.specs.Evaluation.{Redex, item_of, assigning, printing, leaving, Next, wants, does, next_of_form, plug_form}
+use Rattle.hep_source.specs.Defaults.{no_statement}
 use Rattle.hep_core.specs.declared.operation.Operation.{Operation}
 use Rattle.hep_core.specs.declared.operation.Operation.TheVariants.{Evaluate, Store, Print, End}
 use Rattle.hep_core.specs.declared.operation.Instruction.{Instruction}
 use Rattle.hep_core.specs.declared.operation.Instruction.TheVariants.{Push, Step}
 use Rattle.hep_core.specs.Code.{number_of, form_code, code_from}
-use Rattle.hep_core.specs.Shown.{code_behind, Stands}
+use Rattle.hep_core.specs.Simulation.{code_after, CodeMatches}
 use Rattle.hep_core.proofs.Running.{AllRun, statement_runs, form_left}
 use Rattle.hep_core.proofs.Redexes.{IsPlain, DoesReduce, evaluation_of, operands_of, FormIs, form_is}
 
@@ -89,17 +89,17 @@ module _ (unit : List Statement) (symbols : List Name) (line : ℕ) (form : Form
   decides (does _) operands l o rest f e = absurd f
 
 -- what comes next where the process stands
-pub decided : (symbols : List Name) (unit : List Statement) (k : ℕ) (form : Form) (operands : List Item) (ahead : List Instruction) (l : ℕ) (o : Operation) (rest : List Instruction) → AllRun unit → Stands symbols unit k form operands ahead → ahead ≡ Step l o ∷ rest → (line_at unit k ≡ l) × Decides unit symbols (line_at unit k) form (code_behind symbols (drop k unit)) (next_of_form unit form) operands o rest
+pub decided : (symbols : List Name) (unit : List Statement) (k : ℕ) (form : Form) (operands : List Item) (ahead : List Instruction) (l : ℕ) (o : Operation) (rest : List Instruction) → AllRun unit → CodeMatches symbols unit k form operands ahead → ahead ≡ Step l o ∷ rest → (line_at unit k ≡ l) × Decides unit symbols (line_at unit k) form (code_after symbols (drop k unit)) (next_of_form unit form) operands o rest
 decided symbols unit k form operands ahead l o rest h stands e =
-    decides unit symbols (line_at unit k) form (code_behind symbols (drop k unit)) (next_of_form unit form) operands l o rest (form_is unit symbols (line_at unit k) h form stands.left) (stands.code ∙ ap (λ c. map Push operands ++ c) e)
+    decides unit symbols (line_at unit k) form (code_after symbols (drop k unit)) (next_of_form unit form) operands l o rest (form_is unit symbols (line_at unit k) h form stands.left) (stands.code ∙ ap (λ c. map Push operands ++ c) e)
 
 -- ---- the next statement
 
 module _ (symbols : List Name) where
   abbrev FirstCode : List Statement → ℕ → Type 0
-  FirstCode ss k = form_code symbols (statement_at ss k).line (statement_at ss k).form ++ code_behind symbols (drop k ss) ≡ code_from symbols ss
+  FirstCode ss k = form_code symbols (statement_at ss k).line (statement_at ss k).form ++ code_after symbols (drop k ss) ≡ code_from symbols ss
 
-  first_by : (s : Statement) (ss : List Statement) (f : Form) → s.form ≡ f → FirstCode ss (passed_over ss) → form_code symbols (statement_at (s ∷ ss) (cond (is_executable f) 0 (suc (passed_over ss)))).line (statement_at (s ∷ ss) (cond (is_executable f) 0 (suc (passed_over ss)))).form ++ code_behind symbols (drop (cond (is_executable f) 0 (suc (passed_over ss))) (s ∷ ss)) ≡ form_code symbols s.line f ++ code_from symbols ss
+  first_by : (s : Statement) (ss : List Statement) (f : Form) → s.form ≡ f → FirstCode ss (passed_over ss) → form_code symbols (statement_at (s ∷ ss) (cond (is_executable f) 0 (suc (passed_over ss)))).line (statement_at (s ∷ ss) (cond (is_executable f) 0 (suc (passed_over ss)))).form ++ code_after symbols (drop (cond (is_executable f) 0 (suc (passed_over ss))) (s ∷ ss)) ≡ form_code symbols s.line f ++ code_from symbols ss
   first_by s ss (form.Program p) e h = h
   first_by s ss (form.Subroutine p dummies) e h = h
   first_by s ss (form.Implicit groups) e h = h
@@ -136,7 +136,7 @@ module _ (symbols : List Name) where
   past_end unit k le = ap (λ o. (unwrap_or o no_statement).form) (slice_get_past unit k le)
 
   -- the main program's activation at the beginning of a statement
-  pub stands_at : (unit : List Statement) (j : ℕ) → AllRun unit → Stands symbols unit (executable_from unit j) (statement_at unit (executable_from unit j)).form [] (code_from symbols (drop j unit))
+  pub stands_at : (unit : List Statement) (j : ℕ) → AllRun unit → CodeMatches symbols unit (executable_from unit j) (statement_at unit (executable_from unit j)).form [] (code_from symbols (drop j unit))
   stands_at unit j h =
       let ss = drop j unit in
       let k = passed_over ss in
@@ -145,13 +145,13 @@ module _ (symbols : List Name) where
       record {
         left = form_left (statement_at unit (j + k)).form (statement_runs unit (j + k) h).1 executable;
         past = past_end unit (j + k);
-        code = ap (λ s. form_code symbols s.line s.form ++ code_behind symbols (drop (j + k) unit)) here
-            ∙ ap (λ rest. form_code symbols (statement_at ss k).line (statement_at ss k).form ++ code_behind symbols rest) (drop_ahead unit j k)
+        code = ap (λ s. form_code symbols s.line s.form ++ code_after symbols (drop (j + k) unit)) here
+            ∙ ap (λ rest. form_code symbols (statement_at ss k).line (statement_at ss k).form ++ code_after symbols rest) (drop_ahead unit j k)
             ∙ first_code ss;
       }
 
-  -- what is behind a statement of the unit is the code of the next one on
-  pub code_behind_is : (unit : List Statement) (k : ℕ) → k < length unit → code_behind symbols (drop k unit) ≡ code_from symbols (drop (suc k) unit)
-  code_behind_is [] k lt = absurd (omega arith)
-  code_behind_is (s ∷ ss) zero lt = refl
-  code_behind_is (s ∷ ss) (suc k) lt = code_behind_is ss k (omega arith)
+  -- what is after a statement of the unit is the code of the next one on
+  pub code_after_is : (unit : List Statement) (k : ℕ) → k < length unit → code_after symbols (drop k unit) ≡ code_from symbols (drop (suc k) unit)
+  code_after_is [] k lt = absurd (omega arith)
+  code_after_is (s ∷ ss) zero lt = refl
+  code_after_is (s ∷ ss) (suc k) lt = code_after_is ss k (omega arith)

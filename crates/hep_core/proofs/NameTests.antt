@@ -9,17 +9,17 @@ use Rattle.std.specs.Prelude.{◌&&◌, ◌||◌, Some, None, nat_eq, nat_lt, po
 use Rattle.std.specs.List.{position_or_len, list_any}
 use Rattle.std.specs.Option.{unwrap_or}
 use Rattle.hep_source.specs.declared.name.Name.{Name}
-use Rattle.hep_source.specs.Arithmetic.{same_truth}
+use Rattle.hep_source.specs.Names.{same_logical}
 use Rattle.hep_source.specs.Names.{same_name, same_letters, is_among, with_name}
 use Rattle.hep_source.specs.contracts.name.NamePartialEq.TheImpl as impl
 use mathlib.Core.Bool.{beq}
 use lib.Pointwise.{pointwise}
 
-truths : (a b : Bool) → beq a b ≡ same_truth a b
-truths true true = refl
-truths true false = refl
-truths false true = refl
-truths false false = refl
+logicals : (a b : Bool) → beq a b ≡ same_logical a b
+logicals true true = refl
+logicals true false = refl
+logicals false true = refl
+logicals false false = refl
 
 letters : (cs ds : List ℕ) → pointwise nat_eq cs ds ≡ same_letters cs ds
 letters [] [] = refl
@@ -28,7 +28,7 @@ letters (c ∷ cs) [] = refl
 letters (c ∷ cs) (d ∷ ds) = ap (λ b. nat_eq c d && b) (letters cs ds)
 
 pub same_is : (x y : Name) → (impl.eq-value).it x y ≡ same_name x y
-same_is x y = ap (λ b. b && pointwise nat_eq x.letters y.letters) (truths x.asynchronous y.asynchronous) ∙ ap (λ b. same_truth x.asynchronous y.asynchronous && b) (letters x.letters y.letters)
+same_is x y = ap (λ b. b && pointwise nat_eq x.letters y.letters) (logicals x.asynchronous y.asynchronous) ∙ ap (λ b. same_logical x.asynchronous y.asynchronous && b) (letters x.letters y.letters)
 
 one_more : (n : ℕ) → suc n ≡ 1 + n
 one_more n = omega arith

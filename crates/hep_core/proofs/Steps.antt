@@ -3,25 +3,25 @@ use Rattle.std.proofs.Common.{◌≡◌, ◌≢◌, ℕ, zero, suc, ◌+◌, ◌
 use Rattle.std.specs.Prelude.{if◌then◌else◌, slice_get, slice_set, Result, Ok, Err}
 use Rattle.std.proofs.lemmas.Bool.{cases_lt}
 use Rattle.std.proofs.Math.Seq.{take-append_seam}
-use Rattle.hep_source.specs.declared.event.Kind.{Kind}
-use Rattle.hep_source.specs.declared.event.Fault.{Fault}
+use Rattle.hep_machine.specs.declared.event.Kind.{Kind}
+use Rattle.hep_machine.specs.declared.event.Fault.{Fault}
 use Rattle.hep_source.specs.declared.name.Name.{Name}
 use Rattle.hep_source.specs.declared.value.Value.{Value}
 use Rattle.hep_source.specs.declared.value.Value.TheVariants as value
-use Rattle.hep_source.specs.declared.record.Item.{Item}
+use Rattle.hep_machine.specs.declared.record.Item.{Item}
 use Rattle.hep_source.specs.declared.statement.Form.{Form}
 use Rattle.hep_source.specs.declared.statement.Form.TheVariants as form
 use Rattle.hep_source.specs.declared.statement.Statement.{Statement}
 use Rattle.hep_source.specs.declared.operator.Operator.TheVariants.{Arithmetic}
-use Rattle.hep_source.specs.Arithmetic.{as_value, integer_of, result_of, signed_result}
-use Rattle.hep_source.specs.Control.{goes_on}
-use Rattle.hep_source.specs.Places.{Scope, located}
+use Rattle.hep_machine.specs.Arithmetic.{as_value, integer_of, result_of, signed_result}
+use Rattle.hep_machine.specs.Control.{level_after_statement}
+use Rattle.hep_machine.specs.Locations.{Scope, location_of_name}
 use Rattle.hep_source.specs.Units.{Units, unit_at, main_unit, executable_from, statement_at, line_at}
-use Rattle.hep_source.specs.Storage.{same_location, with_value}
-use Rattle.hep_source.specs.Evaluation.{Reference, Redex, reading, signing, combining, item_of, Action, assigning, printing, leaving, Next, wants, does, next_of_form, plug_form}
-use Rattle.hep_source.specs.State.{Level, Process, State, Location, local, Store, Cell}
-use Rattle.hep_source.specs.Step.{Answer, gives, fails, by_result, by_value, read_at, answer_of, stepped, Top, scope_of, after_answer, after_assignment, after_next, fault_of, turn_of, turn_of_top, state_made, step}
-use Rattle.hep_source.specs.Processes.{top_of, numbered, unit_of}
+use Rattle.hep_machine.specs.Storage.{same_location, with_value}
+use Rattle.hep_machine.specs.Evaluation.{Reference, Redex, reading, signing, combining, item_of, Action, assigning, printing, leaving, Next, wants, does, next_of_form, plug_form}
+use Rattle.hep_machine.specs.State.{Level, Process, State, Location, local, Store, Cell}
+use Rattle.hep_machine.specs.Step.{Answer, gives, fails, by_result, by_value, answer_of_read_at, answer_of, stepped, Top, scope_of, result_after_answer, result_after_assignment, result_after_next, fault_of, step_result_of, step_result_of_top, state_made, step}
+use Rattle.hep_machine.specs.Processes.{top_of, numbered, unit_of}
 use Rattle.hep_core.specs.declared.operation.Evaluation.{Evaluation}
 use Rattle.hep_core.specs.declared.operation.Evaluation.TheVariants.{Load, Sign, Binary}
 use Rattle.hep_core.specs.declared.operation.Operation.{Operation}
@@ -29,35 +29,35 @@ use Rattle.hep_core.specs.declared.operation.Operation.TheVariants.{Evaluate, St
 use Rattle.hep_core.specs.declared.operation.Instruction.{Instruction}
 use Rattle.hep_core.specs.declared.operation.Instruction.TheVariants.{Push, Step}
 use Rattle.hep_core.specs.Code.{number_of, code_from, program_code}
-use Rattle.hep_core.specs.Machine.{Snapshot, operand_at, integer_in, value_in, first_unit, arity, loaded, evaluated, with_result, with_fault, with_stored, with_printed, with_end}
-use Rattle.hep_core.specs.Shown.{values_of, level_of, code_behind, Stands, IsAt, Shows}
+use Rattle.hep_core.specs.Machine.{Snapshot, operand_at, integer_in, value_in, first_unit, arity, value_of_cell, operation_value, with_result, with_fault, with_stored, with_printed, with_end}
+use Rattle.hep_core.specs.Simulation.{values_of, level_of, code_after, CodeMatches, IsAt, Simulates}
 use Rattle.hep_core.specs.Symbols.{main_variables, variables_of}
 use Rattle.hep_core.proofs.Running.{AllRun, units_run, main_runs, main_is_first, located_is, goes_on_is, level_from}
 use Rattle.hep_core.proofs.Locals.{main_variables_are}
 use Rattle.hep_core.proofs.Redexes.{IsPlain, DoesReduce, evaluation_of, operands_of, form_stays}
-use Rattle.hep_core.proofs.Decided.{IsWanted, Decides, decided, stands_at, code_behind_is}
+use Rattle.hep_core.proofs.Decided.{IsWanted, Decides, decided, stands_at, code_after_is}
 use Rattle.hep_core.proofs.Variables.{cell_of, cell_set, IsDistinct, variables_distinct, unit_resolved, resolved_drop, IsResolved, AreResolved}
 
 -- ---- operands
 
-get_behind : (xs ys : List Item) (j : ℕ) → slice_get (xs ++ ys) (length xs + j) ≡ slice_get ys j
-get_behind [] ys j = let e : 0 + j ≡ j = omega arith in rw e refl
-get_behind (x ∷ xs) ys j = let e : suc (length xs) + j ≡ suc (length xs + j) = omega arith in rw e (get_behind xs ys j)
+get_after : (xs ys : List Item) (j : ℕ) → slice_get (xs ++ ys) (length xs + j) ≡ slice_get ys j
+get_after [] ys j = let e : 0 + j ≡ j = omega arith in rw e refl
+get_after (x ∷ xs) ys j = let e : suc (length xs) + j ≡ suc (length xs + j) = omega arith in rw e (get_after xs ys j)
 
 one_deep : (xs : List Item) (a : Item) → operand_at (xs ++ a ∷ []) 1 ≡ Some a
 one_deep xs a =
     let n : length (xs ++ a ∷ []) - 1 ≡ length xs + 0 = omega (arith, length-append xs (a ∷ [])) in
-    rw n (get_behind xs (a ∷ []) 0)
+    rw n (get_after xs (a ∷ []) 0)
 
 two_deep : (xs : List Item) (a b : Item) → operand_at (xs ++ a ∷ b ∷ []) 2 ≡ Some a
 two_deep xs a b =
     let n : length (xs ++ a ∷ b ∷ []) - 2 ≡ length xs + 0 = omega (arith, length-append xs (a ∷ b ∷ [])) in
-    rw n (get_behind xs (a ∷ b ∷ []) 0)
+    rw n (get_after xs (a ∷ b ∷ []) 0)
 
 one_of_two : (xs : List Item) (a b : Item) → operand_at (xs ++ a ∷ b ∷ []) 1 ≡ Some b
 one_of_two xs a b =
     let n : length (xs ++ a ∷ b ∷ []) - 1 ≡ length xs + 1 = omega (arith, length-append xs (a ∷ b ∷ [])) in
-    rw n (get_behind xs (a ∷ b ∷ []) 1)
+    rw n (get_after xs (a ∷ b ∷ []) 1)
 
 integer_is : (v : Value) → integer_in (Some (item_of v)) ≡ integer_of v
 integer_is (value.Int z) = refl
@@ -85,7 +85,7 @@ abbrev as_answer : Store → Result Value Kind → Answer
 as_answer store (Ok v) = gives v store
 as_answer store (Err k) = fails k
 
-loaded_is : (o : Option Value) (store : Store) → by_value o store ≡ as_answer store (loaded (Some o))
+loaded_is : (o : Option Value) (store : Store) → by_value o store ≡ as_answer store (value_of_cell (Some o))
 loaded_is None store = refl
 loaded_is (Some v) store = refl
 
@@ -106,14 +106,14 @@ main_scope unit = record { unit = unit; number = 1; dummies = [] }
 pub read_is : (unit : List Statement) (store : Store) (x : Reference) → AllRun unit → IsPlain x → answer_of (main_scope unit) store (reading x) ≡ by_value (store (local 1 x.0 1)).value store
 unfolding main_scope
 read_is unit store x h plain =
-    ap (λ b. read_at b store (located (main_scope unit) x.0 x.1)) plain.0
-    ∙ ap (λ vs. read_at false store (located (main_scope unit) x.0 vs)) plain.1
-    ∙ ap (read_at false store) (located_is (main_scope unit) x.0 h)
+    ap (λ b. answer_of_read_at b store (location_of_name (main_scope unit) x.0 x.1)) plain.0
+    ∙ ap (λ vs. answer_of_read_at false store (location_of_name (main_scope unit) x.0 vs)) plain.1
+    ∙ ap (answer_of_read_at false store) (located_is (main_scope unit) x.0 h)
 
-answer_is : (unit : List Statement) (symbols : List Name) (store : Store) (before : List Item) (r : Redex) → AllRun unit → DoesReduce r → IsBelow (length symbols) (evaluation_of symbols r) → answer_of (main_scope unit) store r ≡ as_answer store (evaluated (values_of store symbols) (before ++ operands_of r) (evaluation_of symbols r))
+answer_is : (unit : List Statement) (symbols : List Name) (store : Store) (before : List Item) (r : Redex) → AllRun unit → DoesReduce r → IsBelow (length symbols) (evaluation_of symbols r) → answer_of (main_scope unit) store r ≡ as_answer store (operation_value (values_of store symbols) (before ++ operands_of r) (evaluation_of symbols r))
 answer_is unit symbols store before (reading x) h d lt =
     read_is unit store x h d
-    ∙ loaded_is (store (local 1 x.0 1)).value store ∙ ap (λ o. as_answer store (loaded o)) (sym (cell_of symbols x.0 store lt))
+    ∙ loaded_is (store (local 1 x.0 1)).value store ∙ ap (λ o. as_answer store (value_of_cell o)) (sym (cell_of symbols x.0 store lt))
 answer_is unit symbols store before (signing s v) h d lt =
     result_is (as_value (signed_result s (integer_of v))) store
     ∙ ap (λ z. as_answer store (as_value (signed_result s z))) (sym (ap integer_in (one_deep before (item_of v)) ∙ integer_is v))
@@ -172,11 +172,11 @@ record Standing (program : Units) (m : Snapshot) (s : State) : Type 0 where
   at : ℕ
   form : Form
   processes : s.processes ≡ (level_of at form ∷ []) ∷ []
-  stands : Stands (main_variables program) (unit_at program (main_unit program)) at form m.operands (drop m.place (program_code program))
+  stands : CodeMatches (main_variables program) (unit_at program (main_unit program)) at form m.operands (drop m.program_counter (program_code program))
 
-standing : (program : Units) (m : Snapshot) (s : State) → Shows program m s → m.is_living ≡ true → Standing program m s
+standing : (program : Units) (m : Snapshot) (s : State) → Simulates program m s → m.is_living ≡ true → Standing program m s
 standing program m s k alive =
-    let h = subst (λ b. IsAt program b m.operands (drop m.place (program_code program)) s.processes) alive k.process in
+    let h = subst (λ b. IsAt program b m.operands (drop m.program_counter (program_code program)) s.processes) alive k.process in
     record { at = h.0; form = h.1; processes = h.2; stands = h.3 }
 
 -- the one activation is the main program's
@@ -191,20 +191,20 @@ scope_is program s e = ap (λ xs. scope_of program (record s { activations = xs 
 abbrev pub top_is : State → Level → Top
 top_is s level = record { state = s; process = 1; level = level; below = [] }
 
-pub turn_is : (program : Units) (s : State) (k : ℕ) (form : Form) → s.activations ≡ record { unit = main_unit program; parent = None; dummies = [] } ∷ [] → s.processes ≡ (level_of k form ∷ []) ∷ [] → turn_of program 1 s ≡ after_next program (top_is s (level_of k form)) (next_of_form (unit_at program (main_unit program)) form)
-unfolding turn_of
+pub turn_is : (program : Units) (s : State) (k : ℕ) (form : Form) → s.activations ≡ record { unit = main_unit program; parent = None; dummies = [] } ∷ [] → s.processes ≡ (level_of k form ∷ []) ∷ [] → step_result_of program 1 s ≡ result_after_next program (top_is s (level_of k form)) (next_of_form (unit_at program (main_unit program)) form)
+unfolding step_result_of
 turn_is program s k form activations processes =
-    ap (λ ps. turn_of_top program s 1 (top_of (numbered ps 1))) processes
-    ∙ ap (λ u. after_next program (top_is s (level_of k form)) (next_of_form (unit_at program u) form)) (main_unit_of program s activations)
+    ap (λ ps. step_result_of_top program s 1 (top_of (numbered ps 1))) processes
+    ∙ ap (λ u. result_after_next program (top_is s (level_of k form)) (next_of_form (unit_at program u) form)) (main_unit_of program s activations)
 
-pub assigns : (program : Units) (s : State) (k : ℕ) (f : Form) → AllRun (unit_at program (main_unit program)) → s.activations ≡ record { unit = main_unit program; parent = None; dummies = [] } ∷ [] → (x : Reference) (v : Value) → IsPlain x → after_next program (top_is s (level_of k f)) (does (assigning x v)) ≡ after_assignment program (top_is s (level_of k f)) false (Ok (local 1 x.0 1)) v
+pub assigns : (program : Units) (s : State) (k : ℕ) (f : Form) → AllRun (unit_at program (main_unit program)) → s.activations ≡ record { unit = main_unit program; parent = None; dummies = [] } ∷ [] → (x : Reference) (v : Value) → IsPlain x → result_after_next program (top_is s (level_of k f)) (does (assigning x v)) ≡ result_after_assignment program (top_is s (level_of k f)) false (Ok (local 1 x.0 1)) v
 unfolding main_scope
 assigns program s k f h activations x v plain =
     let top = top_is s (level_of k f) in
-    ap (λ b. after_assignment program top b (located (scope_of program s 1) x.0 x.1) v) plain.0
-    ∙ ap (λ vs. after_assignment program top false (located (scope_of program s 1) x.0 vs) v) plain.1
-    ∙ ap (λ scope. after_assignment program top false (located scope x.0 []) v) (scope_is program s activations)
-    ∙ ap (λ r. after_assignment program top false r v) (located_is (main_scope (unit_at program (main_unit program))) x.0 h)
+    ap (λ b. result_after_assignment program top b (location_of_name (scope_of program s 1) x.0 x.1) v) plain.0
+    ∙ ap (λ vs. result_after_assignment program top false (location_of_name (scope_of program s 1) x.0 vs) v) plain.1
+    ∙ ap (λ scope. result_after_assignment program top false (location_of_name scope x.0 []) v) (scope_is program s activations)
+    ∙ ap (λ r. result_after_assignment program top false r v) (located_is (main_scope (unit_at program (main_unit program))) x.0 h)
 
 onward_drop : {A : Type 0} (xs : List A) (n : ℕ) (x : A) (ys : List A) → drop n xs ≡ x ∷ ys → drop (n + 1) xs ≡ ys
 onward_drop [] zero x ys e = absurd cc
@@ -236,7 +236,7 @@ plain_by false c d v e f = f
 stays_plain : (store : Store) (x : Location) (v : Option Value) → ((y : Location) → (store y).full ≡ false) → (y : Location) → (with_value store x v y).full ≡ false
 stays_plain store x v h y = plain_by (same_location y x) (store x) (store y) v (h x) (h y)
 
-module _ (program : Units) (m : Snapshot) (s : State) (l : ℕ) (o : Operation) (rest : List Instruction) (k : Shows program m s) (alive : m.is_living ≡ true) (ahead : drop m.place (program_code program) ≡ Step l o ∷ rest) where
+module _ (program : Units) (m : Snapshot) (s : State) (l : ℕ) (o : Operation) (rest : List Instruction) (k : Simulates program m s) (alive : m.is_living ≡ true) (ahead : drop m.program_counter (program_code program) ≡ Step l o ∷ rest) where
   abbrev symbols : List Name
   symbols = main_variables program
 
@@ -259,31 +259,31 @@ module _ (program : Units) (m : Snapshot) (s : State) (l : ℕ) (o : Operation) 
   next_level = level_from unit (suc here.at)
 
   abbrev after : List Instruction
-  after = code_behind symbols (drop here.at unit)
+  after = code_after symbols (drop here.at unit)
 
   abbrev next_now : Next
   next_now = next_of_form unit here.form
 
   says : (line_at unit here.at ≡ l) × Decides unit symbols (line_at unit here.at) here.form after next_now m.operands o rest
-  says = decided symbols unit here.at here.form m.operands (drop m.place (program_code program)) l o rest all_run here.stands ahead
+  says = decided symbols unit here.at here.form m.operands (drop m.program_counter (program_code program)) l o rest all_run here.stands ahead
 
-  steps : (n : Next) (t : State) → next_now ≡ n → after_next program top n ≡ stepped t → step program 1 s ≡ Some t
+  steps : (n : Next) (t : State) → next_now ≡ n → result_after_next program top n ≡ stepped t → step program 1 s ≡ Some t
   steps n t is e =
-      ap (λ b. if b then None else state_made (turn_of program 1 s)) k.running
-      ∙ ap state_made (turn_is program s here.at here.form k.activations here.processes ∙ ap (after_next program top) is ∙ e)
+      ap (λ b. if b then None else state_made (step_result_of program 1 s)) k.running
+      ∙ ap state_made (turn_is program s here.at here.form k.activations here.processes ∙ ap (result_after_next program top) is ∙ e)
 
-  onward : drop (m.place + 1) (program_code program) ≡ rest
-  onward = onward_drop (program_code program) m.place (Step l o) rest ahead
+  onward : drop (m.program_counter + 1) (program_code program) ≡ rest
+  onward = onward_drop (program_code program) m.program_counter (Step l o) rest ahead
 
   resolved : AreResolved (length symbols) (Step l o ∷ rest)
-  resolved = subst (AreResolved (length symbols)) ahead (resolved_drop (length symbols) m.place (program_code program) (code_resolved program (main_variables_are program k.runs)))
+  resolved = subst (AreResolved (length symbols)) ahead (resolved_drop (length symbols) m.program_counter (program_code program) (code_resolved program (main_variables_are program k.runs)))
 
   distinct : IsDistinct symbols
   distinct = subst IsDistinct (sym (main_variables_are program k.runs)) (variables_distinct unit)
 
   -- the level in the place of the one that was there
-  replaced : (q : Process) → slice_set s.processes (1 - 1) q ≡ q ∷ []
-  replaced q = ap (λ ps. slice_set ps (1 - 1) q) here.processes
+  operands_with_result : (q : Process) → slice_set s.processes (1 - 1) q ≡ q ∷ []
+  operands_with_result q = ap (λ ps. slice_set ps (1 - 1) q) here.processes
 
   abbrev unit_now : List Statement
   unit_now = unit_at program (unit_of s 1)
@@ -293,20 +293,20 @@ module _ (program : Units) (m : Snapshot) (s : State) (l : ℕ) (o : Operation) 
 
   -- after an action the next statement begins
   abbrev onward_processes : List Process
-  onward_processes = slice_set s.processes (1 - 1) (goes_on unit_now level_now ∷ [])
+  onward_processes = slice_set s.processes (1 - 1) (level_after_statement unit_now level_now ∷ [])
 
   goes_onward : onward_processes ≡ (next_level ∷ []) ∷ []
   goes_onward =
-      replaced (goes_on unit_now level_now ∷ [])
-      ∙ ap (λ u. (goes_on u level_now ∷ []) ∷ []) unit_is
+      operands_with_result (level_after_statement unit_now level_now ∷ [])
+      ∙ ap (λ u. (level_after_statement u level_now ∷ []) ∷ []) unit_is
       ∙ ap (λ x. (x ∷ []) ∷ []) (goes_on_is unit here.at here.form all_run)
 
-  next_stands : (a : Action) → next_now ≡ does a → a ≢ leaving → after ≡ rest → Stands symbols unit (executable_from unit (suc here.at)) (statement_at unit (executable_from unit (suc here.at))).form [] (drop (m.place + 1) (program_code program))
+  next_stands : (a : Action) → next_now ≡ does a → a ≢ leaving → after ≡ rest → CodeMatches symbols unit (executable_from unit (suc here.at)) (statement_at unit (executable_from unit (suc here.at))).form [] (drop (m.program_counter + 1) (program_code program))
   next_stands a n ne e =
       let lt = within_unit unit here.at here.form a here.stands.past n ne in
-      let same : code_from symbols (drop (suc here.at) unit) ≡ drop (m.place + 1) (program_code program) =
-      sym (code_behind_is symbols unit here.at lt) ∙ e ∙ sym onward in
-      subst (Stands symbols unit (executable_from unit (suc here.at)) (statement_at unit (executable_from unit (suc here.at))).form []) same (stands_at symbols unit (suc here.at) all_run)
+      let same : code_from symbols (drop (suc here.at) unit) ≡ drop (m.program_counter + 1) (program_code program) =
+      sym (code_after_is symbols unit here.at lt) ∙ e ∙ sym onward in
+      subst (CodeMatches symbols unit (executable_from unit (suc here.at)) (statement_at unit (executable_from unit (suc here.at))).form []) same (stands_at symbols unit (suc here.at) all_run)
 
   decides_at : (p : Operation) → o ≡ p → Decides unit symbols (line_at unit here.at) here.form after next_now m.operands p rest
   decides_at p is = subst (λ q. Decides unit symbols (line_at unit here.at) here.form after next_now m.operands q rest) is says.1
@@ -316,7 +316,7 @@ module _ (program : Units) (m : Snapshot) (s : State) (l : ℕ) (o : Operation) 
     is : next_now ≡ wants r
     same : evaluation_of symbols r ≡ e
     wants_it : IsWanted unit symbols (line_at unit here.at) here.form after r m.operands (Evaluate e) rest
-    answer : answer_of (scope_of program s 1) s.store r ≡ as_answer s.store (evaluated m.cells m.operands e)
+    answer : answer_of (scope_of program s 1) s.store r ≡ as_answer s.store (operation_value m.cells m.operands e)
 
   reduces : (e : Evaluation) → o ≡ Evaluate e → Reduces e
   reduces e is =
@@ -331,32 +331,32 @@ module _ (program : Units) (m : Snapshot) (s : State) (l : ℕ) (o : Operation) 
         wants_it = w.2;
         answer = ap (λ scope. answer_of scope s.store w.0) (scope_is program s k.activations)
             ∙ answer_is unit symbols s.store w.2.before w.0 all_run w.2.does_reduce lt
-            ∙ ap (λ cs. as_answer s.store (evaluated cs (w.2.before ++ operands_of w.0) (evaluation_of symbols w.0))) (sym k.values)
-            ∙ ap (λ xs. as_answer s.store (evaluated m.cells xs (evaluation_of symbols w.0))) (sym w.2.operands_are)
-            ∙ ap (λ x. as_answer s.store (evaluated m.cells m.operands x)) same;
+            ∙ ap (λ cs. as_answer s.store (operation_value cs (w.2.before ++ operands_of w.0) (evaluation_of symbols w.0))) (sym k.values)
+            ∙ ap (λ xs. as_answer s.store (operation_value m.cells xs (evaluation_of symbols w.0))) (sym w.2.operands_are)
+            ∙ ap (λ x. as_answer s.store (operation_value m.cells m.operands x)) same;
       }
 
   -- a value
-  pub gives_value : (e : Evaluation) (v : Value) → o ≡ Evaluate e → evaluated m.cells m.operands e ≡ Ok v → (s' : State) × (step program 1 s ≡ Some s') × Shows program (with_result m e v) s'
+  pub gives_value : (e : Evaluation) (v : Value) → o ≡ Evaluate e → operation_value m.cells m.operands e ≡ Ok v → (s' : State) × (step program 1 s ≡ Some s') × Simulates program (with_result m e v) s'
   gives_value e v is result =
       let h = reduces e is in
       let w = h.wants_it in
       let left : take (length m.operands - arity e) m.operands ≡ w.before =
       ap (λ xs. take (length xs - arity e) xs) w.operands_are ∙ below w.before (operands_of h.r) (arity e) (arity_is symbols h.r w.does_reduce ∙ ap arity h.same) in
       let form_given = plug_form unit here.form v in
-      let stands : Stands symbols unit here.at form_given (take (length m.operands - arity e) m.operands ++ item_of v ∷ []) (drop (m.place + 1) (program_code program)) = record {
+      let stands : CodeMatches symbols unit here.at form_given (take (length m.operands - arity e) m.operands ++ item_of v ∷ []) (drop (m.program_counter + 1) (program_code program)) = record {
         left = form_stays unit v here.form here.stands.left;
         past = λ le. plug_end unit here.form v (here.stands.past le);
         code = w.given v ∙ ap (λ xs. map Push (xs ++ item_of v ∷ []) ++ rest) (sym left) ∙ ap (λ c. map Push (take (length m.operands - arity e) m.operands ++ item_of v ∷ []) ++ c) (sym onward);
       } in
       let processes = slice_set s.processes (1 - 1) (level_of here.at (plug_form unit_now here.form v) ∷ []) in
       let processes_are : processes ≡ (level_of here.at form_given ∷ []) ∷ [] =
-      replaced (level_of here.at (plug_form unit_now here.form v) ∷ []) ∙ ap (λ u. (level_of here.at (plug_form u here.form v) ∷ []) ∷ []) unit_is in (
+      operands_with_result (level_of here.at (plug_form unit_now here.form v) ∷ []) ∙ ap (λ u. (level_of here.at (plug_form u here.form v) ∷ []) ∷ []) unit_is in (
         record s { processes = processes },
-        steps (wants h.r) (record s { processes = processes }) h.is (ap (after_answer program top) (h.answer ∙ ap (as_answer s.store) result)),
+        steps (wants h.r) (record s { processes = processes }) h.is (ap (result_after_answer program top) (h.answer ∙ ap (as_answer s.store) result)),
         record {
           runs = k.runs;
-          process = subst (λ b. IsAt program b (take (length m.operands - arity e) m.operands ++ item_of v ∷ []) (drop (m.place + 1) (program_code program)) processes) (sym alive) (here.at, form_given, processes_are, stands);
+          process = subst (λ b. IsAt program b (take (length m.operands - arity e) m.operands ++ item_of v ∷ []) (drop (m.program_counter + 1) (program_code program)) processes) (sym alive) (here.at, form_given, processes_are, stands);
           activations = k.activations;
           values = k.values;
           plain = k.plain;
@@ -367,7 +367,7 @@ module _ (program : Units) (m : Snapshot) (s : State) (l : ℕ) (o : Operation) 
       )
 
   -- a fault
-  pub gives_fault : (e : Evaluation) (f : Kind) → o ≡ Evaluate e → evaluated m.cells m.operands e ≡ Err f → (s' : State) × (step program 1 s ≡ Some s') × Shows program (with_fault m l f) s'
+  pub gives_fault : (e : Evaluation) (f : Kind) → o ≡ Evaluate e → operation_value m.cells m.operands e ≡ Err f → (s' : State) × (step program 1 s ≡ Some s') × Simulates program (with_fault m l f) s'
   gives_fault e f is result =
       let h = reduces e is in
       let fault : Fault = record { process = 1; unit = first_unit; line = l; kind = f } in
@@ -376,10 +376,10 @@ module _ (program : Units) (m : Snapshot) (s : State) (l : ℕ) (o : Operation) 
       let fault_is : fault_of program top f ≡ fault = λ i. record { process = 1; unit = unit_number i; line = line i; kind = f } in
       let s' : State = record s { faults = s.faults ++ fault_of program top f ∷ []; processes = slice_set s.processes (1 - 1) [] } in (
         s',
-        steps (wants h.r) s' h.is (ap (after_answer program top) (h.answer ∙ ap (as_answer s.store) result)),
+        steps (wants h.r) s' h.is (ap (result_after_answer program top) (h.answer ∙ ap (as_answer s.store) result)),
         record {
           runs = k.runs;
-          process = replaced [];
+          process = operands_with_result [];
           activations = k.activations;
           values = k.values;
           plain = k.plain;
@@ -389,7 +389,7 @@ module _ (program : Units) (m : Snapshot) (s : State) (l : ℕ) (o : Operation) 
         },
       )
 
-  pub stores_value : (j : ℕ) → o ≡ Storing j → (s' : State) × (step program 1 s ≡ Some s') × Shows program (with_stored m j) s'
+  pub stores_value : (j : ℕ) → o ≡ Storing j → (s' : State) × (step program 1 s ≡ Some s') × Simulates program (with_stored m j) s'
   stores_value j is =
       let w = stored unit symbols (line_at unit here.at) here.form after m.operands rest next_now j (decides_at (Storing j) is) in
       let x = w.p.0 in
@@ -397,15 +397,15 @@ module _ (program : Units) (m : Snapshot) (s : State) (l : ℕ) (o : Operation) 
       subst (λ n. n < length symbols) (sym w.number) (let b : IsResolved (length symbols) (Step l (Storing j)) = subst (λ q. IsResolved (length symbols) (Step l q)) is resolved.0 in b) in
       let none : [] ≡ take (length m.operands - 1) m.operands = ap (λ xs. take (length xs - 1) xs) w.operand in
       let top_value : value_in (operand_at m.operands 1) ≡ w.v = sym (ap (λ xs. value_in (operand_at xs 1)) w.operand) ∙ value_is w.v in
-      let behind = executable_from unit (suc here.at) in
-      let stands : Stands symbols unit behind (statement_at unit behind).form (take (length m.operands - 1) m.operands) (drop (m.place + 1) (program_code program)) =
-      subst (λ xs. Stands symbols unit behind (statement_at unit behind).form xs (drop (m.place + 1) (program_code program))) none (next_stands (assigning w.p w.v) w.is (λ e. cc) w.onward) in
+      let rest_after = executable_from unit (suc here.at) in
+      let stands : CodeMatches symbols unit rest_after (statement_at unit rest_after).form (take (length m.operands - 1) m.operands) (drop (m.program_counter + 1) (program_code program)) =
+      subst (λ xs. CodeMatches symbols unit rest_after (statement_at unit rest_after).form xs (drop (m.program_counter + 1) (program_code program))) none (next_stands (assigning w.p w.v) w.is (λ e. cc) w.onward) in
       let s' : State = record s { store = with_value s.store (local 1 x 1) (Some w.v); processes = onward_processes } in (
         s',
         steps (does (assigning w.p w.v)) s' w.is (assigns program s here.at here.form all_run k.activations w.p w.v w.plain),
         record {
           runs = k.runs;
-          process = subst (λ b. IsAt program b (take (length m.operands - 1) m.operands) (drop (m.place + 1) (program_code program)) onward_processes) (sym alive) (behind, (statement_at unit behind).form, goes_onward, stands);
+          process = subst (λ b. IsAt program b (take (length m.operands - 1) m.operands) (drop (m.program_counter + 1) (program_code program)) onward_processes) (sym alive) (rest_after, (statement_at unit rest_after).form, goes_onward, stands);
           activations = k.activations;
           values = ap (λ z. slice_set m.cells j (Some z)) top_value
               ∙ ap (λ cs. slice_set cs j (Some w.v)) k.values
@@ -418,17 +418,17 @@ module _ (program : Units) (m : Snapshot) (s : State) (l : ℕ) (o : Operation) 
         },
       )
 
-  pub prints_record : o ≡ Print → (s' : State) × (step program 1 s ≡ Some s') × Shows program (with_printed m) s'
+  pub prints_record : o ≡ Print → (s' : State) × (step program 1 s ≡ Some s') × Simulates program (with_printed m) s'
   prints_record is =
       let w = printed unit symbols (line_at unit here.at) here.form after m.operands rest next_now (decides_at Print is) in
-      let behind = executable_from unit (suc here.at) in
+      let rest_after = executable_from unit (suc here.at) in
       let stands = next_stands (printing m.operands) w.0 (λ e. cc) w.1 in
       let s' : State = record s { records = s.records ++ m.operands ∷ []; processes = onward_processes } in (
         s',
         steps (does (printing m.operands)) s' w.0 refl,
         record {
           runs = k.runs;
-          process = subst (λ b. IsAt program b [] (drop (m.place + 1) (program_code program)) onward_processes) (sym alive) (behind, (statement_at unit behind).form, goes_onward, stands);
+          process = subst (λ b. IsAt program b [] (drop (m.program_counter + 1) (program_code program)) onward_processes) (sym alive) (rest_after, (statement_at unit rest_after).form, goes_onward, stands);
           activations = k.activations;
           values = k.values;
           plain = k.plain;
@@ -438,7 +438,7 @@ module _ (program : Units) (m : Snapshot) (s : State) (l : ℕ) (o : Operation) 
         },
       )
 
-  pub ends : o ≡ End → (s' : State) × (step program 1 s ≡ Some s') × Shows program (with_end m) s'
+  pub ends : o ≡ End → (s' : State) × (step program 1 s ≡ Some s') × Simulates program (with_end m) s'
   ends is =
       let n = ended unit symbols (line_at unit here.at) here.form after m.operands rest next_now (decides_at End is) in
       let s' : State = record s { processes = slice_set s.processes (1 - 1) [] } in (
@@ -446,7 +446,7 @@ module _ (program : Units) (m : Snapshot) (s : State) (l : ℕ) (o : Operation) 
         steps (does leaving) s' n refl,
         record {
           runs = k.runs;
-          process = replaced [];
+          process = operands_with_result [];
           activations = k.activations;
           values = k.values;
           plain = k.plain;

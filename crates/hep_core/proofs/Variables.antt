@@ -11,28 +11,28 @@ use Rattle.hep_source.specs.declared.statement.Form.{Form}
 use Rattle.hep_source.specs.declared.statement.Form.TheVariants as form
 use Rattle.hep_source.specs.declared.statement.Statement.{Statement}
 use Rattle.hep_source.specs.declared.operator.Operator.TheVariants.{Arithmetic}
-use Rattle.hep_source.specs.Tree.{Tree, constant, place, parenthesized, signed, binary}
-use Rattle.hep_source.specs.Arithmetic.{same_truth}
+use Rattle.hep_source.specs.Tree.{Tree, constant, occurrence, parenthesized, signed, binary}
+use Rattle.hep_source.specs.Names.{same_logical}
 use Rattle.hep_source.specs.Names.{same_name, same_letters, is_among, with_name, with_names}
-use Rattle.hep_source.specs.Storage.{with_value}
-use Rattle.hep_source.specs.State.{local, Store}
+use Rattle.hep_machine.specs.Storage.{with_value}
+use Rattle.hep_machine.specs.State.{local, Store}
 use Rattle.hep_core.specs.declared.operation.Evaluation.TheVariants.{Load, Sign, Binary}
 use Rattle.hep_core.specs.declared.operation.Operation.TheVariants.{Evaluate, Store as Storing, Print, End}
 use Rattle.hep_core.specs.declared.operation.Instruction.{Instruction}
 use Rattle.hep_core.specs.declared.operation.Instruction.TheVariants.{Push, Step}
 use Rattle.hep_core.specs.Code.{number_of, tree_code, items_code, form_code, code_from}
-use Rattle.hep_core.specs.Shown.{values_of}
+use Rattle.hep_core.specs.Simulation.{values_of}
 use Rattle.hep_core.specs.Symbols.{with_statements, variables_of, names_in, names_in_items, names_in_form}
 use Rattle.hep_core.proofs.Names.{binary_names, items_names}
 use Rattle.hep_core.proofs.Running.{both}
 
 -- ---- names are the same where they are equal
 
-equal_truths : (a b : Bool) → same_truth a b ≡ true → a ≡ b
-equal_truths true true e = refl
-equal_truths true false e = absurd cc
-equal_truths false true e = absurd cc
-equal_truths false false e = refl
+equal_logicals : (a b : Bool) → same_logical a b ≡ true → a ≡ b
+equal_logicals true true e = refl
+equal_logicals true false e = absurd cc
+equal_logicals false true e = absurd cc
+equal_logicals false false e = refl
 
 equal_letters : (cs ds : List ℕ) → same_letters cs ds ≡ true → cs ≡ ds
 equal_letters [] [] e = refl
@@ -44,21 +44,21 @@ equal_letters (c ∷ cs) (d ∷ ds) e =
 
 equal_names : (x y : Name) → same_name x y ≡ true → x ≡ y
 equal_names x y e =
-    let h = both (same_truth x.asynchronous y.asynchronous) (same_letters x.letters y.letters) e in
-    let t = equal_truths x.asynchronous y.asynchronous h.0 in
+    let h = both (same_logical x.asynchronous y.asynchronous) (same_letters x.letters y.letters) e in
+    let t = equal_logicals x.asynchronous y.asynchronous h.0 in
     let l = equal_letters x.letters y.letters h.1 in
     λ i. record { asynchronous = t i; letters = l i }
 
-same_truth-self : (a : Bool) → same_truth a a ≡ true
-same_truth-self true = refl
-same_truth-self false = refl
+same_logical-self : (a : Bool) → same_logical a a ≡ true
+same_logical-self true = refl
+same_logical-self false = refl
 
 same_letters-self : (cs : List ℕ) → same_letters cs cs ≡ true
 same_letters-self [] = refl
 same_letters-self (c ∷ cs) = rw (eq-eqb c c refl) (same_letters-self cs)
 
 same_name-self : (x : Name) → same_name x x ≡ true
-same_name-self x = rw (same_truth-self x.asynchronous) (same_letters-self x.letters)
+same_name-self x = rw (same_logical-self x.asynchronous) (same_letters-self x.letters)
 
 other_by : (x y : Name) (b : Bool) → same_name y x ≡ b → same_name x y ≡ false → b ≡ false
 other_by x y true e f = let g : same_name x y ≡ true = rw (equal_names y x e) (same_name-self x) in cc
@@ -163,7 +163,7 @@ resolved_drop n (suc k) (i ∷ is) h = resolved_drop n k is h.1
 module _ (symbols : List Name) where
   tree_resolved : (line : ℕ) (t : Tree) → AreAmong symbols (names_in t) → AreResolved (length symbols) (tree_code symbols line t)
   tree_resolved line (constant v) h = (tt, tt)
-  tree_resolved line (place p) h = (number_below symbols p.name h.0, tt)
+  tree_resolved line (occurrence p) h = (number_below symbols p.name h.0, tt)
   tree_resolved line (parenthesized t) h = tree_resolved line t h
   tree_resolved line (signed s t) h = resolved_append (length symbols) (tree_code symbols line t) (Step line (Evaluate (Sign s)) ∷ []) (tree_resolved line t h) (tt, tt)
   tree_resolved line (binary (Arithmetic o) a b) h =
@@ -188,11 +188,11 @@ module _ (symbols : List Name) where
   form_resolved line (form.Common blocks) h = tt
   form_resolved line (form.Parameter constants) h = tt
   form_resolved line (form.Data groups) h = tt
-  form_resolved line (form.Assign x t) h = resolved_append (length symbols) (tree_code symbols line t) (Step line (Storing (number_of symbols x.place.name)) ∷ []) (tree_resolved line t h.1) (number_below symbols x.place.name h.0, tt)
+  form_resolved line (form.Assign x t) h = resolved_append (length symbols) (tree_code symbols line t) (Step line (Storing (number_of symbols x.occurrence.name)) ∷ []) (tree_resolved line t h.1) (number_below symbols x.occurrence.name h.0, tt)
   form_resolved line (form.Print items) h = resolved_append (length symbols) (items_code symbols line items) (Step line Print ∷ []) (items_resolved line items h) (tt, tt)
   form_resolved line _ h = (tt, tt)
 
--- the statements ss, behind those whose names are in xs
+-- the statements ss, after those whose names are in xs
 code_resolved : (ss : List Statement) (xs symbols : List Name) → symbols ≡ with_statements xs ss → AreResolved (length symbols) (code_from symbols ss)
 code_resolved [] xs symbols e = (tt, tt)
 code_resolved (s ∷ ss) xs symbols e =

@@ -1,20 +1,20 @@
 -- No process of a program that runs today ever waits.
 use Rattle.std.proofs.Common.{◌≡◌, ℕ, List, [], ◌∷◌, true, refl, sym, ap, ◌∙◌, subst, Option, Some, None}
 use Rattle.std.specs.Prelude.{Result, Ok, Err}
-use Rattle.hep_source.specs.declared.event.Kind.{Kind}
+use Rattle.hep_machine.specs.declared.event.Kind.{Kind}
 use Rattle.hep_source.specs.declared.operator.Operator.TheVariants.{Arithmetic}
 use Rattle.hep_source.specs.declared.statement.Form.{Form}
 use Rattle.hep_source.specs.declared.statement.Statement.{Statement}
 use Rattle.hep_source.specs.declared.value.Value.{Value}
-use Rattle.hep_source.specs.Arithmetic.{signed_value, combined_value}
-use Rattle.hep_source.specs.Evaluation.{Redex, reading, signing, combining, assigning, printing, leaving, Next, wants, does, next_of_form, plug_form}
-use Rattle.hep_source.specs.State.{State, Store, local}
-use Rattle.hep_source.specs.Step.{Answer, gives, waits, fails, by_result, by_value, answer_of, Top, scope_of, after_answer, after_next, wanted_of, wanted_by}
+use Rattle.hep_machine.specs.Arithmetic.{signed_value, combined_value}
+use Rattle.hep_machine.specs.Evaluation.{Redex, reading, signing, combining, assigning, printing, leaving, Next, wants, does, next_of_form, plug_form}
+use Rattle.hep_machine.specs.State.{State, Store, local}
+use Rattle.hep_machine.specs.Step.{Answer, gives, waits, fails, by_result, by_value, answer_of, Top, scope_of, result_after_answer, result_after_next, wanted_of, wanted_by}
 use Rattle.hep_source.specs.Units.{Units, unit_at, main_unit}
 use Rattle.hep_core.specs.declared.operation.Instruction.{Instruction}
 use Rattle.hep_core.specs.Code.{form_code}
-use Rattle.hep_core.specs.Runnable.{first_unrun_in, form_may_be_left}
-use Rattle.hep_core.specs.Shown.{level_of}
+use Rattle.hep_core.specs.Runnable.{first_unsupported_in, form_may_be_left}
+use Rattle.hep_core.specs.Simulation.{level_of}
 use Rattle.hep_core.proofs.Running.{AllRun, main_runs}
 use Rattle.hep_core.proofs.Redexes.{DoesReduce, FormIs, form_is}
 use Rattle.hep_core.proofs.Steps.{main_scope, read_is, scope_is, assigns, top_is, turn_is}
@@ -38,13 +38,13 @@ redex_answers unit store (signing s v) h d = by_result_answers (signed_value s v
 redex_answers unit store (combining (Arithmetic o) v w) h d = by_result_answers (combined_value (Arithmetic o) v w) store
 redex_answers unit store _ h d = absurd d
 
-not_waiting : (program : Units) (t : Top) (a : Answer) → IsAnswered a → wanted_of (after_answer program t a) ≡ None
+not_waiting : (program : Units) (t : Top) (a : Answer) → IsAnswered a → wanted_of (result_after_answer program t a) ≡ None
 not_waiting program t (gives v store) h = refl
 not_waiting program t (waits w) h = absurd h
 not_waiting program t (fails k) h = refl
 
 module _ (program : Units) (s : State) (k : ℕ) (f : Form) (h : AllRun (unit_at program (main_unit program))) (activations : s.activations ≡ record { unit = main_unit program; parent = None; dummies = [] } ∷ []) where
-  next_waits_not : (n : Next) (code : List Instruction) (given : Value → List Instruction) → FormIs (unit_at program (main_unit program)) [] 0 n code given → wanted_of (after_next program (top_is s (level_of k f)) n) ≡ None
+  next_waits_not : (n : Next) (code : List Instruction) (given : Value → List Instruction) → FormIs (unit_at program (main_unit program)) [] 0 n code given → wanted_of (result_after_next program (top_is s (level_of k f)) n) ≡ None
   next_waits_not (wants r) code given e =
       not_waiting program (top_is s (level_of k f)) (answer_of (scope_of program s 1) s.store r)
       (subst (λ scope. IsAnswered (answer_of scope s.store r)) (sym (scope_is program s activations)) (redex_answers (unit_at program (main_unit program)) s.store r h e.does_reduce))
@@ -53,7 +53,7 @@ module _ (program : Units) (s : State) (k : ℕ) (f : Form) (h : AllRun (unit_at
   next_waits_not (does leaving) code given e = refl
   next_waits_not (does _) code given e = absurd e
 
-pub waits_for_nothing : (program : Units) (s : State) (k : ℕ) (f : Form) → first_unrun_in program ≡ None → s.activations ≡ record { unit = main_unit program; parent = None; dummies = [] } ∷ [] → s.processes ≡ (level_of k f ∷ []) ∷ [] → form_may_be_left f ≡ true → wanted_by program 1 s ≡ None
+pub waits_for_nothing : (program : Units) (s : State) (k : ℕ) (f : Form) → first_unsupported_in program ≡ None → s.activations ≡ record { unit = main_unit program; parent = None; dummies = [] } ∷ [] → s.processes ≡ (level_of k f ∷ []) ∷ [] → form_may_be_left f ≡ true → wanted_by program 1 s ≡ None
 waits_for_nothing program s k f runs activations processes left =
     let unit = unit_at program (main_unit program) in
     let h = main_runs program runs in

@@ -6,13 +6,13 @@ use Rattle.hep_source.specs.declared.statement.PrintItem.TheVariants.{Expression
 use Rattle.hep_source.specs.declared.statement.Form.{Form}
 use Rattle.hep_source.specs.declared.statement.Form.TheVariants as form
 use Rattle.hep_source.specs.declared.statement.Statement.{Statement}
-use Rattle.hep_source.specs.declared.record.Item.TheVariants as item
+use Rattle.hep_machine.specs.declared.record.Item.TheVariants as item
 use Rattle.hep_source.specs.declared.operator.Operator.TheVariants.{Arithmetic}
-use Rattle.hep_source.specs.Tree.{Tree, constant, place, parenthesized, signed, binary}
+use Rattle.hep_source.specs.Tree.{Tree, constant, occurrence, parenthesized, signed, binary}
 use Rattle.hep_source.specs.Names.{same_name}
-use Rattle.hep_source.specs.Evaluation.{item_of}
+use Rattle.hep_machine.specs.Evaluation.{item_of}
 use Rattle.hep_source.specs.Units.{Units, unit_at, main_unit}
-use Rattle.hep_source.specs.Unreached.{no_value}
+use Rattle.hep_machine.specs.Defaults.{no_value}
 use Rattle.hep_core.specs.Symbols.{main_variables}
 use Rattle.hep_core.specs.declared.operation.Evaluation.TheVariants.{Load, Sign, Binary}
 use Rattle.hep_core.specs.declared.operation.Operation.TheVariants.{Evaluate, Store, Print, End}
@@ -28,7 +28,7 @@ module _ (symbols : List Name) where
   -- the operations of an expression in a statement with this line
   abbrev pub tree_code : ℕ → Tree → List Instruction
   tree_code line (constant v) = Push (item_of v) ∷ []
-  tree_code line (place p) = Step line (Evaluate (Load (number_of symbols p.name))) ∷ []
+  tree_code line (occurrence p) = Step line (Evaluate (Load (number_of symbols p.name))) ∷ []
   tree_code line (parenthesized t) = tree_code line t
   tree_code line (signed s t) = tree_code line t ++ Step line (Evaluate (Sign s)) ∷ []
   tree_code line (binary (Arithmetic o) a b) = tree_code line a ++ (tree_code line b ++ Step line (Evaluate (Binary o)) ∷ [])
@@ -50,11 +50,11 @@ module _ (symbols : List Name) where
   form_code line (form.Common blocks) = []
   form_code line (form.Parameter constants) = []
   form_code line (form.Data groups) = []
-  form_code line (form.Assign x t) = tree_code line t ++ Step line (Store (number_of symbols x.place.name)) ∷ []
+  form_code line (form.Assign x t) = tree_code line t ++ Step line (Store (number_of symbols x.occurrence.name)) ∷ []
   form_code line (form.Print items) = items_code line items ++ Step line Print ∷ []
   form_code line _ = Step line End ∷ []
 
-  -- the operations of statements, and an END behind the last one
+  -- the operations of statements, and an END after the last one
   abbrev pub code_from : List Statement → List Instruction
   code_from [] = Step 0 End ∷ []
   code_from (s ∷ ss) = form_code s.line s.form ++ code_from ss

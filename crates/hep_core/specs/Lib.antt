@@ -1,10 +1,10 @@
 pub mod Symbols
 pub mod Code
 pub mod Machine
-pub mod Shown
+pub mod Simulation
 pub mod Names
 pub mod Image
 pub mod Runnable
 pub mod Refusals
 pub mod Value
-pub mod Kept
+pub mod Invariant

@@ -2,7 +2,7 @@
 use Rattle.std.specs.Prelude.{ℕ, Bool, true, false, not, ◌&&◌, ◌==◌, if◌then◌else◌, List, [], ◌∷◌, Option, Some, None, length}
 use Rattle.std.specs.List.{list_all}
 use Rattle.std.specs.Option.{option_or}
-use Rattle.hep_source.specs.Tree.{Tree, constant, place, parenthesized, signed, binary}
+use Rattle.hep_source.specs.Tree.{Tree, constant, occurrence, parenthesized, signed, binary}
 use Rattle.hep_source.specs.Units.{Units}
 use Rattle.hep_source.specs.declared.declaration.Target.{Target}
 use Rattle.hep_source.specs.declared.operator.Operator.TheVariants.{Arithmetic}
@@ -17,7 +17,7 @@ use Rattle.hep_source.specs.declared.value.Value.TheVariants.{Int, Truth}
 -- values that pass a test and the names of variables without `$`, in parentheses, with signs and operators
 abbrev pub is_made_of : (Value → Bool) → Tree → Bool
 is_made_of passes (constant v) = passes v
-is_made_of passes (place p) = not p.name.asynchronous
+is_made_of passes (occurrence p) = not p.name.asynchronous
 is_made_of passes (parenthesized t) = is_made_of passes t
 is_made_of passes (signed s t) = is_made_of passes t
 is_made_of passes (binary (Arithmetic o) a b) = is_made_of passes a && is_made_of passes b
@@ -32,14 +32,14 @@ abbrev pub is_arithmetic : Tree → Bool
 is_arithmetic t = is_made_of is_integer t
 
 -- an arithmetic expression, a logical constant by itself, or a character constant: X3.9-1978, 12.8.2
-abbrev pub runs_item : PrintItem → Bool
-runs_item (Expression (constant (Truth b))) = true
-runs_item (Expression t) = is_arithmetic t
-runs_item (Characters cs) = true
+abbrev pub is_supported_item : PrintItem → Bool
+is_supported_item (Expression (constant (Truth b))) = true
+is_supported_item (Expression t) = is_arithmetic t
+is_supported_item (Characters cs) = true
 
 -- a variable without `$` and without subscripts
 abbrev pub is_variable : Target → Bool
-is_variable x = not x.place.name.asynchronous && (length x.subscripts == 0)
+is_variable x = not x.occurrence.name.asynchronous && (length x.subscripts == 0)
 
 -- an assignment of an expression that passes a test, PRINT of items that pass one, and END: X3.9-1978, 10.1, 12.8 and 11.14
 abbrev pub acts_on : (Tree → Bool) → (PrintItem → Bool) → Form → Bool
@@ -49,23 +49,23 @@ acts_on passes item_passes End = true
 acts_on passes item_passes _ = false
 
 -- PROGRAM (X3.9-1978, 14.1), arithmetic assignment, PRINT and END
-abbrev pub runs_form : Form → Bool
-runs_form (Program p) = true
-runs_form f = acts_on is_arithmetic runs_item f
+abbrev pub is_supported_form : Form → Bool
+is_supported_form (Program p) = true
+is_supported_form f = acts_on is_arithmetic is_supported_item f
 
 -- a logical IF (X3.9-1978, 11.5) doesn't run
 abbrev pub runs : Statement → Bool
-runs s = (length s.conditions == 0) && runs_form s.form
+runs s = (length s.conditions == 0) && is_supported_form s.form
 
 -- the line of the first statement that doesn't run
-abbrev pub first_unrun : List Statement → Option ℕ
-first_unrun [] = None
-first_unrun (s ∷ ss) = if runs s then first_unrun ss else Some s.line
+abbrev pub first_unsupported : List Statement → Option ℕ
+first_unsupported [] = None
+first_unsupported (s ∷ ss) = if runs s then first_unsupported ss else Some s.line
 
 -- over all units, in the order of the source
-abbrev pub first_unrun_in : Units → Option ℕ
-first_unrun_in [] = None
-first_unrun_in (unit ∷ units) = option_or (first_unrun unit) (first_unrun_in units)
+abbrev pub first_unsupported_in : Units → Option ℕ
+first_unsupported_in [] = None
+first_unsupported_in (unit ∷ units) = option_or (first_unsupported unit) (first_unsupported_in units)
 
 -- ---- what is left of a statement that runs: values, logical ones too, stand in the place of what was evaluated
 

@@ -8,11 +8,11 @@ use Rattle.hep_source.specs.declared.statement.Form.{Form}
 use Rattle.hep_source.specs.declared.statement.Form.TheVariants.{Assign, Print}
 use Rattle.hep_source.specs.declared.statement.Statement.{Statement}
 use Rattle.hep_source.specs.Names.{spelling, with_names}
-use Rattle.hep_source.specs.Declarations.{is_integer_by_letter}
-use Rattle.hep_source.specs.Units.{Units, unit_at, main_unit, names_of_places}
-use Rattle.hep_source.specs.Variables.{places_in, places_in_all, places_in_item, locals_of}
-use Rattle.hep_core.specs.declared.fault.ImageFault.{ImageFault}
-use Rattle.hep_core.specs.declared.fault.ImageFault.TheVariants.{NoMemory, Refused}
+use Rattle.hep_machine.specs.Declarations.{is_integer_by_letter}
+use Rattle.hep_source.specs.Units.{Units, unit_at, main_unit, names_of_occurrences}
+use Rattle.hep_machine.specs.Variables.{occurrences_in, occurrences_in_all, occurrences_in_item, locals_of}
+use Rattle.hep_base.specs.declared.refusal.Refusal.{Refusal as ImageFault}
+use Rattle.hep_base.specs.declared.refusal.Refusal.TheVariants.{NoMemory, Refused}
 
 -- the variables of the main program
 abbrev pub main_variables : Units → List Name
@@ -22,17 +22,17 @@ main_variables program = locals_of (unit_at program (main_unit program))
 
 -- the variables of an expression, in the order of the text: no program that runs today declares an array
 abbrev pub names_in : Tree → List Name
-names_in t = names_of_places (places_in [] t)
+names_in t = names_of_occurrences (occurrences_in [] t)
 
 abbrev pub names_in_all : Trees → List Name
-names_in_all ts = names_of_places (places_in_all [] ts)
+names_in_all ts = names_of_occurrences (occurrences_in_all [] ts)
 
 abbrev pub names_in_items : List PrintItem → List Name
-names_in_items items = names_of_places (flat_map (places_in_item []) items)
+names_in_items items = names_of_occurrences (flat_map (occurrences_in_item []) items)
 
 -- the variables of a statement, in the order of the text; statements that don't run today have none
 abbrev pub names_in_form : Form → List Name
-names_in_form (Assign x t) = x.place.name ∷ names_in t
+names_in_form (Assign x t) = x.occurrence.name ∷ names_in t
 names_in_form (Print items) = names_in_items items
 names_in_form _ = []
 
@@ -73,7 +73,7 @@ Reports (Refused number line name) (Some x) = (number ≡ 301) × (line ≡ x.0)
 -- ---- declarations
 
 -- what came of declaring these names, in a statement with this line: all are integers by their letters, and the new ones
--- among them are variables behind the old ones; or the first that isn't is told
+-- among them are variables after the old ones; or the first that isn't is reported
 abbrev pub Declares : List Name → ℕ → List Name → Result (Unit {0}) ImageFault → List Name → Type 0
 Declares old line names result new =
     MatchResult result

@@ -1,14 +1,14 @@
 -- What a core is to its callers, and what a choice makes of it: docs/MACHINE.md, "Histories" and "Which process comes next".
 use Rattle.std.specs.Prelude.{◌≡◌, ◌≢◌, ◌⊎◌, ℕ, zero, suc, ◌<◌, Bool, true, false, if◌then◌else◌, List, [], ◌∷◌, ◌++◌, Option, Some, None, IsSome, Result, Ok, Err, length}
-use Rattle.hep_source.specs.declared.event.Entry.{Entry}
+use Rattle.hep_machine.specs.declared.event.Entry.{Entry}
 use Rattle.hep_source.specs.Units.{Units}
-use Rattle.hep_source.specs.State.{State}
-use Rattle.hep_source.specs.Step.{step, is_waiting}
-use Rattle.hep_source.specs.Run.{state_after}
-use Rattle.hep_source.specs.Layout.{has_frame, opening_layout}
-use Rattle.hep_source.specs.Schedules.{living_from, next_ready, progress_after, ready_in}
-use Rattle.hep_source.specs.Views.{View, view_of}
-use Rattle.hep_source.specs.Processes.{living}
+use Rattle.hep_machine.specs.State.{State}
+use Rattle.hep_machine.specs.Step.{step, is_waiting}
+use Rattle.hep_machine.specs.Run.{state_after}
+use Rattle.hep_machine.specs.Layout.{has_frame, opening_layout}
+use Rattle.hep_machine.specs.Schedules.{living_from, next_ready, progress_after, ready_in}
+use Rattle.hep_machine.specs.Views.{View, view_of}
+use Rattle.hep_machine.specs.Processes.{living}
 use Rattle.hep_core.specs.declared.stop.Stop.{Stop}
 use Rattle.hep_core.specs.declared.stop.Stop.TheVariants.{Halted, ArenaFull, StepLimit}
 use Rattle.hep_core.specs.declared.stop.Turn.{Turn}
@@ -38,9 +38,9 @@ opening_of program cells limit =
     record { program = program; cells = cells; limit = limit; history = []; stop = None; view = view_of program has_frame (state_after program []) }
 
 -- there is no core where the main program's frame has no gap in the arena, and memory is asked for only where it has
-abbrev pub Unmade : NewFault → Units → ℕ → Type 0
-Unmade unmade.NoMemory program cells = IsSome (opening_layout program cells)
-Unmade unmade.ArenaFull program cells = opening_layout program cells ≡ None
+abbrev pub IsNewFault : NewFault → Units → ℕ → Type 0
+IsNewFault unmade.NoMemory program cells = IsSome (opening_layout program cells)
+IsNewFault unmade.ArenaFull program cells = opening_layout program cells ≡ None
 
 -- ---- choices
 
@@ -48,29 +48,29 @@ abbrev pub stop_after : State → Option Stop
 stop_after s = if s.halted then Some Halted else None
 
 -- the core with one entry more, and in the state s
-abbrev pub grown : CoreValue → ℕ → ℕ → State → CoreValue
-grown old p n s =
+abbrev pub core_after_choice : CoreValue → ℕ → ℕ → State → CoreValue
+core_after_choice old p n s =
     record old { history = old.history ++ record { process = p; steps = n } ∷ []; stop = stop_after s; view = view_of old.program has_frame s }
 
 -- p made a step, or was found disabled
-abbrev pub Turned : CoreValue → ℕ → ℕ → Bool → CoreValue → Type 0
-Turned old p (suc zero) false new = (s : State) × (step old.program p (state_of old) ≡ Some s) × (new ≡ grown old p 1 s)
-Turned old p zero true new =
-    (is_waiting old.program (state_of old) p ≡ true) × (new ≡ grown old p 0 (state_of old))
-Turned old p _ _ new = ⊥
+abbrev pub IsTurn : CoreValue → ℕ → ℕ → Bool → CoreValue → Type 0
+IsTurn old p (suc zero) false new = (s : State) × (step old.program p (state_of old) ≡ Some s) × (new ≡ core_after_choice old p 1 s)
+IsTurn old p zero true new =
+    (is_waiting old.program (state_of old) p ≡ true) × (new ≡ core_after_choice old p 0 (state_of old))
+IsTurn old p _ _ new = ⊥
 
 -- the core has no stop
-abbrev pub IsGoing : CoreValue → Type 0
-IsGoing core = (core.stop ≡ None) × ((state_of core).halted ≡ false)
+abbrev pub HasNoStop : CoreValue → Type 0
+HasNoStop core = (core.stop ≡ None) × ((state_of core).halted ≡ false)
 
--- what came of a choice of p: a stop is told first, then that p doesn't live, then that the history is full, and want of memory last
-abbrev pub Chosen : CoreValue → ℕ → Result Turn ChooseFault → CoreValue → Type 0
-Chosen old p (Ok turn) new = IsGoing old × (length old.history < old.limit) × Turned old p turn.steps turn.blocked new
-Chosen old p (Err (refused.Stopped stop)) new =
+-- what came of a choice of p: a stop is reported first, then that p doesn't live, then that the history is full, and want of memory last
+abbrev pub IsChoice : CoreValue → ℕ → Result Turn ChooseFault → CoreValue → Type 0
+IsChoice old p (Ok turn) new = HasNoStop old × (length old.history < old.limit) × IsTurn old p turn.steps turn.blocked new
+IsChoice old p (Err (refused.Stopped stop)) new =
     ((old.stop ≡ Some stop) × (new ≡ old))
-    ⊎ (IsGoing old × (living (state_of old) p ≢ None) × (length old.history ≡ old.limit) × (stop ≡ StepLimit) × (new ≡ record old { stop = Some StepLimit }))
-Chosen old p (Err refused.NoSuchProcess) new = IsGoing old × (living (state_of old) p ≡ None) × (new ≡ old)
-Chosen old p (Err refused.NoMemory) new = IsGoing old × (living (state_of old) p ≢ None) × (length old.history < old.limit) × (new ≡ old)
+    ⊎ (HasNoStop old × (living (state_of old) p ≢ None) × (length old.history ≡ old.limit) × (stop ≡ StepLimit) × (new ≡ record old { stop = Some StepLimit }))
+IsChoice old p (Err refused.NoSuchProcess) new = HasNoStop old × (living (state_of old) p ≡ None) × (new ≡ old)
+IsChoice old p (Err refused.NoMemory) new = HasNoStop old × (living (state_of old) p ≢ None) × (length old.history < old.limit) × (new ≡ old)
 
 -- ---- stops
 

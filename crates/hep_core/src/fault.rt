@@ -1,44 +1,8 @@
 //! Why a call of this crate is refused.
 
 use crate::stop::Stop;
-use hep_source::Text;
 use std::alloc::{AllocError, AllocFailed};
 use thiserror::Error;
-
-/// Why a program has no image.
-#[derive(Debug, Drop, Error)]
-pub enum ImageFault {
-    /// Memory was refused.
-    #[error("no memory")]
-    NoMemory,
-    /// 403, with the line and without a name: a statement doesn't run today (docs/MACHINE.md). Or
-    /// 301, with the line of the statement and the name: a variable has no INTEGER or LOGICAL
-    /// declaration, and its letter isn't I to N (X3.9-1978, 4.1.2).
-    #[error("refused {number} in line {line}")]
-    Refused { number: u16, line: u32, name: Text },
-}
-
-impl From<AllocError> for ImageFault {
-    ghost use Rattle.std.specs.Prelude.{◌≡◌};
-    ghost use Rattle.hep_core.specs.declared.fault.ImageFault.TheVariants.{NoMemory};
-
-    ghost from_gives = { λ _ e. e ≡ NoMemory };
-
-    fn from(_refused: AllocError) -> ImageFault {
-        ImageFault::NoMemory
-    }
-}
-
-impl<T: Drop> From<AllocFailed<T>> for ImageFault {
-    ghost use Rattle.std.specs.Prelude.{◌≡◌};
-    ghost use Rattle.hep_core.specs.declared.fault.ImageFault.TheVariants.{NoMemory};
-
-    ghost from_gives = { λ _ e. e ≡ NoMemory };
-
-    fn from(_refused: AllocFailed<T>) -> ImageFault {
-        ImageFault::NoMemory
-    }
-}
 
 /// Why no core is made.
 #[derive(Clone, Copy, Debug, PartialEq, Eq, Error)]

@@ -8,11 +8,11 @@ ghost use Rattle.hep_core.specs.Symbols.{main_variables};
 ghost use Rattle.hep_core.specs.Code.{program_code};
 ghost use Rattle.hep_core.specs.Names as words;
 
-use crate::fault::ImageFault;
 use crate::lower::code_of;
 use crate::operation::Instruction;
-use crate::runnable::first_unrun_in;
+use crate::runnable::first_unsupported_in;
 use crate::symbols::{spelling, symbols_of};
+use hep_base::Refusal as ImageFault;
 use hep_source::{Form, Name, Program, Statement, Text, Unit};
 use indexmap::IndexSet;
 use std::alloc::{AllocError, Global};
@@ -77,7 +77,7 @@ impl Image {
     /// How many variables the main program has; every statement of an image's program runs.
     pub fn variables(&self) -> usize
         ensures count { result ≡ length (main_variables self.now) }
-        ensures runs { runnable.first_unrun_in self.now ≡ None }
+        ensures runs { runnable.first_unsupported_in self.now ≡ None }
     {
         self.variables
     }
@@ -85,7 +85,7 @@ impl Image {
 
 // The statements of the main program, of a program that runs.
 fn main_statements(program: &Program) -> &[Statement]
-    requires { runnable.first_unrun_in program.now ≡ None }
+    requires { runnable.first_unsupported_in program.now ≡ None }
     ensures { result.now ≡ units.unit_at program.now (units.main_unit program.now) }
 {
     match program.as_slice() {
@@ -99,8 +99,8 @@ fn unit_name(alloc: Global, statements: &[Statement]) -> Result<Text, AllocError
     ensures { IfOk result (λ name. name ≡ units.unit_name statements.now) }
 {
     if let [first, ..] = statements {
-        if let Form::Program(place) | Form::Subroutine(place, _) = &first.form {
-            return spelling(alloc, &place.name);
+        if let Form::Program(occurrence) | Form::Subroutine(occurrence, _) = &first.form {
+            return spelling(alloc, &occurrence.name);
         }
     }
     Ok(Text::from(Vec::from_slice(alloc, MAIN_NAME)?))
@@ -153,7 +153,7 @@ pub fn image_of(alloc: Global, program: Program) -> Result<Image, ImageFault>
     ensures runs { OnOk result (IsRunnable program) }
     ensures refused { IfErr result (Refuses program) }
 {
-    if let Some(line) = first_unrun_in(program.as_slice()) {
+    if let Some(line) = first_unsupported_in(program.as_slice()) {
         return Err(ImageFault::Refused {
             number: 403,
             line,

@@ -1,10 +1,11 @@
 //! Statements to operations.
 ghost use Rattle.std.specs.Prelude.{◌≡◌, ◌++◌, ◌∷◌, [], IfOk, OnOk};
-ghost use Rattle.hep_source.specs.Evaluation as evaluation;
+ghost use Rattle.hep_machine.specs.Evaluation as evaluation;
 ghost use Rattle.hep_core.specs.Code as code_words;
 
 use crate::operation::{Evaluation, Instruction, Operation};
-use hep_source::{Expr, Form, Item, Name, Node, Operator, PrintItem, Statement, Syntax, Value};
+use hep_machine::Item;
+use hep_source::{Expr, Form, Name, Node, Operator, PrintItem, Statement, Syntax, Value};
 use indexmap::IndexSet;
 use std::alloc::{AllocError, Global};
 
@@ -30,7 +31,7 @@ pub fn item_of(value: Value) -> Item
 {
     match value {
         Value::Int(integer) => Item::Int(integer),
-        Value::Truth(truth) => Item::Truth(truth),
+        Value::Truth(logical) => Item::Truth(logical),
     }
 }
 
@@ -52,8 +53,8 @@ fn emit_expression(
 {
     match &expression.node {
         Node::Constant(value) => emit(code, Instruction::Push(item_of(*value))),
-        Node::Place(place) => {
-            let number = number_of(symbols, place.name);
+        Node::Occurrence(occurrence) => {
+            let number = number_of(symbols, occurrence.name);
             emit_step(code, line, Operation::Evaluate(Evaluation::Load(number)))
         }
         Node::Parenthesized(inner) => emit_expression(code, symbols, line, inner),
@@ -133,7 +134,7 @@ fn emit_statement(
         | Form::Data(_) => Ok(()),
         Form::Assign(target, expression) => {
             emit_expression(code, symbols, line, expression)?;
-            let number = number_of(symbols, target.place.name);
+            let number = number_of(symbols, target.occurrence.name);
             emit_step(code, line, Operation::Store(number))
         }
         Form::Print(list) => {
@@ -146,7 +147,7 @@ fn emit_statement(
     }
 }
 
-/// The operations of these statements, and an END behind the last one.
+/// The operations of these statements, and an END after the last one.
 ///
 /// # Errors
 ///

@@ -1,12 +1,13 @@
 //! The state of a run: the process, its operands, the variables, the records and the faults.
 ghost use Rattle.std.specs.Prelude.{◌≡◌, ◌+◌, ◌<◌, ◌++◌, ◌∷◌, ◌^◌, [], IfOk, OnOk, OnErr, vec_len, vec_capacity};
 ghost use Rattle.hep_core.specs.Machine as words;
-ghost use Rattle.hep_core.specs.Shown.{Steps};
+ghost use Rattle.hep_core.specs.Simulation.{SimulatesStep};
 
 use crate::lower::item_of;
 use crate::operation::{Evaluation, Instruction, Operation};
-use hep_source::arithmetic::{apply, apply_sign};
-use hep_source::{Fault, Item, Kind, Record, Syntax, Value};
+use hep_machine::arithmetic::{apply, apply_sign};
+use hep_machine::{Fault, Item, Kind, Record};
+use hep_source::{Syntax, Value};
 use std::alloc::{AllocError, Global};
 use std::mem;
 
@@ -23,7 +24,7 @@ pub struct Machine {
     /// Whether the process hasn't ended yet.
     pub is_living: bool,
     /// The place of the next operation.
-    pub place: usize,
+    pub program_counter: usize,
     /// What was evaluated of the statement so far, the last operand on top.
     pub operands: Vec<Item>,
     /// The value of each variable, if it was ever assigned.
@@ -40,7 +41,7 @@ fn copy_of_item(alloc: Global, item: &Item) -> Result<Item, AllocError>
 {
     match item {
         Item::Int(integer) => Ok(Item::Int(*integer)),
-        Item::Truth(truth) => Ok(Item::Truth(*truth)),
+        Item::Truth(logical) => Ok(Item::Truth(*logical)),
         Item::Text(text) => Ok(Item::Text(text.copy(alloc)?)),
     }
 }
@@ -61,7 +62,7 @@ fn topmost_value(operands: &[Item]) -> Value
 {
     match operands.last() {
         Some(Item::Int(integer)) => Value::Int(*integer),
-        Some(Item::Truth(truth)) => Value::Truth(*truth),
+        Some(Item::Truth(logical)) => Value::Truth(*logical),
         _ => Value::Int(0),
     }
 }
@@ -84,23 +85,23 @@ fn settle(
     alloc: Global,
     code: &[Instruction],
     operands: &mut Vec<Item>,
-    place: &mut usize,
+    program_counter: &mut usize,
 ) -> Result<(), AllocError>
-    ensures same { words.left_to_do operands.new.items place.new code.now
-        ≡ words.left_to_do operands.old.items place.old code.now }
-    ensures settled { OnOk result (words.IsAtStep code.now place.new) }
+    ensures same { words.left_to_do operands.new.items program_counter.new code.now
+        ≡ words.left_to_do operands.old.items program_counter.old code.now }
+    ensures settled { OnOk result (words.IsAtStep code.now program_counter.new) }
 {
-    while let Some(Instruction::Push(item)) = code.get(*place) {
+    while let Some(Instruction::Push(item)) = code.get(*program_counter) {
         let item = copy_of_item(alloc, item)?;
         operands.push(item)?;
-        *place += 1;
+        *program_counter += 1;
     }
     Ok(())
 }
 
 // Puts an item where the last operands were, so many of them; a refusal leaves all as it was.
 fn replace_operands(operands: &mut Vec<Item>, taken: usize, item: Item) -> Result<(), AllocError>
-    ensures done { OnOk result (operands.new.items ≡ words.replaced operands.old.items taken item) }
+    ensures done { OnOk result (operands.new.items ≡ words.operands_with_result operands.old.items taken item) }
     ensures refused { OnErr result (operands.new.items ≡ operands.old.items) }
 {
     operands.reserve(1)?;
@@ -129,7 +130,7 @@ impl Machine {
     {
         Ok(Machine {
             is_living: true,
-            place: 0,
+            program_counter: 0,
             operands: Vec::new(alloc),
             cells: vec![in alloc; None; variables]?,
             records: Vec::new(alloc),
@@ -143,11 +144,11 @@ impl Machine {
     ///
     /// Only where memory was refused; the machine then shows the same state.
     pub fn step(&mut self, alloc: Global, code: &[Instruction]) -> Result<(), AllocError>
-        ensures { Steps code.now (words.snapshot_of self.old) result (words.snapshot_of self.new) }
+        ensures { SimulatesStep code.now (words.snapshot_of self.old) result (words.snapshot_of self.new) }
     {
-        settle(alloc, code, &mut self.operands, &mut self.place)?;
+        settle(alloc, code, &mut self.operands, &mut self.program_counter)?;
         // A living process always has an operation ahead: the code ends with an END.
-        let Some(Instruction::Step { line, operation }) = code.get(self.place) else {
+        let Some(Instruction::Step { line, operation }) = code.get(self.program_counter) else {
             return Ok(());
         };
         match *operation {
@@ -170,7 +171,7 @@ impl Machine {
     // What an operation gives: its value, or the fault that ends the process.
     fn evaluate(&self, evaluation: Evaluation) -> Result<Value, Kind>
         ensures { result
-            ≡ words.evaluated self.now.cells.items self.now.operands.items evaluation }
+            ≡ words.operation_value self.now.cells.items self.now.operands.items evaluation }
     {
         match evaluation {
             Evaluation::Load(number) => match self.cells.get(number) {
@@ -190,13 +191,13 @@ impl Machine {
 
     // Goes on with the value of an operation in the place of its operands.
     fn give(&mut self, evaluation: Evaluation, value: Value) -> Result<(), AllocError>
-        requires { self.old.place + 1 < 2 ^ 64 }
+        requires { self.old.program_counter + 1 < 2 ^ 64 }
         ensures done { OnOk result (words.snapshot_of self.new
             ≡ words.with_result (words.snapshot_of self.old) evaluation value) }
         ensures refused { OnErr result (words.snapshot_of self.new ≡ words.snapshot_of self.old) }
     {
         replace_operands(&mut self.operands, evaluation.arity(), item_of(value))?;
-        self.place += 1;
+        self.program_counter += 1;
         Ok(())
     }
 
@@ -218,7 +219,7 @@ impl Machine {
 
     // Assigns the topmost operand to a variable.
     fn store(&mut self, number: usize)
-        requires { self.old.place + 1 < 2 ^ 64 }
+        requires { self.old.program_counter + 1 < 2 ^ 64 }
         ensures { words.snapshot_of self.new
             ≡ words.with_stored (words.snapshot_of self.old) number }
     {
@@ -227,12 +228,12 @@ impl Machine {
             *cell = Some(value);
         }
         self.operands.pop();
-        self.place += 1;
+        self.program_counter += 1;
     }
 
     // Adds a record of all operands.
     fn print(&mut self, alloc: Global) -> Result<(), AllocError>
-        requires { self.old.place + 1 < 2 ^ 64 }
+        requires { self.old.program_counter + 1 < 2 ^ 64 }
         ensures done { OnOk result (words.snapshot_of self.new
             ≡ words.with_printed (words.snapshot_of self.old)) }
         ensures refused { OnErr result (words.snapshot_of self.new ≡ words.snapshot_of self.old) }
@@ -240,7 +241,7 @@ impl Machine {
         self.records.reserve(1)?;
         let items = mem::replace(&mut self.operands, Vec::new(alloc));
         add_record(&mut self.records, Record::from(items));
-        self.place += 1;
+        self.program_counter += 1;
         Ok(())
     }
 }

@@ -1,6 +1,7 @@
 //! Operations: statements in postfix order, with a list of operands.
 
-use hep_source::{ArithmeticOperator, Item, Sign};
+use hep_machine::Item;
+use hep_source::{ArithmeticOperator, Sign};
 
 /// An operation that gives a value. Operands lie in a list, the last one on top.
 #[derive(Clone, Copy)]
@@ -31,6 +32,6 @@ pub enum Operation {
 pub enum Instruction {
     /// Puts a constant on top; this is no step.
     Push(Item),
-    /// An operation, with the initial line of its statement; 0 for the END behind the last one.
+    /// An operation, with the initial line of its statement; 0 for the END after the last one.
     Step { line: u32, operation: Operation },
 }

@@ -12,7 +12,7 @@ pub fn is_arithmetic(expression: &Expr) -> bool
 {
     match &expression.node {
         Node::Constant(Value::Int(_)) => true,
-        Node::Place(place) => !place.name.asynchronous,
+        Node::Occurrence(occurrence) => !occurrence.name.asynchronous,
         Node::Parenthesized(inner) => is_arithmetic(inner),
         Node::Signed(_, term) => is_arithmetic(term),
         Node::Binary(Operator::Arithmetic(_), left, right) => {
@@ -24,8 +24,8 @@ pub fn is_arithmetic(expression: &Expr) -> bool
 
 /// Whether an item of PRINT runs: an arithmetic expression, a logical constant by itself, or a
 /// character constant.
-pub fn runs_item(item: &PrintItem) -> bool
-    ensures { result ≡ runnable.runs_item item.now }
+pub fn is_supported_item(item: &PrintItem) -> bool
+    ensures { result ≡ runnable.is_supported_item item.now }
 {
     match item {
         PrintItem::Expression(expression) => match &expression.node {
@@ -38,21 +38,21 @@ pub fn runs_item(item: &PrintItem) -> bool
 
 // Whether each of these items runs.
 fn all_run(items: &[PrintItem]) -> bool
-    ensures { result ≡ list_all runnable.runs_item items.now }
+    ensures { result ≡ list_all runnable.is_supported_item items.now }
 {
-    items.iter().all(|item| runs_item(item))
+    items.iter().all(|item| is_supported_item(item))
 }
 
 // Whether it is a variable without `$` and without subscripts.
 fn is_variable(target: &Target) -> bool
     ensures { result ≡ runnable.is_variable target.now }
 {
-    !target.place.name.asynchronous && target.subscripts.as_slice().is_empty()
+    !target.occurrence.name.asynchronous && target.subscripts.as_slice().is_empty()
 }
 
 /// Whether what a statement says runs.
-pub fn runs_form(form: &Form) -> bool
-    ensures { result ≡ runnable.runs_form form.now }
+pub fn is_supported_form(form: &Form) -> bool
+    ensures { result ≡ runnable.is_supported_form form.now }
 {
     match form {
         Form::Program(_) => true,
@@ -67,12 +67,12 @@ pub fn runs_form(form: &Form) -> bool
 pub fn runs(statement: &Statement) -> bool
     ensures { result ≡ runnable.runs statement.now }
 {
-    statement.conditions.as_slice().is_empty() && runs_form(&statement.form)
+    statement.conditions.as_slice().is_empty() && is_supported_form(&statement.form)
 }
 
 /// The line of the first of these statements that doesn't run.
-pub fn first_unrun(statements: &[Statement]) -> Option<u32>
-    ensures { result ≡ runnable.first_unrun statements.now }
+pub fn first_unsupported(statements: &[Statement]) -> Option<u32>
+    ensures { result ≡ runnable.first_unsupported statements.now }
 {
     for statement in statements {
         if !runs(statement) {
@@ -83,11 +83,11 @@ pub fn first_unrun(statements: &[Statement]) -> Option<u32>
 }
 
 /// The line of the first statement that doesn't run, over all units in the order of the source.
-pub fn first_unrun_in(units: &[Unit]) -> Option<u32>
-    ensures { result ≡ runnable.first_unrun_in units.now }
+pub fn first_unsupported_in(units: &[Unit]) -> Option<u32>
+    ensures { result ≡ runnable.first_unsupported_in units.now }
 {
     for unit in units {
-        if let Some(line) = first_unrun(unit.as_slice()) {
+        if let Some(line) = first_unsupported(unit.as_slice()) {
             return Some(line);
         }
     }

@@ -1,15 +1,15 @@
 //! The core: a run of an image, one choice at a time, with its history.
 ghost use Rattle.std.specs.Prelude.{◌≡◌, ◌≤◌, ◌<◌, ◌++◌, ◌∷◌, [], None, Some, IsSome, IfOk, OnOk, IfErr, vec_len, vec_capacity};
-ghost use Rattle.hep_source.specs.Histories.{IsLegal};
-ghost use Rattle.hep_source.specs.Layout.{has_frame, opening_layout, used_cells};
-ghost use Rattle.hep_source.specs.Views.{view_of};
-ghost use Rattle.hep_core.specs.Value.{state_of, opening_of, Unmade, Chosen, IsStop, verdict_of, next_ready_of};
+ghost use Rattle.hep_machine.specs.Histories.{IsLegal};
+ghost use Rattle.hep_machine.specs.Layout.{has_frame, opening_layout, used_cells};
+ghost use Rattle.hep_machine.specs.Views.{view_of};
+ghost use Rattle.hep_core.specs.Value.{state_of, opening_of, IsNewFault, IsChoice, IsStop, verdict_of, next_ready_of};
 
 use crate::fault::{ChooseFault, NewFault};
 use crate::image::Image;
 use crate::machine::{MAIN_PROCESS, Machine};
 use crate::stop::{Stop, Turn, Verdict};
-use hep_source::{Entry, Fault, Record};
+use hep_machine::{Entry, Fault, Record};
 use std::alloc::Global;
 use std::marker::Model;
 
@@ -35,11 +35,11 @@ impl Model for Core {
 
     ghost coded = { Prim.hlevel (codes, expression.the_row.coded) };
 
-    ghost use Rattle.hep_core.specs.Kept.{core_value, IsKept};
+    ghost use Rattle.hep_core.specs.Invariant.{core_value, CoreInvariant};
 
     ghost view = { core_value };
 
-    ghost invariant = { IsKept };
+    ghost invariant = { CoreInvariant };
 }
 
 impl Core {
@@ -52,7 +52,7 @@ impl Core {
     pub fn new(alloc: Global, image: Image, cells: u32, steps: u64) -> Result<Core, NewFault>
         ensures fits { OnOk result (IsSome (opening_layout image cells)) }
         ensures made { IfOk result (λ core. core ≡ opening_of image cells steps) }
-        ensures unmade { IfErr result (λ e. Unmade e image cells) }
+        ensures unmade { IfErr result (λ e. IsNewFault e image cells) }
     {
         // A frame has one cell more than the unit has variables.
         let variables = image.variables();
@@ -78,7 +78,7 @@ impl Core {
     /// `Stopped` at a stop, or where the history has as many entries as it may have, which sets
     /// the stop; `NoSuchProcess` where p was never made or has ended; `NoMemory`.
     pub fn choose(&mut self, p: u64) -> Result<Turn, ChooseFault>
-        ensures { Chosen self.old p result self.new }
+        ensures { IsChoice self.old p result self.new }
     {
         if let Some(stop) = self.stop {
             return Err(ChooseFault::Stopped(stop));
@@ -181,6 +181,3 @@ fn note(history: &mut Vec<Entry>, p: u64)
         steps: 1,
     });
 }
-
-#[cfg(test)]
-mod tests;

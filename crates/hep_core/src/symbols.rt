@@ -1,13 +1,13 @@
 //! The variables of a unit, in order of first appearance.
 
 ghost use Rattle.std.specs.Prelude.{◌≡◌, ◌∷◌, [], None, IfOk, OnOk, IfErr};
-ghost use Rattle.hep_source.specs.Declarations as declarations;
+ghost use Rattle.hep_machine.specs.Declarations as declarations;
 ghost use Rattle.hep_source.specs.Names as names;
 ghost use Rattle.hep_core.specs.Symbols as table;
 ghost use Rattle.hep_source.specs.Tree.{trees_of};
 ghost use Rattle.hep_core.specs.Symbols.{Declares, Reports};
 
-use crate::fault::ImageFault;
+use hep_base::Refusal as ImageFault;
 use hep_source::{Expr, Form, Name, Node, PrintItem, Statement, Text};
 use indexmap::IndexSet;
 use std::alloc::{AllocError, Global};
@@ -72,9 +72,9 @@ fn declare_in(
 {
     match &expression.node {
         Node::Constant(_) => Ok(()),
-        Node::Place(place) => declare(alloc, symbols, line, place.name),
+        Node::Occurrence(occurrence) => declare(alloc, symbols, line, occurrence.name),
         // A name with a list would be a variable only where the unit has that array.
-        Node::Listed(_, arguments) => declare_in_all(alloc, symbols, line, arguments),
+        Node::WithList(_, arguments) => declare_in_all(alloc, symbols, line, arguments),
         Node::Parenthesized(inner) => declare_in(alloc, symbols, line, inner),
         Node::Signed(_, term) => declare_in(alloc, symbols, line, term),
         Node::Negated(operand) => declare_in(alloc, symbols, line, operand),
@@ -134,7 +134,7 @@ fn declare_statement(
     let line = statement.line;
     match &statement.form {
         Form::Assign(target, expression) => {
-            declare(alloc, symbols, line, target.place.name)?;
+            declare(alloc, symbols, line, target.occurrence.name)?;
             declare_in(alloc, symbols, line, expression)
         }
         Form::Print(list) => declare_items(alloc, symbols, line, list.as_slice()),

@@ -38,57 +38,57 @@ module _ (among : List Operator) (next : Reader Tree) (n i : ℕ) (t : Tree) (s 
       let turn : chain among next (n - i) t s ≡ None = rw (left, is_operator, fails) refl in
       sym so_far ∙ turn
 
--- what is read behind arguments that were read before
-abbrev pub behind_read : List Tree → Option (Trees × List ℕ) → Option (Trees × List ℕ)
-behind_read [] read = read
-behind_read (t ∷ ts) read = behind_read ts read >>= λ x. Some (trees t x.0, x.1)
+-- what is read after arguments that were read before
+abbrev pub after_read : List Tree → Option (Trees × List ℕ) → Option (Trees × List ℕ)
+after_read [] read = read
+after_read (t ∷ ts) read = after_read ts read >>= λ x. Some (trees t x.0, x.1)
 
-nothing_behind : (ts : List Tree) → behind_read ts None ≡ None
-nothing_behind [] = refl
-nothing_behind (t ∷ ts) = ap (λ (read : Option (Trees × List ℕ)). read >>= λ x. Some (trees t x.0, x.1)) (nothing_behind ts)
+nothing_after : (ts : List Tree) → after_read ts None ≡ None
+nothing_after [] = refl
+nothing_after (t ∷ ts) = ap (λ (read : Option (Trees × List ℕ)). read >>= λ x. Some (trees t x.0, x.1)) (nothing_after ts)
 
-last_behind : (ts : List Tree) (u : Tree) (r : List ℕ) → behind_read ts (Some (trees u no_trees, r)) ≡ Some (trees_of (ts ++ u ∷ []), r)
-last_behind [] u r = refl
-last_behind (t ∷ ts) u r = ap (λ (read : Option (Trees × List ℕ)). read >>= λ x. Some (trees t x.0, x.1)) (last_behind ts u r)
+last_after : (ts : List Tree) (u : Tree) (r : List ℕ) → after_read ts (Some (trees u no_trees, r)) ≡ Some (trees_of (ts ++ u ∷ []), r)
+last_after [] u r = refl
+last_after (t ∷ ts) u r = ap (λ (read : Option (Trees × List ℕ)). read >>= λ x. Some (trees t x.0, x.1)) (last_after ts u r)
 
-more_behind : (ts : List Tree) (u : Tree) (read : Option (Trees × List ℕ)) → behind_read ts (read >>= λ x. Some (trees u x.0, x.1)) ≡ behind_read (ts ++ u ∷ []) read
-more_behind [] u read = refl
-more_behind (t ∷ ts) u read = ap (λ (read : Option (Trees × List ℕ)). read >>= λ x. Some (trees t x.0, x.1)) (more_behind ts u read)
+more_after : (ts : List Tree) (u : Tree) (read : Option (Trees × List ℕ)) → after_read ts (read >>= λ x. Some (trees u x.0, x.1)) ≡ after_read (ts ++ u ∷ []) read
+more_after [] u read = refl
+more_after (t ∷ ts) u read = ap (λ (read : Option (Trees × List ℕ)). read >>= λ x. Some (trees t x.0, x.1)) (more_after ts u read)
 
 -- The same for arguments: those in ts are read, and s follows them.
 module _ (inner : Reader Tree) (n i : ℕ) (ts : List Tree) (s : List ℕ) (whole : Option (Trees × List ℕ)) where
-  pub arguments_go_on : (u : Tree) (r m : List ℕ) → i < n → inner s ≡ Some (u, r) → after 41 r ≡ None → after 44 r ≡ Some m → behind_read ts (arguments inner (n - i) s) ≡ whole → behind_read (ts ++ u ∷ []) (arguments inner (n - (i + 1)) m) ≡ whole
+  pub arguments_go_on : (u : Tree) (r m : List ℕ) → i < n → inner s ≡ Some (u, r) → after 41 r ≡ None → after 44 r ≡ Some m → after_read ts (arguments inner (n - i) s) ≡ whole → after_read (ts ++ u ∷ []) (arguments inner (n - (i + 1)) m) ≡ whole
   unfolding arguments
   arguments_go_on u r m lt is_argument no_end comma so_far =
       let left : n - i ≡ suc (n - (i + 1)) = omega arith in
-      let turn : behind_read ts (arguments inner (n - i) s) ≡ behind_read (ts ++ u ∷ []) (arguments inner (n - (i + 1)) m) = rw (left, is_argument, no_end, comma) (more_behind ts u (arguments inner (n - (i + 1)) m)) in
+      let turn : after_read ts (arguments inner (n - i) s) ≡ after_read (ts ++ u ∷ []) (arguments inner (n - (i + 1)) m) = rw (left, is_argument, no_end, comma) (more_after ts u (arguments inner (n - (i + 1)) m)) in
       sym turn ∙ so_far
 
-  pub arguments_end : (u : Tree) (r m : List ℕ) → i < n → inner s ≡ Some (u, r) → after 41 r ≡ Some m → behind_read ts (arguments inner (n - i) s) ≡ whole → whole ≡ Some (trees_of (ts ++ u ∷ []), m)
+  pub arguments_end : (u : Tree) (r m : List ℕ) → i < n → inner s ≡ Some (u, r) → after 41 r ≡ Some m → after_read ts (arguments inner (n - i) s) ≡ whole → whole ≡ Some (trees_of (ts ++ u ∷ []), m)
   unfolding arguments
   arguments_end u r m lt is_argument end so_far =
       let left : n - i ≡ suc (n - (i + 1)) = omega arith in
-      let turn : behind_read ts (arguments inner (n - i) s) ≡ Some (trees_of (ts ++ u ∷ []), m) = rw (left, is_argument, end) (last_behind ts u m) in
+      let turn : after_read ts (arguments inner (n - i) s) ≡ Some (trees_of (ts ++ u ∷ []), m) = rw (left, is_argument, end) (last_after ts u m) in
       sym so_far ∙ turn
 
-  pub arguments_stop : (u : Tree) (r : List ℕ) → i < n → inner s ≡ Some (u, r) → after 41 r ≡ None → after 44 r ≡ None → behind_read ts (arguments inner (n - i) s) ≡ whole → whole ≡ None
+  pub arguments_stop : (u : Tree) (r : List ℕ) → i < n → inner s ≡ Some (u, r) → after 41 r ≡ None → after 44 r ≡ None → after_read ts (arguments inner (n - i) s) ≡ whole → whole ≡ None
   unfolding arguments
   arguments_stop u r lt is_argument no_end no_comma so_far =
       let left : n - i ≡ suc (n - (i + 1)) = omega arith in
-      let turn : behind_read ts (arguments inner (n - i) s) ≡ None = rw (left, is_argument, no_end, no_comma) (nothing_behind ts) in
+      let turn : after_read ts (arguments inner (n - i) s) ≡ None = rw (left, is_argument, no_end, no_comma) (nothing_after ts) in
       sym so_far ∙ turn
 
-  pub arguments_are_over : n ≤ i → behind_read ts (arguments inner (n - i) s) ≡ whole → whole ≡ None
+  pub arguments_are_over : n ≤ i → after_read ts (arguments inner (n - i) s) ≡ whole → whole ≡ None
   unfolding arguments
   arguments_are_over le so_far =
       let left : n - i ≡ 0 = omega arith in
-      let turn : behind_read ts (arguments inner (n - i) s) ≡ None = rw left (nothing_behind ts) in
+      let turn : after_read ts (arguments inner (n - i) s) ≡ None = rw left (nothing_after ts) in
       sym so_far ∙ turn
 
-  pub arguments_fail : (why : Unread) → i < n → Fails why (inner s) → behind_read ts (arguments inner (n - i) s) ≡ whole → Fails why whole
+  pub arguments_fail : (why : Unread) → i < n → Fails why (inner s) → after_read ts (arguments inner (n - i) s) ≡ whole → Fails why whole
   unfolding arguments
   arguments_fail unread.NoMemory lt fails so_far = tt
   arguments_fail unread.NoReading lt fails so_far =
       let left : n - i ≡ suc (n - (i + 1)) = omega arith in
-      let turn : behind_read ts (arguments inner (n - i) s) ≡ None = rw (left, fails) (nothing_behind ts) in
+      let turn : after_read ts (arguments inner (n - i) s) ≡ None = rw (left, fails) (nothing_after ts) in
       sym so_far ∙ turn

@@ -2,9 +2,9 @@
 use Rattle.std.proofs.Common.{◌≡◌, ◌⊎◌, inl, inr, ℕ, zero, suc, ◌+◌, ◌-◌, ◌<◌, ◌≤◌, Bool, true, false, List, [], ◌∷◌, ◌++◌, length, Some, None, refl, ap, subst, ◌∙◌, arith}
 use Rattle.std.specs.Prelude.{nat_eq, nat_le, ◌&&◌, if◌then◌else◌, ℤ}
 use Rattle.std.proofs.lemmas.Bool.Decides.{nat_tests}
-use Rattle.hep_source.specs.Tree.{Tree, Trees, constant, place, listed, parenthesized, signed, negated, binary, no_trees, trees, nodes, nodes_of_all}
+use Rattle.hep_source.specs.Tree.{Tree, Trees, constant, occurrence, with_list, parenthesized, signed, negated, binary, no_trees, trees, nodes, nodes_of_all}
 use Rattle.hep_source.specs.declared.value.Value.TheVariants.{Int, Truth}
-use Rattle.hep_source.specs.declared.name.Place.{Place}
+use Rattle.hep_source.specs.declared.name.Occurrence.{Occurrence}
 use Rattle.hep_source.specs.declared.operator.Sign.{Sign}
 use Rattle.hep_source.specs.declared.operator.Sign.TheVariants.{Plus, Minus}
 use Rattle.hep_source.specs.declared.operator.Operator.{Operator}
@@ -16,12 +16,12 @@ use Rattle.hep_source.specs.declared.operator.LogicalOperator.TheVariants.{And, 
 use Rattle.hep_expression.specs.declared.characters.Sizes.{Sizes}
 use Rattle.hep_expression.specs.declared.characters.Sizes.TheVariants.{Fitting, Any}
 use Rattle.hep_expression.specs.declared.characters.Context.{Context}
-use Rattle.hep_expression.specs.declared.expression.Level.{Level}
-use Rattle.hep_expression.specs.declared.expression.Level.TheVariants.{Equivalence, Disjunction, Conjunction, Sum, Term}
-use Rattle.hep_expression.specs.Characters.{is_digit, is_letter, is_letter_or_digit, IsName, name_sign, named, ReadsPlace, ReadsPlainPlace, IsDigits, number_of_digits, greatest, IsInteger, truth_spelling}
+use Rattle.hep_expression.specs.declared.expression.Precedence.{Precedence}
+use Rattle.hep_expression.specs.declared.expression.Precedence.TheVariants.{Equivalence, Disjunction, Conjunction, Sum, Term}
+use Rattle.hep_expression.specs.Characters.{is_digit, is_letter, is_letter_or_digit, IsName, name_sign, named, ReadsOccurrence, ReadsPlainOccurrence, IsDigits, number_of_digits, greatest, IsInteger, logical_spelling}
 use Rattle.hep_expression.specs.Expression as levels
 use Rattle.hep_expression.specs.Expression.{level, left, right, spelling, sign_spelling, Reads, ReadsAll, IsExpression}
-use Rattle.hep_expression.specs.Reading.{Reader, ◌>>=◌, begins, after, letters_at, name_at, place_at, plain_place_at, integer, integer_at, truth_at}
+use Rattle.hep_expression.specs.Reading.{Reader, ◌>>=◌, begins, after, letters_at, name_at, occurrence_at, plain_occurrence_at, integer, integer_at, logical_at}
 use Rattle.hep_expression.specs.ReadingExpression as reading
 use Rattle.hep_expression.specs.ReadingExpression.{operator_at, sign_at, power_at, not_at, comparing, operators, chain, in_parentheses, arguments, primary, power_of, term, first_term, sum, relation, negation, conjunction, disjunction, next_operand, first_operand, at_level, expression, power, expression_at, whole_expression}
 use Rattle.hep_expression.proofs.Leaves.{and_parts, or_parts, le_of, le_test, front_row, fits, all_fit}
@@ -60,16 +60,16 @@ name_opens a [] s r h e = absurd h
 name_opens true (c ∷ w) s r h e = rw e (refl, refl)
 name_opens false (c ∷ w) s r h e = let from : 65 ≤ c = letter_from c h.0 in rw e (high_opens c (w ++ r) (omega arith))
 
-truth_opens : (b : Bool) (s r : List ℕ) → s ≡ truth_spelling b ++ r → Opens s
-truth_opens true s r e = rw e (refl, refl)
-truth_opens false s r e = rw e (refl, refl)
+logical_opens : (b : Bool) (s r : List ℕ) → s ≡ logical_spelling b ++ r → Opens s
+logical_opens true s r e = rw e (refl, refl)
+logical_opens false s r e = rw e (refl, refl)
 
 -- a term begins so
 opens : (k : Context) (t : Tree) (l : ℕ) (s r : List ℕ) → levels.term ≤ l → Reads k t l s r → Opens s
 opens k (constant (Int v)) l s r le h = digits_open h.0 s r h.1 h.2
-opens k (constant (Truth b)) l s r le h = truth_opens b s r h
-opens k (place p) l s r le h = name_opens p.name.asynchronous h.0 s r h.1 h.2
-opens k (listed p ts) l s r le h = name_opens p.name.asynchronous h.1.0 s (40 ∷ h.0) h.1.1 h.1.2
+opens k (constant (Truth b)) l s r le h = logical_opens b s r h
+opens k (occurrence p) l s r le h = name_opens p.name.asynchronous h.0 s r h.1 h.2
+opens k (with_list p ts) l s r le h = name_opens p.name.asynchronous h.1.0 s (40 ∷ h.0) h.1.1 h.1.2
 opens k (parenthesized t) l s r le h = rw h.1 (refl, refl)
 opens k (signed Plus t) l s r le h = absurd (omega (arith, h.0))
 opens k (signed Minus t) l s r le h = absurd (omega (arith, h.0))
@@ -97,16 +97,16 @@ name_no_not a [] s r h e = absurd h
 name_no_not true (c ∷ w) s r h e = rw e refl
 name_no_not false (c ∷ w) s r h e = let from : 65 ≤ c = letter_from c h.0 in rw e (high_no_not c (w ++ r) (omega arith))
 
-truth_no_not : (b : Bool) (s r : List ℕ) → s ≡ truth_spelling b ++ r → not_at s ≡ None
-truth_no_not true s r e = rw e refl
-truth_no_not false s r e = rw e refl
+logical_no_not : (b : Bool) (s r : List ℕ) → s ≡ logical_spelling b ++ r → not_at s ≡ None
+logical_no_not true s r e = rw e refl
+logical_no_not false s r e = rw e refl
 
 -- a relation doesn't begin with `.NOT.`
 no_not : (k : Context) (t : Tree) (l : ℕ) (s r : List ℕ) → levels.relation ≤ l → Reads k t l s r → not_at s ≡ None
 no_not k (constant (Int v)) l s r le h = digits_no_not h.0 s r h.1 h.2
-no_not k (constant (Truth b)) l s r le h = truth_no_not b s r h
-no_not k (place p) l s r le h = name_no_not p.name.asynchronous h.0 s r h.1 h.2
-no_not k (listed p ts) l s r le h = name_no_not p.name.asynchronous h.1.0 s (40 ∷ h.0) h.1.1 h.1.2
+no_not k (constant (Truth b)) l s r le h = logical_no_not b s r h
+no_not k (occurrence p) l s r le h = name_no_not p.name.asynchronous h.0 s r h.1 h.2
+no_not k (with_list p ts) l s r le h = name_no_not p.name.asynchronous h.1.0 s (40 ∷ h.0) h.1.1 h.1.2
 no_not k (parenthesized t) l s r le h = rw h.1 refl
 no_not k (signed Plus t) l s r le h = rw h.2 refl
 no_not k (signed Minus t) l s r le h = rw h.2 refl
@@ -148,18 +148,18 @@ no_digits k true (c ∷ w) r h = refl
 no_digits k false (c ∷ w) r h = rw (letter_is_no_digit c h.0) refl
 
 -- a name is no logical constant
-no_truth : (a : Bool) (w r : List ℕ) → IsName w → truth_at (name_sign a ++ (w ++ r)) ≡ None
-no_truth a [] r h = absurd h
-no_truth true (c ∷ w) r h = refl
-no_truth false (c ∷ w) r h = let from : 65 ≤ c = letter_from c h.0 in rw (above c 46 (omega arith)) refl
+no_logical_value : (a : Bool) (w r : List ℕ) → IsName w → logical_at (name_sign a ++ (w ++ r)) ≡ None
+no_logical_value a [] r h = absurd h
+no_logical_value true (c ∷ w) r h = refl
+no_logical_value false (c ∷ w) r h = let from : 65 ≤ c = letter_from c h.0 in rw (above c 46 (omega arith)) refl
 
-pub place_read : (k : Context) (p : Place) (s r : List ℕ) → ReadsPlace k p s r → begins is_letter_or_digit r ≡ false → place_at k s ≡ Some (p, r)
+pub place_read : (k : Context) (p : Occurrence) (s r : List ℕ) → ReadsOccurrence k p s r → begins is_letter_or_digit r ≡ false → occurrence_at k s ≡ Some (p, r)
 place_read k p s r h q =
     let found : name_at s ≡ Some (named p.name.asynchronous h.0, r) = ap name_at h.2 ∙ name_read p.name.asynchronous h.0 r h.1 q in
     let at : k.length - length s ≡ p.position = omega (arith, h.4) in
     rw (found, at, ← h.3) refl
 
-pub plain_place_read : (k : Context) (p : Place) (s r : List ℕ) → ReadsPlainPlace k p s r → begins is_letter_or_digit r ≡ false → plain_place_at k s ≡ Some (p, r)
+pub plain_place_read : (k : Context) (p : Occurrence) (s r : List ℕ) → ReadsPlainOccurrence k p s r → begins is_letter_or_digit r ≡ false → plain_occurrence_at k s ≡ Some (p, r)
 plain_place_read k p s r g q =
     let h = g.1 in
     let is : s ≡ h.0 ++ r = h.2 ∙ ap (λ (a : Bool). name_sign a ++ (h.0 ++ r)) g.0 in
@@ -221,21 +221,21 @@ after_colon r = ((((((((refl, refl), refl), refl), refl), refl), refl), refl), r
 -- ---- operators and operands from left to right
 
 -- the number of a level, and what may follow an operand of it
-abbrev number : Level → ℕ
+abbrev number : Precedence → ℕ
 number Equivalence = levels.equivalence
 number Disjunction = levels.disjunction
 number Conjunction = levels.conjunction
 number Sum = levels.sum
 number Term = levels.term
 
-abbrev AfterOperand : Level → List ℕ → Type 0
+abbrev AfterOperand : Precedence → List ℕ → Type 0
 AfterOperand Equivalence r = AfterDisjunction r
 AfterOperand Disjunction r = AfterConjunction r
 AfterOperand Conjunction r = AfterRelation r
 AfterOperand Sum r = AfterTerm r
 AfterOperand Term r = AfterPower r
 
--- how many operators of a level stand behind one another at the left of a tree
+-- how many operators of a level stand after one another at the left of a tree
 abbrev spine : ℕ → Tree → ℕ
 spine l (binary o a b) = if nat_eq (level o) l then suc (spine l a) else 0
 spine l _ = 0
@@ -251,12 +251,12 @@ spine_le l _ = omega arith
 same_number : (l : ℕ) → nat_eq l l ≡ true
 same_number l = grind (arith, nat_tests)
 
-abbrev links : Level → Reader Tree → ℕ → Reader Tree
+abbrev links : Precedence → Reader Tree → ℕ → Reader Tree
 links v p turns s = first_operand v p s >>= λ x. chain (operators v) (next_operand v p) turns x.0 x.1
 
 -- A tree that is read at a level is what the chain of this level has made where it comes to r.
 -- 2 * nodes bounds the depth.
-abbrev Chained : Context → Level → Tree → Type 0
+abbrev Chained : Context → Precedence → Tree → Type 0
 Chained k v t = (n : ℕ) → nodes t + nodes t ≤ n → (turns : ℕ) (s r : List ℕ) → Reads k t (number v) s r → AfterOperand v r → links v (power k n) (turns + spine (number v) t) s ≡ chain (operators v) (next_operand v (power k n)) turns t r
 
 chain_stops : (among : List Operator) (next : Reader Tree) (turns : ℕ) (t : Tree) (r : List ℕ) → operator_at among r ≡ None → chain among next turns t r ≡ Some (t, r)
@@ -264,7 +264,7 @@ unfolding chain
 chain_stops among next zero t r e = refl
 chain_stops among next (suc turns) t r e = rw e refl
 
-module _ (k : Context) (v : Level) where
+module _ (k : Context) (v : Precedence) where
   chained_read : (t : Tree) → Chained k v t → (n : ℕ) (s r : List ℕ) → nodes t + nodes t ≤ n → Reads k t (number v) s r → AfterOperand v r → operator_at (operators v) r ≡ None → at_level v (power k n) s ≡ Some (t, r)
   chained_read t p n s r le h f e =
       let turns : length s ≡ (length s - spine (number v) t) + spine (number v) t = omega (arith, fits k t (number v) s r h, spine_le (number v) t) in
@@ -328,8 +328,8 @@ disjunction_read k t p n s r le h f = chained_read k Disjunction t p n s r le h 
 
 nodes_pos : (t : Tree) → 1 ≤ nodes t
 nodes_pos (constant v) = omega arith
-nodes_pos (place p) = omega arith
-nodes_pos (listed p ts) = omega arith
+nodes_pos (occurrence p) = omega arith
+nodes_pos (with_list p ts) = omega arith
 nodes_pos (parenthesized t) = omega arith
 nodes_pos (signed g t) = omega arith
 nodes_pos (negated t) = omega arith
@@ -433,20 +433,20 @@ constant_read k v n s r le h f =
     let found : integer_at k s ≡ Some (v, r) = ap (integer_at k) h.2 ∙ digits_read k h.0 r v h.1 h.3 f.0 in
     rw found refl
 
-truth_read : (k : Context) (b : Bool) → PrimaryRead k (constant (Truth b))
+logical_read : (k : Context) (b : Bool) → PrimaryRead k (constant (Truth b))
 unfolding primary
-truth_read k true n s r le h f = rw h refl
-truth_read k false n s r le h f = rw h refl
+logical_read k true n s r le h f = rw h refl
+logical_read k false n s r le h f = rw h refl
 
 -- what a name with what follows it is read as
-name_then : (k : Context) (p : Place) (n : ℕ) (s m : List ℕ) → ReadsPlace k p s m → begins is_letter_or_digit m ≡ false → primary k (expression k n) s ≡ reading.named (expression k n) p m
+name_then : (k : Context) (p : Occurrence) (n : ℕ) (s m : List ℕ) → ReadsOccurrence k p s m → begins is_letter_or_digit m ≡ false → primary k (expression k n) s ≡ reading.named (expression k n) p m
 unfolding primary
 name_then k p n s m h q =
     let none : integer_at k s ≡ None = ap (integer_at k) h.2 ∙ no_digits k p.name.asynchronous h.0 m h.1 in
-    let no : truth_at s ≡ None = ap truth_at h.2 ∙ no_truth p.name.asynchronous h.0 m h.1 in
+    let no : logical_at s ≡ None = ap logical_at h.2 ∙ no_logical_value p.name.asynchronous h.0 m h.1 in
     rw (none, no, place_read k p s m h q) refl
 
-name_place_read : (k : Context) (p : Place) → PrimaryRead k (place p)
+name_place_read : (k : Context) (p : Occurrence) → PrimaryRead k (occurrence p)
 unfolding reading.named
 name_place_read k p n s r le h f = name_then k p n s r h f.0 ∙ rw f.1 refl
 
@@ -478,7 +478,7 @@ more_read k t u ts p q n zero s r le at h = absurd (omega arith)
 more_read k t u ts p q n (suc turns) s r le at h =
     rw (whole_read k t p n s (44 ∷ h.0) (omega arith) h.1 (after_comma h.0), q n turns h.0 r (omega arith) (omega arith) h.2) refl
 
-listed_read : (k : Context) (p : Place) (ts : Trees) → ArgumentsRead k ts → PrimaryRead k (listed p ts)
+listed_read : (k : Context) (p : Occurrence) (ts : Trees) → ArgumentsRead k ts → PrimaryRead k (with_list p ts)
 unfolding reading.named
 listed_read k p ts q n s r le h f =
     let all : arguments (expression k n) (length h.0) h.0 ≡ Some (ts, r) = q n (length h.0) h.0 r (omega arith) (omega (arith, all_fit k ts h.0 r h.2)) h.2 in
@@ -597,9 +597,9 @@ module _ (k : Context) (a b : Tree) where
 mutual
   pub known : (k : Context) (t : Tree) (j : ℕ) → At k t j
   known k (constant (Int v)) j = primary_each k (constant (Int v)) (λ l m s r h. h) (λ l. refl) (constant_read k v) j
-  known k (constant (Truth b)) j = primary_each k (constant (Truth b)) (λ l m s r h. h) (λ l. refl) (truth_read k b) j
-  known k (place p) j = primary_each k (place p) (λ l m s r h. h) (λ l. refl) (name_place_read k p) j
-  known k (listed p ts) j = primary_each k (listed p ts) (λ l m s r h. h) (λ l. refl) (listed_read k p ts (all_known k ts)) j
+  known k (constant (Truth b)) j = primary_each k (constant (Truth b)) (λ l m s r h. h) (λ l. refl) (logical_read k b) j
+  known k (occurrence p) j = primary_each k (occurrence p) (λ l m s r h. h) (λ l. refl) (name_place_read k p) j
+  known k (with_list p ts) j = primary_each k (with_list p ts) (λ l m s r h. h) (λ l. refl) (listed_read k p ts (all_known k ts)) j
   known k (parenthesized t) j = primary_each k (parenthesized t) (λ l m s r h. h) (λ l. refl) (parenthesized_read k t (known k t 8)) j
   known k (signed Plus t) j = each k (signed Plus t) levels.sum (signed_tops k Plus t) 3 refl (signed_read k Plus t (λ m. refl) (known k t 2)) j
   known k (signed Minus t) j = each k (signed Minus t) levels.sum (signed_tops k Minus t) 3 refl (signed_read k Minus t (λ m. refl) (known k t 2)) j

@@ -4,10 +4,10 @@ use Rattle.std.specs.Prelude.{IsTrue, nat_eq, nat_le, ◌&&◌, ◌||◌, ℤ, p
 use Rattle.std.specs.List.{list_all}
 use Rattle.std.proofs.lemmas.Bool.{eqb-true}
 use Rattle.std.proofs.lemmas.Bool.Decides.{nat_tests}
-use Rattle.hep_source.specs.Tree.{Tree, Trees, constant, place, listed, parenthesized, signed, negated, binary, no_trees, trees, nodes, nodes_of_all}
+use Rattle.hep_source.specs.Tree.{Tree, Trees, constant, occurrence, with_list, parenthesized, signed, negated, binary, no_trees, trees, nodes, nodes_of_all}
 use Rattle.hep_source.specs.declared.value.Value.TheVariants.{Int, Truth}
 use Rattle.hep_source.specs.declared.name.Name.{Name}
-use Rattle.hep_source.specs.declared.name.Place.{Place}
+use Rattle.hep_source.specs.declared.name.Occurrence.{Occurrence}
 use Rattle.hep_source.specs.declared.operator.Sign.{Sign}
 use Rattle.hep_source.specs.declared.operator.Sign.TheVariants.{Plus, Minus}
 use Rattle.hep_source.specs.declared.operator.Operator.{Operator}
@@ -18,9 +18,9 @@ use Rattle.hep_source.specs.declared.operator.LogicalOperator.TheVariants.{And, 
 use Rattle.hep_expression.specs.declared.characters.Sizes.{Sizes}
 use Rattle.hep_expression.specs.declared.characters.Sizes.TheVariants.{Fitting, Any}
 use Rattle.hep_expression.specs.declared.characters.Context.{Context}
-use Rattle.hep_expression.specs.Characters.{is_digit, is_letter, is_letter_or_digit, IsName, name_sign, named, ReadsPlace, ReadsPlainPlace, IsDigits, number_of_digits, greatest, IsInteger, truth_spelling}
+use Rattle.hep_expression.specs.Characters.{is_digit, is_letter, is_letter_or_digit, IsName, name_sign, named, ReadsOccurrence, ReadsPlainOccurrence, IsDigits, number_of_digits, greatest, IsInteger, logical_spelling}
 use Rattle.hep_expression.specs.Expression.{left, right, spelling, sign_spelling, term, Reads, ReadsAll}
-use Rattle.hep_expression.specs.Reading.{◌>>=◌, if_some, begins, front, behind, after, after_text, one_of, letters_at, name_at, with_position, place_at, plain_place_at, integer, integer_at, truth_at}
+use Rattle.hep_expression.specs.Reading.{◌>>=◌, if_some, begins, front, rest_after, after, after_text, one_of, letters_at, name_at, with_position, occurrence_at, plain_occurrence_at, integer, integer_at, logical_at}
 
 -- ---- options and truths
 
@@ -90,16 +90,16 @@ shorter w r s e = omega (arith, ap length e, length-append w r)
 
 -- ---- rows of characters
 
-pub front_splits : (p : ℕ → Bool) (s : List ℕ) → IsTrue (list_all p (front p s)) × (s ≡ front p s ++ behind p s)
+pub front_splits : (p : ℕ → Bool) (s : List ℕ) → IsTrue (list_all p (front p s)) × (s ≡ front p s ++ rest_after p s)
 front_splits p [] = (refl, refl)
 front_splits p (c ∷ s) = go (p c) refl (front_splits p s)
   where
-    go : (b : Bool) → p c ≡ b → IsTrue (list_all p (front p s)) × (s ≡ front p s ++ behind p s) → IsTrue (list_all p (front p (c ∷ s))) × (c ∷ s ≡ front p (c ∷ s) ++ behind p (c ∷ s))
+    go : (b : Bool) → p c ≡ b → IsTrue (list_all p (front p s)) × (s ≡ front p s ++ rest_after p s) → IsTrue (list_all p (front p (c ∷ s))) × (c ∷ s ≡ front p (c ∷ s) ++ rest_after p (c ∷ s))
     go true e i = (rw (e, e) i.0, rw e (ap (λ (l : List ℕ). c ∷ l) i.1))
     go false e i = (rw e refl, rw e refl)
 
 -- a row that ends where it ends
-pub front_row : (p : ℕ → Bool) (w r : List ℕ) → IsTrue (list_all p w) → begins p r ≡ false → (front p (w ++ r) ≡ w) × (behind p (w ++ r) ≡ r)
+pub front_row : (p : ℕ → Bool) (w r : List ℕ) → IsTrue (list_all p w) → begins p r ≡ false → (front p (w ++ r) ≡ w) × (rest_after p (w ++ r) ≡ r)
 front_row p [] [] h e = (refl, refl)
 front_row p [] (c ∷ r) h e = (rw e refl, rw e refl)
 front_row p (c ∷ w) r h e =
@@ -128,11 +128,11 @@ name_is (c ∷ s) e le =
 -- ---- what names and constants are
 
 letters_are : (a : Bool) (s : List ℕ) (x : Name × List ℕ) → letters_at a s ≡ Some x → (w : List ℕ) × IsName w × (s ≡ w ++ x.1) × (x.0 ≡ named a w)
-letters_are a s x e = elim (chosen (begins is_letter s && nat_le (length (front is_letter_or_digit s)) 6) (Some (named a (front is_letter_or_digit s), behind is_letter_or_digit s)) None (Some x) e) [
+letters_are a s x e = elim (chosen (begins is_letter s && nat_le (length (front is_letter_or_digit s)) 6) (Some (named a (front is_letter_or_digit s), rest_after is_letter_or_digit s)) None (Some x) e) [
   | inl h ↦ (
       let b = and_parts (begins is_letter s) (nat_le (length (front is_letter_or_digit s)) 6) h.0 in
       let found = name_is s b.0 (le_of (length (front is_letter_or_digit s)) 6 b.1) in
-      subst (λ (y : Name × List ℕ). (w : List ℕ) × IsName w × (s ≡ w ++ y.1) × (y.0 ≡ named a w)) (some_is (named a (front is_letter_or_digit s), behind is_letter_or_digit s) x h.1)
+      subst (λ (y : Name × List ℕ). (w : List ℕ) × IsName w × (s ≡ w ++ y.1) × (y.0 ≡ named a w)) (some_is (named a (front is_letter_or_digit s), rest_after is_letter_or_digit s) x h.1)
       (front is_letter_or_digit s, found, (front_splits is_letter_or_digit s).1, refl))
   | inr h ↦ absurd (none_is x h.1)
 ]
@@ -153,21 +153,21 @@ is_name s x e = elim (either_some (after 36 s) (letters_at true) (letters_at fal
   | inr h ↦ (spelled false s s x refl h.1).0
 ]
 
-positioned : (k : Context) (s : List ℕ) (o : Option (Name × List ℕ)) (x : Place × List ℕ) → length s ≤ k.length → with_position k s o ≡ Some x → (y : Name × List ℕ) × (o ≡ Some y) × (y.0 ≡ x.0.name) × (y.1 ≡ x.1) × (x.0.position + length s ≡ k.length)
+positioned : (k : Context) (s : List ℕ) (o : Option (Name × List ℕ)) (x : Occurrence × List ℕ) → length s ≤ k.length → with_position k s o ≡ Some x → (y : Name × List ℕ) × (o ≡ Some y) × (y.0 ≡ x.0.name) × (y.1 ≡ x.1) × (x.0.position + length s ≡ k.length)
 positioned k s o x le e =
     let b = bind_some o (λ y. Some (record { name = y.0; position = k.length - length s }, y.1)) x e in
     let is_x = some_is (record { name = b.0.0; position = k.length - length s }, b.0.1) x b.2 in
     let at : (k.length - length s) + length s ≡ k.length = omega arith in
-    (b.0, b.1, ap (λ (y : Place × List ℕ). y.0.name) is_x, ap (λ (y : Place × List ℕ). y.1) is_x, subst (λ (y : Place × List ℕ). y.0.position + length s ≡ k.length) is_x at)
+    (b.0, b.1, ap (λ (y : Occurrence × List ℕ). y.0.name) is_x, ap (λ (y : Occurrence × List ℕ). y.1) is_x, subst (λ (y : Occurrence × List ℕ). y.0.position + length s ≡ k.length) is_x at)
 
-pub is_place : (k : Context) (s : List ℕ) (x : Place × List ℕ) → length s ≤ k.length → place_at k s ≡ Some x → ReadsPlace k x.0 s x.1
+pub is_place : (k : Context) (s : List ℕ) (x : Occurrence × List ℕ) → length s ≤ k.length → occurrence_at k s ≡ Some x → ReadsOccurrence k x.0 s x.1
 is_place k s x le e =
     let p = positioned k s (name_at s) x le e in
     let n = subst (λ (y : Name). SpellsName s y p.0.1) p.2 (is_name s p.0 p.1) in
     let m = subst (λ (r : List ℕ). SpellsName s x.0.name r) p.3 n in
     (m.0, m.1, m.2, m.3, p.4)
 
-pub is_plain_place : (k : Context) (s : List ℕ) (x : Place × List ℕ) → length s ≤ k.length → plain_place_at k s ≡ Some x → ReadsPlainPlace k x.0 s x.1
+pub is_plain_place : (k : Context) (s : List ℕ) (x : Occurrence × List ℕ) → length s ≤ k.length → plain_occurrence_at k s ≡ Some x → ReadsPlainOccurrence k x.0 s x.1
 is_plain_place k s x le e =
     let p = positioned k s (letters_at false s) x le e in
     let i = spelled false s s p.0 refl p.1 in
@@ -183,16 +183,16 @@ is_integer Fitting d v e = elim (chosen (nat_le (number_of_digits d) greatest) (
 is_integer Any d v e = sym (some_is (pos (min (number_of_digits d) greatest)) v e)
 
 pub is_constant : (k : Context) (s : List ℕ) (x : ℤ × List ℕ) → integer_at k s ≡ Some x → (d : List ℕ) × IsDigits d × (s ≡ d ++ x.1) × IsInteger k.sizes d x.0
-is_constant k s x e = elim (chosen (begins is_digit s) (integer k.sizes (number_of_digits (front is_digit s)) >>= λ v. Some (v, behind is_digit s)) None (Some x) e) [
+is_constant k s x e = elim (chosen (begins is_digit s) (integer k.sizes (number_of_digits (front is_digit s)) >>= λ v. Some (v, rest_after is_digit s)) None (Some x) e) [
   | inl h ↦ (
-      let b = bind_some (integer k.sizes (number_of_digits (front is_digit s))) (λ v. Some (v, behind is_digit s)) x h.1 in
-      subst (λ (y : ℤ × List ℕ). (d : List ℕ) × IsDigits d × (s ≡ d ++ y.1) × IsInteger k.sizes d y.0) (some_is (b.0, behind is_digit s) x b.2)
+      let b = bind_some (integer k.sizes (number_of_digits (front is_digit s))) (λ v. Some (v, rest_after is_digit s)) x h.1 in
+      subst (λ (y : ℤ × List ℕ). (d : List ℕ) × IsDigits d × (s ≡ d ++ y.1) × IsInteger k.sizes d y.0) (some_is (b.0, rest_after is_digit s) x b.2)
       (front is_digit s, digits_are s h.0, (front_splits is_digit s).1, is_integer k.sizes (front is_digit s) b.0 b.1))
   | inr h ↦ absurd (none_is x h.1)
 ]
 
-pub is_truth : (s : List ℕ) (x : Bool × List ℕ) → truth_at s ≡ Some x → s ≡ truth_spelling x.0 ++ x.1
-is_truth s x e = (one_is truth_spelling (λ (b : Bool). Unit {0}) (true ∷ false ∷ []) (tt, (tt, tt)) s x e).0
+pub is_logical : (s : List ℕ) (x : Bool × List ℕ) → logical_at s ≡ Some x → s ≡ logical_spelling x.0 ++ x.1
+is_logical s x e = (one_is logical_spelling (λ (b : Bool). Unit {0}) (true ∷ false ∷ []) (tt, (tt, tt)) s x e).0
 
 -- ---- how long a text is
 
@@ -226,19 +226,19 @@ sign_is_long : (g : Sign) → 1 ≤ length (sign_spelling g)
 sign_is_long Plus = omega arith
 sign_is_long Minus = omega arith
 
-pub place_fits : (k : Context) (p : Place) (s r : List ℕ) → ReadsPlace k p s r → 1 + length r ≤ length s
+pub place_fits : (k : Context) (p : Occurrence) (s r : List ℕ) → ReadsOccurrence k p s r → 1 + length r ≤ length s
 place_fits k p s r h = name_fits p.name.asynchronous h.0 s r h.1 h.2
 
-truth_fits : (b : Bool) (s r : List ℕ) → s ≡ truth_spelling b ++ r → 1 + length r ≤ length s
-truth_fits true s r e = omega (arith, ap length e)
-truth_fits false s r e = omega (arith, ap length e)
+logical_fits : (b : Bool) (s r : List ℕ) → s ≡ logical_spelling b ++ r → 1 + length r ≤ length s
+logical_fits true s r e = omega (arith, ap length e)
+logical_fits false s r e = omega (arith, ap length e)
 
 mutual
   pub fits : (k : Context) (t : Tree) (l : ℕ) (s r : List ℕ) → Reads k t l s r → nodes t + length r ≤ length s
   fits k (constant (Int v)) l s r h = digits_fit h.0 s r h.1 h.2
-  fits k (constant (Truth b)) l s r h = truth_fits b s r h
-  fits k (place p) l s r h = place_fits k p s r h
-  fits k (listed p ts) l s r h = omega (arith, place_fits k p s (40 ∷ h.0) h.1, all_fit k ts h.0 r h.2)
+  fits k (constant (Truth b)) l s r h = logical_fits b s r h
+  fits k (occurrence p) l s r h = place_fits k p s r h
+  fits k (with_list p ts) l s r h = omega (arith, place_fits k p s (40 ∷ h.0) h.1, all_fit k ts h.0 r h.2)
   fits k (parenthesized t) l s r h = omega (arith, ap length h.1, fits k t 0 h.0 (41 ∷ r) h.2)
   fits k (signed g t) l s r h = omega (arith, ap length h.2, length-append (sign_spelling g) h.1, sign_is_long g, fits k t term h.1 r h.3)
   fits k (negated t) l s r h = omega (arith, ap length h.2, fits k t 4 h.1 r h.3)

@@ -4,3 +4,4 @@ pub mod Chains
 pub mod Sound
 pub mod Complete
 pub mod Worked
+pub mod Labels

@@ -1,29 +1,29 @@
 -- What is read as an expression is one by the grammar.
 use Rattle.std.proofs.Common.{◌≡◌, inl, inr, ℕ, zero, suc, ◌+◌, ◌≤◌, List, [], ◌∷◌, ◌++◌, length, Option, Some, refl, sym, ap, subst, arith}
 use Rattle.std.specs.Prelude.{codes}
-use Rattle.hep_source.specs.Tree.{Tree, Trees, constant, place, listed, parenthesized, signed, negated, binary, no_trees, trees}
+use Rattle.hep_source.specs.Tree.{Tree, Trees, constant, occurrence, with_list, parenthesized, signed, negated, binary, no_trees, trees}
 use Rattle.hep_source.specs.declared.value.Value.TheVariants.{Int, Truth}
 use Rattle.hep_source.specs.declared.operator.Sign.{Sign}
 use Rattle.hep_source.specs.declared.operator.Sign.TheVariants.{Plus, Minus}
 use Rattle.hep_source.specs.declared.operator.Operator.{Operator}
 use Rattle.hep_source.specs.declared.operator.Operator.TheVariants.{Arithmetic}
 use Rattle.hep_source.specs.declared.operator.ArithmeticOperator.TheVariants.{Power}
-use Rattle.hep_source.specs.declared.name.Place.{Place}
+use Rattle.hep_source.specs.declared.name.Occurrence.{Occurrence}
 use Rattle.hep_expression.specs.declared.characters.Context.{Context}
-use Rattle.hep_expression.specs.Characters.{ReadsPlace}
-use Rattle.hep_expression.specs.declared.expression.Level.TheVariants.{Equivalence, Disjunction, Conjunction, Sum, Term}
+use Rattle.hep_expression.specs.Characters.{ReadsOccurrence}
+use Rattle.hep_expression.specs.declared.expression.Precedence.TheVariants.{Equivalence, Disjunction, Conjunction, Sum, Term}
 use Rattle.hep_expression.specs.Expression as levels
 use Rattle.hep_expression.specs.Expression.{level, left, right, spelling, sign_spelling, Reads, ReadsAll, IsExpression}
-use Rattle.hep_expression.specs.Reading.{Reader, ◌>>=◌, if_some, all_read, after, place_at, integer_at, truth_at}
+use Rattle.hep_expression.specs.Reading.{Reader, ◌>>=◌, if_some, all_read, after, occurrence_at, integer_at, logical_at}
 use Rattle.hep_expression.specs.ReadingExpression.{operator_at, sign_at, power_at, not_at, comparing, operators, chain, left_to_right, in_parentheses, arguments, named, primary, power_of, term, first_term, sum, relation, negation, conjunction, disjunction, expression, power, expression_at, whole_expression}
-use Rattle.hep_expression.proofs.Leaves.{bind_some, either_some, some_is, none_is, after_is, text_is, AllOf, one_is, shorter, is_place, is_constant, is_truth, place_fits, fits}
+use Rattle.hep_expression.proofs.Leaves.{bind_some, either_some, some_is, none_is, after_is, text_is, AllOf, one_is, shorter, is_place, is_constant, is_logical, place_fits, fits}
 
 -- what is read at a level is read at each looser one
 pub looser : (k : Context) (t : Tree) (l m : ℕ) (s r : List ℕ) → l ≤ m → Reads k t m s r → Reads k t l s r
 looser k (constant (Int v)) l m s r le h = h
 looser k (constant (Truth b)) l m s r le h = h
-looser k (place p) l m s r le h = h
-looser k (listed p ts) l m s r le h = h
+looser k (occurrence p) l m s r le h = h
+looser k (with_list p ts) l m s r le h = h
 looser k (parenthesized t) l m s r le h = h
 looser k (signed g t) l m s r le h = (omega (arith, h.0), h.1, h.2, h.3)
 looser k (negated t) l m s r le h = (omega (arith, h.0), h.1, h.2, h.3)
@@ -98,27 +98,27 @@ arguments_sound k inner p (suc n) s r ts fit e =
           more_sound k inner n b.0.0 s c.0 r ts first (λ q us i. arguments_sound k inner p n c.0 q us fit' i) c.2)
     ]
 
-named_sound : (k : Context) (inner : Reader Tree) → Sound k levels.equivalence inner → (a : Place) (s m r : List ℕ) (t : Tree) → length s ≤ k.length → ReadsPlace k a s m → named inner a m ≡ Some (t, r) → Reads k t levels.primary s r
+named_sound : (k : Context) (inner : Reader Tree) → Sound k levels.equivalence inner → (a : Occurrence) (s m r : List ℕ) (t : Tree) → length s ≤ k.length → ReadsOccurrence k a s m → named inner a m ≡ Some (t, r) → Reads k t levels.primary s r
 unfolding named
 named_sound k inner p a s m r t fit h e =
-    elim (either_some (after 40 m) (λ n. arguments inner (length n) n >>= λ x. Some (listed a x.0, x.1)) (Some (place a, m)) (t, r) e) [
+    elim (either_some (after 40 m) (λ n. arguments inner (length n) n >>= λ x. Some (with_list a x.0, x.1)) (Some (occurrence a, m)) (t, r) e) [
       | inl g ↦ (
-          let b = bind_some (arguments inner (length g.0) g.0) (λ x. Some (listed a x.0, x.1)) (t, r) g.2 in
+          let b = bind_some (arguments inner (length g.0) g.0) (λ x. Some (with_list a x.0, x.1)) (t, r) g.2 in
           let is = after_is 40 m g.0 g.1 in
           let fit' : length g.0 ≤ k.length = omega (arith, ap length is, place_fits k a s m h) in
-          let name : ReadsPlace k a s (40 ∷ g.0) = subst (λ (n : List ℕ). ReadsPlace k a s n) is h in
-          subst (λ (x : Tree × List ℕ). Reads k x.0 levels.primary s x.1) (some_is (listed a b.0.0, b.0.1) (t, r) b.2) (g.0, name, arguments_sound k inner p (length g.0) g.0 b.0.1 b.0.0 fit' b.1))
-      | inr g ↦ subst (λ (x : Tree × List ℕ). Reads k x.0 levels.primary s x.1) (some_is (place a, m) (t, r) g.1) h
+          let name : ReadsOccurrence k a s (40 ∷ g.0) = subst (λ (n : List ℕ). ReadsOccurrence k a s n) is h in
+          subst (λ (x : Tree × List ℕ). Reads k x.0 levels.primary s x.1) (some_is (with_list a b.0.0, b.0.1) (t, r) b.2) (g.0, name, arguments_sound k inner p (length g.0) g.0 b.0.1 b.0.0 fit' b.1))
+      | inr g ↦ subst (λ (x : Tree × List ℕ). Reads k x.0 levels.primary s x.1) (some_is (occurrence a, m) (t, r) g.1) h
     ]
 
 primary_sound : (k : Context) (inner : Reader Tree) → Sound k levels.equivalence inner → Sound k levels.primary (primary k inner)
 unfolding primary
 primary_sound k inner p s r t fit e =
-    elim (either_some (integer_at k s) (λ x. Some (constant (Int x.0), x.1)) (if_some (truth_at s) (λ x. Some (constant (Truth x.0), x.1)) (if_some (place_at k s) (λ x. named inner x.0 x.1) (after 40 s >>= in_parentheses inner))) (t, r) e) [
+    elim (either_some (integer_at k s) (λ x. Some (constant (Int x.0), x.1)) (if_some (logical_at s) (λ x. Some (constant (Truth x.0), x.1)) (if_some (occurrence_at k s) (λ x. named inner x.0 x.1) (after 40 s >>= in_parentheses inner))) (t, r) e) [
       | inl g ↦ subst (λ (x : Tree × List ℕ). Reads k x.0 levels.primary s x.1) (some_is (constant (Int g.0.0), g.0.1) (t, r) g.2) (is_constant k s g.0 g.1)
-      | inr g ↦ (elim (either_some (truth_at s) (λ x. Some (constant (Truth x.0), x.1)) (if_some (place_at k s) (λ x. named inner x.0 x.1) (after 40 s >>= in_parentheses inner)) (t, r) g.1) [
-        | inl g ↦ subst (λ (x : Tree × List ℕ). Reads k x.0 levels.primary s x.1) (some_is (constant (Truth g.0.0), g.0.1) (t, r) g.2) (is_truth s g.0 g.1)
-        | inr g ↦ (elim (either_some (place_at k s) (λ x. named inner x.0 x.1) (after 40 s >>= in_parentheses inner) (t, r) g.1) [
+      | inr g ↦ (elim (either_some (logical_at s) (λ x. Some (constant (Truth x.0), x.1)) (if_some (occurrence_at k s) (λ x. named inner x.0 x.1) (after 40 s >>= in_parentheses inner)) (t, r) g.1) [
+        | inl g ↦ subst (λ (x : Tree × List ℕ). Reads k x.0 levels.primary s x.1) (some_is (constant (Truth g.0.0), g.0.1) (t, r) g.2) (is_logical s g.0 g.1)
+        | inr g ↦ (elim (either_some (occurrence_at k s) (λ x. named inner x.0 x.1) (after 40 s >>= in_parentheses inner) (t, r) g.1) [
           | inl g ↦ named_sound k inner p g.0.0 s g.0.1 r t fit (is_place k s g.0 fit g.1) g.2
           | inr g ↦ (
               let b = bind_some (after 40 s) (in_parentheses inner) (t, r) g.1 in

@@ -2,7 +2,7 @@
 use Rattle.std.specs.Prelude.{codes, ◌≡◌, ℕ, ◌+◌, ◌-◌, ◌*◌, ◌≤◌, ◌&&◌, ◌||◌, nat_le, min, Bool, true, false, IsTrue, List, [], ◌∷◌, ◌++◌, length, drop, ℤ, pos}
 use Rattle.std.specs.List.{list_all}
 use Rattle.hep_source.specs.declared.name.Name.{Name}
-use Rattle.hep_source.specs.declared.name.Place.{Place}
+use Rattle.hep_source.specs.declared.name.Occurrence.{Occurrence}
 use Rattle.hep_expression.specs.declared.characters.Sizes.{Sizes}
 use Rattle.hep_expression.specs.declared.characters.Sizes.TheVariants.{Fitting, Any}
 use Rattle.hep_expression.specs.declared.characters.Context.{Context}
@@ -101,17 +101,17 @@ abbrev pub name_sign : Bool → List ℕ
 name_sign true = codes "$"
 name_sign false = []
 
--- the name with these letters, asynchronous or not: blanks stand behind them up to six
+-- the name with these letters, asynchronous or not: blanks stand after them up to six
 abbrev pub named : Bool → List ℕ → Name
 named a w = record { asynchronous = a; letters = w ++ drop (length w) six_blanks }
 
 -- The text s begins with this name where it stands in the statement, and goes on with r.
-abbrev pub ReadsPlace : Context → Place → List ℕ → List ℕ → Type 0
-ReadsPlace k p s r = (w : List ℕ) × IsName w × (s ≡ name_sign p.name.asynchronous ++ (w ++ r)) × (p.name ≡ named p.name.asynchronous w) × (p.position + length s ≡ k.length)
+abbrev pub ReadsOccurrence : Context → Occurrence → List ℕ → List ℕ → Type 0
+ReadsOccurrence k p s r = (w : List ℕ) × IsName w × (s ≡ name_sign p.name.asynchronous ++ (w ++ r)) × (p.name ≡ named p.name.asynchronous w) × (p.position + length s ≡ k.length)
 
 -- The same of a name without `$`.
-abbrev pub ReadsPlainPlace : Context → Place → List ℕ → List ℕ → Type 0
-ReadsPlainPlace k p s r = (p.name.asynchronous ≡ false) × ReadsPlace k p s r
+abbrev pub ReadsPlainOccurrence : Context → Occurrence → List ℕ → List ℕ → Type 0
+ReadsPlainOccurrence k p s r = (p.name.asynchronous ≡ false) × ReadsOccurrence k p s r
 
 -- ---- constants
 
@@ -120,14 +120,14 @@ abbrev pub IsDigits : List ℕ → Type 0
 IsDigits [] = ⊥
 IsDigits (c ∷ s) = IsTrue (is_digit c) × IsTrue (list_all is_digit s)
 
--- the number that digits give behind those that gave n
-abbrev pub number_behind : ℕ → List ℕ → ℕ
-number_behind n [] = n
-number_behind n (c ∷ s) = number_behind (n * 10 + (c - first_digit)) s
+-- the number that digits give after those that gave n
+abbrev pub number_after : ℕ → List ℕ → ℕ
+number_after n [] = n
+number_after n (c ∷ s) = number_after (n * 10 + (c - first_digit)) s
 
 -- the number that digits stand for in base ten (X3.9-1978, 4.3.1)
 abbrev pub number_of_digits : List ℕ → ℕ
-number_of_digits d = number_behind 0 d
+number_of_digits d = number_after 0 d
 
 -- the greatest integer of a run (docs/LANGUAGE.md, 3)
 abbrev pub greatest : ℕ
@@ -139,6 +139,6 @@ IsInteger Fitting d v = (number_of_digits d ≤ greatest) × (v ≡ pos (number_
 IsInteger Any d v = v ≡ pos (min (number_of_digits d) greatest)
 
 -- how a logical constant is written (X3.9-1978, 4.7.1)
-abbrev pub truth_spelling : Bool → List ℕ
-truth_spelling true = codes ".TRUE."
-truth_spelling false = codes ".FALSE."
+abbrev pub logical_spelling : Bool → List ℕ
+logical_spelling true = codes ".TRUE."
+logical_spelling false = codes ".FALSE."

@@ -1,6 +1,6 @@
 -- The grammar of expressions: which texts read as which trees (X3.9-1978, section 6).
 use Rattle.std.specs.Prelude.{◌≡◌, ℕ, suc, ◌≤◌, codes, List, [], ◌++◌}
-use Rattle.hep_source.specs.Tree.{Tree, Trees, constant, place, listed, parenthesized, signed, negated, binary, no_trees, trees}
+use Rattle.hep_source.specs.Tree.{Tree, Trees, constant, occurrence, with_list, parenthesized, signed, negated, binary, no_trees, trees}
 use Rattle.hep_source.specs.declared.value.Value.TheVariants.{Int, Truth}
 use Rattle.hep_source.specs.declared.operator.Sign.{Sign}
 use Rattle.hep_source.specs.declared.operator.Sign.TheVariants.{Plus, Minus}
@@ -10,7 +10,7 @@ use Rattle.hep_source.specs.declared.operator.ArithmeticOperator.TheVariants.{Ad
 use Rattle.hep_source.specs.declared.operator.RelationalOperator.TheVariants.{Less, LessOrEqual, Equal, NotEqual, Greater, GreaterOrEqual}
 use Rattle.hep_source.specs.declared.operator.LogicalOperator.TheVariants.{And, Or, Equivalent, NotEquivalent}
 use Rattle.hep_expression.specs.declared.characters.Context.{Context}
-use Rattle.hep_expression.specs.Characters.{ReadsPlace, IsDigits, IsInteger, truth_spelling}
+use Rattle.hep_expression.specs.Characters.{ReadsOccurrence, IsDigits, IsInteger, logical_spelling}
 
 -- The levels of an expression, from the loosest to the tightest (X3.9-1978, 6.5, with 6.1.2, 6.3 and
 -- 6.4.2). An expression reads at the loosest level.
@@ -115,16 +115,16 @@ abbrev mutual
   -- The text s begins with this tree, read at this level, and goes on with r.
   pub Reads : Context → Tree → ℕ → List ℕ → List ℕ → Type 0
   Reads k (constant (Int v)) l s r = (d : List ℕ) × IsDigits d × (s ≡ d ++ r) × IsInteger k.sizes d v
-  Reads k (constant (Truth b)) l s r = s ≡ truth_spelling b ++ r
-  Reads k (place p) l s r = ReadsPlace k p s r
-  Reads k (listed p ts) l s r = (m : List ℕ) × ReadsPlace k p s (codes "(" ++ m) × ReadsAll k ts m r
+  Reads k (constant (Truth b)) l s r = s ≡ logical_spelling b ++ r
+  Reads k (occurrence p) l s r = ReadsOccurrence k p s r
+  Reads k (with_list p ts) l s r = (m : List ℕ) × ReadsOccurrence k p s (codes "(" ++ m) × ReadsAll k ts m r
   Reads k (parenthesized t) l s r = (m : List ℕ) × (s ≡ codes "(" ++ m) × Reads k t equivalence m (codes ")" ++ r)
   -- a sign stands before the first term of a sum, and its operand is a whole term (X3.9-1978, 6.1.2)
   Reads k (signed g t) l s r = (l ≤ sum) × (m : List ℕ) × (s ≡ sign_spelling g ++ m) × Reads k t term m r
   Reads k (negated t) l s r = (l ≤ negation) × (m : List ℕ) × (s ≡ codes ".NOT." ++ m) × Reads k t relation m r
   Reads k (binary o a b) l s r = (l ≤ level o) × (m : List ℕ) × Reads k a (left o) s (spelling o ++ m) × Reads k b (right o) m r
 
-  -- The text s begins with these expressions with commas between them and `)` behind the last, and
+  -- The text s begins with these expressions with commas between them and `)` after the last, and
   -- goes on with r.
   pub ReadsAll : Context → Trees → List ℕ → List ℕ → Type 0
   ReadsAll k no_trees s r = ⊥

@@ -1,7 +1,7 @@
 -- Reading a text, as functions on lists: names, constants and words (docs/ARCHITECTURE.md, "Forms").
 use Rattle.std.specs.Prelude.{◌≡◌, ℕ, ◌-◌, ◌&&◌, nat_eq, nat_le, min, Bool, true, false, if◌then◌else◌, List, [], ◌∷◌, length, ℤ, pos, Option, Some, None, Result, Ok, Err}
 use Rattle.hep_source.specs.declared.name.Name.{Name}
-use Rattle.hep_source.specs.declared.name.Place.{Place}
+use Rattle.hep_source.specs.declared.name.Occurrence.{Occurrence}
 use Rattle.hep_expression.specs.declared.characters.Class.{Class}
 use Rattle.hep_expression.specs.declared.characters.Class.TheVariants.{Digits, LettersAndDigits}
 use Rattle.hep_expression.specs.declared.characters.Sizes.{Sizes}
@@ -9,7 +9,7 @@ use Rattle.hep_expression.specs.declared.characters.Sizes.TheVariants.{Fitting, 
 use Rattle.hep_expression.specs.declared.characters.Context.{Context}
 use Rattle.hep_expression.specs.declared.unread.Unread.{Unread}
 use Rattle.hep_expression.specs.declared.unread.Unread.TheVariants as unread
-use Rattle.hep_expression.specs.Characters.{is_digit, is_letter, is_letter_or_digit, currency_symbol, named, number_of_digits, greatest, truth_spelling}
+use Rattle.hep_expression.specs.Characters.{is_digit, is_letter, is_letter_or_digit, currency_symbol, named, number_of_digits, greatest, logical_spelling}
 
 infixl 10 ◌>>=◌
 abbrev pub ◌>>=◌ : {A B : Type 0} → Option A → (A → Option B) → Option B
@@ -53,9 +53,9 @@ abbrev pub front : (ℕ → Bool) → List ℕ → List ℕ
 front p [] = []
 front p (c ∷ s) = if p c then c ∷ front p s else []
 
-abbrev pub behind : (ℕ → Bool) → List ℕ → List ℕ
-behind p [] = []
-behind p (c ∷ s) = if p c then behind p s else c ∷ s
+abbrev pub rest_after : (ℕ → Bool) → List ℕ → List ℕ
+rest_after p [] = []
+rest_after p (c ∷ s) = if p c then rest_after p s else c ∷ s
 
 -- ---- words
 
@@ -74,25 +74,25 @@ one_of spelling (a ∷ more) s = if_some (after_text (spelling a) s) (λ r. Some
 
 -- ---- names and constants
 
--- a name behind its sign `$`, if it has one
+-- a name after its sign `$`, if it has one
 abbrev pub letters_at : Bool → Reader Name
 letters_at a s =
     if begins is_letter s && nat_le (length (front is_letter_or_digit s)) 6
-    then Some (named a (front is_letter_or_digit s), behind is_letter_or_digit s)
+    then Some (named a (front is_letter_or_digit s), rest_after is_letter_or_digit s)
     else None
 
 abbrev pub name_at : Reader Name
 name_at s = if_some (after currency_symbol s) (letters_at true) (letters_at false s)
 
-abbrev pub with_position : Context → List ℕ → Option (Name × List ℕ) → Option (Place × List ℕ)
+abbrev pub with_position : Context → List ℕ → Option (Name × List ℕ) → Option (Occurrence × List ℕ)
 with_position k s read = read >>= λ x. Some (record { name = x.0; position = k.length - length s }, x.1)
 
-abbrev pub place_at : Context → Reader Place
-place_at k s = with_position k s (name_at s)
+abbrev pub occurrence_at : Context → Reader Occurrence
+occurrence_at k s = with_position k s (name_at s)
 
 -- a name without `$`
-abbrev pub plain_place_at : Context → Reader Place
-plain_place_at k s = with_position k s (letters_at false s)
+abbrev pub plain_occurrence_at : Context → Reader Occurrence
+plain_occurrence_at k s = with_position k s (letters_at false s)
 
 abbrev pub integer : Sizes → ℕ → Option ℤ
 integer Fitting n = if nat_le n greatest then Some (pos n) else None
@@ -101,8 +101,8 @@ integer Any n = Some (pos (min n greatest))
 abbrev pub integer_at : Context → Reader ℤ
 integer_at k s =
     if begins is_digit s
-    then (integer k.sizes (number_of_digits (front is_digit s)) >>= λ v. Some (v, behind is_digit s))
+    then (integer k.sizes (number_of_digits (front is_digit s)) >>= λ v. Some (v, rest_after is_digit s))
     else None
 
-abbrev pub truth_at : Reader Bool
-truth_at s = one_of truth_spelling (true ∷ false ∷ []) s
+abbrev pub logical_at : Reader Bool
+logical_at s = one_of logical_spelling (true ∷ false ∷ []) s

@@ -1,8 +1,8 @@
 -- Reading an expression, as functions on lists: one for each level, which takes the reader of the
 -- next one.
 use Rattle.std.specs.Prelude.{ℕ, zero, suc, ◌+◌, codes, List, [], ◌∷◌, length, Option, Some, None}
-use Rattle.hep_source.specs.Tree.{Tree, Trees, constant, place, listed, parenthesized, signed, negated, binary, no_trees, trees}
-use Rattle.hep_source.specs.declared.name.Place.{Place}
+use Rattle.hep_source.specs.Tree.{Tree, Trees, constant, occurrence, with_list, parenthesized, signed, negated, binary, no_trees, trees}
+use Rattle.hep_source.specs.declared.name.Occurrence.{Occurrence}
 use Rattle.hep_source.specs.declared.value.Value.TheVariants.{Int, Truth}
 use Rattle.hep_source.specs.declared.operator.Sign.{Sign}
 use Rattle.hep_source.specs.declared.operator.Sign.TheVariants.{Plus, Minus}
@@ -12,11 +12,11 @@ use Rattle.hep_source.specs.declared.operator.ArithmeticOperator.TheVariants.{Ad
 use Rattle.hep_source.specs.declared.operator.RelationalOperator.TheVariants.{Less, LessOrEqual, Equal, NotEqual, Greater, GreaterOrEqual}
 use Rattle.hep_source.specs.declared.operator.LogicalOperator.TheVariants.{And, Or, Equivalent, NotEquivalent}
 use Rattle.hep_expression.specs.declared.characters.Context.{Context}
-use Rattle.hep_expression.specs.declared.expression.Level.{Level}
-use Rattle.hep_expression.specs.declared.expression.Level.TheVariants.{Equivalence, Disjunction, Conjunction, Sum, Term}
+use Rattle.hep_expression.specs.declared.expression.Precedence.{Precedence}
+use Rattle.hep_expression.specs.declared.expression.Precedence.TheVariants.{Equivalence, Disjunction, Conjunction, Sum, Term}
 use Rattle.hep_expression.specs.Expression.{spelling, sign_spelling}
 use Rattle.hep_expression.specs.Characters.{left_parenthesis, right_parenthesis, comma}
-use Rattle.hep_expression.specs.Reading.{Reader, ◌>>=◌, if_some, all_read, after, after_text, one_of, place_at, integer_at, truth_at}
+use Rattle.hep_expression.specs.Reading.{Reader, ◌>>=◌, if_some, all_read, after, after_text, one_of, occurrence_at, integer_at, logical_at}
 
 -- ---- operators
 
@@ -36,14 +36,14 @@ abbrev pub comparing : List Operator
 comparing = Relational Less ∷ Relational LessOrEqual ∷ Relational Equal ∷ Relational NotEqual ∷ Relational Greater ∷ Relational GreaterOrEqual ∷ []
 
 -- the operators of a level at which they go from left to right
-abbrev pub operators : Level → List Operator
+abbrev pub operators : Precedence → List Operator
 operators Equivalence = Logical Equivalent ∷ Logical NotEquivalent ∷ []
 operators Disjunction = Logical Or ∷ []
 operators Conjunction = Logical And ∷ []
 operators Sum = Arithmetic Add ∷ Arithmetic Subtract ∷ []
 operators Term = Arithmetic Multiply ∷ Arithmetic Divide ∷ []
 
--- operators and operands behind a first one, from left to right; the number bounds the turns
+-- operators and operands after a first one, from left to right; the number bounds the turns
 unfoldable pub chain : List Operator → Reader Tree → ℕ → Tree → Reader Tree
 chain among next zero t s = Some (t, s)
 chain among next (suc n) t s = if_some (operator_at among s) (λ o. next o.1 >>= λ y. chain among next n (binary o.0 t y.0) y.1) (Some (t, s))
@@ -56,21 +56,21 @@ left_to_right among first next s = first s >>= λ x. chain among next (length s)
 unfoldable pub in_parentheses : Reader Tree → Reader Tree
 in_parentheses inner s = inner s >>= λ x. after right_parenthesis x.1 >>= λ r. Some (parenthesized x.0, r)
 
--- expressions with commas between them and `)` behind the last; the number bounds the turns
+-- expressions with commas between them and `)` after the last; the number bounds the turns
 unfoldable pub arguments : Reader Tree → ℕ → Reader Trees
 arguments inner zero s = None
 arguments inner (suc n) s =
     inner s >>= λ x. if_some (after right_parenthesis x.1) (λ r. Some (trees x.0 no_trees, r)) (after comma x.1 >>= λ m. arguments inner n m >>= λ y. Some (trees x.0 y.0, y.1))
 
 -- a name that was read, with a list where `(` follows it
-unfoldable pub named : Reader Tree → Place → Reader Tree
-named inner p s = if_some (after left_parenthesis s) (λ m. arguments inner (length m) m >>= λ x. Some (listed p x.0, x.1)) (Some (place p, s))
+unfoldable pub named : Reader Tree → Occurrence → Reader Tree
+named inner p s = if_some (after left_parenthesis s) (λ m. arguments inner (length m) m >>= λ x. Some (with_list p x.0, x.1)) (Some (occurrence p, s))
 
 unfoldable pub primary : Context → Reader Tree → Reader Tree
 primary k inner s =
     if_some (integer_at k s) (λ x. Some (constant (Int x.0), x.1))
-    (if_some (truth_at s) (λ x. Some (constant (Truth x.0), x.1))
-    (if_some (place_at k s) (λ x. named inner x.0 x.1) (after left_parenthesis s >>= in_parentheses inner)))
+    (if_some (logical_at s) (λ x. Some (constant (Truth x.0), x.1))
+    (if_some (occurrence_at k s) (λ x. named inner x.0 x.1) (after left_parenthesis s >>= in_parentheses inner)))
 
 unfoldable pub power_of : Reader Tree → Reader Tree → Reader Tree
 power_of base next s = base s >>= λ x. if_some (power_at x.1) (λ m. next m >>= λ y. Some (binary (Arithmetic Power) x.0 y.0, y.1)) (Some x)
@@ -98,8 +98,8 @@ conjunction next s = left_to_right (operators Conjunction) next next s
 unfoldable pub disjunction : Reader Tree → Reader Tree
 disjunction next s = left_to_right (operators Disjunction) next next s
 
--- what stands behind an operator of a level, where powers are read so
-abbrev pub next_operand : Level → Reader Tree → Reader Tree
+-- what stands after an operator of a level, where powers are read so
+abbrev pub next_operand : Precedence → Reader Tree → Reader Tree
 next_operand Equivalence powers = disjunction (conjunction (negation (relation (sum (term powers)))))
 next_operand Disjunction powers = conjunction (negation (relation (sum (term powers))))
 next_operand Conjunction powers = negation (relation (sum (term powers)))
@@ -107,7 +107,7 @@ next_operand Sum powers = term powers
 next_operand Term powers = powers
 
 -- what stands first at a level: before the first term of a sum a sign may stand
-abbrev pub first_operand : Level → Reader Tree → Reader Tree
+abbrev pub first_operand : Precedence → Reader Tree → Reader Tree
 first_operand Equivalence powers = next_operand Equivalence powers
 first_operand Disjunction powers = next_operand Disjunction powers
 first_operand Conjunction powers = next_operand Conjunction powers
@@ -115,7 +115,7 @@ first_operand Sum powers = first_term (next_operand Sum powers)
 first_operand Term powers = next_operand Term powers
 
 -- what is read at a level
-abbrev pub at_level : Level → Reader Tree → Reader Tree
+abbrev pub at_level : Precedence → Reader Tree → Reader Tree
 at_level level powers s = left_to_right (operators level) (first_operand level powers) (next_operand level powers) s
 
 -- The number bounds how deep parentheses, lists and powers go.

@@ -6,7 +6,7 @@ ghost use Rattle.hep_expression.specs.Reading.{Gives};
 ghost use Rattle.hep_expression.specs.declared.characters.Sizes.TheVariants.{Fitting};
 
 use crate::unread::Unread;
-use hep_source::{Name, Place};
+use hep_source::{Name, Occurrence};
 
 /// Which integer constants are read.
 #[derive(Clone, Copy, Debug, PartialEq, Eq)]
@@ -64,7 +64,7 @@ fn is_letter(c: u8) -> bool
 /// The characters of a class that stand in a row at the front, and what follows them.
 fn split_front(class: Class, s: &[u8]) -> (&[u8], &[u8])
     ensures front { result.0.now ≡ reading.front (reading.has class) s.now }
-    ensures behind { result.1.now ≡ reading.behind (reading.has class) s.now }
+    ensures rest_after { result.1.now ≡ reading.rest_after (reading.has class) s.now }
 {
     for i in 0..s.len() {
         if !class.has(s[i]) {
@@ -109,7 +109,7 @@ pub fn after_text<'a>(word: &[u8], s: &'a [u8]) -> Option<&'a [u8]>
     }
 }
 
-/// A word with blanks behind it up to six characters.
+/// A word with blanks after it up to six characters.
 fn padded(word: &[u8]) -> [u8; 6]
     requires { length word.now ≤ 6 }
     ensures { result ≡ (grammar.named false word.now).letters }
@@ -119,7 +119,7 @@ fn padded(word: &[u8]) -> [u8; 6]
     letters
 }
 
-/// A name at the front (X3.9-1978, 2.2) behind its sign `$`, if it has one, and what follows it: one
+/// A name at the front (X3.9-1978, 2.2) after its sign `$`, if it has one, and what follows it: one
 /// to six letters or digits, the first a letter. More letters and digits in a row are no name.
 fn letters_at(asynchronous: bool, s: &[u8]) -> Option<(Name, &[u8])>
     ensures { option_map (λ x. (x.0, x.1.now)) result ≡ reading.letters_at asynchronous s.now }
@@ -159,21 +159,21 @@ fn position_of(context: Context, s: &[u8]) -> usize
 
 /// A name at the front, which may have the sign `$`, with how many characters of the statement
 /// stand before it, and what follows it.
-pub fn place_at(context: Context, s: &[u8]) -> Option<(Place, &[u8])>
-    ensures { option_map (λ x. (x.0, x.1.now)) result ≡ reading.place_at context s.now }
+pub fn occurrence_at(context: Context, s: &[u8]) -> Option<(Occurrence, &[u8])>
+    ensures { option_map (λ x. (x.0, x.1.now)) result ≡ reading.occurrence_at context s.now }
 {
     let (name, rest) = name_at(s)?;
     let position = position_of(context, s);
-    Some((Place { name, position }, rest))
+    Some((Occurrence { name, position }, rest))
 }
 
 /// The same of a name without `$`.
-pub fn plain_place_at(context: Context, s: &[u8]) -> Option<(Place, &[u8])>
-    ensures { option_map (λ x. (x.0, x.1.now)) result ≡ reading.plain_place_at context s.now }
+pub fn plain_occurrence_at(context: Context, s: &[u8]) -> Option<(Occurrence, &[u8])>
+    ensures { option_map (λ x. (x.0, x.1.now)) result ≡ reading.plain_occurrence_at context s.now }
 {
     let (name, rest) = letters_at(false, s)?;
     let position = position_of(context, s);
-    Some((Place { name, position }, rest))
+    Some((Occurrence { name, position }, rest))
 }
 
 /// The number that digits stand for, where it has 64 bits.
@@ -210,8 +210,8 @@ pub fn integer_at(context: Context, s: &[u8]) -> Option<(i64, &[u8])>
 }
 
 /// A logical constant at the front (X3.9-1978, 4.7.1), and what follows it.
-pub fn truth_at(s: &[u8]) -> Option<(bool, &[u8])>
-    ensures { option_map (λ x. (x.0, x.1.now)) result ≡ reading.truth_at s.now }
+pub fn logical_at(s: &[u8]) -> Option<(bool, &[u8])>
+    ensures { option_map (λ x. (x.0, x.1.now)) result ≡ reading.logical_at s.now }
 {
     if let Some(rest) = after_text(b".TRUE.", s) {
         return Some((true, rest));

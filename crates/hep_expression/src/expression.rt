@@ -1,15 +1,18 @@
 //! Reading expressions (X3.9-1978, section 6): a function for each level, from the loosest to the
-//! tightest, and one for what goes on from left to right behind a first operand.
+//! tightest, and one for what goes on from left to right after a first operand.
 ghost use Rattle.std.specs.Prelude.{◌≡◌, length, option_map};
 ghost use Rattle.hep_source.specs.Tree.{trees_of};
 ghost use Rattle.hep_expression.specs.Expression as grammar;
 ghost use Rattle.hep_expression.specs.Reading.{Gives};
 ghost use Rattle.hep_expression.specs.ReadingExpression as reading;
 
-use crate::characters::{Context, after, after_text, all_read, integer_at, place_at, truth_at};
+use crate::characters::{
+    Context, after, after_text, all_read, integer_at, logical_at, occurrence_at,
+};
 use crate::unread::Unread;
 use hep_source::{
-    ArithmeticOperator, Expr, LogicalOperator, Operator, Place, RelationalOperator, Sign, Value,
+    ArithmeticOperator, Expr, LogicalOperator, Occurrence, Operator, RelationalOperator, Sign,
+    Value,
 };
 use std::alloc::Global;
 
@@ -39,7 +42,7 @@ fn spelling(operator: Operator) -> &'static [u8]
 /// A level at which operators go from left to right (X3.9-1978, 6.1.2 and 6.4.2), from the loosest
 /// to the tightest.
 #[derive(Clone, Copy, Debug, PartialEq, Eq)]
-enum Level {
+enum Precedence {
     /// Of `.EQV.` and `.NEQV.`
     Equivalence,
     /// Of `.OR.`
@@ -52,23 +55,23 @@ enum Level {
     Term,
 }
 
-impl Level {
+impl Precedence {
     /// The operators of the level.
     fn operators(self) -> &'static [Operator]
         ensures { result.now ≡ reading.operators self }
     {
         match self {
-            Level::Equivalence => &[
+            Precedence::Equivalence => &[
                 Operator::Logical(LogicalOperator::Equivalent),
                 Operator::Logical(LogicalOperator::NotEquivalent),
             ],
-            Level::Disjunction => &[Operator::Logical(LogicalOperator::Or)],
-            Level::Conjunction => &[Operator::Logical(LogicalOperator::And)],
-            Level::Sum => &[
+            Precedence::Disjunction => &[Operator::Logical(LogicalOperator::Or)],
+            Precedence::Conjunction => &[Operator::Logical(LogicalOperator::And)],
+            Precedence::Sum => &[
                 Operator::Arithmetic(ArithmeticOperator::Add),
                 Operator::Arithmetic(ArithmeticOperator::Subtract),
             ],
-            Level::Term => &[
+            Precedence::Term => &[
                 Operator::Arithmetic(ArithmeticOperator::Multiply),
                 Operator::Arithmetic(ArithmeticOperator::Divide),
             ],
@@ -134,14 +137,14 @@ fn expression(
         return Err(Unread::NoReading);
     }
     let depth = depth - 1;
-    // A first operand is one of all levels: each goes on behind it in turn, so that an open
+    // A first operand is one of all levels: each goes on after it in turn, so that an open
     // parenthesis costs few calls.
     let (first, rest) = negation(alloc, context, depth, s)?;
     let (first, rest) = chain(
         alloc,
         context,
         depth,
-        Level::Conjunction,
+        Precedence::Conjunction,
         s.len(),
         first,
         rest,
@@ -150,7 +153,7 @@ fn expression(
         alloc,
         context,
         depth,
-        Level::Disjunction,
+        Precedence::Disjunction,
         s.len(),
         first,
         rest,
@@ -159,14 +162,14 @@ fn expression(
         alloc,
         context,
         depth,
-        Level::Equivalence,
+        Precedence::Equivalence,
         s.len(),
         first,
         rest,
     )
 }
 
-/// Operators of a level and their operands behind a first operand, from left to right. The turns
+/// Operators of a level and their operands after a first operand, from left to right. The turns
 /// bound how many there are.
 #[cycle(expression)]
 #[tactic(auto, using(crate::proofs::Chains::chain_goes_on, crate::proofs::Chains::chain_ends, crate::proofs::Chains::chain_is_over, crate::proofs::Chains::chain_fails))]
@@ -174,7 +177,7 @@ fn chain(
     alloc: Global,
     context: Context,
     depth: usize,
-    level: Level,
+    level: Precedence,
     turns: usize,
     first: Expr,
     s: &[u8],
@@ -193,23 +196,23 @@ fn chain(
     Ok((left, rest))
 }
 
-/// What stands behind an operator of a level.
+/// What stands after an operator of a level.
 #[cycle(expression)]
 fn next_operand(
     alloc: Global,
     context: Context,
     depth: usize,
-    level: Level,
+    level: Precedence,
     s: &[u8],
 ) -> Result<(Expr, &[u8]), Unread>
     ensures { Gives (λ x. (x.0, x.1.now)) result (reading.next_operand level (reading.power context depth) s.now) }
 {
     match level {
-        Level::Equivalence => disjunction(alloc, context, depth, s),
-        Level::Disjunction => conjunction(alloc, context, depth, s),
-        Level::Conjunction => negation(alloc, context, depth, s),
-        Level::Sum => term(alloc, context, depth, s),
-        Level::Term => power(alloc, context, depth, s),
+        Precedence::Equivalence => disjunction(alloc, context, depth, s),
+        Precedence::Disjunction => conjunction(alloc, context, depth, s),
+        Precedence::Conjunction => negation(alloc, context, depth, s),
+        Precedence::Sum => term(alloc, context, depth, s),
+        Precedence::Term => power(alloc, context, depth, s),
     }
 }
 
@@ -222,14 +225,14 @@ fn disjunction(
     depth: usize,
     s: &[u8],
 ) -> Result<(Expr, &[u8]), Unread>
-    ensures { Gives (λ x. (x.0, x.1.now)) result (reading.next_operand Level.Equivalence (reading.power context depth) s.now) }
+    ensures { Gives (λ x. (x.0, x.1.now)) result (reading.next_operand Precedence.Equivalence (reading.power context depth) s.now) }
 {
     let (first, rest) = conjunction(alloc, context, depth, s)?;
     chain(
         alloc,
         context,
         depth,
-        Level::Disjunction,
+        Precedence::Disjunction,
         s.len(),
         first,
         rest,
@@ -245,14 +248,14 @@ fn conjunction(
     depth: usize,
     s: &[u8],
 ) -> Result<(Expr, &[u8]), Unread>
-    ensures { Gives (λ x. (x.0, x.1.now)) result (reading.next_operand Level.Disjunction (reading.power context depth) s.now) }
+    ensures { Gives (λ x. (x.0, x.1.now)) result (reading.next_operand Precedence.Disjunction (reading.power context depth) s.now) }
 {
     let (first, rest) = negation(alloc, context, depth, s)?;
     chain(
         alloc,
         context,
         depth,
-        Level::Conjunction,
+        Precedence::Conjunction,
         s.len(),
         first,
         rest,
@@ -309,7 +312,7 @@ fn sum(alloc: Global, context: Context, depth: usize, s: &[u8]) -> Result<(Expr,
     ensures { Gives (λ x. (x.0, x.1.now)) result (reading.sum (reading.term (reading.power context depth)) s.now) }
 {
     let (first, rest) = first_term(alloc, context, depth, s)?;
-    chain(alloc, context, depth, Level::Sum, s.len(), first, rest)
+    chain(alloc, context, depth, Precedence::Sum, s.len(), first, rest)
 }
 
 /// The first term of a sum, which may have a sign.
@@ -340,7 +343,15 @@ fn term(alloc: Global, context: Context, depth: usize, s: &[u8]) -> Result<(Expr
     ensures { Gives (λ x. (x.0, x.1.now)) result (reading.term (reading.power context depth) s.now) }
 {
     let (first, rest) = power(alloc, context, depth, s)?;
-    chain(alloc, context, depth, Level::Term, s.len(), first, rest)
+    chain(
+        alloc,
+        context,
+        depth,
+        Precedence::Term,
+        s.len(),
+        first,
+        rest,
+    )
 }
 
 /// A primary, or a primary raised to a power: `**` goes from right to left.
@@ -377,11 +388,11 @@ fn primary(alloc: Global, context: Context, depth: usize, s: &[u8]) -> Result<(E
     if let Some((value, rest)) = integer_at(context, s) {
         return Ok((Expr::constant(Value::Int(value)), rest));
     }
-    if let Some((truth, rest)) = truth_at(s) {
-        return Ok((Expr::constant(Value::Truth(truth)), rest));
+    if let Some((logical, rest)) = logical_at(s) {
+        return Ok((Expr::constant(Value::Truth(logical)), rest));
     }
-    if let Some((place, rest)) = place_at(context, s) {
-        return named(alloc, context, depth, place, rest);
+    if let Some((occurrence, rest)) = occurrence_at(context, s) {
+        return named(alloc, context, depth, occurrence, rest);
     }
     match after(b'(', s) {
         Some(inside) => in_parentheses(alloc, context, depth, inside),
@@ -396,21 +407,21 @@ fn named(
     alloc: Global,
     context: Context,
     depth: usize,
-    place: Place,
+    occurrence: Occurrence,
     s: &[u8],
 ) -> Result<(Expr, &[u8]), Unread>
-    ensures { Gives (λ x. (x.0, x.1.now)) result (reading.named (reading.expression context depth) place s.now) }
+    ensures { Gives (λ x. (x.0, x.1.now)) result (reading.named (reading.expression context depth) occurrence s.now) }
 {
     match after(b'(', s) {
-        None => Ok((Expr::place(place), s)),
+        None => Ok((Expr::occurrence(occurrence), s)),
         Some(inside) => {
             let (list, rest) = arguments(alloc, context, depth, inside)?;
-            Ok((Expr::listed(place, list), rest))
+            Ok((Expr::with_list(occurrence, list), rest))
         }
     }
 }
 
-/// What follows `(` behind a name: expressions with commas between them and `)` behind the last.
+/// What follows `(` after a name: expressions with commas between them and `)` after the last.
 #[cycle(expression)]
 #[tactic(auto, using(crate::proofs::Chains::arguments_go_on, crate::proofs::Chains::arguments_end, crate::proofs::Chains::arguments_stop, crate::proofs::Chains::arguments_are_over, crate::proofs::Chains::arguments_fail))]
 fn arguments(
@@ -424,15 +435,15 @@ fn arguments(
     let mut list = Vec::new(alloc);
     let mut rest = s;
     for _turn in 0..s.len() {
-        let (argument, behind) = expression(alloc, context, depth, rest)?;
+        let (argument, rest_after) = expression(alloc, context, depth, rest)?;
         list.push(argument)?;
-        if let Some(behind) = after(b')', behind) {
-            return Ok((list, behind));
+        if let Some(rest_after) = after(b')', rest_after) {
+            return Ok((list, rest_after));
         }
-        let Some(behind) = after(b',', behind) else {
+        let Some(rest_after) = after(b',', rest_after) else {
             return Err(Unread::NoReading);
         };
-        rest = behind;
+        rest = rest_after;
     }
     Err(Unread::NoReading)
 }

@@ -127,12 +127,12 @@ word_read (x ∷ more) s w clear h =
       | inl g ↦ (
           let first : after_text x.0 s ≡ Some g.0 = ap (after_text x.0) g.1 ∙ text_read x.0 g.0 in
           rw first (ap (λ (y : List ℕ). Some y) (sym g.2)))
-      | inr g ↦ behind parts.0 g (word_read more s w parts.1 g) (after_text x.0 s) refl
+      | inr g ↦ rest_after parts.0 g (word_read more s w parts.1 g) (after_text x.0 s) refl
     ]
   where
-    behind : none_comparable x.0 more ≡ true → BeginsWith more s w → word_at more s ≡ Some w → (o : Option (List ℕ)) → after_text x.0 s ≡ o → if_some o (λ m. Some x.1) (word_at more s) ≡ Some w
-    behind clear g e None is = e
-    behind clear g e (Some m) is = absurd (alone x.0 m s w more clear (text_is x.0 s m is) g)
+    rest_after : none_comparable x.0 more ≡ true → BeginsWith more s w → word_at more s ≡ Some w → (o : Option (List ℕ)) → after_text x.0 s ≡ o → if_some o (λ m. Some x.1) (word_at more s) ≡ Some w
+    rest_after clear g e None is = e
+    rest_after clear g e (Some m) is = absurd (alone x.0 m s w more clear (text_is x.0 s m is) g)
 
 words_apart : apart left_out_words ≡ true
 words_apart = refl

@@ -7,14 +7,14 @@ use Rattle.hep_source.specs.declared.statement.Statement.{Statement}
 use Rattle.hep_text.specs.declared.statement.Stmt.{Stmt}
 use Rattle.hep_expression.specs.declared.characters.Sizes.TheVariants.{Fitting}
 use Rattle.hep_expression.proofs.Leaves.{some_is, none_is, chosen, and_parts}
-use Rattle.hep_parse.specs.declared.program.Part.{Part}
-use Rattle.hep_parse.specs.declared.program.Part.TheVariants as part
+use Rattle.hep_parse.specs.declared.program.StatementClass.{StatementClass}
+use Rattle.hep_parse.specs.declared.program.StatementClass.TheVariants as part
 use Rattle.hep_parse.specs.declared.program.Stage.{Stage}
 use Rattle.hep_parse.specs.declared.program.Stage.TheVariants.{Start, Opening, Specification, Actions}
 use Rattle.hep_parse.specs.declared.program.State.{State}
-use Rattle.hep_parse.specs.Program.{IsStatement, part_of, may_precede, MayStandBehind, AreOrdered, begins_main, AreSubroutines, AreUnits, AreAllStatements, IsProgram}
+use Rattle.hep_parse.specs.Program.{IsStatement, class_of, may_precede, MayStandAfter, AreOrdered, begins_main, AreSubroutines, AreUnits, AreAllStatements, IsProgram}
 use Rattle.hep_statement.specs.ReadingStatement.{form}
-use Rattle.hep_parse.specs.ReadingProgram.{Refusal, or_refusal, with_line, refusal_of, statement, is_start, may_follow, stage_behind, state_behind, placed, behind_one, ended, units, nothing_read, program}
+use Rattle.hep_parse.specs.ReadingProgram.{Refusal, or_refusal, with_line, refusal_of, statement, is_start, may_follow, stage_after, state_after_statement, placed, after_one, ended, units, nothing_read, program}
 use Rattle.hep_statement.proofs.Forms.{form_is, form_read}
 
 -- ---- results
@@ -39,17 +39,17 @@ pub ok_of : {A B : Type 0} (r : Result A Refusal) (f : A → Result B Refusal) (
 ok_of (Ok x) f y e = (x, refl, e)
 ok_of (Err n) f y e = absurd (not_both y n e)
 
-told_of : {A : Type 0} (o : Option A) (e : Refusal) (x : A) → ok_or o e ≡ Ok x → o ≡ Some x
-told_of None e x h = absurd (not_both x e h)
-told_of (Some y) e x h = ap (λ z. Some z) (ok_is y x h)
+reported_of : {A : Type 0} (o : Option A) (e : Refusal) (x : A) → ok_or o e ≡ Ok x → o ≡ Some x
+reported_of None e x h = absurd (not_both x e h)
+reported_of (Some y) e x h = ap (λ z. Some z) (ok_is y x h)
 
 -- ---- stages and parts
 
 -- all parts pass a test
-abbrev all_parts : (Part → Bool) → Bool
+abbrev all_parts : (StatementClass → Bool) → Bool
 all_parts f = f part.Header && (f part.Implicit && (f part.Parameter && (f part.Specification && (f part.Action && f part.End))))
 
-any_part : (f : Part → Bool) → all_parts f ≡ true → (x : Part) → f x ≡ true
+any_part : (f : StatementClass → Bool) → all_parts f ≡ true → (x : StatementClass) → f x ≡ true
 any_part f h part.Header = (and_parts (f part.Header) _ h).0
 any_part f h part.Implicit = (and_parts (f part.Implicit) _ (and_parts (f part.Header) _ h).1).0
 any_part f h part.Parameter = (and_parts (f part.Parameter) _ (and_parts (f part.Implicit) _ (and_parts (f part.Header) _ h).1).1).0
@@ -67,7 +67,7 @@ same_is true false e = absurd cc
 same_is false true e = absurd cc
 same_is false false e = refl
 
-abbrev is_end : Part → Bool
+abbrev is_end : StatementClass → Bool
 is_end part.End = true
 is_end _ = false
 
@@ -79,17 +79,17 @@ implied_is : (a b : Bool) → implied a b ≡ true → a ≡ true → b ≡ true
 implied_is true b e h = e
 implied_is false b e h = absurd cc
 
--- what may follow behind one more part, where that one may follow and isn't END
-abbrev goes : Stage → Part → Part → Bool
-goes stage p x = implied (may_follow stage p && not (is_end p)) (same (may_follow stage x && may_precede p x) (may_follow (stage_behind stage p) x))
+-- what may follow after one more part, where that one may follow and isn't END
+abbrev goes : Stage → StatementClass → StatementClass → Bool
+goes stage p x = implied (may_follow stage p && not (is_end p)) (same (may_follow stage x && may_precede p x) (may_follow (stage_after stage p) x))
 
-goes_always : (stage : Stage) (p x : Part) → goes stage p x ≡ true
-goes_always Start p x = any_part (λ (q : Part). goes Start p q) (any_part (λ (q : Part). all_parts (λ (y : Part). goes Start q y)) refl p) x
-goes_always Opening p x = any_part (λ (q : Part). goes Opening p q) (any_part (λ (q : Part). all_parts (λ (y : Part). goes Opening q y)) refl p) x
-goes_always Specification p x = any_part (λ (q : Part). goes Specification p q) (any_part (λ (q : Part). all_parts (λ (y : Part). goes Specification q y)) refl p) x
-goes_always Actions p x = any_part (λ (q : Part). goes Actions p q) (any_part (λ (q : Part). all_parts (λ (y : Part). goes Actions q y)) refl p) x
+goes_always : (stage : Stage) (p x : StatementClass) → goes stage p x ≡ true
+goes_always Start p x = any_part (λ (q : StatementClass). goes Start p q) (any_part (λ (q : StatementClass). all_parts (λ (y : StatementClass). goes Start q y)) refl p) x
+goes_always Opening p x = any_part (λ (q : StatementClass). goes Opening p q) (any_part (λ (q : StatementClass). all_parts (λ (y : StatementClass). goes Opening q y)) refl p) x
+goes_always Specification p x = any_part (λ (q : StatementClass). goes Specification p q) (any_part (λ (q : StatementClass). all_parts (λ (y : StatementClass). goes Specification q y)) refl p) x
+goes_always Actions p x = any_part (λ (q : StatementClass). goes Actions p q) (any_part (λ (q : StatementClass). all_parts (λ (y : StatementClass). goes Actions q y)) refl p) x
 
-pub no_end : (p : Part) → p ≢ part.End → is_end p ≡ false
+pub no_end : (p : StatementClass) → p ≢ part.End → is_end p ≡ false
 no_end part.Header h = refl
 no_end part.Implicit h = refl
 no_end part.Parameter h = refl
@@ -97,26 +97,26 @@ no_end part.Specification h = refl
 no_end part.Action h = refl
 no_end part.End h = absurd (h refl)
 
-follows : (stage : Stage) (p x : Part) → may_follow stage p ≡ true → p ≢ part.End → (may_follow stage x && may_precede p x) ≡ may_follow (stage_behind stage p) x
+follows : (stage : Stage) (p x : StatementClass) → may_follow stage p ≡ true → p ≢ part.End → (may_follow stage x && may_precede p x) ≡ may_follow (stage_after stage p) x
 follows stage p x first other =
     let known : (may_follow stage p && not (is_end p)) ≡ true = rw (first, no_end p other) refl in
-    same_is (may_follow stage x && may_precede p x) (may_follow (stage_behind stage p) x) (implied_is (may_follow stage p && not (is_end p)) _ (goes_always stage p x) known)
+    same_is (may_follow stage x && may_precede p x) (may_follow (stage_after stage p) x) (implied_is (may_follow stage p && not (is_end p)) _ (goes_always stage p x) known)
 
-pub behind_end : (stage : Stage) → stage_behind stage part.End ≡ Start
-behind_end Start = refl
-behind_end Opening = refl
-behind_end Specification = refl
-behind_end Actions = refl
+pub stage_after_end : (stage : Stage) → stage_after stage part.End ≡ Start
+stage_after_end Start = refl
+stage_after_end Opening = refl
+stage_after_end Specification = refl
+stage_after_end Actions = refl
 
--- behind a part that isn't END its unit goes on
-abbrev keeps : Stage → Part → Bool
-keeps stage p = implied (not (is_end p)) (not (is_start (stage_behind stage p)))
+-- after a part that isn't END its unit goes on
+abbrev keeps : Stage → StatementClass → Bool
+keeps stage p = implied (not (is_end p)) (not (is_start (stage_after stage p)))
 
-keeps_always : (stage : Stage) (p : Part) → keeps stage p ≡ true
-keeps_always Start p = any_part (λ (q : Part). keeps Start q) refl p
-keeps_always Opening p = any_part (λ (q : Part). keeps Opening q) refl p
-keeps_always Specification p = any_part (λ (q : Part). keeps Specification q) refl p
-keeps_always Actions p = any_part (λ (q : Part). keeps Actions q) refl p
+keeps_always : (stage : Stage) (p : StatementClass) → keeps stage p ≡ true
+keeps_always Start p = any_part (λ (q : StatementClass). keeps Start q) refl p
+keeps_always Opening p = any_part (λ (q : StatementClass). keeps Opening q) refl p
+keeps_always Specification p = any_part (λ (q : StatementClass). keeps Specification q) refl p
+keeps_always Actions p = any_part (λ (q : StatementClass). keeps Actions q) refl p
 
 pub not_true : (b : Bool) → not b ≡ true → b ≡ false
 not_true true e = absurd cc
@@ -126,12 +126,12 @@ pub not_false : (b : Bool) → not b ≡ false → b ≡ true
 not_false true e = refl
 not_false false e = absurd cc
 
-pub behind_other : (stage : Stage) (p : Part) → p ≢ part.End → is_start (stage_behind stage p) ≡ false
-behind_other stage p other =
+pub stage_after_other : (stage : Stage) (p : StatementClass) → p ≢ part.End → is_start (stage_after stage p) ≡ false
+stage_after_other stage p other =
     let known : not (is_end p) ≡ true = rw (no_end p other) refl in
-    not_true (is_start (stage_behind stage p)) (implied_is (not (is_end p)) (not (is_start (stage_behind stage p))) (keeps_always stage p) known)
+    not_true (is_start (stage_after stage p)) (implied_is (not (is_end p)) (not (is_start (stage_after stage p))) (keeps_always stage p) known)
 
-pub end_or_other : (p : Part) → (p ≡ part.End) ⊎ (p ≢ part.End)
+pub end_or_other : (p : StatementClass) → (p ≡ part.End) ⊎ (p ≢ part.End)
 end_or_other part.Header = inr (λ e. cc)
 end_or_other part.Implicit = inr (λ e. cc)
 end_or_other part.Parameter = inr (λ e. cc)
@@ -141,15 +141,15 @@ end_or_other part.End = inl refl
 
 -- ---- the parts before
 
-abbrev pub may_stand : List Part → Part → Bool
+abbrev pub may_stand : List StatementClass → StatementClass → Bool
 may_stand [] x = true
 may_stand (y ∷ before) x = may_precede y x && may_stand before x
 
-pub stand_is : (before : List Part) (x : Part) → MayStandBehind before x → may_stand before x ≡ true
+pub stand_is : (before : List StatementClass) (x : StatementClass) → MayStandAfter before x → may_stand before x ≡ true
 stand_is [] x h = refl
 stand_is (y ∷ before) x h = rw (h.0, stand_is before x h.1) refl
 
-pub is_stand : (before : List Part) (x : Part) → may_stand before x ≡ true → MayStandBehind before x
+pub is_stand : (before : List StatementClass) (x : StatementClass) → may_stand before x ≡ true → MayStandAfter before x
 is_stand [] x h = tt
 is_stand (y ∷ before) x h = let parts = and_parts (may_precede y x) (may_stand before x) h in (parts.0, is_stand before x parts.1)
 
@@ -161,7 +161,7 @@ and_true : (a : Bool) → (a && true) ≡ a
 and_true true = refl
 and_true false = refl
 
-stand_more : (before : List Part) (p x : Part) → may_stand (before ++ p ∷ []) x ≡ (may_stand before x && may_precede p x)
+stand_more : (before : List StatementClass) (p x : StatementClass) → may_stand (before ++ p ∷ []) x ≡ (may_stand before x && may_precede p x)
 stand_more [] p x = and_true (may_precede p x)
 stand_more (y ∷ before) p x = ap (λ (b : Bool). may_precede y x && b) (stand_more before p x) ∙ and_nested (may_precede y x) (may_stand before x) (may_precede p x)
 
@@ -169,44 +169,44 @@ and_false : (a : Bool) → (a && false) ≡ false
 and_false true = refl
 and_false false = refl
 
-nothing_behind_end : (before : List Part) (p x : Part) → p ≡ part.End → MayStandBehind (before ++ p ∷ []) x → ⊥
-nothing_behind_end before p x e h =
+nothing_after_end : (before : List StatementClass) (p x : StatementClass) → p ≡ part.End → MayStandAfter (before ++ p ∷ []) x → ⊥
+nothing_after_end before p x e h =
     let none : may_stand (before ++ p ∷ []) x ≡ false = stand_more before p x ∙ rw e (and_false (may_stand before x)) in
     let clash : true ≡ false = sym (stand_is (before ++ p ∷ []) x h) ∙ none in
     cc
 
-abbrev pub is_empty : List Part → Bool
+abbrev pub is_empty : List StatementClass → Bool
 is_empty [] = true
 is_empty (y ∷ before) = false
 
 -- what a state says of the parts before
-abbrev pub Stands : State → List Part → Type 0
-Stands x before = ((p : Part) → may_stand before p ≡ may_follow x.stage p) × (is_start x.stage ≡ is_empty before)
+abbrev pub Stands : State → List StatementClass → Type 0
+Stands x before = ((p : StatementClass) → may_stand before p ≡ may_follow x.stage p) × (is_start x.stage ≡ is_empty before)
 
 pub stands_first : Stands nothing_read []
 stands_first = ((λ p. refl), refl)
 
--- the state behind a part that has its place there
-abbrev pub next_state : State → Part → Bool → State
-next_state x p begins = record { stage = stage_behind x.stage p; has_main = x.has_main || (is_start x.stage && begins) }
+-- the state after a part that has its place there
+abbrev pub next_state : State → StatementClass → Bool → State
+next_state x p begins = record { stage = stage_after x.stage p; has_main = x.has_main || (is_start x.stage && begins) }
 
-pub stands_end : (x : State) (p : Part) (begins : Bool) → p ≡ part.End → Stands (next_state x p begins) []
+pub stands_end : (x : State) (p : StatementClass) (begins : Bool) → p ≡ part.End → Stands (next_state x p begins) []
 stands_end x p begins e =
-    let start : stage_behind x.stage p ≡ Start = rw e (behind_end x.stage) in
+    let start : stage_after x.stage p ≡ Start = rw e (stage_after_end x.stage) in
     ((λ q. rw start refl), rw start refl)
 
-some_empty : (before : List Part) (p : Part) → is_empty (before ++ p ∷ []) ≡ false
+some_empty : (before : List StatementClass) (p : StatementClass) → is_empty (before ++ p ∷ []) ≡ false
 some_empty [] p = refl
 some_empty (y ∷ before) p = refl
 
-pub stands_other : (x : State) (before : List Part) (p : Part) (begins : Bool) → Stands x before → may_follow x.stage p ≡ true → p ≢ part.End → Stands (next_state x p begins) (before ++ p ∷ [])
+pub stands_other : (x : State) (before : List StatementClass) (p : StatementClass) (begins : Bool) → Stands x before → may_follow x.stage p ≡ true → p ≢ part.End → Stands (next_state x p begins) (before ++ p ∷ [])
 stands_other x before p begins stands first other = (
   (λ q. stand_more before p q ∙ ap (λ (b : Bool). b && may_precede p q) (stands.0 q) ∙ follows x.stage p q first other),
-  behind_other x.stage p other ∙ sym (some_empty before p),
+  stage_after_other x.stage p other ∙ sym (some_empty before p),
 )
 
 -- what a state says of a part that has its place
-pub state_is : (x next : State) (p : Part) (begins : Bool) → state_behind x p begins ≡ Some next → (may_follow x.stage p ≡ true) × ((is_start x.stage && x.has_main && begins) ≡ false) × (next_state x p begins ≡ next)
+pub state_is : (x next : State) (p : StatementClass) (begins : Bool) → state_after_statement x p begins ≡ Some next → (may_follow x.stage p ≡ true) × ((is_start x.stage && x.has_main && begins) ≡ false) × (next_state x p begins ≡ next)
 state_is x next p begins e = elim (chosen (may_follow x.stage p && not (is_start x.stage && x.has_main && begins)) (Some (next_state x p begins)) None (Some next) e) [
   | inl g ↦ (
       let parts = and_parts (may_follow x.stage p) (not (is_start x.stage && x.has_main && begins)) g.0 in
@@ -214,41 +214,41 @@ state_is x next p begins e = elim (chosen (may_follow x.stage p && not (is_start
   | inr g ↦ absurd (none_is next g.1)
 ]
 
-pub state_read : (x : State) (p : Part) (begins : Bool) → may_follow x.stage p ≡ true → (is_start x.stage && x.has_main && begins) ≡ false → state_behind x p begins ≡ Some (next_state x p begins)
+pub state_read : (x : State) (p : StatementClass) (begins : Bool) → may_follow x.stage p ≡ true → (is_start x.stage && x.has_main && begins) ≡ false → state_after_statement x p begins ≡ Some (next_state x p begins)
 state_read x p begins first second = rw (first, second) refl
 
-pub placed_is : (x : State) (given : Stmt) (y : Statement × State) → placed x given ≡ Ok y → (c : List Tree × Form) × (form Fitting given.text ≡ Some c) × (state_behind x (part_of c.0 c.1) (begins_main c.1) ≡ Some y.1) × (with_line given c ≡ y.0)
+pub placed_is : (x : State) (given : Stmt) (y : Statement × State) → placed x given ≡ Ok y → (c : List Tree × Form) × (form Fitting given.text ≡ Some c) × (state_after_statement x (class_of c.0 c.1) (begins_main c.1) ≡ Some y.1) × (with_line given c ≡ y.0)
 unfolding placed statement
 placed_is x given y e = go (form Fitting given.text) refl
   where
-    told : Statement → Result (Statement × State) Refusal
-    told read = or_refusal (ok_or (state_behind x (part_of read.conditions read.form) (begins_main read.form)) (205, given.line, [])) (λ next. Ok (read, next))
+    reported : Statement → Result (Statement × State) Refusal
+    reported read = or_refusal (ok_or (state_after_statement x (class_of read.conditions read.form) (begins_main read.form)) (205, given.line, [])) (λ next. Ok (read, next))
 
-    go : (o : Option (List Tree × Form)) → form Fitting given.text ≡ o → (c : List Tree × Form) × (form Fitting given.text ≡ Some c) × (state_behind x (part_of c.0 c.1) (begins_main c.1) ≡ Some y.1) × (with_line given c ≡ y.0)
+    go : (o : Option (List Tree × Form)) → form Fitting given.text ≡ o → (c : List Tree × Form) × (form Fitting given.text ≡ Some c) × (state_after_statement x (class_of c.0 c.1) (begins_main c.1) ≡ Some y.1) × (with_line given c ≡ y.0)
     go None none =
         let turn : placed x given ≡ Err (refusal_of given) = rw none refl in
         absurd (not_both y (refusal_of given) (sym turn ∙ e))
     go (Some c) found =
-        let turn : placed x given ≡ told (with_line given c) = rw found refl in
-        let b = ok_of (ok_or (state_behind x (part_of c.0 c.1) (begins_main c.1)) (205, given.line, [])) (λ next. Ok (with_line given c, next)) y (sym turn ∙ e) in
-        let next = told_of (state_behind x (part_of c.0 c.1) (begins_main c.1)) (205, given.line, []) b.0 b.1 in
+        let turn : placed x given ≡ reported (with_line given c) = rw found refl in
+        let b = ok_of (ok_or (state_after_statement x (class_of c.0 c.1) (begins_main c.1)) (205, given.line, [])) (λ next. Ok (with_line given c, next)) y (sym turn ∙ e) in
+        let next = reported_of (state_after_statement x (class_of c.0 c.1) (begins_main c.1)) (205, given.line, []) b.0 b.1 in
         let is_y : (with_line given c, b.0) ≡ y = ok_is (with_line given c, b.0) y b.2 in
         (c, found, next ∙ ap (λ (z : Statement × State). Some z.1) is_y, ap (λ (z : Statement × State). z.0) is_y)
 
 -- ---- what is read is a program
 
--- the units behind, where a main program is there or isn't
+-- the units after, where a main program is there or isn't
 abbrev pub AreRest : Bool → List (List Statement) → Type 0
 AreRest true us = AreSubroutines us
 AreRest false us = AreUnits us
 
--- the rest of a unit and the units behind it, where the unit has begun or hasn't
-abbrev pub Shape : Bool → Bool → List Part → List (List Statement) → Type 0
+-- the rest of a unit and the units after it, where the unit has begun or hasn't
+abbrev pub Shape : Bool → Bool → List StatementClass → List (List Statement) → Type 0
 Shape true main before us = AreRest main us
 Shape false main before [] = ⊥
 Shape false main before (u ∷ us) = AreOrdered before u × AreRest main us
 
-shape_on : (start main : Bool) (before : List Part) (s : Statement) (u : List Statement) (us : List (List Statement)) → start ≡ is_empty before → (start && main && begins_main s.form) ≡ false → AreOrdered before (s ∷ u) → AreRest (main || (start && begins_main s.form)) us → Shape start main before ((s ∷ u) ∷ us)
+shape_on : (start main : Bool) (before : List StatementClass) (s : Statement) (u : List Statement) (us : List (List Statement)) → start ≡ is_empty before → (start && main && begins_main s.form) ≡ false → AreOrdered before (s ∷ u) → AreRest (main || (start && begins_main s.form)) us → Shape start main before ((s ∷ u) ∷ us)
 shape_on true true [] s u us e clash ordered rest = (ordered, clash, rest)
 shape_on true false [] s u us e clash ordered rest = (ordered, by_main (begins_main s.form) refl rest)
   where
@@ -259,7 +259,7 @@ shape_on true main (y ∷ before) s u us e clash ordered rest = absurd cc
 shape_on false true before s u us e clash ordered rest = (ordered, rest)
 shape_on false false before s u us e clash ordered rest = (ordered, rest)
 
-shape_back : (start main : Bool) (before : List Part) (s : Statement) (u : List Statement) (us : List (List Statement)) → start ≡ is_empty before → Shape start main before ((s ∷ u) ∷ us) → AreOrdered before (s ∷ u) × ((start && main && begins_main s.form) ≡ false) × AreRest (main || (start && begins_main s.form)) us
+shape_back : (start main : Bool) (before : List StatementClass) (s : Statement) (u : List Statement) (us : List (List Statement)) → start ≡ is_empty before → Shape start main before ((s ∷ u) ∷ us) → AreOrdered before (s ∷ u) × ((start && main && begins_main s.form) ≡ false) × AreRest (main || (start && begins_main s.form)) us
 shape_back true true [] s u us e h = h
 shape_back true false [] s u us e h = (
   h.0,
@@ -273,45 +273,45 @@ shape_back true main (y ∷ before) s u us e h = absurd cc
 shape_back false true before s u us e h = (h.0, refl, h.1)
 shape_back false false before s u us e h = (h.0, refl, h.1)
 
-one_at_end : (s : Statement) (stage : Stage) (us : List (List Statement)) → stage ≡ Start → behind_one s stage us ≡ (s ∷ []) ∷ us
+one_at_end : (s : Statement) (stage : Stage) (us : List (List Statement)) → stage ≡ Start → after_one s stage us ≡ (s ∷ []) ∷ us
 one_at_end s stage us e = rw e refl
 
-one_within : (s : Statement) (stage : Stage) (u : List Statement) (us : List (List Statement)) → is_start stage ≡ false → behind_one s stage (u ∷ us) ≡ (s ∷ u) ∷ us
+one_within : (s : Statement) (stage : Stage) (u : List Statement) (us : List (List Statement)) → is_start stage ≡ false → after_one s stage (u ∷ us) ≡ (s ∷ u) ∷ us
 one_within s Start u us e = absurd cc
 one_within s Opening u us e = refl
 one_within s Specification u us e = refl
 one_within s Actions u us e = refl
 
--- the units that are read from a state, behind these parts
-abbrev AreRead : State → List Part → List Stmt → List (List Statement) → Type 0
+-- the units that are read from a state, after these parts
+abbrev AreRead : State → List StatementClass → List Stmt → List (List Statement) → Type 0
 AreRead x before given us = AreAllStatements given us × Shape (is_start x.stage) x.has_main before us
 
-end_on : (x : State) (before : List Part) (s : Stmt) (given : List Stmt) (t : Statement) (us : List (List Statement)) → Stands x before → IsStatement s t → may_follow x.stage (part_of t.conditions t.form) ≡ true → (is_start x.stage && x.has_main && begins_main t.form) ≡ false → part_of t.conditions t.form ≡ part.End → AreRead (next_state x (part_of t.conditions t.form) (begins_main t.form)) [] given us → AreRead x before (s ∷ given) ((t ∷ []) ∷ us)
+end_on : (x : State) (before : List StatementClass) (s : Stmt) (given : List Stmt) (t : Statement) (us : List (List Statement)) → Stands x before → IsStatement s t → may_follow x.stage (class_of t.conditions t.form) ≡ true → (is_start x.stage && x.has_main && begins_main t.form) ≡ false → class_of t.conditions t.form ≡ part.End → AreRead (next_state x (class_of t.conditions t.form) (begins_main t.form)) [] given us → AreRead x before (s ∷ given) ((t ∷ []) ∷ us)
 end_on x before s given t us stands is first second last h =
-    let last_stage : stage_behind x.stage (part_of t.conditions t.form) ≡ Start = rw last (behind_end x.stage) in
-    let start : is_start (stage_behind x.stage (part_of t.conditions t.form)) ≡ true = ap is_start last_stage in
+    let last_stage : stage_after x.stage (class_of t.conditions t.form) ≡ Start = rw last (stage_after_end x.stage) in
+    let start : is_start (stage_after x.stage (class_of t.conditions t.form)) ≡ true = ap is_start last_stage in
     let rest : Shape true (x.has_main || (is_start x.stage && begins_main t.form)) [] us = subst (λ (b : Bool). Shape b (x.has_main || (is_start x.stage && begins_main t.form)) [] us) start h.1 in
-    let place : MayStandBehind before (part_of t.conditions t.form) = is_stand before (part_of t.conditions t.form) (stands.0 (part_of t.conditions t.form) ∙ first) in
+    let place : MayStandAfter before (class_of t.conditions t.form) = is_stand before (class_of t.conditions t.form) (stands.0 (class_of t.conditions t.form) ∙ first) in
     ((given, (is, refl), h.0), shape_on (is_start x.stage) x.has_main before t [] us stands.1 second (place, last) rest)
 
-within_on : (x : State) (before : List Part) (s : Stmt) (given : List Stmt) (t : Statement) (us : List (List Statement)) → Stands x before → IsStatement s t → may_follow x.stage (part_of t.conditions t.form) ≡ true → (is_start x.stage && x.has_main && begins_main t.form) ≡ false → part_of t.conditions t.form ≢ part.End → AreRead (next_state x (part_of t.conditions t.form) (begins_main t.form)) (before ++ part_of t.conditions t.form ∷ []) given us → AreRead x before (s ∷ given) (behind_one t (stage_behind x.stage (part_of t.conditions t.form)) us)
+within_on : (x : State) (before : List StatementClass) (s : Stmt) (given : List Stmt) (t : Statement) (us : List (List Statement)) → Stands x before → IsStatement s t → may_follow x.stage (class_of t.conditions t.form) ≡ true → (is_start x.stage && x.has_main && begins_main t.form) ≡ false → class_of t.conditions t.form ≢ part.End → AreRead (next_state x (class_of t.conditions t.form) (begins_main t.form)) (before ++ class_of t.conditions t.form ∷ []) given us → AreRead x before (s ∷ given) (after_one t (stage_after x.stage (class_of t.conditions t.form)) us)
 within_on x before s given t us stands is first second other h =
-    let within = behind_other x.stage (part_of t.conditions t.form) other in
-    let shape : Shape false (x.has_main || (is_start x.stage && begins_main t.form)) (before ++ part_of t.conditions t.form ∷ []) us = subst (λ (b : Bool). Shape b (x.has_main || (is_start x.stage && begins_main t.form)) (before ++ part_of t.conditions t.form ∷ []) us) within h.1 in
+    let within = stage_after_other x.stage (class_of t.conditions t.form) other in
+    let shape : Shape false (x.has_main || (is_start x.stage && begins_main t.form)) (before ++ class_of t.conditions t.form ∷ []) us = subst (λ (b : Bool). Shape b (x.has_main || (is_start x.stage && begins_main t.form)) (before ++ class_of t.conditions t.form ∷ []) us) within h.1 in
     go us h.0 shape
   where
-    place : MayStandBehind before (part_of t.conditions t.form)
-    place = is_stand before (part_of t.conditions t.form) (stands.0 (part_of t.conditions t.form) ∙ first)
+    place : MayStandAfter before (class_of t.conditions t.form)
+    place = is_stand before (class_of t.conditions t.form) (stands.0 (class_of t.conditions t.form) ∙ first)
 
-    go : (us : List (List Statement)) → AreAllStatements given us → Shape false (x.has_main || (is_start x.stage && begins_main t.form)) (before ++ part_of t.conditions t.form ∷ []) us → AreRead x before (s ∷ given) (behind_one t (stage_behind x.stage (part_of t.conditions t.form)) us)
+    go : (us : List (List Statement)) → AreAllStatements given us → Shape false (x.has_main || (is_start x.stage && begins_main t.form)) (before ++ class_of t.conditions t.form ∷ []) us → AreRead x before (s ∷ given) (after_one t (stage_after x.stage (class_of t.conditions t.form)) us)
     go [] all shape = absurd shape
     go ([] ∷ us) all shape = absurd shape.0
     go ((v ∷ u) ∷ us) all shape =
         let all_on : AreAllStatements (s ∷ given) ((t ∷ v ∷ u) ∷ us) = (all.0, (is, all.1), all.2) in
         let shape_is = shape_on (is_start x.stage) x.has_main before t (v ∷ u) us stands.1 second (place, shape.0) shape.1 in
-        subst (AreRead x before (s ∷ given)) (sym (one_within t (stage_behind x.stage (part_of t.conditions t.form)) (v ∷ u) us (behind_other x.stage (part_of t.conditions t.form) other))) (all_on, shape_is)
+        subst (AreRead x before (s ∷ given)) (sym (one_within t (stage_after x.stage (class_of t.conditions t.form)) (v ∷ u) us (stage_after_other x.stage (class_of t.conditions t.form) other))) (all_on, shape_is)
 
-units_are : (given : List Stmt) (x : State) (line : ℕ) (before : List Part) (us : List (List Statement)) → Stands x before → units x line given ≡ Ok us → AreRead x before given us
+units_are : (given : List Stmt) (x : State) (line : ℕ) (before : List StatementClass) (us : List (List Statement)) → Stands x before → units x line given ≡ Ok us → AreRead x before given us
 unfolding units
 units_are [] x line before us stands e = over (is_start x.stage) x.has_main e
   where
@@ -320,21 +320,21 @@ units_are [] x line before us stands e = over (is_start x.stage) x.has_main e
     over true false e = absurd (not_both us (204, 0, []) e)
     over false main e = absurd (not_both us (205, line, []) e)
 units_are (s ∷ given) x line before us stands e =
-    let b = ok_of (placed x s) (λ y. or_refusal (units y.1 s.line given) (λ rest. Ok (behind_one y.0 y.1.stage rest))) us e in
-    let c = ok_of (units b.0.1 s.line given) (λ rest. Ok (behind_one b.0.0 b.0.1.stage rest)) us b.2 in
+    let b = ok_of (placed x s) (λ y. or_refusal (units y.1 s.line given) (λ rest. Ok (after_one y.0 y.1.stage rest))) us e in
+    let c = ok_of (units b.0.1 s.line given) (λ rest. Ok (after_one b.0.0 b.0.1.stage rest)) us b.2 in
     let p = placed_is x s b.0 b.1 in
-    let q = state_is x b.0.1 (part_of p.0.0 p.0.1) (begins_main p.0.1) p.2 in
+    let q = state_is x b.0.1 (class_of p.0.0 p.0.1) (begins_main p.0.1) p.2 in
     let t = with_line s p.0 in
     let is : IsStatement s t = (refl, refl, form_is Fitting s.text p.0 p.1) in
-    let is_us : behind_one t (stage_behind x.stage (part_of p.0.0 p.0.1)) c.0 ≡ us = ap (λ (z : State). behind_one t z.stage c.0) q.2 ∙ ap (λ (z : Statement). behind_one z b.0.1.stage c.0) p.3 ∙ ok_is (behind_one b.0.0 b.0.1.stage c.0) us c.2 in
-    let again : units (next_state x (part_of p.0.0 p.0.1) (begins_main p.0.1)) s.line given ≡ Ok c.0 = ap (λ (z : State). units z s.line given) q.2 ∙ c.1 in
-    elim (end_or_other (part_of p.0.0 p.0.1)) [
+    let is_us : after_one t (stage_after x.stage (class_of p.0.0 p.0.1)) c.0 ≡ us = ap (λ (z : State). after_one t z.stage c.0) q.2 ∙ ap (λ (z : Statement). after_one z b.0.1.stage c.0) p.3 ∙ ok_is (after_one b.0.0 b.0.1.stage c.0) us c.2 in
+    let again : units (next_state x (class_of p.0.0 p.0.1) (begins_main p.0.1)) s.line given ≡ Ok c.0 = ap (λ (z : State). units z s.line given) q.2 ∙ c.1 in
+    elim (end_or_other (class_of p.0.0 p.0.1)) [
       | inl last ↦ (
-          let rest = units_are given (next_state x (part_of p.0.0 p.0.1) (begins_main p.0.1)) s.line [] c.0 (stands_end x (part_of p.0.0 p.0.1) (begins_main p.0.1) last) again in
-          let start : stage_behind x.stage (part_of p.0.0 p.0.1) ≡ Start = rw last (behind_end x.stage) in
-          subst (AreRead x before (s ∷ given)) (sym (one_at_end t (stage_behind x.stage (part_of p.0.0 p.0.1)) c.0 start) ∙ is_us) (end_on x before s given t c.0 stands is q.0 q.1 last rest))
+          let rest = units_are given (next_state x (class_of p.0.0 p.0.1) (begins_main p.0.1)) s.line [] c.0 (stands_end x (class_of p.0.0 p.0.1) (begins_main p.0.1) last) again in
+          let start : stage_after x.stage (class_of p.0.0 p.0.1) ≡ Start = rw last (stage_after_end x.stage) in
+          subst (AreRead x before (s ∷ given)) (sym (one_at_end t (stage_after x.stage (class_of p.0.0 p.0.1)) c.0 start) ∙ is_us) (end_on x before s given t c.0 stands is q.0 q.1 last rest))
       | inr other ↦ (
-          let rest = units_are given (next_state x (part_of p.0.0 p.0.1) (begins_main p.0.1)) s.line (before ++ part_of p.0.0 p.0.1 ∷ []) c.0 (stands_other x before (part_of p.0.0 p.0.1) (begins_main p.0.1) stands q.0 other) again in
+          let rest = units_are given (next_state x (class_of p.0.0 p.0.1) (begins_main p.0.1)) s.line (before ++ class_of p.0.0 p.0.1 ∷ []) c.0 (stands_other x before (class_of p.0.0 p.0.1) (begins_main p.0.1) stands q.0 other) again in
           subst (AreRead x before (s ∷ given)) is_us (within_on x before s given t c.0 stands is q.0 q.1 other rest))
     ]
 
@@ -343,14 +343,14 @@ is_program given p e = units_are given nothing_read 0 [] p stands_first e
 
 -- ---- a program is read
 
-placed_read : (x : State) (s : Stmt) (t : Statement) → IsStatement s t → may_follow x.stage (part_of t.conditions t.form) ≡ true → (is_start x.stage && x.has_main && begins_main t.form) ≡ false → placed x s ≡ Ok (t, next_state x (part_of t.conditions t.form) (begins_main t.form))
+placed_read : (x : State) (s : Stmt) (t : Statement) → IsStatement s t → may_follow x.stage (class_of t.conditions t.form) ≡ true → (is_start x.stage && x.has_main && begins_main t.form) ≡ false → placed x s ≡ Ok (t, next_state x (class_of t.conditions t.form) (begins_main t.form))
 unfolding placed statement
 placed_read x s t is first second =
     let is_t : with_line s (t.conditions, t.form) ≡ t = λ i. record { line = sym is.0 i; label = sym is.1 i; conditions = t.conditions; form = t.form } in
     let found : form Fitting s.text ≡ Some (t.conditions, t.form) = form_read Fitting s.text t.conditions t.form is.2 in
-    rw (found, state_read x (part_of t.conditions t.form) (begins_main t.form) first second) (ap (λ (z : Statement). Ok (z, next_state x (part_of t.conditions t.form) (begins_main t.form))) is_t)
+    rw (found, state_read x (class_of t.conditions t.form) (begins_main t.form) first second) (ap (λ (z : Statement). Ok (z, next_state x (class_of t.conditions t.form) (begins_main t.form))) is_t)
 
-units_read : (given : List Stmt) (x : State) (line : ℕ) (before : List Part) (us : List (List Statement)) → Stands x before → AreRead x before given us → units x line given ≡ Ok us
+units_read : (given : List Stmt) (x : State) (line : ℕ) (before : List StatementClass) (us : List (List Statement)) → Stands x before → AreRead x before given us → units x line given ≡ Ok us
 unfolding units
 units_read [] x line before [] stands h = over (is_start x.stage) x.has_main h.1
   where
@@ -368,24 +368,24 @@ units_read [] x line before ((t ∷ u) ∷ us) stands h = absurd h.0.1
 units_read (s ∷ given) x line before [] stands h = absurd (let e = h.0 in cc)
 units_read (s ∷ given) x line before ((t ∷ []) ∷ us) stands h =
     let back = shape_back (is_start x.stage) x.has_main before t [] us stands.1 h.1 in
-    let p = part_of t.conditions t.form in
+    let p = class_of t.conditions t.form in
     let first : may_follow x.stage p ≡ true = sym (stands.0 p) ∙ stand_is before p back.0.0 in
-    let start : stage_behind x.stage p ≡ Start = rw back.0.1 (behind_end x.stage) in
-    let behind : AreAllStatements given us = subst (λ (l : List Stmt). AreAllStatements l us) (sym h.0.1.1) h.0.2 in
-    let shape : Shape (is_start (stage_behind x.stage p)) (x.has_main || (is_start x.stage && begins_main t.form)) [] us = rw start back.2 in
-    let rest = units_read given (next_state x p (begins_main t.form)) s.line [] us (stands_end x p (begins_main t.form) back.0.1) (behind, shape) in
-    rw (placed_read x s t h.0.1.0 first back.1, rest) (ap (λ (l : List (List Statement)). Ok l) (one_at_end t (stage_behind x.stage p) us start))
+    let start : stage_after x.stage p ≡ Start = rw back.0.1 (stage_after_end x.stage) in
+    let rest_after : AreAllStatements given us = subst (λ (l : List Stmt). AreAllStatements l us) (sym h.0.1.1) h.0.2 in
+    let shape : Shape (is_start (stage_after x.stage p)) (x.has_main || (is_start x.stage && begins_main t.form)) [] us = rw start back.2 in
+    let rest = units_read given (next_state x p (begins_main t.form)) s.line [] us (stands_end x p (begins_main t.form) back.0.1) (rest_after, shape) in
+    rw (placed_read x s t h.0.1.0 first back.1, rest) (ap (λ (l : List (List Statement)). Ok l) (one_at_end t (stage_after x.stage p) us start))
 units_read (s ∷ given) x line before ((t ∷ v ∷ u) ∷ us) stands h =
     let back = shape_back (is_start x.stage) x.has_main before t (v ∷ u) us stands.1 h.1 in
-    let p = part_of t.conditions t.form in
+    let p = class_of t.conditions t.form in
     let first : may_follow x.stage p ≡ true = sym (stands.0 p) ∙ stand_is before p back.0.0 in
-    let other : p ≢ part.End = λ e. nothing_behind_end before p (part_of v.conditions v.form) e (first_stands (before ++ p ∷ []) v u back.0.1) in
-    let within = behind_other x.stage p other in
-    let shape : Shape (is_start (stage_behind x.stage p)) (x.has_main || (is_start x.stage && begins_main t.form)) (before ++ p ∷ []) ((v ∷ u) ∷ us) = rw within (back.0.1, back.2) in
+    let other : p ≢ part.End = λ e. nothing_after_end before p (class_of v.conditions v.form) e (first_stands (before ++ p ∷ []) v u back.0.1) in
+    let within = stage_after_other x.stage p other in
+    let shape : Shape (is_start (stage_after x.stage p)) (x.has_main || (is_start x.stage && begins_main t.form)) (before ++ p ∷ []) ((v ∷ u) ∷ us) = rw within (back.0.1, back.2) in
     let rest = units_read given (next_state x p (begins_main t.form)) s.line (before ++ p ∷ []) ((v ∷ u) ∷ us) (stands_other x before p (begins_main t.form) stands first other) ((h.0.0, h.0.1.1, h.0.2), shape) in
-    rw (placed_read x s t h.0.1.0 first back.1, rest) (ap (λ (l : List (List Statement)). Ok l) (one_within t (stage_behind x.stage p) (v ∷ u) us within))
+    rw (placed_read x s t h.0.1.0 first back.1, rest) (ap (λ (l : List (List Statement)). Ok l) (one_within t (stage_after x.stage p) (v ∷ u) us within))
   where
-    first_stands : (before : List Part) (v : Statement) (u : List Statement) → AreOrdered before (v ∷ u) → MayStandBehind before (part_of v.conditions v.form)
+    first_stands : (before : List StatementClass) (v : Statement) (u : List Statement) → AreOrdered before (v ∷ u) → MayStandAfter before (class_of v.conditions v.form)
     first_stands before v [] h = h.0
     first_stands before v (w ∷ u) h = h.0
 

@@ -7,9 +7,9 @@ use Rattle.hep_text.specs.declared.statement.Stmt.{Stmt}
 use Rattle.hep_parse.specs.declared.program.Stage.{Stage}
 use Rattle.hep_parse.specs.declared.program.Stage.TheVariants.{Start, Opening, Specification, Actions}
 use Rattle.hep_parse.specs.declared.program.State.{State}
-use Rattle.hep_parse.specs.declared.fault.ParseFault.{ParseFault}
-use Rattle.hep_parse.specs.declared.fault.ParseFault.TheVariants.{NoMemory, Refused}
-use Rattle.hep_parse.specs.ReadingProgram.{Refusal, Misses, Answers, or_refusal, is_start, placed, behind_some, behind_one, units}
+use Rattle.hep_base.specs.declared.refusal.Refusal.{Refusal as ParseFault}
+use Rattle.hep_base.specs.declared.refusal.Refusal.TheVariants.{NoMemory, Refused}
+use Rattle.hep_parse.specs.ReadingProgram.{Refusal, Misses, Answers, or_refusal, is_start, placed, after_some, after_one, units}
 use Rattle.hep_parse.proofs.Programs.{ok}
 
 -- what is left of a list at one of its places
@@ -23,30 +23,30 @@ failed view fault (Err e) whole h m = subst (λ (z : ParseFault). Misses z whole
 
 -- the units that are done and the statements of the one that was begun, before what is read
 abbrev pub with_units : List (List Statement) → List Statement → Result (List (List Statement)) Refusal → Result (List (List Statement)) Refusal
-with_units done unit read = or_refusal read (λ rest. ok (done ++ behind_some unit rest))
+with_units done unit read = or_refusal read (λ rest. ok (done ++ after_some unit rest))
 
 pub nothing_before : (read : Result (List (List Statement)) Refusal) → with_units [] [] read ≡ read
 nothing_before (Ok rest) = refl
 nothing_before (Err e) = refl
 
-more_of_unit : (unit : List Statement) (t : Statement) (stage : Stage) (rest : List (List Statement)) → is_start stage ≡ false → behind_some unit (behind_one t stage rest) ≡ behind_some (unit ++ t ∷ []) rest
+more_of_unit : (unit : List Statement) (t : Statement) (stage : Stage) (rest : List (List Statement)) → is_start stage ≡ false → after_some unit (after_one t stage rest) ≡ after_some (unit ++ t ∷ []) rest
 more_of_unit unit t stage rest within = by_stage stage within ∙ by_unit unit rest
   where
-    by_stage : (stage : Stage) → is_start stage ≡ false → behind_some unit (behind_one t stage rest) ≡ behind_some unit (behind_some (t ∷ []) rest)
+    by_stage : (stage : Stage) → is_start stage ≡ false → after_some unit (after_one t stage rest) ≡ after_some unit (after_some (t ∷ []) rest)
     by_stage Start e = absurd cc
     by_stage Opening e = refl
     by_stage Specification e = refl
     by_stage Actions e = refl
 
-    by_unit : (unit : List Statement) (rest : List (List Statement)) → behind_some unit (behind_some (t ∷ []) rest) ≡ behind_some (unit ++ t ∷ []) rest
+    by_unit : (unit : List Statement) (rest : List (List Statement)) → after_some unit (after_some (t ∷ []) rest) ≡ after_some (unit ++ t ∷ []) rest
     by_unit [] rest = refl
     by_unit (s ∷ unit) [] = refl
     by_unit (s ∷ unit) (u ∷ rest) = ap (λ (l : List Statement). l ∷ rest) (sym (append_assoc (s ∷ unit) (t ∷ []) u))
 
-whole_unit : (unit : List Statement) (t : Statement) (stage : Stage) (rest : List (List Statement)) → is_start stage ≡ true → behind_some unit (behind_one t stage rest) ≡ (unit ++ t ∷ []) ∷ rest
+whole_unit : (unit : List Statement) (t : Statement) (stage : Stage) (rest : List (List Statement)) → is_start stage ≡ true → after_some unit (after_one t stage rest) ≡ (unit ++ t ∷ []) ∷ rest
 whole_unit unit t Start rest e = by_unit unit
   where
-    by_unit : (unit : List Statement) → behind_some unit ((t ∷ []) ∷ rest) ≡ (unit ++ t ∷ []) ∷ rest
+    by_unit : (unit : List Statement) → after_some unit ((t ∷ []) ∷ rest) ≡ (unit ++ t ∷ []) ∷ rest
     by_unit [] = refl
     by_unit (s ∷ unit) = refl
 whole_unit unit t Opening rest e = absurd cc
@@ -59,7 +59,7 @@ module _ (x : State) (line : ℕ) (done : List (List Statement)) (unit : List St
   within s given y e stage so_far = sym (go (units y.1 s.line given)) ∙ turn ∙ so_far
     where
       step : Result (List (List Statement)) Refusal → Result (List (List Statement)) Refusal
-      step read = or_refusal read (λ rest. ok (behind_one y.0 y.1.stage rest))
+      step read = or_refusal read (λ rest. ok (after_one y.0 y.1.stage rest))
 
       go : (read : Result (List (List Statement)) Refusal) → with_units done unit (step read) ≡ with_units done (unit ++ y.0 ∷ []) read
       go (Ok rest) = ap (λ (l : List (List Statement)). ok (done ++ l)) (more_of_unit unit y.0 y.1.stage rest stage)
@@ -73,7 +73,7 @@ module _ (x : State) (line : ℕ) (done : List (List Statement)) (unit : List St
   at_its_end s given y e stage so_far = sym (go (units y.1 s.line given)) ∙ turn ∙ so_far
     where
       step : Result (List (List Statement)) Refusal → Result (List (List Statement)) Refusal
-      step read = or_refusal read (λ rest. ok (behind_one y.0 y.1.stage rest))
+      step read = or_refusal read (λ rest. ok (after_one y.0 y.1.stage rest))
 
       go : (read : Result (List (List Statement)) Refusal) → with_units done unit (step read) ≡ with_units (done ++ (unit ++ y.0 ∷ []) ∷ []) [] read
       go (Ok rest) = ap (λ (l : List (List Statement)). ok (done ++ l)) (whole_unit unit y.0 y.1.stage rest stage) ∙ ap (λ (l : List (List Statement)). ok l) (sym (append_assoc done ((unit ++ y.0 ∷ []) ∷ []) rest))

@@ -8,11 +8,11 @@ use Rattle.hep_text.specs.declared.statement.Stmt.{Stmt}
 use Rattle.hep_expression.specs.declared.characters.Sizes.{Sizes}
 use Rattle.hep_expression.specs.declared.characters.Sizes.TheVariants.{Fitting, Any}
 use Rattle.hep_expression.specs.declared.characters.Context.{Context}
-use Rattle.hep_parse.specs.declared.fault.ParseFault.{ParseFault}
-use Rattle.hep_parse.specs.declared.fault.ParseFault.TheVariants.{NoMemory, Refused}
+use Rattle.hep_base.specs.declared.refusal.Refusal.{Refusal as ParseFault}
+use Rattle.hep_base.specs.declared.refusal.Refusal.TheVariants.{NoMemory, Refused}
 use Rattle.hep_statement.specs.declared.rule.Rule.TheVariants.{Worded}
-use Rattle.hep_parse.specs.declared.program.Part.{Part}
-use Rattle.hep_parse.specs.declared.program.Part.TheVariants as part
+use Rattle.hep_parse.specs.declared.program.StatementClass.{StatementClass}
+use Rattle.hep_parse.specs.declared.program.StatementClass.TheVariants as part
 use Rattle.hep_statement.specs.Statement.{rule_of, IsLogicalIf, context, IsForm}
 
 -- A text with its line and label is this statement.
@@ -22,20 +22,20 @@ IsStatement given read = (read.line ≡ given.line) × (read.label ≡ given.lab
 -- ---- units (X3.9-1978, 3.5)
 
 -- the part of a unit to which a form belongs; a logical IF holds an action
-abbrev pub part_of : List Tree → Form → Part
-part_of (t ∷ more) f = part.Action
-part_of [] (Program p) = part.Header
-part_of [] (Subroutine p ds) = part.Header
-part_of [] (Implicit xs) = part.Implicit
-part_of [] (Parameter xs) = part.Parameter
-part_of [] (Declare t xs) = part.Specification
-part_of [] (Dimension xs) = part.Specification
-part_of [] (Common xs) = part.Specification
-part_of [] End = part.End
-part_of [] _ = part.Action
+abbrev pub class_of : List Tree → Form → StatementClass
+class_of (t ∷ more) f = part.Action
+class_of [] (Program p) = part.Header
+class_of [] (Subroutine p ds) = part.Header
+class_of [] (Implicit xs) = part.Implicit
+class_of [] (Parameter xs) = part.Parameter
+class_of [] (Declare t xs) = part.Specification
+class_of [] (Dimension xs) = part.Specification
+class_of [] (Common xs) = part.Specification
+class_of [] End = part.End
+class_of [] _ = part.Action
 
 -- whether a statement of the one part may stand anywhere before one of the other in a unit
-abbrev pub may_precede : Part → Part → Bool
+abbrev pub may_precede : StatementClass → StatementClass → Bool
 may_precede part.End _ = false
 may_precede _ part.Header = false
 may_precede part.Action part.Action = true
@@ -44,16 +44,16 @@ may_precede part.Action _ = false
 may_precede part.Specification part.Implicit = false
 may_precede _ _ = true
 
--- a part may stand behind those before it in its unit
-abbrev pub MayStandBehind : List Part → Part → Type 0
-MayStandBehind [] x = Unit {0}
-MayStandBehind (y ∷ before) x = IsTrue (may_precede y x) × MayStandBehind before x
+-- a part may stand after those before it in its unit
+abbrev pub MayStandAfter : List StatementClass → StatementClass → Type 0
+MayStandAfter [] x = Unit {0}
+MayStandAfter (y ∷ before) x = IsTrue (may_precede y x) × MayStandAfter before x
 
--- parts behind others of their unit: each may stand there, and the last one is END
-abbrev pub AreOrdered : List Part → List Statement → Type 0
+-- parts after others of their unit: each may stand there, and the last one is END
+abbrev pub AreOrdered : List StatementClass → List Statement → Type 0
 AreOrdered before [] = ⊥
-AreOrdered before (s ∷ []) = MayStandBehind before (part_of s.conditions s.form) × (part_of s.conditions s.form ≡ part.End)
-AreOrdered before (s ∷ t ∷ more) = MayStandBehind before (part_of s.conditions s.form) × AreOrdered (before ++ part_of s.conditions s.form ∷ []) (t ∷ more)
+AreOrdered before (s ∷ []) = MayStandAfter before (class_of s.conditions s.form) × (class_of s.conditions s.form ≡ part.End)
+AreOrdered before (s ∷ t ∷ more) = MayStandAfter before (class_of s.conditions s.form) × AreOrdered (before ++ class_of s.conditions s.form ∷ []) (t ∷ more)
 
 abbrev pub IsUnit : List Statement → Type 0
 IsUnit unit = AreOrdered [] unit
@@ -101,7 +101,7 @@ HasNoReading z s = (conditions : List Tree) (f : Form) → IsForm z s.text condi
 abbrev pub plain : List ℕ → List ℕ × List ℕ
 plain w = (w, w)
 
--- the words of statements that the language leaves out, each with the name that tells it
+-- the words of statements that the language leaves out, each with the name that is reported
 abbrev pub left_out_words : List (List ℕ × List ℕ)
 left_out_words =
     plain (codes "REAL") ∷ plain (codes "DOUBLEPRECISION") ∷ plain (codes "COMPLEX") ∷ plain (codes "CHARACTER")
@@ -117,7 +117,7 @@ abbrev pub BeginsWith : List (List ℕ × List ℕ) → List ℕ → List ℕ �
 BeginsWith [] s name = ⊥
 BeginsWith (x ∷ more) s name = ((m : List ℕ) × (s ≡ x.0 ++ m) × (name ≡ x.1)) ⊎ BeginsWith more s name
 
--- The text begins with a word that is left out, behind these conditions of logical IFs, where the
+-- The text begins with a word that is left out, after these conditions of logical IFs, where the
 -- rules come to the words.
 abbrev pub IsLeftOut : Context → List Tree → List ℕ → List ℕ → Type 0
 IsLeftOut k [] s name = (rule_of s ≡ Worded) × BeginsWith left_out_words s name
@@ -126,41 +126,41 @@ IsLeftOut k (t ∷ more) s name = (r : List ℕ) × IsLogicalIf k t s r × IsLef
 abbrev pub IsLeftOutStatement : Stmt → List ℕ → Type 0
 IsLeftOutStatement s name = (conditions : List Tree) × IsLeftOut (context Any s.text) conditions s.text name
 
--- The statement has no place behind these parts of its unit: it may not stand there; it begins a
+-- The statement has no place after these parts of its unit: it may not stand there; it begins a
 -- second main program; it is the last statement of the source and isn't END.
-abbrev pub IsMisplaced : List Part → Bool → List Tree → Form → List Stmt → Type 0
-IsMisplaced before main_is_there conditions f behind =
-    (MayStandBehind before (part_of conditions f) → ⊥)
+abbrev pub IsMisplaced : List StatementClass → Bool → List Tree → Form → List Stmt → Type 0
+IsMisplaced before main_is_there conditions f rest_after =
+    (MayStandAfter before (class_of conditions f) → ⊥)
     ⊎ ((before ≡ []) × (main_is_there ≡ true) × (begins_main f ≡ true))
-    ⊎ ((behind ≡ []) × (part_of conditions f ≢ part.End))
+    ⊎ ((rest_after ≡ []) × (class_of conditions f ≢ part.End))
 
--- The statement is refused with this number and name, behind these parts of its unit.
-abbrev pub IsRefused : List Part → Bool → Stmt → List Stmt → ℕ → List ℕ → Type 0
-IsRefused before main_is_there s behind number name =
+-- The statement is refused with this number and name, after these parts of its unit.
+abbrev pub IsRefusedStatement : List StatementClass → Bool → Stmt → List Stmt → ℕ → List ℕ → Type 0
+IsRefusedStatement before main_is_there s rest_after number name =
     ((number ≡ 201) × HasNoReading Any s × ((word : List ℕ) → IsLeftOutStatement s word → ⊥) × (name ≡ []))
     ⊎ ((number ≡ 202) × HasNoReading Any s × IsLeftOutStatement s name)
     ⊎ ((number ≡ 203) × HasReading Any s × HasNoReading Fitting s × (name ≡ []))
-    ⊎ ((number ≡ 205) × (conditions : List Tree) × (f : Form) × IsForm Fitting s.text conditions f × IsMisplaced before main_is_there conditions f behind × (name ≡ []))
+    ⊎ ((number ≡ 205) × (conditions : List Tree) × (f : Form) × IsForm Fitting s.text conditions f × IsMisplaced before main_is_there conditions f rest_after × (name ≡ []))
 
--- the parts of the unit that goes on behind one more; none behind its END
-abbrev pub parts_behind : List Part → Part → List Part
-parts_behind before part.End = []
-parts_behind before x = before ++ x ∷ []
+-- the parts of the unit that goes on after one more; none after its END
+abbrev pub parts_after : List StatementClass → StatementClass → List StatementClass
+parts_after before part.End = []
+parts_after before x = before ++ x ∷ []
 
--- whether a main program is there behind one more statement
-abbrev pub main_behind : List Part → Bool → Form → Bool
-main_behind [] main_is_there f = main_is_there || begins_main f
-main_behind (x ∷ before) main_is_there f = main_is_there
+-- whether a main program is there after one more statement
+abbrev pub main_after : List StatementClass → Bool → Form → Bool
+main_after [] main_is_there f = main_is_there || begins_main f
+main_after (x ∷ before) main_is_there f = main_is_there
 
--- The first fault of the statements behind these parts of a unit, with its number, line and name:
+-- The first fault of the statements after these parts of a unit, with its number, line and name:
 -- that of the first statement that is refused; 204 where none is and there is no main program.
-abbrev pub IsFirstFaultFrom : List Part → Bool → List Stmt → ℕ → ℕ → List ℕ → Type 0
+abbrev pub IsFirstFaultFrom : List StatementClass → Bool → List Stmt → ℕ → ℕ → List ℕ → Type 0
 IsFirstFaultFrom before main_is_there [] number line name = (main_is_there ≡ false) × (number ≡ 204) × (line ≡ 0) × (name ≡ [])
-IsFirstFaultFrom before main_is_there (s ∷ behind) number line name =
-    (IsRefused before main_is_there s behind number name × (line ≡ s.line))
-    ⊎ (((n : ℕ) (word : List ℕ) → IsRefused before main_is_there s behind n word → ⊥)
+IsFirstFaultFrom before main_is_there (s ∷ rest_after) number line name =
+    (IsRefusedStatement before main_is_there s rest_after number name × (line ≡ s.line))
+    ⊎ (((n : ℕ) (word : List ℕ) → IsRefusedStatement before main_is_there s rest_after n word → ⊥)
     × (conditions : List Tree) × (f : Form) × IsForm Fitting s.text conditions f
-    × IsFirstFaultFrom (parts_behind before (part_of conditions f)) (main_behind before main_is_there f) behind number line name)
+    × IsFirstFaultFrom (parts_after before (class_of conditions f)) (main_after before main_is_there f) rest_after number line name)
 
 -- the fault of a source
 abbrev pub IsFirstFault : List Stmt → ℕ → ℕ → List ℕ → Type 0
@@ -175,12 +175,12 @@ IsRead p (Err NoMemory) = Unit {0}
 IsRead p (Err (Refused number line name)) = ⊥
 
 -- this refusal, unless memory was refused
-abbrev pub IsTold : ℕ → ℕ → List ℕ → Result (List (List Statement)) ParseFault → Type 0
-IsTold number line name (Ok p) = ⊥
-IsTold number line name (Err NoMemory) = Unit {0}
-IsTold number line name (Err (Refused n l word)) = (n ≡ number) × (l ≡ line) × (word ≡ name)
+abbrev pub IsReported : ℕ → ℕ → List ℕ → Result (List (List Statement)) ParseFault → Type 0
+IsReported number line name (Ok p) = ⊥
+IsReported number line name (Err NoMemory) = Unit {0}
+IsReported number line name (Err (Refused n l word)) = (n ≡ number) × (l ≡ line) × (word ≡ name)
 
--- a refusal tells the first fault
+-- a refusal reports the first fault
 abbrev pub IsTrueFault : List Stmt → ParseFault → Type 0
 IsTrueFault given NoMemory = Unit {0}
 IsTrueFault given (Refused number line name) = IsFirstFault given number line name

@@ -7,17 +7,17 @@ use Rattle.hep_text.specs.declared.statement.Stmt.{Stmt}
 use Rattle.hep_expression.specs.declared.characters.Sizes.TheVariants.{Fitting, Any}
 use Rattle.hep_expression.specs.declared.characters.Context.{Context}
 use Rattle.hep_expression.specs.Reading.{◌>>=◌, if_some, after_text}
-use Rattle.hep_parse.specs.declared.fault.ParseFault.{ParseFault}
-use Rattle.hep_parse.specs.declared.fault.ParseFault.TheVariants.{NoMemory, Refused}
+use Rattle.hep_base.specs.declared.refusal.Refusal.{Refusal as ParseFault}
+use Rattle.hep_base.specs.declared.refusal.Refusal.TheVariants.{NoMemory, Refused}
 use Rattle.hep_statement.specs.declared.rule.Rule.{Rule}
 use Rattle.hep_statement.specs.declared.rule.Rule.TheVariants.{LogicalIf, Worded}
-use Rattle.hep_parse.specs.declared.program.Part.{Part}
-use Rattle.hep_parse.specs.declared.program.Part.TheVariants as part
+use Rattle.hep_parse.specs.declared.program.StatementClass.{StatementClass}
+use Rattle.hep_parse.specs.declared.program.StatementClass.TheVariants as part
 use Rattle.hep_parse.specs.declared.program.Stage.{Stage}
 use Rattle.hep_parse.specs.declared.program.Stage.TheVariants.{Start, Opening, Specification, Actions}
 use Rattle.hep_parse.specs.declared.program.State.{State}
 use Rattle.hep_statement.specs.Statement.{rule_of, context}
-use Rattle.hep_parse.specs.Program.{part_of, may_precede, begins_main, left_out_words}
+use Rattle.hep_parse.specs.Program.{class_of, may_precede, begins_main, left_out_words}
 use Rattle.hep_statement.specs.ReadingStatement.{form, logical_if}
 
 -- ---- answers
@@ -25,11 +25,6 @@ use Rattle.hep_statement.specs.ReadingStatement.{form, logical_if}
 -- the number, line and name of a refusal
 abbrev pub Refusal : Type 0
 Refusal = ℕ × ℕ × List ℕ
-
--- the fault tells this refusal, unless memory was refused
-abbrev pub Tells : ParseFault → Refusal → Type 0
-Tells NoMemory refusal = Unit {0}
-Tells (Refused number line name) refusal = refusal ≡ (number, line, name)
 
 abbrev pub Misses : {Y : Type 0} → ParseFault → Result Y Refusal → Type 0
 Misses NoMemory read = Unit {0}
@@ -92,46 +87,46 @@ abbrev pub is_start : Stage → Bool
 is_start Start = true
 is_start _ = false
 
--- whether a part may stand behind those of its unit so far
-abbrev pub may_follow : Stage → Part → Bool
+-- whether a part may stand after those of its unit so far
+abbrev pub may_follow : Stage → StatementClass → Bool
 may_follow Start x = true
 may_follow Opening x = may_precede part.Header x
 may_follow Specification x = may_precede part.Specification x
 may_follow Actions x = may_precede part.Action x
 
-abbrev pub stage_behind : Stage → Part → Stage
-stage_behind stage part.Action = Actions
-stage_behind stage part.End = Start
-stage_behind stage part.Specification = Specification
-stage_behind Specification _ = Specification
-stage_behind _ _ = Opening
+abbrev pub stage_after : Stage → StatementClass → Stage
+stage_after stage part.Action = Actions
+stage_after stage part.End = Start
+stage_after stage part.Specification = Specification
+stage_after Specification _ = Specification
+stage_after _ _ = Opening
 
--- the state behind a statement, where it may stand there
-abbrev pub state_behind : State → Part → Bool → Option State
-state_behind x p begins =
+-- the state after a statement, where it may stand there
+abbrev pub state_after_statement : State → StatementClass → Bool → Option State
+state_after_statement x p begins =
     if may_follow x.stage p && not (is_start x.stage && x.has_main && begins)
-    then Some (record { stage = stage_behind x.stage p; has_main = x.has_main || (is_start x.stage && begins) })
+    then Some (record { stage = stage_after x.stage p; has_main = x.has_main || (is_start x.stage && begins) })
     else None
 
 unfoldable pub placed : State → Stmt → Result (Statement × State) Refusal
 placed x given =
     or_refusal (statement given) (λ read.
-    or_refusal (ok_or (state_behind x (part_of read.conditions read.form) (begins_main read.form)) (205, given.line, [])) (λ next.
+    or_refusal (ok_or (state_after_statement x (class_of read.conditions read.form) (begins_main read.form)) (205, given.line, [])) (λ next.
     Ok (read, next)))
 
 -- ---- units
 
--- the rest of a unit and the units behind it, with statements of the unit before them
-abbrev pub behind_some : List Statement → List (List Statement) → List (List Statement)
-behind_some [] units = units
-behind_some (s ∷ unit) [] = (s ∷ unit) ∷ []
-behind_some (s ∷ unit) (rest ∷ units) = ((s ∷ unit) ++ rest) ∷ units
+-- the rest of a unit and the units after it, with statements of the unit before them
+abbrev pub after_some : List Statement → List (List Statement) → List (List Statement)
+after_some [] units = units
+after_some (s ∷ unit) [] = (s ∷ unit) ∷ []
+after_some (s ∷ unit) (rest ∷ units) = ((s ∷ unit) ++ rest) ∷ units
 
-abbrev pub behind_one : Statement → Stage → List (List Statement) → List (List Statement)
-behind_one s Start units = (s ∷ []) ∷ units
-behind_one s _ units = behind_some (s ∷ []) units
+abbrev pub after_one : Statement → Stage → List (List Statement) → List (List Statement)
+after_one s Start units = (s ∷ []) ∷ units
+after_one s _ units = after_some (s ∷ []) units
 
--- at the end of the source, behind a unit or not, where a main program was there or not
+-- at the end of the source, after a unit or not, where a main program was there or not
 abbrev pub ended : Bool → Bool → ℕ → Result (List (List Statement)) Refusal
 ended true true line = Ok []
 ended true false line = Err (204, 0, [])
@@ -140,11 +135,11 @@ ended false main_is_there line = Err (205, line, [])
 abbrev pub at_end : State → ℕ → Result (List (List Statement)) Refusal
 at_end x line = ended (is_start x.stage) x.has_main line
 
--- the rest of a unit and the units behind it, where the last statement so far is at this line
+-- the rest of a unit and the units after it, where the last statement so far is at this line
 unfoldable pub units : State → ℕ → List Stmt → Result (List (List Statement)) Refusal
 units x line [] = at_end x line
 units x line (given ∷ more) =
-    or_refusal (placed x given) (λ y. or_refusal (units y.1 given.line more) (λ rest. Ok (behind_one y.0 y.1.stage rest)))
+    or_refusal (placed x given) (λ y. or_refusal (units y.1 given.line more) (λ rest. Ok (after_one y.0 y.1.stage rest)))
 
 abbrev pub nothing_read : State
 nothing_read = record { stage = Start; has_main = false }

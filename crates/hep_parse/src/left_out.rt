@@ -9,7 +9,7 @@ use hep_expression::characters::{Context, after_text};
 use hep_statement::{Rule, logical_if, rule_of};
 use std::alloc::Global;
 
-/// The words with which these statements begin, each with the name that tells it.
+/// The words with which these statements begin, each with the name that is reported.
 const WORDS: [(&[u8], &[u8]); 26] = [
     (b"REAL", b"REAL"),
     (b"DOUBLEPRECISION", b"DOUBLEPRECISION"),
@@ -59,7 +59,7 @@ fn word_at(s: &[u8]) -> Result<&'static [u8], Unread>
     name_at(&WORDS, s).ok_or(Unread::NoReading)
 }
 
-/// The name of the word with which the innermost statement begins, behind the conditions of logical
+/// The name of the word with which the innermost statement begins, after the conditions of logical
 /// IFs, where the language leaves that statement out.
 ///
 /// # Errors
@@ -73,8 +73,8 @@ pub fn left_out(alloc: Global, context: Context, s: &[u8]) -> Result<&'static [u
     for _turn in 0..s.len() {
         match rule_of(rest) {
             Rule::LogicalIf => {
-                let (_, behind) = logical_if(alloc, context, rest)?;
-                rest = behind;
+                let (_, rest_after) = logical_if(alloc, context, rest)?;
+                rest = rest_after;
             }
             Rule::Worded => return word_at(rest),
             _ => return Err(Unread::NoReading),

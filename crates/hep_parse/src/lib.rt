@@ -4,9 +4,9 @@
 //! with that program, or with the first statement that is at fault.
 #![tactic(auto)]
 
-mod fault;
 mod left_out;
 mod program;
 
-pub use fault::ParseFault;
+/// Why there is no program: refusals 201 to 205, of which 202 is about a name.
+pub use hep_base::Refusal as ParseFault;
 pub use program::{at_most_one_program, parse};

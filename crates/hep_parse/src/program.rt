@@ -3,12 +3,13 @@ ghost use Rattle.std.specs.Prelude.{◌≡◌, ℕ, List, IfOk, IfErr};
 ghost use Rattle.hep_source.specs.declared.statement.Statement.{Statement};
 ghost use Rattle.hep_text.specs.declared.statement.Stmt.{Stmt};
 ghost use Rattle.hep_parse.specs.Program as grammar;
-ghost use Rattle.hep_parse.specs.Program.{IsProgram, IsFirstFault, IsRead, IsTold, IsTrueFault};
+ghost use Rattle.hep_parse.specs.Program.{IsProgram, IsFirstFault, IsRead, IsReported, IsTrueFault};
 ghost use Rattle.hep_parse.specs.ReadingProgram as reading;
-ghost use Rattle.hep_parse.specs.ReadingProgram.{Tells, Answers};
+ghost use Rattle.hep_base.specs.Refusals.{Reports};
+ghost use Rattle.hep_parse.specs.ReadingProgram.{Answers};
 
-use crate::fault::ParseFault;
 use crate::left_out::left_out;
+use hep_base::Refusal as ParseFault;
 use hep_expression::Unread;
 use hep_expression::characters::{Context, Sizes};
 use hep_source::{Expr, Form, Program, Sequence, Statement, Unit};
@@ -18,7 +19,7 @@ use std::alloc::Global;
 
 /// The part of a program unit to which a statement belongs (X3.9-1978, 3.5).
 #[derive(Clone, Copy, Debug, PartialEq, Eq)]
-pub enum Part {
+pub enum StatementClass {
     /// PROGRAM and SUBROUTINE.
     Header,
     /// IMPLICIT.
@@ -33,21 +34,22 @@ pub enum Part {
     End,
 }
 
-impl Part {
+impl StatementClass {
     /// The part of a form with these conditions; a logical IF holds an action.
-    fn of(conditions: &[Expr], form: &Form) -> Part
-        ensures { result ≡ grammar.part_of conditions.now form.now }
+    fn of(conditions: &[Expr], form: &Form) -> StatementClass
+        ensures { result ≡ grammar.class_of conditions.now form.now }
     {
         if !conditions.is_empty() {
-            return Part::Action;
+            return StatementClass::Action;
         }
         match form {
-            Form::Program(_) | Form::Subroutine(_, _) => Part::Header,
-            Form::Implicit(_) => Part::Implicit,
-            Form::Parameter(_) => Part::Parameter,
-            Form::Declare(_, _) | Form::Dimension(_) | Form::Common(_) => Part::Specification,
-            Form::End => Part::End,
-            _ => Part::Action,
+            Form::Program(_) | Form::Subroutine(_, _) => StatementClass::Header,
+            Form::Implicit(_) => StatementClass::Implicit,
+            Form::Parameter(_) => StatementClass::Parameter,
+            Form::Declare(_, _) | Form::Dimension(_) | Form::Common(_) =>
+                StatementClass::Specification,
+            Form::End => StatementClass::End,
+            _ => StatementClass::Action,
         }
     }
 }
@@ -81,25 +83,26 @@ impl Stage {
     }
 
     /// Whether a part may come next.
-    fn admits(self, part: Part) -> bool
+    fn admits(self, part: StatementClass) -> bool
         ensures { result ≡ reading.may_follow self part }
     {
         match self {
             Stage::Start => true,
-            Stage::Opening => part != Part::Header,
-            Stage::Specification => part != Part::Header && part != Part::Implicit,
-            Stage::Actions => matches!(part, Part::Action | Part::End),
+            Stage::Opening => part != StatementClass::Header,
+            Stage::Specification => part != StatementClass::Header
+                && part != StatementClass::Implicit,
+            Stage::Actions => matches!(part, StatementClass::Action | StatementClass::End),
         }
     }
 
-    /// The stage behind one more part: behind END another unit begins.
-    fn behind(self, part: Part) -> Stage
-        ensures { result ≡ reading.stage_behind self part }
+    /// The stage after one more part: after END another unit begins.
+    fn rest_after(self, part: StatementClass) -> Stage
+        ensures { result ≡ reading.stage_after self part }
     {
         match (self, part) {
-            (_, Part::Action) => Stage::Actions,
-            (_, Part::End) => Stage::Start,
-            (_, Part::Specification) | (Stage::Specification, _) => Stage::Specification,
+            (_, StatementClass::Action) => Stage::Actions,
+            (_, StatementClass::End) => Stage::Start,
+            (_, StatementClass::Specification) | (Stage::Specification, _) => Stage::Specification,
             _ => Stage::Opening,
         }
     }
@@ -115,16 +118,16 @@ struct State {
 }
 
 impl State {
-    /// The state behind one more statement, where it may stand there.
-    fn behind(self, part: Part, begins_main: bool) -> Option<State>
-        ensures { result ≡ reading.state_behind self part begins_main }
+    /// The state after one more statement, where it may stand there.
+    fn rest_after(self, part: StatementClass, begins_main: bool) -> Option<State>
+        ensures { result ≡ reading.state_after_statement self part begins_main }
     {
         let main_begins = self.stage.is_start() && begins_main;
         if !self.stage.admits(part) || main_begins && self.has_main {
             return None;
         }
         Some(State {
-            stage: self.stage.behind(part),
+            stage: self.stage.rest_after(part),
             has_main: self.has_main || main_begins,
         })
     }
@@ -134,7 +137,7 @@ impl State {
 /// language leaves it out, else 201.
 #[tactic(auto, unfolding(crate::specs::ReadingProgram::nameless_refusal))]
 fn nameless_refusal(alloc: Global, given: &Stmt) -> ParseFault
-    ensures { Tells result (reading.nameless_refusal given.now) }
+    ensures { Reports result (reading.nameless_refusal given.now) }
 {
     let text = given.text.as_slice();
     let context = Context {
@@ -152,7 +155,7 @@ fn nameless_refusal(alloc: Global, given: &Stmt) -> ParseFault
 /// is against it.
 #[tactic(auto, unfolding(crate::specs::ReadingProgram::refusal_of))]
 fn refusal_of(alloc: Global, given: &Stmt) -> ParseFault
-    ensures { Tells result (reading.refusal_of given.now) }
+    ensures { Reports result (reading.refusal_of given.now) }
 {
     match form(alloc, Sizes::Any, given.text.as_slice()).err() {
         None => ParseFault::refused(alloc, 203, given.line),
@@ -182,7 +185,7 @@ fn statement(alloc: Global, given: &Stmt) -> Result<Statement, ParseFault>
     }
 }
 
-/// A statement, and the state behind it.
+/// A statement, and the state after it.
 ///
 /// # Errors
 ///
@@ -192,8 +195,8 @@ fn placed(alloc: Global, state: State, given: &Stmt) -> Result<(Statement, State
     ensures { Answers (λ x. x) result (reading.placed state given.now) }
 {
     let read = statement(alloc, given)?;
-    let part = Part::of(read.conditions.as_slice(), &read.form);
-    match state.behind(part, begins_main(&read.form)) {
+    let part = StatementClass::of(read.conditions.as_slice(), &read.form);
+    match state.rest_after(part, begins_main(&read.form)) {
         Some(next) => Ok((read, next)),
         None => Err(ParseFault::refused(alloc, 205, given.line)),
     }
@@ -253,17 +256,17 @@ fn program(alloc: Global, statements: &[Stmt]) -> Result<Program, ParseFault>
 /// without a reading it is 203 where only the size of its integer constants is against it, 202 with
 /// the word where the language leaves the statement out, and else 201; 205 is for a statement that
 /// may not stand at its place in the unit, for the first statement of a second main program, and for
-/// a last statement that isn't END. 204 is told where no statement is refused and there is no main
+/// a last statement that isn't END. 204 is reported where no statement is refused and there is no main
 /// program. [`ParseFault::NoMemory`] where memory was refused.
 pub fn parse(alloc: Global, statements: &[Stmt]) -> Result<Program, ParseFault>
     // What is read is the program.
     ensures accepted { IfOk result (λ p. IsProgram statements.now p) }
     // A program is read.
     ensures complete { (p : List (List Statement)) → IsProgram statements.now p → IsRead p result }
-    // What is told is the first fault.
+    // What is reported is the first fault.
     ensures refused { IfErr result (λ e. IsTrueFault statements.now e) }
-    // The first fault is told.
-    ensures told { (number line : ℕ) (name : List ℕ) → IsFirstFault statements.now number line name → IsTold number line name result }
+    // The first fault is reported.
+    ensures reported { (number line : ℕ) (name : List ℕ) → IsFirstFault statements.now number line name → IsReported number line name result }
 {
     program(alloc, statements)
 }
@@ -272,6 +275,3 @@ pub fn parse(alloc: Global, statements: &[Stmt]) -> Result<Program, ParseFault>
 pub fn at_most_one_program()
     ensures { (statements : List Stmt) (p q : List (List Statement)) → IsProgram statements p → IsProgram statements q → p ≡ q }
 {}
-
-#[cfg(test)]
-mod tests;

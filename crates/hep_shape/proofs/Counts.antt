@@ -6,8 +6,8 @@ use Rattle.std.specs.Option.{is_none}
 use Rattle.std.proofs.Math.Nat.{mul_assoc}
 use Rattle.std.proofs.lemmas.Bool.{and_parts}
 use Rattle.std.proofs.lemmas.List.{at_drop_more}
-use Rattle.hep_source.specs.declared.shape.Bound.{Bound}
-use Rattle.hep_source.specs.Shapes.{Bounds, size_between, extent, product, elements, is_between, are_dimensions}
+use Rattle.hep_machine.specs.declared.shape.Bound.{Bound}
+use Rattle.hep_machine.specs.Shapes.{Bounds, size_between, extent, product, elements, is_between, are_dimensions}
 use Rattle.hep_shape.proofs.Columns.{counted}
 use Rattle.hep_shape.proofs.Extents.{between_extent}
 

@@ -4,8 +4,8 @@ use Rattle.std.specs.Prelude.{int_le, IfSome}
 use Rattle.std.specs.Option.{unwrap_or}
 use Rattle.std.proofs.Math.Nat.{mul-le-mul}
 use Rattle.std.proofs.lemmas.Int.{ints}
-use Rattle.hep_source.specs.declared.shape.Bound.{Bound}
-use Rattle.hep_source.specs.Shapes.{Bounds, natural, size_between, extent, is_below, is_within, is_between}
+use Rattle.hep_machine.specs.declared.shape.Bound.{Bound}
+use Rattle.hep_machine.specs.Shapes.{Bounds, natural, size_between, extent, is_below, is_within, is_between}
 
 -- what follows whichever way a test goes
 pub by_test : {P : Type 0} (t : Bool) → (t ≡ true → P) → (t ≡ false → P) → P

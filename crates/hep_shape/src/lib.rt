@@ -6,4 +6,5 @@
 
 pub mod shape;
 
+pub use hep_machine::Bound;
 pub use shape::Shape;

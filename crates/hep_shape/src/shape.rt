@@ -1,10 +1,10 @@
 //! The shape of an array.
 ghost use Rattle.std.specs.Prelude.{◌≡◌, ◌≤◌, ◌^◌, ◌-ℤ◌, true, if◌then◌else◌, [], length, Some, None, IfSome};
 ghost use Rattle.std.specs.Option.{is_none};
-ghost use Rattle.hep_source.specs.Shapes.{is_shape, elements, counted_element, fits, are_dimensions, is_between, is_most, is_within, extent, natural};
+ghost use Rattle.hep_machine.specs.Shapes.{is_shape, elements, counted_element, fits, are_dimensions, is_between, is_most, is_within, extent, natural};
 
 use arrayvec::ArrayVec;
-use hep_source::Bound;
+use hep_machine::Bound;
 use std::marker::Model;
 
 // The most dimensions that an array may have (X3.9-1978, 5.1.1).
@@ -23,8 +23,8 @@ pub struct Shape {
 
 impl Model for Shape {
     ghost use Rattle.std.specs.Prelude.{◌≡◌, true};
-    ghost use Rattle.hep_source.specs.Shapes as shapes;
-    ghost use Rattle.hep_source.specs.Shapes.{Bounds, is_shape};
+    ghost use Rattle.hep_machine.specs.Shapes as shapes;
+    ghost use Rattle.hep_machine.specs.Shapes.{Bounds, is_shape};
 
     ghost Value = { Bounds };
 

@@ -1,8 +1,11 @@
 -- Names: X3.9-1978, 2.2.
-use Rattle.std.specs.Prelude.{ℕ, suc, Bool, true, false, ◌&&◌, nat_eq, if◌then◌else◌, List, [], ◌∷◌, ◌++◌, Option, Some, None}
+use Rattle.std.specs.Prelude.{ℕ, suc, Bool, true, false, not, ◌&&◌, nat_eq, if◌then◌else◌, List, [], ◌∷◌, ◌++◌, Option, Some, None}
 use Rattle.std.specs.Option.{option_map}
-use Rattle.hep_source.specs.Arithmetic.{same_truth}
 use Rattle.hep_source.specs.declared.name.Name.{Name}
+
+abbrev pub same_logical : Bool → Bool → Bool
+same_logical true b = b
+same_logical false b = not b
 
 abbrev pub same_letters : List ℕ → List ℕ → Bool
 same_letters [] [] = true
@@ -12,9 +15,9 @@ same_letters (c ∷ cs) (d ∷ ds) = nat_eq c d && same_letters cs ds
 
 -- the same letters, and both or neither with `$`
 abbrev pub same_name : Name → Name → Bool
-same_name x y = same_truth x.asynchronous y.asynchronous && same_letters x.letters y.letters
+same_name x y = same_logical x.asynchronous y.asynchronous && same_letters x.letters y.letters
 
--- the letters without the blanks behind them
+-- the letters without the blanks after them
 abbrev pub letters_of : List ℕ → List ℕ
 letters_of [] = []
 letters_of (c ∷ cs) = if nat_eq c 32 then letters_of cs else c ∷ letters_of cs
@@ -37,7 +40,7 @@ index_where test (x ∷ xs) = if test x then Some 0 else option_map suc (index_w
 abbrev pub index_among : Name → List Name → Option ℕ
 index_among x xs = index_where (same_name x) xs
 
--- the names with one more behind them, unless it is among them
+-- the names with one more after them, unless it is among them
 abbrev pub with_name : List Name → Name → List Name
 with_name xs x = if is_among x xs then xs else xs ++ x ∷ []
 

@@ -1,7 +1,7 @@
 -- An expression without where it lies in memory.
 use Rattle.std.specs.Prelude.{ℕ, ◌+◌, List, [], ◌∷◌}
 use Rattle.hep_source.specs.declared.value.Value.{Value}
-use Rattle.hep_source.specs.declared.name.Place.{Place}
+use Rattle.hep_source.specs.declared.name.Occurrence.{Occurrence}
 use Rattle.hep_source.specs.declared.operator.Sign.{Sign}
 use Rattle.hep_source.specs.declared.operator.Operator.{Operator}
 
@@ -9,9 +9,9 @@ mutual
   -- an expression: X3.9-1978, section 6
   pub data Tree : Type 0 where
     constant : (v : Value) → Tree
-    place : (p : Place) → Tree
+    occurrence : (p : Occurrence) → Tree
     -- a name with a list: an array element or a function reference (5.3, 15.2)
-    listed : (p : Place) (arguments : Trees) → Tree
+    with_list : (p : Occurrence) (arguments : Trees) → Tree
     parenthesized : (inner : Tree) → Tree
     signed : (s : Sign) (term : Tree) → Tree
     negated : (t : Tree) → Tree
@@ -30,8 +30,8 @@ abbrev mutual
   -- how many nodes a tree has
   pub nodes : Tree → ℕ
   nodes (constant v) = 1
-  nodes (place p) = 1
-  nodes (listed p ts) = 1 + nodes_of_all ts
+  nodes (occurrence p) = 1
+  nodes (with_list p ts) = 1 + nodes_of_all ts
   nodes (parenthesized t) = 1 + nodes t
   nodes (signed s t) = 1 + nodes t
   nodes (negated t) = 1 + nodes t

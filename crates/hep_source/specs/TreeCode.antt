@@ -6,7 +6,7 @@ use base.Stored.{Gv, gnil, gnum, gcons, num}
 use denote.Struct.Codes.{itself}
 use Rattle.hep_source.specs.declared.value.Value.{Value}
 use Rattle.hep_source.specs.declared.value.Value.TheVariants.{Int, Truth}
-use Rattle.hep_source.specs.declared.name.Place.{Place}
+use Rattle.hep_source.specs.declared.name.Occurrence.{Occurrence}
 use Rattle.hep_source.specs.declared.operator.Sign.{Sign}
 use Rattle.hep_source.specs.declared.operator.Sign.TheVariants.{Plus, Minus}
 use Rattle.hep_source.specs.declared.operator.ArithmeticOperator.{ArithmeticOperator}
@@ -17,7 +17,7 @@ use Rattle.hep_source.specs.declared.operator.LogicalOperator.{LogicalOperator}
 use Rattle.hep_source.specs.declared.operator.LogicalOperator.TheVariants.{And, Or, Equivalent, NotEquivalent}
 use Rattle.hep_source.specs.declared.operator.Operator.{Operator}
 use Rattle.hep_source.specs.declared.operator.Operator.TheVariants.{Arithmetic, Relational, Logical}
-use Rattle.hep_source.specs.Tree.{Tree, Trees, constant, place, listed, parenthesized, signed, negated, binary, no_trees, trees}
+use Rattle.hep_source.specs.Tree.{Tree, Trees, constant, occurrence, with_list, parenthesized, signed, negated, binary, no_trees, trees}
 
 -- ---- pairs
 
@@ -46,17 +46,17 @@ characters_back-characters : (cs : List ℕ) → characters_back (characters cs)
 characters_back-characters [] = refl
 characters_back-characters (c ∷ cs) = ap (λ (l : List ℕ). c ∷ l) (characters_back-characters cs)
 
-abbrev truth : Bool → ℕ
-truth false = 0
-truth true = 1
+abbrev bool_code : Bool → ℕ
+bool_code false = 0
+bool_code true = 1
 
-abbrev truth_back : ℕ → Bool
-truth_back zero = false
-truth_back (suc n) = true
+abbrev bool_back : ℕ → Bool
+bool_back zero = false
+bool_back (suc n) = true
 
-truth_back-truth : (b : Bool) → truth_back (truth b) ≡ b
-truth_back-truth false = refl
-truth_back-truth true = refl
+bool_back-bool_code : (b : Bool) → bool_back (bool_code b) ≡ b
+bool_back-bool_code false = refl
+bool_back-bool_code true = refl
 
 -- ---- values
 
@@ -77,33 +77,33 @@ integer_back-integer (negsuc n) = refl
 
 abbrev value : Value → Gv
 value (Int z) = gcons (gnum 0) (integer z)
-value (Truth b) = gcons (gnum 1) (gnum (truth b))
+value (Truth b) = gcons (gnum 1) (gnum (bool_code b))
 
 abbrev value_of_kind : ℕ → Gv → Value
 value_of_kind zero g = Int (integer_back g)
-value_of_kind (suc n) g = Truth (truth_back (num g))
+value_of_kind (suc n) g = Truth (bool_back (num g))
 
 abbrev value_back : Gv → Value
 value_back g = value_of_kind (num (first g)) (second g)
 
 value_back-value : (v : Value) → value_back (value v) ≡ v
 value_back-value (Int z) = ap Int (integer_back-integer z)
-value_back-value (Truth b) = ap Truth (truth_back-truth b)
+value_back-value (Truth b) = ap Truth (bool_back-bool_code b)
 
 -- ---- places
 
-abbrev place_code : Place → Gv
-place_code p = gcons (gnum p.position) (gcons (gnum (truth p.name.asynchronous)) (characters p.name.letters))
+abbrev occurrence_code : Occurrence → Gv
+occurrence_code p = gcons (gnum p.position) (gcons (gnum (bool_code p.name.asynchronous)) (characters p.name.letters))
 
-abbrev place_back : Gv → Place
-place_back g = record {
-  name = record { asynchronous = truth_back (num (first (second g))); letters = characters_back (second (second g)) };
+abbrev occurrence_back : Gv → Occurrence
+occurrence_back g = record {
+  name = record { asynchronous = bool_back (num (first (second g))); letters = characters_back (second (second g)) };
   position = num (first g);
 }
 
-place_back-place_code : (p : Place) → place_back (place_code p) ≡ p
-place_back-place_code p = λ i. record {
-  name = record { asynchronous = truth_back-truth p.name.asynchronous i; letters = characters_back-characters p.name.letters i };
+place_back-occurrence_code : (p : Occurrence) → occurrence_back (occurrence_code p) ≡ p
+place_back-occurrence_code p = λ i. record {
+  name = record { asynchronous = bool_back-bool_code p.name.asynchronous i; letters = characters_back-characters p.name.letters i };
   position = p.position;
 }
 
@@ -207,8 +207,8 @@ operator_back-operator (Logical o) = ap Logical (logical_back-logical o)
 abbrev mutual
   code : Tree → Gv
   code (constant v) = gcons (gnum 0) (value v)
-  code (place p) = gcons (gnum 1) (place_code p)
-  code (listed p ts) = gcons (gnum 2) (gcons (place_code p) (codes ts))
+  code (occurrence p) = gcons (gnum 1) (occurrence_code p)
+  code (with_list p ts) = gcons (gnum 2) (gcons (occurrence_code p) (codes ts))
   code (parenthesized t) = gcons (gnum 3) (code t)
   code (signed s t) = gcons (gnum 4) (gcons (gnum (sign s)) (code t))
   code (negated t) = gcons (gnum 5) (code t)
@@ -221,8 +221,8 @@ abbrev mutual
 abbrev mutual
   back : Gv → Tree
   back (gcons (gnum zero) g) = constant (value_back g)
-  back (gcons (gnum (suc zero)) g) = place (place_back g)
-  back (gcons (gnum (suc (suc zero))) (gcons p g)) = listed (place_back p) (all_back g)
+  back (gcons (gnum (suc zero)) g) = occurrence (occurrence_back g)
+  back (gcons (gnum (suc (suc zero))) (gcons p g)) = with_list (occurrence_back p) (all_back g)
   back (gcons (gnum (suc (suc (suc zero)))) g) = parenthesized (back g)
   back (gcons (gnum (suc (suc (suc (suc zero))))) (gcons s g)) = signed (sign_back (num s)) (back g)
   back (gcons (gnum (suc (suc (suc (suc (suc zero)))))) g) = negated (back g)
@@ -236,8 +236,8 @@ abbrev mutual
 mutual
   pub back-code : (t : Tree) → back (code t) ≡ t
   back-code (constant v) = ap constant (value_back-value v)
-  back-code (place p) = ap place (place_back-place_code p)
-  back-code (listed p ts) = λ i. listed (place_back-place_code p i) (all_back-codes ts i)
+  back-code (occurrence p) = ap occurrence (place_back-occurrence_code p)
+  back-code (with_list p ts) = λ i. with_list (place_back-occurrence_code p i) (all_back-codes ts i)
   back-code (parenthesized t) = ap parenthesized (back-code t)
   back-code (signed s t) = λ i. signed (sign_back-sign s i) (back-code t i)
   back-code (negated t) = ap negated (back-code t)

@@ -2,12 +2,12 @@
 use Rattle.std.specs.Prelude.{ℕ, suc, ◌+◌, Bool, true, false, codes, List, [], ◌∷◌, map, Option, Some, None, slice_get, drop, if◌then◌else◌}
 use Rattle.std.specs.Option.{unwrap_or}
 use Rattle.hep_source.specs.declared.name.Name.{Name}
-use Rattle.hep_source.specs.declared.name.Place.{Place}
+use Rattle.hep_source.specs.declared.name.Occurrence.{Occurrence}
 use Rattle.hep_source.specs.declared.statement.Form.{Form}
 use Rattle.hep_source.specs.declared.statement.Form.TheVariants.{Program, Subroutine, Implicit, Declare, Dimension, Common, Parameter, Data}
 use Rattle.hep_source.specs.declared.statement.Statement.{Statement}
 use Rattle.hep_source.specs.Names.{spelling, same_name, index_where}
-use Rattle.hep_source.specs.Unreached.{no_unit, no_statement}
+use Rattle.hep_source.specs.Defaults.{no_unit, no_statement}
 
 -- a program: the statements of each unit, in the order of the source
 abbrev pub Units : Type 0
@@ -42,11 +42,11 @@ abbrev pub subroutine_name : List Statement → Option Name
 subroutine_name [] = None
 subroutine_name (s ∷ ss) = subroutine_by_header s.form
 
-abbrev pub names_of_places : List Place → List Name
-names_of_places ps = map (λ (p : Place). p.name) ps
+abbrev pub names_of_occurrences : List Occurrence → List Name
+names_of_occurrences ps = map (λ (p : Occurrence). p.name) ps
 
 abbrev pub dummies_by_header : Form → List Name
-dummies_by_header (Subroutine p dummies) = names_of_places dummies
+dummies_by_header (Subroutine p dummies) = names_of_occurrences dummies
 dummies_by_header _ = []
 
 -- the dummy arguments of a unit: 15.6.1
@@ -92,11 +92,11 @@ abbrev pub passed_over : List Statement → ℕ
 passed_over [] = 0
 passed_over (s ∷ ss) = if is_executable s.form then 0 else suc (passed_over ss)
 
--- the place of the first executable statement of a unit from place k on
+-- the index of the first executable statement of a unit from index k on
 abbrev pub executable_from : List Statement → ℕ → ℕ
 executable_from unit k = k + passed_over (drop k unit)
 
--- the statement at place k of a unit
+-- the statement at index k of a unit
 abbrev pub statement_at : List Statement → ℕ → Statement
 statement_at unit k = unwrap_or (slice_get unit k) no_statement
 

@@ -1,10 +1,10 @@
 //! The parts of specification and DATA statements (X3.9-1978, sections 8 and 9).
 
 use crate::expression::Expr;
-use crate::name::Place;
-use crate::sequence::Sequence;
+use crate::name::Occurrence;
 use crate::syntax::Syntax;
 use crate::value::Value;
+use hep_base::Sequence;
 use std::alloc::{AllocError, Global};
 
 /// The type that a name is given (X3.9-1978, 4.1).
@@ -46,28 +46,28 @@ pub struct Dimension {
 /// A name, or an array declarator (5.1): the name with its dimensions, one to seven.
 #[derive(Drop)]
 pub struct Declarator {
-    pub place: Place,
+    pub occurrence: Occurrence,
     pub dimensions: Sequence<Dimension>,
 }
 
 /// A block of a COMMON statement with its list (8.3); blank COMMON has no name.
 #[derive(Drop)]
 pub struct CommonBlock {
-    pub block: Option<Place>,
+    pub block: Option<Occurrence>,
     pub entries: Sequence<Declarator>,
 }
 
 /// A name and the constant expression that PARAMETER gives it (8.6).
 #[derive(Drop)]
 pub struct NamedConstant {
-    pub place: Place,
+    pub occurrence: Occurrence,
     pub value: Expr,
 }
 
 /// A name, or a name with subscripts: what is assigned, purged or given a value by DATA.
 #[derive(Drop)]
 pub struct Target {
-    pub place: Place,
+    pub occurrence: Occurrence,
     pub subscripts: Sequence<Expr>,
 }
 
@@ -75,14 +75,14 @@ pub struct Target {
 #[derive(Clone, Copy, Debug, PartialEq, Eq)]
 pub enum Repeat {
     Count(i64),
-    Named(Place),
+    Named(Occurrence),
 }
 
 /// A value of DATA (9.1): a constant, which may be an integer with a sign, or a name of one.
 #[derive(Clone, Copy, Debug, PartialEq, Eq)]
 pub enum DataConstant {
     Value(Value),
-    Named(Place),
+    Named(Occurrence),
 }
 
 /// A value of DATA with its repeat count, which is 1 where it has none.
@@ -155,13 +155,13 @@ impl Syntax for Dimension {
 impl Syntax for Declarator {
     fn copy(&self, alloc: Global) -> Result<Declarator, AllocError> {
         Ok(Declarator {
-            place: self.place,
+            occurrence: self.occurrence,
             dimensions: self.dimensions.copy(alloc)?,
         })
     }
 
     fn same(&self, other: &Declarator) -> bool {
-        self.place == other.place && self.dimensions.same(&other.dimensions)
+        self.occurrence == other.occurrence && self.dimensions.same(&other.dimensions)
     }
 }
 
@@ -181,26 +181,26 @@ impl Syntax for CommonBlock {
 impl Syntax for NamedConstant {
     fn copy(&self, alloc: Global) -> Result<NamedConstant, AllocError> {
         Ok(NamedConstant {
-            place: self.place,
+            occurrence: self.occurrence,
             value: self.value.copy(alloc)?,
         })
     }
 
     fn same(&self, other: &NamedConstant) -> bool {
-        self.place == other.place && self.value.same(&other.value)
+        self.occurrence == other.occurrence && self.value.same(&other.value)
     }
 }
 
 impl Syntax for Target {
     fn copy(&self, alloc: Global) -> Result<Target, AllocError> {
         Ok(Target {
-            place: self.place,
+            occurrence: self.occurrence,
             subscripts: self.subscripts.copy(alloc)?,
         })
     }
 
     fn same(&self, other: &Target) -> bool {
-        self.place == other.place && self.subscripts.same(&other.subscripts)
+        self.occurrence == other.occurrence && self.subscripts.same(&other.subscripts)
     }
 }
 

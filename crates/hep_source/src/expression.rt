@@ -2,7 +2,7 @@
 ghost use Rattle.std.specs.Prelude.{◌≡◌, ◌↔◌, IfOk, IsTrue};
 ghost use Rattle.hep_source.specs.Tree as tree;
 
-use crate::name::Place;
+use crate::name::Occurrence;
 use crate::operator::{Operator, Sign};
 use crate::syntax::Syntax;
 use crate::value::Value;
@@ -22,9 +22,9 @@ pub struct Expr {
 pub enum Node {
     Constant(Value),
     /// A name without a list.
-    Place(Place),
+    Occurrence(Occurrence),
     /// A name with a list in parentheses: an array element or a function reference (5.3, 15.2).
-    Listed(Place, Vec<Expr>),
+    WithList(Occurrence, Vec<Expr>),
     Parenthesized(Box<Expr>),
     Signed(Sign, Box<Expr>),
     /// `.NOT.` and its operand (6.4.1).
@@ -40,13 +40,13 @@ impl Model for Expr {
 
     ghost coded = { tree_code };
 
-    ghost use Rattle.hep_source.specs.View.{node_tree};
+    ghost use Rattle.hep_source.specs.NodeTree.{node_tree};
 
     ghost view = { λ a. node_tree a.node };
 
     ghost size = { nodes };
 
-    ghost use Rattle.hep_source.specs.Falls.{deep_le};
+    ghost use Rattle.hep_source.specs.NodeSizes.{deep_le};
 
     ghost size_decreases = { λ a h. deep_le a.node };
 }
@@ -62,20 +62,20 @@ impl Expr {
     }
 
     /// A name without a list.
-    pub fn place(place: Place) -> Expr
-        ensures { result ≡ tree.place place }
+    pub fn occurrence(occurrence: Occurrence) -> Expr
+        ensures { result ≡ tree.occurrence occurrence }
     {
         Expr {
-            node: Node::Place(place),
+            node: Node::Occurrence(occurrence),
         }
     }
 
     /// A name with a list in parentheses.
-    pub fn listed(place: Place, arguments: Vec<Expr>) -> Expr
-        ensures { result ≡ tree.listed place (tree.trees_of arguments.items) }
+    pub fn with_list(occurrence: Occurrence, arguments: Vec<Expr>) -> Expr
+        ensures { result ≡ tree.with_list occurrence (tree.trees_of arguments.items) }
     {
         Expr {
-            node: Node::Listed(place, arguments),
+            node: Node::WithList(occurrence, arguments),
         }
     }
 
@@ -149,9 +149,9 @@ impl Expr {
     {
         match &self.node {
             Node::Constant(value) => Ok(Expr::constant(*value)),
-            Node::Place(place) => Ok(Expr::place(*place)),
-            Node::Listed(place, arguments) => {
-                Ok(Expr::listed(*place, copy_arguments(alloc, arguments)?))
+            Node::Occurrence(occurrence) => Ok(Expr::occurrence(*occurrence)),
+            Node::WithList(occurrence, arguments) => {
+                Ok(Expr::with_list(*occurrence, copy_arguments(alloc, arguments)?))
             }
             Node::Parenthesized(inner) => Expr::parenthesized(alloc, inner.copy(alloc)?),
             Node::Signed(sign, term) => Expr::signed(alloc, *sign, term.copy(alloc)?),
@@ -171,8 +171,8 @@ impl Expr {
     {
         match (&self.node, &other.node) {
             (Node::Constant(a), Node::Constant(b)) => a == b,
-            (Node::Place(a), Node::Place(b)) => a == b,
-            (Node::Listed(f, xs), Node::Listed(g, ys)) => f == g && same_arguments(xs, ys),
+            (Node::Occurrence(a), Node::Occurrence(b)) => a == b,
+            (Node::WithList(f, xs), Node::WithList(g, ys)) => f == g && same_arguments(xs, ys),
             (Node::Parenthesized(a), Node::Parenthesized(b)) => a.same(b),
             (Node::Signed(s, a), Node::Signed(t, b)) => s == t && a.same(b),
             (Node::Negated(a), Node::Negated(b)) => a.same(b),

@@ -1,7 +1,7 @@
 //! Symbolic names and the places at which they stand.
 
 /// A symbolic name (X3.9-1978, 2.2): one to six letters or digits, the first a letter, with blanks
-/// behind them up to six. The sign `$` before a name makes it asynchronous; it isn't one of the
+/// after them up to six. The sign `$` before a name makes it asynchronous; it isn't one of the
 /// six, and `$X` and `X` are two names.
 #[derive(Clone, Copy, Debug, PartialEq, Eq, Hash)]
 pub struct Name {
@@ -11,7 +11,7 @@ pub struct Name {
 
 /// A name where it stands in a statement.
 #[derive(Clone, Copy, Debug, PartialEq, Eq)]
-pub struct Place {
+pub struct Occurrence {
     pub name: Name,
     /// How many characters of the statement's text stand before the name.
     pub position: usize,

@@ -4,10 +4,9 @@ use crate::declaration::{
     CommonBlock, DataGroup, Declarator, ImplicitGroup, NamedConstant, Target, ValueType,
 };
 use crate::expression::Expr;
-use crate::name::Place;
-use crate::sequence::Sequence;
+use crate::name::Occurrence;
 use crate::syntax::Syntax;
-use crate::text::Text;
+use hep_base::{Sequence, Text};
 use std::alloc::{AllocError, Global};
 
 /// An item of a PRINT list.
@@ -23,7 +22,7 @@ pub enum PrintItem {
 pub struct DoControl {
     /// The label of the terminal statement.
     pub terminal: u32,
-    pub variable: Place,
+    pub variable: Occurrence,
     pub initial: Expr,
     pub limit: Expr,
     /// 1 where it has none.
@@ -42,9 +41,9 @@ pub struct SignLabels {
 #[derive(Drop)]
 pub enum Form {
     /// The header of a main program (X3.9-1978, 14.1).
-    Program(Place),
+    Program(Occurrence),
     /// The header of a subroutine with its dummy arguments (15.6.1).
-    Subroutine(Place, Sequence<Place>),
+    Subroutine(Occurrence, Sequence<Occurrence>),
     /// IMPLICIT (8.5).
     Implicit(Sequence<ImplicitGroup>),
     /// A type statement (8.4).
@@ -76,9 +75,9 @@ pub enum Form {
     /// DO (11.10).
     Do(DoControl),
     /// CALL (15.6.2).
-    Call(Place, Sequence<Expr>),
+    Call(Occurrence, Sequence<Expr>),
     /// CREATE: a call whose subroutine runs as a process of its own (docs/LANGUAGE.md).
-    Create(Place, Sequence<Expr>),
+    Create(Occurrence, Sequence<Expr>),
     /// PURGE: places become empty (docs/LANGUAGE.md).
     Purge(Sequence<Target>),
     /// `PRINT *` with its list (12.8).

@@ -1,9 +1,8 @@
 //! Copies of trees, and whether two trees are one.
 ghost use Rattle.std.specs.Prelude.{◌≡◌, ◌↔◌, IfOk, IsTrue};
 
-use crate::name::Place;
-use crate::sequence::Sequence;
-use crate::text::Text;
+use crate::name::Occurrence;
+use hep_base::Sequence;
 use std::alloc::{AllocError, Global};
 
 /// A part of a program's tree.
@@ -57,22 +56,22 @@ impl<T: Syntax> Syntax for Sequence<T> {
     }
 }
 
-impl Syntax for Text {
-    fn copy(&self, alloc: Global) -> Result<Text, AllocError> {
-        Ok(Text::from(self.as_slice().to_vec(alloc)?))
-    }
-
-    fn same(&self, other: &Text) -> bool {
-        self.as_slice() == other.as_slice()
-    }
-}
-
-impl Syntax for Place {
-    fn copy(&self, _alloc: Global) -> Result<Place, AllocError> {
+impl Syntax for u8 {
+    fn copy(&self, _alloc: Global) -> Result<u8, AllocError> {
         Ok(*self)
     }
 
-    fn same(&self, other: &Place) -> bool {
+    fn same(&self, other: &u8) -> bool {
+        self == other
+    }
+}
+
+impl Syntax for Occurrence {
+    fn copy(&self, _alloc: Global) -> Result<Occurrence, AllocError> {
+        Ok(*self)
+    }
+
+    fn same(&self, other: &Occurrence) -> bool {
         self == other
     }
 }

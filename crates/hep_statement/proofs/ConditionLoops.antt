@@ -4,32 +4,32 @@ use Rattle.hep_source.specs.Tree.{Tree}
 use Rattle.hep_expression.specs.declared.characters.Context.{Context}
 use Rattle.hep_statement.specs.ReadingStatement.{logical_if, conditions}
 
--- behind conditions that were read before
-abbrev pub behind : List Tree → List Tree × List ℕ → List Tree × List ℕ
-behind ts x = (ts ++ x.0, x.1)
+-- after conditions that were read before
+abbrev pub rest_after : List Tree → List Tree × List ℕ → List Tree × List ℕ
+rest_after ts x = (ts ++ x.0, x.1)
 
--- n turns are allowed, i of them are done, and what is read behind the conditions so far gives the
+-- n turns are allowed, i of them are done, and what is read after the conditions so far gives the
 -- whole
 module _ (k : Context) (n i : ℕ) (ts : List Tree) (s : List ℕ) (whole : List Tree × List ℕ) where
-  pub goes_on : (t : Tree) (r : List ℕ) → i < n → logical_if k s ≡ Some (t, r) → behind ts (conditions k (n - i) s) ≡ whole → behind (ts ++ t ∷ []) (conditions k (n - (i + 1)) r) ≡ whole
+  pub goes_on : (t : Tree) (r : List ℕ) → i < n → logical_if k s ≡ Some (t, r) → rest_after ts (conditions k (n - i) s) ≡ whole → rest_after (ts ++ t ∷ []) (conditions k (n - (i + 1)) r) ≡ whole
   unfolding conditions
   goes_on t r lt e so_far =
       let left : n - i ≡ suc (n - (i + 1)) = omega arith in
       let rest = conditions k (n - (i + 1)) r in
       let turn : conditions k (n - i) s ≡ (t ∷ rest.0, rest.1) = rw (left, e) refl in
-      let same : behind (ts ++ t ∷ []) rest ≡ behind ts (t ∷ rest.0, rest.1) = ap (λ (l : List Tree). (l, rest.1)) (append_assoc ts (t ∷ []) rest.0) in
-      same ∙ sym (ap (behind ts) turn) ∙ so_far
+      let same : rest_after (ts ++ t ∷ []) rest ≡ rest_after ts (t ∷ rest.0, rest.1) = ap (λ (l : List Tree). (l, rest.1)) (append_assoc ts (t ∷ []) rest.0) in
+      same ∙ sym (ap (rest_after ts) turn) ∙ so_far
 
-  pub ends : i < n → logical_if k s ≡ None → behind ts (conditions k (n - i) s) ≡ whole → whole ≡ (ts, s)
+  pub ends : i < n → logical_if k s ≡ None → rest_after ts (conditions k (n - i) s) ≡ whole → whole ≡ (ts, s)
   unfolding conditions
   ends lt e so_far =
       let left : n - i ≡ suc (n - (i + 1)) = omega arith in
       let turn : conditions k (n - i) s ≡ ([], s) = rw (left, e) refl in
-      sym so_far ∙ ap (behind ts) turn ∙ ap (λ (l : List Tree). (l, s)) (append-nil ts)
+      sym so_far ∙ ap (rest_after ts) turn ∙ ap (λ (l : List Tree). (l, s)) (append-nil ts)
 
-  pub is_over : n ≤ i → behind ts (conditions k (n - i) s) ≡ whole → whole ≡ (ts, s)
+  pub is_over : n ≤ i → rest_after ts (conditions k (n - i) s) ≡ whole → whole ≡ (ts, s)
   unfolding conditions
   is_over le so_far =
       let left : n - i ≡ 0 = omega arith in
       let turn : conditions k (n - i) s ≡ ([], s) = rw left refl in
-      sym so_far ∙ ap (behind ts) turn ∙ ap (λ (l : List Tree). (l, s)) (append-nil ts)
+      sym so_far ∙ ap (rest_after ts) turn ∙ ap (λ (l : List Tree). (l, s)) (append-nil ts)

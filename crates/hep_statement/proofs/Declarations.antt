@@ -11,15 +11,15 @@ use Rattle.hep_expression.specs.Reading.{◌>>=◌}
 use Rattle.hep_expression.proofs.Leaves.{none_is}
 use Rattle.hep_statement.specs.declared.keyword.Keyword.{Keyword}
 use Rattle.hep_statement.specs.declared.keyword.Keyword.TheVariants as words
-use Rattle.hep_declaration.specs.Declaration.{type_spelling, ReadsDeclarator}
-use Rattle.hep_declaration.specs.Lists.{AreListed}
+use Rattle.hep_statement.specs.Declaration.{type_spelling, ReadsDeclarator}
+use Rattle.hep_statement.specs.Lists.{AreListed}
 use Rattle.hep_statement.specs.Statement.{IsWorded}
 use Rattle.hep_statement.specs.ReadingKeyword.{spelling, keyword_at}
-use Rattle.hep_statement.specs.ReadingStatement.{declaration, behind_word, worded}
-use Rattle.hep_declaration.proofs.Headers.{program_header_is, program_header_read, subroutine_header_is, subroutine_header_read, implicit_is, implicit_read, parameter_is, parameter_read}
-use Rattle.hep_declaration.proofs.Declarators.{declare_is, declare_read, dimension_statement_is, dimension_statement_read}
-use Rattle.hep_declaration.proofs.Commons.{common_is, common_read}
-use Rattle.hep_declaration.proofs.DataStatements.{data_statement_is, data_statement_read}
+use Rattle.hep_statement.specs.ReadingStatement.{declaration, after_word, worded}
+use Rattle.hep_statement.proofs.Headers.{program_header_is, program_header_read, subroutine_header_is, subroutine_header_read, implicit_is, implicit_read, parameter_is, parameter_read}
+use Rattle.hep_statement.proofs.Declarators.{declare_is, declare_read, dimension_statement_is, dimension_statement_read}
+use Rattle.hep_statement.proofs.Commons.{common_is, common_read}
+use Rattle.hep_statement.proofs.DataStatements.{data_statement_is, data_statement_read}
 
 module _ (k : Context) where
   declared_is : (t : ValueType) (s m : List ℕ) (f : Form) → length m ≤ k.length → s ≡ type_spelling t ++ m → (x : List _) × (f ≡ forms.Declare t x) × AreListed (ReadsDeclarator k) x m [] → IsWorded k f s
@@ -45,18 +45,18 @@ module _ (k : Context) where
   declaration_is _ s m f fit is e = absurd (none_is f e)
 
   -- a text that begins with this word is read as what follows it says
-  behind : (w : Keyword) (s m : List ℕ) (f : Form) → s ≡ spelling w ++ m → keyword_at (spelling w ++ m) ≡ Some (w, m) → behind_word k w m ≡ Some f → worded k s ≡ Some f
+  rest_after : (w : Keyword) (s m : List ℕ) (f : Form) → s ≡ spelling w ++ m → keyword_at (spelling w ++ m) ≡ Some (w, m) → after_word k w m ≡ Some f → worded k s ≡ Some f
   unfolding worded
-  behind w s m f is found e = ap (worded k) is ∙ ap (λ (o : Option (Keyword × List ℕ)). o >>= λ x. behind_word k x.0 x.1) found ∙ e
+  rest_after w s m f is found e = ap (worded k) is ∙ ap (λ (o : Option (Keyword × List ℕ)). o >>= λ x. after_word k x.0 x.1) found ∙ e
 
   pub declarations_read : (f : Form) (s : List ℕ) → is_executable f ≡ false → IsWorded k f s → worded k s ≡ Some f
-  declarations_read (forms.Program p) s declares h = behind words.Program s h.0 (forms.Program p) h.1 refl (program_header_read k p h.0 h.2)
-  declarations_read (forms.Subroutine p ds) s declares h = behind words.Subroutine s h.0 (forms.Subroutine p ds) h.2 refl (subroutine_header_read k p ds h.0 h.1 h.3 h.4)
-  declarations_read (forms.Implicit xs) s declares h = behind words.Implicit s h.0 (forms.Implicit xs) h.1 refl (implicit_read k xs h.0 h.2)
-  declarations_read (forms.Declare Integer xs) s declares h = behind words.Integer s h.0 (forms.Declare Integer xs) h.1 refl (declare_read k Integer xs h.0 h.2)
-  declarations_read (forms.Declare Logical xs) s declares h = behind words.Logical s h.0 (forms.Declare Logical xs) h.1 refl (declare_read k Logical xs h.0 h.2)
-  declarations_read (forms.Dimension xs) s declares h = behind words.Dimension s h.0 (forms.Dimension xs) h.1 refl (dimension_statement_read k xs h.0 h.2)
-  declarations_read (forms.Common xs) s declares h = behind words.Common s h.0 (forms.Common xs) h.1 refl (common_read k xs h.0 h.2)
-  declarations_read (forms.Parameter xs) s declares h = behind words.Parameter s h.0 (forms.Parameter xs) h.1 refl (parameter_read k xs h.0 h.2)
-  declarations_read (forms.Data xs) s declares h = behind words.Data s h.0 (forms.Data xs) h.1 refl (data_statement_read k xs h.0 h.2)
+  declarations_read (forms.Program p) s declares h = rest_after words.Program s h.0 (forms.Program p) h.1 refl (program_header_read k p h.0 h.2)
+  declarations_read (forms.Subroutine p ds) s declares h = rest_after words.Subroutine s h.0 (forms.Subroutine p ds) h.2 refl (subroutine_header_read k p ds h.0 h.1 h.3 h.4)
+  declarations_read (forms.Implicit xs) s declares h = rest_after words.Implicit s h.0 (forms.Implicit xs) h.1 refl (implicit_read k xs h.0 h.2)
+  declarations_read (forms.Declare Integer xs) s declares h = rest_after words.Integer s h.0 (forms.Declare Integer xs) h.1 refl (declare_read k Integer xs h.0 h.2)
+  declarations_read (forms.Declare Logical xs) s declares h = rest_after words.Logical s h.0 (forms.Declare Logical xs) h.1 refl (declare_read k Logical xs h.0 h.2)
+  declarations_read (forms.Dimension xs) s declares h = rest_after words.Dimension s h.0 (forms.Dimension xs) h.1 refl (dimension_statement_read k xs h.0 h.2)
+  declarations_read (forms.Common xs) s declares h = rest_after words.Common s h.0 (forms.Common xs) h.1 refl (common_read k xs h.0 h.2)
+  declarations_read (forms.Parameter xs) s declares h = rest_after words.Parameter s h.0 (forms.Parameter xs) h.1 refl (parameter_read k xs h.0 h.2)
+  declarations_read (forms.Data xs) s declares h = rest_after words.Data s h.0 (forms.Data xs) h.1 refl (data_statement_read k xs h.0 h.2)
   declarations_read _ s declares h = absurd cc

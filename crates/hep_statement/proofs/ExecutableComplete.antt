@@ -3,32 +3,32 @@ use Rattle.std.proofs.Common.{◌≡◌, inl, inr, ℕ, ◌≤◌, Bool, true, f
 use Rattle.std.specs.Prelude.{codes, nat_eq, ◌||◌}
 use Rattle.std.proofs.lemmas.Bool.{eqb-true}
 use Rattle.hep_source.specs.Tree.{Tree}
-use Rattle.hep_source.specs.declared.name.Place.{Place}
+use Rattle.hep_source.specs.declared.name.Occurrence.{Occurrence}
 use Rattle.hep_source.specs.declared.declaration.Target.{Target}
 use Rattle.hep_source.specs.declared.statement.PrintItem.{PrintItem}
 use Rattle.hep_source.specs.declared.statement.DoControl.{DoControl}
 use Rattle.hep_source.specs.declared.statement.SignLabels.{SignLabels}
 use Rattle.hep_source.specs.declared.statement.Form.TheVariants.{Assign, GoTo, ComputedGoTo, ArithmeticIf, IfThen, ElseIf, Do, Call, Create, Purge, Print, Stop}
 use Rattle.hep_expression.specs.declared.characters.Context.{Context}
-use Rattle.hep_expression.specs.Characters.{is_digit, is_letter, is_letter_or_digit, IsDigits, number_of_digits, ReadsPlace, ReadsPlainPlace}
+use Rattle.hep_expression.specs.Characters.{is_digit, is_letter, is_letter_or_digit, IsDigits, number_of_digits, ReadsOccurrence, ReadsPlainOccurrence}
 use Rattle.hep_expression.specs.Expression.{ReadsExpression, Reads, IsExpression, equivalence}
-use Rattle.hep_expression.specs.Reading.{begins, place_at}
+use Rattle.hep_expression.specs.Reading.{begins, occurrence_at}
 use Rattle.hep_expression.specs.ReadingExpression.{expression_at}
 use Rattle.hep_expression.proofs.Complete.{letter_is_no_digit, place_read, plain_place_read, AfterExpression, after_end, after_comma, after_parenthesis, expression_read, whole_expression_read}
-use Rattle.hep_declaration.specs.Lists.{AreBehind, AreListed, AreEnclosed, AreArguments, IsOptionalComma}
-use Rattle.hep_declaration.specs.Declaration.{ReadsTarget}
-use Rattle.hep_declaration.specs.Label.{ReadsLabel}
-use Rattle.hep_declaration.specs.Constant.{ReadsItem}
+use Rattle.hep_statement.specs.Lists.{AreAfter, AreListed, AreEnclosed, AreArguments, IsOptionalComma}
+use Rattle.hep_statement.specs.Target.{ReadsTarget}
+use Rattle.hep_expression.specs.Label.{ReadsLabel}
+use Rattle.hep_statement.specs.Constant.{ReadsItem}
 use Rattle.hep_statement.specs.Executable.{IsAssignment, AreLimits, IsStopText}
-use Rattle.hep_declaration.specs.ReadingLists.{listed, enclosed, arguments, behind_optional_comma}
-use Rattle.hep_declaration.specs.ReadingTarget.{expression_part, target_at}
-use Rattle.hep_declaration.specs.ReadingLabel.{few_digits_at, label_at, label_part}
-use Rattle.hep_declaration.specs.ReadingConstant.{item_at}
+use Rattle.hep_statement.specs.ReadingLists.{listed, enclosed, arguments, after_optional_comma}
+use Rattle.hep_statement.specs.ReadingTarget.{expression_part, target_at}
+use Rattle.hep_expression.specs.ReadingLabel.{few_digits_at, label_at, label_part}
+use Rattle.hep_statement.specs.ReadingConstant.{item_at}
 use Rattle.hep_statement.specs.ReadingExecutable.{print, assignment, computed_go_to, go_to, sign_labels, condition_at, if_condition_at, arithmetic_if, if_then, else_if, limits, do_loop, call, create, purge, stop}
-use Rattle.hep_declaration.proofs.Lists.{listed_complete, enclosed_complete, arguments_complete}
-use Rattle.hep_declaration.proofs.Targets.{begins_name, begins_expression, place_begins, expression_begins, expression_begins_not, place_begins_not, expression_part_shortens, expression_part_complete, AfterName, target_shortens, target_complete}
-use Rattle.hep_declaration.proofs.Parts.{comma_read, AfterDigits, few_read, label_read, label_shortens, label_complete, constant_read}
-use Rattle.hep_declaration.proofs.Items.{item_shortens, AfterItem, item_complete}
+use Rattle.hep_statement.proofs.Lists.{listed_complete, enclosed_complete, arguments_complete}
+use Rattle.hep_statement.proofs.Targets.{begins_name, begins_expression, place_begins, expression_begins, expression_begins_not, place_begins_not, expression_part_shortens, expression_part_complete, AfterName, target_shortens, target_complete}
+use Rattle.hep_statement.proofs.Parts.{comma_read, AfterDigits, few_read, label_read, label_shortens, label_complete, constant_read}
+use Rattle.hep_statement.proofs.Items.{item_shortens, AfterItem, item_complete}
 use Rattle.hep_statement.proofs.ExecutableSound.{AreSignLabels}
 
 -- a letter isn't a digit, nor is `$`
@@ -42,7 +42,7 @@ name_is_no_digit c e = go (is_letter c) refl e
 module _ (k : Context) where
   -- ---- PRINT
 
-  pub print_read : (items : List PrintItem) (m : List ℕ) → AreBehind (ReadsItem k) items m [] → print k m ≡ Some (Print items)
+  pub print_read : (items : List PrintItem) (m : List ℕ) → AreAfter (ReadsItem k) items m [] → print k m ≡ Some (Print items)
   unfolding print
   print_read [] m h = rw h refl
   print_read (x ∷ more) m h =
@@ -68,7 +68,7 @@ module _ (k : Context) where
   computed_go_to_read xs t m n q labels comma is =
       let none : label_at m ≡ None = ap label_at labels.1 in
       let all : enclosed (label_part k) m ≡ Some (xs, n) = enclosed_complete ReadsLabel label_shortens (label_part k) AfterDigits (label_complete k) (λ m. refl) (λ m. refl) xs m n labels in
-      let at : behind_optional_comma n ≡ q = comma_read n q comma (expression_begins_not k t q [] 44 refl is) in
+      let at : after_optional_comma n ≡ q = comma_read n q comma (expression_begins_not k t q [] 44 refl is) in
       rw (none, all, at, whole_expression_read k t q is) refl
 
   -- ---- IF
@@ -107,20 +107,20 @@ module _ (k : Context) where
   limits_read t (Some u) s h = rw (expression_read k t s (44 ∷ h.0) h.1 (after_comma h.0), whole_expression_read k u h.0 h.2) refl
 
   -- a comma or a name isn't a digit
-  no_digit : (p : Place) (n q r : List ℕ) → IsOptionalComma n q → ReadsPlace k p q r → AfterDigits n
+  no_digit : (p : Occurrence) (n q r : List ℕ) → IsOptionalComma n q → ReadsOccurrence k p q r → AfterDigits n
   no_digit p n q r (inr e) h = rw e refl
   no_digit p n q r (inl e) h = rw e (name q h)
     where
-      name : (q : List ℕ) → ReadsPlace k p q r → AfterDigits q
+      name : (q : List ℕ) → ReadsOccurrence k p q r → AfterDigits q
       name [] h = refl
       name (c ∷ q) h = name_is_no_digit c (place_begins k p c q r h)
 
-  pub do_read : (x : DoControl) (m n p q l : List ℕ) → ReadsLabel x.terminal m n → IsOptionalComma n p → ReadsPlace k x.variable p (61 ∷ q) → Reads k x.initial equivalence q (44 ∷ l) → AreLimits k x.limit x.increment l → do_loop k m ≡ Some (Do x)
+  pub do_read : (x : DoControl) (m n p q l : List ℕ) → ReadsLabel x.terminal m n → IsOptionalComma n p → ReadsOccurrence k x.variable p (61 ∷ q) → Reads k x.initial equivalence q (44 ∷ l) → AreLimits k x.limit x.increment l → do_loop k m ≡ Some (Do x)
   unfolding do_loop
   do_read x m n p q l label comma at first more =
       let one : label_at m ≡ Some (x.terminal, n) = label_read x.terminal m n label (no_digit x.variable n p (61 ∷ q) comma at) in
-      let two : behind_optional_comma n ≡ p = comma_read n p comma (place_begins_not k x.variable p (61 ∷ q) 44 refl at) in
-      let three : place_at k p ≡ Some (x.variable, 61 ∷ q) = place_read k x.variable p (61 ∷ q) at refl in
+      let two : after_optional_comma n ≡ p = comma_read n p comma (place_begins_not k x.variable p (61 ∷ q) 44 refl at) in
+      let three : occurrence_at k p ≡ Some (x.variable, 61 ∷ q) = place_read k x.variable p (61 ∷ q) at refl in
       let four : expression_at k q ≡ Some (x.initial, 44 ∷ l) = expression_read k x.initial q (44 ∷ l) first (after_comma l) in
       rw (one, two, three, four, limits_read x.limit x.increment l more) refl
 
@@ -139,11 +139,11 @@ module _ (k : Context) where
   arguments_begin [] n (inr e) = rw e refl
   arguments_begin (t ∷ ts) n h = rw h.1 refl
 
-  pub call_read : (p : Place) (ts : List Tree) (m n : List ℕ) → ReadsPlainPlace k p m n → AreArguments (ReadsExpression k) ts n → call k m ≡ Some (Call p ts)
+  pub call_read : (p : Occurrence) (ts : List Tree) (m n : List ℕ) → ReadsPlainOccurrence k p m n → AreArguments (ReadsExpression k) ts n → call k m ≡ Some (Call p ts)
   unfolding call
   call_read p ts m n at h = rw (plain_place_read k p m n at (arguments_begin ts n h), actuals_read ts n h) refl
 
-  pub create_read : (p : Place) (ts : List Tree) (m n : List ℕ) → ReadsPlainPlace k p m n → AreArguments (ReadsExpression k) ts n → create k m ≡ Some (Create p ts)
+  pub create_read : (p : Occurrence) (ts : List Tree) (m n : List ℕ) → ReadsPlainOccurrence k p m n → AreArguments (ReadsExpression k) ts n → create k m ≡ Some (Create p ts)
   unfolding create
   create_read p ts m n at h = rw (plain_place_read k p m n at (arguments_begin ts n h), actuals_read ts n h) refl
 

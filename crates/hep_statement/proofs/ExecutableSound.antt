@@ -7,34 +7,34 @@ use Rattle.hep_source.specs.declared.statement.SignLabels.{SignLabels}
 use Rattle.hep_source.specs.declared.statement.Form.{Form}
 use Rattle.hep_source.specs.declared.statement.Form.TheVariants.{Assign, GoTo, ComputedGoTo, ArithmeticIf, IfThen, ElseIf, Do, Call, Create, Purge, Print, Stop}
 use Rattle.hep_expression.specs.declared.characters.Context.{Context}
-use Rattle.hep_expression.specs.Characters.{ReadsPlace, IsDigits}
+use Rattle.hep_expression.specs.Characters.{ReadsOccurrence, IsDigits}
 use Rattle.hep_expression.specs.Expression.{ReadsExpression, Reads, equivalence}
-use Rattle.hep_expression.specs.Reading.{◌>>=◌, if_some, all_read, after, after_text, place_at, plain_place_at}
+use Rattle.hep_expression.specs.Reading.{◌>>=◌, if_some, all_read, after, after_text, occurrence_at, plain_occurrence_at}
 use Rattle.hep_expression.specs.ReadingExpression.{expression_at, whole_expression}
 use Rattle.hep_expression.proofs.Leaves.{bind_some, either_some, some_is, after_is, text_is, is_place, is_plain_place, place_fits, fits}
 use Rattle.hep_expression.proofs.Sound.{expression_at_sound, is_expression}
-use Rattle.hep_declaration.specs.Lists.{AreBehind, AreListed}
-use Rattle.hep_declaration.specs.Declaration.{ReadsTarget}
-use Rattle.hep_declaration.specs.Label.{ReadsLabel}
-use Rattle.hep_declaration.specs.Constant.{quoted, ReadsItem}
+use Rattle.hep_statement.specs.Lists.{AreAfter, AreListed}
+use Rattle.hep_statement.specs.Target.{ReadsTarget}
+use Rattle.hep_expression.specs.Label.{ReadsLabel}
+use Rattle.hep_statement.specs.Constant.{quoted, ReadsItem}
 use Rattle.hep_statement.specs.Executable.{AreLimits, IsStopText}
 use Rattle.hep_statement.specs.Statement.{IsWorded, IsOfAssignment, IsOfBlockIf, IsOfSignIf}
-use Rattle.hep_declaration.specs.ReadingLists.{listed, enclosed, arguments, behind_optional_comma}
-use Rattle.hep_declaration.specs.ReadingTarget.{expression_part, target_at}
-use Rattle.hep_declaration.specs.ReadingLabel.{few_digits_at, label_at, label_part}
-use Rattle.hep_declaration.specs.ReadingConstant.{constant_behind, item_at}
+use Rattle.hep_statement.specs.ReadingLists.{listed, enclosed, arguments, after_optional_comma}
+use Rattle.hep_statement.specs.ReadingTarget.{expression_part, target_at}
+use Rattle.hep_expression.specs.ReadingLabel.{few_digits_at, label_at, label_part}
+use Rattle.hep_statement.specs.ReadingConstant.{constant_after, item_at}
 use Rattle.hep_statement.specs.ReadingExecutable.{print, assignment, computed_go_to, go_to, sign_labels, condition_at, if_condition_at, arithmetic_if, before_then, if_then, else_if, limits, do_loop, call, create, purge, digits_or_characters, stop}
-use Rattle.hep_declaration.proofs.Lists.{enclosed_shortens, listed_sound, enclosed_sound, arguments_sound}
-use Rattle.hep_declaration.proofs.Targets.{expression_part_shortens, expression_part_sound, target_shortens, target_sound}
-use Rattle.hep_declaration.proofs.Items.{item_shortens, item_sound}
-use Rattle.hep_declaration.proofs.Parts.{all_is, whole_is, comma_is, comma_shortens, few_are, label_is, label_shortens, label_sound, constant_is}
+use Rattle.hep_statement.proofs.Lists.{enclosed_shortens, listed_sound, enclosed_sound, arguments_sound}
+use Rattle.hep_statement.proofs.Targets.{expression_part_shortens, expression_part_sound, target_shortens, target_sound}
+use Rattle.hep_statement.proofs.Items.{item_shortens, item_sound}
+use Rattle.hep_statement.proofs.Parts.{all_is, whole_is, comma_is, comma_shortens, few_are, label_is, label_shortens, label_sound, constant_is}
 
 module _ (k : Context) where
   -- ---- PRINT
 
-  behind_first : (xs : List PrintItem) (m q : List ℕ) → m ≡ 44 ∷ q → AreListed (ReadsItem k) xs q [] → AreBehind (ReadsItem k) xs m []
-  behind_first [] m q is h = absurd h
-  behind_first (x ∷ xs) m q is h = (q, h.0, is, h.1, h.2)
+  after_first : (xs : List PrintItem) (m q : List ℕ) → m ≡ 44 ∷ q → AreListed (ReadsItem k) xs q [] → AreAfter (ReadsItem k) xs m []
+  after_first [] m q is h = absurd h
+  after_first (x ∷ xs) m q is h = (q, h.0, is, h.1, h.2)
 
   pub print_is : (s m : List ℕ) (f : Form) → length m ≤ k.length → s ≡ codes "PRINT*" ++ m → print k m ≡ Some f → IsWorded k f s
   unfolding print
@@ -47,7 +47,7 @@ module _ (k : Context) where
           let is_m = after_is 44 m q n in
           let fit' : length q ≤ k.length = omega (arith, ap length is_m) in
           let items = listed_sound (ReadsItem k) (item_shortens k) k (item_at k) (item_sound k) q (w.0, []) fit' w.1 in
-          subst (λ (g : Form). IsWorded k g s) w.2 (m, is, behind_first w.0 m q is_m items)
+          subst (λ (g : Form). IsWorded k g s) w.2 (m, is, after_first w.0 m q is_m items)
 
   -- ---- assignment
 
@@ -68,8 +68,8 @@ module _ (k : Context) where
   computed_is : (s m : List ℕ) (f : Form) → length m ≤ k.length → s ≡ codes "GOTO" ++ m → computed_go_to k m ≡ Some f → IsWorded k f s
   unfolding computed_go_to
   computed_is s m f fit is e =
-      let b = bind_some (enclosed (label_part k) m) (λ x. whole_expression k (behind_optional_comma x.1) >>= λ t. Some (ComputedGoTo x.0 t)) f e in
-      let q = behind_optional_comma b.0.1 in
+      let b = bind_some (enclosed (label_part k) m) (λ x. whole_expression k (after_optional_comma x.1) >>= λ t. Some (ComputedGoTo x.0 t)) f e in
+      let q = after_optional_comma b.0.1 in
       let c = bind_some (whole_expression k q) (λ t. Some (ComputedGoTo b.0.0 t)) f b.2 in
       let labels = enclosed_sound ReadsLabel label_shortens k (label_part k) (label_sound k) m b.0 fit b.1 in
       let fit' : length q ≤ k.length = omega (arith, enclosed_shortens ReadsLabel label_shortens b.0.0 m b.0.1 labels, comma_shortens b.0.1 q (comma_is b.0.1)) in
@@ -136,7 +136,7 @@ module _ (k : Context) where
       let a = all_is x.0 b.0 t b.2 in
       (text_is (codes "THEN") x.1 b.0 b.1 ∙ ap (λ (r : List ℕ). codes "THEN" ++ r) a.0, a.1)
 
-  -- a condition with THEN and no more behind it
+  -- a condition with THEN and no more after it
   with_then : (x : Tree × List ℕ) (t : Tree) (m : List ℕ) → before_then x ≡ Some t → Reads k x.0 equivalence m (41 ∷ x.1) → Reads k t equivalence m (codes ")THEN")
   with_then x t m e h =
       let a = then_is x t e in
@@ -180,10 +180,10 @@ module _ (k : Context) where
   pub do_is : (s m : List ℕ) (f : Form) → length m ≤ k.length → s ≡ codes "DO" ++ m → do_loop k m ≡ Some f → IsWorded k f s
   unfolding do_loop
   do_is s m f fit is e =
-      let b = bind_some (label_at m) (λ x. place_at k (behind_optional_comma x.1) >>= λ v. after 61 v.1 >>= λ q. expression_at k q >>= λ a. after 44 a.1 >>= λ l. limits k l >>= λ y. Some (Do (record { terminal = x.0; variable = v.0; initial = a.0; limit = y.0; increment = y.1 }))) f e in
+      let b = bind_some (label_at m) (λ x. occurrence_at k (after_optional_comma x.1) >>= λ v. after 61 v.1 >>= λ q. expression_at k q >>= λ a. after 44 a.1 >>= λ l. limits k l >>= λ y. Some (Do (record { terminal = x.0; variable = v.0; initial = a.0; limit = y.0; increment = y.1 }))) f e in
       let x = b.0 in
-      let p = behind_optional_comma x.1 in
-      let c = bind_some (place_at k p) (λ v. after 61 v.1 >>= λ q. expression_at k q >>= λ a. after 44 a.1 >>= λ l. limits k l >>= λ y. Some (Do (record { terminal = x.0; variable = v.0; initial = a.0; limit = y.0; increment = y.1 }))) f b.2 in
+      let p = after_optional_comma x.1 in
+      let c = bind_some (occurrence_at k p) (λ v. after 61 v.1 >>= λ q. expression_at k q >>= λ a. after 44 a.1 >>= λ l. limits k l >>= λ y. Some (Do (record { terminal = x.0; variable = v.0; initial = a.0; limit = y.0; increment = y.1 }))) f b.2 in
       let v = c.0 in
       let d = bind_some (after 61 v.1) (λ q. expression_at k q >>= λ a. after 44 a.1 >>= λ l. limits k l >>= λ y. Some (Do (record { terminal = x.0; variable = v.0; initial = a.0; limit = y.0; increment = y.1 }))) f c.2 in
       let q = d.0 in
@@ -200,7 +200,7 @@ module _ (k : Context) where
       let initial = expression_at_sound k q a.1 a.0 fit_q g.1 in
       let is_l = after_is 44 a.1 l h.1 in
       let fit_l : length l ≤ k.length = omega (arith, fits k a.0 equivalence q a.1 initial, ap length is_l) in
-      let at = subst (λ (r : List ℕ). ReadsPlace k v.0 p r) is_q variable in
+      let at = subst (λ (r : List ℕ). ReadsOccurrence k v.0 p r) is_q variable in
       let first = subst (λ (r : List ℕ). Reads k a.0 equivalence q r) is_l initial in
       subst (λ (y : Form). IsWorded k y s) (some_is (Do (record { terminal = x.0; variable = v.0; initial = a.0; limit = i.0.0; increment = i.0.1 })) f i.2)
       (m, x.1, p, q, l, is, label, comma_is x.1, at, first, limits_are l i.0 fit_l i.1)
@@ -210,7 +210,7 @@ module _ (k : Context) where
   pub call_is : (s m : List ℕ) (f : Form) → length m ≤ k.length → s ≡ codes "CALL" ++ m → call k m ≡ Some f → IsWorded k f s
   unfolding call
   call_is s m f fit is e =
-      let b = bind_some (plain_place_at k m) (λ x. arguments (expression_part k) x.1 >>= λ ts. Some (Call x.0 ts)) f e in
+      let b = bind_some (plain_occurrence_at k m) (λ x. arguments (expression_part k) x.1 >>= λ ts. Some (Call x.0 ts)) f e in
       let c = bind_some (arguments (expression_part k) b.0.1) (λ ts. Some (Call b.0.0 ts)) f b.2 in
       let at = is_plain_place k m b.0 fit b.1 in
       let fit' : length b.0.1 ≤ k.length = omega (arith, place_fits k b.0.0 m b.0.1 at.1) in
@@ -220,7 +220,7 @@ module _ (k : Context) where
   pub create_is : (s m : List ℕ) (f : Form) → length m ≤ k.length → s ≡ codes "CREATE" ++ m → create k m ≡ Some f → IsWorded k f s
   unfolding create
   create_is s m f fit is e =
-      let b = bind_some (plain_place_at k m) (λ x. arguments (expression_part k) x.1 >>= λ ts. Some (Create x.0 ts)) f e in
+      let b = bind_some (plain_occurrence_at k m) (λ x. arguments (expression_part k) x.1 >>= λ ts. Some (Create x.0 ts)) f e in
       let c = bind_some (arguments (expression_part k) b.0.1) (λ ts. Some (Create b.0.0 ts)) f b.2 in
       let at = is_plain_place k m b.0 fit b.1 in
       let fit' : length b.0.1 ≤ k.length = omega (arith, place_fits k b.0.0 m b.0.1 at.1) in
@@ -236,7 +236,7 @@ module _ (k : Context) where
 
   -- ---- STOP
 
-  -- STOP, and what stands behind it
+  -- STOP, and what stands after it
   abbrev IsStop : Form → List ℕ → Type 0
   IsStop f m = (Stop ≡ f) × IsStopText m
 
@@ -244,15 +244,15 @@ module _ (k : Context) where
   short_digits d m h le is = subst (λ (l : List ℕ). IsDigits l × (length l ≤ 5)) (sym is) (h, le)
 
   some_is_stop : (m : List ℕ) (f : Form) → digits_or_characters m ≡ Some f → IsStop f m
-  some_is_stop m f e = elim (either_some (few_digits_at m) (λ x. all_read Stop x.1) (after 39 m >>= λ q. constant_behind q >>= λ x. all_read Stop x.1) f e) [
+  some_is_stop m f e = elim (either_some (few_digits_at m) (λ x. all_read Stop x.1) (after 39 m >>= λ q. constant_after q >>= λ x. all_read Stop x.1) f e) [
     | inl g ↦ (
         let a = all_is Stop g.0.1 f g.2 in
         let d = few_are m g.0 g.1 in
         let is : m ≡ d.0 = d.3 ∙ ap (λ (r : List ℕ). d.0 ++ r) a.0 ∙ append-nil d.0 in
         (a.1, inr (inl (short_digits d.0 m d.1 d.2 is))))
     | inr g ↦ (
-        let b = bind_some (after 39 m) (λ q. constant_behind q >>= λ x. all_read Stop x.1) f g.1 in
-        let c = bind_some (constant_behind b.0) (λ x. all_read Stop x.1) f b.2 in
+        let b = bind_some (after 39 m) (λ q. constant_after q >>= λ x. all_read Stop x.1) f g.1 in
+        let c = bind_some (constant_after b.0) (λ x. all_read Stop x.1) f b.2 in
         let a = all_is Stop c.0.1 f c.2 in
         let t = constant_is b.0 c.0 c.1 in
         let is : m ≡ 39 ∷ (quoted c.0.0 ++ 39 ∷ []) = after_is 39 m b.0 b.1 ∙ ap (λ (l : List ℕ). 39 ∷ l) t.1 ∙ ap (λ (r : List ℕ). 39 ∷ (quoted c.0.0 ++ 39 ∷ r)) a.0 in

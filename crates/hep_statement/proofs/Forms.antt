@@ -17,12 +17,12 @@ use Rattle.hep_statement.specs.declared.rule.Rule.{Rule}
 use Rattle.hep_statement.specs.declared.rule.Rule.TheVariants.{Assignment, BlockIf, SignIf, LogicalIf, Unclosed, Worded}
 use Rattle.hep_statement.specs.declared.keyword.Keyword.{Keyword}
 use Rattle.hep_statement.specs.declared.keyword.Keyword.TheVariants as words
-use Rattle.hep_statement.specs.Statement.{behind_closing, rule_of, IsWorded, IsOfAssignment, IsOfBlockIf, IsOfSignIf, IsFormBy, IsLogicalIf, Says, context, IsForm}
-use Rattle.hep_statement.specs.ReadingRule.{behind_if}
+use Rattle.hep_statement.specs.Statement.{after_closing, rule_of, IsWorded, IsOfAssignment, IsOfBlockIf, IsOfSignIf, IsFormBy, IsLogicalIf, HasForm, context, IsForm}
+use Rattle.hep_statement.specs.ReadingRule.{after_if}
 use Rattle.hep_statement.specs.ReadingKeyword.{spelling, keywords, keyword_at}
 use Rattle.hep_statement.specs.ReadingExecutable.{if_condition_at, assignment, if_then, arithmetic_if}
-use Rattle.hep_statement.specs.ReadingStatement.{behind_word, worded, form_by, closed_there, held_by, logical_if, behind_condition, conditions, may_stand, behind_conditions, form}
-use Rattle.hep_declaration.proofs.Parts.{all_is}
+use Rattle.hep_statement.specs.ReadingStatement.{after_word, worded, form_by, closed_there, held_by, logical_if, after_condition, conditions, may_stand, after_conditions, form}
+use Rattle.hep_statement.proofs.Parts.{all_is}
 use Rattle.hep_statement.proofs.ExecutableSound.{print_is, assignment_is, go_to_is, if_condition_is, arithmetic_if_is, if_then_is, else_if_is, do_is, call_is, create_is, purge_is, stop_is}
 use Rattle.hep_statement.proofs.ExecutableComplete.{print_read, assignment_read, go_to_read, computed_go_to_read, if_condition_read, arithmetic_if_read, if_then_read, else_if_read, do_read, call_read, create_read, purge_read, stop_read}
 use Rattle.hep_statement.proofs.Declarations.{declaration_is, declarations_read}
@@ -35,29 +35,29 @@ module _ (k : Context) where
       let a = all_is g m f e in
       subst (λ (x : Form). IsWorded k x s) a.1 (is_form s (is ∙ ap (λ (r : List ℕ). spelling w ++ r) a.0))
 
-  behind_word_is : (w : Keyword) (s m : List ℕ) (f : Form) → length m ≤ k.length → s ≡ spelling w ++ m → behind_word k w m ≡ Some f → IsWorded k f s
-  behind_word_is words.GoTo s m f fit is e = go_to_is k s m f fit is e
-  behind_word_is words.ElseIf s m f fit is e = else_if_is k s m f fit is e
-  behind_word_is words.Else s m f fit is e = whole_word words.Else forms.Else f s m (λ t h. h) is e
-  behind_word_is words.EndIf s m f fit is e = whole_word words.EndIf forms.EndIf f s m (λ t h. h) is e
-  behind_word_is words.End s m f fit is e = whole_word words.End forms.End f s m (λ t h. h) is e
-  behind_word_is words.Do s m f fit is e = do_is k s m f fit is e
-  behind_word_is words.Call s m f fit is e = call_is k s m f fit is e
-  behind_word_is words.Create s m f fit is e = create_is k s m f fit is e
-  behind_word_is words.Purge s m f fit is e = purge_is k s m f fit is e
-  behind_word_is words.Print s m f fit is e = print_is k s m f fit is e
-  behind_word_is words.Continue s m f fit is e = whole_word words.Continue forms.Continue f s m (λ t h. h) is e
-  behind_word_is words.Return s m f fit is e = whole_word words.Return forms.Return f s m (λ t h. h) is e
-  behind_word_is words.Stop s m f fit is e = stop_is k s m f is e
-  behind_word_is words.Program s m f fit is e = declaration_is k words.Program s m f fit is e
-  behind_word_is words.Subroutine s m f fit is e = declaration_is k words.Subroutine s m f fit is e
-  behind_word_is words.Implicit s m f fit is e = declaration_is k words.Implicit s m f fit is e
-  behind_word_is words.Integer s m f fit is e = declaration_is k words.Integer s m f fit is e
-  behind_word_is words.Logical s m f fit is e = declaration_is k words.Logical s m f fit is e
-  behind_word_is words.Dimension s m f fit is e = declaration_is k words.Dimension s m f fit is e
-  behind_word_is words.Common s m f fit is e = declaration_is k words.Common s m f fit is e
-  behind_word_is words.Parameter s m f fit is e = declaration_is k words.Parameter s m f fit is e
-  behind_word_is words.Data s m f fit is e = declaration_is k words.Data s m f fit is e
+  after_word_is : (w : Keyword) (s m : List ℕ) (f : Form) → length m ≤ k.length → s ≡ spelling w ++ m → after_word k w m ≡ Some f → IsWorded k f s
+  after_word_is words.GoTo s m f fit is e = go_to_is k s m f fit is e
+  after_word_is words.ElseIf s m f fit is e = else_if_is k s m f fit is e
+  after_word_is words.Else s m f fit is e = whole_word words.Else forms.Else f s m (λ t h. h) is e
+  after_word_is words.EndIf s m f fit is e = whole_word words.EndIf forms.EndIf f s m (λ t h. h) is e
+  after_word_is words.End s m f fit is e = whole_word words.End forms.End f s m (λ t h. h) is e
+  after_word_is words.Do s m f fit is e = do_is k s m f fit is e
+  after_word_is words.Call s m f fit is e = call_is k s m f fit is e
+  after_word_is words.Create s m f fit is e = create_is k s m f fit is e
+  after_word_is words.Purge s m f fit is e = purge_is k s m f fit is e
+  after_word_is words.Print s m f fit is e = print_is k s m f fit is e
+  after_word_is words.Continue s m f fit is e = whole_word words.Continue forms.Continue f s m (λ t h. h) is e
+  after_word_is words.Return s m f fit is e = whole_word words.Return forms.Return f s m (λ t h. h) is e
+  after_word_is words.Stop s m f fit is e = stop_is k s m f is e
+  after_word_is words.Program s m f fit is e = declaration_is k words.Program s m f fit is e
+  after_word_is words.Subroutine s m f fit is e = declaration_is k words.Subroutine s m f fit is e
+  after_word_is words.Implicit s m f fit is e = declaration_is k words.Implicit s m f fit is e
+  after_word_is words.Integer s m f fit is e = declaration_is k words.Integer s m f fit is e
+  after_word_is words.Logical s m f fit is e = declaration_is k words.Logical s m f fit is e
+  after_word_is words.Dimension s m f fit is e = declaration_is k words.Dimension s m f fit is e
+  after_word_is words.Common s m f fit is e = declaration_is k words.Common s m f fit is e
+  after_word_is words.Parameter s m f fit is e = declaration_is k words.Parameter s m f fit is e
+  after_word_is words.Data s m f fit is e = declaration_is k words.Data s m f fit is e
 
   any_word : (among : List Keyword) → AllOf (λ (w : Keyword). Unit {0}) among
   any_word [] = tt
@@ -66,10 +66,10 @@ module _ (k : Context) where
   worded_is : (s : List ℕ) (f : Form) → length s ≤ k.length → worded k s ≡ Some f → IsWorded k f s
   unfolding worded
   worded_is s f fit e =
-      let b = bind_some (keyword_at s) (λ x. behind_word k x.0 x.1) f e in
+      let b = bind_some (keyword_at s) (λ x. after_word k x.0 x.1) f e in
       let is = (one_is spelling (λ (w : Keyword). Unit {0}) keywords (any_word keywords) s b.0 b.1).0 in
       let fit' : length b.0.1 ≤ k.length = omega (arith, shorter (spelling b.0.0) b.0.1 s is) in
-      behind_word_is b.0.0 s b.0.1 f fit' is b.2
+      after_word_is b.0.0 s b.0.1 f fit' is b.2
 
   -- ---- forms by their rules
 
@@ -99,10 +99,10 @@ module _ (k : Context) where
     where
       held : rule_of s ≡ LogicalIf → held_by k LogicalIf s ≡ Some x → IsLogicalIf k x.0 s x.1
       held is_rule e =
-          let b = bind_some (if_condition_at k s) (closed_there (behind_if s)) x e in
+          let b = bind_some (if_condition_at k s) (closed_there (after_if s)) x e in
           let i = if_condition_is k s b.0 fit b.1 in
-          let c = closed_is (behind_if s) b.0 x b.2 in
-          let closes : behind_closing 0 false i.0 ≡ Some x.1 = sym (ap behind_if i.1) ∙ c.0 in
+          let c = closed_is (after_if s) b.0 x b.2 in
+          let closes : after_closing 0 false i.0 ≡ Some x.1 = sym (ap after_if i.1) ∙ c.0 in
           (i.0, i.1, is_rule, closes, subst (λ (y : Tree × List ℕ). Reads k y.0 equivalence i.0 (41 ∷ y.1)) c.1 i.2)
 
       go : (rule : Rule) → rule_of s ≡ rule → held_by k rule s ≡ Some x → IsLogicalIf k x.0 s x.1
@@ -124,9 +124,9 @@ module _ (k : Context) where
   unfolding logical_if
   logical_if_read t s r h =
       let found : if_condition_at k s ≡ Some (t, r) = if_condition_read k t s h.0 r h.1 h.4 in
-      let closes : behind_if s ≡ Some r = ap behind_if h.1 ∙ h.3 in
+      let closes : after_if s ≡ Some r = ap after_if h.1 ∙ h.3 in
       ap (λ (rule : Rule). held_by k rule s) h.2
-      ∙ ap (λ (o : Option (Tree × List ℕ)). o >>= closed_there (behind_if s)) found
+      ∙ ap (λ (o : Option (Tree × List ℕ)). o >>= closed_there (after_if s)) found
       ∙ ap (λ (o : Option (List ℕ)). closed_there o (t, r)) closes
       ∙ ap (λ (b : Bool). if b then Some (t, r) else None) (same_as_itself r)
 
@@ -137,7 +137,7 @@ module _ (k : Context) where
   conditions_fit zero s fit = omega arith
   conditions_fit (suc n) s fit = go (λ r fit. conditions_fit n r fit) (logical_if k s) refl
     where
-      go : ((r : List ℕ) → length r ≤ k.length → length (conditions k n r).1 ≤ length r) → (o : Option (Tree × List ℕ)) → logical_if k s ≡ o → length (behind_condition o (λ r. conditions k n r) s).1 ≤ length s
+      go : ((r : List ℕ) → length r ≤ k.length → length (conditions k n r).1 ≤ length r) → (o : Option (Tree × List ℕ)) → logical_if k s ≡ o → length (after_condition o (λ r. conditions k n r) s).1 ≤ length s
       go shorter None e = omega arith
       go shorter (Some x) e =
           let less = logical_if_shortens x.0 s x.1 (logical_if_is s x fit e) in
@@ -148,12 +148,12 @@ module _ (k : Context) where
   may_stand_anywhere [] f e = refl
   may_stand_anywhere (t ∷ ts) f e = e
 
-  says : (n : ℕ) (s : List ℕ) (f : Form) → length s ≤ k.length → IsFormBy k (rule_of (conditions k n s).1) f (conditions k n s).1 → may_stand (conditions k n s).0 f ≡ true → Says k (conditions k n s).0 f s
+  says : (n : ℕ) (s : List ℕ) (f : Form) → length s ≤ k.length → IsFormBy k (rule_of (conditions k n s).1) f (conditions k n s).1 → may_stand (conditions k n s).0 f ≡ true → HasForm k (conditions k n s).0 f s
   unfolding conditions
   says zero s f fit h may = h
   says (suc n) s f fit h may = go (λ r fit h may. says n r f fit h may) (logical_if k s) refl h may
     where
-      go : ((r : List ℕ) → length r ≤ k.length → IsFormBy k (rule_of (conditions k n r).1) f (conditions k n r).1 → may_stand (conditions k n r).0 f ≡ true → Says k (conditions k n r).0 f r) → (o : Option (Tree × List ℕ)) → logical_if k s ≡ o → IsFormBy k (rule_of (behind_condition o (λ r. conditions k n r) s).1) f (behind_condition o (λ r. conditions k n r) s).1 → may_stand (behind_condition o (λ r. conditions k n r) s).0 f ≡ true → Says k (behind_condition o (λ r. conditions k n r) s).0 f s
+      go : ((r : List ℕ) → length r ≤ k.length → IsFormBy k (rule_of (conditions k n r).1) f (conditions k n r).1 → may_stand (conditions k n r).0 f ≡ true → HasForm k (conditions k n r).0 f r) → (o : Option (Tree × List ℕ)) → logical_if k s ≡ o → IsFormBy k (rule_of (after_condition o (λ r. conditions k n r) s).1) f (after_condition o (λ r. conditions k n r) s).1 → may_stand (after_condition o (λ r. conditions k n r) s).0 f ≡ true → HasForm k (after_condition o (λ r. conditions k n r) s).0 f s
       go rest None e h may = h
       go rest (Some x) e h may =
           let is = logical_if_is s x fit e in
@@ -236,21 +236,21 @@ module _ (k : Context) where
       go Unclosed h = refl
       go Worded h = refl
 
-  conditions_read : (n : ℕ) (ts : List Tree) (f : Form) (s : List ℕ) → length s ≤ n → Says k ts f s → (m : List ℕ) × (conditions k n s ≡ (ts, m)) × IsFormBy k (rule_of m) f m
+  conditions_read : (n : ℕ) (ts : List Tree) (f : Form) (s : List ℕ) → length s ≤ n → HasForm k ts f s → (m : List ℕ) × (conditions k n s ≡ (ts, m)) × IsFormBy k (rule_of m) f m
   unfolding conditions
   conditions_read zero [] f s le h = (s, refl, h)
-  conditions_read (suc n) [] f s le h = (s, ap (λ (o : Option (Tree × List ℕ)). behind_condition o (λ r. conditions k n r) s) (no_logical_if s f h), h)
+  conditions_read (suc n) [] f s le h = (s, ap (λ (o : Option (Tree × List ℕ)). after_condition o (λ r. conditions k n r) s) (no_logical_if s f h), h)
   conditions_read zero (t ∷ ts) f s le h = absurd (omega (arith, logical_if_shortens k t s h.0 h.1))
   conditions_read (suc n) (t ∷ ts) f s le h =
       let found : logical_if k s ≡ Some (t, h.0) = logical_if_read k t s h.0 h.1 in
       let rest = conditions_read n ts f h.0 (omega (arith, logical_if_shortens k t s h.0 h.1)) h.3 in (
         rest.0,
-        ap (λ (o : Option (Tree × List ℕ)). behind_condition o (λ r. conditions k n r) s) found
+        ap (λ (o : Option (Tree × List ℕ)). after_condition o (λ r. conditions k n r) s) found
             ∙ ap (λ (y : List Tree × List ℕ). (t ∷ y.0, y.1)) rest.1,
         rest.2,
       )
 
-  said_may_stand : (ts : List Tree) (f : Form) (s : List ℕ) → Says k ts f s → may_stand ts f ≡ true
+  said_may_stand : (ts : List Tree) (f : Form) (s : List ℕ) → HasForm k ts f s → may_stand ts f ≡ true
   said_may_stand [] f s h = refl
   said_may_stand (t ∷ ts) f s h = h.2
 
@@ -260,6 +260,6 @@ form_read z s ts f h =
     let k = context z s in
     let c = conditions_read k (length s) ts f s (omega arith) h in
     let found : form_by k (rule_of c.0) c.0 ≡ Some f = form_by_read k (rule_of c.0) c.0 f c.2 in
-    ap (behind_conditions k) c.1
+    ap (after_conditions k) c.1
     ∙ ap (λ (o : Option Form). o >>= λ g. if may_stand ts g then Some (ts, g) else None) found
     ∙ ap (λ (b : Bool). if b then Some (ts, f) else None) (said_may_stand k ts f s h)

@@ -1,3 +1,16 @@
+pub mod ListLoops
+pub mod Lists
+pub mod Targets
+pub mod CharacterLoops
+pub mod Parts
+pub mod Items
+pub mod EndLoops
+pub mod Ends
+pub mod Headers
+pub mod Declarators
+pub mod Commons
+pub mod DataStatements
+mod WorkedDeclarations
 pub mod Rules
 pub mod ConditionLoops
 pub mod ExecutableSound

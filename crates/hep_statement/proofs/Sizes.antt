@@ -1,7 +1,7 @@
 -- What reads with constants that fit reads with constants of any size.
 use Rattle.std.proofs.Common.{◌≡◌, ℕ, List, [], ◌∷◌, ◌++◌, length, Option, Some, None, arith}
 use Rattle.std.specs.Prelude.{codes, min, ℤ}
-use Rattle.hep_source.specs.Tree.{Tree, Trees, constant, place, listed, parenthesized, signed, negated, binary, no_trees, trees}
+use Rattle.hep_source.specs.Tree.{Tree, Trees, constant, occurrence, with_list, parenthesized, signed, negated, binary, no_trees, trees}
 use Rattle.hep_source.specs.declared.value.Value.TheVariants.{Int, Truth}
 use Rattle.hep_source.specs.declared.declaration.UpperBound.{UpperBound}
 use Rattle.hep_source.specs.declared.declaration.UpperBound.TheVariants.{Expression as UpperExpression, Open}
@@ -23,15 +23,16 @@ use Rattle.hep_source.specs.declared.statement.Form.TheVariants.{Program, Subrou
 use Rattle.hep_expression.specs.declared.characters.Sizes.{Sizes}
 use Rattle.hep_expression.specs.declared.characters.Sizes.TheVariants.{Fitting, Any}
 use Rattle.hep_expression.specs.declared.characters.Context.{Context}
-use Rattle.hep_expression.specs.Characters.{number_of_digits, greatest, IsInteger, ReadsPlace}
+use Rattle.hep_expression.specs.Characters.{number_of_digits, greatest, IsInteger, ReadsOccurrence}
 use Rattle.hep_expression.specs.Expression.{ReadsExpression, Reads, ReadsAll, equivalence, relation, left, right, term, spelling}
-use Rattle.hep_declaration.specs.Lists.{AreBehind, AreListed, AreEnclosed, AreOptional, AreArguments}
-use Rattle.hep_declaration.specs.Declaration.{ReadsUpper, ReadsLower, ReadsDimension, ReadsDeclarator, ReadsArrayDeclarator, ReadsBlockName, AreMoreBlocks, ReadsFirstName, AreBlocks, ReadsNamedConstant, ReadsTarget, ReadsDataConstant, ReadsRepeat, ReadsDataValue, ReadsGroup, AreMoreGroups, AreGroups}
-use Rattle.hep_declaration.specs.Constant.{ReadsItem}
+use Rattle.hep_statement.specs.Lists.{AreAfter, AreListed, AreEnclosed, AreOptional, AreArguments}
+use Rattle.hep_statement.specs.Target.{ReadsTarget}
+use Rattle.hep_statement.specs.Declaration.{ReadsUpper, ReadsLower, ReadsDimension, ReadsDeclarator, ReadsArrayDeclarator, ReadsBlockName, AreMoreBlocks, ReadsFirstName, AreBlocks, ReadsNamedConstant, ReadsDataConstant, ReadsRepeat, ReadsDataValue, ReadsGroup, AreMoreGroups, AreGroups}
+use Rattle.hep_statement.specs.Constant.{ReadsItem}
 use Rattle.hep_statement.specs.Executable.{AreLimits}
 use Rattle.hep_statement.specs.declared.rule.Rule.{Rule}
 use Rattle.hep_statement.specs.declared.rule.Rule.TheVariants.{Assignment, BlockIf, SignIf, LogicalIf, Unclosed, Worded}
-use Rattle.hep_statement.specs.Statement.{rule_of, IsWorded, IsFormBy, IsLogicalIf, Says, IsForm}
+use Rattle.hep_statement.specs.Statement.{rule_of, IsWorded, IsFormBy, IsLogicalIf, HasForm, IsForm}
 
 abbrev sized : Sizes → ℕ → Context
 sized z n = record { sizes = z; length = n }
@@ -39,13 +40,13 @@ sized z n = record { sizes = z; length = n }
 -- ---- lists
 
 module _ {A : Type 0} (P Q : A → List ℕ → List ℕ → Type 0) (grows : (x : A) (s r : List ℕ) → P x s r → Q x s r) where
-  any_behind : (xs : List A) (s r : List ℕ) → AreBehind P xs s r → AreBehind Q xs s r
-  any_behind [] s r h = h
-  any_behind (x ∷ xs) s r h = (h.0, h.1, h.2, grows x h.0 h.1 h.3, any_behind xs h.1 r h.4)
+  any_after : (xs : List A) (s r : List ℕ) → AreAfter P xs s r → AreAfter Q xs s r
+  any_after [] s r h = h
+  any_after (x ∷ xs) s r h = (h.0, h.1, h.2, grows x h.0 h.1 h.3, any_after xs h.1 r h.4)
 
   any_listed : (xs : List A) (s r : List ℕ) → AreListed P xs s r → AreListed Q xs s r
   any_listed [] s r h = h
-  any_listed (x ∷ xs) s r h = (h.0, grows x s h.0 h.1, any_behind xs h.0 r h.2)
+  any_listed (x ∷ xs) s r h = (h.0, grows x s h.0 h.1, any_after xs h.0 r h.2)
 
   any_enclosed : (xs : List A) (s r : List ℕ) → AreEnclosed P xs s r → AreEnclosed Q xs s r
   any_enclosed xs s r h = (h.0, h.1, any_listed xs h.0 (41 ∷ r) h.2)
@@ -76,8 +77,8 @@ module _ (n : ℕ) where
     any_reads : (t : Tree) (l : ℕ) (s r : List ℕ) → Reads fitting t l s r → Reads any t l s r
     any_reads (constant (Int v)) l s r h = (h.0, h.1, h.2, any_integer h.0 v h.3)
     any_reads (constant (Truth b)) l s r h = h
-    any_reads (place p) l s r h = h
-    any_reads (listed p ts) l s r h = (h.0, h.1, any_all ts h.0 r h.2)
+    any_reads (occurrence p) l s r h = h
+    any_reads (with_list p ts) l s r h = (h.0, h.1, any_all ts h.0 r h.2)
     any_reads (parenthesized t) l s r h = (h.0, h.1, any_reads t equivalence h.0 (codes ")" ++ r) h.2)
     any_reads (signed g t) l s r h = (h.0, h.1, h.2, any_reads t term h.1 r h.3)
     any_reads (negated t) l s r h = (h.0, h.1, h.2, any_reads t relation h.1 r h.3)
@@ -185,7 +186,7 @@ module _ (n : ℕ) where
 
   any_worded : (f : Form) (s : List ℕ) → IsWorded fitting f s → IsWorded any f s
   any_worded (Program p) s h = h
-  any_worded (Subroutine p ds) s h = (h.0, h.1, h.2, h.3, any_arguments (ReadsPlace fitting) (ReadsPlace any) (λ x s r g. g) ds h.1 h.4)
+  any_worded (Subroutine p ds) s h = (h.0, h.1, h.2, h.3, any_arguments (ReadsOccurrence fitting) (ReadsOccurrence any) (λ x s r g. g) ds h.1 h.4)
   any_worded (Implicit xs) s h = h
   any_worded (Declare t xs) s h = (h.0, h.1, any_entries xs h.0 [] h.2)
   any_worded (Dimensions xs) s h = (h.0, h.1, any_listed (ReadsArrayDeclarator fitting) (ReadsArrayDeclarator any) any_array_declarator xs h.0 [] h.2)
@@ -205,7 +206,7 @@ module _ (n : ℕ) where
   any_worded (Call p ts) s h = (h.0, h.1, h.2, h.3, any_arguments (ReadsExpression fitting) (ReadsExpression any) any_expression ts h.1 h.4)
   any_worded (Create p ts) s h = (h.0, h.1, h.2, h.3, any_arguments (ReadsExpression fitting) (ReadsExpression any) any_expression ts h.1 h.4)
   any_worded (Purge xs) s h = (h.0, h.1, any_listed (ReadsTarget fitting) (ReadsTarget any) any_target xs h.0 [] h.2)
-  any_worded (Print items) s h = (h.0, h.1, any_behind (ReadsItem fitting) (ReadsItem any) any_item items h.0 [] h.2)
+  any_worded (Print items) s h = (h.0, h.1, any_after (ReadsItem fitting) (ReadsItem any) any_item items h.0 [] h.2)
   any_worded Continue s h = h
   any_worded Return s h = h
   any_worded Stop s h = h
@@ -226,7 +227,7 @@ module _ (n : ℕ) where
   any_logical_if : (t : Tree) (s r : List ℕ) → IsLogicalIf fitting t s r → IsLogicalIf any t s r
   any_logical_if t s r h = (h.0, h.1, h.2, h.3, any_expression t h.0 (41 ∷ r) h.4)
 
-  any_says : (conditions : List Tree) (f : Form) (s : List ℕ) → Says fitting conditions f s → Says any conditions f s
+  any_says : (conditions : List Tree) (f : Form) (s : List ℕ) → HasForm fitting conditions f s → HasForm any conditions f s
   any_says [] f s h = any_by (rule_of s) f s h
   any_says (t ∷ more) f s h = (h.0, any_logical_if t s h.0 h.1, h.2, any_says more f h.0 h.3)
 

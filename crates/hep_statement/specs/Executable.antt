@@ -7,14 +7,14 @@ use Rattle.hep_source.specs.declared.statement.PrintItem.{PrintItem}
 use Rattle.hep_source.specs.declared.statement.DoControl.{DoControl}
 use Rattle.hep_source.specs.declared.statement.SignLabels.{SignLabels}
 use Rattle.hep_expression.specs.declared.characters.Context.{Context}
-use Rattle.hep_expression.specs.Characters.{ReadsPlace, IsDigits}
+use Rattle.hep_expression.specs.Characters.{ReadsOccurrence, IsDigits}
 use Rattle.hep_expression.specs.Expression.{ReadsExpression, IsExpression}
-use Rattle.hep_declaration.specs.Lists.{AreBehind, AreEnclosed, IsOptionalComma}
-use Rattle.hep_declaration.specs.Label.{most_digits, ReadsLabel}
-use Rattle.hep_declaration.specs.Constant.{ReadsCharacters, ReadsItem}
-use Rattle.hep_declaration.specs.Declaration.{ReadsTarget}
+use Rattle.hep_statement.specs.Lists.{AreAfter, AreEnclosed, IsOptionalComma}
+use Rattle.hep_expression.specs.Label.{most_digits, ReadsLabel}
+use Rattle.hep_statement.specs.Constant.{ReadsCharacters, ReadsItem}
+use Rattle.hep_statement.specs.Target.{ReadsTarget}
 
--- what may stand behind STOP: nothing, one to five digits, or a character constant (11.12)
+-- what may stand after STOP: nothing, one to five digits, or a character constant (11.12)
 abbrev pub IsStopText : List ℕ → Type 0
 IsStopText s = (s ≡ []) ⊎ (IsDigits s × (length s ≤ most_digits)) ⊎ ((t : List ℕ) × ReadsCharacters t s [])
 
@@ -22,7 +22,7 @@ module _ (k : Context) where
   -- ---- PRINT (12.8)
 
   abbrev pub IsPrint : List PrintItem → List ℕ → Type 0
-  IsPrint items s = (m : List ℕ) × (s ≡ codes "PRINT*" ++ m) × AreBehind (ReadsItem k) items m []
+  IsPrint items s = (m : List ℕ) × (s ≡ codes "PRINT*" ++ m) × AreAfter (ReadsItem k) items m []
 
   -- ---- assignment (10.1 and 10.2)
 
@@ -62,5 +62,5 @@ module _ (k : Context) where
   abbrev pub IsDo : DoControl → List ℕ → Type 0
   IsDo x s =
       (m : List ℕ) × (n : List ℕ) × (p : List ℕ) × (q : List ℕ) × (l : List ℕ) × (s ≡ codes "DO" ++ m)
-      × ReadsLabel x.terminal m n × IsOptionalComma n p × ReadsPlace k x.variable p (codes "=" ++ q)
+      × ReadsLabel x.terminal m n × IsOptionalComma n p × ReadsOccurrence k x.variable p (codes "=" ++ q)
       × ReadsExpression k x.initial q (codes "," ++ l) × AreLimits x.limit x.increment l

@@ -1,6 +1,16 @@
+-- the grammar
+pub mod Lists
+pub mod Constant
+pub mod Target
+pub mod Declaration
 pub mod Executable
 pub mod Statement
-pub mod ReadingRule
+-- the reading functions, which give what the grammar reads
+pub mod ReadingLists
+pub mod ReadingConstant
+pub mod ReadingTarget
+pub mod ReadingDeclaration
 pub mod ReadingExecutable
 pub mod ReadingKeyword
+pub mod ReadingRule
 pub mod ReadingStatement

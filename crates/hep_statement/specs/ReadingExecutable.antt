@@ -6,12 +6,12 @@ use Rattle.hep_source.specs.declared.statement.Form.{Form}
 use Rattle.hep_source.specs.declared.statement.Form.TheVariants.{Assign, GoTo, ComputedGoTo, ArithmeticIf, IfThen, ElseIf, Do, Call, Create, Purge, Print, Stop}
 use Rattle.hep_expression.specs.declared.characters.Context.{Context}
 use Rattle.hep_expression.specs.Characters.{apostrophe, right_parenthesis, comma, equals}
-use Rattle.hep_expression.specs.Reading.{Reader, ◌>>=◌, if_some, all_read, after, after_text, place_at, plain_place_at}
+use Rattle.hep_expression.specs.Reading.{Reader, ◌>>=◌, if_some, all_read, after, after_text, occurrence_at, plain_occurrence_at}
 use Rattle.hep_expression.specs.ReadingExpression.{expression_at, whole_expression}
-use Rattle.hep_declaration.specs.ReadingLists.{whole, listed, enclosed, arguments, behind_optional_comma}
-use Rattle.hep_declaration.specs.ReadingLabel.{few_digits_at, label_at, label_part}
-use Rattle.hep_declaration.specs.ReadingConstant.{constant_behind, item_at}
-use Rattle.hep_declaration.specs.ReadingTarget.{expression_part, target_at}
+use Rattle.hep_statement.specs.ReadingLists.{whole, listed, enclosed, arguments, after_optional_comma}
+use Rattle.hep_expression.specs.ReadingLabel.{few_digits_at, label_at, label_part}
+use Rattle.hep_statement.specs.ReadingConstant.{constant_after, item_at}
+use Rattle.hep_statement.specs.ReadingTarget.{expression_part, target_at}
 
 -- ---- PRINT
 
@@ -26,7 +26,7 @@ assignment k s = target_at k s >>= λ x. after equals x.1 >>= λ m. whole_expres
 -- ---- GO TO
 
 unfoldable pub computed_go_to : Context → List ℕ → Option Form
-computed_go_to k s = enclosed (label_part k) s >>= λ x. whole_expression k (behind_optional_comma x.1) >>= λ t. Some (ComputedGoTo x.0 t)
+computed_go_to k s = enclosed (label_part k) s >>= λ x. whole_expression k (after_optional_comma x.1) >>= λ t. Some (ComputedGoTo x.0 t)
 
 unfoldable pub go_to : Context → List ℕ → Option Form
 go_to k s = if_some (label_at s) (λ x. all_read (GoTo x.0) x.1) (computed_go_to k s)
@@ -42,7 +42,7 @@ sign_labels s =
 unfoldable pub condition_at : Context → Reader Tree
 condition_at k s = expression_at k s >>= λ x. after right_parenthesis x.1 >>= λ r. Some (x.0, r)
 
--- the same behind `IF(`
+-- the same after `IF(`
 abbrev pub if_condition_at : Context → Reader Tree
 if_condition_at k s = after_text (codes "IF(") s >>= condition_at k
 
@@ -56,7 +56,7 @@ before_then x = after_text (codes "THEN") x.1 >>= λ r. all_read x.0 r
 unfoldable pub if_then : Context → List ℕ → Option Form
 if_then k s = if_condition_at k s >>= λ x. before_then x >>= λ t. Some (IfThen t)
 
--- behind `ELSEIF(`
+-- after `ELSEIF(`
 unfoldable pub else_if : Context → List ℕ → Option Form
 else_if k s = condition_at k s >>= λ x. before_then x >>= λ t. Some (ElseIf t)
 
@@ -69,17 +69,17 @@ limits k s =
 
 unfoldable pub do_loop : Context → List ℕ → Option Form
 do_loop k s =
-    label_at s >>= λ x. place_at k (behind_optional_comma x.1) >>= λ v. after equals v.1 >>= λ q. expression_at k q >>= λ a.
+    label_at s >>= λ x. occurrence_at k (after_optional_comma x.1) >>= λ v. after equals v.1 >>= λ q. expression_at k q >>= λ a.
     after comma a.1 >>= λ l. limits k l >>= λ y.
     Some (Do (record { terminal = x.0; variable = v.0; initial = a.0; limit = y.0; increment = y.1 }))
 
 -- ---- CALL, CREATE and PURGE
 
 unfoldable pub call : Context → List ℕ → Option Form
-call k s = plain_place_at k s >>= λ x. arguments (expression_part k) x.1 >>= λ ts. Some (Call x.0 ts)
+call k s = plain_occurrence_at k s >>= λ x. arguments (expression_part k) x.1 >>= λ ts. Some (Call x.0 ts)
 
 unfoldable pub create : Context → List ℕ → Option Form
-create k s = plain_place_at k s >>= λ x. arguments (expression_part k) x.1 >>= λ ts. Some (Create x.0 ts)
+create k s = plain_occurrence_at k s >>= λ x. arguments (expression_part k) x.1 >>= λ ts. Some (Create x.0 ts)
 
 unfoldable pub purge : Context → List ℕ → Option Form
 purge k s = whole Purge (listed (target_at k) s)
@@ -87,7 +87,7 @@ purge k s = whole Purge (listed (target_at k) s)
 -- ---- STOP
 
 abbrev pub digits_or_characters : List ℕ → Option Form
-digits_or_characters s = if_some (few_digits_at s) (λ x. all_read Stop x.1) (after apostrophe s >>= λ m. constant_behind m >>= λ x. all_read Stop x.1)
+digits_or_characters s = if_some (few_digits_at s) (λ x. all_read Stop x.1) (after apostrophe s >>= λ m. constant_after m >>= λ x. all_read Stop x.1)
 
 unfoldable pub stop : List ℕ → Option Form
 stop s = elim s [ [] ↦ Some Stop | c ∷ m ↦ digits_or_characters (c ∷ m) ]

@@ -1,13 +1,13 @@
 -- Finding the rule of a statement, as functions on lists (docs/ARCHITECTURE.md, "Forms").
 use Rattle.std.specs.Prelude.{ℕ, Bool, false, codes, List, Option, Some, None}
 use Rattle.hep_expression.specs.Reading.{◌>>=◌, after_text}
-use Rattle.hep_statement.specs.Statement.{behind_closing}
+use Rattle.hep_statement.specs.Statement.{after_closing}
 
--- what is found behind a character that leaves so many parentheses open, or closes the last one
-abbrev pub nested_behind : Option (ℕ × Bool) → List ℕ → Option (List ℕ)
-nested_behind None r = Some r
-nested_behind (Some x) r = behind_closing x.0 x.1 r
+-- what is found after a character that leaves so many parentheses open, or closes the last one
+abbrev pub nested_after : Option (ℕ × Bool) → List ℕ → Option (List ℕ)
+nested_after None r = Some r
+nested_after (Some x) r = after_closing x.0 x.1 r
 
 -- what follows the parenthesis that closes that of IF
-abbrev pub behind_if : List ℕ → Option (List ℕ)
-behind_if s = after_text (codes "IF(") s >>= behind_closing 0 false
+abbrev pub after_if : List ℕ → Option (List ℕ)
+after_if s = after_text (codes "IF(") s >>= after_closing 0 false

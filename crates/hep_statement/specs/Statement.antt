@@ -6,11 +6,12 @@ use Rattle.hep_source.specs.declared.statement.Form.{Form}
 use Rattle.hep_source.specs.declared.statement.Form.TheVariants.{Program, Subroutine, Implicit, Declare, Dimension, Common, Parameter, Data, Assign, GoTo, ComputedGoTo, ArithmeticIf, IfThen, ElseIf, Else, EndIf, Do, Call, Create, Purge, Print, Continue, Return, Stop, End}
 use Rattle.hep_expression.specs.declared.characters.Sizes.{Sizes}
 use Rattle.hep_expression.specs.declared.characters.Context.{Context}
-use Rattle.hep_expression.specs.Characters.{apostrophe, left_parenthesis, right_parenthesis, comma, equals, is_digit, ReadsPlace, ReadsPlainPlace}
+use Rattle.hep_expression.specs.Characters.{apostrophe, left_parenthesis, right_parenthesis, comma, equals, is_digit, ReadsOccurrence, ReadsPlainOccurrence}
 use Rattle.hep_expression.specs.Expression.{ReadsExpression}
 use Rattle.hep_expression.specs.Reading.{after_text}
-use Rattle.hep_declaration.specs.Lists.{AreListed, AreEnclosed, AreArguments}
-use Rattle.hep_declaration.specs.Declaration.{type_spelling, ReadsImplicit, ReadsDeclarator, ReadsArrayDeclarator, AreBlocks, ReadsNamedConstant, ReadsTarget, AreGroups}
+use Rattle.hep_statement.specs.Lists.{AreListed, AreEnclosed, AreArguments}
+use Rattle.hep_statement.specs.Target.{ReadsTarget}
+use Rattle.hep_statement.specs.Declaration.{type_spelling, ReadsImplicit, ReadsDeclarator, ReadsArrayDeclarator, AreBlocks, ReadsNamedConstant, AreGroups}
 use Rattle.hep_statement.specs.Executable.{IsPrint, IsAssignment, IsGoTo, IsComputedGoTo, IsArithmeticIf, IsIfThen, IsElseIf, IsDo, IsStopText}
 use Rattle.hep_statement.specs.declared.rule.Rule.{Rule}
 use Rattle.hep_statement.specs.declared.rule.Rule.TheVariants.{Assignment, BlockIf, SignIf, LogicalIf, Unclosed, Worded}
@@ -18,26 +19,26 @@ use Rattle.hep_statement.specs.declared.rule.Scan.{Scan}
 
 -- ---- the rules
 
--- What stands behind the parenthesis that closes those that are open: one, and so many more.
+-- What stands after the parenthesis that closes those that are open: one, and so many more.
 -- Character constants are passed over.
-abbrev pub behind_closing : ℕ → Bool → List ℕ → Option (List ℕ)
-behind_closing depth quoted [] = None
-behind_closing depth true (c ∷ s) = behind_closing depth (not (nat_eq c apostrophe)) s
-behind_closing zero false (c ∷ s) =
-    if nat_eq c right_parenthesis then Some s else behind_closing (if nat_eq c left_parenthesis then 1 else 0) (nat_eq c apostrophe) s
-behind_closing (suc depth) false (c ∷ s) =
-    behind_closing (if nat_eq c right_parenthesis then depth else if nat_eq c left_parenthesis then suc (suc depth) else suc depth) (nat_eq c apostrophe) s
+abbrev pub after_closing : ℕ → Bool → List ℕ → Option (List ℕ)
+after_closing depth quoted [] = None
+after_closing depth true (c ∷ s) = after_closing depth (not (nat_eq c apostrophe)) s
+after_closing zero false (c ∷ s) =
+    if nat_eq c right_parenthesis then Some s else after_closing (if nat_eq c left_parenthesis then 1 else 0) (nat_eq c apostrophe) s
+after_closing (suc depth) false (c ∷ s) =
+    after_closing (if nat_eq c right_parenthesis then depth else if nat_eq c left_parenthesis then suc (suc depth) else suc depth) (nat_eq c apostrophe) s
 
 -- where a text has come to: how many parentheses were opened and closed, within a character
--- constant or not, whether `=` was found outside both, and a comma there behind it
+-- constant or not, whether `=` was found outside both, and a comma there after it
 abbrev pub beginning : Scan
 beginning = record { opened = 0; closed = 0; quoted = false; equals = false; comma = false }
 
 abbrev pub is_outside : Scan → Bool
 is_outside x = nat_le x.opened x.closed && not x.quoted
 
-abbrev pub behind_character : Scan → ℕ → Scan
-behind_character x c =
+abbrev pub after_character : Scan → ℕ → Scan
+after_character x c =
     record {
       opened = if nat_eq c left_parenthesis && not x.quoted then suc x.opened else x.opened;
       closed = if nat_eq c right_parenthesis && not x.quoted then suc x.closed else x.closed;
@@ -48,7 +49,7 @@ behind_character x c =
 
 abbrev pub scanned : Scan → List ℕ → Scan
 scanned x [] = x
-scanned x (c ∷ s) = scanned (behind_character x c) s
+scanned x (c ∷ s) = scanned (after_character x c) s
 
 abbrev pub is_assignment : Scan → Bool
 is_assignment x = x.equals && not x.comma
@@ -58,17 +59,17 @@ is_nothing None = false
 is_nothing (Some []) = true
 is_nothing (Some (c ∷ s)) = false
 
--- the rule by what stands behind the parenthesis that closes that of IF
-abbrev pub rule_behind : Option (List ℕ) → Rule
-rule_behind None = Unclosed
-rule_behind (Some []) = LogicalIf
-rule_behind (Some (c ∷ s)) =
+-- the rule by what stands after the parenthesis that closes that of IF
+abbrev pub rule_after : Option (List ℕ) → Rule
+rule_after None = Unclosed
+rule_after (Some []) = LogicalIf
+rule_after (Some (c ∷ s)) =
     if nat_eq c equals then Assignment
     else if is_digit c then SignIf
     else if is_nothing (after_text (codes "THEN") (c ∷ s)) then BlockIf else LogicalIf
 
 abbrev pub rule_by_word : Option (List ℕ) → List ℕ → Rule
-rule_by_word (Some s) whole = rule_behind (behind_closing 0 false s)
+rule_by_word (Some s) whole = rule_after (after_closing 0 false s)
 rule_by_word None whole = if is_assignment (scanned beginning whole) then Assignment else Worded
 
 -- the rule that applies to a text: IF with its parenthesis first, then `=`, then the words
@@ -80,8 +81,8 @@ rule_of s = rule_by_word (after_text (codes "IF(") s) s
 module _ (k : Context) where
   -- a form that begins with its word
   abbrev pub IsWorded : Form → List ℕ → Type 0
-  IsWorded (Program p) s = (m : List ℕ) × (s ≡ codes "PROGRAM" ++ m) × ReadsPlainPlace k p m []
-  IsWorded (Subroutine p ds) s = (m : List ℕ) × (n : List ℕ) × (s ≡ codes "SUBROUTINE" ++ m) × ReadsPlainPlace k p m n × AreArguments (ReadsPlace k) ds n
+  IsWorded (Program p) s = (m : List ℕ) × (s ≡ codes "PROGRAM" ++ m) × ReadsPlainOccurrence k p m []
+  IsWorded (Subroutine p ds) s = (m : List ℕ) × (n : List ℕ) × (s ≡ codes "SUBROUTINE" ++ m) × ReadsPlainOccurrence k p m n × AreArguments (ReadsOccurrence k) ds n
   IsWorded (Implicit xs) s = (m : List ℕ) × (s ≡ codes "IMPLICIT" ++ m) × AreListed ReadsImplicit xs m []
   IsWorded (Declare t xs) s = (m : List ℕ) × (s ≡ type_spelling t ++ m) × AreListed (ReadsDeclarator k) xs m []
   IsWorded (Dimension xs) s = (m : List ℕ) × (s ≡ codes "DIMENSION" ++ m) × AreListed (ReadsArrayDeclarator k) xs m []
@@ -97,8 +98,8 @@ module _ (k : Context) where
   IsWorded Else s = s ≡ codes "ELSE"
   IsWorded EndIf s = s ≡ codes "ENDIF"
   IsWorded (Do x) s = IsDo k x s
-  IsWorded (Call p ts) s = (m : List ℕ) × (n : List ℕ) × (s ≡ codes "CALL" ++ m) × ReadsPlainPlace k p m n × AreArguments (ReadsExpression k) ts n
-  IsWorded (Create p ts) s = (m : List ℕ) × (n : List ℕ) × (s ≡ codes "CREATE" ++ m) × ReadsPlainPlace k p m n × AreArguments (ReadsExpression k) ts n
+  IsWorded (Call p ts) s = (m : List ℕ) × (n : List ℕ) × (s ≡ codes "CALL" ++ m) × ReadsPlainOccurrence k p m n × AreArguments (ReadsExpression k) ts n
+  IsWorded (Create p ts) s = (m : List ℕ) × (n : List ℕ) × (s ≡ codes "CREATE" ++ m) × ReadsPlainOccurrence k p m n × AreArguments (ReadsExpression k) ts n
   IsWorded (Purge xs) s = (m : List ℕ) × (s ≡ codes "PURGE" ++ m) × AreListed (ReadsTarget k) xs m []
   IsWorded (Print items) s = IsPrint k items s
   IsWorded Continue s = s ≡ codes "CONTINUE"
@@ -131,18 +132,18 @@ module _ (k : Context) where
   -- 11.5).
   abbrev pub IsLogicalIf : Tree → List ℕ → List ℕ → Type 0
   IsLogicalIf t s r =
-      (m : List ℕ) × (s ≡ codes "IF(" ++ m) × (rule_of s ≡ LogicalIf) × (behind_closing 0 false m ≡ Some r)
+      (m : List ℕ) × (s ≡ codes "IF(" ++ m) × (rule_of s ≡ LogicalIf) × (after_closing 0 false m ≡ Some r)
       × ReadsExpression k t m (codes ")" ++ r)
 
-  -- The whole text has this form, behind these conditions of logical IFs; a logical IF holds an
+  -- The whole text has this form, after these conditions of logical IFs; a logical IF holds an
   -- executable statement.
-  abbrev pub Says : List Tree → Form → List ℕ → Type 0
-  Says [] f s = IsFormBy (rule_of s) f s
-  Says (t ∷ more) f s = (r : List ℕ) × IsLogicalIf t s r × (is_executable f ≡ true) × Says more f r
+  abbrev pub HasForm : List Tree → Form → List ℕ → Type 0
+  HasForm [] f s = IsFormBy (rule_of s) f s
+  HasForm (t ∷ more) f s = (r : List ℕ) × IsLogicalIf t s r × (is_executable f ≡ true) × HasForm more f r
 
 abbrev pub context : Sizes → List ℕ → Context
 context z s = record { sizes = z; length = length s }
 
 -- The whole text is this statement's.
 abbrev pub IsForm : Sizes → List ℕ → List Tree → Form → Type 0
-IsForm z s conditions f = Says (context z s) conditions f s
+IsForm z s conditions f = HasForm (context z s) conditions f s

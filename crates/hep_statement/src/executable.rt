@@ -1,18 +1,20 @@
-//! Reading the forms of executable statements, each behind its word or as a whole.
+//! Reading the forms of executable statements, each after its word or as a whole.
 ghost use Rattle.std.specs.Prelude.{◌≡◌, option_map};
 ghost use Rattle.hep_expression.specs.Reading.{Gives};
 ghost use Rattle.hep_statement.specs.ReadingExecutable as reading;
 
-use hep_declaration::constant::constant_behind;
-use hep_declaration::label::{few_digits_at, label_at};
-use hep_declaration::list::{Part, arguments, behind_optional_comma, enclosed, listed};
+use crate::constant::constant_after;
+use crate::list::{Readable, after_optional_comma, arguments, enclosed, listed};
 use hep_expression::Unread;
-use hep_expression::characters::{Context, after, after_text, all_read, place_at, plain_place_at};
+use hep_expression::characters::{
+    Context, after, after_text, all_read, occurrence_at, plain_occurrence_at,
+};
 use hep_expression::expression::{expression_at, whole_expression};
+use hep_expression::label::{few_digits_at, label_at};
 use hep_source::{DoControl, Expr, Form, PrintItem, Sequence, SignLabels, Target};
 use std::alloc::Global;
 
-/// The list of `PRINT *` (X3.9-1978, 12.8), behind the star.
+/// The list of `PRINT *` (X3.9-1978, 12.8), after the star.
 ///
 /// # Errors
 ///
@@ -39,8 +41,8 @@ pub fn assignment(alloc: Global, context: Context, s: &[u8]) -> Result<Form, Unr
     ensures { Gives (λ x. x) result (reading.assignment context s.now) }
 {
     let (target, rest) = Target::read(alloc, context, s)?;
-    let behind = after(b'=', rest).ok_or(Unread::NoReading)?;
-    let value = whole_expression(alloc, context, behind)?;
+    let rest_after = after(b'=', rest).ok_or(Unread::NoReading)?;
+    let value = whole_expression(alloc, context, rest_after)?;
     Ok(Form::Assign(target, value))
 }
 
@@ -50,7 +52,7 @@ fn computed_go_to(alloc: Global, context: Context, s: &[u8]) -> Result<Form, Unr
     ensures { Gives (λ x. x) result (reading.computed_go_to context s.now) }
 {
     let (labels, rest) = enclosed::<u32>(alloc, context, s)?;
-    let index = whole_expression(alloc, context, behind_optional_comma(rest))?;
+    let index = whole_expression(alloc, context, after_optional_comma(rest))?;
     Ok(Form::ComputedGoTo(Sequence::from(labels), index))
 }
 
@@ -94,7 +96,7 @@ fn condition_at(alloc: Global, context: Context, s: &[u8]) -> Result<(Expr, &[u8
 {
     let (condition, rest) = expression_at(alloc, context, s)?;
     match after(b')', rest) {
-        Some(behind) => Ok((condition, behind)),
+        Some(rest_after) => Ok((condition, rest_after)),
         None => Err(Unread::NoReading),
     }
 }
@@ -134,7 +136,7 @@ fn before_then(condition: Expr, rest: &[u8]) -> Result<Expr, Unread>
     ensures { Gives (λ x. x) result (reading.before_then (condition, rest.now)) }
 {
     match after_text(b"THEN", rest) {
-        Some(behind) => all_read(condition, behind),
+        Some(rest_after) => all_read(condition, rest_after),
         None => Err(Unread::NoReading),
     }
 }
@@ -174,8 +176,8 @@ fn limits(alloc: Global, context: Context, s: &[u8]) -> Result<(Expr, Option<Exp
 {
     let (limit, rest) = expression_at(alloc, context, s)?;
     match after(b',', rest) {
-        Some(behind) => {
-            let increment = whole_expression(alloc, context, behind)?;
+        Some(rest_after) => {
+            let increment = whole_expression(alloc, context, rest_after)?;
             Ok((limit, Some(increment)))
         }
         None => all_read((limit, None), rest),
@@ -192,7 +194,9 @@ pub fn do_loop(alloc: Global, context: Context, s: &[u8]) -> Result<Form, Unread
     ensures { Gives (λ x. x) result (reading.do_loop context s.now) }
 {
     let (terminal, rest) = label_at(s).ok_or(Unread::NoReading)?;
-    let (variable, rest) = place_at(context, behind_optional_comma(rest)).ok_or(Unread::NoReading)?;
+    let (variable, rest) = occurrence_at(context, after_optional_comma(rest)).ok_or(
+        Unread::NoReading,
+    )?;
     let rest = after(b'=', rest).ok_or(Unread::NoReading)?;
     let (initial, rest) = expression_at(alloc, context, rest)?;
     let rest = after(b',', rest).ok_or(Unread::NoReading)?;
@@ -215,12 +219,12 @@ pub fn do_loop(alloc: Global, context: Context, s: &[u8]) -> Result<Form, Unread
 pub fn call(alloc: Global, context: Context, s: &[u8]) -> Result<Form, Unread>
     ensures { Gives (λ x. x) result (reading.call context s.now) }
 {
-    let (subroutine, rest) = plain_place_at(context, s).ok_or(Unread::NoReading)?;
+    let (subroutine, rest) = plain_occurrence_at(context, s).ok_or(Unread::NoReading)?;
     let actuals = arguments::<Expr>(alloc, context, rest)?;
     Ok(Form::Call(subroutine, Sequence::from(actuals)))
 }
 
-/// What follows CREATE (docs/LANGUAGE.md): the same as behind CALL.
+/// What follows CREATE (docs/LANGUAGE.md): the same as after CALL.
 ///
 /// # Errors
 ///
@@ -229,7 +233,7 @@ pub fn call(alloc: Global, context: Context, s: &[u8]) -> Result<Form, Unread>
 pub fn create(alloc: Global, context: Context, s: &[u8]) -> Result<Form, Unread>
     ensures { Gives (λ x. x) result (reading.create context s.now) }
 {
-    let (subroutine, rest) = plain_place_at(context, s).ok_or(Unread::NoReading)?;
+    let (subroutine, rest) = plain_occurrence_at(context, s).ok_or(Unread::NoReading)?;
     let actuals = arguments::<Expr>(alloc, context, rest)?;
     Ok(Form::Create(subroutine, Sequence::from(actuals)))
 }
@@ -260,7 +264,7 @@ pub fn stop(alloc: Global, s: &[u8]) -> Result<Form, Unread>
     if let Some((_digits, rest)) = few_digits_at(s) {
         return all_read(Form::Stop, rest);
     }
-    let behind = after(b'\'', s).ok_or(Unread::NoReading)?;
-    let (_characters, rest) = constant_behind(alloc, behind)?;
+    let rest_after = after(b'\'', s).ok_or(Unread::NoReading)?;
+    let (_characters, rest) = constant_after(alloc, rest_after)?;
     all_read(Form::Stop, rest)
 }

@@ -34,7 +34,7 @@ pub struct Scan {
     pub quoted: bool,
     /// Whether `=` was found outside parentheses and character constants.
     pub equals: bool,
-    /// Whether a comma was found there behind it.
+    /// Whether a comma was found there after it.
     pub comma: bool,
 }
 
@@ -59,10 +59,10 @@ impl Scan {
         self.opened <= self.closed && !self.quoted
     }
 
-    /// Where the search is behind one more character.
-    fn behind(self, c: u8) -> Scan
+    /// Where the search is after one more character.
+    fn rest_after(self, c: u8) -> Scan
         requires { (self.opened + 1 < 2 ^ 64) × (self.closed + 1 < 2 ^ 64) }
-        ensures { result ≡ grammar.behind_character self c }
+        ensures { result ≡ grammar.after_character self c }
     {
         let outside = self.is_outside();
         let mut next = self;
@@ -77,7 +77,7 @@ impl Scan {
         next
     }
 
-    /// Whether the search has found what an assignment has: `=`, and no comma behind it.
+    /// Whether the search has found what an assignment has: `=`, and no comma after it.
     fn is_assignment(self) -> bool
         ensures { result ≡ grammar.is_assignment self }
     {
@@ -92,16 +92,16 @@ fn scanned(s: &[u8]) -> Scan
 {
     let mut scan = Scan::beginning();
     for c in s {
-        scan = scan.behind(*c);
+        scan = scan.rest_after(*c);
     }
     scan
 }
 
-/// How many parentheses are open behind one more character, and whether it is within a character
+/// How many parentheses are open after one more character, and whether it is within a character
 /// constant there; none where the character closes the last parenthesis.
 fn nested(depth: usize, quoted: bool, c: u8) -> Option<(usize, bool)>
     requires { depth + 1 < 2 ^ 64 }
-    ensures goes_on { (r : List ℕ) → grammar.behind_closing depth quoted (c ∷ r) ≡ reading.nested_behind result r }
+    ensures goes_on { (r : List ℕ) → grammar.after_closing depth quoted (c ∷ r) ≡ reading.nested_after result r }
     ensures deep { MatchOption result (Unit {0}) (λ x. x.0 ≤ depth + 1) }
 {
     match c {
@@ -118,8 +118,8 @@ fn nested(depth: usize, quoted: bool, c: u8) -> Option<(usize, bool)>
 }
 
 /// What follows the parenthesis that closes the one before a text, character constants passed over.
-fn behind_closing(s: &[u8]) -> Option<&[u8]>
-    ensures { option_map (λ x. x.now) result ≡ grammar.behind_closing 0 false s.now }
+fn after_closing(s: &[u8]) -> Option<&[u8]>
+    ensures { option_map (λ x. x.now) result ≡ grammar.after_closing 0 false s.now }
 {
     let mut depth = 0;
     let mut quoted = false;
@@ -133,10 +133,10 @@ fn behind_closing(s: &[u8]) -> Option<&[u8]>
 }
 
 /// What follows the parenthesis that closes that of IF, where the text begins with it.
-pub(crate) fn behind_if(s: &[u8]) -> Option<&[u8]>
-    ensures { option_map (λ x. x.now) result ≡ reading.behind_if s.now }
+pub(crate) fn after_if(s: &[u8]) -> Option<&[u8]>
+    ensures { option_map (λ x. x.now) result ≡ reading.after_if s.now }
 {
-    behind_closing(after_text(b"IF(", s)?)
+    after_closing(after_text(b"IF(", s)?)
 }
 
 /// Whether a character is a digit (X3.9-1978, 3.1.2).
@@ -147,8 +147,8 @@ fn is_digit(c: u8) -> bool
 }
 
 /// The rule by what follows the parenthesis that closes that of IF.
-fn rule_behind(rest: &[u8]) -> Rule
-    ensures { result ≡ grammar.rule_behind (Some rest.now) }
+fn rule_after(rest: &[u8]) -> Rule
+    ensures { result ≡ grammar.rule_after (Some rest.now) }
 {
     match rest {
         [] => Rule::LogicalIf,
@@ -166,8 +166,8 @@ pub fn rule_of(s: &[u8]) -> Rule
     ensures { result ≡ grammar.rule_of s.now }
 {
     match after_text(b"IF(", s) {
-        Some(inside) => match behind_closing(inside) {
-            Some(rest) => rule_behind(rest),
+        Some(inside) => match after_closing(inside) {
+            Some(rest) => rule_after(rest),
             None => Rule::Unclosed,
         },
         None if scanned(s).is_assignment() => Rule::Assignment,

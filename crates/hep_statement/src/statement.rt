@@ -5,22 +5,22 @@ ghost use Rattle.hep_expression.specs.Reading.{Gives};
 ghost use Rattle.hep_statement.specs.ReadingStatement as reading;
 ghost use Rattle.hep_statement.specs.Statement as rules;
 
+use crate::declaration::{
+    common, data_statement, declare, dimension, implicit, parameter, program_header,
+    subroutine_header,
+};
 use crate::executable::{
     arithmetic_if, assignment, call, create, do_loop, else_if, go_to, if_condition_at, if_then,
     print, purge, stop,
 };
 use crate::keyword::{Keyword, keyword_at};
-use crate::rule::{Rule, behind_if, rule_of};
-use hep_declaration::declaration::{
-    common, data_statement, declare, dimension, implicit, parameter, program_header,
-    subroutine_header,
-};
+use crate::rule::{Rule, after_if, rule_of};
 use hep_expression::Unread;
 use hep_expression::characters::{Context, Sizes, all_read};
 use hep_source::{Expr, Form, ValueType};
 use std::alloc::Global;
 
-/// The form of a header, a specification statement or DATA, behind its word.
+/// The form of a header, a specification statement or DATA, after its word.
 fn declaration(alloc: Global, context: Context, keyword: Keyword, s: &[u8]) -> Result<Form, Unread>
     ensures { Gives (λ x. x) result (reading.declaration context keyword s.now) }
 {
@@ -38,9 +38,9 @@ fn declaration(alloc: Global, context: Context, keyword: Keyword, s: &[u8]) -> R
     }
 }
 
-/// The form of a text behind its word.
-fn behind_word(alloc: Global, context: Context, keyword: Keyword, s: &[u8]) -> Result<Form, Unread>
-    ensures { Gives (λ x. x) result (reading.behind_word context keyword s.now) }
+/// The form of a text after its word.
+fn after_word(alloc: Global, context: Context, keyword: Keyword, s: &[u8]) -> Result<Form, Unread>
+    ensures { Gives (λ x. x) result (reading.after_word context keyword s.now) }
 {
     match keyword {
         Keyword::GoTo => go_to(alloc, context, s),
@@ -74,7 +74,7 @@ fn worded(alloc: Global, context: Context, s: &[u8]) -> Result<Form, Unread>
     ensures { Gives (λ x. x) result (reading.worded context s.now) }
 {
     match keyword_at(s) {
-        Some((keyword, rest)) => behind_word(alloc, context, keyword, rest),
+        Some((keyword, rest)) => after_word(alloc, context, keyword, rest),
         None => Err(Unread::NoReading),
     }
 }
@@ -105,7 +105,7 @@ pub fn logical_if(alloc: Global, context: Context, s: &[u8]) -> Result<(Expr, &[
         return Err(Unread::NoReading);
     };
     let (condition, rest) = if_condition_at(alloc, context, s)?;
-    match behind_if(s) {
+    match after_if(s) {
         Some(held) if rest == held => Ok((condition, rest)),
         _ => Err(Unread::NoReading),
     }
@@ -149,7 +149,7 @@ fn is_executable(form: &Form) -> bool
     }
 }
 
-/// Whether a form may stand behind these conditions.
+/// Whether a form may stand after these conditions.
 fn may_stand(conditions: &[Expr], form: &Form) -> bool
     ensures { result ≡ reading.may_stand conditions.now form.now }
 {

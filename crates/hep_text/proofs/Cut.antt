@@ -31,13 +31,13 @@ at_feed (c ∷ s) (suc i) h e = ap (onto_first c) (at_feed s i (omega arith) e)
 pub ends : (s : List ℕ) (i : ℕ) → i < length s → nat_eq (get_or s i 0) 10 ≡ true → lines s ≡ with_bytes (take i s) (lines (drop i s)) → lines s ≡ take i s ∷ lines (take (length s - (i + 1)) (drop (i + 1) s))
 ends s i h e so_far = rw rest_is (rw add-one (so_far ∙ at_feed s i h e))
 
-behind_return : (c : ℕ) (s : List ℕ) → nat_eq c 10 ≡ false → nat_eq c 13 ≡ true → nat_eq (get_or s 0 32) 10 ≡ true → lines (c ∷ s) ≡ [] ∷ lines (drop 1 s)
-behind_return c [] e f g = absurd (cc (g))
-behind_return c (d ∷ s) e f g = rw (e, f, g) refl
+after_return : (c : ℕ) (s : List ℕ) → nat_eq c 10 ≡ false → nat_eq c 13 ≡ true → nat_eq (get_or s 0 32) 10 ≡ true → lines (c ∷ s) ≡ [] ∷ lines (drop 1 s)
+after_return c [] e f g = absurd (cc (g))
+after_return c (d ∷ s) e f g = rw (e, f, g) refl
 
 at_return : (s : List ℕ) (i : ℕ) → i < length s → nat_eq (get_or s i 0) 10 ≡ false → nat_eq (get_or s i 0) 13 ≡ true → nat_eq (get_or s (suc i) 32) 10 ≡ true → with_bytes (take i s) (lines (drop i s)) ≡ take i s ∷ lines (drop (suc (suc i)) s)
 at_return [] i h e f g = absurd (omega arith)
-at_return (c ∷ s) zero h e f g = behind_return c s e f g
+at_return (c ∷ s) zero h e f g = after_return c s e f g
 at_return (c ∷ s) (suc i) h e f g = ap (onto_first c) (at_return s i (omega arith) e f g)
 
 both : (a b : Bool) → (a && b) ≡ true → (a ≡ true) × (b ≡ true)

@@ -1,6 +1,6 @@
 pub mod Cut
 pub mod Labels
-pub mod Shape
+pub mod WellFormed
 pub mod Text
 pub mod Grammar
 pub mod Joining

@@ -54,7 +54,7 @@ first_lower_case = 97
 abbrev pub last_lower_case : ℕ
 last_lower_case = 122
 
--- how far a lower-case letter stands behind its upper-case one
+-- how far a lower-case letter stands after its upper-case one
 abbrev pub case_distance : ℕ
 case_distance = 32
 

@@ -2,20 +2,20 @@
 use Rattle.std.specs.Prelude.{ℕ, ◌-◌, Bool, true, false, ◌&&◌, if◌then◌else◌, nat_eq, nat_le, List, [], ◌∷◌, Option, Some, None}
 use Rattle.hep_text.specs.Characters.{blank, apostrophe, first_lower_case, last_lower_case, case_distance}
 use Rattle.hep_text.specs.declared.statement.Span.{Span}
-use Rattle.hep_text.specs.declared.constant.Place.{Place}
-use Rattle.hep_text.specs.declared.constant.Place.TheVariants.{Outside, Opened, Filled, Closing, Empty, Faulty}
+use Rattle.hep_text.specs.declared.constant.Scanner.{Scanner}
+use Rattle.hep_text.specs.declared.constant.Scanner.TheVariants.{Outside, Opened, Filled, Closing, Empty, Faulty}
 
 -- the apostrophe (X3.9-1978, 3.1.4)
 abbrev pub is_apostrophe : ℕ → Bool
 is_apostrophe c = nat_eq c apostrophe
 
 -- the upper-case letter of a lower-case one, and any other character as it is
-abbrev pub raised : ℕ → ℕ
-raised c = if nat_le first_lower_case c && nat_le c last_lower_case then c - case_distance else c
+abbrev pub upper_case : ℕ → ℕ
+upper_case c = if nat_le first_lower_case c && nat_le c last_lower_case then c - case_distance else c
 
 -- A constant stands between apostrophes, and within it two apostrophes side by side stand for one
 -- (X3.9-1978, 4.8.1). So an apostrophe in a constant ends it unless another one follows.
-abbrev pub next : Place → ℕ → Place
+abbrev pub next : Scanner → ℕ → Scanner
 next Outside c = if is_apostrophe c then Opened else Outside
 next Opened c = if is_apostrophe c then Empty else Filled
 next Filled c = if is_apostrophe c then Closing else Filled
@@ -25,20 +25,20 @@ next Faulty c = Faulty
 
 -- Blanks outside constants don't matter (X3.9-1978, 3.1.6), and a lower-case letter there is the
 -- upper-case one.
-abbrev pub outside_share : ℕ → Option ℕ
-outside_share c = if nat_eq c blank then None else Some (raised c)
+abbrev pub kept_outside : ℕ → Option ℕ
+kept_outside c = if nat_eq c blank then None else Some (upper_case c)
 
 -- what the text has of a character
-abbrev pub share : Place → ℕ → Option ℕ
-share Outside c = outside_share c
-share Opened c = Some c
-share Filled c = Some c
-share Closing c = outside_share c
-share Empty c = Some c
-share Faulty c = Some c
+abbrev pub kept_character : Scanner → ℕ → Option ℕ
+kept_character Outside c = kept_outside c
+kept_character Opened c = Some c
+kept_character Filled c = Some c
+kept_character Closing c = kept_outside c
+kept_character Empty c = Some c
+kept_character Faulty c = Some c
 
 -- Whether a statement may end here: each of its constants is over and has something in it.
-abbrev pub is_over : Place → Bool
+abbrev pub is_over : Scanner → Bool
 is_over Outside = true
 is_over Opened = false
 is_over Filled = false
@@ -51,17 +51,17 @@ pub record Character : Type 0 where
   pub byte : ℕ
   pub span : Span
 
--- what the text has of a character, in front of what it has of those behind
-abbrev pub with_share : Option ℕ → Span → List Character → List Character
-with_share None span xs = xs
-with_share (Some c) span xs = record { byte = c; span = span } ∷ xs
+-- what the text has of a character, in front of what it has of those after
+abbrev pub with_kept : Option ℕ → Span → List Character → List Character
+with_kept None span xs = xs
+with_kept (Some c) span xs = record { byte = c; span = span } ∷ xs
 
 -- the text of some characters, the first of which stands at a place
-abbrev pub text_from : Place → List Character → List Character
+abbrev pub text_from : Scanner → List Character → List Character
 text_from p [] = []
-text_from p (x ∷ xs) = with_share (share p x.byte) x.span (text_from (next p x.byte) xs)
+text_from p (x ∷ xs) = with_kept (kept_character p x.byte) x.span (text_from (next p x.byte) xs)
 
--- where the character behind them stands
-abbrev pub place_behind : Place → List Character → Place
-place_behind p [] = p
-place_behind p (x ∷ xs) = place_behind (next p x.byte) xs
+-- where the character after them stands
+abbrev pub scanner_after : Scanner → List Character → Scanner
+scanner_after p [] = p
+scanner_after p (x ∷ xs) = scanner_after (next p x.byte) xs

@@ -1,9 +1,9 @@
 -- What a statement's characters and its text are, put together from the left. The clause
 -- `constants` of `statements` says that the definitions of Constant agree with it.
 use Rattle.std.specs.Prelude.{◌≡◌, ◌≢◌, Bool, true, false, List, [], ◌∷◌, ◌++◌}
-use Rattle.hep_text.specs.Constant.{Character, is_apostrophe, raised, is_over, text_from, place_behind}
+use Rattle.hep_text.specs.Constant.{Character, is_apostrophe, upper_case, is_over, text_from, scanner_after}
 use Rattle.hep_text.specs.Line.{is_blank}
-use Rattle.hep_text.specs.declared.constant.Place.TheVariants.{Outside}
+use Rattle.hep_text.specs.declared.constant.Scanner.TheVariants.{Outside}
 
 -- What may stand between the apostrophes of a constant: two apostrophes side by side stand for one.
 pub data Within : List Character → Type 0 where
@@ -22,9 +22,9 @@ at_apostrophe (x ∷ xs) = is_apostrophe x.byte
 pub data IsText : List Character → List Character → Type 0 where
   nothing : IsText [] []
   blank : (x : Character) (s t : List Character) → is_blank x.byte ≡ true → IsText s t → IsText (x ∷ s) t
-  plain : (x : Character) (s t : List Character) → is_blank x.byte ≡ false → is_apostrophe x.byte ≡ false → IsText s t → IsText (x ∷ s) (record { byte = raised x.byte; span = x.span } ∷ t)
+  plain : (x : Character) (s t : List Character) → is_blank x.byte ≡ false → is_apostrophe x.byte ≡ false → IsText s t → IsText (x ∷ s) (record { byte = upper_case x.byte; span = x.span } ∷ t)
   constant : (x y : Character) (u s t : List Character) → is_apostrophe x.byte ≡ true → u ≢ [] → Within u → is_apostrophe y.byte ≡ true → at_apostrophe s ≡ false → IsText s t → IsText (x ∷ (u ++ y ∷ s)) (x ∷ (u ++ y ∷ t))
 
 -- what the definitions of Constant give as a statement's text, where its constants are as they must be
 abbrev pub Gives : List Character → List Character → Type 0
-Gives s t = (is_over (place_behind Outside s) ≡ true) × (text_from Outside s ≡ t)
+Gives s t = (is_over (scanner_after Outside s) ≡ true) × (text_from Outside s ≡ t)

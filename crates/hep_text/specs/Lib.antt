@@ -4,5 +4,5 @@ pub mod Line
 pub mod Reading
 pub mod Progress
 pub mod Grammar
-pub mod Shape
+pub mod WellFormed
 pub mod Worked

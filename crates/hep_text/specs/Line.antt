@@ -5,7 +5,7 @@ use Rattle.hep_text.specs.Characters.{tab, line_feed, carriage_return, blank, la
 use Rattle.hep_text.specs.declared.line.LineKind as code
 use Rattle.hep_text.specs.declared.line.LineKind.TheVariants as variants
 
--- whether a carriage return stands at an index, and a line feed behind it
+-- whether a carriage return stands at an index, and a line feed after it
 abbrev pub is_return_before_feed : List ℕ → ℕ → Bool
 is_return_before_feed s i = nat_eq (get_or s i 0) carriage_return && nat_eq (get_or s (i + 1) blank) line_feed
 
@@ -64,14 +64,14 @@ abbrev pub label : List ℕ → Option ℕ
 label field = label_of (filter is_digit field)
 
 -- the kinds of line (X3.9-1978, 3.2.1 to 3.2.3)
-pub data Kind : Type 0 where
-  comment : Kind
-  initial : (label : Option ℕ) (body : List ℕ) → Kind
-  continuation : (body : List ℕ) → Kind
-  refused : (number : ℕ) → Kind
+pub data KindOfLine : Type 0 where
+  comment : KindOfLine
+  initial : (label : Option ℕ) (body : List ℕ) → KindOfLine
+  continuation : (body : List ℕ) → KindOfLine
+  refused : (number : ℕ) → KindOfLine
 
 -- a line with a label field of digits and blanks, by its label and its column 6
-abbrev pub numbered : Option ℕ → Bool → List ℕ → Kind
+abbrev pub numbered : Option ℕ → Bool → List ℕ → KindOfLine
 numbered None true body = continuation body
 numbered None false body = initial None body
 numbered (Some n) true body = refused 103
@@ -79,13 +79,13 @@ numbered (Some n) false body = if nat_eq n 0 then refused 103 else initial (Some
 
 -- a line that is no comment and has printable characters alone (X3.9-1978, 3.2.2 and 3.2.3), by its
 -- columns 1 to 5, its column 6 and what follows
-unfoldable pub labelled : List ℕ → ℕ → List ℕ → Kind
+unfoldable pub labelled : List ℕ → ℕ → List ℕ → KindOfLine
 labelled field mark body =
     if list_all is_blank_or_digit field then numbered (label field) (is_continuation_mark mark) body else refused 103
 
 -- The kind of a line, by its columns 1 to 72. A comment may have any bytes; else 101 is a tab, 102
 -- another character that isn't printable, and 103 a fault of columns 1 to 5.
-unfoldable pub kind : List ℕ → Kind
+unfoldable pub kind : List ℕ → KindOfLine
 kind l =
     if is_comment l then comment
     else (if list_any is_tab (take last_column l) then refused 101
@@ -93,7 +93,7 @@ kind l =
     else refused 102))
 
 -- the kind of a line as the program has it
-abbrev pub kind_view : code.LineKind → Kind
+abbrev pub kind_view : code.LineKind → KindOfLine
 kind_view variants.Comment = comment
 kind_view (variants.Initial label body) = initial label body.now
 kind_view (variants.Continuation body) = continuation body.now

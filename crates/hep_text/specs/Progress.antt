@@ -1,14 +1,14 @@
 -- What a reading comes to, with the lines that are left: docs/ARCHITECTURE.md, "Forms".
 use Rattle.std.specs.Prelude.{◌≡◌, ℕ, ◌+◌, if◌then◌else◌, List, [], ◌∷◌, ◌++◌, map, Option, Some, None, Result, Ok}
-use Rattle.hep_text.specs.declared.constant.Place.{Place}
+use Rattle.hep_text.specs.declared.constant.Scanner.{Scanner}
 use Rattle.hep_text.specs.declared.statement.Stmt.{Stmt}
 use Rattle.hep_text.specs.declared.statement.Span.{Span}
 use Rattle.hep_text.specs.declared.reading.Pending.{Pending}
 use Rattle.hep_text.specs.declared.reading.Reading.{Reading}
-use Rattle.hep_text.specs.declared.fault.TextFault.{TextFault}
-use Rattle.hep_text.specs.Constant.{Character, is_over, text_from, place_behind}
-use Rattle.hep_text.specs.Line.{Kind}
-use Rattle.hep_text.specs.Reading.{Refusal, refusal, ◌>>=◌, Joined, by_kind, joined, each_statement, Tells}
+use Rattle.hep_base.specs.declared.refusal.Refusal.{Refusal as TextFault}
+use Rattle.hep_text.specs.Constant.{Character, is_over, text_from, scanner_after}
+use Rattle.hep_text.specs.Line.{KindOfLine}
+use Rattle.hep_text.specs.Reading.{Refusal, refusal, ◌>>=◌, Joined, by_kind, joined, each_statement, Reports}
 
 -- a statement that isn't over yet, without where it lies in memory
 pub record Started : Type 0 where
@@ -17,26 +17,26 @@ pub record Started : Type 0 where
   pub continued : ℕ
   pub text : List ℕ
   pub spans : List Span
-  pub place : Place
+  pub scanner : Scanner
 
 abbrev pub started : Pending → Started
-started p = record { line = p.line; label = p.label; continued = p.continued; text = p.text.items; spans = p.spans.items; place = p.place }
+started p = record { line = p.line; label = p.label; continued = p.continued; text = p.text.items; spans = p.spans.items; scanner = p.scanner }
 
--- it with more characters behind it
+-- it with more characters after it
 abbrev pub longer : Started → List Character → Started
 longer p xs = record {
   line = p.line;
   label = p.label;
   continued = p.continued;
-  text = p.text ++ map (λ x. x.byte) (text_from p.place xs);
-  spans = p.spans ++ map (λ x. x.span) (text_from p.place xs);
-  place = place_behind p.place xs;
+  text = p.text ++ map (λ x. x.byte) (text_from p.scanner xs);
+  spans = p.spans ++ map (λ x. x.span) (text_from p.scanner xs);
+  scanner = scanner_after p.scanner xs;
 }
 
 -- it at its end
 abbrev pub over : Started → Result Stmt Refusal
 over p =
-    if is_over p.place then Ok (record { line = p.line; label = p.label; text = p.text; spans = p.spans }) else refusal 106 p.line
+    if is_over p.scanner then Ok (record { line = p.line; label = p.label; text = p.text; spans = p.spans }) else refusal 106 p.line
 
 -- the statements that are over, where none of them is at fault
 abbrev pub done_so_far : List Stmt → Option ℕ → Result (List Stmt) Refusal
@@ -50,8 +50,8 @@ last_of (Some p) xs = over (longer p xs) >>= λ s. Ok (s ∷ [])
 
 -- those, the one that isn't over, and what the lines that are left give
 abbrev pub finish : Result (List Stmt) Refusal → Option Started → Joined → Result (List Stmt) Refusal
-finish done current behind =
-    behind >>= λ r. done >>= λ ss. last_of current r.0 >>= λ last. each_statement r.1 >>= λ ts. Ok (ss ++ (last ++ ts))
+finish done current rest_after =
+    rest_after >>= λ r. done >>= λ ss. last_of current r.0 >>= λ last. each_statement r.1 >>= λ ts. Ok (ss ++ (last ++ ts))
 
 abbrev pub pending_of : Option Pending → Option Started
 pending_of None = None
@@ -70,18 +70,18 @@ count_of (Some p) = Some p.continued
 abbrev pub total : Reading → ℕ → List (List ℕ) → Result (List Stmt) Refusal
 total r n ls = finish (done_of r) (pending_of r.pending) (joined n (count_of (pending_of r.pending)) ls)
 
--- what it comes to with line n of this kind, and the lines behind it
-abbrev pub total_with : Reading → ℕ → Kind → List (List ℕ) → Result (List Stmt) Refusal
+-- what it comes to with line n of this kind, and the lines after it
+abbrev pub total_with : Reading → ℕ → KindOfLine → List (List ℕ) → Result (List Stmt) Refusal
 total_with r n k ls =
     finish (done_of r) (pending_of r.pending) (by_kind n (count_of (pending_of r.pending)) k (λ (c : Option ℕ). joined (n + 1) c ls))
 
 -- one reading goes on to another with line n, which is of this kind
-abbrev pub GoesOn : Reading → Reading → ℕ → Kind → Type 0
+abbrev pub GoesOn : Reading → Reading → ℕ → KindOfLine → Type 0
 GoesOn r s n k = (ls : List (List ℕ)) → total_with r n k ls ≡ total s (n + 1) ls
 
 -- a reading ends in this fault at line n, which is of this kind
-abbrev pub Fails : TextFault → Reading → ℕ → Kind → Type 0
-Fails e r n k = (ls : List (List ℕ)) → Tells e (total_with r n k ls)
+abbrev pub Fails : TextFault → Reading → ℕ → KindOfLine → Type 0
+Fails e r n k = (ls : List (List ℕ)) → Reports e (total_with r n k ls)
 
 -- the statements that are over, with the one that wasn't
 abbrev pub with_last : Result (List Stmt) Refusal → Option Started → Result (List Stmt) Refusal

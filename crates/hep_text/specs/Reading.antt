@@ -1,12 +1,12 @@
 -- The statements of a source text (X3.9-1978, 3.2 and 3.3).
 use Rattle.std.specs.Prelude.{◌≡◌, ℕ, zero, suc, ◌+◌, Bool, ◌||◌, if◌then◌else◌, nat_lt, List, [], ◌∷◌, ◌++◌, map, length, get_or, drop, Option, Some, None, Result, Ok, Err}
 use Rattle.hep_text.specs.declared.statement.Stmt.{Stmt}
-use Rattle.hep_text.specs.declared.constant.Place.TheVariants.{Outside}
-use Rattle.hep_text.specs.declared.fault.TextFault.{TextFault}
-use Rattle.hep_text.specs.declared.fault.TextFault.TheVariants as faults
+use Rattle.hep_text.specs.declared.constant.Scanner.TheVariants.{Outside}
+use Rattle.hep_base.specs.declared.refusal.Refusal.{Refusal as TextFault}
+use Rattle.hep_base.specs.declared.refusal.Refusal.TheVariants as faults
 use Rattle.hep_text.specs.Characters.{blank, first_text_column, text_columns}
-use Rattle.hep_text.specs.Constant.{Character, is_over, text_from, place_behind}
-use Rattle.hep_text.specs.Line.{Kind, comment, initial, continuation, refused, kind, lines}
+use Rattle.hep_text.specs.Constant.{Character, is_over, text_from, scanner_after}
+use Rattle.hep_text.specs.Line.{KindOfLine, comment, initial, continuation, refused, kind, lines}
 
 -- the number of a refusal, and the line at fault (docs/LANGUAGE.md, 1 and 2)
 pub record Refusal : Type 0 where
@@ -40,18 +40,18 @@ pub record Lined : Type 0 where
   pub label : Option ℕ
   pub characters : List Character
 
--- the characters that go on with the statement in front of some lines, and the statements behind
+-- the characters that go on with the statement in front of some lines, and the statements after
 abbrev pub Joined : Type 0
 Joined = Result (List Character × List Lined) Refusal
 
--- the statement that an initial line begins, and those behind it
+-- the statement that an initial line begins, and those after it
 abbrev pub begun : ℕ → Option ℕ → List Character → Joined → Joined
-begun n label body behind =
-    behind >>= λ r. Ok ([], record { line = n; label = label; characters = body ++ r.0 } ∷ r.1)
+begun n label body rest_after =
+    rest_after >>= λ r. Ok ([], record { line = n; label = label; characters = body ++ r.0 } ∷ r.1)
 
--- the characters of a continuation line, and those that go on with the statement behind it
+-- the characters of a continuation line, and those that go on with the statement after it
 abbrev pub continued : List Character → Joined → Joined
-continued body behind = behind >>= λ r. Ok (body ++ r.0, r.1)
+continued body rest_after = rest_after >>= λ r. Ok (body ++ r.0, r.1)
 
 -- the most continuation lines of a statement (X3.9-1978, 3.3)
 abbrev pub most_continuation_lines : ℕ
@@ -60,16 +60,16 @@ most_continuation_lines = 19
 -- A continuation line, where so many stand before it in its statement, or no statement has begun
 -- (X3.9-1978, 3.2.3).
 abbrev pub continuing : ℕ → Option ℕ → List Character → (Option ℕ → Joined) → Joined
-continuing n None body behind = refusal 105 n
-continuing n (Some k) body behind = if nat_lt k most_continuation_lines then continued body (behind (Some (k + 1))) else refusal 104 n
+continuing n None body rest_after = refusal 105 n
+continuing n (Some k) body rest_after = if nat_lt k most_continuation_lines then continued body (rest_after (Some (k + 1))) else refusal 104 n
 
--- A line of each kind, and what the lines behind it are by the count of continuation lines. A
+-- A line of each kind, and what the lines after it are by the count of continuation lines. A
 -- comment line may stand anywhere and isn't counted (X3.9-1978, 3.2.1).
-abbrev pub by_kind : ℕ → Option ℕ → Kind → (Option ℕ → Joined) → Joined
-by_kind n count comment behind = behind count
-by_kind n count (initial label body) behind = begun n label (columns text_columns n first_text_column body) (behind (Some 0))
-by_kind n count (continuation body) behind = continuing n count (columns text_columns n first_text_column body) behind
-by_kind n count (refused number) behind = refusal number n
+abbrev pub by_kind : ℕ → Option ℕ → KindOfLine → (Option ℕ → Joined) → Joined
+by_kind n count comment rest_after = rest_after count
+by_kind n count (initial label body) rest_after = begun n label (columns text_columns n first_text_column body) (rest_after (Some 0))
+by_kind n count (continuation body) rest_after = continuing n count (columns text_columns n first_text_column body) rest_after
+by_kind n count (refused number) rest_after = refusal number n
 
 -- the lines from line n on, where so many continuation lines of the statement stand before them
 unfoldable pub joined : ℕ → Option ℕ → List (List ℕ) → Joined
@@ -80,7 +80,7 @@ joined n count (l ∷ ls) = by_kind n count (kind l) (λ (c : Option ℕ). joine
 -- open at its end, or an empty one (X3.9-1978, 4.8.1).
 abbrev pub statement : Lined → Result Stmt Refusal
 statement s =
-    if is_over (place_behind Outside s.characters) then Ok (record {
+    if is_over (scanner_after Outside s.characters) then Ok (record {
       line = s.line;
       label = s.label;
       text = map (λ x. x.byte) (text_from Outside s.characters);
@@ -110,7 +110,7 @@ unfoldable pub statements_of : List ℕ → Result (List Stmt) Refusal
 statements_of s =
     if is_too_large s then refusal 107 0 else (joined 1 None (lines s) >>= λ r. each_statement r.1)
 
--- The fault that a text has, as the program tells it. Want of memory says nothing of the text.
-abbrev pub Tells : TextFault → Result (List Stmt) Refusal → Type 0
-Tells faults.NoMemory read = Unit {0}
-Tells (faults.Refused number line name) read = (read ≡ refusal number line) × (name ≡ [])
+-- The fault that a text has, as the program reports it. Want of memory says nothing of the text.
+abbrev pub Reports : TextFault → Result (List Stmt) Refusal → Type 0
+Reports faults.NoMemory read = Unit {0}
+Reports (faults.Refused number line name) read = (read ≡ refusal number line) × (name ≡ [])

@@ -86,9 +86,9 @@ any_mark_in_column_6 : rows (statements_of (ended (codes "      A") ++ ended (co
 unfolding statements_of joined columns kind labelled
 any_mark_in_column_6 = refl
 
-zero_in_column_6_behind_a_statement : rows (statements_of (ended (codes "      A") ++ (codes "     0B"))) ≡ Ok (row 1 None (codes "A") ∷ row 2 None (codes "B") ∷ [])
+zero_in_column_6_after_a_statement : rows (statements_of (ended (codes "      A") ++ (codes "     0B"))) ≡ Ok (row 1 None (codes "A") ∷ row 2 None (codes "B") ∷ [])
 unfolding statements_of joined columns kind labelled
-zero_in_column_6_behind_a_statement = refl
+zero_in_column_6_after_a_statement = refl
 
 continuation_line_of_blanks : rows (statements_of (ended (codes "      A") ++ ended (codes "     +") ++ (codes "     +B"))) ≡ Ok (row 1 None (codes "AB") ∷ [])
 unfolding statements_of joined columns kind labelled
@@ -98,9 +98,9 @@ comment_lines_between : rows (statements_of (ended (codes "      A") ++ ended (c
 unfolding statements_of joined columns kind labelled
 comment_lines_between = refl
 
-continuation_line_behind_END : rows (statements_of (ended (codes "      END") ++ ended (codes "C") ++ (codes "     +A"))) ≡ Ok (row 1 None (codes "ENDA") ∷ [])
+continuation_line_after_END : rows (statements_of (ended (codes "      END") ++ ended (codes "C") ++ (codes "     +A"))) ≡ Ok (row 1 None (codes "ENDA") ∷ [])
 unfolding statements_of joined columns kind labelled
-continuation_line_behind_END = refl
+continuation_line_after_END = refl
 
 nineteen_continuation_lines : rows (statements_of (ended (codes "      A") ++ times 19 (ended (codes "     +B")) ++ (codes "      C"))) ≡ Ok (row 1 None (codes "ABBBBBBBBBBBBBBBBBBB") ∷ row 21 None (codes "C") ∷ [])
 unfolding statements_of joined columns kind labelled
@@ -122,9 +122,9 @@ continuation_line_first : rows (statements_of (ended (codes "     +A") ++ (codes
 unfolding statements_of joined columns kind labelled
 continuation_line_first = refl
 
-continuation_line_behind_comment_lines : rows (statements_of (ended (codes "C") ++ ended (codes "") ++ (codes "     +A"))) ≡ refusal 105 3
+continuation_line_after_comment_lines : rows (statements_of (ended (codes "C") ++ ended (codes "") ++ (codes "     +A"))) ≡ refusal 105 3
 unfolding statements_of joined columns kind labelled
-continuation_line_behind_comment_lines = refl
+continuation_line_after_comment_lines = refl
 
 label_on_a_continuation_line_first : rows (statements_of ((codes " 1   +A"))) ≡ refusal 103 1
 unfolding statements_of joined columns kind labelled
@@ -182,9 +182,9 @@ tab_in_column_1 : rows (statements_of ((9 ∷ codes "END"))) ≡ refusal 101 1
 unfolding statements_of joined columns kind labelled
 tab_in_column_1 = refl
 
-tab_behind_another_character : rows (statements_of ((codes "      A" ++ 200 ∷ 9 ∷ []))) ≡ refusal 101 1
+tab_after_another_character : rows (statements_of ((codes "      A" ++ 200 ∷ 9 ∷ []))) ≡ refusal 101 1
 unfolding statements_of joined columns kind labelled
-tab_behind_another_character = refl
+tab_after_another_character = refl
 
 byte_that_is_no_ASCII : rows (statements_of ((codes "      A = " ++ 195 ∷ []))) ≡ refusal 102 1
 unfolding statements_of joined columns kind labelled
@@ -198,9 +198,9 @@ column_72_is_the_last : rows (statements_of ((codes "      AAAAAAAAAAAAAAAAAAAAA
 unfolding statements_of joined columns kind labelled
 column_72_is_the_last = refl
 
-tab_behind_column_72 : rows (statements_of ((codes "      AAAAAAAAAAAAAAAAAAAAAAAAAAAAAAAAAAAAAAAAAAAAAAAAAAAAAAAAAAAAAAAAAA" ++ 9 ∷ []))) ≡ Ok (row 1 None (codes "AAAAAAAAAAAAAAAAAAAAAAAAAAAAAAAAAAAAAAAAAAAAAAAAAAAAAAAAAAAAAAAAAA") ∷ [])
+tab_after_column_72 : rows (statements_of ((codes "      AAAAAAAAAAAAAAAAAAAAAAAAAAAAAAAAAAAAAAAAAAAAAAAAAAAAAAAAAAAAAAAAAA" ++ 9 ∷ []))) ≡ Ok (row 1 None (codes "AAAAAAAAAAAAAAAAAAAAAAAAAAAAAAAAAAAAAAAAAAAAAAAAAAAAAAAAAAAAAAAAAA") ∷ [])
 unfolding statements_of joined columns kind labelled
-tab_behind_column_72 = refl
+tab_after_column_72 = refl
 
 apostrophe_in_column_72 : rows (statements_of ((codes "      'BBBBBBBBBBBBBBBBBBBBBBBBBBBBBBBBBBBBBBBBBBBBBBBBBBBBBBBBBBBBBBBB''"))) ≡ Ok (row 1 None (codes "'BBBBBBBBBBBBBBBBBBBBBBBBBBBBBBBBBBBBBBBBBBBBBBBBBBBBBBBBBBBBBBBB'") ∷ [])
 unfolding statements_of joined columns kind labelled
@@ -247,9 +247,9 @@ first_of_two_open_constants : rows (statements_of (ended (codes "      '") ++ (c
 unfolding statements_of joined columns kind labelled
 first_of_two_open_constants = refl
 
-open_constant_told_behind_a_later_line : rows (statements_of (ended (codes "      A = 'B") ++ ended (codes "      END") ++ (codes "X     END"))) ≡ refusal 103 3
+open_constant_reported_after_a_later_line : rows (statements_of (ended (codes "      A = 'B") ++ ended (codes "      END") ++ (codes "X     END"))) ≡ refusal 103 3
 unfolding statements_of joined columns kind labelled
-open_constant_told_behind_a_later_line = refl
+open_constant_reported_after_a_later_line = refl
 
 first_line_at_fault : rows (statements_of (ended (codes "     +A") ++ (9 ∷ []))) ≡ refusal 105 1
 unfolding statements_of joined columns kind labelled
@@ -277,9 +277,9 @@ open_constant_in_a_continuation_line : rows (statements_of (ended (codes "      
 unfolding statements_of joined columns kind labelled
 open_constant_in_a_continuation_line = refl
 
-open_constant_told_behind_a_continuation_line : rows (statements_of (ended (codes "      A = 'B") ++ ended (codes "      END") ++ times 20 (ended (codes "     +C")))) ≡ refusal 104 22
+open_constant_reported_after_a_continuation_line : rows (statements_of (ended (codes "      A = 'B") ++ ended (codes "      END") ++ times 20 (ended (codes "     +C")))) ≡ refusal 104 22
 unfolding statements_of joined columns kind labelled
-open_constant_told_behind_a_continuation_line = refl
+open_constant_reported_after_a_continuation_line = refl
 
 where_each_character_stands : spans (statements_of (ended (codes "C") ++ (codes " 1    A (i)"))) ≡ Ok ((at 2 7 ∷ at 2 9 ∷ at 2 10 ∷ at 2 11 ∷ []) ∷ [])
 unfolding statements_of joined columns kind labelled

@@ -2,56 +2,56 @@
 ghost use Rattle.std.specs.Prelude.{◌≡◌};
 ghost use Rattle.hep_text.specs.Constant as constant;
 
-/// How far a lower-case letter stands behind its upper-case one.
+/// How far a lower-case letter stands after its upper-case one.
 const CASE_DISTANCE: u8 = 32;
 
 /// Where a character of a statement stands, by those before it.
 #[derive(Clone, Copy, Debug, PartialEq, Eq)]
-pub enum Place {
+pub enum Scanner {
     /// Outside character constants.
     Outside,
-    /// Behind the apostrophe that opens a constant.
+    /// After the apostrophe that opens a constant.
     Opened,
     /// In a constant that has something in it.
     Filled,
-    /// Behind an apostrophe in a constant that has something in it: the constant is over, unless
+    /// After an apostrophe in a constant that has something in it: the constant is over, unless
     /// another apostrophe follows.
     Closing,
-    /// Behind an apostrophe that follows the opening one: the constant is empty, unless another
+    /// After an apostrophe that follows the opening one: the constant is empty, unless another
     /// apostrophe follows.
     Empty,
-    /// Behind an empty constant, which no statement may have.
+    /// After an empty constant, which no statement may have.
     Faulty,
 }
 
-impl Place {
-    /// Where the character behind `byte` stands.
-    pub fn next(self, byte: u8) -> Place
+impl Scanner {
+    /// Where the character after `byte` stands.
+    pub fn next(self, byte: u8) -> Scanner
         ensures { result ≡ constant.next self byte }
     {
         let apostrophe = byte == b'\'';
         match self {
-            Place::Outside if apostrophe => Place::Opened,
-            Place::Outside => Place::Outside,
-            Place::Opened if apostrophe => Place::Empty,
-            Place::Opened => Place::Filled,
-            Place::Filled if apostrophe => Place::Closing,
-            Place::Filled => Place::Filled,
-            Place::Closing if apostrophe => Place::Filled,
-            Place::Closing => Place::Outside,
-            Place::Empty if apostrophe => Place::Filled,
-            Place::Empty => Place::Faulty,
-            Place::Faulty => Place::Faulty,
+            Scanner::Outside if apostrophe => Scanner::Opened,
+            Scanner::Outside => Scanner::Outside,
+            Scanner::Opened if apostrophe => Scanner::Empty,
+            Scanner::Opened => Scanner::Filled,
+            Scanner::Filled if apostrophe => Scanner::Closing,
+            Scanner::Filled => Scanner::Filled,
+            Scanner::Closing if apostrophe => Scanner::Filled,
+            Scanner::Closing => Scanner::Outside,
+            Scanner::Empty if apostrophe => Scanner::Filled,
+            Scanner::Empty => Scanner::Faulty,
+            Scanner::Faulty => Scanner::Faulty,
         }
     }
 
     /// What the text has of `byte`: nothing of a blank outside constants, the upper-case letter of
     /// a lower-case one there, and else the byte.
-    pub fn share(self, byte: u8) -> Option<u8>
-        ensures { result ≡ constant.share self byte }
+    pub fn kept_character(self, byte: u8) -> Option<u8>
+        ensures { result ≡ constant.kept_character self byte }
     {
         match self {
-            Place::Outside | Place::Closing => outside_share(byte),
+            Scanner::Outside | Scanner::Closing => kept_outside(byte),
             _ => Some(byte),
         }
     }
@@ -60,24 +60,24 @@ impl Place {
     pub fn is_over(self) -> bool
         ensures { result ≡ constant.is_over self }
     {
-        matches!(self, Place::Outside | Place::Closing)
+        matches!(self, Scanner::Outside | Scanner::Closing)
     }
 }
 
 /// What the text has of a byte outside constants.
-fn outside_share(byte: u8) -> Option<u8>
-    ensures { result ≡ constant.outside_share byte }
+fn kept_outside(byte: u8) -> Option<u8>
+    ensures { result ≡ constant.kept_outside byte }
 {
     if byte == b' ' {
         None
     } else {
-        Some(raised(byte))
+        Some(upper_case(byte))
     }
 }
 
 /// The upper-case letter of a lower-case one, and any other byte as it is.
-fn raised(byte: u8) -> u8
-    ensures { result ≡ constant.raised byte }
+fn upper_case(byte: u8) -> u8
+    ensures { result ≡ constant.upper_case byte }
 {
     if b'a' <= byte && byte <= b'z' {
         byte - CASE_DISTANCE

@@ -25,7 +25,7 @@ pub enum LineKind<'a> {
     Refused(u16),
 }
 
-/// The first line of a text that isn't empty, and the text behind it.
+/// The first line of a text that isn't empty, and the text after it.
 #[tactic(auto, using(crate::proofs::Cut::goes_on, crate::proofs::Cut::ends, crate::proofs::Cut::ends_at_return, crate::proofs::Cut::is_last))]
 pub fn next_line(text: &[u8]) -> (&[u8], &[u8])
     requires { 0 < length text.now }
@@ -43,7 +43,7 @@ pub fn next_line(text: &[u8]) -> (&[u8], &[u8])
     (text, &text[text.len()..])
 }
 
-/// Whether a carriage return stands at an index, and a line feed behind it.
+/// Whether a carriage return stands at an index, and a line feed after it.
 fn is_return_before_feed(text: &[u8], index: usize) -> bool
     requires { index < length text.now }
     ensures value { result ≡ lines.is_return_before_feed text.now index }
@@ -70,12 +70,12 @@ pub fn kind(line: &[u8]) -> LineKind<'_>
     labelled(
         front(LABEL_COLUMNS, line),
         column(line, LABEL_COLUMNS),
-        behind(COLUMNS_BEFORE_TEXT, line),
+        rest_after(COLUMNS_BEFORE_TEXT, line),
     )
 }
 
 /// The kind of a line of printable characters that is no comment, by its columns 1 to 5, its
-/// column 6 and what stands behind.
+/// column 6 and what stands after.
 #[tactic(auto, unfolding(crate::specs::Line::labelled))]
 fn labelled<'a>(field: &[u8], mark: u8, rest: &'a [u8]) -> LineKind<'a>
     requires { length field.now ≤ label_columns }
@@ -172,8 +172,8 @@ fn front(count: usize, bytes: &[u8]) -> &[u8]
     }
 }
 
-/// What stands behind so many bytes.
-fn behind(count: usize, bytes: &[u8]) -> &[u8]
+/// What stands after so many bytes.
+fn rest_after(count: usize, bytes: &[u8]) -> &[u8]
     ensures { result.now ≡ drop count bytes.now }
 {
     if count < bytes.len() {
@@ -183,7 +183,7 @@ fn behind(count: usize, bytes: &[u8]) -> &[u8]
     }
 }
 
-/// The byte at an index, or a blank behind the end: shorter lines count as padded with blanks.
+/// The byte at an index, or a blank after the end: shorter lines count as padded with blanks.
 pub fn column(line: &[u8], index: usize) -> u8
     ensures { result ≡ get_or line.now index blank }
 {

@@ -7,16 +7,15 @@ ghost use Rattle.hep_text.specs.Grammar.{IsText, Gives};
 ghost use Rattle.hep_text.specs.Line as lines;
 ghost use Rattle.hep_text.specs.Line.{initial, continuation};
 ghost use Rattle.hep_text.specs.Reading as reading;
-ghost use Rattle.hep_text.specs.Reading.{statements_of, columns, most_bytes, Tells};
-ghost use Rattle.hep_text.specs.Shape.{HasShape};
+ghost use Rattle.hep_text.specs.Reading.{statements_of, columns, most_bytes, Reports};
+ghost use Rattle.hep_text.specs.WellFormed.{IsWellFormed};
 ghost use Rattle.hep_text.specs.Progress.{started, longer, over, pending_of, done_of, with_last, GoesOn, Fails};
-ghost use Rattle.hep_text.specs.declared.fault.TextFault.TheVariants.{NoMemory};
+ghost use Rattle.hep_base.specs.declared.refusal.Refusal.TheVariants.{NoMemory};
 
-use crate::bytes::Bytes;
-use crate::constant::Place;
-use crate::fault::TextFault;
+use crate::constant::Scanner;
 use crate::line::{LineKind, column, kind, next_line};
-use crate::statement::{Span, Spans, Stmt};
+use crate::statement::{Span, Stmt};
+use hep_base::{Refusal as TextFault, Sequence, Text};
 use std::alloc::Global;
 
 /// The most bytes of a source text.
@@ -48,7 +47,7 @@ struct Pending {
     /// Where each character of the text stands.
     spans: Vec<Span>,
     /// Where its next character stands, by those before it.
-    place: Place,
+    scanner: Scanner,
 }
 
 /// What was read so far.
@@ -75,8 +74,8 @@ struct Reading {
 #[tactic(auto, using(crate::proofs::Grammar::agrees))]
 pub fn statements(alloc: Global, source: &[u8]) -> Result<Vec<Stmt>, TextFault>
     ensures ok { IfOk result (λ v. statements_of source.now ≡ Ok v.items) }
-    ensures refused { IfErr result (λ e. Tells e (statements_of source.now)) }
-    ensures shape { IfOk result (λ v. All HasShape v.items) }
+    ensures refused { IfErr result (λ e. Reports e (statements_of source.now)) }
+    ensures shape { IfOk result (λ v. All IsWellFormed v.items) }
     ensures constants { (s t : List Character) → IsText s t ↔ Gives s t }
 {
     if is_too_large(source) {
@@ -156,7 +155,7 @@ fn take_initial(
         continued: 0,
         text: Vec::new(alloc),
         spans: Vec::new(alloc),
-        place: Place::Outside,
+        scanner: Scanner::Outside,
     };
     take_text(&mut pending, number, body)?;
     reading.pending = Some(pending);
@@ -206,11 +205,11 @@ fn take_character(pending: &mut Pending, byte: u8, span: Span) -> Result<(), Tex
     ensures ok { OnOk result (started pending.new ≡ longer (started pending.old) (record { byte = byte; span = span } ∷ [])) }
     ensures err { IfErr result (λ e. e ≡ NoMemory) }
 {
-    if let Some(kept) = pending.place.share(byte) {
+    if let Some(kept) = pending.scanner.kept_character(byte) {
         pending.text.push(kept)?;
         pending.spans.push(span)?;
     }
-    pending.place = pending.place.next(byte);
+    pending.scanner = pending.scanner.next(byte);
     Ok(())
 }
 
@@ -221,7 +220,7 @@ fn end_pending(reading: &mut Reading) -> Result<(), TextFault>
     ensures err { IfErr result (λ e. e ≡ NoMemory) }
 {
     if let Some(pending) = reading.pending.take() {
-        if pending.place.is_over() {
+        if pending.scanner.is_over() {
             reading.done.push(ended(pending))?;
         } else if reading.open.is_none() {
             reading.open = Some(pending.line);
@@ -247,15 +246,15 @@ fn ended(pending: Pending) -> Stmt
     Stmt {
         line,
         label,
-        text: Bytes::from(text),
-        spans: Spans::from(spans),
+        text: Text::from(text),
+        spans: Sequence::from(spans),
     }
 }
 
 /// The statements that were read, once each line is.
 fn all_read(alloc: Global, reading: Reading) -> Result<Vec<Stmt>, TextFault>
     ensures ok { IfOk result (λ v. with_last (done_of reading) (pending_of reading.pending) ≡ Ok v.items) }
-    ensures refused { IfErr result (λ e. Tells e (with_last (done_of reading) (pending_of reading.pending))) }
+    ensures refused { IfErr result (λ e. Reports e (with_last (done_of reading) (pending_of reading.pending))) }
 {
     let mut reading = reading;
     end_pending(&mut reading)?;

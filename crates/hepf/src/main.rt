@@ -1,21 +1,10 @@
 //! `hepf`: runs a HEP FORTRAN source from standard input.
 #![tactic(auto)]
 
-pub mod deliver;
-pub mod input;
-pub mod options;
-pub mod output;
-pub mod refusal;
-pub mod report;
-pub mod run;
-pub mod source;
-pub mod status;
 #[cfg(test)]
 mod tests;
-pub mod texts;
 
-use options::Options;
-use source::run_source;
+use hep_run::{Options, run_source};
 use std::process::ExitCode;
 
 fn main(rt: HostRuntime) -> ExitCode {

@@ -1,10 +1,11 @@
 //! Whole runs, with their bytes.
 
-use crate::options::{Choices, Options, Run};
-use crate::source::run_source;
-use hep_core::{ChooseFault, Core, Stop, Verdict, image_of};
+mod parts;
+mod shapes;
+
+use hep_core::{ChooseFault, Core, Entry, Stop, Verdict, image_of};
 use hep_parse::parse;
-use hep_source::Entry;
+use hep_run::{Choices, Options, Run, run_source};
 use hep_text::statements;
 use std::alloc::{AllocError, Global};
 use std::io;
@@ -739,15 +740,15 @@ const FIRST: &[u8] = b"      PRINT *,'A=',1+2*3,.TRUE.\n      END\n";
 // Reads from this reader: the messages and the status.
 fn read_from<R: Read>(rt: &impl Abort, alloc: Global, reader: &mut R, messages: &[u8], status: u8) {
     let mut output = Vec::new(alloc);
-    let mut told = Vec::new(alloc);
+    let mut reported = Vec::new(alloc);
     let run = run_source(
         alloc,
         reader,
         &Options::defaults(alloc),
         &mut output,
-        &mut told,
+        &mut reported,
     );
-    assert_eq!(rt; told.as_slice(), messages);
+    assert_eq!(rt; reported.as_slice(), messages);
     assert_eq!(rt; run.status, status);
 }
 
@@ -788,15 +789,15 @@ fn readers(rt: HostRuntime) {
 // Writes to a slow writer: what it took, the messages and the status.
 fn write_to(rt: &impl Abort, alloc: Global, writer: &mut Slow, messages: &[u8], status: u8) {
     let mut reader = FIRST;
-    let mut told = Vec::new(alloc);
+    let mut reported = Vec::new(alloc);
     let run = run_source(
         alloc,
         &mut reader,
         &Options::defaults(alloc),
         writer,
-        &mut told,
+        &mut reported,
     );
-    assert_eq!(rt; told.as_slice(), messages);
+    assert_eq!(rt; reported.as_slice(), messages);
     assert_eq!(rt; run.status, status);
 }
 

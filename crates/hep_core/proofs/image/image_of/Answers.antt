@@ -1,7 +1,7 @@
 use Rattle.std.proofs.Common.{◌≡◌, ◌∙◌, sym, ap, length, rules, None}
 use Rattle.hep_source.specs.Units.{unit_at, main_unit}
 use Rattle.hep_core.specs.Code.{code_from, program_code}
-use Rattle.hep_core.specs.Runnable.{first_unrun_in}
+use Rattle.hep_core.specs.Runnable.{first_unsupported_in}
 use Rattle.hep_core.specs.Symbols.{main_variables, variables_of}
 use Rattle.hep_core.proofs.Locals.{main_variables_are}
 use Rattle.hep_core.proofs.image.image_of.Goals as goal
@@ -9,14 +9,14 @@ use Rattle.hep_core.proofs.image.image_of.Goals as goal
 pub names_of-requires : goal.names_of-requires
 names_of-requires c =
     let program = c.args.program in
-    let runs : first_unrun_in program ≡ None = search rules in
+    let runs : first_unsupported_in program ≡ None = search rules in
     c.in_ok-symbols.ensures.keys ∙ ap variables_of c.main_statements-statements.ensures ∙ sym (main_variables_are program runs)
 
 pub invariant_of-result : goal.invariant_of-result
 unfolding program_code
 invariant_of-result c =
     let program = c.args.program in
-    let runs : first_unrun_in program ≡ None = search rules in
+    let runs : first_unsupported_in program ≡ None = search rules in
     let unit = unit_at program (main_unit program) in
     let statements : c.main_statements-statements.result.now ≡ unit = c.main_statements-statements.ensures in
     let keys : c.in_ok-symbols.symbols.keys ≡ main_variables program = c.in_ok-symbols.ensures.keys ∙ ap variables_of statements ∙ sym (main_variables_are program runs) in

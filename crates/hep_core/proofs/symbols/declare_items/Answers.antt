@@ -5,7 +5,7 @@ use Rattle.hep_source.specs.Names.{with_names}
 use Rattle.hep_core.specs.Symbols.{names_in, names_in_items, first_real, Reports, untyped_in}
 use Rattle.hep_core.proofs.Lists.{ahead}
 use Rattle.hep_core.proofs.Names.{items_names}
-use Rattle.hep_core.proofs.Declared.{with_names-append, first_real-behind, names-before}
+use Rattle.hep_core.proofs.Declared.{with_names-append, first_real-after, names-before}
 use Rattle.hep_core.proofs.symbols.declare_items.Goals as goal
 use Rattle.hep_core.proofs.symbols.declare_items.Goals.{in-Expression+in_ok-declare_in-in-Expression, in-Characters}
 
@@ -37,7 +37,7 @@ loop-item-preserved c =
           record {
             keys = ap (λ s. with_names s.keys rest) w.symbols-is ∙ ap (λ xs. with_names xs rest) done.0 ∙ sym (with_names-append c.loop-item.symbols.keys (names_in t) rest)
                 ∙ ap (with_names c.loop-item.symbols.keys) (sym here) ∙ c.loop-item.invariant.keys;
-            typed = sym (first_real-behind (names_in t) rest done.1) ∙ ap first_real (sym here) ∙ c.loop-item.invariant.typed;
+            typed = sym (first_real-after (names_in t) rest done.1) ∙ ap first_real (sym here) ∙ c.loop-item.invariant.typed;
           }
       | in-Characters w ↦
           let here : names_in_items (drop i items) ≡ rest = ap names_in_items (ahead items i c.item-item.result (Characters w.in-Characters.field-0) c.loop-item-test.true c.item-item.is w.in-Characters.is) in

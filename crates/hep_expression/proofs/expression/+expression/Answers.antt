@@ -9,8 +9,8 @@ chain-loop-turn-preserved t c =
 
 pub arguments-loop-turn-preserved : goal.arguments-loop-turn-preserved
 arguments-loop-turn-preserved t c =
-    rw c.in_ok-push.ensures.items (arguments_go_on (expression c.args.context c.args.depth) (length c.args.s.now) c.loop-turn._turn c.loop-turn.list.items c.loop-turn.rest.now _ c.in_ok-argument.argument c.in_ok-argument.behind.now c.in-Some-after.behind.now c.loop-turn-test.true c.in_ok-argument.ensures (sym c.in_default.ensures) (sym c.in-Some-after.ensures) c.loop-turn.invariant)
+    rw c.in_ok-push.ensures.items (arguments_go_on (expression c.args.context c.args.depth) (length c.args.s.now) c.loop-turn._turn c.loop-turn.list.items c.loop-turn.rest.now _ c.in_ok-argument.argument c.in_ok-argument.rest_after.now c.in-Some-after.rest_after.now c.loop-turn-test.true c.in_ok-argument.ensures (sym c.in_default.ensures) (sym c.in-Some-after.ensures) c.loop-turn.invariant)
 
 pub arguments-returns-in-Some : goal.arguments-returns-in-Some
 arguments-returns-in-Some t c =
-    rw c.in_ok-push.ensures.items (arguments_end (expression c.args.context c.args.depth) (length c.args.s.now) c.loop-turn._turn c.loop-turn.list.items c.loop-turn.rest.now _ c.in_ok-argument.argument c.in_ok-argument.behind.now c.in-Some.behind.now c.loop-turn-test.true c.in_ok-argument.ensures (sym c.in-Some.ensures) c.loop-turn.invariant)
+    rw c.in_ok-push.ensures.items (arguments_end (expression c.args.context c.args.depth) (length c.args.s.now) c.loop-turn._turn c.loop-turn.list.items c.loop-turn.rest.now _ c.in_ok-argument.argument c.in_ok-argument.rest_after.now c.in-Some.rest_after.now c.loop-turn-test.true c.in_ok-argument.ensures (sym c.in-Some.ensures) c.loop-turn.invariant)

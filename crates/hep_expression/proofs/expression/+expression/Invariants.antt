@@ -1,12 +1,12 @@
 use Rattle.std.proofs.Common.{◌≡◌, ℕ, ◌+◌, ◌*◌, ◌-◌, length}
-use Rattle.hep_expression.specs.declared.expression.Level.{Level}
-use Rattle.hep_expression.specs.declared.expression.Level.TheVariants.{Equivalence, Disjunction, Conjunction, Sum, Term}
+use Rattle.hep_expression.specs.declared.expression.Precedence.{Precedence}
+use Rattle.hep_expression.specs.declared.expression.Precedence.TheVariants.{Equivalence, Disjunction, Conjunction, Sum, Term}
 use Rattle.hep_expression.specs.ReadingExpression.{operators, chain, next_operand, arguments, expression, power}
-use Rattle.hep_expression.proofs.Chains.{behind_read}
+use Rattle.hep_expression.proofs.Chains.{after_read}
 use Rattle.hep_expression.proofs.expression.+expression.Given as goal
 
 -- the place of a level's operands in the order of calls at one depth: what calls has a greater one
-abbrev rank : Level → ℕ
+abbrev rank : Precedence → ℕ
 rank Equivalence = 22
 rank Disjunction = 19
 rank Conjunction = 16
@@ -61,6 +61,6 @@ decreases-in_parentheses l = 32 * l.depth + 2
 abbrev pub invariant-chain-loop-turn : goal.invariant-chain-loop-turn
 invariant-chain-loop-turn l = chain (operators l.level) (next_operand l.level (power l.context l.depth)) (l.turns - l._turn) l.left l.rest ≡ chain (operators l.level) (next_operand l.level (power l.context l.depth)) l.turns l.fn.first l.fn.s
 
--- what is read behind the arguments so far is the whole
+-- what is read after the arguments so far is the whole
 abbrev pub invariant-arguments-loop-turn : goal.invariant-arguments-loop-turn
-invariant-arguments-loop-turn l = behind_read l.list.items (arguments (expression l.context l.depth) (length l.fn.s - l._turn) l.rest) ≡ arguments (expression l.context l.depth) (length l.fn.s) l.fn.s
+invariant-arguments-loop-turn l = after_read l.list.items (arguments (expression l.context l.depth) (length l.fn.s - l._turn) l.rest) ≡ arguments (expression l.context l.depth) (length l.fn.s) l.fn.s

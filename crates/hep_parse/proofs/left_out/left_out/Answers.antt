@@ -10,4 +10,4 @@ pub returns-in_default : goal.returns-in_default
 returns-in_default c = begins_otherwise c.args.context (length c.args.s.now) c.loop-turn._turn c.loop-turn.rest.now _ c.rule_of.result c.loop-turn-test.true (sym c.rule_of.ensures) c.in_default.not-LogicalIf c.in_default.not-Worded c.loop-turn.invariant
 
 pub loop-turn-preserved : goal.loop-turn-preserved
-loop-turn-preserved c = goes_on c.args.context (length c.args.s.now) c.loop-turn._turn c.loop-turn.rest.now _ _ c.loop-turn-test.true (sym c.rule_of.ensures ∙ c.in-LogicalIf.is) c.in_ok-behind-in-LogicalIf.ensures c.loop-turn.invariant
+loop-turn-preserved c = goes_on c.args.context (length c.args.s.now) c.loop-turn._turn c.loop-turn.rest.now _ _ c.loop-turn-test.true (sym c.rule_of.ensures ∙ c.in-LogicalIf.is) c.in_ok-rest_after-in-LogicalIf.ensures c.loop-turn.invariant

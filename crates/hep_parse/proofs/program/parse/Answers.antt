@@ -1,4 +1,4 @@
-use Rattle.hep_parse.proofs.Outcomes.{accepted, complete, refused, first_told}
+use Rattle.hep_parse.proofs.Outcomes.{accepted, complete, refused, first_reported}
 use Rattle.hep_parse.proofs.program.parse.Goals as goal
 
 pub returns-clause-accepted : goal.returns-clause-accepted
@@ -10,5 +10,5 @@ returns-clause-complete c = complete c.args.statements.now c.program.result c.pr
 pub returns-clause-refused : goal.returns-clause-refused
 returns-clause-refused c = refused c.args.statements.now c.program.result c.program.ensures
 
-pub returns-clause-told : goal.returns-clause-told
-returns-clause-told c = first_told c.args.statements.now c.program.result c.program.ensures
+pub returns-clause-reported : goal.returns-clause-reported
+returns-clause-reported c = first_reported c.args.statements.now c.program.result c.program.ensures

@@ -2,7 +2,7 @@ use Rattle.std.proofs.Common.{◌≡◌, ℕ, List, [], ◌∷◌, ◌++◌, dro
 use Rattle.std.proofs.lemmas.List.{drop_all}
 use Rattle.hep_source.specs.declared.statement.Statement.{Statement}
 use Rattle.hep_text.specs.declared.statement.Stmt.{Stmt}
-use Rattle.hep_parse.specs.declared.fault.ParseFault.{ParseFault}
+use Rattle.hep_base.specs.declared.refusal.Refusal.{Refusal as ParseFault}
 use Rattle.hep_parse.specs.declared.program.State.{State}
 use Rattle.hep_parse.specs.ReadingProgram.{Misses, units, program}
 use Rattle.hep_parse.proofs.Programs.{not_true, not_false}
@@ -10,7 +10,7 @@ use Rattle.hep_parse.proofs.UnitLoops.{with_units, left_at, failed, within, at_i
 use Rattle.hep_parse.proofs.program.units.Goals as goal
 use Rattle.hep_parse.proofs.program.units.Goals.{then-is_start+in_ok-push-2, else-is_start}
 
--- the invariant in the loop and behind it, with what is left of the statements said otherwise
+-- the invariant in the loop and after it, with what is left of the statements said otherwise
 turned : (x : State) (line : ℕ) (done : List (List Statement)) (unit : List Statement) (given left : List Stmt) (i : ℕ) → drop i given ≡ left → with_units done unit (units x line (drop i given)) ≡ program given → with_units done unit (units x line left) ≡ program given
 turned x line done unit given left i e so_far = subst (λ (l : List Stmt). with_units done unit (units x line l) ≡ program given) e so_far
 

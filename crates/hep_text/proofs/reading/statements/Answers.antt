@@ -4,7 +4,7 @@ use Rattle.std.proofs.lemmas.Bool.{eqb-true}
 use Rattle.hep_text.specs.Line.{lines}
 use Rattle.hep_text.specs.Reading.{is_too_large}
 use Rattle.hep_text.specs.Progress.{done_of, pending_of}
-use Rattle.hep_text.proofs.Shape.{shape_of}
+use Rattle.hep_text.proofs.WellFormed.{shape_of}
 use Rattle.hep_text.proofs.Joining.{too_large, not_too_large, all_lines, next_of}
 use Rattle.hep_text.proofs.reading.statements.Goals as goal
 

@@ -1,15 +1,15 @@
 use Rattle.std.proofs.Common.{◌≡◌, ◌<◌, ◌++◌, ◌∷◌, [], ◌∙◌, sym, ap, subst, rules, false, None, Some, length, arith, refl}
 use Rattle.std.specs.Prelude.{◌≢◌}
 use Rattle.std.proofs.lemmas.Result.{err_from_is_err_and}
-use Rattle.hep_source.specs.declared.event.Entry.{Entry}
-use Rattle.hep_source.specs.Histories.{IsLegal}
-use Rattle.hep_source.specs.Run.{state_after}
-use Rattle.hep_source.specs.Schedules.{progress_after}
-use Rattle.hep_source.specs.Step.{step}
-use Rattle.hep_source.specs.Processes.{living}
+use Rattle.hep_machine.specs.declared.event.Entry.{Entry}
+use Rattle.hep_machine.specs.Histories.{IsLegal}
+use Rattle.hep_machine.specs.Run.{state_after}
+use Rattle.hep_machine.specs.Schedules.{progress_after}
+use Rattle.hep_machine.specs.Step.{step}
+use Rattle.hep_machine.specs.Processes.{living}
 use Rattle.hep_core.specs.Machine.{snapshot_of}
-use Rattle.hep_core.specs.Shown.{Shows}
-use Rattle.hep_core.specs.Kept.{core_value, kept_view}
+use Rattle.hep_core.specs.Simulation.{Simulates}
+use Rattle.hep_core.specs.Invariant.{core_value, machine_view}
 use Rattle.hep_core.specs.Value.{IsStop, stop_after}
 use Rattle.hep_core.proofs.Histories.{state_after-stepped, unlisted-stepped, legal-stepped}
 use Rattle.hep_core.proofs.Settled.{process_lives}
@@ -23,7 +23,7 @@ returns-in_err-step c =
     let shown = c.in_err-step.ensures i.image s c.code.ensures c.if-not-self.false c.self.invariant.shown in
     let view = shows_view i.image (snapshot_of c.step.new.self) s shown ∙ sym (shows_view i.image (snapshot_of i.machine) s c.self.invariant.shown) in
     let p = err_from_is_err_and c.from_residual-in_err-step.result c.from_residual-in_err-step.ensures.1 in
-    let value : record (core_value i) { history = c.reserve.new.self.items; view = kept_view i.image (snapshot_of c.step.new.self) } ≡ core_value i =
+    let value : record (core_value i) { history = c.reserve.new.self.items; view = machine_view i.image (snapshot_of c.step.new.self) } ≡ core_value i =
     λ j. record (core_value i) { history = c.reserve.ensures.items j; view = view j } in
     let none : i.stop ≡ None = search rules in
     let lives : living s c.args.p ≢ None = rw c.if-p-ne-MAIN_PROCESS.false (process_lives i.image (snapshot_of i.machine) s c.self.invariant.shown c.if-not-self.false) in
@@ -46,7 +46,7 @@ invariant_of-self-2 c =
     let same : length s.activations ≡ length done.0.activations = ap length c.self.invariant.shown.activations ∙ sym (ap length done.2.activations) in
     let state : done.0 ≡ state_after i.image h' = sym (state_after-stepped i.image h p done.0 step_is) ∙ ap (state_after i.image) (sym is) in
     record {
-      shown = subst (Shows i.image (snapshot_of c.step.new.self)) state done.2;
+      shown = subst (Simulates i.image (snapshot_of c.step.new.self)) state done.2;
       unlisted = subst (λ es. progress_after i.image es ≡ record { state = state_after i.image es; listed = [] }) (sym is) (unlisted-stepped i.image h p done.0 c.self.invariant.unlisted step_is);
       fits = c.self.invariant.fits;
       legal = subst (IsLegal i.image i.cells i.limit) (sym is) (legal-stepped i.image i.cells i.limit h p done.0 c.self.invariant.legal lt same step_is);

@@ -1,4 +1,4 @@
-use Rattle.hep_source.specs.Run.{state_after}
+use Rattle.hep_machine.specs.Run.{state_after}
 use Rattle.hep_core.specs.Machine.{snapshot_of}
 use Rattle.hep_core.proofs.Viewed.{shows_view}
 use Rattle.hep_core.proofs.scheduler.Core.headline.Goals as goal

@@ -1,15 +1,15 @@
 use Rattle.std.proofs.Common.{◌≡◌, ◌≤◌, ◌∙◌, sym, ap, subst, arith, false, []}
 use Rattle.std.specs.Prelude.{IsSome}
 use Rattle.std.proofs.lemmas.Result.{err_from_is_err_and}
-use Rattle.hep_source.specs.Layout.{has_frame, layout_of}
-use Rattle.hep_source.specs.Histories.{AreEntries}
-use Rattle.hep_source.specs.Opening.{opening}
-use Rattle.hep_source.specs.Run.{expand, state_after}
-use Rattle.hep_source.specs.Schedules.{progress_after}
-use Rattle.hep_source.specs.Views.{view_of}
+use Rattle.hep_machine.specs.Layout.{has_frame, layout_of}
+use Rattle.hep_machine.specs.Histories.{AreEntries}
+use Rattle.hep_machine.specs.Opening.{opening}
+use Rattle.hep_machine.specs.Run.{schedule_of, state_after}
+use Rattle.hep_machine.specs.Schedules.{progress_after}
+use Rattle.hep_machine.specs.Views.{view_of}
 use Rattle.hep_core.specs.Machine.{snapshot_of}
-use Rattle.hep_core.specs.Shown.{Shows}
-use Rattle.hep_core.specs.Kept.{kept_view}
+use Rattle.hep_core.specs.Simulation.{Simulates}
+use Rattle.hep_core.specs.Invariant.{machine_view}
 use Rattle.hep_core.specs.Value.{opening_of}
 use Rattle.hep_core.proofs.Running.{main_cells, has_gap, has_no_gap}
 use Rattle.hep_core.proofs.Histories.{state_after-nil, room-nil, unlisted-nil}
@@ -23,15 +23,15 @@ invariant_of-result c =
     let m = snapshot_of c.in_ok-machine.machine in
     let state = ap (state_after program) none ∙ state_after-nil program in
     let runs = c.variables-variables.ensures.runs in
-    let shown : Shows program m (opening program) = shows_opening program m c.variables-variables.result runs c.in_ok-machine.ensures c.variables-variables.ensures.count in
+    let shown : Simulates program m (opening program) = shows_opening program m c.variables-variables.result runs c.in_ok-machine.ensures c.variables-variables.ensures.count in
     let fits : main_cells program ≤ c.args.cells = omega (arith, c.variables-variables.ensures.count) in
     record {
-      shown = subst (Shows program m) (sym state) shown;
+      shown = subst (Simulates program m) (sym state) shown;
       unlisted = subst (λ es. progress_after program es ≡ record { state = state_after program es; listed = [] }) (sym none) (unlisted-nil program);
       fits = omega (arith, c.variables-variables.ensures.count);
       legal = record {
         within = rw none (omega arith);
-        room = subst (λ es. IsSome (layout_of program c.args.cells has_frame (expand es))) (sym none) (room-nil program c.args.cells (has_gap program c.args.cells runs fits));
+        room = subst (λ es. IsSome (layout_of program c.args.cells has_frame (schedule_of es))) (sym none) (room-nil program c.args.cells (has_gap program c.args.cells runs fits));
         entries = subst (AreEntries program (opening program)) (sym none) tt;
       };
       named = subst (λ t. t.halted ≡ false) (sym state) shown.running;
@@ -48,8 +48,8 @@ returns-clause-made c =
     let none : c.new.result.items ≡ [] = c.new.ensures.items in
     let m = snapshot_of c.in_ok-machine.machine in
     let runs = c.variables-variables.ensures.runs in
-    let shown : Shows program m (opening program) = shows_opening program m c.variables-variables.result runs c.in_ok-machine.ensures c.variables-variables.ensures.count in
-    let view : kept_view program m ≡ view_of program has_frame (state_after program []) = shows_view program m (opening program) shown ∙ ap (view_of program has_frame) (sym (state_after-nil program)) in
+    let shown : Simulates program m (opening program) = shows_opening program m c.variables-variables.result runs c.in_ok-machine.ensures c.variables-variables.ensures.count in
+    let view : machine_view program m ≡ view_of program has_frame (state_after program []) = shows_view program m (opening program) shown ∙ ap (view_of program has_frame) (sym (state_after-nil program)) in
     λ i. record (opening_of program c.args.cells c.args.steps) { history = none i; view = view i }
 
 pub returns-then-cells-variables-clause-unmade : goal.returns-then-cells-variables-clause-unmade

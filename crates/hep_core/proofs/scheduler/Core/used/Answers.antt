@@ -1,5 +1,5 @@
 use Rattle.std.proofs.Common.{◌+◌, ◌∙◌, sym, ap}
-use Rattle.hep_source.specs.Run.{state_after}
+use Rattle.hep_machine.specs.Run.{state_after}
 use Rattle.hep_core.proofs.Running.{used_is}
 use Rattle.hep_core.proofs.scheduler.Core.used.Goals as goal
 

@@ -1,5 +1,5 @@
 use Rattle.std.proofs.Common.{length, sym, ap, ◌∙◌}
-use Rattle.hep_source.specs.Shapes.{sum}
+use Rattle.hep_machine.specs.Shapes.{sum}
 use Rattle.hep_shape.proofs.Columns.{counted, other_length}
 use Rattle.hep_shape.proofs.shape.Shape.element.Goals as goal
 

@@ -1,0 +1,66 @@
+//! Why a source, or a text beside it, is refused.
+ghost use Rattle.std.specs.Prelude.{◌≡◌, []};
+ghost use Rattle.hep_base.specs.declared.refusal.Refusal.TheVariants as refusal;
+ghost use Rattle.hep_base.specs.Refusals.{Reports};
+
+use crate::sequence::Text;
+use std::alloc::{AllocError, AllocFailed, Global};
+use thiserror::Error;
+
+/// Why a source, or a text beside it, is refused, or that there was too little memory to know.
+#[derive(Debug, Drop, Error)]
+pub enum Refusal {
+    /// A growth was refused, which says nothing of the source.
+    #[error("no memory")]
+    NoMemory,
+    /// The source breaks a rule.
+    #[error("{number} at line {line}")]
+    Refused {
+        /// The number of the rule (docs/LANGUAGE.md).
+        number: u16,
+        /// The line at fault, counted from 1; 0 where the whole text is.
+        line: u32,
+        /// The name that the rule is about, empty where it is about none.
+        name: Text,
+    },
+}
+
+impl Refusal {
+    /// A refusal that is about no name.
+    pub fn refused(alloc: Global, number: u16, line: u32) -> Refusal
+        ensures { result ≡ refusal.Refused number line [] }
+    {
+        let name = Text::from(Vec::new(alloc));
+        Refusal::Refused { number, line, name }
+    }
+
+    /// A refusal that is about this name, unless there is no memory for it.
+    pub fn named(alloc: Global, number: u16, line: u32, name: &[u8]) -> Refusal
+        ensures { Reports result (number, line, name.now) }
+    {
+        match Vec::from_slice(alloc, name) {
+            Ok(bytes) => Refusal::Refused {
+                number,
+                line,
+                name: Text::from(bytes),
+            },
+            Err(_) => Refusal::NoMemory,
+        }
+    }
+}
+
+impl From<AllocError> for Refusal {
+    ghost from_gives = { λ _ result. result ≡ refusal.NoMemory };
+
+    fn from(_refused: AllocError) -> Refusal {
+        Refusal::NoMemory
+    }
+}
+
+impl<T: Drop> From<AllocFailed<T>> for Refusal {
+    ghost from_gives = { λ _ result. result ≡ refusal.NoMemory };
+
+    fn from(_refused: AllocFailed<T>) -> Refusal {
+        Refusal::NoMemory
+    }
+}

@@ -1,9 +1,0 @@
-pub mod Lists
-pub mod Label
-pub mod Constant
-pub mod Declaration
-pub mod ReadingLists
-pub mod ReadingLabel
-pub mod ReadingConstant
-pub mod ReadingTarget
-pub mod ReadingDeclaration

@@ -1,0 +1,28 @@
+-- Histories that a core may have: docs/MACHINE.md, "Histories".
+use Rattle.std.specs.Prelude.{◌≡◌, ◌⊎◌, ℕ, ◌^◌, ◌≤◌, true, List, [], ◌∷◌, length, IsSome}
+use Rattle.hep_machine.specs.declared.event.Entry.{Entry}
+use Rattle.hep_machine.specs.Layout.{layout_of, has_frame}
+use Rattle.hep_machine.specs.Opening.{opening}
+use Rattle.hep_machine.specs.Run.{AreSteps, run_from, schedule_of_entry, schedule_of}
+use Rattle.hep_machine.specs.State.{State}
+use Rattle.hep_machine.specs.Step.{is_waiting}
+use Rattle.hep_source.specs.Units.{Units}
+
+abbrev pub most_steps : ℕ
+most_steps = 2 ^ 10
+
+-- an entry is one to 1,024 steps, each of which is there, or none of a process that waits
+abbrev pub IsEntry : Units → State → Entry → Type 0
+IsEntry program s e =
+    ((e.steps ≡ 0) × (is_waiting program s e.process ≡ true)) ⊎ ((1 ≤ e.steps) × (e.steps ≤ most_steps) × AreSteps program s (schedule_of_entry e))
+
+abbrev pub AreEntries : Units → State → List Entry → Type 0
+AreEntries program s [] = Unit {0}
+AreEntries program s (e ∷ es) = IsEntry program s e × AreEntries program (run_from program s (schedule_of_entry e)) es
+
+-- a history that is legal for an arena and a limit
+pub record IsLegal (program : Units) (cells limit : ℕ) (history : List Entry) : Type 0 where
+  pub within : length history ≤ limit
+  -- each frame has a gap when it is made
+  pub room : IsSome (layout_of program cells has_frame (schedule_of history))
+  pub entries : AreEntries program (opening program) history

@@ -1,0 +1,38 @@
+-- Storage units and the store: docs/MACHINE.md, "Storage".
+use Rattle.std.specs.Prelude.{ℕ, zero, suc, ◌+◌, Bool, false, ◌&&◌, nat_eq, if◌then◌else◌, Option, None}
+use Rattle.hep_source.specs.declared.value.Value.{Value}
+use Rattle.hep_machine.specs.Declarations.{same_block}
+use Rattle.hep_source.specs.Names.{same_name}
+use Rattle.hep_machine.specs.State.{Location, local, common, Cell, Store}
+
+-- undefined (X3.9-1978, 2.11 and 17.3), or empty without a value
+abbrev pub undefined_cell : Cell
+undefined_cell = record { value = None; full = false }
+
+abbrev pub same_location : Location → Location → Bool
+same_location (local a x i) (local b y j) = nat_eq a b && (same_name x y && nat_eq i j)
+same_location (local a x i) (common n k) = false
+same_location (common m j) (local b y i) = false
+same_location (common m j) (common n k) = same_block m n && nat_eq j k
+
+-- so many elements further in the same sequence of storage units
+abbrev pub further : Location → ℕ → Location
+further (local a x i) n = local a x (i + n)
+further (common b k) n = common b (k + n)
+
+-- the store with this cell at a location
+abbrev pub with_cell : Store → Location → Cell → Store
+with_cell store at cell location = if same_location location at then cell else store location
+
+-- the store with this value at a plain location
+abbrev pub with_value : Store → Location → Option Value → Store
+with_value store at value = with_cell store at (record { value = value; full = (store at).full })
+
+-- the store with a location full or empty; what was stored stays
+abbrev pub with_state : Store → Location → Bool → Store
+with_state store at full = with_cell store at (record { value = (store at).value; full = full })
+
+-- the store with so many storage units empty, from a location on
+abbrev pub emptied_from : ℕ → Location → Store → Store
+emptied_from zero at store = store
+emptied_from (suc n) at store = emptied_from n (further at 1) (with_state store at false)

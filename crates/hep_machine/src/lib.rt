@@ -1,0 +1,16 @@
+//! The source machine: what a program means, step by step, and what its run leaves.
+//!
+//! The definitions stand in `specs/`, in files by subject, and laws about them are contracts of the
+//! functions in [`laws`]. Integer arithmetic and the types of records, faults and histories are code
+//! that every crate above shares.
+#![tactic(auto)]
+
+pub mod arithmetic;
+pub mod event;
+pub mod laws;
+pub mod record;
+pub mod shape;
+
+pub use event::{Entry, Fault, Kind};
+pub use record::{Item, Record};
+pub use shape::Bound;

@@ -1,0 +1,4 @@
+mod Schedules
+mod Messages
+mod Fronts
+mod Outcomes

@@ -1,0 +1,38 @@
+-- The outcome of a run, from the core that it left.
+use Rattle.std.proofs.Common.{◌≡◌, ℕ, Option, Some, None, Result, Ok, Err, refl, subst, inl, inr}
+use Rattle.std.specs.Prelude.{IfOk}
+use Rattle.hep_machine.specs.Histories.{IsLegal}
+use Rattle.hep_source.specs.Units.{Units}
+use Rattle.hep_core.specs.declared.stop.Stop.{Stop}
+use Rattle.hep_core.specs.declared.stop.Stop.TheVariants.{Halted, ArenaFull, StepLimit}
+use Rattle.hep_core.specs.Value as core
+use Rattle.hep_core.specs.Value.{CoreValue}
+use Rattle.hep_run.specs.declared.options.Options.{Options}
+use Rattle.hep_run.specs.declared.run.Halt.TheVariants.{NoSuchProcess}
+use Rattle.hep_run.specs.Outcome.{Outcome, IsHistory, IsOver, IsRunOutcome, next_process, outcome_of_refused_choice, outcome_of_end}
+use Rattle.hep_run.specs.Progress.{IsStopOfRun, IsRunning, IsHaltedBy}
+
+pub if_ok : {A E : Type 0} (r : Result A E) (P Q : A → Type 0) → ((x : A) → P x → Q x) → IfOk r P → IfOk r Q
+if_ok (Ok x) P Q f p = f x p
+if_ok (Err e) P Q f p = tt
+
+made : (options : Options) (core : CoreValue) → IsRunning options core → IsLegal core.program core.cells core.limit core.history → IsHistory core.program options core.history
+made options core running legal =
+    record {
+      legal = subst (λ (n : ℕ). IsLegal core.program options.arena n core.history) running.limit (subst (λ (n : ℕ). IsLegal core.program n core.limit core.history) running.cells legal);
+      scheduled = running.scheduled;
+    }
+
+over : (options : Options) (value : CoreValue) (stop : Option Stop) → IsStopOfRun options value stop → (stop ≡ None → next_process value.program options.choices value.history ≡ None) → core.IsStop value.program value.limit value.history stop → IsOver value.program options value.history stop
+over options value None here none named = (named, none refl)
+over options value (Some Halted) here none named = named
+over options value (Some ArenaFull) here none named = absurd here
+over options value (Some StepLimit) here none named = here
+
+pub outcome_refused : (options : Options) (program : Units) (value : CoreValue) (choice : ℕ) (o : Outcome) → value.program ≡ program → IsHaltedBy options value (NoSuchProcess choice) → IsLegal value.program value.cells value.limit value.history → o ≡ outcome_of_refused_choice value.history → IsRunOutcome program options o
+outcome_refused options program value choice o same halted legal is =
+    subst (λ (p : Units). IsRunOutcome p options o) same (value.history, made options value halted.0 legal, inl (halted.2, is))
+
+pub outcome_over : (options : Options) (program : Units) (value : CoreValue) (o : Outcome) → value.program ≡ program → IsRunning options value → (value.stop ≡ None → next_process value.program options.choices value.history ≡ None) → IsLegal value.program value.cells value.limit value.history → core.IsStop value.program value.limit value.history value.stop → o ≡ outcome_of_end value.program value.history value.stop → IsRunOutcome program options o
+outcome_over options program value o same running none legal named is =
+    subst (λ (p : Units). IsRunOutcome p options o) same (value.history, made options value running legal, inr (value.stop, over options value value.stop running.stop none named, is))

@@ -1,0 +1,226 @@
+-- A choice makes a history longer by one entry, of the process that comes next.
+use Rattle.std.proofs.Common.{◌≡◌, ℕ, zero, suc, ◌+◌, ◌<◌, ◌≤◌, Bool, true, false, List, [], ◌∷◌, ◌++◌, length, take, Option, Some, None, refl, sym, ap, ◌∙◌, subst, arith, inl, inr, Ok, Err, length-append}
+use Rattle.std.specs.Prelude.{◌≢◌, slice_get, nat_lt, not, replicate, cond, if◌then◌else◌}
+use Rattle.std.specs.List.{filter}
+use Rattle.hep_core.specs.declared.stop.Stop.{Stop}
+use Rattle.hep_core.specs.declared.stop.Stop.TheVariants.{Halted, StepLimit}
+use Rattle.hep_core.specs.declared.fault.ChooseFault.TheVariants.{Stopped}
+use Rattle.std.proofs.lemmas.Bool.{cases_lt}
+use Rattle.std.proofs.lemmas.List.{take-append-le}
+use Rattle.std.proofs.Math.Seq.{take-append_seam}
+use Rattle.std.proofs.lemmas.Option.{slice_get_within, slice_get_past}
+use Rattle.hep_machine.specs.declared.event.Entry.{Entry}
+use Rattle.hep_source.specs.Units.{Units}
+use Rattle.hep_machine.specs.State.{State, Process}
+use Rattle.hep_machine.specs.Opening.{opening}
+use Rattle.hep_machine.specs.Run.{run, run_from, schedule_of, state_after, state_after_turn}
+use Rattle.hep_machine.specs.Schedules.{Progress, progress_after_step, progress_after_steps, progress_after_entry, progress_from, progress_after, living_from, ready_in, last_process, first_above, next_ready}
+use Rattle.hep_machine.specs.Processes.{living, top_of, is_number_among}
+use Rattle.hep_core.specs.declared.stop.Turn.{Turn}
+use Rattle.hep_core.specs.Value.{CoreValue, state_of, core_after_choice, stop_after, HasNoStop, IsTurn, IsChoice}
+use Rattle.hep_run.specs.declared.options.Options.{Options}
+use Rattle.hep_run.specs.Outcome.{first_choice, next_process, IsScheduled}
+use Rattle.hep_run.specs.Progress.{IsStopOfRun, IsRunning}
+
+-- without a STOP the choice comes next, or what is ready
+pub next_is_chosen : (program : Units) (choices : List ℕ) (history : List Entry) → (state_after program history).halted ≡ false → next_process program choices history ≡ first_choice (slice_get choices (length history)) (next_ready program history)
+next_is_chosen program choices history going =
+    ap (λ b. if b then None else first_choice (slice_get choices (length history)) (next_ready program history)) going
+
+-- ---- entries
+
+get_front : (xs ys : List Entry) (k : ℕ) → k < length xs → slice_get (xs ++ ys) k ≡ slice_get xs k
+get_front [] ys k h = absurd (omega arith)
+get_front (x ∷ xs) ys zero h = refl
+get_front (x ∷ xs) ys (suc k) h = get_front xs ys k (omega arith)
+
+get_last : (xs : List Entry) (y : Entry) → slice_get (xs ++ y ∷ []) (length xs) ≡ Some y
+get_last [] y = refl
+get_last (x ∷ xs) y = get_last xs y
+
+one_more : (program : Units) (choices : List ℕ) (h : List Entry) (e : Entry) → IsScheduled program choices h → next_process program choices h ≡ Some e.process → IsScheduled program choices (h ++ e ∷ [])
+one_more program choices h e so_far next k e' at = elim (cases_lt k (length h)) [ inl lt ↦ before lt | inr ge ↦ rest_after ge ]
+  where
+    before : k < length h → next_process program choices (take k (h ++ e ∷ [])) ≡ Some e'.process
+    before lt =
+        let le : k ≤ length h = omega arith in
+        ap (next_process program choices) (take-append-le k h (e ∷ []) le) ∙ so_far k e' (sym (get_front h (e ∷ []) k lt) ∙ at)
+
+    rest_after : length h ≤ k → next_process program choices (take k (h ++ e ∷ [])) ≡ Some e'.process
+    rest_after ge =
+        let within = slice_get_within (h ++ e ∷ []) k e' at in
+        let is : k ≡ length h = omega (arith, within, length-append h (e ∷ [])) in
+        let same : Some e ≡ Some e' = sym (get_last h e) ∙ ap (slice_get (h ++ e ∷ [])) (sym is) ∙ at in
+        let process : Some e.process ≡ Some e'.process = cc in
+        ap (λ (j : ℕ). next_process program choices (take j (h ++ e ∷ []))) is ∙ ap (next_process program choices) (take-append_seam h (e ∷ [])) ∙ next ∙ process
+
+-- ---- choices
+
+-- a choice that isn't refused leaves a core with one entry more
+pub turned : (old new : CoreValue) (p steps : ℕ) (blocked : Bool) → IsTurn old p steps blocked new → (n : ℕ) × (s : State) × (new ≡ core_after_choice old p n s)
+turned old new p zero true t = (0, state_of old, t.1)
+turned old new p zero false t = absurd t
+turned old new p (suc zero) true t = absurd t
+turned old new p (suc zero) false t = (1, t.0, t.2)
+turned old new p (suc (suc n)) blocked t = absurd t
+
+no_stop : (options : Options) (core : CoreValue) (s : State) → IsStopOfRun options core (stop_after s)
+no_stop options core s = elim s.halted as (λ b. IsStopOfRun options core (if b then Some Halted else None)) [ true ↦ tt | false ↦ tt ]
+
+pub grown_running : (options : Options) (old : CoreValue) (p n : ℕ) (s : State) → IsRunning options old → next_process old.program options.choices old.history ≡ Some p → IsRunning options (core_after_choice old p n s)
+grown_running options old p n s running next =
+    record {
+      cells = running.cells;
+      limit = running.limit;
+      scheduled = one_more old.program options.choices old.history (record { process = p; steps = n }) running.scheduled next;
+      stop = no_stop options (core_after_choice old p n s) s;
+    }
+
+-- what comes of it
+pub record IsLonger (options : Options) (old new : CoreValue) : Type 0 where
+  pub running : IsRunning options new
+  pub program : new.program ≡ old.program
+  pub limit : new.limit ≡ old.limit
+  pub entries : length new.history ≡ length old.history + 1
+  pub room : length old.history < old.limit
+
+longer : (options : Options) (old : CoreValue) (p n : ℕ) (s : State) → length old.history < old.limit → IsRunning options old → next_process old.program options.choices old.history ≡ Some p → IsLonger options old (core_after_choice old p n s)
+longer options old p n s room running next =
+    record {
+      running = grown_running options old p n s running next;
+      program = refl;
+      limit = refl;
+      entries = length-append old.history (record { process = p; steps = n } ∷ []);
+      room = room;
+    }
+
+pub chosen : (options : Options) (old new : CoreValue) (p : ℕ) (state_after_turn : Turn) → IsChoice old p (Ok state_after_turn) new → IsRunning options old → next_process old.program options.choices old.history ≡ Some p → IsLonger options old new
+chosen options old new p state_after_turn c running next =
+    let t = turned old new p state_after_turn.steps state_after_turn.blocked c.2 in
+    subst (IsLonger options old) (sym t.2) (longer options old p t.0 t.1 c.1 running next)
+
+-- ---- what is ready lives
+
+AllOf : (ℕ → Type 0) → List ℕ → Type 0
+AllOf P [] = Unit {0}
+AllOf P (x ∷ xs) = P x × AllOf P xs
+
+all_map : (P Q : ℕ → Type 0) → ((x : ℕ) → P x → Q x) → (xs : List ℕ) → AllOf P xs → AllOf Q xs
+unfolding AllOf
+all_map P Q f [] all = tt
+all_map P Q f (x ∷ xs) all = (f x all.0, all_map P Q f xs all.1)
+
+-- the number p is that of a living process, k of them being before these
+LivesFrom : ℕ → List Process → ℕ → Type 0
+LivesFrom k qs p = (m : ℕ) × (p ≡ suc k + m) × (top_of (slice_get qs m) ≢ None)
+
+later : (k : ℕ) (q : Process) (qs : List Process) (p : ℕ) → LivesFrom (suc k) qs p → LivesFrom k (q ∷ qs) p
+unfolding LivesFrom
+later k q qs p l = (suc l.0, omega (arith, l.1), l.2)
+
+all_live : (k : ℕ) (qs : List Process) → AllOf (LivesFrom k qs) (living_from (suc k) qs)
+unfolding AllOf LivesFrom
+all_live k [] = tt
+all_live k ([] ∷ qs) = all_map (LivesFrom (suc k) qs) (LivesFrom k ([] ∷ qs)) (later k [] qs) (living_from (suc (suc k)) qs) (all_live (suc k) qs)
+all_live k ((level ∷ levels) ∷ qs) =
+    ((0, omega arith, λ e. absurd cc), all_map (LivesFrom (suc k) qs) (LivesFrom k ((level ∷ levels) ∷ qs)) (later k (level ∷ levels) qs) (living_from (suc (suc k)) qs) (all_live (suc k) qs))
+
+pick : (P : ℕ → Type 0) (b : Bool) (x p : ℕ) (rest : Option ℕ) → P x → (rest ≡ Some p → P p) → (if b then Some x else rest) ≡ Some p → P p
+pick P true x p rest here rest_after e = let same : x ≡ p = cc in subst P same here
+pick P false x p rest here rest_after e = rest_after e
+
+first_of : (P : ℕ → Type 0) (n : ℕ) (xs : List ℕ) (other : Option ℕ) → AllOf P xs → ((p : ℕ) → other ≡ Some p → P p) → (p : ℕ) → first_above n xs other ≡ Some p → P p
+unfolding AllOf
+first_of P n [] other all o p e = o p e
+first_of P n (x ∷ xs) other all o p e = pick P (nat_lt n x) x p (first_above n xs other) all.0 (first_of P n xs other all.1 o p) e
+
+least_of : (P : ℕ → Type 0) (xs : List ℕ) → AllOf P xs → (p : ℕ) → slice_get xs 0 ≡ Some p → P p
+unfolding AllOf
+least_of P [] all p e = absurd cc
+least_of P (x ∷ xs) all p e = let same : x ≡ p = cc in subst P same all.0
+
+lives : (s : State) (p : ℕ) → LivesFrom 0 s.processes p → living s p ≢ None
+unfolding LivesFrom
+lives s p l = let is : suc l.0 ≡ p = omega (arith, l.1) in subst (λ (q : ℕ). living s q ≢ None) is l.2
+
+kept_by : (P : ℕ → Type 0) (b : Bool) (x : ℕ) (xs : List ℕ) → P x → AllOf P xs → AllOf P (cond b (x ∷ xs) xs)
+unfolding AllOf
+kept_by P true x xs here all = (here, all)
+kept_by P false x xs here all = all
+
+all_kept : (P : ℕ → Type 0) (test : ℕ → Bool) (xs : List ℕ) → AllOf P xs → AllOf P (filter test xs)
+unfolding AllOf
+all_kept P test [] all = tt
+all_kept P test (x ∷ xs) all = kept_by P (test x) x (filter test xs) all.0 (all_kept P test xs all.1)
+
+-- the state that the listing goes by is the one after the history
+steps_state : (program : Units) (x : Progress) (p n : ℕ) → (progress_after_steps program x p n).state ≡ run_from program x.state (replicate n p)
+unfolding run_from
+steps_state program x p zero = refl
+steps_state program x p (suc n) = steps_state program (progress_after_step program x p (state_after_turn program p x.state)) p n
+
+entry_state : (program : Units) (x : Progress) (e : Entry) (n : ℕ) → (progress_after_entry program x e n).state ≡ run_from program x.state (replicate n e.process)
+unfolding run_from
+entry_state program x e zero = refl
+entry_state program x e (suc n) = steps_state program x e.process (suc n)
+
+run_from-append : (program : Units) (s : State) (ps qs : List ℕ) → run_from program s (ps ++ qs) ≡ run_from program (run_from program s ps) qs
+unfolding run_from
+run_from-append program s [] qs = refl
+run_from-append program s (p ∷ ps) qs = run_from-append program (state_after_turn program p s) ps qs
+
+from_state : (program : Units) (x : Progress) (es : List Entry) → (progress_from program x es).state ≡ run_from program x.state (schedule_of es)
+unfolding progress_from run_from schedule_of
+from_state program x [] = refl
+from_state program x (e ∷ es) =
+    from_state program (progress_after_entry program x e e.steps) es
+    ∙ ap (λ s. run_from program s (schedule_of es)) (entry_state program x e e.steps)
+    ∙ sym (run_from-append program x.state (replicate e.steps e.process) (schedule_of es))
+
+progress_state : (program : Units) (history : List Entry) → (progress_after program history).state ≡ state_after program history
+unfolding state_after run
+progress_state program history = from_state program (record { state = opening program; listed = [] }) history
+
+pub ready_lives : (program : Units) (history : List Entry) (p : ℕ) → next_ready program history ≡ Some p → living (state_after program history) p ≢ None
+ready_lives program history p e =
+    let x = progress_after program history in
+    let s = x.state in
+    let ready = ready_in x in
+    let all = all_kept (LivesFrom 0 s.processes) (λ q. not (is_number_among q x.listed)) (living_from 1 s.processes) (all_live 0 s.processes) in
+    subst (λ (t : State). living t p ≢ None) (progress_state program history)
+    (lives s p (first_of (LivesFrom 0 s.processes) (last_process history) ready (slice_get ready 0) all (least_of (LivesFrom 0 s.processes) ready all) p e))
+
+-- ---- once the choices are made
+
+choice_or_ready : (program : Units) (choices : List ℕ) (history : List Entry) → length choices ≤ length history → first_choice (slice_get choices (length history)) (next_ready program history) ≡ next_ready program history
+choice_or_ready program choices history h = ap (λ (o : Option ℕ). first_choice o (next_ready program history)) (slice_get_past choices (length history) h)
+
+pub next_is_ready : (program : Units) (choices : List ℕ) (history : List Entry) → (state_after program history).halted ≡ false → length choices ≤ length history → next_process program choices history ≡ next_ready program history
+next_is_ready program choices history going h = next_is_chosen program choices history going ∙ choice_or_ready program choices history h
+
+-- where nothing is ready nothing comes next, whether a STOP was made or not
+pub none_is_next : (program : Units) (choices : List ℕ) (history : List Entry) → length choices ≤ length history → next_ready program history ≡ None → next_process program choices history ≡ None
+none_is_next program choices history h none =
+    elim (state_after program history).halted as (λ b. (if b then None else first_choice (slice_get choices (length history)) (next_ready program history)) ≡ None)
+    [ true ↦ refl | false ↦ choice_or_ready program choices history h ∙ none ]
+
+-- a choice that meets a stop leaves the run at it
+pub stopped : (options : Options) (old new : CoreValue) (p : ℕ) (stop : Stop) → IsChoice old p (Err (Stopped stop)) new → IsRunning options old → (HasNoStop old → next_process old.program options.choices old.history ≡ Some p) → IsRunning options new × (new.program ≡ old.program) × (new.stop ≢ None)
+stopped options old new p stop c running next = elim c [ inl before ↦ at_stop before | inr now ↦ at_limit now ]
+  where
+    at_stop : (old.stop ≡ Some stop) × (new ≡ old) → IsRunning options new × (new.program ≡ old.program) × (new.stop ≢ None)
+    at_stop (is, same) = (subst (IsRunning options) (sym same) running, ap (λ (v : CoreValue). v.program) same, λ none. absurd (let some : new.stop ≡ Some stop = ap (λ (v : CoreValue). v.stop) same ∙ is in cc))
+
+    at_limit : HasNoStop old × (living (state_of old) p ≢ None) × (length old.history ≡ old.limit) × (stop ≡ StepLimit) × (new ≡ record old { stop = Some StepLimit }) → IsRunning options new × (new.program ≡ old.program) × (new.stop ≢ None)
+    at_limit (going, alive, full, is, same) =
+        let cut : IsRunning options (record old { stop = Some StepLimit }) = record {
+          cells = running.cells;
+          limit = running.limit;
+          scheduled = running.scheduled;
+          stop = (full ∙ running.limit, p, next going, alive);
+        } in
+        (subst (IsRunning options) (sym same) cut, ap (λ (v : CoreValue). v.program) same, λ none. absurd (let some : new.stop ≡ Some StepLimit = ap (λ (v : CoreValue). v.stop) same in cc))
+
+pub is_none : (o : Option ℕ) → ((p : ℕ) → o ≡ Some p → ⊥) → o ≡ None
+is_none None h = refl
+is_none (Some p) h = absurd (h p refl)

@@ -1,0 +1,23 @@
+use Rattle.std.proofs.Common.{ℕ, List, take, subst, inl, inr}
+use Rattle.std.specs.Io.KnownBytes.{Appends}
+use Rattle.hep_run.specs.Delivery.{WritesMessages}
+use Rattle.hep_run.specs.Transcripts.{outcome_of}
+use Rattle.hep_run.proofs.Messages.{of_either, left_by}
+use Rattle.hep_run.proofs.deliver.deliver.Goals as goal
+
+pub returns-in-Err : goal.returns-in-Err
+returns-in-Err g c =
+    let n = c.in-Err.fault.written in
+    let prefix = subst (λ (l : List ℕ). Appends (g.W.Write.contents c.args.output.now) (g.W.Write.contents c.put_all.new.writer) (take n l)) c.deref.ensures.value c.in-Err.ensures.prefix in
+    inr (record {
+      status = c.new.ensures.status;
+      history = c.new.ensures.history;
+      taken = inl (n, prefix, of_either c.put_write_fault.result _ _ _ c.put_write_fault.ensures.all c.put_write_fault.ensures.some);
+    })
+
+pub returns : goal.returns
+returns g c =
+    let r = c.args.transcript in
+    let taken = subst (Appends (g.W.Write.contents c.args.output.now) (g.W.Write.contents c.put_all.new.writer)) c.deref.ensures.value c.in_default.ensures.all in
+    let said = subst (λ (l : List ℕ). WritesMessages l r.status r.history c.write_messages.result (g.E.Write.contents c.args.messages.now) (g.E.Write.contents c.write_messages.new.messages)) c.deref-2.ensures.value c.write_messages.ensures in
+    left_by (outcome_of r) c.write_messages.result _ _ _ _ taken said

@@ -1,0 +1,10 @@
+use Rattle.std.proofs.Common.{◌≡◌, None, length}
+use Rattle.hep_run.specs.Progress.{IsRunning}
+use Rattle.hep_run.proofs.run.make_choices.Given as goal
+
+abbrev pub invariant-loop-index : goal.invariant-loop-index
+invariant-loop-index l = record {
+  program : l.core.program ≡ l.fn.core.program;
+  running : IsRunning l.fn.options l.core;
+  made : l.core.stop ≡ None → length l.core.history ≡ l.index;
+}

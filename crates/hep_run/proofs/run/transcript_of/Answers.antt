@@ -1,0 +1,13 @@
+use Rattle.std.proofs.Common.{◌≡◌, ap, subst, inr}
+use Rattle.hep_source.specs.Units.{Units}
+use Rattle.hep_core.specs.Value.{CoreValue}
+use Rattle.hep_run.specs.Outcome.{IsRunOutcome}
+use Rattle.hep_run.specs.Transcripts.{outcome_of}
+use Rattle.hep_run.proofs.Outcomes.{if_ok}
+use Rattle.hep_run.proofs.run.transcript_of.Goals as goal
+
+pub returns-in-Ok : goal.returns-in-Ok
+returns-in-Ok c =
+    let (program, accepted, fits, is) = c.in-Ok.ensures.made in
+    let same : c.in-Ok.core.program ≡ program = ap (λ (v : CoreValue). v.program) is in
+    if_ok c.run_transcript.result _ _ (λ r made. inr (program, accepted, inr (subst (λ (p : Units). IsRunOutcome p c.args.options.now (outcome_of r)) same made))) c.run_transcript.ensures

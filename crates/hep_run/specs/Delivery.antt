@@ -1,0 +1,67 @@
+-- What a run leaves at its two outputs: docs/MACHINE.md, "The program".
+use Rattle.std.specs.Prelude.{◌≡◌, ◌⊎◌, ℕ, List, [], ◌++◌, codes, take, Option, Some, None}
+use Rattle.std.specs.Io.KnownBytes.{Appends, Keeps}
+use Rattle.hep_machine.specs.declared.event.Entry.{Entry}
+use Rattle.hep_run.specs.declared.options.Options.{Options}
+use Rattle.hep_run.specs.declared.options.Run.{Run}
+use Rattle.hep_run.specs.declared.status.Status.{Status}
+use Rattle.hep_run.specs.declared.status.Status.TheVariants.{NoMemory, DeviceFailed}
+use Rattle.hep_run.specs.Statuses.{status_code}
+use Rattle.hep_run.specs.Texts.{write_fault_text}
+use Rattle.hep_run.specs.Outcome.{Outcome, IsOutcome}
+
+-- the run has this outcome, and both outputs took all of it
+pub record IsDelivered (o : Outcome) (run : Run) (output output' messages messages' : Option (List ℕ)) : Type 0 where
+  pub status : run.status ≡ status_code o.status
+  pub history : run.history ≡ o.history
+  pub output_taken : Appends output output' o.output
+  pub messages_taken : Appends messages messages' o.messages
+
+-- a writer took some first bytes of a text
+abbrev pub SomeOf : Option (List ℕ) → Option (List ℕ) → List ℕ → Type 0
+SomeOf contents contents' text = (k : ℕ) × Appends contents contents' (take k text)
+
+-- the messages' writer took so many bytes of what it was given last
+abbrev pub WritesStartOf : Option (List ℕ) → Option (List ℕ) → List ℕ → List ℕ → Type 0
+WritesStartOf messages messages' before last = (k : ℕ) × Appends messages messages' (before ++ take k last)
+
+-- the output took just n bytes, and this was written
+abbrev pub OutputFailed : Outcome → Option (List ℕ) → Option (List ℕ) → Option (List ℕ) → Option (List ℕ) → Type 0
+OutputFailed o output output' messages messages' =
+    (n : ℕ) × Appends output output' (take n o.output) × WritesStartOf messages messages' [] (write_fault_text n)
+
+-- the output took all, the messages' writer just n bytes, and this was written after them
+abbrev pub MessagesFailed : Outcome → Option (List ℕ) → Option (List ℕ) → Option (List ℕ) → Option (List ℕ) → Type 0
+MessagesFailed o output output' messages messages' =
+    (n : ℕ) × Appends output output' o.output × WritesStartOf messages messages' (take n o.messages) (write_fault_text n)
+
+-- a write failed
+pub record IsBroken (o : Outcome) (run : Run) (output output' messages messages' : Option (List ℕ)) : Type 0 where
+  pub status : run.status ≡ status_code DeviceFailed
+  pub history : run.history ≡ o.history
+  pub taken : OutputFailed o output output' messages messages' ⊎ MessagesFailed o output output' messages messages'
+
+-- an outcome was delivered, or a write failed
+abbrev pub Leaves : Outcome → Run → Option (List ℕ) → Option (List ℕ) → Option (List ℕ) → Option (List ℕ) → Type 0
+Leaves o run output output' messages messages' =
+    IsDelivered o run output output' messages messages' ⊎ IsBroken o run output output' messages messages'
+
+-- a run with this history says these lines, with this status, or fails at them
+abbrev pub WritesMessages : List ℕ → Status → List Entry → Run → Option (List ℕ) → Option (List ℕ) → Type 0
+WritesMessages lines status history run messages messages' =
+    (run.history ≡ history)
+    × (((run.status ≡ status_code status) × Appends messages messages' lines)
+    ⊎ ((run.status ≡ status_code DeviceFailed) × (n : ℕ) × WritesStartOf messages messages' (take n lines) (write_fault_text n)))
+
+-- an outcome of these bytes, where they are known
+abbrev pub IsOutcomeOf : Option (List ℕ) → Options → Outcome → Type 0
+IsOutcomeOf None options o = (source : List ℕ) × IsOutcome source options o
+IsOutcomeOf (Some source) options o = IsOutcome source options o
+
+-- All that a run may leave: memory was refused, or the reader failed, and no record is written; or else an outcome of
+-- the reader's bytes.
+abbrev pub RunsSource : Option (List ℕ) → Options → Run → Option (List ℕ) → Option (List ℕ) → Option (List ℕ) → Option (List ℕ) → Type 0
+RunsSource source options run output output' messages messages' =
+    (Keeps output output' × WritesMessages (codes "NO MEMORY\n") NoMemory [] run messages messages')
+    ⊎ (Keeps output output' × WritesMessages (codes "READ FAULT\n") DeviceFailed [] run messages messages')
+    ⊎ ((o : Outcome) × IsOutcomeOf source options o × Leaves o run output output' messages messages')

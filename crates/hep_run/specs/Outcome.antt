@@ -1,0 +1,130 @@
+-- What a run of a source comes to, from its bytes to the bytes that it writes: docs/MACHINE.md, "The program".
+use Rattle.std.specs.Prelude.{◌≡◌, ◌≢◌, ◌⊎◌, ℕ, ◌+◌, true, false, if◌then◌else◌, List, [], ◌∷◌, ◌++◌, length, take, slice_get, Option, Some, None, Ok}
+use Rattle.hep_text.specs.declared.statement.Stmt.{Stmt}
+use Rattle.hep_text.specs.Reading.{statements_of, refusal}
+use Rattle.hep_parse.specs.Program.{IsProgram, IsFirstFault}
+use Rattle.hep_machine.specs.declared.event.Entry.{Entry}
+use Rattle.hep_machine.specs.declared.event.Fault.{Fault}
+use Rattle.hep_source.specs.Units.{Units}
+use Rattle.hep_machine.specs.Layout.{opening_layout}
+use Rattle.hep_machine.specs.Schedules.{next_ready}
+use Rattle.hep_machine.specs.Run.{state_after}
+use Rattle.hep_machine.specs.Histories.{IsLegal}
+use Rattle.hep_machine.specs.Processes.{living}
+use Rattle.hep_core.specs.declared.stop.Stop.{Stop}
+use Rattle.hep_core.specs.declared.stop.Stop.TheVariants.{Halted, ArenaFull, StepLimit}
+use Rattle.hep_core.specs.Names.{names_of}
+use Rattle.hep_core.specs.Refusals.{IsRunnable, IsUnsupported}
+use Rattle.hep_run.specs.declared.options.Options.{Options}
+use Rattle.hep_run.specs.declared.status.Status.{Status}
+use Rattle.hep_run.specs.declared.status.Status.TheVariants as statuses
+use Rattle.hep_run.specs.Texts.{records_text, faults_text, refusal_text, stop_text, choice_text}
+
+-- what a run writes to its two outputs, its status, and its history
+pub record Outcome : Type 0 where
+  pub output : List ℕ
+  pub messages : List ℕ
+  pub status : Status
+  pub history : List Entry
+
+-- ---- sources
+
+-- the source is refused with this number, line and name
+abbrev pub IsRefusedSource : List ℕ → ℕ → ℕ → List ℕ → Type 0
+IsRefusedSource source number line name =
+    ((statements_of source ≡ refusal number line) × (name ≡ []))
+    ⊎ ((statements : List Stmt) × (statements_of source ≡ Ok statements) × IsFirstFault statements number line name)
+    ⊎ ((statements : List Stmt) × (program : Units) × (statements_of source ≡ Ok statements) × IsProgram statements program × IsUnsupported program number line name)
+
+-- the source is this program, and accepted
+abbrev pub IsRunnableSource : List ℕ → Units → Type 0
+IsRunnableSource source program =
+    (statements : List Stmt) × (statements_of source ≡ Ok statements) × IsProgram statements program × IsRunnable program
+
+-- ---- schedules
+
+abbrev pub first_choice : Option ℕ → Option ℕ → Option ℕ
+first_choice (Some p) ready = Some p
+first_choice None ready = ready
+
+-- the process that comes after a history: none after a STOP, else the choices in their order, and then what is ready
+abbrev pub next_process : Units → List ℕ → List Entry → Option ℕ
+next_process program choices history =
+    if (state_after program history).halted then None else first_choice (slice_get choices (length history)) (next_ready program history)
+
+-- each entry is of the process that came next
+abbrev pub IsScheduled : Units → List ℕ → List Entry → Type 0
+IsScheduled program choices history =
+    (k : ℕ) (e : Entry) → slice_get history k ≡ Some e → next_process program choices (take k history) ≡ Some e.process
+
+-- a history of the program by these options
+pub record IsHistory (program : Units) (options : Options) (history : List Entry) : Type 0 where
+  pub legal : IsLegal program options.arena options.steps history
+  pub scheduled : IsScheduled program options.choices history
+
+-- the history is full, and a living process would come next
+abbrev pub IsCutShort : Units → Options → List Entry → Type 0
+IsCutShort program options history =
+    (length history ≡ options.steps) × (p : ℕ) × (next_process program options.choices history ≡ Some p) × (living (state_after program history) p ≢ None)
+
+-- the run is over after this history: no process comes next, or it stops
+abbrev pub IsOver : Units → Options → List Entry → Option Stop → Type 0
+IsOver program options history None =
+    ((state_after program history).halted ≡ false) × (next_process program options.choices history ≡ None)
+IsOver program options history (Some StepLimit) = IsCutShort program options history
+IsOver program options history (Some Halted) = (state_after program history).halted ≡ true
+IsOver program options history (Some ArenaFull) = ⊥
+
+-- the next choice names a process that doesn't live; after a STOP there is no next one
+abbrev pub IsChoiceRefused : Units → Options → List Entry → Type 0
+IsChoiceRefused program options history =
+    ((state_after program history).halted ≡ false)
+    × (p : ℕ) × (slice_get options.choices (length history) ≡ Some p) × (living (state_after program history) p ≡ None)
+
+-- ---- outcomes
+
+abbrev pub refused : ℕ → ℕ → List ℕ → Outcome
+refused number line name = record { output = []; messages = refusal_text number line name; status = statuses.Refused; history = [] }
+
+abbrev pub outcome_of_full_arena : Outcome
+outcome_of_full_arena = record { output = []; messages = stop_text (Some ArenaFull); status = statuses.ArenaFull; history = [] }
+
+-- choices are counted from 1
+abbrev pub outcome_of_refused_choice : List Entry → Outcome
+outcome_of_refused_choice history = record { output = []; messages = choice_text (length history + 1); status = statuses.ChoiceRefused; history = history }
+
+abbrev pub status_by_faults : List Fault → Status
+status_by_faults [] = statuses.Done
+status_by_faults (f ∷ fs) = statuses.Faulted
+
+abbrev pub status_of : Option Stop → List Fault → Status
+status_of None faults = status_by_faults faults
+status_of (Some Halted) faults = status_by_faults faults
+status_of (Some ArenaFull) faults = statuses.ArenaFull
+status_of (Some StepLimit) faults = statuses.StepLimit
+
+abbrev pub outcome_of_end : Units → List Entry → Option Stop → Outcome
+outcome_of_end program history stop =
+    record {
+      output = records_text (state_after program history).records;
+      messages = faults_text (names_of program) (state_after program history).faults ++ stop_text stop;
+      status = status_of stop (state_after program history).faults;
+      history = history;
+    }
+
+-- a program whose main program's frame has a gap in the arena, by its history
+abbrev pub IsRunOutcome : Units → Options → Outcome → Type 0
+IsRunOutcome program options o =
+    (history : List Entry) × IsHistory program options history × (
+    (IsChoiceRefused program options history × (o ≡ outcome_of_refused_choice history))
+    ⊎ ((stop : Option Stop) × IsOver program options history stop × (o ≡ outcome_of_end program history stop)))
+
+-- an accepted program
+abbrev pub IsProgramOutcome : Units → Options → Outcome → Type 0
+IsProgramOutcome program options o = ((opening_layout program options.arena ≡ None) × (o ≡ outcome_of_full_arena)) ⊎ IsRunOutcome program options o
+
+-- what a run of a source comes to by these options
+abbrev pub IsOutcome : List ℕ → Options → Outcome → Type 0
+IsOutcome source options o =
+    ((number : ℕ) × (line : ℕ) × (name : List ℕ) × IsRefusedSource source number line name × (o ≡ refused number line name))
+    ⊎ ((program : Units) × IsRunnableSource source program × IsProgramOutcome program options o)

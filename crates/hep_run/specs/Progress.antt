@@ -1,0 +1,36 @@
+-- How far a run has come: docs/ARCHITECTURE.md, "Forms".
+use Rattle.std.specs.Prelude.{◌≡◌, ℕ, ◌+◌, List, length, Option, Some, None, IsSome}
+use Rattle.hep_source.specs.Units.{Units}
+use Rattle.hep_machine.specs.Layout.{opening_layout}
+use Rattle.hep_core.specs.declared.stop.Stop.{Stop}
+use Rattle.hep_core.specs.declared.stop.Stop.TheVariants.{Halted, ArenaFull, StepLimit}
+use Rattle.hep_core.specs.Value.{CoreValue, opening_of}
+use Rattle.hep_run.specs.declared.options.Options.{Options}
+use Rattle.hep_run.specs.declared.run.Halt.{Halt}
+use Rattle.hep_run.specs.declared.run.Halt.TheVariants.{NoMemory, NoSuchProcess}
+use Rattle.hep_run.specs.Outcome.{IsRunnableSource, IsScheduled, IsCutShort, IsChoiceRefused}
+
+-- the core is at the opening of the accepted program that the source is, whose main program's frame has a gap in the arena
+abbrev pub IsOpening : List ℕ → Options → CoreValue → Type 0
+IsOpening source options core =
+    (program : Units) × IsRunnableSource source program
+    × IsSome (opening_layout program options.arena) × (core ≡ opening_of program options.arena options.steps)
+
+abbrev pub IsStopOfRun : Options → CoreValue → Option Stop → Type 0
+IsStopOfRun options core None = Unit {0}
+IsStopOfRun options core (Some StepLimit) = IsCutShort core.program options core.history
+IsStopOfRun options core (Some Halted) = Unit {0}
+IsStopOfRun options core (Some ArenaFull) = ⊥
+
+-- the core runs by these options
+pub record IsRunning (options : Options) (core : CoreValue) : Type 0 where
+  pub cells : core.cells ≡ options.arena
+  pub limit : core.limit ≡ options.steps
+  pub scheduled : IsScheduled core.program options.choices core.history
+  pub stop : IsStopOfRun options core core.stop
+
+-- the choices ended at one that names no living process, or memory was refused
+abbrev pub IsHaltedBy : Options → CoreValue → Halt → Type 0
+IsHaltedBy options core NoMemory = Unit {0}
+IsHaltedBy options core (NoSuchProcess choice) =
+    IsRunning options core × (choice ≡ length core.history + 1) × IsChoiceRefused core.program options core.history

@@ -1,0 +1,74 @@
+//! Writing what a run comes to.
+ghost use Rattle.std.specs.Prelude.{OnOk, IfErr};
+ghost use Rattle.std.specs.Io.KnownBytes.{Appends};
+ghost use Rattle.hep_run.specs.Texts.{write_fault_text};
+ghost use Rattle.hep_run.specs.Transcripts.{outcome_of};
+ghost use Rattle.hep_run.specs.Delivery.{Leaves, WritesMessages, SomeOf};
+
+use crate::options::{History, Run};
+use crate::output::{PutFault, put_all};
+use crate::status::Status;
+use crate::transcript::Transcript;
+use itoa::Buffer;
+use std::io::Write;
+
+/// Says how many bytes a stream took before it failed.
+///
+/// # Errors
+///
+/// Where `messages` fails too, with how much it took of the piece of the line that failed.
+pub fn put_write_fault<E: Write>(messages: &mut E, written: usize) -> Result<(), PutFault>
+    ensures all { OnOk result (Appends (E.contents messages.old) (E.contents messages.new)
+        (write_fault_text written)) }
+    ensures some { IfErr result (λ _. SomeOf (E.contents messages.old) (E.contents messages.new)
+        (write_fault_text written)) }
+{
+    put_all(messages, b"WRITE FAULT AFTER ")?;
+    let mut buffer = Buffer::new();
+    put_all(messages, buffer.format(written).as_bytes())?;
+    put_all(messages, b"\n")?;
+    Ok(())
+}
+
+/// Writes the messages of a run that has this history and comes to this status.
+///
+/// Where that fails, `messages` is given how many bytes it took, and the run comes to
+/// `DeviceFailed`; if this fails too, no more is said.
+pub fn write_messages<E: Write>(
+    messages: &mut E,
+    lines: &[u8],
+    status: Status,
+    history: History,
+) -> Run
+    ensures { WritesMessages lines.now status history result
+        (E.contents messages.old) (E.contents messages.new) }
+{
+    match put_all(messages, lines) {
+        Ok(()) => Run::new(status, history),
+        Err(fault) => {
+            let _ = put_write_fault(messages, fault.written);
+            Run::new(Status::DeviceFailed, history)
+        }
+    }
+}
+
+/// Writes a report, the records first.
+///
+/// Where a writer fails, `messages` is given how many bytes that stream took, and the run comes to
+/// `DeviceFailed`; if this fails too, no more is said.
+pub fn deliver<W: Write, E: Write>(transcript: Transcript, output: &mut W, messages: &mut E) -> Run
+    ensures { Leaves (outcome_of transcript) result (W.contents output.old) (W.contents output.new)
+        (E.contents messages.old) (E.contents messages.new) }
+{
+    let Transcript {
+        output: records,
+        messages: lines,
+        status,
+        history,
+    } = transcript;
+    if let Err(fault) = put_all(output, &records) {
+        let _ = put_write_fault(messages, fault.written);
+        return Run::new(Status::DeviceFailed, history);
+    }
+    write_messages(messages, &lines, status, history)
+}

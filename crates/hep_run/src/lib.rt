@@ -1,0 +1,16 @@
+//! The work on one source, from its reader's bytes to the bytes of its two outputs.
+#![tactic(auto)]
+
+pub mod deliver;
+pub mod input;
+pub mod options;
+pub mod output;
+pub mod refusal;
+pub mod run;
+pub mod source;
+pub mod status;
+pub mod texts;
+pub mod transcript;
+
+pub use options::{Choices, History, Options, Run};
+pub use source::run_source;

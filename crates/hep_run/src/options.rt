@@ -1,0 +1,64 @@
+//! What a run is asked to do, and what it leaves.
+ghost use Rattle.std.specs.Prelude.{◌≡◌, []};
+ghost use Rattle.hep_run.specs.Statuses.{status_code};
+
+use crate::status::Status;
+use hep_base::Sequence;
+use hep_core::Entry;
+use std::alloc::Global;
+
+/// Process numbers, in the order in which they are to be chosen.
+pub type Choices = Sequence<u64>;
+
+/// The history that a run leaves: an entry for each choice that was made.
+pub type History = Sequence<Entry>;
+
+/// How a source is run.
+#[derive(Drop)]
+pub struct Options {
+    /// The arena's size in cells. A caller is to hand in 1 to 16,777,216; of any other number the
+    /// calls promise the same, so that no frame fits an arena of none.
+    pub arena: u32,
+    /// How many entries the history may have. A caller is to hand in 1 to 2^40; of any other number
+    /// the calls promise the same, so that a history of none is full before the first step.
+    pub steps: u64,
+    /// The choices that the scheduler makes first.
+    pub choices: Choices,
+}
+
+impl Options {
+    /// An arena of 65,536 cells, 10,000,000 entries, no choices.
+    pub fn defaults(alloc: Global) -> Options
+        ensures arena { result.arena ≡ 65536 }
+        ensures steps { result.steps ≡ 10000000 }
+        ensures choices { result.choices ≡ [] }
+    {
+        Options {
+            arena: 65_536,
+            steps: 10_000_000,
+            choices: Choices::from(Vec::new(alloc)),
+        }
+    }
+}
+
+/// What a run came to.
+#[derive(Drop)]
+pub struct Run {
+    /// The exit status of the program: the code of a `Status`.
+    pub status: u8,
+    /// An entry for each choice that was made.
+    pub history: History,
+}
+
+impl Run {
+    // A run that came to this status and has this history.
+    pub(crate) fn new(status: Status, history: History) -> Run
+        ensures status { result.status ≡ status_code status }
+        ensures history { result.history ≡ history }
+    {
+        Run {
+            status: status.code(),
+            history,
+        }
+    }
+}

@@ -1,0 +1,123 @@
+//! A source's bytes to what its run writes.
+ghost use Rattle.std.specs.Prelude.{◌≡◌, ◌≤◌, [], None, IfOk, IfErr, OnOk, length};
+ghost use Rattle.hep_core.specs.Value.{opening_of};
+ghost use Rattle.hep_run.specs.Outcome.{IsOutcome, IsRunOutcome, next_process};
+ghost use Rattle.hep_run.specs.Refusals.{IsOpeningFault};
+ghost use Rattle.hep_run.specs.Transcripts.{outcome_of};
+ghost use Rattle.hep_run.specs.Progress.{IsOpening, IsRunning, IsHaltedBy};
+
+use crate::options::Options;
+use crate::refusal::OpeningFault;
+use crate::transcript::{
+    Transcript, choice_transcript, ended_transcript, full_transcript, refused_transcript,
+};
+use hep_base::Refusal;
+use hep_core::{ChooseFault, Core, image_of};
+use hep_parse::parse;
+use hep_text::statements;
+use std::alloc::{AllocError, Global};
+
+/// Why the choices weren't all made.
+#[derive(Clone, Copy, Debug, PartialEq, Eq)]
+pub enum Halt {
+    /// Memory was refused.
+    NoMemory,
+    /// This choice, counted from 1, names no living process.
+    NoSuchProcess(usize),
+}
+
+// The core at the opening of a source.
+fn core_of(alloc: Global, source: &[u8], options: &Options) -> Result<Core, OpeningFault>
+    ensures made { IfOk result (IsOpening source.now options.now) }
+    ensures refused { IfErr result (IsOpeningFault source.now options.now) }
+{
+    let statements = statements(alloc, source)?;
+    let program = parse(alloc, &statements)?;
+    let image = image_of(alloc, program)?;
+    let core = Core::new(alloc, image, options.arena, options.steps)?;
+    Ok(core)
+}
+
+// Makes the choices in order, until a stop.
+fn make_choices(core: &mut Core, options: &Options) -> Result<(), Halt>
+    requires opening { core.old.history ≡ [] }
+    requires running { IsRunning options.now core.old }
+    requires going { core.old.stop ≡ None }
+    ensures program { core.new.program ≡ core.old.program }
+    ensures running { OnOk result (IsRunning options.now core.new) }
+    ensures made { OnOk result (core.new.stop ≡ None
+        → length options.now.choices ≤ length core.new.history) }
+    ensures halted { IfErr result (IsHaltedBy options.now core.new) }
+{
+    for (index, process) in options.choices.as_slice().iter().enumerate() {
+        match core.choose(*process) {
+            Ok(_) => {}
+            Err(ChooseFault::Stopped(_)) => return Ok(()),
+            Err(ChooseFault::NoSuchProcess) => return Err(Halt::NoSuchProcess(index + 1)),
+            Err(ChooseFault::NoMemory) => return Err(Halt::NoMemory),
+        }
+    }
+    Ok(())
+}
+
+// Chooses what is ready, until nothing is or the run stops.
+fn run_on(core: &mut Core, options: &Options) -> Result<(), AllocError>
+    requires running { IsRunning options.now core.old }
+    requires made { core.old.stop ≡ None
+        → length options.now.choices ≤ length core.old.history }
+    ensures program { core.new.program ≡ core.old.program }
+    ensures running { OnOk result (IsRunning options.now core.new) }
+    ensures over { OnOk result (core.new.stop ≡ None
+        → next_process core.new.program options.now.choices core.new.history ≡ None) }
+{
+    while let Some(process) = core.next_ready() {
+        match core.choose(process) {
+            Ok(_) => {}
+            Err(ChooseFault::Stopped(_)) => return Ok(()),
+            Err(ChooseFault::NoSuchProcess) => unreachable!(),
+            Err(ChooseFault::NoMemory) => return Err(AllocError),
+        }
+    }
+    Ok(())
+}
+
+// What a run writes from a program's opening on.
+fn run_transcript(alloc: Global, core: Core, options: &Options) -> Result<Transcript, AllocError>
+    requires { core ≡ opening_of core.program options.now.arena options.now.steps }
+    ensures { IfOk result (λ r. IsRunOutcome core.program options.now (outcome_of r)) }
+{
+    let mut core = core;
+    match make_choices(&mut core, options) {
+        Ok(()) => {}
+        Err(Halt::NoMemory) => return Err(AllocError),
+        Err(Halt::NoSuchProcess(choice)) => {
+            core.headline();
+            return choice_transcript(alloc, &core, choice);
+        }
+    }
+    run_on(&mut core, options)?;
+    core.headline();
+    ended_transcript(alloc, &core)
+}
+
+/// All that a run of a source comes to, before a byte of it is written.
+///
+/// # Errors
+///
+/// Only where memory was refused.
+pub fn transcript_of(
+    alloc: Global,
+    source: &[u8],
+    options: &Options,
+) -> Result<Transcript, AllocError>
+    ensures { IfOk result (λ r. IsOutcome source.now options.now (outcome_of r)) }
+{
+    match core_of(alloc, source, options) {
+        Ok(core) => run_transcript(alloc, core, options),
+        Err(OpeningFault::Source(Refusal::NoMemory)) => Err(AllocError),
+        Err(OpeningFault::Source(Refusal::Refused { number, line, name })) => {
+            refused_transcript(alloc, number, line, &name)
+        }
+        Err(OpeningFault::ArenaFull) => full_transcript(alloc),
+    }
+}

@@ -1,0 +1,155 @@
+//! What a run writes, its status and its history.
+ghost use Rattle.std.specs.Prelude.{◌≡◌, ◌+◌, [], IfOk, length};
+ghost use Rattle.hep_run.specs.Texts as texts;
+ghost use Rattle.hep_run.specs.Outcome as outcome;
+ghost use Rattle.hep_run.specs.Outcome.{outcome_of_end, outcome_of_refused_choice};
+ghost use Rattle.hep_run.specs.Transcripts.{outcome_of};
+
+use crate::options::History;
+use crate::status::Status;
+use crate::texts::{put_faults, put_records, put_refusal};
+use hep_core::{Core, Fault, Stop, Verdict};
+use hep_source::Text;
+use std::alloc::{AllocError, Global};
+
+/// What a run writes to both outputs, its status and its history.
+#[derive(Drop)]
+pub struct Transcript {
+    /// The lines of the records.
+    pub output: Vec<u8>,
+    /// The lines of the faults and of a stop, or that of a refusal.
+    pub messages: Vec<u8>,
+    /// What the run came to.
+    pub status: Status,
+    /// An entry for each choice that was made.
+    pub history: History,
+}
+
+impl Transcript {
+    /// The same as an outcome, with no record.
+    fn silent(alloc: Global, messages: Vec<u8>, status: Status, history: History) -> Transcript
+        ensures output { result.output.items ≡ [] }
+        ensures messages { result.messages ≡ messages }
+        ensures status { result.status ≡ status }
+        ensures history { result.history ≡ history }
+    {
+        Transcript {
+            output: Vec::new(alloc),
+            messages,
+            status,
+            history,
+        }
+    }
+}
+
+fn stop_text(stop: Option<Stop>) -> &'static [u8]
+    ensures { result.now ≡ texts.stop_text stop }
+{
+    match stop {
+        None | Some(Stop::Halted) => b"",
+        Some(Stop::ArenaFull) => b"STOPPED ARENA FULL\n",
+        Some(Stop::StepLimit) => b"STOPPED STEP LIMIT\n",
+    }
+}
+
+fn status_of(stop: Option<Stop>, faults: &[Fault]) -> Status
+    ensures { result ≡ outcome.status_of stop faults.now }
+{
+    match (stop, faults) {
+        (Some(Stop::ArenaFull), _) => Status::ArenaFull,
+        (Some(Stop::StepLimit), _) => Status::StepLimit,
+        (None | Some(Stop::Halted), []) => Status::Done,
+        (None | Some(Stop::Halted), [_, ..]) => Status::Faulted,
+    }
+}
+
+/// The stop that a core is at.
+fn stop_of(core: &Core) -> Option<Stop>
+    ensures { result ≡ core.now.stop }
+{
+    match core.verdict() {
+        Verdict::Stopped(stop) => Some(stop),
+        _ => None,
+    }
+}
+
+fn history_of(alloc: Global, core: &Core) -> Result<History, AllocError>
+    ensures { IfOk result (λ history. history ≡ core.now.history) }
+{
+    Ok(History::from(core.history().to_vec(alloc)?))
+}
+
+/// What a run that is over writes.
+///
+/// # Errors
+///
+/// Only where memory was refused.
+pub fn ended_transcript(alloc: Global, core: &Core) -> Result<Transcript, AllocError>
+    ensures { IfOk result (λ r.
+        outcome_of r ≡ outcome_of_end core.now.program core.now.history core.now.stop) }
+{
+    let stop = stop_of(core);
+    let history = history_of(alloc, core)?;
+    let mut output = Vec::new(alloc);
+    put_records(&mut output, core.output())?;
+    let mut messages = Vec::new(alloc);
+    put_faults(&mut messages, core.image(), core.faults())?;
+    messages.extend_from_slice(stop_text(stop))?;
+    Ok(Transcript {
+        output,
+        messages,
+        status: status_of(stop, core.faults()),
+        history,
+    })
+}
+
+/// What a run writes whose next choice is refused; it is this one, counted from 1.
+///
+/// # Errors
+///
+/// Only where memory was refused.
+pub fn choice_transcript(
+    alloc: Global,
+    core: &Core,
+    choice: usize,
+) -> Result<Transcript, AllocError>
+    requires { choice ≡ length core.now.history + 1 }
+    ensures { IfOk result (λ r. outcome_of r ≡ outcome_of_refused_choice core.now.history) }
+{
+    let history = history_of(alloc, core)?;
+    let mut messages = Vec::new(alloc);
+    put_refusal(&mut messages, 501, choice as u64, b"")?;
+    Ok(Transcript::silent(alloc, messages, Status::ChoiceRefused, history))
+}
+
+/// What a refused source leaves.
+///
+/// # Errors
+///
+/// Only where memory was refused.
+pub fn refused_transcript(
+    alloc: Global,
+    number: u16,
+    line: u32,
+    name: &Text,
+) -> Result<Transcript, AllocError>
+    ensures { IfOk result (λ r. outcome_of r ≡ outcome.refused number line name.now) }
+{
+    let mut messages = Vec::new(alloc);
+    put_refusal(&mut messages, number, u64::from(line), name.as_slice())?;
+    let history = History::from(Vec::new(alloc));
+    Ok(Transcript::silent(alloc, messages, Status::Refused, history))
+}
+
+/// What a program leaves whose frame doesn't fit the arena.
+///
+/// # Errors
+///
+/// Only where memory was refused.
+pub fn full_transcript(alloc: Global) -> Result<Transcript, AllocError>
+    ensures { IfOk result (λ r. outcome_of r ≡ outcome.outcome_of_full_arena) }
+{
+    let messages = Vec::from_slice(alloc, stop_text(Some(Stop::ArenaFull)))?;
+    let history = History::from(Vec::new(alloc));
+    Ok(Transcript::silent(alloc, messages, Status::ArenaFull, history))
+}

@@ -1,5 +1,0 @@
-use Rattle.hep_source.proofs.Frames.{frames_apart}
-use Rattle.hep_source.proofs.laws.frames_lie_apart.Goals as goal
-
-pub returns : goal.returns
-returns c = frames_apart

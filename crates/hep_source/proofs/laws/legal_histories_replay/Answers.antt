@@ -1,8 +1,0 @@
-use Rattle.hep_source.proofs.Replays.{legal_steps, replayed}
-use Rattle.hep_source.proofs.laws.legal_histories_replay.Goals as goal
-
-pub returns-clause-steps : goal.returns-clause-steps
-returns-clause-steps c = legal_steps
-
-pub returns-clause-state : goal.returns-clause-state
-returns-clause-state c = replayed

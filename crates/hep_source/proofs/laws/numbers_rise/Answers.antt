@@ -1,8 +1,0 @@
-use Rattle.hep_source.proofs.Others.{activations_after, processes_after}
-use Rattle.hep_source.proofs.laws.numbers_rise.Goals as goal
-
-pub returns-clause-activations : goal.returns-clause-activations
-returns-clause-activations c = activations_after
-
-pub returns-clause-processes : goal.returns-clause-processes
-returns-clause-processes c = processes_after

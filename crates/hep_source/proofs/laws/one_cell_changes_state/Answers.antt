@@ -1,5 +1,0 @@
-use Rattle.hep_source.proofs.CellStates.{states_kept}
-use Rattle.hep_source.proofs.laws.one_cell_changes_state.Goals as goal
-
-pub returns : goal.returns
-returns c = states_kept

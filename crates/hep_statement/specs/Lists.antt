@@ -1,0 +1,31 @@
+-- Parts of a statement in a row (X3.9-1978, 2.10).
+use Rattle.std.specs.Prelude.{◌≡◌, ◌⊎◌, ℕ, codes, List, [], ◌∷◌, ◌++◌}
+
+-- The text s begins with these parts, a comma before each, and goes on with r.
+abbrev pub AreAfter : {A : Type 0} → (A → List ℕ → List ℕ → Type 0) → List A → List ℕ → List ℕ → Type 0
+AreAfter P [] s r = s ≡ r
+AreAfter P (x ∷ more) s r = (m : List ℕ) × (n : List ℕ) × (s ≡ codes "," ++ m) × P x m n × AreAfter P more n r
+
+-- The text s begins with these parts, one or more, with commas between them, and goes on with r.
+abbrev pub AreListed : {A : Type 0} → (A → List ℕ → List ℕ → Type 0) → List A → List ℕ → List ℕ → Type 0
+AreListed P [] s r = ⊥
+AreListed P (x ∷ more) s r = (m : List ℕ) × P x s m × AreAfter P more m r
+
+-- The same in parentheses.
+abbrev pub AreEnclosed : {A : Type 0} → (A → List ℕ → List ℕ → Type 0) → List A → List ℕ → List ℕ → Type 0
+AreEnclosed P xs s r = (m : List ℕ) × (s ≡ codes "(" ++ m) × AreListed P xs m (codes ")" ++ r)
+
+-- The same, where no part has no parentheses.
+abbrev pub AreOptional : {A : Type 0} → (A → List ℕ → List ℕ → Type 0) → List A → List ℕ → List ℕ → Type 0
+AreOptional P [] s r = s ≡ r
+AreOptional P (x ∷ more) s r = AreEnclosed P (x ∷ more) s r
+
+-- The whole text is these arguments in parentheses; where there are none these may be missing
+-- (X3.9-1978, 15.6.1 and 15.6.2).
+abbrev pub AreArguments : {A : Type 0} → (A → List ℕ → List ℕ → Type 0) → List A → List ℕ → Type 0
+AreArguments P [] s = (s ≡ []) ⊎ (s ≡ codes "()")
+AreArguments P (x ∷ more) s = AreEnclosed P (x ∷ more) s []
+
+-- a comma that may be missing
+abbrev pub IsOptionalComma : List ℕ → List ℕ → Type 0
+IsOptionalComma s r = (s ≡ r) ⊎ (s ≡ codes "," ++ r)

@@ -1,0 +1,11 @@
+pub mod Sources
+pub mod SerialRuns
+mod SerialRules
+pub mod Reported
+mod WorkedConditions
+mod WorkedEdges
+mod WorkedRuns
+mod WorkedControl
+mod WorkedValues
+mod WorkedCalls
+mod WorkedProcesses

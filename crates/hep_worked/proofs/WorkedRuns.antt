@@ -1,0 +1,826 @@
+-- Worked runs: what the definitions give for whole sources, from their lines to the end of the run.
+use Rattle.std.specs.Prelude.{◌≡◌, true, false, codes, List, [], ◌∷◌, ◌++◌, replicate, Some, None, refl}
+use Prim.Native.String.{String}
+use Rattle.hep_machine.specs.declared.event.Kind.TheVariants.{Overflow, Range, Undefined, Shape, Step}
+use Rattle.hep_machine.specs.declared.record.Item.TheVariants.{Truth, Text}
+use Rattle.hep_machine.specs.Layout.{is_made, is_held}
+use Rattle.hep_worked.proofs.SerialRuns.{report, runs, history, used_along, layout_after, frames, view, done, all_wait, halted, arena_full, step_limit, no_such_process, refused, int, minus, one, numbers, fault, stands, waits_for_full, asynchronous, cell, unset_cell, entries_of}
+
+-- ---- Reading
+
+-- product, sum, PRINT, END
+abbrev sum_and_product : List String
+sum_and_product = "      PRINT *,'A=',1+2*3,.TRUE." ∷ "      END" ∷ []
+
+sum_and_product_runs : runs sum_and_product ≡ record { records = (Text (codes "A=") ∷ int 7 ∷ Truth true ∷ []) ∷ []; faults = []; processes = []; entries = 4; used = 1; ending = done }
+unfolding runs
+sum_and_product_runs = refl
+
+abbrev nothing : List String
+nothing = []
+
+nothing_runs : runs nothing ≡ record { records = []; faults = []; processes = []; entries = 0; used = 0; ending = refused (204, 0, []) }
+unfolding runs
+nothing_runs = refl
+
+abbrev no_end : List String
+no_end = "      I=1" ∷ []
+
+no_end_runs : runs no_end ≡ record { records = []; faults = []; processes = []; entries = 0; used = 0; ending = refused (205, 1, []) }
+unfolding runs
+no_end_runs = refl
+
+abbrev open_constant : List String
+open_constant = "      PRINT *,'A" ∷ []
+
+open_constant_runs : runs open_constant ≡ record { records = []; faults = []; processes = []; entries = 0; used = 0; ending = refused (106, 1, []) }
+unfolding runs
+open_constant_runs = refl
+
+abbrev tab_in_front : List String
+tab_in_front = "\tEND" ∷ []
+
+tab_in_front_runs : runs tab_in_front ≡ record { records = []; faults = []; processes = []; entries = 0; used = 0; ending = refused (101, 1, []) }
+unfolding runs
+tab_in_front_runs = refl
+
+abbrev nineteen_continuation_lines : List String
+nineteen_continuation_lines = "      PRINT *,1" ∷ []
+
+nineteen_continuation_lines_run : runs (nineteen_continuation_lines ++ (replicate 19 "     +,1" ++ "      END" ∷ [])) ≡ record { records = replicate 20 (int 1) ∷ []; faults = []; processes = []; entries = 2; used = 1; ending = done }
+unfolding runs
+nineteen_continuation_lines_run = refl
+
+twenty_continuation_lines_run : runs (nineteen_continuation_lines ++ (replicate 20 "     +,1" ++ "      END" ∷ [])) ≡ record { records = []; faults = []; processes = []; entries = 0; used = 0; ending = refused (104, 21, []) }
+unfolding runs
+twenty_continuation_lines_run = refl
+
+abbrev apostrophe : List String
+apostrophe = "      print *,'it''s'" ∷ "      end" ∷ []
+
+apostrophe_runs : runs apostrophe ≡ record { records = (Text (codes "it's") ∷ []) ∷ []; faults = []; processes = []; entries = 2; used = 1; ending = done }
+unfolding runs
+apostrophe_runs = refl
+
+abbrev after_column_72 : List String
+after_column_72 = "      PRINT *,1                                                         +1" ∷ "      END" ∷ []
+
+after_column_72_runs : runs after_column_72 ≡ record { records = one 1 ∷ []; faults = []; processes = []; entries = 2; used = 1; ending = done }
+unfolding runs
+after_column_72_runs = refl
+
+abbrev comments_and_continuation_lines : List String
+comments_and_continuation_lines =
+    "C first"
+    ∷ "      i = 1"
+    ∷ "C within"
+    ∷ "     + + 2"
+    ∷ "* last"
+    ∷ ""
+    ∷ "      print *,i"
+    ∷ "      end"
+    ∷ []
+
+comments_and_continuation_lines_runs : runs comments_and_continuation_lines ≡ record { records = one 3 ∷ []; faults = []; processes = []; entries = 5; used = 2; ending = done }
+unfolding runs
+comments_and_continuation_lines_runs = refl
+
+abbrev left_out : List String
+left_out = "      READ *,I" ∷ "      END" ∷ []
+
+left_out_runs : runs left_out ≡ record { records = []; faults = []; processes = []; entries = 0; used = 0; ending = refused (202, 1, codes "READ") }
+unfolding runs
+left_out_runs = refl
+
+abbrev real_constant : List String
+real_constant = "      I=1.5" ∷ "      END" ∷ []
+
+real_constant_runs : runs real_constant ≡ record { records = []; faults = []; processes = []; entries = 0; used = 0; ending = refused (201, 1, []) }
+unfolding runs
+real_constant_runs = refl
+
+abbrev typed_function : List String
+typed_function = "      INTEGER FUNCTION F(I)" ∷ "      END" ∷ []
+
+typed_function_runs : runs typed_function ≡ record { records = []; faults = []; processes = []; entries = 0; used = 0; ending = refused (202, 1, codes "FUNCTION") }
+unfolding runs
+typed_function_runs = refl
+
+abbrev constant_too_large : List String
+constant_too_large = "      I=-9223372036854775808" ∷ "      END" ∷ []
+
+constant_too_large_runs : runs constant_too_large ≡ record { records = []; faults = []; processes = []; entries = 0; used = 0; ending = refused (203, 1, []) }
+unfolding runs
+constant_too_large_runs = refl
+
+abbrev no_main_program : List String
+no_main_program = "      SUBROUTINE S" ∷ "      END" ∷ []
+
+no_main_program_runs : runs no_main_program ≡ record { records = []; faults = []; processes = []; entries = 0; used = 0; ending = refused (204, 0, []) }
+unfolding runs
+no_main_program_runs = refl
+
+abbrev late_declaration : List String
+late_declaration =
+    "      I=1"
+    ∷ "      INTEGER K"
+    ∷ "      END"
+    ∷ []
+
+late_declaration_runs : runs late_declaration ≡ record { records = []; faults = []; processes = []; entries = 0; used = 0; ending = refused (205, 2, []) }
+unfolding runs
+late_declaration_runs = refl
+
+-- ---- One process
+
+-- each turn of a DO is its statements and its end
+abbrev counting : List String
+counting =
+    "      D O 1 0 I = 1 , 3"
+    ∷ "   10 PRINT *,I"
+    ∷ "      END"
+    ∷ []
+
+counting_runs : runs counting ≡ record { records = one 1 ∷ one 2 ∷ one 3 ∷ []; faults = []; processes = []; entries = 11; used = 4; ending = done }
+unfolding runs
+counting_runs = refl
+
+abbrev name_like_a_do : List String
+name_like_a_do =
+    "      IMPLICIT INTEGER (A-Z)"
+    ∷ "      DO10I=1"
+    ∷ "      PRINT *,DO10I"
+    ∷ "      END"
+    ∷ []
+
+name_like_a_do_runs : runs name_like_a_do ≡ record { records = one 1 ∷ []; faults = []; processes = []; entries = 4; used = 2; ending = done }
+unfolding runs
+name_like_a_do_runs = refl
+
+abbrev array_called_if : List String
+array_called_if =
+    "      INTEGER IF(3)"
+    ∷ "      IF(3)=5"
+    ∷ "      IF(IF(3))10,20,30"
+    ∷ "   10 PRINT *,1"
+    ∷ "   20 PRINT *,2"
+    ∷ "   30 PRINT *,3"
+    ∷ "      END"
+    ∷ []
+
+array_called_if_runs : runs array_called_if ≡ record { records = one 3 ∷ []; faults = []; processes = []; entries = 5; used = 4; ending = done }
+unfolding runs
+array_called_if_runs = refl
+
+abbrev loops_without_turns : List String
+loops_without_turns =
+    "      DO 10 I=3,1"
+    ∷ "   10 CONTINUE"
+    ∷ "      PRINT *,I"
+    ∷ "      DO 20 J=1,3"
+    ∷ "   20 CONTINUE"
+    ∷ "      PRINT *,J"
+    ∷ "      K=0"
+    ∷ "      DO 30 L=1,2,K"
+    ∷ "   30 CONTINUE"
+    ∷ "      END"
+    ∷ []
+
+loops_without_turns_runs : runs loops_without_turns ≡ record { records = one 3 ∷ one 4 ∷ []; faults = fault 1 0 8 Step ∷ []; processes = []; entries = 15; used = 11; ending = done }
+unfolding runs
+loops_without_turns_runs = refl
+
+abbrev quotients : List String
+quotients = "      PRINT *,(-7)/2,2**(-3),MOD(-7,2)" ∷ "      END" ∷ []
+
+quotients_runs : runs quotients ≡ record { records = (minus 3 ∷ int 0 ∷ minus 1 ∷ []) ∷ []; faults = []; processes = []; entries = 8; used = 1; ending = done }
+unfolding runs
+quotients_runs = refl
+
+abbrev negative_square : List String
+negative_square = "      PRINT *,(-7)/2,2**(-3),-2**2" ∷ "      END" ∷ []
+
+negative_square_runs : runs negative_square ≡ record { records = (minus 3 ∷ int 0 ∷ minus 4 ∷ []) ∷ []; faults = []; processes = []; entries = 8; used = 1; ending = done }
+unfolding runs
+negative_square_runs = refl
+
+abbrev triangle : List String
+triangle =
+    "      DO 10 I=1,3"
+    ∷ "      DO 10 J=I,2"
+    ∷ "   10 PRINT *,I,J"
+    ∷ "      PRINT *,I,J"
+    ∷ "      END"
+    ∷ []
+
+triangle_runs : runs triangle ≡ record { records = numbers (1 ∷ 1 ∷ []) ∷ numbers (1 ∷ 2 ∷ []) ∷ numbers (2 ∷ 2 ∷ []) ∷ numbers (4 ∷ 3 ∷ []) ∷ []; faults = []; processes = []; entries = 26; used = 7; ending = done }
+unfolding runs
+triangle_runs = refl
+
+abbrev variable_without_value : List String
+variable_without_value =
+    "      I=3"
+    ∷ "      PRINT *,I*I-1"
+    ∷ "      PRINT *,J"
+    ∷ "      END"
+    ∷ []
+
+variable_without_value_runs : runs variable_without_value ≡ record { records = one 8 ∷ []; faults = fault 1 0 3 Undefined ∷ []; processes = []; entries = 7; used = 3; ending = done }
+unfolding runs
+variable_without_value_runs = refl
+
+variable_without_value_history : history variable_without_value 65536 is_made 10000000 [] ≡ entries_of ((1, 1) ∷ (1, 1) ∷ (1, 1) ∷ (1, 1) ∷ (1, 1) ∷ (1, 1) ∷ (1, 1) ∷ [])
+unfolding history
+variable_without_value_history = refl
+
+variable_without_value_given_back : report variable_without_value 65536 is_held 10000000 [] ≡ record { records = one 8 ∷ []; faults = fault 1 0 3 Undefined ∷ []; processes = []; entries = 7; used = 0; ending = done }
+unfolding report
+variable_without_value_given_back = refl
+
+variable_without_value_in_2_cells : report variable_without_value 2 is_made 10000000 [] ≡ record { records = []; faults = []; processes = stands 1 0 1 ∷ []; entries = 0; used = 3; ending = arena_full }
+unfolding report
+variable_without_value_in_2_cells = refl
+
+variable_without_value_in_3_entries : report variable_without_value 65536 is_made 3 [] ≡ record { records = []; faults = []; processes = stands 1 0 2 ∷ []; entries = 3; used = 3; ending = step_limit }
+unfolding report
+variable_without_value_in_3_entries = refl
+
+abbrev endless_loop : List String
+endless_loop = "   10 GO TO 10" ∷ "      END" ∷ []
+
+endless_loop_runs : report endless_loop 65536 is_made 5 [] ≡ record { records = []; faults = []; processes = stands 1 0 1 ∷ []; entries = 5; used = 1; ending = step_limit }
+unfolding report
+endless_loop_runs = refl
+
+endless_loop_history : history endless_loop 65536 is_made 5 [] ≡ entries_of ((1, 1) ∷ (1, 1) ∷ (1, 1) ∷ (1, 1) ∷ (1, 1) ∷ [])
+unfolding history
+endless_loop_history = refl
+
+abbrev stopped : List String
+stopped =
+    "      PRINT *,1"
+    ∷ "      STOP"
+    ∷ "      END"
+    ∷ []
+
+stopped_runs : runs stopped ≡ record { records = one 1 ∷ []; faults = []; processes = stands 1 0 2 ∷ []; entries = 2; used = 1; ending = halted }
+unfolding runs
+stopped_runs = refl
+
+stopped_history : history stopped 65536 is_made 10000000 [] ≡ entries_of ((1, 1) ∷ (1, 1) ∷ [])
+unfolding history
+stopped_history = refl
+
+stopped_before_a_choice : report stopped 65536 is_made 10000000 (1 ∷ 1 ∷ 1 ∷ []) ≡ record { records = one 1 ∷ []; faults = []; processes = stands 1 0 2 ∷ []; entries = 2; used = 1; ending = halted }
+unfolding report
+stopped_before_a_choice = refl
+
+-- a constant takes no step
+abbrev named_sum : List String
+named_sum =
+    "      PARAMETER (N=2+3)"
+    ∷ "      PRINT *,N"
+    ∷ "      END"
+    ∷ []
+
+named_sum_runs : runs named_sum ≡ record { records = one 5 ∷ []; faults = []; processes = []; entries = 2; used = 1; ending = done }
+unfolding runs
+named_sum_runs = refl
+
+named_sum_history : history named_sum 65536 is_made 10000000 [] ≡ entries_of ((1, 1) ∷ (1, 1) ∷ [])
+unfolding history
+named_sum_history = refl
+
+-- ---- Subroutines
+
+-- the bounds are those of the CALL
+abbrev adjustable : List String
+adjustable =
+    "      INTEGER X(6)"
+    ∷ "      X(4)=8"
+    ∷ "      CALL S(X,3)"
+    ∷ "      END"
+    ∷ "      SUBROUTINE S(A,N)"
+    ∷ "      INTEGER A(N,2)"
+    ∷ "      N=1"
+    ∷ "      PRINT *,A(1,2)"
+    ∷ "      END"
+    ∷ []
+
+adjustable_runs : runs adjustable ≡ record { records = one 8 ∷ []; faults = []; processes = []; entries = 7; used = 16; ending = done }
+unfolding runs
+adjustable_runs = refl
+
+adjustable_uses : used_along adjustable is_made (1 ∷ 1 ∷ []) ≡ 7 ∷ 7 ∷ 16 ∷ []
+unfolding used_along
+adjustable_uses = refl
+
+abbrev adjustable_too_long : List String
+adjustable_too_long =
+    "      INTEGER X(6)"
+    ∷ "      X(4)=8"
+    ∷ "      CALL S(X,4)"
+    ∷ "      END"
+    ∷ "      SUBROUTINE S(A,N)"
+    ∷ "      INTEGER A(N,2)"
+    ∷ "      N=1"
+    ∷ "      PRINT *,A(1,2)"
+    ∷ "      END"
+    ∷ []
+
+adjustable_too_long_runs : runs adjustable_too_long ≡ record { records = []; faults = fault 1 0 3 Shape ∷ []; processes = []; entries = 2; used = 7; ending = done }
+unfolding runs
+adjustable_too_long_runs = refl
+
+abbrev value_and_place : List String
+value_and_place =
+    "      I=1"
+    ∷ "      CALL S((I),I)"
+    ∷ "      PRINT *,I"
+    ∷ "      END"
+    ∷ "      SUBROUTINE S(J,K)"
+    ∷ "      J=5"
+    ∷ "      K=K+1"
+    ∷ "      END"
+    ∷ []
+
+value_and_place_runs : runs value_and_place ≡ record { records = one 2 ∷ []; faults = []; processes = []; entries = 11; used = 7; ending = done }
+unfolding runs
+value_and_place_runs = refl
+
+-- the value of an expression stands in a variable of the dummy
+value_and_place_view : view value_and_place 65536 is_made 10000000 [] ≡ Some (record { records = one 2 ∷ []; faults = []; halted = false; processes = []; common_contents = []; cells = cell 2 false ∷ cell 5 false ∷ [] })
+unfolding view
+value_and_place_view = refl
+
+abbrev place_twice : List String
+place_twice =
+    "      I=1"
+    ∷ "      CALL S(I,I)"
+    ∷ "      PRINT *,I"
+    ∷ "      END"
+    ∷ "      SUBROUTINE S(J,K)"
+    ∷ "      J=5"
+    ∷ "      K=K+1"
+    ∷ "      END"
+    ∷ []
+
+place_twice_runs : runs place_twice ≡ record { records = one 6 ∷ []; faults = []; processes = []; entries = 10; used = 7; ending = done }
+unfolding runs
+place_twice_runs = refl
+
+-- a new frame has no values, even in the cells of another
+abbrev undefined_anew : List String
+undefined_anew =
+    "      CALL S"
+    ∷ "      CALL T"
+    ∷ "      END"
+    ∷ "      SUBROUTINE S"
+    ∷ "      I=7"
+    ∷ "      END"
+    ∷ "      SUBROUTINE T"
+    ∷ "      PRINT *,I"
+    ∷ "      END"
+    ∷ []
+
+undefined_anew_runs : runs undefined_anew ≡ record { records = []; faults = fault 1 2 8 Undefined ∷ []; processes = []; entries = 5; used = 5; ending = done }
+unfolding runs
+undefined_anew_runs = refl
+
+undefined_anew_in_3_cells : report undefined_anew 3 is_held 10000000 [] ≡ record { records = []; faults = fault 1 2 8 Undefined ∷ []; processes = []; entries = 5; used = 0; ending = done }
+unfolding report
+undefined_anew_in_3_cells = refl
+
+undefined_anew_kept_in_3_cells : report undefined_anew 3 is_made 10000000 [] ≡ record { records = []; faults = []; processes = stands 1 0 2 ∷ []; entries = 3; used = 3; ending = arena_full }
+unfolding report
+undefined_anew_kept_in_3_cells = refl
+
+abbrev rest_of_an_array : List String
+rest_of_an_array =
+    "      INTEGER X(5)"
+    ∷ "      X(5)=9"
+    ∷ "      CALL S(X(3))"
+    ∷ "      END"
+    ∷ "      SUBROUTINE S(A)"
+    ∷ "      INTEGER A(*)"
+    ∷ "      PRINT *,A(3)"
+    ∷ "      PRINT *,A(4)"
+    ∷ "      END"
+    ∷ []
+
+rest_of_an_array_runs : runs rest_of_an_array ≡ record { records = one 9 ∷ []; faults = fault 1 1 8 Range ∷ []; processes = []; entries = 5; used = 9; ending = done }
+unfolding runs
+rest_of_an_array_runs = refl
+
+abbrev more_than_the_rest : List String
+more_than_the_rest =
+    "      INTEGER X(5)"
+    ∷ "      X(5)=9"
+    ∷ "      CALL S(X(3))"
+    ∷ "      END"
+    ∷ "      SUBROUTINE S(A)"
+    ∷ "      INTEGER A(4)"
+    ∷ "      PRINT *,A(3)"
+    ∷ "      PRINT *,A(4)"
+    ∷ "      END"
+    ∷ []
+
+more_than_the_rest_runs : runs more_than_the_rest ≡ record { records = []; faults = fault 1 0 3 Shape ∷ []; processes = []; entries = 2; used = 6; ending = done }
+unfolding runs
+more_than_the_rest_runs = refl
+
+abbrev endless_recursion : List String
+endless_recursion =
+    "      CALL S"
+    ∷ "      END"
+    ∷ "      SUBROUTINE S"
+    ∷ "      CALL S"
+    ∷ "      END"
+    ∷ []
+
+endless_recursion_runs : report endless_recursion 4 is_made 10000000 [] ≡ record { records = []; faults = []; processes = stands 1 1 4 ∷ []; entries = 3; used = 4; ending = arena_full }
+unfolding report
+endless_recursion_runs = refl
+
+endless_recursion_runs_given_back : report endless_recursion 4 is_held 10000000 [] ≡ record { records = []; faults = []; processes = stands 1 1 4 ∷ []; entries = 3; used = 4; ending = arena_full }
+unfolding report
+endless_recursion_runs_given_back = refl
+
+endless_recursion_history : history endless_recursion 4 is_made 10000000 [] ≡ entries_of ((1, 1) ∷ (1, 1) ∷ (1, 1) ∷ [])
+unfolding history
+endless_recursion_history = refl
+
+-- the frame of S is given back each time
+abbrev call_in_a_loop : List String
+call_in_a_loop =
+    "      DO 10 I=1,10"
+    ∷ "   10 CALL S"
+    ∷ "      END"
+    ∷ "      SUBROUTINE S"
+    ∷ "      J=1"
+    ∷ "      END"
+    ∷ []
+
+call_in_a_loop_in_6_cells : report call_in_a_loop 6 is_held 10000000 [] ≡ record { records = []; faults = []; processes = []; entries = 42; used = 0; ending = done }
+unfolding report
+call_in_a_loop_in_6_cells = refl
+
+call_in_a_loop_in_5_cells : report call_in_a_loop 5 is_held 10000000 [] ≡ record { records = []; faults = []; processes = stands 1 0 2 ∷ []; entries = 1; used = 4; ending = arena_full }
+unfolding report
+call_in_a_loop_in_5_cells = refl
+
+call_in_a_loop_history_in_5_cells : history call_in_a_loop 5 is_held 10000000 [] ≡ entries_of ((1, 1) ∷ [])
+unfolding history
+call_in_a_loop_history_in_5_cells = refl
+
+call_in_a_loop_kept_in_24_cells : report call_in_a_loop 24 is_made 10000000 [] ≡ record { records = []; faults = []; processes = []; entries = 42; used = 24; ending = done }
+unfolding report
+call_in_a_loop_kept_in_24_cells = refl
+
+call_in_a_loop_kept_in_23_cells : report call_in_a_loop 23 is_made 10000000 [] ≡ record { records = []; faults = []; processes = stands 1 0 2 ∷ []; entries = 37; used = 22; ending = arena_full }
+unfolding report
+call_in_a_loop_kept_in_23_cells = refl
+
+abbrev call_in_a_longer_loop : List String
+call_in_a_longer_loop =
+    "      DO 10 I=1,1000"
+    ∷ "   10 CALL S"
+    ∷ "      END"
+    ∷ "      SUBROUTINE S"
+    ∷ "      J=1"
+    ∷ "      END"
+    ∷ []
+
+call_in_a_longer_loop_in_6_cells : report call_in_a_longer_loop 6 is_held 10000000 [] ≡ record { records = []; faults = []; processes = []; entries = 4002; used = 0; ending = done }
+unfolding report
+call_in_a_longer_loop_in_6_cells = refl
+
+call_in_a_longer_loop_history_in_6_cells : history call_in_a_longer_loop 6 is_held 10000000 [] ≡ entries_of (replicate 4002 (1, 1))
+unfolding history
+call_in_a_longer_loop_history_in_6_cells = refl
+
+-- no frame is left
+call_in_a_longer_loop_layout_in_6_cells : layout_after call_in_a_longer_loop 6 is_held (replicate 4002 1) ≡ Some []
+unfolding layout_after
+call_in_a_longer_loop_layout_in_6_cells = refl
+
+-- at the END of the last S
+call_in_a_longer_loop_in_3999_entries : report call_in_a_longer_loop 6 is_held 3999 [] ≡ record { records = []; faults = []; processes = stands 1 1 6 ∷ []; entries = 3999; used = 6; ending = step_limit }
+unfolding report
+call_in_a_longer_loop_in_3999_entries = refl
+
+-- the frame of the 1,000th S, after that of the main program
+call_in_a_longer_loop_layout_in_3999_entries : layout_after call_in_a_longer_loop 6 is_held (replicate 3999 1) ≡ Some (record { activation = 1; first = 0; cells = 4 } ∷ record { activation = 1001; first = 4; cells = 2 } ∷ [])
+unfolding layout_after
+call_in_a_longer_loop_layout_in_3999_entries = refl
+
+call_in_a_longer_loop_in_5_cells : report call_in_a_longer_loop 5 is_held 10000000 [] ≡ record { records = []; faults = []; processes = stands 1 0 2 ∷ []; entries = 1; used = 4; ending = arena_full }
+unfolding report
+call_in_a_longer_loop_in_5_cells = refl
+
+call_in_a_longer_loop_history_in_5_cells : history call_in_a_longer_loop 5 is_held 10000000 [] ≡ entries_of ((1, 1) ∷ [])
+unfolding history
+call_in_a_longer_loop_history_in_5_cells = refl
+
+call_in_a_longer_loop_layout_in_5_cells : layout_after call_in_a_longer_loop 5 is_held (1 ∷ 1 ∷ []) ≡ None
+unfolding layout_after
+call_in_a_longer_loop_layout_in_5_cells = refl
+
+-- ---- Processes
+
+abbrev overflow_in_a_process : List String
+overflow_in_a_process =
+    "      PROGRAM P"
+    ∷ "      CREATE ADD"
+    ∷ "      PRINT *,'OK'"
+    ∷ "      END"
+    ∷ "      SUBROUTINE ADD"
+    ∷ "      I=9223372036854775807"
+    ∷ "      I=I+1"
+    ∷ "      END"
+    ∷ []
+
+overflow_in_a_process_runs : runs overflow_in_a_process ≡ record { records = (Text (codes "OK") ∷ []) ∷ []; faults = fault 2 1 7 Overflow ∷ []; processes = []; entries = 6; used = 3; ending = done }
+unfolding runs
+overflow_in_a_process_runs = refl
+
+overflow_in_no_process : report overflow_in_a_process 65536 is_made 10000000 (99 ∷ []) ≡ record { records = []; faults = []; processes = stands 1 0 2 ∷ []; entries = 0; used = 1; ending = no_such_process }
+unfolding report
+overflow_in_no_process = refl
+
+overflow_in_no_process_yet : report overflow_in_a_process 65536 is_made 10000000 (2 ∷ []) ≡ record { records = []; faults = []; processes = stands 1 0 2 ∷ []; entries = 0; used = 1; ending = no_such_process }
+unfolding report
+overflow_in_no_process_yet = refl
+
+abbrev constant_too_large_in_a_process : List String
+constant_too_large_in_a_process =
+    "      PROGRAM P"
+    ∷ "      CREATE ADD"
+    ∷ "      PRINT *,'OK'"
+    ∷ "      END"
+    ∷ "      SUBROUTINE ADD"
+    ∷ "      I=9223372036854775808"
+    ∷ "      I=I+1"
+    ∷ "      END"
+    ∷ []
+
+constant_too_large_in_a_process_runs : runs constant_too_large_in_a_process ≡ record { records = []; faults = []; processes = []; entries = 0; used = 0; ending = refused (203, 6, []) }
+unfolding runs
+constant_too_large_in_a_process_runs = refl
+
+abbrev waiting_for_full : List String
+waiting_for_full =
+    "      PROGRAM P"
+    ∷ "      INTEGER $Q"
+    ∷ "      I=$Q"
+    ∷ "      END"
+    ∷ []
+
+waiting_for_full_runs : runs waiting_for_full ≡ record { records = []; faults = []; processes = waits_for_full 1 0 3 (asynchronous 1 "Q" 1) ∷ []; entries = 1; used = 3; ending = all_wait }
+unfolding runs
+waiting_for_full_runs = refl
+
+waiting_for_full_history : history waiting_for_full 65536 is_made 10000000 [] ≡ entries_of ((1, 0) ∷ [])
+unfolding history
+waiting_for_full_history = refl
+
+waiting_for_full_in_3_cells : report waiting_for_full 3 is_made 10000000 [] ≡ record { records = []; faults = []; processes = waits_for_full 1 0 3 (asynchronous 1 "Q" 1) ∷ []; entries = 1; used = 3; ending = all_wait }
+unfolding report
+waiting_for_full_in_3_cells = refl
+
+waiting_for_full_in_2_cells : report waiting_for_full 2 is_made 10000000 [] ≡ record { records = []; faults = []; processes = waits_for_full 1 0 3 (asynchronous 1 "Q" 1) ∷ []; entries = 0; used = 3; ending = arena_full }
+unfolding report
+waiting_for_full_in_2_cells = refl
+
+-- two processes add to one variable, and say so by another
+abbrev adders : List String
+adders =
+    "      PROGRAM P"
+    ∷ "      INTEGER $X,$D"
+    ∷ "      $X=0"
+    ∷ "      CREATE ADD($X,$D)"
+    ∷ "      CREATE ADD($X,$D)"
+    ∷ "      I=$D"
+    ∷ "      I=$D"
+    ∷ "      PRINT *,$X"
+    ∷ "      END"
+    ∷ "      SUBROUTINE ADD($A,$B)"
+    ∷ "      INTEGER $A,$B"
+    ∷ "      $A=$A+1"
+    ∷ "      $B=1"
+    ∷ "      END"
+    ∷ []
+
+adders_runs : runs adders ≡ record { records = one 2 ∷ []; faults = []; processes = []; entries = 22; used = 14; ending = done }
+unfolding runs
+adders_runs = refl
+
+adders_chosen_run : report adders 65536 is_made 10000000 (1 ∷ 1 ∷ 1 ∷ 2 ∷ 3 ∷ []) ≡ record { records = one 2 ∷ []; faults = []; processes = []; entries = 22; used = 14; ending = done }
+unfolding report
+adders_chosen_run = refl
+
+adders_chosen_history : history adders 65536 is_made 10000000 (1 ∷ 1 ∷ 1 ∷ 2 ∷ 3 ∷ []) ≡ entries_of ((1, 1) ∷ (1, 1) ∷ (1, 1) ∷ (2, 1) ∷ (3, 0) ∷ (1, 0) ∷ (2, 1) ∷ (2, 1) ∷ (3, 1) ∷ (2, 1) ∷ (3, 1) ∷ (1, 1) ∷ (2, 1) ∷ (3, 1) ∷ (1, 1) ∷ (3, 1) ∷ (1, 1) ∷ (3, 1) ∷ (1, 1) ∷ (1, 1) ∷ (1, 1) ∷ (1, 1) ∷ [])
+unfolding history
+adders_chosen_history = refl
+
+adders_begun_first_run : report adders 65536 is_made 10000000 (1 ∷ 1 ∷ 1 ∷ 1 ∷ []) ≡ record { records = one 2 ∷ []; faults = []; processes = []; entries = 22; used = 14; ending = done }
+unfolding report
+adders_begun_first_run = refl
+
+adders_frames : frames adders ≡ (4 ∷ 5 ∷ [], 0)
+unfolding frames
+adders_frames = refl
+
+-- the first of the two has emptied $X, whose value stays
+adders_in_4_entries_view : view adders 65536 is_made 4 (1 ∷ 1 ∷ 1 ∷ 2 ∷ []) ≡ Some (record { records = []; faults = []; halted = false; processes = waits_for_full 1 0 6 (asynchronous 1 "D" 1) ∷ stands 2 1 12 ∷ waits_for_full 3 1 12 (asynchronous 1 "X" 1) ∷ []; common_contents = []; cells = cell 0 false ∷ unset_cell false ∷ unset_cell false ∷ [] })
+unfolding view
+adders_in_4_entries_view = refl
+
+adders_in_1_cells : report adders 1 is_made 10000000 (1 ∷ 1 ∷ 1 ∷ []) ≡ record { records = []; faults = []; processes = stands 1 0 3 ∷ []; entries = 0; used = 4; ending = arena_full }
+unfolding report
+adders_in_1_cells = refl
+
+adders_in_3_cells : report adders 3 is_made 10000000 (1 ∷ 1 ∷ 1 ∷ []) ≡ record { records = []; faults = []; processes = stands 1 0 3 ∷ []; entries = 0; used = 4; ending = arena_full }
+unfolding report
+adders_in_3_cells = refl
+
+adders_in_4_cells : report adders 4 is_made 10000000 (1 ∷ 1 ∷ 1 ∷ []) ≡ record { records = []; faults = []; processes = stands 1 0 4 ∷ []; entries = 1; used = 4; ending = arena_full }
+unfolding report
+adders_in_4_cells = refl
+
+adders_in_8_cells : report adders 8 is_made 10000000 (1 ∷ 1 ∷ 1 ∷ []) ≡ record { records = []; faults = []; processes = stands 1 0 4 ∷ []; entries = 1; used = 4; ending = arena_full }
+unfolding report
+adders_in_8_cells = refl
+
+adders_in_9_cells : report adders 9 is_made 10000000 (1 ∷ 1 ∷ 1 ∷ []) ≡ record { records = []; faults = []; processes = stands 1 0 5 ∷ stands 2 1 12 ∷ []; entries = 2; used = 9; ending = arena_full }
+unfolding report
+adders_in_9_cells = refl
+
+adders_in_13_cells : report adders 13 is_made 10000000 (1 ∷ 1 ∷ 1 ∷ []) ≡ record { records = []; faults = []; processes = stands 1 0 5 ∷ stands 2 1 12 ∷ []; entries = 2; used = 9; ending = arena_full }
+unfolding report
+adders_in_13_cells = refl
+
+adders_in_14_cells : report adders 14 is_made 10000000 (1 ∷ 1 ∷ 1 ∷ []) ≡ record { records = one 2 ∷ []; faults = []; processes = []; entries = 22; used = 14; ending = done }
+unfolding report
+adders_in_14_cells = refl
+
+-- the frame of A stays until B has ended, which has a place in it
+abbrev creator_returns : List String
+creator_returns =
+    "      PROGRAM P"
+    ∷ "      CALL A"
+    ∷ "      CALL C"
+    ∷ "      END"
+    ∷ "      SUBROUTINE A"
+    ∷ "      CREATE B(K)"
+    ∷ "      END"
+    ∷ "      SUBROUTINE B(J)"
+    ∷ "      J=7"
+    ∷ "      END"
+    ∷ "      SUBROUTINE C"
+    ∷ "      PRINT *,M"
+    ∷ "      END"
+    ∷ []
+
+creator_returns_runs : report creator_returns 65536 is_made 10000000 (1 ∷ 1 ∷ 1 ∷ 1 ∷ 2 ∷ 1 ∷ 2 ∷ []) ≡ record { records = []; faults = fault 1 3 12 Undefined ∷ []; processes = []; entries = 7; used = 8; ending = done }
+unfolding report
+creator_returns_runs = refl
+
+creator_returns_runs_given_back : report creator_returns 65536 is_held 10000000 (1 ∷ 1 ∷ 1 ∷ 1 ∷ 2 ∷ 1 ∷ 2 ∷ []) ≡ record { records = []; faults = fault 1 3 12 Undefined ∷ []; processes = []; entries = 7; used = 0; ending = done }
+unfolding report
+creator_returns_runs_given_back = refl
+
+creator_returns_uses : used_along creator_returns is_made (1 ∷ 1 ∷ 1 ∷ 1 ∷ 2 ∷ 1 ∷ 2 ∷ []) ≡ 1 ∷ 3 ∷ 6 ∷ 6 ∷ 8 ∷ 8 ∷ 8 ∷ 8 ∷ []
+unfolding used_along
+creator_returns_uses = refl
+
+creator_returns_uses_given_back : used_along creator_returns is_held (1 ∷ 1 ∷ 1 ∷ 1 ∷ 2 ∷ 1 ∷ 2 ∷ []) ≡ 1 ∷ 3 ∷ 6 ∷ 6 ∷ 8 ∷ 8 ∷ 6 ∷ 0 ∷ []
+unfolding used_along
+creator_returns_uses_given_back = refl
+
+-- the frames of B, A and the main program, which have ended one after the other, stay until C has ended
+abbrev creators_return : List String
+creators_return =
+    "      PROGRAM P"
+    ∷ "      CALL A"
+    ∷ "      END"
+    ∷ "      SUBROUTINE A"
+    ∷ "      CALL B"
+    ∷ "      END"
+    ∷ "      SUBROUTINE B"
+    ∷ "      CREATE C(K)"
+    ∷ "      END"
+    ∷ "      SUBROUTINE C(J)"
+    ∷ "      J=7"
+    ∷ "      END"
+    ∷ []
+
+creators_return_uses : used_along creators_return is_held (1 ∷ 1 ∷ 1 ∷ 1 ∷ 1 ∷ 1 ∷ 2 ∷ 2 ∷ []) ≡ 1 ∷ 2 ∷ 4 ∷ 7 ∷ 7 ∷ 7 ∷ 7 ∷ 7 ∷ 0 ∷ []
+unfolding used_along
+creators_return_uses = refl
+
+creators_return_layout : layout_after creators_return 7 is_held (replicate 6 1) ≡ Some (record { activation = 1; first = 0; cells = 1 } ∷ record { activation = 2; first = 1; cells = 1 } ∷ record { activation = 3; first = 2; cells = 2 } ∷ record { activation = 4; first = 4; cells = 3 } ∷ [])
+unfolding layout_after
+creators_return_layout = refl
+
+abbrev states : List String
+states =
+    "      INTEGER $X,$Y(3)"
+    ∷ "      PRINT *,FULL($X)"
+    ∷ "      $X=4"
+    ∷ "      PRINT *,WAITF($X),FULL($X),SETE($X),EMPTY($X),VALUE($X)"
+    ∷ "      $Y(1)=1"
+    ∷ "      $Y(3)=3"
+    ∷ "      PURGE $Y"
+    ∷ "      DO 10 I=1,3"
+    ∷ "   10 $Y(I)=I"
+    ∷ "      PRINT *,VALUE($Y(1)),VALUE($Y(2)),VALUE($Y(3))"
+    ∷ "      END"
+    ∷ []
+
+states_runs : runs states ≡ record { records = (Truth false ∷ []) ∷ (int 4 ∷ Truth true ∷ int 4 ∷ Truth true ∷ int 4 ∷ []) ∷ numbers (1 ∷ 2 ∷ 3 ∷ []) ∷ []; faults = []; processes = []; entries = 30; used = 8; ending = done }
+unfolding runs
+states_runs = refl
+
+abbrev value_of_nothing : List String
+value_of_nothing =
+    "      INTEGER $X"
+    ∷ "      I=VALUE($X)"
+    ∷ "      END"
+    ∷ []
+
+value_of_nothing_runs : runs value_of_nothing ≡ record { records = []; faults = fault 1 0 2 Undefined ∷ []; processes = []; entries = 1; used = 3; ending = done }
+unfolding runs
+value_of_nothing_runs = refl
+
+abbrev circle : List String
+circle =
+    "      PROGRAM P"
+    ∷ "      INTEGER $A,$B"
+    ∷ "      CREATE S($A,$B)"
+    ∷ "      CREATE S($B,$A)"
+    ∷ "      I=$A"
+    ∷ "      END"
+    ∷ "      SUBROUTINE S($U,$V)"
+    ∷ "      INTEGER $U,$V"
+    ∷ "      $V=$U"
+    ∷ "      END"
+    ∷ []
+
+circle_runs : runs circle ≡ record { records = []; faults = []; processes = waits_for_full 1 0 5 (asynchronous 1 "A" 1) ∷ waits_for_full 2 1 9 (asynchronous 1 "A" 1) ∷ waits_for_full 3 1 9 (asynchronous 1 "B" 1) ∷ []; entries = 5; used = 14; ending = all_wait }
+unfolding runs
+circle_runs = refl
+
+-- after the frames of two As, of which the first has ended
+abbrev gaps : List String
+gaps =
+    "      PROGRAM P"
+    ∷ "      CREATE A"
+    ∷ "      CREATE A"
+    ∷ "      CREATE C"
+    ∷ "      END"
+    ∷ "      SUBROUTINE A"
+    ∷ "      I=1"
+    ∷ "      END"
+    ∷ "      SUBROUTINE C"
+    ∷ "      J=1"
+    ∷ "      K=2"
+    ∷ "      END"
+    ∷ []
+
+gaps_of_2_cells : report gaps 7 is_held 10000000 (1 ∷ 1 ∷ 2 ∷ 2 ∷ 1 ∷ []) ≡ record { records = []; faults = []; processes = stands 1 0 4 ∷ stands 3 1 7 ∷ []; entries = 4; used = 3; ending = arena_full }
+unfolding report
+gaps_of_2_cells = refl
+
+gaps_of_3_cells : report gaps 8 is_held 10000000 (1 ∷ 1 ∷ 2 ∷ 2 ∷ 1 ∷ []) ≡ record { records = []; faults = []; processes = []; entries = 11; used = 0; ending = done }
+unfolding report
+gaps_of_3_cells = refl
+
+gaps_use : used_along gaps is_held (1 ∷ 1 ∷ 2 ∷ 2 ∷ 1 ∷ []) ≡ 1 ∷ 3 ∷ 5 ∷ 5 ∷ 3 ∷ 6 ∷ []
+unfolding used_along
+gaps_use = refl
+
+abbrev counters_in_common : List String
+counters_in_common =
+    "      PROGRAM P"
+    ∷ "      CREATE S"
+    ∷ "      CREATE S"
+    ∷ "      END"
+    ∷ "      SUBROUTINE S"
+    ∷ "      COMMON N"
+    ∷ "      DO 10 I=1,10"
+    ∷ "   10 N=I"
+    ∷ "      END"
+    ∷ []
+
+counters_in_common_frames : frames counters_in_common ≡ (1 ∷ 4 ∷ [], 1)
+unfolding frames
+counters_in_common_frames = refl
+
+counters_in_common_run : report counters_in_common 65536 is_held 10000000 [] ≡ record { records = []; faults = []; processes = []; entries = 67; used = 1; ending = done }
+unfolding report
+counters_in_common_run = refl
+
+counters_in_common_view : view counters_in_common 65536 is_held 10000000 [] ≡ Some (record { records = []; faults = []; halted = false; processes = []; common_contents = cell 10 false ∷ []; cells = [] })
+unfolding view
+counters_in_common_view = refl

@@ -1,4 +1,0 @@
-mod Schedules
-mod Tellings
-mod Fronts
-mod Outcomes
