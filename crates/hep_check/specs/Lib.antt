@@ -1,4 +1,5 @@
 pub mod Violations
+pub mod Reported
 pub mod Known
 pub mod Statements
 pub mod Names
@@ -11,3 +12,4 @@ pub mod Labels
 pub mod Nesting
 pub mod Data
 pub mod Conditions
+pub mod Laws

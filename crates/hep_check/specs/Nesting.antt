@@ -7,7 +7,7 @@ use Rattle.hep_source.specs.declared.statement.Form.{Form}
 use Rattle.hep_source.specs.declared.statement.Form.TheVariants as form
 use Rattle.hep_source.specs.declared.statement.Statement.{Statement}
 use Rattle.hep_machine.specs.Control.{Role, opens, alternative, otherwise, closes, other, role_of, index_labelled}
-use Rattle.hep_machine.specs.Declarations.{is_constant_name, is_nonempty}
+use Rattle.hep_machine.specs.Declarations.{is_nonempty}
 use Rattle.hep_source.specs.Names.{same_name}
 use Rattle.hep_source.specs.Units.{line_at, statement_at}
 use Rattle.hep_check.specs.Types.{is_plain_integer_scalar}
@@ -131,18 +131,15 @@ holds_wrongly [] f = false
 holds_wrongly (t ∷ []) f = is_not_held f
 holds_wrongly (t ∷ u ∷ ts) f = true
 
--- a DO variable is a plain integer scalar: 11.10
-abbrev pub is_loop_variable : List Statement → Name → Bool
-is_loop_variable unit x = is_plain_integer_scalar unit x && not (is_constant_name unit x)
-
 abbrev pub terminal_violations : List Statement → ℕ → ℕ → Option ℕ → Violations
 terminal_violations unit line k None = []
 terminal_violations unit line k (Some t) =
     when (nat_lt t k) (at_line 307 line) ++ when (is_wrong_terminal (statement_at unit t)) (at_line 307 (line_at unit t))
 
+-- a DO variable is a plain integer scalar: 11.10
 abbrev pub loop_violations : List Statement → ℕ → ℕ → Form → Violations
 loop_violations unit line k (form.Do c) =
-    when (not (is_loop_variable unit c.variable.name)) (at_line 307 line) ++ terminal_violations unit line k (index_labelled unit c.terminal)
+    when (not (is_plain_integer_scalar unit c.variable.name)) (at_line 307 line) ++ terminal_violations unit line k (index_labelled unit c.terminal)
 loop_violations unit line k _ = []
 
 -- a DO that a logical IF holds has no range, and so no terminal statement

@@ -4,6 +4,7 @@
 //! program is accepted where it has none; else the first one by line, number and position is reported.
 #![tactic(auto)]
 
+pub mod laws;
 pub mod violation;
 
 pub use violation::Violation;

@@ -25,7 +25,7 @@ use Rattle.hep_machine.specs.Locations.{Scope, StorageSequence, start_by_block, 
 use Rattle.hep_machine.specs.Shapes.{Bounds}
 use Rattle.hep_machine.specs.State.{Level, Activation, State, doing, local}
 use Rattle.hep_machine.specs.Step.{entry_level}
-use Rattle.hep_machine.specs.Storage.{undefined_cell}
+use Rattle.hep_machine.specs.Access.{unset_cell}
 use Rattle.hep_source.specs.Units.{Units, unit_at, main_unit, subroutine_by_header, dummies_by_header, dummies_of, is_executable, executable_from, statement_at}
 use Rattle.hep_machine.specs.Variables.{locals_of, is_do, do_statements, adjustable_dimensions_of_all, frame_cells}
 use Rattle.hep_core.specs.Runnable.{is_arithmetic, is_supported_item, is_variable, is_supported_form, runs, first_unsupported, first_unsupported_in, may_be_left, item_may_be_left, form_may_be_left}
@@ -265,10 +265,10 @@ form_left _ e x = absurd cc
 
 -- ---- the first state
 
-pub opening_store : (program : Units) → AllRun (unit_at program (main_unit program)) → initial_store program ≡ (λ location. undefined_cell)
+pub opening_store : (program : Units) → AllRun (unit_at program (main_unit program)) → initial_store program ≡ (λ location. unset_cell)
 opening_store program h =
     let unit = unit_at program (main_unit program) in
-    ap (with_groups (record { unit = unit; number = 1; dummies = [] }) (λ location. undefined_cell)) (no_data unit h)
+    ap (with_groups (record { unit = unit; number = 1; dummies = [] }) (λ location. unset_cell)) (no_data unit h)
 
 -- ---- cells
 

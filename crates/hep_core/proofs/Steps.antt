@@ -13,6 +13,7 @@ use Rattle.hep_source.specs.declared.statement.Form.{Form}
 use Rattle.hep_source.specs.declared.statement.Form.TheVariants as form
 use Rattle.hep_source.specs.declared.statement.Statement.{Statement}
 use Rattle.hep_source.specs.declared.operator.Operator.TheVariants.{Arithmetic}
+use Rattle.hep_machine.specs.Access as access
 use Rattle.hep_machine.specs.Arithmetic.{as_value, integer_of, result_of, signed_result}
 use Rattle.hep_machine.specs.Control.{level_after_statement}
 use Rattle.hep_machine.specs.Locations.{Scope, location_of_name}
@@ -20,7 +21,7 @@ use Rattle.hep_source.specs.Units.{Units, unit_at, main_unit, executable_from, s
 use Rattle.hep_machine.specs.Storage.{same_location, with_value}
 use Rattle.hep_machine.specs.Evaluation.{Reference, Redex, reading, signing, combining, item_of, Action, assigning, printing, leaving, Next, wants, does, next_of_form, plug_form}
 use Rattle.hep_machine.specs.State.{Level, Process, State, Location, local, Store, Cell}
-use Rattle.hep_machine.specs.Step.{Answer, gives, fails, by_result, by_value, answer_of_read_at, answer_of, stepped, Top, scope_of, result_after_answer, result_after_assignment, result_after_next, fault_of, step_result_of, step_result_of_top, state_made, step}
+use Rattle.hep_machine.specs.Step.{Answer, gives, fails, by_result, answer_at, answer_of_read_at, answer_of, stepped, Top, scope_of, result_after_answer, result_after_assignment, result_after_next, fault_of, step_result_of, step_result_of_top, state_made, step}
 use Rattle.hep_machine.specs.Processes.{top_of, numbered, unit_of}
 use Rattle.hep_core.specs.declared.operation.Evaluation.{Evaluation}
 use Rattle.hep_core.specs.declared.operation.Evaluation.TheVariants.{Load, Sign, Binary}
@@ -85,9 +86,9 @@ abbrev as_answer : Store → Result Value Kind → Answer
 as_answer store (Ok v) = gives v store
 as_answer store (Err k) = fails k
 
-loaded_is : (o : Option Value) (store : Store) → by_value o store ≡ as_answer store (value_of_cell (Some o))
-loaded_is None store = refl
-loaded_is (Some v) store = refl
+loaded_is : (o : Option Value) (store : Store) (at : Location) → answer_at store at (access.with_stored o access.gives) ≡ as_answer store (value_of_cell (Some o))
+loaded_is None store at = refl
+loaded_is (Some v) store at = refl
 
 result_is : (r : Result Value Kind) (store : Store) → by_result r store ≡ as_answer store r
 result_is (Ok v) store = refl
@@ -103,7 +104,7 @@ IsBelow n (Binary o) = Unit {0}
 pub main_scope : List Statement → Scope
 main_scope unit = record { unit = unit; number = 1; dummies = [] }
 
-pub read_is : (unit : List Statement) (store : Store) (x : Reference) → AllRun unit → IsPlain x → answer_of (main_scope unit) store (reading x) ≡ by_value (store (local 1 x.0 1)).value store
+pub read_is : (unit : List Statement) (store : Store) (x : Reference) → AllRun unit → IsPlain x → answer_of (main_scope unit) store (reading x) ≡ answer_at store (local 1 x.0 1) (access.reading (store (local 1 x.0 1)))
 unfolding main_scope
 read_is unit store x h plain =
     ap (λ b. answer_of_read_at b store (location_of_name (main_scope unit) x.0 x.1)) plain.0
@@ -113,7 +114,7 @@ read_is unit store x h plain =
 answer_is : (unit : List Statement) (symbols : List Name) (store : Store) (before : List Item) (r : Redex) → AllRun unit → DoesReduce r → IsBelow (length symbols) (evaluation_of symbols r) → answer_of (main_scope unit) store r ≡ as_answer store (operation_value (values_of store symbols) (before ++ operands_of r) (evaluation_of symbols r))
 answer_is unit symbols store before (reading x) h d lt =
     read_is unit store x h d
-    ∙ loaded_is (store (local 1 x.0 1)).value store ∙ ap (λ o. as_answer store (value_of_cell o)) (sym (cell_of symbols x.0 store lt))
+    ∙ loaded_is (store (local 1 x.0 1)).value store (local 1 x.0 1) ∙ ap (λ o. as_answer store (value_of_cell o)) (sym (cell_of symbols x.0 store lt))
 answer_is unit symbols store before (signing s v) h d lt =
     result_is (as_value (signed_result s (integer_of v))) store
     ∙ ap (λ z. as_answer store (as_value (signed_result s z))) (sym (ap integer_in (one_deep before (item_of v)) ∙ integer_is v))

@@ -8,11 +8,11 @@ use Rattle.hep_source.specs.declared.statement.Form.{Form}
 use Rattle.hep_source.specs.declared.statement.Statement.{Statement}
 use Rattle.hep_machine.specs.Layout.{has_frame}
 use Rattle.hep_machine.specs.Opening.{opening}
-use Rattle.hep_machine.specs.Storage.{undefined_cell}
+use Rattle.hep_machine.specs.Access.{unset_cell}
 use Rattle.hep_machine.specs.State.{State, Cell, Location, Store, local}
 use Rattle.hep_source.specs.Units.{Units, unit_at, main_unit, executable_from, statement_at, line_at}
 use Rattle.hep_machine.specs.Variables.{locals_of}
-use Rattle.hep_machine.specs.Views.{view_of, process_views_from, cells_at, cells_of_local, cells_of_block, cells_from}
+use Rattle.hep_machine.specs.Views.{view_of, process_views_from, cell_view, cells_at, cells_of_local, cells_of_block, cells_from}
 use Rattle.hep_core.specs.declared.operation.Instruction.{Instruction}
 use Rattle.hep_core.specs.declared.operation.Instruction.TheVariants.{Push}
 use Rattle.hep_core.specs.Code.{program_code}
@@ -20,7 +20,7 @@ use Rattle.hep_core.specs.Machine.{Snapshot, first_unit, opening_snapshot}
 use Rattle.hep_core.specs.Runnable.{first_unsupported_in}
 use Rattle.hep_core.specs.Simulation.{plain_cell, values_of, CodeMatches, IsAt, Simulates}
 use Rattle.hep_core.specs.Symbols.{main_variables}
-use Rattle.hep_core.specs.Invariant.{line_ahead, process_view_if, machine_view}
+use Rattle.hep_core.specs.Invariant.{line_ahead, process_view_if, cell_views, machine_view}
 use Rattle.hep_core.proofs.Running.{AllRun, units_run, main_runs, main_is_first, one_cell, no_blocks_of, entry_is, opening_store}
 use Rattle.hep_core.proofs.Decided.{stands_at}
 use Rattle.hep_core.proofs.Settled.{stand_begins}
@@ -51,19 +51,19 @@ whole_cell : (c : Cell) → c.full ≡ false → plain_cell c.value ≡ c
 whole_cell c e = λ i. record { value = c.value; full = sym e i }
 
 -- each variable's cell
-cells_of_locals : (unit : List Statement) (store : Store) → AllRun unit → ((at : Location) → (store at).full ≡ false) → (xs : List Name) → map plain_cell (values_of store xs) ≡ flat_map (cells_of_local store 1 unit) xs
+cells_of_locals : (unit : List Statement) (store : Store) → AllRun unit → ((at : Location) → (store at).full ≡ false) → (xs : List Name) → cell_views xs (values_of store xs) ≡ flat_map (cells_of_local store 1 unit) xs
 cells_of_locals unit store h plain [] = refl
 cells_of_locals unit store h plain (x ∷ xs) =
     let at = local 1 x 1 in
-    ap (λ c. c ∷ map plain_cell (values_of store xs)) (whole_cell (store at) (plain at))
-    ∙ ap (λ cs. store at ∷ cs) (cells_of_locals unit store h plain xs)
+    ap (λ (c : Cell). record { at = at; cell = c } ∷ cell_views xs (values_of store xs)) (whole_cell (store at) (plain at))
+    ∙ ap (λ cs. cell_view store at ∷ cs) (cells_of_locals unit store h plain xs)
     ∙ sym (ap (λ n. cells_at store at n ++ flat_map (cells_of_local store 1 unit) xs) (one_cell unit h x))
 
-cells_are : (program : Units) (m : Snapshot) (s : State) → Simulates program m s → map plain_cell m.cells ≡ cells_from program has_frame s 1 s.activations
+cells_are : (program : Units) (m : Snapshot) (s : State) → Simulates program m s → cell_views (main_variables program) m.cells ≡ cells_from program has_frame s 1 s.activations
 cells_are program m s k =
     let unit = unit_at program (main_unit program) in
     let all = flat_map (cells_of_local s.store 1 unit) (locals_of unit) in
-    ap (map plain_cell) k.values
+    ap (cell_views (main_variables program)) k.values
     ∙ cells_of_locals unit s.store (main_runs program k.runs) k.plain (locals_of unit)
     ∙ sym (append-nil all)
     ∙ sym (append-nil (all ++ []))
@@ -85,7 +85,7 @@ shows_view program m s k =
 
 -- ---- the opening
 
-unset_values : (xs : List Name) → replicate (length xs) None ≡ values_of (λ location. undefined_cell) xs
+unset_values : (xs : List Name) → replicate (length xs) None ≡ values_of (λ location. unset_cell) xs
 unset_values [] = refl
 unset_values (x ∷ xs) = ap (λ vs. None ∷ vs) (unset_values xs)
 

@@ -8,8 +8,10 @@ use Rattle.hep_source.specs.declared.statement.Statement.{Statement}
 use Rattle.hep_source.specs.declared.value.Value.{Value}
 use Rattle.hep_machine.specs.Arithmetic.{signed_value, combined_value}
 use Rattle.hep_machine.specs.Evaluation.{Redex, reading, signing, combining, assigning, printing, leaving, Next, wants, does, next_of_form, plug_form}
-use Rattle.hep_machine.specs.State.{State, Store, local}
-use Rattle.hep_machine.specs.Step.{Answer, gives, waits, fails, by_result, by_value, answer_of, Top, scope_of, result_after_answer, result_after_next, wanted_of, wanted_by}
+use Rattle.hep_machine.specs.Access as access
+use Rattle.hep_machine.specs.Access.{with_stored}
+use Rattle.hep_machine.specs.State.{State, Store, Location, local}
+use Rattle.hep_machine.specs.Step.{Answer, gives, waits, fails, by_result, answer_at, answer_of, Top, scope_of, result_after_answer, result_after_next, wanted_of, wanted_by}
 use Rattle.hep_source.specs.Units.{Units, unit_at, main_unit}
 use Rattle.hep_core.specs.declared.operation.Instruction.{Instruction}
 use Rattle.hep_core.specs.Code.{form_code}
@@ -24,16 +26,16 @@ IsAnswered (gives v store) = Unit {0}
 IsAnswered (waits w) = ⊥
 IsAnswered (fails k) = Unit {0}
 
-by_value_answers : (o : Option Value) (store : Store) → IsAnswered (by_value o store)
-by_value_answers None store = tt
-by_value_answers (Some v) store = tt
+stored_answers : (o : Option Value) (store : Store) (at : Location) → IsAnswered (answer_at store at (with_stored o access.gives))
+stored_answers None store at = tt
+stored_answers (Some v) store at = tt
 
 by_result_answers : (r : Result Value Kind) (store : Store) → IsAnswered (by_result r store)
 by_result_answers (Ok v) store = tt
 by_result_answers (Err k) store = tt
 
 redex_answers : (unit : List Statement) (store : Store) (r : Redex) → AllRun unit → DoesReduce r → IsAnswered (answer_of (main_scope unit) store r)
-redex_answers unit store (reading x) h d = subst IsAnswered (sym (read_is unit store x h d)) (by_value_answers (store (local 1 x.0 1)).value store)
+redex_answers unit store (reading x) h d = subst IsAnswered (sym (read_is unit store x h d)) (stored_answers (store (local 1 x.0 1)).value store (local 1 x.0 1))
 redex_answers unit store (signing s v) h d = by_result_answers (signed_value s v) store
 redex_answers unit store (combining (Arithmetic o) v w) h d = by_result_answers (combined_value (Arithmetic o) v w) store
 redex_answers unit store _ h d = absurd d

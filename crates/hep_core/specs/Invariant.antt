@@ -1,10 +1,13 @@
 -- What a core keeps, and what is seen of it: docs/ARCHITECTURE.md, "Forms".
-use Rattle.std.specs.Prelude.{◌≡◌, ℕ, ◌<◌, Bool, true, false, List, [], ◌∷◌, None, drop, length, map}
+use Rattle.std.specs.Prelude.{◌≡◌, ℕ, ◌<◌, Bool, true, false, List, [], ◌∷◌, Option, None, drop, length}
+use Rattle.hep_source.specs.declared.name.Name.{Name}
+use Rattle.hep_source.specs.declared.value.Value.{Value}
 use Rattle.hep_source.specs.Units.{Units}
 use Rattle.hep_machine.specs.Run.{state_after}
 use Rattle.hep_machine.specs.Histories.{IsLegal}
 use Rattle.hep_machine.specs.Schedules.{progress_after}
-use Rattle.hep_machine.specs.Views.{View, ProcessView}
+use Rattle.hep_machine.specs.State.{local}
+use Rattle.hep_machine.specs.Views.{View, ProcessView, CellView}
 use Rattle.hep_core.specs.declared.operation.Instruction.{Instruction}
 use Rattle.hep_core.specs.declared.operation.Instruction.TheVariants.{Push, Step}
 use Rattle.hep_core.specs.Code.{program_code}
@@ -24,6 +27,11 @@ abbrev pub process_view_if : Bool → ℕ → List ProcessView
 process_view_if true line = record { process = 1; unit = first_unit; line = line; wanted = None } ∷ []
 process_view_if false line = []
 
+-- the variables of the main program's activation with what they hold
+abbrev pub cell_views : List Name → List (Option Value) → List CellView
+cell_views (x ∷ xs) (v ∷ vs) = record { at = local 1 x 1; cell = plain_cell v } ∷ cell_views xs vs
+cell_views _ _ = []
+
 -- what is seen of a machine, read from what it keeps: it waits for nothing, and no storage unit is full
 abbrev pub machine_view : Units → Snapshot → View
 machine_view program m =
@@ -33,7 +41,7 @@ machine_view program m =
       halted = false;
       processes = process_view_if m.is_living (line_ahead (drop m.program_counter (program_code program)));
       common_contents = [];
-      cells = map plain_cell m.cells;
+      cells = cell_views (main_variables program) m.cells;
     }
 
 abbrev pub core_value : Inside → CoreValue

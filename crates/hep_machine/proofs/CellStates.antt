@@ -1,6 +1,6 @@
 -- Which storage units a step leaves as full as they were.
 use Rattle.std.proofs.Common.{◌≡◌, ℕ, Bool, true, false, List, [], ◌∷◌, Option, Some, None, Result, Ok, Err, refl, sym, ap, ◌∙◌}
-use Rattle.std.specs.Prelude.{ℤ, ◌+ℤ◌, if◌then◌else◌}
+use Rattle.std.specs.Prelude.{ℤ, ◌+ℤ◌}
 use Rattle.hep_machine.specs.declared.event.Kind.{Kind}
 use Rattle.hep_source.specs.declared.function.StateFunction.{StateFunction}
 use Rattle.hep_source.specs.declared.function.StateFunction.TheVariants.{IsFull, IsEmpty, ValueOf, SetEmpty, WaitFull}
@@ -8,6 +8,8 @@ use Rattle.hep_source.specs.declared.name.Name.{Name}
 use Rattle.hep_source.specs.declared.statement.Statement.{Statement}
 use Rattle.hep_source.specs.declared.value.Value.{Value}
 use Rattle.hep_source.specs.declared.value.Value.TheVariants.{Int}
+use Rattle.hep_machine.specs.Access as access
+use Rattle.hep_machine.specs.Access.{Outcome, reading_asynchronous, setting_empty, waiting_full}
 use Rattle.hep_machine.specs.Arithmetic.{integer_of, integer_or_overflow, signed_value, negated_value, combined_value, function_value}
 use Rattle.hep_machine.specs.Binding.{Binding, binding_for, binding_with_shapes, with_store, with_shapes, with_actual, with_actuals, dummies_for}
 use Rattle.hep_machine.specs.Control.{level_after_statement, variable_of}
@@ -15,8 +17,8 @@ use Rattle.hep_machine.specs.Evaluation.{Redex, reading, signing, negating, comb
 use Rattle.hep_machine.specs.Laws.{KeepsStatesBut, purges, top_purges, is_purge}
 use Rattle.hep_machine.specs.Locations.{Scope, location_of_name}
 use Rattle.hep_machine.specs.State.{Dummy, Level, Loop, State, Location, local, common, Cell, Store}
-use Rattle.hep_machine.specs.Step.{Answer, gives, waits, fails, by_result, by_value, once_full, answer_of_read, answer_of_read_at, answer_of_test, answer_of_test_at, answer_of, Top, unit_on_top, scope_of, result_after_answer, result_after_store, result_after_assignment, iterations, result_after_do, result_after_increment, result_after_loop_variable, result_after_loop_end, next_activation, result_after_call, result_after_create, unit_called, binding_of, result_after_action, result_after_next, step}
-use Rattle.hep_machine.specs.Storage.{same_location, with_cell, with_value, with_state}
+use Rattle.hep_machine.specs.Step.{Answer, gives, waits, fails, by_result, answer_at, answer_of_read, answer_of_read_at, answer_of_test, answer_of_test_at, answer_of, Top, unit_on_top, scope_of, result_after_answer, written, result_after_write, result_after_store, result_after_assignment, iterations, result_after_do, result_after_increment, result_after_loop_variable, result_after_loop_end, next_activation, result_after_call, result_after_create, unit_called, binding_of, result_after_action, result_after_next, step}
+use Rattle.hep_machine.specs.Storage.{same_location, with_cell, with_value}
 use Rattle.hep_source.specs.Units.{Units, unit_at, dummies_of}
 use Rattle.hep_machine.specs.Processes.{loop_at}
 use Rattle.hep_machine.proofs.Locations.{equal_locations}
@@ -51,16 +53,15 @@ kept-by_result : (old : Store) (r : Result Value Kind) → GivesKept old (by_res
 kept-by_result old (Ok v) = keeps_all old
 kept-by_result old (Err k) = tt
 
-kept-by_value : (old new : Store) (v : Option Value) → Keeps old new → GivesKept old (by_value v new)
-kept-by_value old new None h = tt
-kept-by_value old new (Some v) h = h
-
-kept-once_full : (old : Store) (at : Location) (a : Answer) → GivesKept old a → GivesKept old (once_full old at a)
-kept-once_full old at a h = elim (old at).full as (λ (b : Bool). GivesKept old (if b then a else waits (record { at = at; full = true }))) [ true ↦ h | false ↦ tt ]
+kept-answer_at : (old : Store) (at : Location) (o : Outcome) → GivesKept old (answer_at old at o)
+kept-answer_at old at (access.gives v) = keeps_all old
+kept-answer_at old at (access.makes v cell) = keeps-with_cell old at cell
+kept-answer_at old at (access.waits full) = tt
+kept-answer_at old at access.undefined = tt
 
 kept-answer_of_read : (asynchronous : Bool) (old : Store) (at : Location) → GivesKept old (answer_of_read asynchronous old at)
-kept-answer_of_read false old at = kept-by_value old old (old at).value (keeps_all old)
-kept-answer_of_read true old at = kept-once_full old at (by_value (old at).value (with_state old at false)) (kept-by_value old (with_state old at false) (old at).value (keeps-with_cell old at _))
+kept-answer_of_read false old at = kept-answer_at old at (access.reading (old at))
+kept-answer_of_read true old at = kept-answer_at old at (reading_asynchronous (old at))
 
 kept-answer_of_read_at : (asynchronous : Bool) (old : Store) (at : Result Location Kind) → GivesKept old (answer_of_read_at asynchronous old at)
 kept-answer_of_read_at asynchronous old (Err k) = tt
@@ -69,9 +70,9 @@ kept-answer_of_read_at asynchronous old (Ok at) = kept-answer_of_read asynchrono
 kept-answer_of_test : (f : StateFunction) (old : Store) (at : Location) → GivesKept old (answer_of_test f old at)
 kept-answer_of_test IsFull old at = keeps_all old
 kept-answer_of_test IsEmpty old at = keeps_all old
-kept-answer_of_test ValueOf old at = kept-by_value old old (old at).value (keeps_all old)
-kept-answer_of_test SetEmpty old at = kept-by_value old (with_state old at false) (old at).value (keeps-with_cell old at _)
-kept-answer_of_test WaitFull old at = kept-once_full old at (by_value (old at).value old) (kept-by_value old old (old at).value (keeps_all old))
+kept-answer_of_test ValueOf old at = kept-answer_at old at (access.reading (old at))
+kept-answer_of_test SetEmpty old at = kept-answer_at old at (setting_empty (old at))
+kept-answer_of_test WaitFull old at = kept-answer_at old at (waiting_full (old at))
 
 kept-answer_of_test_at : (f : StateFunction) (old : Store) (at : Result Location Kind) → GivesKept old (answer_of_test_at f old at)
 kept-answer_of_test_at f old (Err k) = tt
@@ -128,16 +129,19 @@ kept-result_after_answer program t (fails k) h = keeps_all t.state.store
 kept-with_value : (old : Store) (at : Location) (v : Option Value) → Keeps old (with_value old at v)
 kept-with_value old at v = (at, λ location other. state-with_value old at v location)
 
-kept-result_after_store : (asynchronous : Bool) (t : Top) (at : Location) (v : Value) (level : Level) → Makes (Kept t) (result_after_store asynchronous t at v level)
-kept-result_after_store false t at v level = kept-with_value t.state.store at (Some v)
-kept-result_after_store true t at v level = by_state (t.state.store at).full refl where
-  by_state : (full : Bool) → (t.state.store at).full ≡ full → Makes (Kept t) (result_after_store true t at v level)
-  by_state true f = rw f tt
-  by_state false f = rw f (keeps-with_cell t.state.store at _)
+kept-result_after_write : (program : Units) (t : Top) (level : Level) (a : Answer) → GivesKept t.state.store a → Makes (Kept t) (result_after_write program t level a)
+kept-result_after_write program t level (gives v store) h = h
+kept-result_after_write program t level (waits w) h = tt
+kept-result_after_write program t level (fails k) h = keeps_all t.state.store
+
+kept-result_after_store : (program : Units) (asynchronous : Bool) (t : Top) (at : Location) (v : Value) (level : Level) → Makes (Kept t) (result_after_store program asynchronous t at v level)
+kept-result_after_store program asynchronous t at v level =
+    kept-result_after_write program t level (answer_at t.state.store at (written asynchronous v (t.state.store at))) (
+    kept-answer_at t.state.store at (written asynchronous v (t.state.store at)))
 
 kept-assignment : (program : Units) (t : Top) (asynchronous : Bool) (at : Result Location Kind) (v : Value) → Makes (Kept t) (result_after_assignment program t asynchronous at v)
 kept-assignment program t asynchronous (Err k) v = keeps_all t.state.store
-kept-assignment program t asynchronous (Ok at) v = kept-result_after_store asynchronous t at v (level_after_statement (unit_on_top program t) t.level)
+kept-assignment program t asynchronous (Ok at) v = kept-result_after_store program asynchronous t at v (level_after_statement (unit_on_top program t) t.level)
 
 kept-result_after_do : (program : Units) (t : Top) (at : Result Location Kind) (m increment : ℤ) (count : Result ℤ Kind) → Makes (Kept t) (result_after_do program t at m increment count)
 kept-result_after_do program t at m increment (Err k) = keeps_all t.state.store

@@ -12,7 +12,7 @@ use Rattle.hep_machine.specs.Evaluation.{Action, assigning, jumping, choosing, b
 use Rattle.hep_machine.specs.Layout.{activations_on}
 use Rattle.hep_machine.specs.Locations.{location_of_name}
 use Rattle.hep_machine.specs.State.{Activation, Level, Loop, Process, State, Location, Store}
-use Rattle.hep_machine.specs.Step.{Answer, gives, waits, fails, answer_of, StepResult, stepped, waiting, absent, Top, unit_on_top, scope_of, result_after_answer, result_after_store, result_after_assignment, store_after_purge, result_after_purge, iterations, level_after_count, state_after_count, result_after_do, result_after_increment, result_after_loop_variable, result_after_loop_end, entry_level, next_activation, result_after_call, result_after_create, unit_called, binding_of, stack_after_return, result_after_action, result_after_next, step_result_of_top, step_result_of, state_made, step}
+use Rattle.hep_machine.specs.Step.{Answer, gives, waits, fails, answer_of, StepResult, stepped, waiting, absent, Top, unit_on_top, scope_of, result_after_answer, answer_at, written, result_after_write, result_after_store, result_after_assignment, store_after_purge, result_after_purge, iterations, level_after_count, state_after_count, result_after_do, result_after_increment, result_after_loop_variable, result_after_loop_end, entry_level, next_activation, result_after_call, result_after_create, unit_called, binding_of, stack_after_return, result_after_action, result_after_next, step_result_of_top, step_result_of, state_made, step}
 use Rattle.hep_source.specs.Units.{Units, unit_at}
 use Rattle.hep_machine.specs.Processes.{living, with_numbered, unit_of, loop_at, with_loop}
 
@@ -87,17 +87,19 @@ makes-answer program t (gives v store) = another_top t _ _ refl refl refl
 makes-answer program t (waits w) = tt
 makes-answer program t (fails k) = faults refl refl
 
-makes-result_after_store : (asynchronous : Bool) (t : Top) (at : Location) (v : Value) (level : Level) → level.activation ≡ t.level.activation → Makes (Change t) (result_after_store asynchronous t at v level)
-makes-result_after_store false t at v level e = another_top t _ level e refl refl
-makes-result_after_store true t at v level e = by_state (t.state.store at).full refl where
-  by_state : (full : Bool) → (t.state.store at).full ≡ full → Makes (Change t) (result_after_store true t at v level)
-  by_state true f = rw f tt
-  by_state false f = rw f (another_top t _ level e refl refl)
+makes-result_after_write : (program : Units) (t : Top) (level : Level) (a : Answer) → level.activation ≡ t.level.activation → Makes (Change t) (result_after_write program t level a)
+makes-result_after_write program t level (gives v store) e = another_top t _ level e refl refl
+makes-result_after_write program t level (waits w) e = tt
+makes-result_after_write program t level (fails k) e = faults refl refl
+
+makes-result_after_store : (program : Units) (asynchronous : Bool) (t : Top) (at : Location) (v : Value) (level : Level) → level.activation ≡ t.level.activation → Makes (Change t) (result_after_store program asynchronous t at v level)
+makes-result_after_store program asynchronous t at v level e =
+    makes-result_after_write program t level (answer_at t.state.store at (written asynchronous v (t.state.store at))) e
 
 makes-assignment : (program : Units) (t : Top) (asynchronous : Bool) (at : Result Location Kind) (v : Value) → Makes (Change t) (result_after_assignment program t asynchronous at v)
 makes-assignment program t asynchronous (Err k) v = faults refl refl
 makes-assignment program t asynchronous (Ok at) v =
-    makes-result_after_store asynchronous t at v (level_after_statement (unit_on_top program t) t.level) (stays-level_after_statement (unit_on_top program t) t.level)
+    makes-result_after_store program asynchronous t at v (level_after_statement (unit_on_top program t) t.level) (stays-level_after_statement (unit_on_top program t) t.level)
 
 makes-purge : (program : Units) (t : Top) (r : Result Store Kind) → Makes (Change t) (result_after_purge program t r)
 makes-purge program t (Err k) = faults refl refl

@@ -1,14 +1,14 @@
 -- Which activations are held.
-use Rattle.std.proofs.Common.{◌≡◌, ◌⊎◌, inl, inr, ℕ, zero, suc, ◌≤◌, Bool, true, false, List, [], ◌∷◌, ◌++◌, Option, Some, None, refl, sym, ap, ◌∙◌, subst, arith}
-use Rattle.std.specs.Prelude.{◌||◌, ◌↔◌, slice_get, nat_eq}
-use Rattle.std.specs.List.{flat_map}
+use Rattle.std.proofs.Common.{◌≡◌, ◌⊎◌, inl, inr, ℕ, zero, suc, ◌<◌, ◌≤◌, Bool, true, false, List, [], ◌∷◌, ◌++◌, length, Option, Some, None, refl, sym, ap, ◌∙◌, subst, arith}
+use Rattle.std.specs.Prelude.{◌||◌, ◌↔◌, if◌then◌else◌, slice_get, nat_eq}
 use Rattle.std.specs.Option.{option_map_or}
-use Rattle.std.proofs.lemmas.Bool.{eq-eqb}
+use Rattle.std.specs.List.{flat_map}
+use Rattle.std.proofs.lemmas.Bool.{eq-eqb, false≢true}
 use Rattle.std.proofs.lemmas.Bool.Decides.{eqb_tells}
 use Rattle.std.proofs.lemmas.List.Folds.{list_any-append}
 use Rattle.std.proofs.lemmas.Option.{none-some, same_Some}
 use Rattle.hep_machine.specs.Laws.{IsOnStack, HasHeldChild}
-use Rattle.hep_machine.specs.Layout.{activations_on, ancestry, is_held}
+use Rattle.hep_machine.specs.Layout.{activations_on, is_held, with_ancestry, with_ancestries}
 use Rattle.hep_machine.specs.Run.{run}
 use Rattle.hep_machine.specs.State.{Process, State}
 use Rattle.hep_source.specs.Units.{Units}
@@ -44,67 +44,132 @@ among-cases a b xs h = elim (or_cases (nat_eq a b) (is_number_among a xs) h) [
   | inr rest_after ↦ inr rest_after
 ]
 
--- what is among the lists of some numbers is among the list of one of them, and the other way round
-from_one : (lists : ℕ → List ℕ) (a : ℕ) (xs : List ℕ) → is_number_among a (flat_map lists xs) ≡ true → (x : ℕ) × (is_number_among x xs ≡ true) × (is_number_among a (lists x) ≡ true)
-from_one lists a [] h = absurd cc
-from_one lists a (x ∷ xs) h =
-    elim (or_cases (is_number_among a (lists x)) (is_number_among a (flat_map lists xs)) (sym (among-append a (lists x) (flat_map lists xs)) ∙ h)) [
-      | inl here ↦ (x, among-head x xs, here)
-      | inr rest_after ↦ let found = from_one lists a xs rest_after in (found.0, among-tail found.0 x xs found.1, found.2)
-    ]
-
-to_all : (lists : ℕ → List ℕ) (a x : ℕ) (xs : List ℕ) → is_number_among x xs ≡ true → is_number_among a (lists x) ≡ true → is_number_among a (flat_map lists xs) ≡ true
-to_all lists a x [] e h = absurd cc
-to_all lists a x (y ∷ ys) e h = elim (among-cases x y ys e) [
-  | inl same ↦
-      let here = subst (λ z. is_number_among a (lists z) ≡ true) same h in
-      among-append a (lists y) (flat_map lists ys) ∙ or_left (is_number_among a (lists y)) (is_number_among a (flat_map lists ys)) here
-  | inr rest_after ↦
-      among-append a (lists y) (flat_map lists ys) ∙ or_right (is_number_among a (lists y)) (is_number_among a (flat_map lists ys)) (to_all lists a x ys rest_after h)
-]
-
 -- ---- ancestries
-
--- the ancestry of a parent, if any
-abbrev above : State → ℕ → Option ℕ → List ℕ
-above s n o = option_map_or (ancestry s n) o []
 
 -- activation a is the parent of one of these
 abbrev HasChildAmong : State → ℕ → List ℕ → Type 0
 HasChildAmong s a xs = (c : ℕ) × (is_number_among c xs ≡ true) × (parent_of s c ≡ Some a)
 
--- what is in the ancestry of x is x, or the parent of what is in it
-ancestor_is : (s : State) (n a x : ℕ) → is_number_among a (ancestry s n x) ≡ true → (a ≡ x) ⊎ HasChildAmong s a (ancestry s n x)
-ancestor_is s zero a x h = absurd cc
-ancestor_is s (suc n) a x h = elim (among-cases a x (above s n (parent_of s x)) h) [
-  | inl same ↦ inl same
-  | inr higher ↦ inr (by_parent (λ b. ancestor_is s n a b) (parent_of s x) refl higher)
-] where
-  by_parent : ((b : ℕ) → is_number_among a (ancestry s n b) ≡ true → (a ≡ b) ⊎ HasChildAmong s a (ancestry s n b)) → (o : Option ℕ) → parent_of s x ≡ o → is_number_among a (above s n o) ≡ true → HasChildAmong s a (x ∷ above s n o)
-  by_parent more None e k = absurd cc
-  by_parent more (Some b) e k = elim (more b k) [
-    | inl same ↦ (x, among-head x (ancestry s n b), e ∙ ap (λ m. Some m) (sym same))
-    | inr child ↦ (child.0, among-tail child.0 x (ancestry s n b) child.1, child.2)
+-- the parent of each of these is one of them, or is the activation b
+abbrev IsClosedBut : State → ℕ → List ℕ → Type 0
+IsClosedBut s b xs = (c a : ℕ) → is_number_among c xs ≡ true → parent_of s c ≡ Some a → (is_number_among a xs ≡ true) ⊎ (a ≡ b)
+
+abbrev IsClosed : State → List ℕ → Type 0
+IsClosed s xs = (c a : ℕ) → is_number_among c xs ≡ true → parent_of s c ≡ Some a → is_number_among a xs ≡ true
+
+-- an activation is among these already, or it has no parent, or it has one
+each_ancestry : (P : List ℕ → Type 0) (s : State) (n a : ℕ) (held : List ℕ) → (is_number_among a held ≡ true → P held) → (parent_of s a ≡ None → P (a ∷ held)) → ((b : ℕ) → parent_of s a ≡ Some b → P (with_ancestry s n b (a ∷ held))) → P (with_ancestry s (suc n) a held)
+each_ancestry P s n a held h k l = by_test (is_number_among a held) refl (parent_of s a) refl where
+  by_test : (t : Bool) → is_number_among a held ≡ t → (o : Option ℕ) → parent_of s a ≡ o → P (option_map_or (λ b. with_ancestry s n b (a ∷ held)) (if t then None else o) (if t then held else a ∷ held))
+  by_test true e o f = h e
+  by_test false e None f = k f
+  by_test false e (Some b) f = l b f
+
+kept : (s : State) (n a : ℕ) (held : List ℕ) (x : ℕ) → is_number_among x held ≡ true → is_number_among x (with_ancestry s n a held) ≡ true
+kept s zero a held x h = h
+kept s (suc n) a held x h =
+    let more = among-tail x a held h in
+    each_ancestry (λ xs. is_number_among x xs ≡ true) s n a held (λ e. h) (λ e. more) (λ b e. kept s n b (a ∷ held) x more)
+
+itself : (s : State) (n a : ℕ) (held : List ℕ) → 1 ≤ n → is_number_among a (with_ancestry s n a held) ≡ true
+itself s zero a held le = absurd (omega arith)
+itself s (suc n) a held le =
+    each_ancestry (λ xs. is_number_among a xs ≡ true) s n a held (λ e. e) (λ e. among-head a held) (λ b e. kept s n b (a ∷ held) a (among-head a held))
+
+-- what is there was there, is the activation, or is the parent of what is there
+found : (s : State) (n a : ℕ) (held : List ℕ) (x : ℕ) → is_number_among x (with_ancestry s n a held) ≡ true → (is_number_among x held ≡ true) ⊎ ((x ≡ a) ⊎ HasChildAmong s x (with_ancestry s n a held))
+found s zero a held x = λ h. inl h
+found s (suc n) a held x = each_ancestry (λ xs. is_number_among x xs ≡ true → (is_number_among x held ≡ true) ⊎ ((x ≡ a) ⊎ HasChildAmong s x xs)) s n a held (λ e h. inl h) (λ e h. new (a ∷ held) h) (λ b e h.
+    elim (found s n b (a ∷ held) x h) [
+      | inl here ↦ new (with_ancestry s n b (a ∷ held)) here
+      | inr above ↦ elim above [
+        | inl same ↦ inr (inr (a, kept s n b (a ∷ held) a (among-head a held), e ∙ ap (λ m. Some m) (sym same)))
+        | inr child ↦ inr (inr child)
+      ]
+    ]) where
+      new : (xs : List ℕ) → is_number_among x (a ∷ held) ≡ true → (is_number_among x held ≡ true) ⊎ ((x ≡ a) ⊎ HasChildAmong s x xs)
+      new xs h = elim (among-cases x a held h) [
+        | inl same ↦ inr (inl same)
+        | inr before ↦ inl before
+      ]
+
+-- an ancestry that is long enough leaves no parent out
+closed : (s : State) (n b : ℕ) (held : List ℕ) → IsAged s → b ≤ n → IsClosedBut s b held → IsClosed s (with_ancestry s n b held)
+closed s zero b held aged le h = all where
+  too_old : (c a : ℕ) → a ≡ b → (1 ≤ a) × (a < c) × (c ≤ length s.activations) → ⊥
+  too_old c a same older = omega (arith, same, older.0, le)
+
+  all : IsClosed s held
+  all c a k e = elim (h c a k e) [
+    | inl here ↦ here
+    | inr same ↦ absurd (too_old c a same (older_parent s c a aged e))
+  ]
+closed s (suc n) b held aged le h = each_ancestry (λ xs. IsClosed s xs) s n b held already (λ e. without e) (λ p e. closed s n p (b ∷ held) aged (below p e) (with_one p e)) where
+  below : (p : ℕ) → parent_of s b ≡ Some p → p ≤ n
+  below p e = let older = older_parent s b p aged e in omega arith
+
+  already : is_number_among b held ≡ true → IsClosed s held
+  already e c a k f = elim (h c a k f) [
+    | inl here ↦ here
+    | inr same ↦ subst (λ m. is_number_among m held ≡ true) (sym same) e
   ]
 
--- an ancestry begins with its own activation
-itself : (s : State) (n a : ℕ) → 1 ≤ n → is_number_among a (ancestry s n a) ≡ true
-itself s zero a le = absurd (omega arith)
-itself s (suc n) a le = among-head a (above s n (parent_of s a))
+  -- a parent of what was there
+  before : (c a : ℕ) → is_number_among c held ≡ true → parent_of s c ≡ Some a → is_number_among a (b ∷ held) ≡ true
+  before c a k f = elim (h c a k f) [
+    | inl here ↦ among-tail a b held here
+    | inr same ↦ subst (λ m. is_number_among m (b ∷ held) ≡ true) (sym same) (among-head b held)
+  ]
 
--- with an activation its parent is in an ancestry that is long enough
-closed : (s : State) (n a c x : ℕ) → IsAged s → x ≤ n → parent_of s c ≡ Some a → is_number_among c (ancestry s n x) ≡ true → is_number_among a (ancestry s n x) ≡ true
-closed s zero a c x aged le e h = absurd cc
-closed s (suc n) a c x aged le e h = elim (among-cases c x (above s n (parent_of s x)) h) [
-  | inl same ↦ let f = subst (λ m. parent_of s m ≡ Some a) same e in rw f (own f)
-  | inr higher ↦ among-tail a x (above s n (parent_of s x)) (by_parent (λ b. closed s n a c b aged) (parent_of s x) refl higher)
-] where
-  own : parent_of s x ≡ Some a → is_number_among a (x ∷ ancestry s n a) ≡ true
-  own f = let older = older_parent s x a aged f in among-tail a x (ancestry s n a) (itself s n a (omega arith))
+  without : parent_of s b ≡ None → IsClosed s (b ∷ held)
+  without e c a k f = elim (among-cases c b held k) [
+    | inl same ↦ absurd (none-some a (sym e ∙ subst (λ m. parent_of s m ≡ Some a) same f))
+    | inr there ↦ before c a there f
+  ]
 
-  by_parent : ((b : ℕ) → b ≤ n → parent_of s c ≡ Some a → is_number_among c (ancestry s n b) ≡ true → is_number_among a (ancestry s n b) ≡ true) → (o : Option ℕ) → parent_of s x ≡ o → is_number_among c (above s n o) ≡ true → is_number_among a (above s n o) ≡ true
-  by_parent more None f k = absurd cc
-  by_parent more (Some b) f k = let older = older_parent s x b aged f in more b (omega arith) e k
+  with_one : (p : ℕ) → parent_of s b ≡ Some p → IsClosedBut s p (b ∷ held)
+  with_one p e c a k f = elim (among-cases c b held k) [
+    | inl same ↦ inr (same_Some a p (sym (subst (λ m. parent_of s m ≡ Some a) same f) ∙ e))
+    | inr there ↦ inl (before c a there f)
+  ]
+
+-- ---- the ancestries of some activations
+
+all_kept : (s : State) (held ns : List ℕ) (x : ℕ) → is_number_among x held ≡ true → is_number_among x (with_ancestries s held ns) ≡ true
+all_kept s held [] x h = h
+all_kept s held (a ∷ ns) x h = all_kept s (with_ancestry s a a held) ns x (kept s a a held x h)
+
+each_there : (s : State) (held ns : List ℕ) (x : ℕ) → 1 ≤ x → is_number_among x ns ≡ true → is_number_among x (with_ancestries s held ns) ≡ true
+each_there s held [] x le h = absurd cc
+each_there s held (a ∷ ns) x le h = elim (among-cases x a ns h) [
+  | inl same ↦
+      let le' = subst (λ m. 1 ≤ m) same le in
+      all_kept s (with_ancestry s a a held) ns x (subst (λ m. is_number_among m (with_ancestry s a a held) ≡ true) (sym same) (itself s a a held le'))
+  | inr rest_after ↦ each_there s (with_ancestry s a a held) ns x le rest_after
+]
+
+all_found : (s : State) (held ns : List ℕ) (x : ℕ) → is_number_among x (with_ancestries s held ns) ≡ true → (is_number_among x held ≡ true) ⊎ ((is_number_among x ns ≡ true) ⊎ HasChildAmong s x (with_ancestries s held ns))
+all_found s held [] x h = inl h
+all_found s held (a ∷ ns) x h =
+    let more = with_ancestry s a a held in
+    elim (all_found s more ns x h) [
+      | inl here ↦ elim (found s a a held x here) [
+        | inl before ↦ inl before
+        | inr above ↦ elim above [
+          | inl same ↦ inr (inl (or_left (nat_eq x a) (is_number_among x ns) (eq-eqb x a same)))
+          | inr child ↦ inr (inr (child.0, all_kept s more ns child.0 child.1, child.2))
+        ]
+      ]
+      | inr rest_after ↦ elim rest_after [
+        | inl on ↦ inr (inl (among-tail x a ns on))
+        | inr child ↦ inr (inr child)
+      ]
+    ]
+
+all_closed : (s : State) (held ns : List ℕ) → IsAged s → IsClosed s held → IsClosed s (with_ancestries s held ns)
+all_closed s held [] aged h = h
+all_closed s held (a ∷ ns) aged h =
+    all_closed s (with_ancestry s a a held) ns aged (closed s a a held aged (omega arith) (λ c b k e. inl (h c b k e)))
 
 -- ---- the activations on stacks
 
@@ -133,29 +198,23 @@ stack_among a qs (suc i) q e h = some_on a qs i q e h
 
 -- ---- held activations
 
--- a held activation is in the ancestry of one on a stack
-below_held : (s : State) (a : ℕ) → is_held s a ≡ true → (x : ℕ) × (is_number_among x (flat_map activations_on s.processes) ≡ true) × (is_number_among a (ancestry s x x) ≡ true)
-below_held s a h = from_one (λ x. ancestry s x x) a (flat_map activations_on s.processes) h
-
--- what is in such an ancestry is held
-ancestor_held : (s : State) (a x : ℕ) → is_number_among x (flat_map activations_on s.processes) ≡ true → is_number_among a (ancestry s x x) ≡ true → is_held s a ≡ true
-ancestor_held s a x on h = to_all (λ y. ancestry s y y) a x (flat_map activations_on s.processes) on h
-
 held_from : (s : State) (a : ℕ) → is_held s a ≡ true → IsOnStack s a ⊎ HasHeldChild s a
-held_from s a h =
-    let found = below_held s a h in
-    elim (ancestor_is s found.0 a found.0 found.2) [
-      | inl same ↦ inl (from_stack s a (subst (λ x. is_number_among x (flat_map activations_on s.processes) ≡ true) (sym same) found.1))
-      | inr child ↦ inr (child.0, ancestor_held s child.0 found.0 found.1 child.1, child.2)
-    ]
+held_from s a h = elim (all_found s [] (flat_map activations_on s.processes) a h) [
+  | inl nowhere ↦ absurd (false≢true nowhere)
+  | inr there ↦ elim there [
+    | inl on ↦ inl (from_stack s a on)
+    | inr child ↦ inr child
+  ]
+]
+
+none_closed : (s : State) → IsClosed s []
+none_closed s c a k e = absurd (false≢true k)
 
 to_held : (s : State) (a : ℕ) → IsAged s → IsOnStack s a ⊎ HasHeldChild s a → is_held s a ≡ true
 to_held s a aged (inl on) =
     let made = on_stack_made s a aged on in
-    ancestor_held s a a (stack_among a s.processes on.0 on.1 on.2 on.3) (itself s a a made.0)
-to_held s a aged (inr child) =
-    let found = below_held s child.0 child.1 in
-    ancestor_held s a found.0 found.1 (closed s found.0 a child.0 found.0 aged (omega arith) child.2 found.2)
+    each_there s [] (flat_map activations_on s.processes) a made.0 (stack_among a s.processes on.0 on.1 on.2 on.3)
+to_held s a aged (inr child) = all_closed s [] (flat_map activations_on s.processes) aged (none_closed s) child.0 a child.1 child.2
 
 pub held_is : (program : Units) (ps : List ℕ) (a : ℕ) → (is_held (run program ps) a ≡ true) ↔ (IsOnStack (run program ps) a ⊎ HasHeldChild (run program ps) a)
 held_is program ps a = (held_from (run program ps) a, to_held (run program ps) a (aged program ps))

@@ -8,14 +8,14 @@ use Rattle.hep_machine.specs.Laws.{FillsNone, purges, top_purges, is_purge}
 use Rattle.hep_machine.specs.Locations.{Scope, storage_of, location_of_name}
 use Rattle.hep_machine.specs.State.{State, Location, Store}
 use Rattle.hep_machine.specs.Step.{Top, scope_of, store_after_purge_at, store_after_purge_of, store_after_both, store_after_purge, result_after_purge, result_after_action, result_after_next, step}
-use Rattle.hep_machine.specs.Storage.{same_location, further, with_state, emptied_from}
+use Rattle.hep_machine.specs.Storage.{same_location, further, with_empty, emptied_from}
 use Rattle.hep_source.specs.Units.{Units}
 use Rattle.hep_machine.proofs.Changes.{Makes, by_step, next_on, top_in}
 
 -- ---- stores
 
-fills-with_state : (old : Store) (at : Location) → FillsNone old (with_state old at false)
-fills-with_state old at location h = by_test (same_location location at) h where
+fills-with_empty : (old : Store) (at : Location) → FillsNone old (with_empty old at)
+fills-with_empty old at location h = by_test (same_location location at) h where
   by_test : (b : Bool) → (if b then record { value = (old at).value; full = false } else old location).full ≡ true → (old location).full ≡ true
   by_test true h = absurd cc
   by_test false h = h
@@ -23,7 +23,7 @@ fills-with_state old at location h = by_test (same_location location at) h where
 fills-emptied_from : (n : ℕ) (at : Location) (old : Store) → FillsNone old (emptied_from n at old)
 fills-emptied_from zero at old location h = h
 fills-emptied_from (suc n) at old location h =
-    fills-with_state old at location (fills-emptied_from n (further at 1) (with_state old at false) location h)
+    fills-with_empty old at location (fills-emptied_from n (further at 1) (with_empty old at) location h)
 
 -- ---- references
 
@@ -34,7 +34,7 @@ LeavesNoneFilled old (Ok new) = FillsNone old new
 
 fills-store_after_purge_at : (old : Store) (at : Result Location Kind) → LeavesNoneFilled old (store_after_purge_at old at)
 fills-store_after_purge_at old (Err k) = tt
-fills-store_after_purge_at old (Ok at) = fills-with_state old at
+fills-store_after_purge_at old (Ok at) = fills-with_empty old at
 
 fills-store_after_purge_of : (scope : Scope) (r : Reference) (old : Store) → LeavesNoneFilled old (store_after_purge_of scope r old)
 fills-store_after_purge_of scope r old =

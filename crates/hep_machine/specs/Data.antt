@@ -1,5 +1,5 @@
 -- What the names and values of DATA stand for: X3.9-1978, 9.1 and 9.2.
-use Rattle.std.specs.Prelude.{ℕ, zero, suc, pos, int_le, if◌then◌else◌, List, [], ◌∷◌, Option, Some, None, option_map, option_and_then, replicate}
+use Rattle.std.specs.Prelude.{ℕ, ◌-◌, pos, int_le, nat_lt, if◌then◌else◌, List, [], ◌∷◌, Option, Some, None, option_map, option_and_then}
 use Rattle.std.specs.List.{flat_map}
 use Rattle.hep_source.specs.Tree.{trees_of}
 use Rattle.hep_source.specs.declared.declaration.DataConstant.{DataConstant}
@@ -31,32 +31,39 @@ data_groups unit = flat_map (λ (s : Statement). groups_in s.form) unit
 
 -- ---- what is given a value: 9.2
 
--- an element of a variable, by its number
-pub record Element : Type 0 where
+-- elements of a variable, one after the other: the number of the first one, and how many
+pub record Stretch : Type 0 where
   pub name : Name
-  pub number : ℕ
-
-abbrev pub elements_from : Name → ℕ → ℕ → List Element
-elements_from x k zero = []
-elements_from x k (suc n) = record { name = x; number = k } ∷ elements_from x (suc k) n
+  pub first : ℕ
+  pub count : ℕ
 
 -- a scalar is its one element, and an array by itself all of its elements in their order (5.2.4)
-abbrev pub all_elements : Name → Option Bounds → Option (List Element)
-all_elements x shape = option_map (elements_from x 1) (option_and_then elements shape)
+abbrev pub all_elements : Name → Option Bounds → Option Stretch
+all_elements x shape = option_map (λ n. record { name = x; first = 1; count = n }) (option_and_then elements shape)
 
-abbrev pub element_with : Name → Option Bounds → Option (List Value) → Option (List Element)
+abbrev pub element_with : Name → Option Bounds → Option (List Value) → Option Stretch
 element_with x shape subscripts =
-    option_map (λ n. record { name = x; number = n } ∷ []) (
+    option_map (λ n. record { name = x; first = n; count = 1 }) (
     option_and_then (λ bs. option_and_then (λ vs. element_number bs (integers_of vs)) subscripts) shape)
 
 -- the elements that a name in DATA stands for, where names have these values: none where its shape or a subscript has no value
-abbrev pub elements_named : List Statement → Values → Target → Option (List Element)
+abbrev pub elements_named : List Statement → Values → Target → Option Stretch
 elements_named unit values t =
     if is_nonempty t.subscripts
     then element_with t.occurrence.name (constant_shape unit t.occurrence.name) (values_of unit values (trees_of t.subscripts))
     else all_elements t.occurrence.name (constant_shape unit t.occurrence.name)
 
 -- ---- the values that are given: 9.1
+
+-- an item, and how often it stands in a list, one after the other
+pub record Repeated (A : Type 0) : Type 0 where
+  pub item : A
+  pub count : ℕ
+
+-- the item at an index of such a list
+abbrev pub item_at : {A : Type 0} → List (Repeated A) → ℕ → Option A
+item_at [] i = None
+item_at (r ∷ rs) i = if nat_lt i r.count then Some r.item else item_at rs (i - r.count)
 
 -- an integer from 1
 abbrev pub count_by : Option Value → Option ℕ
@@ -75,6 +82,6 @@ value_of_constant values (data_constant.Value v) = Some v
 value_of_constant values (data_constant.Named p) = values p.name
 
 -- a value as often as it is given: none where a name has no value, or one that is no repeat count
-abbrev pub values_given : Values → DataValue → Option (List Value)
+abbrev pub values_given : Values → DataValue → Option (Repeated Value)
 values_given values v =
-    option_and_then (λ n. option_map (replicate n) (value_of_constant values v.constant)) (repeat_of values v.repeat)
+    option_and_then (λ n. option_map (λ x. record { item = x; count = n }) (value_of_constant values v.constant)) (repeat_of values v.repeat)

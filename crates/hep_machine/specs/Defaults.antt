@@ -1,5 +1,5 @@
 -- What the definitions answer where no accepted program ever is: docs/MACHINE.md, "What is never reached".
-use Rattle.std.specs.Prelude.{ℕ, ℤ, pos, Bool, false, List, [], length, None}
+use Rattle.std.specs.Prelude.{ℕ, ℤ, pos, Bool, false, List, [], length, replicate, None}
 use Rattle.hep_source.specs.declared.name.Name.{Name}
 use Rattle.hep_source.specs.declared.statement.Statement.{Statement}
 use Rattle.hep_source.specs.declared.value.Value.{Value}
@@ -23,9 +23,9 @@ no_value = Truth false
 
 -- ---- names and statements
 
--- for an argument of FULL, EMPTY, VALUE, SETE or WAITF that is no variable and no element, and for the end of no DO
+-- for an argument of FULL, EMPTY, VALUE, SETE or WAITF that is no variable and no element, and for the end of no DO: six blanks
 abbrev pub no_name : Name
-no_name = record { asynchronous = false; letters = [] }
+no_name = record { asynchronous = false; letters = replicate 6 32 }
 
 -- for a label that no executable statement of the unit has: the index past its last statement
 abbrev pub no_index : List Statement → ℕ

@@ -72,6 +72,11 @@ part_of_listed (pure f) x vs r = redex_of (applying f) vs
 part_of_listed (state f) x vs r = redex_of (testing f) r
 part_of_listed unknown x vs r = whole no_value
 
+-- the argument of FULL, EMPTY, VALUE, SETE or WAITF that has a list is an element
+abbrev pub reference_of_listed : Meaning → Name → Part (List Value) → Part Reference
+reference_of_listed element x vs = mapped_part (λ subscripts. (x, subscripts)) vs
+reference_of_listed _ x vs = whole (no_name, [])
+
 abbrev pub combined : Operator → Value × Value → Redex
 combined o both = combining o both.0 both.1
 
@@ -91,7 +96,7 @@ abbrev mutual
 
   pub reference_of : List Statement → Trees → Part Reference
   reference_of unit (trees (occurrence p) no_trees) = whole (p.name, [])
-  reference_of unit (trees (with_list p ts) no_trees) = mapped_part (λ vs. (p.name, vs)) (parts_of unit ts)
+  reference_of unit (trees (with_list p ts) no_trees) = reference_of_listed (listed_meaning unit p.name) p.name (parts_of unit ts)
   reference_of unit _ = whole (no_name, [])
 
 -- an expression that is left but for its own step becomes the value of that step

@@ -29,14 +29,26 @@ common_cells program = cells_of_blocks program (blocks_of program)
 abbrev pub activations_on : Process → List ℕ
 activations_on stack = map (λ (l : Level). l.activation) stack
 
--- an activation, its parent, the parent's parent and so on, n of them at most
-abbrev pub ancestry : State → ℕ → ℕ → List ℕ
-ancestry s zero a = []
-ancestry s (suc n) a = a ∷ option_map_or (ancestry s n) (parent_of s a) []
+abbrev pub with_number : ℕ → List ℕ → List ℕ
+with_number a held = if is_number_among a held then held else a ∷ held
 
--- the activations on stacks, each with its ancestry: a parent has a lower number than its child, so that of a has no more than a
+-- the parent of an activation, unless that is among these already
+abbrev pub new_parent : State → ℕ → List ℕ → Option ℕ
+new_parent s a held = if is_number_among a held then None else parent_of s a
+
+-- with an activation, its parent, the parent's parent and so on, as far as they aren't among these already, n of them at most
+abbrev pub with_ancestry : State → ℕ → ℕ → List ℕ → List ℕ
+with_ancestry s zero a held = held
+with_ancestry s (suc n) a held = option_map_or (λ b. with_ancestry s n b (a ∷ held)) (new_parent s a held) (with_number a held)
+
+-- a parent has a lower number than its child, so the ancestry of activation a has no more than a
+abbrev pub with_ancestries : State → List ℕ → List ℕ → List ℕ
+with_ancestries s held [] = held
+with_ancestries s held (a ∷ ns) = with_ancestries s (with_ancestry s a a held) ns
+
+-- the activations on stacks, each with its ancestry
 abbrev pub held_activations : State → List ℕ
-held_activations s = flat_map (λ a. ancestry s a a) (flat_map activations_on s.processes)
+held_activations s = with_ancestries s [] (flat_map activations_on s.processes)
 
 abbrev pub is_held : State → ℕ → Bool
 is_held s a = is_number_among a (held_activations s)

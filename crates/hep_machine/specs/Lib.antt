@@ -4,6 +4,7 @@ pub mod Functions
 pub mod Shapes
 pub mod Constants
 pub mod Variables
+pub mod Access
 pub mod State
 pub mod Storage
 pub mod Processes

@@ -5,7 +5,7 @@ use Rattle.hep_machine.specs.declared.event.Fault.{Fault}
 use Rattle.hep_source.specs.declared.name.Name.{Name}
 use Rattle.hep_machine.specs.declared.record.Item.{Item}
 use Rattle.hep_source.specs.declared.statement.Form.{Form}
-use Rattle.hep_source.specs.declared.value.Value.{Value}
+use Rattle.hep_machine.specs.declared.slot.Slot.{Slot}
 use Rattle.hep_machine.specs.Shapes.{Bounds}
 
 -- ---- storage: "Storage"
@@ -16,10 +16,9 @@ pub data Location : Type 0 where
   local : (activation : ℕ) (name : Name) (element : ℕ) → Location
   common : (block : Option Name) (position : ℕ) → Location
 
--- a storage unit: the value that was stored last, if any, and whether it is full
-pub record Cell : Type 0 where
-  pub value : Option Value
-  pub full : Bool
+-- what a storage unit holds: the value that was stored last, if any, and whether it is full
+abbrev pub Cell : Type 0
+Cell = Slot
 
 abbrev pub Store : Type 0
 Store = Location → Cell

@@ -11,6 +11,8 @@ use Rattle.hep_source.specs.declared.statement.Form.TheVariants.{End}
 use Rattle.hep_source.specs.declared.statement.Statement.{Statement}
 use Rattle.hep_source.specs.declared.value.Value.{Value}
 use Rattle.hep_source.specs.declared.value.Value.TheVariants.{Int, Truth}
+use Rattle.hep_machine.specs.Access as access
+use Rattle.hep_machine.specs.Access.{Outcome, is_full, is_empty, reading_asynchronous, setting_empty, waiting_full, writing, writing_asynchronous}
 use Rattle.hep_machine.specs.Arithmetic.{integer_of, logical_of, integer_or_overflow, signed_value, negated_value, combined_value, function_value}
 use Rattle.hep_machine.specs.Binding.{Binding, binding_for}
 use Rattle.hep_machine.specs.Control.{level_after_statement, level_at_label, level_at_choice, label_chosen, label_by_sign, level_in_block, level_after_condition, level_in_range, level_after_loop, variable_of, level_at_statement}
@@ -18,8 +20,8 @@ use Rattle.hep_machine.specs.Declarations.{is_array, is_nonempty}
 use Rattle.hep_machine.specs.Evaluation.{Redex, reading, signing, negating, combining, applying, testing, Reference, Actual, Action, assigning, jumping, choosing, branching, testing_condition, entering_block, entering_loop, ending_loop, calling, creating, purging, printing, continuing, leaving, stopping, Next, wants, does, next_of, plug_work}
 use Rattle.hep_machine.specs.Locations.{Scope, storage_of, location_of_name}
 use Rattle.hep_machine.specs.Shapes.{natural}
-use Rattle.hep_machine.specs.State.{Level, Loop, Process, State, doing, Location, Store}
-use Rattle.hep_machine.specs.Storage.{with_value, with_cell, with_state, emptied_from}
+use Rattle.hep_machine.specs.State.{Cell, Level, Loop, Process, State, doing, Location, Store}
+use Rattle.hep_machine.specs.Storage.{with_value, with_cell, with_empty, emptied_from}
 use Rattle.hep_source.specs.Units.{Units, unit_at, line_at, executable_from, subroutine_called}
 use Rattle.hep_source.specs.Defaults.{no_unit}
 use Rattle.hep_machine.specs.Processes.{living, unit_of, activation_of, with_process, loop_at, with_loop}
@@ -41,30 +43,27 @@ abbrev pub by_result : Result Value Kind → Store → Answer
 by_result (Ok v) store = gives v store
 by_result (Err k) store = fails k
 
--- a value that was never stored is undefined: X3.9-1978, 2.11 and 17.3
-abbrev pub by_value : Option Value → Store → Answer
-by_value None store = fails Undefined
-by_value (Some v) store = gives v store
+-- what an access to the cell of a storage unit comes to, with the store that it leaves
+abbrev pub answer_at : Store → Location → Outcome → Answer
+answer_at store at (access.gives v) = gives v store
+answer_at store at (access.makes v cell) = gives v (with_cell store at cell)
+answer_at store at (access.waits full) = waits (record { at = at; full = full })
+answer_at store at access.undefined = fails Undefined
 
--- where it is full, and else it waits for that
-abbrev pub once_full : Store → Location → Answer → Answer
-once_full store at answer = if (store at).full then answer else waits (record { at = at; full = true })
-
--- an asynchronous variable is emptied by a read
 abbrev pub answer_of_read : Bool → Store → Location → Answer
-answer_of_read false store at = by_value (store at).value store
-answer_of_read true store at = once_full store at (by_value (store at).value (with_state store at false))
+answer_of_read false store at = answer_at store at (access.reading (store at))
+answer_of_read true store at = answer_at store at (reading_asynchronous (store at))
 
 abbrev pub answer_of_read_at : Bool → Store → Result Location Kind → Answer
 answer_of_read_at asynchronous store (Err k) = fails k
 answer_of_read_at asynchronous store (Ok at) = answer_of_read asynchronous store at
 
 abbrev pub answer_of_test : StateFunction → Store → Location → Answer
-answer_of_test IsFull store at = gives (Truth (store at).full) store
-answer_of_test IsEmpty store at = gives (Truth (not (store at).full)) store
-answer_of_test ValueOf store at = by_value (store at).value store
-answer_of_test SetEmpty store at = by_value (store at).value (with_state store at false)
-answer_of_test WaitFull store at = once_full store at (by_value (store at).value store)
+answer_of_test IsFull store at = gives (Truth (is_full (store at))) store
+answer_of_test IsEmpty store at = gives (Truth (is_empty (store at))) store
+answer_of_test ValueOf store at = answer_at store at (access.reading (store at))
+answer_of_test SetEmpty store at = answer_at store at (setting_empty (store at))
+answer_of_test WaitFull store at = answer_at store at (waiting_full (store at))
 
 abbrev pub answer_of_test_at : StateFunction → Store → Result Location Kind → Answer
 answer_of_test_at f store (Err k) = fails k
@@ -130,22 +129,29 @@ result_after_answer program t (fails k) = result_after_fault program t k
 
 -- ---- assignment (X3.9-1978, 10.1 and 10.2) and PURGE
 
--- an asynchronous variable is filled by an assignment, which waits until it is empty
-abbrev pub result_after_store : Bool → Top → Location → Value → Level → StepResult
-result_after_store false t at v level = stepped (state_with_store t (with_value t.state.store at (Some v)) level)
-result_after_store true t at v level =
-    if (t.state.store at).full
-    then waiting (record { at = at; full = false })
-    else stepped (state_with_store t (with_cell t.state.store at (record { value = Some v; full = true })) level)
+abbrev pub written : Bool → Value → Cell → Outcome
+written false v cell = writing v cell
+written true v cell = writing_asynchronous v cell
+
+-- where a value was stored the process goes on at this level
+abbrev pub result_after_write : Units → Top → Level → Answer → StepResult
+result_after_write program t level (gives v store) = stepped (state_with_store t store level)
+result_after_write program t level (waits w) = waiting w
+result_after_write program t level (fails k) = result_after_fault program t k
+
+abbrev pub result_after_store : Units → Bool → Top → Location → Value → Level → StepResult
+result_after_store program asynchronous t at v level =
+    result_after_write program t level (answer_at t.state.store at (written asynchronous v (t.state.store at)))
 
 abbrev pub result_after_assignment : Units → Top → Bool → Result Location Kind → Value → StepResult
 result_after_assignment program t asynchronous (Err k) v = result_after_fault program t k
-result_after_assignment program t asynchronous (Ok at) v = result_after_store asynchronous t at v (level_after_statement (unit_on_top program t) t.level)
+result_after_assignment program t asynchronous (Ok at) v =
+    result_after_store program asynchronous t at v (level_after_statement (unit_on_top program t) t.level)
 
 -- a whole array with all its elements, or one element
 abbrev pub store_after_purge_at : Store → Result Location Kind → Result Store Kind
 store_after_purge_at store (Err k) = Err k
-store_after_purge_at store (Ok at) = Ok (with_state store at false)
+store_after_purge_at store (Ok at) = Ok (with_empty store at)
 
 abbrev pub store_after_purge_of : Scope → Reference → Store → Result Store Kind
 store_after_purge_of scope r store =

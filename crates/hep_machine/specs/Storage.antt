@@ -1,13 +1,10 @@
 -- Storage units and the store: docs/MACHINE.md, "Storage".
-use Rattle.std.specs.Prelude.{ℕ, zero, suc, ◌+◌, Bool, false, ◌&&◌, nat_eq, if◌then◌else◌, Option, None}
+use Rattle.std.specs.Prelude.{ℕ, zero, suc, ◌+◌, ◌-◌, Bool, false, ◌&&◌, nat_eq, nat_le, if◌then◌else◌, Option, Some, None}
 use Rattle.hep_source.specs.declared.value.Value.{Value}
+use Rattle.hep_machine.specs.Access.{purged_cell}
 use Rattle.hep_machine.specs.Declarations.{same_block}
 use Rattle.hep_source.specs.Names.{same_name}
 use Rattle.hep_machine.specs.State.{Location, local, common, Cell, Store}
-
--- undefined (X3.9-1978, 2.11 and 17.3), or empty without a value
-abbrev pub undefined_cell : Cell
-undefined_cell = record { value = None; full = false }
 
 abbrev pub same_location : Location → Location → Bool
 same_location (local a x i) (local b y j) = nat_eq a b && (same_name x y && nat_eq i j)
@@ -20,6 +17,13 @@ abbrev pub further : Location → ℕ → Location
 further (local a x i) n = local a x (i + n)
 further (common b k) n = common b (k + n)
 
+-- how many elements further the second one is, none where it is before the first one or in another sequence
+abbrev pub distance : Location → Location → Option ℕ
+distance (local a x i) (local b y j) = if nat_eq a b && (same_name x y && nat_le i j) then Some (j - i) else None
+distance (local a x i) (common n k) = None
+distance (common m j) (local b y i) = None
+distance (common m j) (common n k) = if same_block m n && nat_le j k then Some (k - j) else None
+
 -- the store with this cell at a location
 abbrev pub with_cell : Store → Location → Cell → Store
 with_cell store at cell location = if same_location location at then cell else store location
@@ -28,11 +32,11 @@ with_cell store at cell location = if same_location location at then cell else s
 abbrev pub with_value : Store → Location → Option Value → Store
 with_value store at value = with_cell store at (record { value = value; full = (store at).full })
 
--- the store with a location full or empty; what was stored stays
-abbrev pub with_state : Store → Location → Bool → Store
-with_state store at full = with_cell store at (record { value = (store at).value; full = full })
+-- the store with a location empty; what was stored stays
+abbrev pub with_empty : Store → Location → Store
+with_empty store at = with_cell store at (purged_cell (store at))
 
 -- the store with so many storage units empty, from a location on
 abbrev pub emptied_from : ℕ → Location → Store → Store
 emptied_from zero at store = store
-emptied_from (suc n) at store = emptied_from n (further at 1) (with_state store at false)
+emptied_from (suc n) at store = emptied_from n (further at 1) (with_empty store at)

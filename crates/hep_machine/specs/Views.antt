@@ -40,11 +40,19 @@ process_views_from program s p (q ∷ qs) = process_view_of program s p q ++ pro
 
 -- ---- storage
 
-abbrev pub cells_at : Store → Location → ℕ → List Cell
-cells_at store at zero = []
-cells_at store at (suc n) = store at ∷ cells_at store (further at 1) n
+-- where a cell is, and what it is
+pub record CellView : Type 0 where
+  pub at : Location
+  pub cell : Cell
 
-abbrev pub cells_of_local : Store → ℕ → List Statement → Name → List Cell
+abbrev pub cell_view : Store → Location → CellView
+cell_view store at = record { at = at; cell = store at }
+
+abbrev pub cells_at : Store → Location → ℕ → List CellView
+cells_at store at zero = []
+cells_at store at (suc n) = cell_view store at ∷ cells_at store (further at 1) n
+
+abbrev pub cells_of_local : Store → ℕ → List Statement → Name → List CellView
 cells_of_local store a unit x = cells_at store (local a x 1) (cells_of unit x)
 
 abbrev pub is_owned : ℕ → Location → Bool
@@ -52,32 +60,33 @@ is_owned a (local b x i) = nat_eq a b
 is_owned a (common b k) = false
 
 -- a dummy argument that stands for an expression is a variable of its own
-abbrev pub cells_of_dummy : Store → ℕ → Dummy → List Cell
-cells_of_dummy store a d = if is_owned a d.start then store d.start ∷ [] else []
+abbrev pub cells_of_dummy : Store → ℕ → Dummy → List CellView
+cells_of_dummy store a d = if is_owned a d.start then cell_view store d.start ∷ [] else []
 
 -- the storage units that an activation owns
-abbrev pub cells_of_activation : Units → Store → ℕ → Activation → List Cell
+abbrev pub cells_of_activation : Units → Store → ℕ → Activation → List CellView
 cells_of_activation program store a x =
     flat_map (cells_of_local store a (unit_at program x.unit)) (locals_of (unit_at program x.unit)) ++ flat_map (cells_of_dummy store a) x.dummies
 
-abbrev pub cells_from : Units → (State → ℕ → Bool) → State → ℕ → List Activation → List Cell
+abbrev pub cells_from : Units → (State → ℕ → Bool) → State → ℕ → List Activation → List CellView
 cells_from program has s a [] = []
 cells_from program has s a (x ∷ xs) =
     (if has s a then cells_of_activation program s.store a x else []) ++ cells_from program has s (suc a) xs
 
-abbrev pub cells_of_block : Units → Store → BlockName → List Cell
+abbrev pub cells_of_block : Units → Store → BlockName → List CellView
 cells_of_block program store b = cells_at store (common b 1) (block_cells program b)
 
 -- ---- the view
 
--- records, faults, halted or not, each living process with its statement, COMMON, and every variable of the activations that have frames
+-- records, faults, halted or not, each living process with its statement, and the cells of COMMON and of every variable of the
+-- activations that have frames, each with its location
 pub record View : Type 0 where
   pub records : List (List Item)
   pub faults : List Fault
   pub halted : Bool
   pub processes : List ProcessView
-  pub common_contents : List Cell
-  pub cells : List Cell
+  pub common_contents : List CellView
+  pub cells : List CellView
 
 abbrev pub view_of : Units → (State → ℕ → Bool) → State → View
 view_of program has s =

@@ -10,7 +10,9 @@ pub mod event;
 pub mod laws;
 pub mod record;
 pub mod shape;
+pub mod slot;
 
 pub use event::{Entry, Fault, Kind};
 pub use record::{Item, Record};
 pub use shape::Bound;
+pub use slot::Slot;

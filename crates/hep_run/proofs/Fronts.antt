@@ -7,7 +7,8 @@ use Rattle.std.specs.Io.KnownBytes.{Consumes, IsAtEnd}
 use Rattle.hep_text.specs.Reading.{statements_of, refusal}
 use Rattle.hep_run.specs.declared.options.Options.{Options}
 use Rattle.hep_run.specs.Outcome.{Outcome, IsRefusedSource, IsOutcome}
-use Rattle.hep_run.specs.Delivery.{IsOutcomeOf}
+use Rattle.hep_run.specs.declared.options.Run.{Run}
+use Rattle.hep_run.specs.Delivery.{IsOutcomeOf, RunsBytes, RunsSource}
 
 long : (n : ℕ) → 4194304 < n → nat_lt 4194304 n ≡ true
 long n h = grind (arith, nat_tests)
@@ -35,3 +36,9 @@ pub outcome_of_front : (known left : Option (List ℕ)) (bytes : List ℕ) (opti
 outcome_of_front None left bytes options o taken end is = (bytes, is)
 outcome_of_front (Some source) None bytes options o taken end is = absurd taken
 outcome_of_front (Some source) (Some rest) bytes options o taken end is = outcome_too source bytes options o (ap statements_of taken ∙ front bytes rest end) is
+
+-- a run of the bytes that were read is a run of the reader's bytes
+pub source_run : (known left : Option (List ℕ)) (bytes : List ℕ) (options : Options) (run : Run) (output output' messages messages' : Option (List ℕ)) → Consumes known left bytes → (length bytes ≤ 4194304 → IsAtEnd left) → RunsBytes bytes options run output output' messages messages' → RunsSource known left options run output output' messages messages'
+source_run known left bytes options run output output' messages messages' taken end (inl wants) = inl wants
+source_run known left bytes options run output output' messages messages' taken end (inr (o, is, leaves)) =
+    inr (inr ((bytes, taken, end), o, outcome_of_front known left bytes options o taken end is, leaves))

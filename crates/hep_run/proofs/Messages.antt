@@ -39,5 +39,5 @@ reported_after a b c xs ys p q = (q.0, Appends-trans a b c xs (take q.0 ys) p q.
 pub left_by : (o : Outcome) (run : Run) (output output' messages messages' : Option (List ℕ)) → Appends output output' o.output → WritesMessages o.messages o.status o.history run messages messages' → Leaves o run output output' messages messages'
 left_by o run output output' messages messages' taken (same, inl (status, all)) =
     inl (record { status = status; history = same; output_taken = taken; messages_taken = all })
-left_by o run output output' messages messages' taken (same, inr (status, n, reported)) =
-    inr (record { status = status; history = same; taken = inr (n, taken, reported) })
+left_by o run output output' messages messages' taken (same, inr (status, n, fewer, reported)) =
+    inr (record { status = status; history = same; taken = inr (n, fewer, taken, reported) })

@@ -19,7 +19,7 @@ use Rattle.hep_machine.specs.Processes.{living, top_of, is_number_among}
 use Rattle.hep_core.specs.declared.stop.Turn.{Turn}
 use Rattle.hep_core.specs.Value.{CoreValue, state_of, core_after_choice, stop_after, HasNoStop, IsTurn, IsChoice}
 use Rattle.hep_run.specs.declared.options.Options.{Options}
-use Rattle.hep_run.specs.Outcome.{first_choice, next_process, IsScheduled}
+use Rattle.hep_run.specs.Outcome.{first_choice, next_process, IsNextEntry, IsScheduled}
 use Rattle.hep_run.specs.Progress.{IsStopOfRun, IsRunning}
 
 -- without a STOP the choice comes next, or what is ready
@@ -38,41 +38,42 @@ get_last : (xs : List Entry) (y : Entry) → slice_get (xs ++ y ∷ []) (length 
 get_last [] y = refl
 get_last (x ∷ xs) y = get_last xs y
 
-one_more : (program : Units) (choices : List ℕ) (h : List Entry) (e : Entry) → IsScheduled program choices h → next_process program choices h ≡ Some e.process → IsScheduled program choices (h ++ e ∷ [])
+one_more : (program : Units) (choices : List ℕ) (h : List Entry) (e : Entry) → IsScheduled program choices h → IsNextEntry program choices h e → IsScheduled program choices (h ++ e ∷ [])
 one_more program choices h e so_far next k e' at = elim (cases_lt k (length h)) [ inl lt ↦ before lt | inr ge ↦ rest_after ge ]
   where
-    before : k < length h → next_process program choices (take k (h ++ e ∷ [])) ≡ Some e'.process
+    before : k < length h → IsNextEntry program choices (take k (h ++ e ∷ [])) e'
     before lt =
         let le : k ≤ length h = omega arith in
-        ap (next_process program choices) (take-append-le k h (e ∷ []) le) ∙ so_far k e' (sym (get_front h (e ∷ []) k lt) ∙ at)
+        subst (λ (front : List Entry). IsNextEntry program choices front e') (sym (take-append-le k h (e ∷ []) le)) (so_far k e' (sym (get_front h (e ∷ []) k lt) ∙ at))
 
-    rest_after : length h ≤ k → next_process program choices (take k (h ++ e ∷ [])) ≡ Some e'.process
+    rest_after : length h ≤ k → IsNextEntry program choices (take k (h ++ e ∷ [])) e'
     rest_after ge =
         let within = slice_get_within (h ++ e ∷ []) k e' at in
         let is : k ≡ length h = omega (arith, within, length-append h (e ∷ [])) in
         let same : Some e ≡ Some e' = sym (get_last h e) ∙ ap (slice_get (h ++ e ∷ [])) (sym is) ∙ at in
-        let process : Some e.process ≡ Some e'.process = cc in
-        ap (λ (j : ℕ). next_process program choices (take j (h ++ e ∷ []))) is ∙ ap (next_process program choices) (take-append_seam h (e ∷ [])) ∙ next ∙ process
+        let here : e ≡ e' = cc in
+        let front : take k (h ++ e ∷ []) ≡ h = ap (λ (j : ℕ). take j (h ++ e ∷ [])) is ∙ take-append_seam h (e ∷ []) in
+        subst (IsNextEntry program choices (take k (h ++ e ∷ []))) here (subst (λ (xs : List Entry). IsNextEntry program choices xs e) (sym front) next)
 
 -- ---- choices
 
--- a choice that isn't refused leaves a core with one entry more
-pub turned : (old new : CoreValue) (p steps : ℕ) (blocked : Bool) → IsTurn old p steps blocked new → (n : ℕ) × (s : State) × (new ≡ core_after_choice old p n s)
-turned old new p zero true t = (0, state_of old, t.1)
+-- a choice that isn't refused leaves a core with one entry more, of one step at most
+pub turned : (old new : CoreValue) (p steps : ℕ) (blocked : Bool) → IsTurn old p steps blocked new → (n : ℕ) × (n ≤ 1) × (s : State) × (new ≡ core_after_choice old p n s)
+turned old new p zero true t = (0, omega arith, state_of old, t.1)
 turned old new p zero false t = absurd t
 turned old new p (suc zero) true t = absurd t
-turned old new p (suc zero) false t = (1, t.0, t.2)
+turned old new p (suc zero) false t = (1, omega arith, t.0, t.2)
 turned old new p (suc (suc n)) blocked t = absurd t
 
 no_stop : (options : Options) (core : CoreValue) (s : State) → IsStopOfRun options core (stop_after s)
 no_stop options core s = elim s.halted as (λ b. IsStopOfRun options core (if b then Some Halted else None)) [ true ↦ tt | false ↦ tt ]
 
-pub grown_running : (options : Options) (old : CoreValue) (p n : ℕ) (s : State) → IsRunning options old → next_process old.program options.choices old.history ≡ Some p → IsRunning options (core_after_choice old p n s)
-grown_running options old p n s running next =
+pub grown_running : (options : Options) (old : CoreValue) (p n : ℕ) (s : State) → n ≤ 1 → IsRunning options old → next_process old.program options.choices old.history ≡ Some p → IsRunning options (core_after_choice old p n s)
+grown_running options old p n s few running next =
     record {
       cells = running.cells;
       limit = running.limit;
-      scheduled = one_more old.program options.choices old.history (record { process = p; steps = n }) running.scheduled next;
+      scheduled = one_more old.program options.choices old.history (record { process = p; steps = n }) running.scheduled (next, few);
       stop = no_stop options (core_after_choice old p n s) s;
     }
 
@@ -84,10 +85,10 @@ pub record IsLonger (options : Options) (old new : CoreValue) : Type 0 where
   pub entries : length new.history ≡ length old.history + 1
   pub room : length old.history < old.limit
 
-longer : (options : Options) (old : CoreValue) (p n : ℕ) (s : State) → length old.history < old.limit → IsRunning options old → next_process old.program options.choices old.history ≡ Some p → IsLonger options old (core_after_choice old p n s)
-longer options old p n s room running next =
+longer : (options : Options) (old : CoreValue) (p n : ℕ) (s : State) → n ≤ 1 → length old.history < old.limit → IsRunning options old → next_process old.program options.choices old.history ≡ Some p → IsLonger options old (core_after_choice old p n s)
+longer options old p n s few room running next =
     record {
-      running = grown_running options old p n s running next;
+      running = grown_running options old p n s few running next;
       program = refl;
       limit = refl;
       entries = length-append old.history (record { process = p; steps = n } ∷ []);
@@ -97,7 +98,7 @@ longer options old p n s room running next =
 pub chosen : (options : Options) (old new : CoreValue) (p : ℕ) (state_after_turn : Turn) → IsChoice old p (Ok state_after_turn) new → IsRunning options old → next_process old.program options.choices old.history ≡ Some p → IsLonger options old new
 chosen options old new p state_after_turn c running next =
     let t = turned old new p state_after_turn.steps state_after_turn.blocked c.2 in
-    subst (IsLonger options old) (sym t.2) (longer options old p t.0 t.1 c.1 running next)
+    subst (IsLonger options old) (sym t.3) (longer options old p t.0 t.2 t.1 c.1 running next)
 
 -- ---- what is ready lives
 

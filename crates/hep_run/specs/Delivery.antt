@@ -1,6 +1,6 @@
 -- What a run leaves at its two outputs: docs/MACHINE.md, "The program".
-use Rattle.std.specs.Prelude.{◌≡◌, ◌⊎◌, ℕ, List, [], ◌++◌, codes, take, Option, Some, None}
-use Rattle.std.specs.Io.KnownBytes.{Appends, Keeps}
+use Rattle.std.specs.Prelude.{◌≡◌, ◌⊎◌, ℕ, ◌<◌, ◌≤◌, List, [], ◌++◌, codes, length, take, Option, Some, None}
+use Rattle.std.specs.Io.KnownBytes.{Appends, Keeps, Consumes, IsAtEnd}
 use Rattle.hep_machine.specs.declared.event.Entry.{Entry}
 use Rattle.hep_run.specs.declared.options.Options.{Options}
 use Rattle.hep_run.specs.declared.options.Run.{Run}
@@ -25,15 +25,15 @@ SomeOf contents contents' text = (k : ℕ) × Appends contents contents' (take k
 abbrev pub WritesStartOf : Option (List ℕ) → Option (List ℕ) → List ℕ → List ℕ → Type 0
 WritesStartOf messages messages' before last = (k : ℕ) × Appends messages messages' (before ++ take k last)
 
--- the output took just n bytes, and this was written
+-- the output took just n bytes, fewer than there are, and this was written
 abbrev pub OutputFailed : Outcome → Option (List ℕ) → Option (List ℕ) → Option (List ℕ) → Option (List ℕ) → Type 0
 OutputFailed o output output' messages messages' =
-    (n : ℕ) × Appends output output' (take n o.output) × WritesStartOf messages messages' [] (write_fault_text n)
+    (n : ℕ) × (n < length o.output) × Appends output output' (take n o.output) × WritesStartOf messages messages' [] (write_fault_text n)
 
--- the output took all, the messages' writer just n bytes, and this was written after them
+-- the output took all, the messages' writer just n bytes, fewer than there are, and this was written after them
 abbrev pub MessagesFailed : Outcome → Option (List ℕ) → Option (List ℕ) → Option (List ℕ) → Option (List ℕ) → Type 0
 MessagesFailed o output output' messages messages' =
-    (n : ℕ) × Appends output output' o.output × WritesStartOf messages messages' (take n o.messages) (write_fault_text n)
+    (n : ℕ) × (n < length o.messages) × Appends output output' o.output × WritesStartOf messages messages' (take n o.messages) (write_fault_text n)
 
 -- a write failed
 pub record IsBroken (o : Outcome) (run : Run) (output output' messages messages' : Option (List ℕ)) : Type 0 where
@@ -51,17 +51,36 @@ abbrev pub WritesMessages : List ℕ → Status → List Entry → Run → Optio
 WritesMessages lines status history run messages messages' =
     (run.history ≡ history)
     × (((run.status ≡ status_code status) × Appends messages messages' lines)
-    ⊎ ((run.status ≡ status_code DeviceFailed) × (n : ℕ) × WritesStartOf messages messages' (take n lines) (write_fault_text n)))
+    ⊎ ((run.status ≡ status_code DeviceFailed) × (n : ℕ) × (n < length lines) × WritesStartOf messages messages' (take n lines) (write_fault_text n)))
 
 -- an outcome of these bytes, where they are known
 abbrev pub IsOutcomeOf : Option (List ℕ) → Options → Outcome → Type 0
 IsOutcomeOf None options o = (source : List ℕ) × IsOutcome source options o
 IsOutcomeOf (Some source) options o = IsOutcome source options o
 
--- All that a run may leave: memory was refused, or the reader failed, and no record is written; or else an outcome of
--- the reader's bytes.
-abbrev pub RunsSource : Option (List ℕ) → Options → Run → Option (List ℕ) → Option (List ℕ) → Option (List ℕ) → Option (List ℕ) → Type 0
-RunsSource source options run output output' messages messages' =
-    (Keeps output output' × WritesMessages (codes "NO MEMORY\n") NoMemory [] run messages messages')
+-- memory was refused, and no record is written
+abbrev pub WantsMemory : Run → Option (List ℕ) → Option (List ℕ) → Option (List ℕ) → Option (List ℕ) → Type 0
+WantsMemory run output output' messages messages' =
+    Keeps output output' × WritesMessages (codes "NO MEMORY\n") NoMemory [] run messages messages'
+
+-- all that a run of these bytes may leave: memory was refused; or else an outcome of the bytes
+abbrev pub RunsBytes : List ℕ → Options → Run → Option (List ℕ) → Option (List ℕ) → Option (List ℕ) → Option (List ℕ) → Type 0
+RunsBytes source options run output output' messages messages' =
+    WantsMemory run output output' messages messages'
+    ⊎ ((o : Outcome) × IsOutcome source options o × Leaves o run output output' messages messages')
+
+-- the most bytes of a source
+abbrev pub most_source_bytes : ℕ
+most_source_bytes = 4194304
+
+-- the reader gave its first bytes, and all that it had, unless those are more than a source may have
+abbrev pub HasRead : Option (List ℕ) → Option (List ℕ) → Type 0
+HasRead source source' = (bytes : List ℕ) × Consumes source source' bytes × (length bytes ≤ most_source_bytes → IsAtEnd source')
+
+-- All that a run of a reader's bytes may leave: memory was refused, or the reader failed, and no record is written; or else
+-- the source was read, and there is an outcome of the reader's bytes.
+abbrev pub RunsSource : Option (List ℕ) → Option (List ℕ) → Options → Run → Option (List ℕ) → Option (List ℕ) → Option (List ℕ) → Option (List ℕ) → Type 0
+RunsSource source source' options run output output' messages messages' =
+    WantsMemory run output output' messages messages'
     ⊎ (Keeps output output' × WritesMessages (codes "READ FAULT\n") DeviceFailed [] run messages messages')
-    ⊎ ((o : Outcome) × IsOutcomeOf source options o × Leaves o run output output' messages messages')
+    ⊎ (HasRead source source' × (o : Outcome) × IsOutcomeOf source options o × Leaves o run output output' messages messages')

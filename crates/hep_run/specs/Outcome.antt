@@ -1,5 +1,5 @@
 -- What a run of a source comes to, from its bytes to the bytes that it writes: docs/MACHINE.md, "The program".
-use Rattle.std.specs.Prelude.{◌≡◌, ◌≢◌, ◌⊎◌, ℕ, ◌+◌, true, false, if◌then◌else◌, List, [], ◌∷◌, ◌++◌, length, take, slice_get, Option, Some, None, Ok}
+use Rattle.std.specs.Prelude.{◌≡◌, ◌≢◌, ◌⊎◌, ℕ, ◌+◌, ◌≤◌, true, false, if◌then◌else◌, List, [], ◌∷◌, ◌++◌, length, take, slice_get, Option, Some, None, Ok}
 use Rattle.hep_text.specs.declared.statement.Stmt.{Stmt}
 use Rattle.hep_text.specs.Reading.{statements_of, refusal}
 use Rattle.hep_parse.specs.Program.{IsProgram, IsFirstFault}
@@ -18,7 +18,9 @@ use Rattle.hep_core.specs.Refusals.{IsRunnable, IsUnsupported}
 use Rattle.hep_run.specs.declared.options.Options.{Options}
 use Rattle.hep_run.specs.declared.status.Status.{Status}
 use Rattle.hep_run.specs.declared.status.Status.TheVariants as statuses
-use Rattle.hep_run.specs.Texts.{records_text, faults_text, refusal_text, stop_text, choice_text}
+use Rattle.hep_output.specs.Records.{records_text}
+use Rattle.hep_dump.specs.Faults.{faults_text}
+use Rattle.hep_run.specs.Texts.{refusal_text, stop_text, choice_text}
 
 -- what a run writes to its two outputs, its status, and its history
 pub record Outcome : Type 0 where
@@ -52,10 +54,14 @@ abbrev pub next_process : Units → List ℕ → List Entry → Option ℕ
 next_process program choices history =
     if (state_after program history).halted then None else first_choice (slice_get choices (length history)) (next_ready program history)
 
--- each entry is of the process that came next
+-- an entry of the process that comes next, with one step at most
+abbrev pub IsNextEntry : Units → List ℕ → List Entry → Entry → Type 0
+IsNextEntry program choices history e = (next_process program choices history ≡ Some e.process) × (e.steps ≤ 1)
+
+-- each entry is of the process that came next, and made one step or found it waiting
 abbrev pub IsScheduled : Units → List ℕ → List Entry → Type 0
 IsScheduled program choices history =
-    (k : ℕ) (e : Entry) → slice_get history k ≡ Some e → next_process program choices (take k history) ≡ Some e.process
+    (k : ℕ) (e : Entry) → slice_get history k ≡ Some e → IsNextEntry program choices (take k history) e
 
 -- a history of the program by these options
 pub record IsHistory (program : Units) (options : Options) (history : List Entry) : Type 0 where

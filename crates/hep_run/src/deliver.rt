@@ -5,10 +5,11 @@ ghost use Rattle.hep_run.specs.Texts.{write_fault_text};
 ghost use Rattle.hep_run.specs.Transcripts.{outcome_of};
 ghost use Rattle.hep_run.specs.Delivery.{Leaves, WritesMessages, SomeOf};
 
-use crate::options::{History, Run};
-use crate::output::{PutFault, put_all};
+use crate::options::Run;
 use crate::status::Status;
 use crate::transcript::Transcript;
+use hep_history::History;
+use hep_output::{PutFault, put_all};
 use itoa::Buffer;
 use std::io::Write;
 

@@ -31,7 +31,8 @@ impl From<AllocError> for ReadFault {
     }
 }
 
-/// The bytes of an input to its end, or its first bytes once more than `most` have come.
+/// The bytes of an input to its end, or its first bytes once more than `most` have come, which is no
+/// more than 4,096 further.
 ///
 /// An interrupted read is tried again.
 ///
@@ -43,6 +44,7 @@ pub fn read_input<R: Read>(alloc: Global, reader: &mut R, most: usize) -> Result
         Consumes (R.remaining reader.old) (R.remaining reader.new) bytes.items) }
     ensures all { IfOk result (λ bytes.
         length bytes.items ≤ most → IsAtEnd (R.remaining reader.new)) }
+    ensures stops { IfOk result (λ bytes. length bytes.items ≤ most + 4096) }
 {
     let mut bytes = Vec::new(alloc);
     let mut piece = [0u8; 4096];

@@ -4,7 +4,6 @@
 pub mod deliver;
 pub mod input;
 pub mod options;
-pub mod output;
 pub mod refusal;
 pub mod run;
 pub mod source;
@@ -12,5 +11,5 @@ pub mod status;
 pub mod texts;
 pub mod transcript;
 
-pub use options::{Choices, History, Options, Run};
-pub use source::run_source;
+pub use options::{Options, Run};
+pub use source::{run_bytes, run_source};

@@ -3,15 +3,8 @@ ghost use Rattle.std.specs.Prelude.{◌≡◌, []};
 ghost use Rattle.hep_run.specs.Statuses.{status_code};
 
 use crate::status::Status;
-use hep_base::Sequence;
-use hep_core::Entry;
+use hep_history::{Choices, History};
 use std::alloc::Global;
-
-/// Process numbers, in the order in which they are to be chosen.
-pub type Choices = Sequence<u64>;
-
-/// The history that a run leaves: an entry for each choice that was made.
-pub type History = Sequence<Entry>;
 
 /// How a source is run.
 #[derive(Drop)]
@@ -46,7 +39,8 @@ impl Options {
 pub struct Run {
     /// The exit status of the program: the code of a `Status`.
     pub status: u8,
-    /// An entry for each choice that was made.
+    /// An entry for each choice that was made; none where the source is refused, couldn't be read, or
+    /// memory was refused.
     pub history: History,
 }
 

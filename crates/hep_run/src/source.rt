@@ -1,11 +1,12 @@
 //! The program's work on one source, from its reader to its two writers.
-ghost use Rattle.hep_run.specs.Delivery.{RunsSource};
+ghost use Rattle.hep_run.specs.Delivery.{RunsBytes, RunsSource};
 
 use crate::deliver::{deliver, write_messages};
 use crate::input::{ReadFault, read_input};
-use crate::options::{History, Options, Run};
+use crate::options::{Options, Run};
 use crate::run::transcript_of;
 use crate::status::Status;
+use hep_history::History;
 use std::alloc::Global;
 use std::io::{Read, Write};
 
@@ -19,6 +20,28 @@ pub const MOST_BYTES: usize = 4_194_304;
 // The line where memory was refused.
 const NO_MEMORY: &[u8] = b"NO MEMORY\n";
 
+/// Runs a source that was read: checks it, runs it by the options, and then writes the records to
+/// `output` and the faults, the stop or the refusal to `messages`.
+///
+/// The run's status is the code of a `Status`.
+pub fn run_bytes<W: Write, E: Write>(
+    alloc: Global,
+    source: &[u8],
+    options: &Options,
+    output: &mut W,
+    messages: &mut E,
+) -> Run
+    ensures { RunsBytes source.now options.now result
+        (W.contents output.old) (W.contents output.new)
+        (E.contents messages.old) (E.contents messages.new) }
+{
+    let none = History::from(Vec::new(alloc));
+    match transcript_of(alloc, source, options) {
+        Ok(transcript) => deliver(transcript, output, messages),
+        Err(_) => write_messages(messages, NO_MEMORY, Status::NoMemory, none),
+    }
+}
+
 /// Runs a source: reads it, checks it, runs it by the options, and then writes the records to
 /// `output` and the faults, the stop or the refusal to `messages`.
 ///
@@ -30,7 +53,7 @@ pub fn run_source<R: Read, W: Write, E: Write>(
     output: &mut W,
     messages: &mut E,
 ) -> Run
-    ensures { RunsSource (R.remaining source.old) options.now result
+    ensures { RunsSource (R.remaining source.old) (R.remaining source.new) options.now result
         (W.contents output.old) (W.contents output.new)
         (E.contents messages.old) (E.contents messages.new) }
 {
@@ -47,8 +70,5 @@ pub fn run_source<R: Read, W: Write, E: Write>(
             return write_messages(messages, b"READ FAULT\n", Status::DeviceFailed, none);
         }
     };
-    match transcript_of(alloc, &bytes, options) {
-        Ok(transcript) => deliver(transcript, output, messages),
-        Err(_) => write_messages(messages, NO_MEMORY, Status::NoMemory, none),
-    }
+    run_bytes(alloc, &bytes, options, output, messages)
 }

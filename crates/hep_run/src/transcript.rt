@@ -5,10 +5,12 @@ ghost use Rattle.hep_run.specs.Outcome as outcome;
 ghost use Rattle.hep_run.specs.Outcome.{outcome_of_end, outcome_of_refused_choice};
 ghost use Rattle.hep_run.specs.Transcripts.{outcome_of};
 
-use crate::options::History;
 use crate::status::Status;
-use crate::texts::{put_faults, put_records, put_refusal};
+use crate::texts::put_refusal;
 use hep_core::{Core, Fault, Stop, Verdict};
+use hep_dump::append_faults;
+use hep_history::History;
+use hep_output::append_records;
 use hep_source::Text;
 use std::alloc::{AllocError, Global};
 
@@ -91,9 +93,9 @@ pub fn ended_transcript(alloc: Global, core: &Core) -> Result<Transcript, AllocE
     let stop = stop_of(core);
     let history = history_of(alloc, core)?;
     let mut output = Vec::new(alloc);
-    put_records(&mut output, core.output())?;
+    append_records(&mut output, core.output())?;
     let mut messages = Vec::new(alloc);
-    put_faults(&mut messages, core.image(), core.faults())?;
+    append_faults(&mut messages, core.image(), core.faults())?;
     messages.extend_from_slice(stop_text(stop))?;
     Ok(Transcript {
         output,

@@ -4,6 +4,7 @@ mod SerialRules
 pub mod Reported
 mod WorkedConditions
 mod WorkedEdges
+mod WorkedDeclarations
 mod WorkedRuns
 mod WorkedControl
 mod WorkedValues

@@ -16,7 +16,7 @@ use Rattle.hep_machine.specs.State.{State, Level, Process, Cell, Location, local
 use Rattle.hep_machine.specs.Step.{StepResult, stepped, waiting, absent, step_result_of}
 use Rattle.hep_source.specs.Units.{Units}
 use Rattle.hep_machine.specs.Variables.{frame_cells}
-use Rattle.hep_machine.specs.Views.{ProcessView, process_views_from, View, view_of}
+use Rattle.hep_machine.specs.Views.{CellView, ProcessView, process_views_from, View, view_of}
 use Rattle.hep_expression.specs.Characters.{named}
 use Rattle.hep_parse.specs.ReadingProgram.{Refusal}
 use Rattle.hep_worked.proofs.Sources.{units_of}
@@ -257,12 +257,20 @@ waits_for_empty p unit line at = record { process = p; unit = unit; line = line;
 abbrev pub asynchronous : ℕ → String → ℕ → Location
 asynchronous a letters element = local a (named true (codes letters)) element
 
+-- the same of a plain variable
+abbrev pub plain : ℕ → String → ℕ → Location
+plain a letters element = local a (named false (codes letters)) element
+
 -- a storage unit with an integer, or without a value, that is full or not
 abbrev pub cell : ℕ → Bool → Cell
 cell n full = record { value = Some (value.Int (pos n)); full = full }
 
 abbrev pub unset_cell : Bool → Cell
 unset_cell full = record { value = None; full = full }
+
+-- this location with this cell
+abbrev pub holds : Location → Cell → CellView
+holds at c = record { at = at; cell = c }
 
 -- each entry as its process and its steps
 abbrev pub entries_of : List (ℕ × ℕ) → List Entry

@@ -4,7 +4,8 @@ use Prim.Native.String.{String}
 use Rattle.hep_machine.specs.declared.event.Kind.TheVariants.{Overflow, Range, Undefined, Shape, Step}
 use Rattle.hep_machine.specs.declared.record.Item.TheVariants.{Truth, Text}
 use Rattle.hep_machine.specs.Layout.{is_made, is_held}
-use Rattle.hep_worked.proofs.SerialRuns.{report, runs, history, used_along, layout_after, frames, view, done, all_wait, halted, arena_full, step_limit, no_such_process, refused, int, minus, one, numbers, fault, stands, waits_for_full, asynchronous, cell, unset_cell, entries_of}
+use Rattle.hep_machine.specs.State.{common}
+use Rattle.hep_worked.proofs.SerialRuns.{report, runs, history, used_along, layout_after, frames, view, done, all_wait, halted, arena_full, step_limit, no_such_process, refused, int, minus, one, numbers, fault, stands, waits_for_full, asynchronous, plain, cell, unset_cell, holds, entries_of}
 
 -- ---- Reading
 
@@ -349,7 +350,7 @@ unfolding runs
 value_and_place_runs = refl
 
 -- the value of an expression stands in a variable of the dummy
-value_and_place_view : view value_and_place 65536 is_made 10000000 [] ≡ Some (record { records = one 2 ∷ []; faults = []; halted = false; processes = []; common_contents = []; cells = cell 2 false ∷ cell 5 false ∷ [] })
+value_and_place_view : view value_and_place 65536 is_made 10000000 [] ≡ Some (record { records = one 2 ∷ []; faults = []; halted = false; processes = []; common_contents = []; cells = holds (plain 1 "I" 1) (cell 2 false) ∷ holds (plain 2 "J" 1) (cell 5 false) ∷ [] })
 unfolding view
 value_and_place_view = refl
 
@@ -632,7 +633,7 @@ unfolding frames
 adders_frames = refl
 
 -- the first of the two has emptied $X, whose value stays
-adders_in_4_entries_view : view adders 65536 is_made 4 (1 ∷ 1 ∷ 1 ∷ 2 ∷ []) ≡ Some (record { records = []; faults = []; halted = false; processes = waits_for_full 1 0 6 (asynchronous 1 "D" 1) ∷ stands 2 1 12 ∷ waits_for_full 3 1 12 (asynchronous 1 "X" 1) ∷ []; common_contents = []; cells = cell 0 false ∷ unset_cell false ∷ unset_cell false ∷ [] })
+adders_in_4_entries_view : view adders 65536 is_made 4 (1 ∷ 1 ∷ 1 ∷ 2 ∷ []) ≡ Some (record { records = []; faults = []; halted = false; processes = waits_for_full 1 0 6 (asynchronous 1 "D" 1) ∷ stands 2 1 12 ∷ waits_for_full 3 1 12 (asynchronous 1 "X" 1) ∷ []; common_contents = []; cells = holds (asynchronous 1 "X" 1) (cell 0 false) ∷ holds (asynchronous 1 "D" 1) (unset_cell false) ∷ holds (plain 1 "I" 1) (unset_cell false) ∷ [] })
 unfolding view
 adders_in_4_entries_view = refl
 
@@ -796,6 +797,15 @@ gaps_of_3_cells : report gaps 8 is_held 10000000 (1 ∷ 1 ∷ 2 ∷ 2 ∷ 1 ∷ 
 unfolding report
 gaps_of_3_cells = refl
 
+-- of two that are alike the one that has ended isn't seen, and the other one is seen by its number
+gaps_first_ended_view : view gaps 65536 is_held 4 (1 ∷ 1 ∷ 2 ∷ 2 ∷ []) ≡ Some (record { records = []; faults = []; halted = false; processes = stands 1 0 4 ∷ stands 3 1 7 ∷ []; common_contents = []; cells = holds (plain 3 "I" 1) (unset_cell false) ∷ [] })
+unfolding view
+gaps_first_ended_view = refl
+
+gaps_second_ended_view : view gaps 65536 is_held 4 (1 ∷ 1 ∷ 3 ∷ 3 ∷ []) ≡ Some (record { records = []; faults = []; halted = false; processes = stands 1 0 4 ∷ stands 2 1 7 ∷ []; common_contents = []; cells = holds (plain 2 "I" 1) (unset_cell false) ∷ [] })
+unfolding view
+gaps_second_ended_view = refl
+
 gaps_use : used_along gaps is_held (1 ∷ 1 ∷ 2 ∷ 2 ∷ 1 ∷ []) ≡ 1 ∷ 3 ∷ 5 ∷ 5 ∷ 3 ∷ 6 ∷ []
 unfolding used_along
 gaps_use = refl
@@ -821,6 +831,6 @@ counters_in_common_run : report counters_in_common 65536 is_held 10000000 [] ≡
 unfolding report
 counters_in_common_run = refl
 
-counters_in_common_view : view counters_in_common 65536 is_held 10000000 [] ≡ Some (record { records = []; faults = []; halted = false; processes = []; common_contents = cell 10 false ∷ []; cells = [] })
+counters_in_common_view : view counters_in_common 65536 is_held 10000000 [] ≡ Some (record { records = []; faults = []; halted = false; processes = []; common_contents = holds (common None 1) (cell 10 false) ∷ []; cells = [] })
 unfolding view
 counters_in_common_view = refl

@@ -2,10 +2,12 @@
 
 mod parts;
 mod shapes;
+mod texts;
 
 use hep_core::{ChooseFault, Core, Entry, Stop, Verdict, image_of};
+use hep_history::Choices;
 use hep_parse::parse;
-use hep_run::{Choices, Options, Run, run_source};
+use hep_run::{Options, Run, run_source};
 use hep_text::statements;
 use std::alloc::{AllocError, Global};
 use std::io;

@@ -1,4 +1,4 @@
-use Rattle.std.proofs.Common.{ℕ, List, take, subst, inl, inr}
+use Rattle.std.proofs.Common.{ℕ, ◌<◌, List, length, take, subst, inl, inr}
 use Rattle.std.specs.Io.KnownBytes.{Appends}
 use Rattle.hep_run.specs.Delivery.{WritesMessages}
 use Rattle.hep_run.specs.Transcripts.{outcome_of}
@@ -12,7 +12,7 @@ returns-in-Err g c =
     inr (record {
       status = c.new.ensures.status;
       history = c.new.ensures.history;
-      taken = inl (n, prefix, of_either c.put_write_fault.result _ _ _ c.put_write_fault.ensures.all c.put_write_fault.ensures.some);
+      taken = inl (n, subst (λ (l : List ℕ). n < length l) c.deref.ensures.value c.in-Err.ensures.fewer, prefix, of_either c.put_write_fault.result _ _ _ c.put_write_fault.ensures.all c.put_write_fault.ensures.some);
     })
 
 pub returns : goal.returns

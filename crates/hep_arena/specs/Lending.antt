@@ -1,0 +1,29 @@
+-- What a region is once the slots that it lent come back.
+use Rattle.std.specs.Prelude.{ℕ, List, ◌++◌, length, take, drop}
+use Rattle.std.specs.Borrow.{Lends, MutBor, Fml, Array}
+use Rattle.hep_machine.specs.declared.slot.Slot.{Slot}
+use Rattle.hep_machine.specs.contracts.slot.Slot.{the_row as slot_row}
+use Rattle.hep_arena.specs.declared.region.Region.{Region}
+use Rattle.hep_arena.specs.contracts.region.Region.{the_row}
+
+-- xs with the slots of ys in front of it, and no more slots than before
+abbrev pub covered : List Slot → List Slot → List Slot
+covered xs ys = take (length xs) ys ++ drop (length ys) xs
+
+-- xs with ys over the n slots from a place on
+abbrev pub with_run : List Slot → ℕ → ℕ → List Slot → List Slot
+with_run xs at n ys = take at xs ++ covered (take n (drop at xs)) ys ++ drop n (drop at xs)
+
+abbrev pub with_slots : Region → List Slot → Region
+with_slots r slots = record r { slots = slots }
+
+abbrev pub with_slots_run : Region → ℕ → ℕ → List Slot → Region
+with_slots_run r at n run = record r { slots = with_run r.slots at n run }
+
+-- all slots of the region are in the end what lies after the loan
+abbrev pub LendsAll : MutBor Region → MutBor (List Slot) → Fml
+LendsAll region loan = Lends the_row (Array slot_row 0) region loan (with_slots region.now)
+
+-- the n slots from a place on are in the end what lies after the loan
+abbrev pub LendsRun : MutBor Region → ℕ → ℕ → MutBor (List Slot) → Fml
+LendsRun region at n loan = Lends the_row (Array slot_row 0) region loan (with_slots_run region.now at n)

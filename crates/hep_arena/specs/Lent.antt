@@ -1,0 +1,15 @@
+-- What an arena is once the slots of a block come back.
+use Rattle.std.specs.Prelude.{ℕ, List}
+use Rattle.std.specs.Borrow.{Lends, MutBor, Fml, Array}
+use Rattle.hep_machine.specs.declared.slot.Slot.{Slot}
+use Rattle.hep_machine.specs.contracts.slot.Slot.{the_row as slot_row}
+use Rattle.hep_arena.specs.Lending.{with_run}
+use Rattle.hep_arena.specs.Space.{Space}
+use Rattle.hep_arena.specs.contracts.arena.Arena.{the_row}
+
+abbrev pub with_block : Space → ℕ → ℕ → List Slot → Space
+with_block space at n slots = record space { contents = with_run space.contents at n slots }
+
+-- the n slots from a place on are in the end what lies after the loan, and nothing else changes
+abbrev pub LendsBlock : MutBor Space → ℕ → ℕ → MutBor (List Slot) → Fml
+LendsBlock space at n loan = Lends the_row (Array slot_row 0) space loan (with_block space.now at n)

@@ -1,0 +1,9 @@
+pub mod Ownership
+pub mod Lending
+pub mod Leases
+pub mod Holes
+pub mod Space
+pub mod Chain
+pub mod Search
+pub mod Lent
+pub mod Gaps

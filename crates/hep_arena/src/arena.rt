@@ -1,0 +1,195 @@
+//! The arena.
+ghost use Rattle.std.specs.Prelude.{◌≡◌, ◌⊎◌, ◌∷◌, [], ℕ, ◌+◌, ◌<◌, ◌≤◌, length, slice_get, slice_range, slice_set, Some, None, IfOk, IfSome, MatchOption};
+ghost use Rattle.std.specs.Borrow.{sem};
+ghost use Rattle.std.specs.Option.{is_some};
+ghost use Rattle.hep_machine.specs.Access.{unset_cell};
+ghost use Rattle.hep_arena.specs.Holes.{AreHoles, IsOut, first_fit, free_cells, given, taken};
+
+use crate::block::Block;
+use crate::holes;
+use crate::region::{Lease, Region, parted, rejoined};
+use hep_machine::Slot;
+use std::alloc::{AllocError, Global};
+use std::marker::Model;
+
+/// Cells, of which blocks are taken and given back. Contracts see the slots of the cells, and the
+/// holes: the runs of cells that are free, in rising order. A block is out while it lies in the arena
+/// and no hole has a cell of it.
+pub struct Arena {
+    region: Region,
+    lease: Lease,
+    // Where the first hole is; where there is none, the number of cells.
+    head: u32,
+    cells: u32,
+    used: u32,
+}
+
+impl Model for Arena {
+    ghost use Rattle.std.specs.Prelude.{◌≡◌, ◌<◌};
+    ghost use Rattle.std_alloc.specs.Vec.{vec_ptr, vec_len, vec_capacity};
+    ghost use Rattle.hep_arena.specs.Chain.{IsArena, space_of};
+    ghost use Rattle.hep_arena.specs.Space.{Space};
+
+    ghost Value = { Space };
+
+    ghost view = { λ a. space_of a.region.slots a.head };
+
+    ghost invariant = { λ a. IsArena a.region.slots a.head a.cells a.used × (a.region.memory ≡ vec_ptr a.lease) × (a.region.cells ≡ vec_len a.lease) × (0 < vec_capacity a.lease) };
+}
+
+impl Drop for Arena {
+    fn drop(self) {
+        let Arena {
+            region,
+            lease,
+            head: _,
+            cells: _,
+            used: _,
+        } = self;
+        drop(rejoined(region, lease));
+    }
+}
+
+// A value that may go to another thread, as it is.
+fn sendable<T: Send>(value: T) -> T
+    ensures { result ≡ value }
+{
+    value
+}
+
+impl Arena {
+    ghost use Rattle.hep_arena.specs.Lent.{LendsBlock};
+
+    /// An arena of so many cells, all of them free.
+    ///
+    /// There is one cell at least, and no more than 16,777,216. Fails where memory is out.
+    pub fn new(alloc: Global, cells: u32) -> Result<Arena, AllocError>
+        requires some { 1 ≤ cells }
+        requires few { cells ≤ 16777216 }
+        ensures cells { IfOk result (λ arena. length arena.contents ≡ cells) }
+        ensures holes { IfOk result (λ arena. arena.holes ≡ (0, cells) ∷ []) }
+    {
+        let mut vec = Vec::from_elem(alloc, holes::UNSET, cells as usize)?;
+        holes::clear_all(&mut vec, cells);
+        let memory = vec.as_mut_ptr();
+        let len = vec.len();
+        let (region, lease) = parted(vec, memory, len);
+        Ok(Arena {
+            region,
+            lease,
+            head: 0,
+            cells,
+            used: 0,
+        })
+    }
+
+    /// The arena as it is: it may go to another thread.
+    pub fn sent(self) -> Arena
+        ensures { result ≡ self }
+    {
+        sendable(self)
+    }
+
+    /// How many cells are out.
+    pub fn used(&self) -> u32
+        ensures used { result + free_cells self.now.holes ≡ length self.now.contents }
+        ensures holes { AreHoles 0 (length self.now.contents) self.now.holes }
+    {
+        self.used
+    }
+
+    /// Some hole has n cells, so that a block of n can be taken.
+    pub fn fits(&self, n: u32) -> bool
+        ensures { result ≡ is_some (first_fit n self.now.holes) }
+    {
+        holes::find(self.region.slots(), self.head, n).is_some()
+    }
+
+    /// Takes a block of n cells, one at least, from the front of the lowest hole that has so many. The
+    /// hole keeps the rest. The block's cells are empty, and have no values.
+    ///
+    /// None where no hole has n cells.
+    pub fn take(&mut self, n: u32) -> Option<Block>
+        requires { 1 ≤ n }
+        ensures block { MatchOption result (first_fit n self.old.holes ≡ None) (λ b. (first_fit n self.old.holes ≡ Some b.at) × (b.len ≡ n)) }
+        ensures holes { MatchOption result (self.new ≡ self.old) (λ _. self.new.holes ≡ taken n self.old.holes) }
+        ensures cleared { IfSome result (λ b. (k : ℕ) → b.at ≤ k → k < b.at + n → slice_get self.new.contents k ≡ Some unset_cell) }
+        ensures kept { (k : ℕ) → IsOut k self.old.holes → slice_get self.new.contents k ≡ slice_get self.old.contents k }
+        ensures cells { length self.new.contents ≡ length self.old.contents }
+    {
+        let taken = holes::take(self.region.slots_mut(), self.head, n)?;
+        self.head = taken.head;
+        self.used += n;
+        Some(Block::new(taken.at, n))
+    }
+
+    /// Gives a block back: its cells are free, and one hole with those that they touch.
+    ///
+    /// The block has to be out.
+    pub fn give(&mut self, block: Block)
+        requires inside { block.at + block.len ≤ length self.old.contents }
+        requires out { (k : ℕ) → block.at ≤ k → k < block.at + block.len → IsOut k self.old.holes }
+        ensures holes { self.new.holes ≡ given (block.at, block.len) self.old.holes }
+        ensures kept { (k : ℕ) → IsOut k self.new.holes → slice_get self.new.contents k ≡ slice_get self.old.contents k }
+        ensures cells { length self.new.contents ≡ length self.old.contents }
+    {
+        let (at, len) = (block.at(), block.len());
+        self.head = holes::give(self.region.slots_mut(), self.head, at, len);
+        self.used -= len;
+    }
+
+    /// The slot of a cell.
+    ///
+    /// The cell has to be out.
+    pub fn get(&self, at: u32) -> Slot
+        requires inside { at < length self.now.contents }
+        requires out { IsOut at self.now.holes }
+        ensures { slice_get self.now.contents at ≡ Some result }
+    {
+        self.region.slots()[at as usize]
+    }
+
+    /// Writes the slot of a cell.
+    ///
+    /// The cell has to be out.
+    pub fn set(&mut self, at: u32, slot: Slot)
+        requires inside { at < length self.old.contents }
+        requires out { IsOut at self.old.holes }
+        ensures contents { self.new.contents ≡ slice_set self.old.contents at slot }
+        ensures holes { self.new.holes ≡ self.old.holes }
+    {
+        self.region.slots_mut()[at as usize] = slot;
+    }
+
+    /// The slots of a block, to be read and written.
+    ///
+    /// The block has to be out.
+    pub fn lend(&mut self, block: &Block) -> &mut [Slot]
+        requires inside { block.now.at + block.now.len ≤ length self.old.contents }
+        requires out { (k : ℕ) → block.now.at ≤ k → k < block.now.at + block.now.len → IsOut k self.old.holes }
+        ensures* writes_back { sem 𝓛 (LendsBlock self.entry block.now.at block.now.len result) }
+        ensures value { result.now ≡ slice_range self.old.contents block.now.at (block.now.at + block.now.len) }
+    {
+        self.region.lend(block.at() as usize, block.len() as usize)
+    }
+
+    /// The slots of one block, to be read, and of another, to be written.
+    ///
+    /// Both have to be out, and have no common cell.
+    pub fn lend_two(&mut self, from: &Block, to: &Block) -> (&[Slot], &mut [Slot])
+        requires from_inside { from.now.at + from.now.len ≤ length self.old.contents }
+        requires from_out { (k : ℕ) → from.now.at ≤ k → k < from.now.at + from.now.len → IsOut k self.old.holes }
+        requires to_inside { to.now.at + to.now.len ≤ length self.old.contents }
+        requires to_out { (k : ℕ) → to.now.at ≤ k → k < to.now.at + to.now.len → IsOut k self.old.holes }
+        requires apart { (from.now.at + from.now.len ≤ to.now.at) ⊎ (to.now.at + to.now.len ≤ from.now.at) }
+        ensures* writes_back { sem 𝓛 (LendsBlock self.entry to.now.at to.now.len result.1) }
+        ensures value { (result.0.now ≡ slice_range self.old.contents from.now.at (from.now.at + from.now.len)) × (result.1.now ≡ slice_range self.old.contents to.now.at (to.now.at + to.now.len)) }
+    {
+        self.region.lend_two(
+            from.at() as usize,
+            from.len() as usize,
+            to.at() as usize,
+            to.len() as usize,
+        )
+    }
+}

@@ -1,0 +1,13 @@
+//! An arena of cells: blocks of them are taken from its front, and given back in any order.
+//!
+//! No call takes memory but the one that makes the arena.
+#![tactic(auto)]
+
+mod arena;
+mod block;
+mod holes;
+pub mod laws;
+mod region;
+
+pub use arena::Arena;
+pub use block::Block;

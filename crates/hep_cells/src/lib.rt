@@ -1,0 +1,9 @@
+//! Accesses to cells: reading, assignment, the functions of states, and PURGE.
+//!
+//! Nothing here takes memory.
+#![tactic(auto)]
+
+pub mod access;
+pub mod cells;
+
+pub use access::{Access, CellState};

@@ -1,0 +1,3 @@
+mod Agreeing
+pub mod First
+pub mod Lines

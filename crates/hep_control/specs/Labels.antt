@@ -1,0 +1,45 @@
+-- One pass over the labels of a unit (X3.9-1978, 3.4).
+use Rattle.std.specs.Prelude.{ℕ, Bool, true, false, ◌||◌, nat_eq, if◌then◌else◌, List, [], ◌∷◌, ◌++◌, Option, Some, None, is_none}
+use Rattle.std.specs.List.{list_any}
+use Rattle.hep_source.specs.declared.statement.Statement.{Statement}
+use Rattle.hep_source.specs.Units.{is_executable}
+use Rattle.hep_machine.specs.Control.{index_labelled}
+use Rattle.hep_check.specs.Statements.{targets_of_jump, terminal_labels}
+use Rattle.hep_check.specs.Reported.{least_line, line_when, least_line_where}
+
+-- the label of a statement that one may go to
+abbrev pub executable_label : Statement → Option ℕ
+executable_label s = if is_executable s.form then s.label else None
+
+-- where a label is, once it is met again or first
+abbrev pub noted : Option ℕ → Bool → ℕ → Option ℕ
+noted (Some k) is_met index = Some k
+noted None is_met index = if is_met then Some index else None
+
+abbrev pub is_absent : List Statement → ℕ → Bool
+is_absent unit l = is_none (index_labelled unit l)
+
+-- a statement that goes to a label of no executable statement
+abbrev pub goes_nowhere : List Statement → Statement → Bool
+goes_nowhere unit s = list_any (is_absent unit) (targets_of_jump s.form ++ terminal_labels s.form)
+
+abbrev pub line_of : Statement → ℕ
+line_of s = s.line
+
+-- the least line of those among these statements
+abbrev pub least_unlabelled : List Statement → List Statement → Option ℕ
+least_unlabelled unit ss = least_line_where (goes_nowhere unit) line_of ss
+
+-- a label is among those that were seen
+abbrev pub is_seen : (ℕ → Bool) → Option ℕ → Bool
+is_seen seen None = false
+is_seen seen (Some l) = seen l
+
+abbrev pub with_seen : (ℕ → Bool) → Option ℕ → ℕ → Bool
+with_seen seen None k = seen k
+with_seen seen (Some l) k = nat_eq k l || seen k
+
+-- the least line of a statement whose label was seen, or a statement before it has
+abbrev pub least_repeated : (ℕ → Bool) → List Statement → Option ℕ
+least_repeated seen [] = None
+least_repeated seen (s ∷ ss) = least_line (line_when (is_seen seen s.label) s.line) (least_repeated (with_seen seen s.label) ss)

@@ -1,0 +1,38 @@
+-- 307 by lines (X3.9-1978, 11.5 to 11.10).
+use Rattle.std.specs.Prelude.{ℕ, Bool, true, not, nat_lt, if◌then◌else◌, List, map, Option, Some, None}
+use Rattle.hep_source.specs.declared.statement.Form.{Form}
+use Rattle.hep_source.specs.declared.statement.Form.TheVariants as form
+use Rattle.hep_source.specs.declared.statement.Statement.{Statement}
+use Rattle.hep_source.specs.Units.{line_at, statement_at}
+use Rattle.hep_machine.specs.Control.{index_labelled}
+use Rattle.hep_check.specs.Nesting.{IndexedStatement, is_unconditional, is_wrong_terminal, holds_wrongly}
+use Rattle.hep_check.specs.Types.{is_plain_integer_scalar}
+use Rattle.hep_check.specs.Reported.{least_line, line_when, least_line_of}
+
+-- for each statement whether its DO variable, where it has one, is a plain integer scalar
+abbrev pub has_loop_variable : List Statement → Form → Bool
+has_loop_variable unit (form.Do c) = is_plain_integer_scalar unit c.variable.name
+has_loop_variable unit _ = true
+
+abbrev pub loop_variables : List Statement → List Bool
+loop_variables unit = map (λ (s : Statement). has_loop_variable unit s.form) unit
+
+-- ---- the lines that statements by themselves tell
+
+abbrev pub terminal_line : List Statement → ℕ → ℕ → Option ℕ → Option ℕ
+terminal_line unit line k None = None
+terminal_line unit line k (Some t) =
+    least_line (line_when (nat_lt t k) line) (line_when (is_wrong_terminal (statement_at unit t)) (line_at unit t))
+
+abbrev pub loop_line : List Statement → Bool → ℕ → ℕ → Form → Option ℕ
+loop_line unit is_variable line k (form.Do c) =
+    least_line (line_when (not is_variable) line) (terminal_line unit line k (index_labelled unit c.terminal))
+loop_line unit is_variable line k _ = None
+
+abbrev pub statement_line : List Statement → Bool → IndexedStatement → Option ℕ
+statement_line unit is_variable p =
+    least_line (line_when (holds_wrongly p.statement.conditions p.statement.form) p.statement.line)
+    (if is_unconditional p.statement then loop_line unit is_variable p.statement.line p.index p.statement.form else None)
+
+abbrev pub least_statement : List Statement → List IndexedStatement → Option ℕ
+least_statement unit ps = least_line_of (λ (p : IndexedStatement). statement_line unit (has_loop_variable unit p.statement.form) p) ps

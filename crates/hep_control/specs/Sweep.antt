@@ -1,0 +1,41 @@
+-- Which intervals have a value that comes before them.
+use Rattle.std.specs.Prelude.{ℕ, suc, ◌+◌, ◌*◌, Bool, true, false, ◌&&◌, nat_lt, nat_le, List, [], ◌∷◌, Option, Some, None}
+use Rattle.std.specs.List.{list_any}
+use Rattle.hep_check.specs.Reported.{least_line, line_when, least_line_of}
+use Rattle.hep_control.specs.declared.sweep.Event.{Event}
+use Rattle.hep_control.specs.declared.sweep.Event.TheVariants.{Value, Question}
+
+abbrev pub is_within : ℕ → ℕ → ℕ → Bool
+is_within low high v = nat_le low v && nat_lt v high
+
+-- a value with a lesser key, from `low` to below `high`
+abbrev pub comes_before : ℕ → ℕ → ℕ → Event → Bool
+comes_before key low high (Value k v) = nat_lt k key && is_within low high v
+comes_before key low high (Question k l h line) = false
+
+-- what a question tells of these events
+abbrev pub line_asked : List Event → Event → Option ℕ
+line_asked events (Value k v) = None
+line_asked events (Question key low high line) = line_when (list_any (comes_before key low high) events) line
+
+-- the least line that the questions tell, in whatever order they stand
+abbrev pub least_met : List Event → Option ℕ
+least_met events = least_line_of (line_asked events) events
+
+-- ---- one pass over events in order
+
+abbrev pub rank : Event → ℕ
+rank (Value k v) = 2 * k + 1
+rank (Question k low high line) = 2 * k
+
+abbrev pub line_met : List ℕ → Event → Option ℕ
+line_met values (Value k v) = None
+line_met values (Question k low high line) = line_when (list_any (is_within low high) values) line
+
+abbrev pub with_event : Event → List ℕ → List ℕ
+with_event (Value k v) values = v ∷ values
+with_event (Question k low high line) values = values
+
+abbrev pub least_swept : List ℕ → List Event → Option ℕ
+least_swept values [] = None
+least_swept values (e ∷ es) = least_line (line_met values e) (least_swept (with_event e values) es)

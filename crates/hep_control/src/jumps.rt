@@ -1,0 +1,184 @@
+//! Jumps into DO ranges and IF blocks: 308 (X3.9-1978, 11.6.3, 11.7.2, 11.8.2 and 11.10.8).
+ghost use Rattle.std.specs.Prelude.{◌≡◌, ◌<◌, ◌++◌, IfOk, OnOk, length, map};
+ghost use Rattle.std.specs.List.{flat_map};
+ghost use Rattle.hep_machine.specs.Control.{role_of, index_labelled};
+ghost use Rattle.hep_check.specs.Nesting as nesting;
+ghost use Rattle.hep_check.specs.Statements.{targets_of_jump};
+ghost use Rattle.hep_check.specs.Reported.{least_line_of};
+ghost use Rattle.hep_check.specs.Violations.{first_of};
+ghost use Rattle.hep_source.specs.Units.{statement_at};
+ghost use Rattle.hep_control.specs.Jumps as spec;
+
+use crate::labels::Labels;
+use crate::region::{Jump, Region};
+use crate::regions::regions_of;
+use crate::reported::{lesser, line_when, reported};
+use crate::sweep::{Event, least_met};
+use hep_check::Violation;
+use hep_source::{Form, Statement};
+use std::alloc::{AllocError, Global};
+
+/// The first violation of 308: a jump into the range of a DO or a block of a block IF, or to an ELSE IF
+/// or ELSE.
+///
+/// # Errors
+///
+/// Only where memory was refused.
+pub fn jump_violation(alloc: Global, labels: &Labels) -> Result<Option<Violation>, AllocError>
+    ensures { IfOk result (λ violation. violation ≡ first_of (nesting.jump_violations labels.now)) }
+{
+    let regions = regions_of(alloc, labels)?;
+    let jumps = jumps_of(alloc, labels)?;
+    let late = least_met(alloc, events_by_start(alloc, &regions, &jumps)?)?;
+    let early = least_met(alloc, events_by_end(alloc, &regions, &jumps)?)?;
+    let division = least_to_division(labels.unit(), &jumps);
+    Ok(reported(308, lesser(lesser(late, early), division)))
+}
+
+// Where a statement goes with a label, if the label leads anywhere.
+fn add_jump(
+    jumps: &mut Vec<Jump>,
+    labels: &Labels,
+    from: usize,
+    line: u32,
+    label: u32,
+) -> Result<(), AllocError>
+    requires { from < length labels.now }
+    ensures { OnOk result (map spec.leap jumps.new.items
+        ≡ map spec.leap jumps.old.items ++ spec.leap_to from line (index_labelled labels.now label)) }
+{
+    if let Some(to) = labels.index_labelled(label) {
+        let count = labels.unit().len();
+        prove!(to < count);
+        prove!(from < count);
+        jumps.push(Jump { from, to, line })?;
+    }
+    Ok(())
+}
+
+fn add_jumps(
+    jumps: &mut Vec<Jump>,
+    labels: &Labels,
+    from: usize,
+    line: u32,
+    targets: &[u32],
+) -> Result<(), AllocError>
+    requires { from < length labels.now }
+    ensures { OnOk result (map spec.leap jumps.new.items
+        ≡ map spec.leap jumps.old.items ++ spec.leaps_by labels.now from line targets.now) }
+{
+    for label in targets {
+        add_jump(jumps, labels, from, line, *label)?;
+    }
+    Ok(())
+}
+
+fn add_jumps_at(
+    jumps: &mut Vec<Jump>,
+    labels: &Labels,
+    index: usize,
+    statement: &Statement,
+) -> Result<(), AllocError>
+    requires { index < length labels.now }
+    ensures { OnOk result (map spec.leap jumps.new.items
+        ≡ map spec.leap jumps.old.items ++ spec.leaps_at labels.now (record { index = index; statement = statement.now })) }
+{
+    let line = statement.line;
+    match &statement.form {
+        Form::GoTo(label) => add_jumps(jumps, labels, index, line, &[*label]),
+        Form::ComputedGoTo(targets, _) => {
+            add_jumps(jumps, labels, index, line, targets.as_slice())
+        }
+        Form::ArithmeticIf(_, signs) => {
+            let targets = [signs.negative, signs.zero, signs.positive];
+            add_jumps(jumps, labels, index, line, &targets)
+        }
+        _ => Ok(()),
+    }
+}
+
+// The jumps of a unit.
+fn jumps_of(alloc: Global, labels: &Labels) -> Result<Vec<Jump>, AllocError>
+    ensures { IfOk result (λ jumps. map spec.leap jumps.items ≡ spec.leaps_of labels.now) }
+{
+    let mut jumps = Vec::new(alloc);
+    for (index, statement) in labels.unit().iter().enumerate() {
+        add_jumps_at(&mut jumps, labels, index, statement)?;
+    }
+    Ok(jumps)
+}
+
+// Each region as a value from its start on, and whether it ends before the jump to a statement.
+fn events_by_start(
+    alloc: Global,
+    regions: &[Region],
+    jumps: &[Jump],
+) -> Result<Vec<Event>, AllocError>
+    ensures { IfOk result (λ events. events.items ≡ map spec.value_by_start regions.now ++ map spec.question_by_start jumps.now) }
+{
+    let mut events = Vec::new(alloc);
+    for region in regions {
+        events.push(Event::Value {
+            key: region.after,
+            value: region.before,
+        })?;
+    }
+    for jump in jumps {
+        events.push(Event::Question {
+            key: jump.to,
+            low: jump.to + 1,
+            high: jump.from + 1,
+            line: jump.line,
+        })?;
+    }
+    Ok(events)
+}
+
+// The same from the end of the unit.
+fn events_by_end(
+    alloc: Global,
+    regions: &[Region],
+    jumps: &[Jump],
+) -> Result<Vec<Event>, AllocError>
+    ensures { IfOk result (λ events. events.items ≡ map spec.value_by_end regions.now ++ map spec.question_by_end jumps.now) }
+{
+    let mut events = Vec::new(alloc);
+    for region in regions {
+        events.push(Event::Value {
+            key: usize::MAX - region.before,
+            value: region.after,
+        })?;
+    }
+    for jump in jumps {
+        events.push(Event::Question {
+            key: usize::MAX - jump.to,
+            low: jump.from,
+            high: jump.to,
+            line: jump.line,
+        })?;
+    }
+    Ok(events)
+}
+
+// The least line of a jump to an ELSE IF or ELSE.
+fn least_to_division(unit: &[Statement], jumps: &[Jump]) -> Option<u32>
+    ensures { result ≡ least_line_of (spec.line_to_division unit.now) jumps.now }
+{
+    let mut least = None;
+    for jump in jumps {
+        least = lesser(least, line_when(is_division(unit, jump.to), jump.line));
+    }
+    least
+}
+
+fn is_division(unit: &[Statement], index: usize) -> bool
+    ensures { result ≡ nesting.is_division (role_of (statement_at unit.now index)) }
+{
+    match unit.get(index) {
+        Some(statement) => {
+            statement.conditions.as_slice().is_empty()
+                && matches!(statement.form, Form::ElseIf(_) | Form::Else)
+        }
+        None => false,
+    }
+}

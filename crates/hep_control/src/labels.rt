@@ -1,0 +1,177 @@
+//! The labels of a unit: where they lead, and 306 (X3.9-1978, 3.4).
+ghost use Rattle.std.specs.Prelude.{◌≡◌, ℕ, ◌<◌, nat_eq, false, length, IfOk, IfSome, OnOk, ◌++◌};
+ghost use Rattle.std.specs.List.{list_any};
+ghost use Rattle.std.specs.Option.{is_none};
+ghost use Rattle.indexmap.specs.IndexMap.{get};
+ghost use Rattle.indexmap.specs.IndexSet.{contains};
+ghost use Rattle.hep_machine.specs.Control as control;
+ghost use Rattle.hep_check.specs.Labels.{label_violations};
+ghost use Rattle.hep_check.specs.Statements.{targets_of_jump, terminal_labels};
+ghost use Rattle.hep_check.specs.Violations.{first_of};
+ghost use Rattle.hep_control.specs.Labels as passes;
+
+use crate::reported::{lesser, line_when, reported};
+use hep_check::Violation;
+use hep_source::{Form, Statement};
+use indexmap::{IndexMap, IndexSet};
+use std::alloc::{AllocError, Global};
+use std::marker::Model;
+
+/// A unit with a table of its labels. Contracts see the unit.
+#[derive(Drop)]
+pub struct Labels<'a> {
+    unit: &'a [Statement],
+    indices: IndexMap<u32, usize>,
+}
+
+impl<'a> Model for Labels<'a> {
+    ghost use Rattle.std.specs.Prelude.{◌≡◌, ℕ, nat_eq, List};
+    ghost use Rattle.indexmap.specs.IndexMap.{get};
+    ghost use Rattle.hep_source.specs.declared.statement.Statement.{Statement};
+    ghost use Rattle.hep_machine.specs.Control.{index_labelled};
+    ghost use Rattle.std.specs.Coded.{codes};
+    ghost use Rattle.hep_source.specs.contracts.expression.Expr as expression;
+
+    ghost Value = { List Statement };
+
+    ghost coded = { Prim.hlevel (codes, expression.the_row.coded) };
+
+    ghost view = { λ s. s.unit.now };
+
+    ghost invariant = { λ s. (l : ℕ) → get nat_eq s.indices l ≡ index_labelled s.unit.now l };
+}
+
+impl<'a> Labels<'a> {
+    /// Goes through the statements of a unit once.
+    ///
+    /// # Errors
+    ///
+    /// Only where memory was refused.
+    pub fn new(alloc: Global, unit: &'a [Statement]) -> Result<Labels<'a>, AllocError>
+        ensures { IfOk result (λ labels. labels ≡ unit.now) }
+    {
+        let mut indices = IndexMap::new(alloc);
+        for (index, statement) in unit.iter().enumerate() {
+            if let Some(label) = executable_label(statement) {
+                note(&mut indices, label, index)?;
+            }
+        }
+        Ok(Labels { unit, indices })
+    }
+
+    /// The statements of the unit.
+    pub fn unit(&self) -> &'a [Statement]
+        ensures { result.now ≡ self.now }
+    {
+        self.unit
+    }
+
+    /// The index of the first executable statement with a label.
+    pub fn index_labelled(&self, label: u32) -> Option<usize>
+        ensures index { result ≡ control.index_labelled self.now label }
+        ensures in_unit { IfSome result (λ index. index < length self.now) }
+    {
+        self.indices.get(&label).copied()
+    }
+
+    fn is_absent(&self, label: u32) -> bool
+        ensures { result ≡ passes.is_absent self.now label }
+    {
+        self.index_labelled(label).is_none()
+    }
+}
+
+/// The first violation of 306: a label that a statement goes to is on no executable statement, or two
+/// statements have one label.
+///
+/// # Errors
+///
+/// Only where memory was refused.
+pub fn label_violation(alloc: Global, labels: &Labels) -> Result<Option<Violation>, AllocError>
+    ensures { IfOk result (λ violation. violation ≡ first_of (label_violations labels.now)) }
+{
+    let unlabelled = least_unlabelled(labels);
+    let repeated = least_repeated(alloc, labels.unit())?;
+    Ok(reported(306, lesser(unlabelled, repeated)))
+}
+
+// The least line of a statement that goes to no statement.
+fn least_unlabelled(labels: &Labels) -> Option<u32>
+    ensures { result ≡ passes.least_unlabelled labels.now labels.now }
+{
+    let mut least = None;
+    for statement in labels.unit() {
+        let is_reported = goes_nowhere(labels, &statement.form);
+        least = lesser(least, line_when(is_reported, statement.line));
+    }
+    least
+}
+
+// Whether no executable statement has some label that a statement goes to.
+fn goes_nowhere(labels: &Labels, form: &Form) -> bool
+    ensures { result ≡ list_any (passes.is_absent labels.now) (targets_of_jump form.now ++ terminal_labels form.now) }
+{
+    match form {
+        Form::GoTo(label) => labels.is_absent(*label),
+        Form::ComputedGoTo(targets, _) => targets
+            .as_slice()
+            .iter()
+            .any(|label| labels.is_absent(*label)),
+        Form::ArithmeticIf(_, signs) => {
+            labels.is_absent(signs.negative)
+                || labels.is_absent(signs.zero)
+                || labels.is_absent(signs.positive)
+        }
+        Form::Do(control) => labels.is_absent(control.terminal),
+        _ => false,
+    }
+}
+
+// The least line of a statement whose label a statement before it has.
+fn least_repeated(alloc: Global, unit: &[Statement]) -> Result<Option<u32>, AllocError>
+    ensures { IfOk result (λ line. line ≡ passes.least_repeated (λ l. false) unit.now) }
+{
+    let mut seen = IndexSet::new(alloc);
+    let mut least = None;
+    for statement in unit {
+        let is_reported = is_repeated(&mut seen, statement.label)?;
+        least = lesser(least, line_when(is_reported, statement.line));
+    }
+    Ok(least)
+}
+
+// Whether a label is among those that were seen; from now on it is.
+fn is_repeated(seen: &mut IndexSet<u32>, label: Option<u32>) -> Result<bool, AllocError>
+    ensures repeated { IfOk result (λ it. it ≡ passes.is_seen (contains nat_eq seen.old) label) }
+    ensures seen { OnOk result ((l : ℕ) → contains nat_eq seen.new l ≡ passes.with_seen (contains nat_eq seen.old) label l) }
+{
+    match label {
+        Some(label) => Ok(!seen.insert(label)?),
+        None => Ok(false),
+    }
+}
+
+// The label of a statement, if the statement is executable.
+fn executable_label(statement: &Statement) -> Option<u32>
+    ensures { result ≡ passes.executable_label statement.now }
+{
+    match statement.form {
+        Form::Program(_)
+        | Form::Subroutine(..)
+        | Form::Implicit(_)
+        | Form::Declare(..)
+        | Form::Dimension(_)
+        | Form::Common(_)
+        | Form::Parameter(_)
+        | Form::Data(_) => None,
+        _ => statement.label,
+    }
+}
+
+// Notes where a label is, unless it is noted already.
+fn note(indices: &mut IndexMap<u32, usize>, label: u32, index: usize) -> Result<(), AllocError>
+    ensures { OnOk result ((l : ℕ) → get nat_eq indices.new l ≡ passes.noted (get nat_eq indices.old l) (nat_eq label l) index) }
+{
+    indices.entry(label)?.or_insert(index);
+    Ok(())
+}

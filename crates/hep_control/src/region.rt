@@ -1,0 +1,30 @@
+//! What a jump may not lead into, and jumps (X3.9-1978, 11.6.3, 11.7.2, 11.8.2 and 11.10.8).
+ghost use Rattle.std.below.core.specs.declared.int.usize.TheConstants.{MAX};
+ghost use Rattle.std.specs.Prelude.{◌≡◌, ◌<◌, ◌≤◌};
+
+// The statements from after one up to before another: a DO range or an IF block.
+#[derive(Drop)]
+pub(crate) struct Region {
+    pub after: usize,
+    pub before: usize,
+    ghost counted: { before ≤ MAX },
+}
+
+impl Region {
+    pub(crate) fn new(after: usize, before: usize) -> Region
+        ensures after { result.after ≡ after }
+        ensures before { result.before ≡ before }
+    {
+        Region { after, before }
+    }
+}
+
+// A statement that may go to another one.
+#[derive(Drop)]
+pub(crate) struct Jump {
+    pub from: usize,
+    pub to: usize,
+    pub line: u32,
+    ghost from_counted: { from < MAX },
+    ghost to_counted: { to < MAX },
+}

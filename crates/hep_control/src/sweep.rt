@@ -1,0 +1,74 @@
+//! Which intervals have a value that comes before them.
+ghost use Rattle.std.specs.Prelude.{◌≡◌, ℕ, Bool, IfOk, OnOk};
+ghost use Rattle.std.specs.List.{list_any};
+ghost use Rattle.hep_control.specs.Sweep as sweep;
+
+use crate::reported::{lesser, line_when};
+use std::alloc::{AllocError, Global};
+use std::collections::BTreeSet;
+
+// A value, or a question for values, in an order by their keys.
+#[derive(Drop)]
+pub(crate) enum Event {
+    Value {
+        key: usize,
+        value: usize,
+    },
+    // Tells a line where a value with a lesser key is from `low` to below `high`.
+    Question {
+        key: usize,
+        low: usize,
+        high: usize,
+        line: u32,
+    },
+}
+
+// A question comes before the values with its key.
+fn rank(event: &Event) -> u128
+    ensures { result ≡ sweep.rank event.now }
+{
+    match event {
+        Event::Value { key, .. } => 2 * (*key as u128) + 1,
+        Event::Question { key, .. } => 2 * (*key as u128),
+    }
+}
+
+// The least line that these questions tell of these values.
+pub(crate) fn least_met(alloc: Global, mut events: Vec<Event>) -> Result<Option<u32>, AllocError>
+    ensures { IfOk result (λ line. line ≡ sweep.least_met events.items) }
+{
+    events.sort_by_key(|event| rank(event))?;
+    let mut values = BTreeSet::new(alloc);
+    let mut least = None;
+    for event in &events {
+        let line = line_met(&mut values, event)?;
+        least = lesser(least, line);
+    }
+    Ok(least)
+}
+
+// What an event tells of the values before it; from now on its own is among them.
+fn line_met(values: &mut BTreeSet<usize>, event: &Event) -> Result<Option<u32>, AllocError>
+    ensures line { IfOk result (λ line. line ≡ sweep.line_met values.old.keys event.now) }
+    ensures values { OnOk result ((test : ℕ → Bool) → list_any test values.new.keys ≡ list_any test (sweep.with_event event.now values.old.keys)) }
+{
+    match event {
+        Event::Value { value, .. } => {
+            values.insert(*value)?;
+            Ok(None)
+        }
+        Event::Question {
+            low,
+            high,
+            line,
+            ..
+        } => Ok(line_when(has_within(values, *low, *high), *line)),
+    }
+}
+
+// Whether some value is from `low` to below `high`.
+fn has_within(values: &BTreeSet<usize>, low: usize, high: usize) -> bool
+    ensures { result ≡ list_any (sweep.is_within low high) values.now.keys }
+{
+    low < high && values.range(low..high).next().is_some()
+}

@@ -1,0 +1,9 @@
+//! The lines that tell of a core at its end: its faults, and the processes that wait.
+#![tactic(auto)]
+
+pub mod faults;
+mod number;
+pub mod waiting;
+
+pub use faults::{append_fault, append_faults, fault_text};
+pub use waiting::{Listed, append_waiting, waiting_text};

@@ -1,0 +1,89 @@
+-- A text of lines has one reading at most.
+use Rattle.std.proofs.Common.{◌≡◌, ◌≢◌, inl, inr, ℕ, ◌+◌, ◌^◌, ◌<◌, ◌≤◌, List, [], ◌∷◌, ◌++◌, length, refl, sym, ap, ◌∙◌, arith, append_assoc, append-nil, length-append}
+use Rattle.std.specs.List.{AllByRecursion, flat_map}
+use Rattle.hep_history.specs.Lines.{AreLines, IsFirstBad, IsRefusedText, most_bytes}
+
+-- nothing is left after the lines
+nothing_left : (text front rest : List ℕ) → text ≡ front ++ rest → length rest ≡ 0 → text ≡ front
+nothing_left text front [] e h = e ∙ append-nil front
+nothing_left text front (c ∷ rest) e h = absurd (omega arith)
+
+-- no line is empty or begins another
+pub record AreApart {A : Type 0} (line : A → List ℕ) (Allows : A → Type 0) : Type 0 where
+  pub filled : (x : A) → 0 < length (line x)
+  pub apart : (x y : A) (a b : List ℕ) → Allows x → Allows y → line x ++ a ≡ line y ++ b → (x ≡ y) × (a ≡ b)
+
+module _ {A : Type 0} (line : A → List ℕ) (Allows : A → Type 0) (lines : AreApart line Allows) where
+  -- no line stands at the front
+  abbrev Stops : List ℕ → Type 0
+  Stops rest = (x : A) (more : List ℕ) → Allows x → rest ≢ line x ++ more
+
+  nothing_stops : Stops []
+  nothing_stops x more h e = omega (arith, lines.filled x, length-append (line x) more, ap length e)
+
+  same_lines : (xs ys : List A) (rest more : List ℕ) → AllByRecursion Allows xs → AllByRecursion Allows ys → Stops rest → Stops more
+      → flat_map line xs ++ rest ≡ flat_map line ys ++ more → (xs ≡ ys) × (rest ≡ more)
+  same_lines [] [] rest more p q s t e = (refl, e)
+  same_lines [] (y ∷ ys) rest more p q s t e = absurd (s y (flat_map line ys ++ more) q.0 (e ∙ append_assoc (line y) (flat_map line ys) more))
+  same_lines (x ∷ xs) [] rest more p q s t e = absurd (t x (flat_map line xs ++ rest) p.0 (sym e ∙ append_assoc (line x) (flat_map line xs) rest))
+  same_lines (x ∷ xs) (y ∷ ys) rest more p q s t e =
+      let front = lines.apart x y (flat_map line xs ++ rest) (flat_map line ys ++ more) p.0 q.0 (
+      sym (append_assoc (line x) (flat_map line xs) rest) ∙ e ∙ append_assoc (line y) (flat_map line ys) more) in
+      let rest_after = same_lines xs ys rest more p.1 q.1 s t front.1 in
+      let same : x ∷ xs ≡ y ∷ ys = cc (front.0, rest_after.0) in
+      (same, rest_after.1)
+
+  -- there are no more lines than bytes
+  count_within : (xs : List A) → length xs ≤ length (flat_map line xs)
+  count_within [] = omega arith
+  count_within (x ∷ xs) = omega (arith, lines.filled x, count_within xs, length-append (line x) (flat_map line xs))
+
+  one_reading : (text : List ℕ) (xs ys : List A) → AreLines line Allows text xs → AreLines line Allows text ys → xs ≡ ys
+  one_reading text xs ys p q =
+      (same_lines xs ys [] [] p.each q.each nothing_stops nothing_stops (append-nil (flat_map line xs) ∙ sym p.whole ∙ q.whole ∙ sym (append-nil (flat_map line ys)))).0
+
+  -- a text that is refused is that of nothing
+  not_both : (text : List ℕ) (k : ℕ) (ys : List A) → IsRefusedText line Allows text k → AreLines line Allows text ys → ⊥
+  not_both text k ys (inl p) q = omega (arith, p.1, q.size)
+  not_both text k ys (inr p) q =
+      p.1.some (same_lines p.1.before ys p.1.rest [] p.1.each q.each p.1.none nothing_stops (sym p.1.whole ∙ q.whole ∙ sym (append-nil (flat_map line ys)))).1
+
+  -- a line is bad first at one place only
+  one_bad : (text : List ℕ) (j k : ℕ) → IsFirstBad line Allows text j → IsFirstBad line Allows text k → j ≡ k
+  one_bad text j k p q =
+      let same = (same_lines p.before q.before p.rest q.rest p.each q.each p.none q.none (sym p.whole ∙ q.whole)).0 in
+      p.place ∙ ap (λ (xs : List A). length xs + 1) same ∙ sym q.place
+
+  -- of a text that isn't too long, these lines were read, and a rest is left
+  module _ (text rest : List ℕ) (xs : List A) (size : length text ≤ most_bytes) (split : text ≡ flat_map line xs ++ rest) (each : AllByRecursion Allows xs) where
+    -- the number of the next line fits
+    pub count_fits : length xs + 1 < 2 ^ 32
+    count_fits = omega (arith, size, count_within xs, ap length split, length-append (flat_map line xs) rest)
+
+    -- nothing is left, and whatever the text is the lines of is what was read
+    pub read_whole : length rest ≡ 0 → (ys : List A) → AreLines line Allows text ys → xs ≡ ys
+    read_whole none ys h = one_reading text xs ys (record { size = size; whole = nothing_left text (flat_map line xs) rest split none; each = each }) h
+
+    -- no line stands in front of what is left, and the text is the lines of nothing
+    pub read_short : rest ≢ [] → Stops rest → (ys : List A) → AreLines line Allows text ys → ⊥
+    read_short some none ys h =
+        not_both text (length xs + 1) ys (inr (size, record { before = xs; rest = rest; place = refl; whole = split; each = each; some = some; none = none })) h
+
+  pub one_refusal : (text : List ℕ) (j k : ℕ) → IsRefusedText line Allows text j → IsRefusedText line Allows text k → j ≡ k
+  one_refusal text j k (inl p) (inl q) = p.0 ∙ sym q.0
+  one_refusal text j k (inl p) (inr q) = absurd (omega (arith, p.1, q.0))
+  one_refusal text j k (inr p) (inl q) = absurd (omega (arith, q.1, p.0))
+  one_refusal text j k (inr p) (inr q) = one_bad text j k p.1 q.1
+
+  pub same_texts : (xs ys : List A) → AllByRecursion Allows xs → AllByRecursion Allows ys → flat_map line xs ≡ flat_map line ys → xs ≡ ys
+  same_texts xs ys p q e = (same_lines xs ys [] [] p q nothing_stops nothing_stops (append-nil (flat_map line xs) ∙ e ∙ sym (append-nil (flat_map line ys)))).0
+
+-- ---- one line more
+
+pub lines_more : {A B : Type 0} (line : A → List B) (xs : List A) (x : A) → flat_map line (xs ++ x ∷ []) ≡ flat_map line xs ++ line x
+lines_more line [] x = append-nil (line x)
+lines_more line (y ∷ xs) x = ap (λ l. line y ++ l) (lines_more line xs x) ∙ sym (append_assoc (line y) (flat_map line xs) (line x))
+
+pub all_more : {A : Type 0} (P : A → Type 0) (xs : List A) (x : A) → AllByRecursion P xs → P x → AllByRecursion P (xs ++ x ∷ [])
+all_more P [] x h p = (p, tt)
+all_more P (y ∷ xs) x h p = (h.0, all_more P xs x h.1 p)

@@ -1,0 +1,196 @@
+-- Turns of a core, one after the other.
+use Rattle.std.proofs.Common.{◌≡◌, ◌≢◌, ℕ, zero, suc, ◌+◌, ◌<◌, ◌≤◌, Bool, true, false, List, [], ◌∷◌, ◌++◌, Option, Some, None, Ok, Err, length, length-append, replicate, refl, sym, ap, ◌∙◌, subst, arith, append_assoc, add-one, inl, inr}
+use Rattle.std.proofs.Math.Bool.{beq}
+use Rattle.std.proofs.lemmas.List.{length-replicate, replicate-append-replicate}
+use Rattle.std.specs.Prelude.{if◌then◌else◌, is_some}
+use Rattle.std.specs.Option.{unwrap_or}
+use Rattle.hep_machine.specs.declared.event.Entry.{Entry}
+use Rattle.hep_machine.specs.Layout.{has_frame}
+use Rattle.hep_machine.specs.Opening.{opening}
+use Rattle.hep_machine.specs.Processes.{living}
+use Rattle.hep_machine.specs.Run.{run, run_from, state_after_turn, AreSteps, schedule_of, state_after}
+use Rattle.hep_machine.specs.State.{State}
+use Rattle.hep_machine.specs.Step.{StepResult, stepped, waiting, absent, step_result_of, step_result_of_top, state_made, step, wanted_of, is_waiting}
+use Rattle.hep_source.specs.Units.{Units}
+use Rattle.hep_machine.specs.Views.{view_of}
+use Rattle.hep_core.specs.declared.fault.ChooseFault.TheVariants as refused
+use Rattle.hep_core.specs.declared.stop.Stop.{Stop}
+use Rattle.hep_core.specs.declared.stop.Stop.TheVariants.{Halted}
+use Rattle.hep_core.specs.declared.stop.Turn.{Turn as CoreTurn}
+use Rattle.hep_core.specs.Value.{CoreValue, state_of, core_after_choice, stop_after, HasNoStop, IsTurn, IsChoice}
+use Rattle.hep_history.specs.Progress.{IsStanding, longer, HasTurn, turn_entry, TurnMade}
+use Rattle.hep_history.specs.Replays.{most_entries, standing}
+
+-- ---- what a process does next
+
+-- what made a step waits for nothing
+stepped_goes_on : (t : StepResult) (halted : Bool) (s : State) → (if halted then None else state_made t) ≡ Some s → is_some (wanted_of t) ≡ true → ⊥
+stepped_goes_on t true s e w = absurd (cc (e))
+stepped_goes_on (stepped s') false s e w = absurd (cc (w))
+stepped_goes_on (waiting x) false s e w = absurd (cc (e))
+stepped_goes_on absent false s e w = absurd (cc (w))
+
+pub step_or_wait : (program : Units) (p : ℕ) (s s' : State) → step program p s ≡ Some s' → is_waiting program s p ≡ true → ⊥
+step_or_wait program p s s' e w = stepped_goes_on (step_result_of program p s) s.halted s' e w
+
+-- what waits makes no step
+waits_still : (t : StepResult) (halted : Bool) → is_some (wanted_of t) ≡ true → (if halted then None else state_made t) ≡ None
+waits_still t true w = refl
+waits_still (stepped s) false w = absurd (cc (w))
+waits_still (waiting x) false w = refl
+waits_still absent false w = refl
+
+pub waiting_stays : (program : Units) (p : ℕ) (s : State) → is_waiting program s p ≡ true → step program p s ≡ None
+waiting_stays program p s w = waits_still (step_result_of program p s) s.halted w
+
+-- a halted machine makes no step
+pub halted_stays : (program : Units) (p : ℕ) (s : State) → s.halted ≡ true → step program p s ≡ None
+halted_stays program p s h = ap (λ (b : Bool). if b then None else state_made (step_result_of program p s)) h
+
+nothing_made : (b : Bool) → (if b then None else state_made absent) ≡ None
+nothing_made true = refl
+nothing_made false = refl
+
+-- what doesn't live makes no step, and doesn't wait
+pub dead_stays : (program : Units) (p : ℕ) (s : State) → living s p ≡ None → (step program p s ≡ None) × (is_waiting program s p ≡ false)
+unfolding step_result_of
+dead_stays program p s dead = (
+  ap (λ o. if s.halted then None else state_made (step_result_of_top program s p o)) dead ∙ nothing_made s.halted,
+  ap (λ o. is_some (wanted_of (step_result_of_top program s p o))) dead,
+)
+
+-- ---- states after longer histories
+
+pub schedule_of-append : (es fs : List Entry) → schedule_of (es ++ fs) ≡ schedule_of es ++ schedule_of fs
+unfolding schedule_of
+schedule_of-append [] fs = refl
+schedule_of-append (e ∷ es) fs = ap (λ ps. replicate e.steps e.process ++ ps) (schedule_of-append es fs) ∙ sym (append_assoc (replicate e.steps e.process) (schedule_of es) (schedule_of fs))
+
+run_after : (program : Units) (s : State) (ps qs : List ℕ) → run_from program s (ps ++ qs) ≡ run_from program (run_from program s ps) qs
+unfolding run_from
+run_after program s [] qs = refl
+run_after program s (p ∷ ps) qs = run_after program (state_after_turn program p s) ps qs
+
+pub state_after_statement : (program : Units) (es fs : List Entry) → state_after program (es ++ fs) ≡ run_from program (state_after program es) (schedule_of fs)
+unfolding state_after run
+state_after_statement program es fs = ap (run_from program (opening program)) (schedule_of-append es fs) ∙ run_after program (opening program) (schedule_of es) (schedule_of fs)
+
+-- the state after a turn that was made
+state_stepped : (program : Units) (es : List Entry) (p : ℕ) (s : State) → step program p (state_after program es) ≡ Some s → state_after program (es ++ turn_entry p false ∷ []) ≡ s
+unfolding run_from schedule_of
+state_stepped program es p s e = state_after_statement program es (turn_entry p false ∷ []) ∙ ap (λ o. unwrap_or o (state_after program es)) e
+
+state_waited : (program : Units) (es : List Entry) (p : ℕ) → state_after program (es ++ turn_entry p true ∷ []) ≡ state_after program es
+unfolding run_from schedule_of
+state_waited program es p = state_after_statement program es (turn_entry p true ∷ [])
+
+-- ---- one choice
+
+some_is_not_none : (s : State) (o : Option State) → o ≡ Some s → o ≡ None → ⊥
+some_is_not_none s o e n = cc
+
+-- a core with this history and state
+with_state : Units → ℕ → ℕ → List Entry → State → CoreValue
+with_state program cells limit history s = record { program = program; cells = cells; limit = limit; history = history; stop = stop_after s; view = view_of program has_frame s }
+
+-- a choice that was made leaves the core with one entry more
+grown_is : (old : CoreValue) (p n : ℕ) (s : State) → old.limit ≡ most_entries → state_after old.program (old.history ++ record { process = p; steps = n } ∷ []) ≡ s → core_after_choice old p n s ≡ longer old (record { process = p; steps = n } ∷ [])
+unfolding with_state
+grown_is old p n s limit same =
+    let history : List Entry = old.history ++ record { process = p; steps = n } ∷ [] in
+    ap (λ (l : ℕ). with_state old.program old.cells l history s) limit ∙ ap (λ (t : State). with_state old.program old.cells most_entries history t) (sym same)
+
+limit_is : (old : CoreValue) → IsStanding old → old.limit ≡ most_entries
+limit_is old h = ap (λ c. c.limit) h
+
+turned : (old new : CoreValue) (p n : ℕ) (blocked waits : Bool) → IsStanding old → HasNoStop old → length old.history < old.limit → IsTurn old p n blocked new → TurnMade old p waits (Ok (beq blocked waits)) new
+turned old new p zero true true h going room t =
+    (omega (arith, limit_is old h), (going.1, t.0), t.1 ∙ grown_is old p 0 (state_of old) (limit_is old h) (state_waited old.program old.history p))
+turned old new p zero true false h going room t = λ within has. has (waiting_stays old.program p (state_of old) t.0)
+turned old new p (suc zero) false true h going room t = λ within has. step_or_wait old.program p (state_of old) t.0 t.1 has.1
+turned old new p (suc zero) false false h going room t = (
+  omega (arith, limit_is old h),
+  (λ none. some_is_not_none t.0 (step old.program p (state_of old)) t.1 none),
+  t.2 ∙ grown_is old p 1 t.0 (limit_is old h) (state_stepped old.program old.history p t.0 t.1),
+)
+turned old new p zero false waits h going room t = absurd t
+turned old new p (suc zero) true waits h going room t = absurd t
+turned old new p (suc (suc n)) blocked waits h going room t = absurd t
+
+pub turn_made : (old new : CoreValue) (p : ℕ) (waits : Bool) (t : CoreTurn) → IsStanding old → IsChoice old p (Ok t) new → TurnMade old p waits (Ok (beq t.blocked waits)) new
+turn_made old new p waits t h c = turned old new p t.steps t.blocked waits h c.0 c.1 c.2
+
+no_turn : (program : Units) (s : State) (p : ℕ) (waits : Bool) → living s p ≡ None → HasTurn program s p waits → ⊥
+no_turn program s p true dead has = absurd (cc (has.1, (dead_stays program p s dead).1))
+no_turn program s p false dead has = has (dead_stays program p s dead).0
+
+pub nobody_turns : (old new : CoreValue) (p : ℕ) (waits : Bool) → IsChoice old p (Err refused.NoSuchProcess) new → TurnMade old p waits (Ok false) new
+nobody_turns old new p waits c = λ room has. no_turn old.program (state_of old) p waits c.1 has
+
+is_halted : (s : State) (stop : Stop) → stop_after s ≡ Some stop → s.halted ≡ true
+is_halted s stop e = halted_by s.halted stop e
+  where
+    halted_by : (b : Bool) (stop : Stop) → (if b then Some Halted else None) ≡ Some stop → b ≡ true
+    halted_by true stop e = refl
+    halted_by false stop e = absurd (cc (e))
+
+halted_turn : (program : Units) (s : State) (p : ℕ) (waits : Bool) → s.halted ≡ true → HasTurn program s p waits → ⊥
+halted_turn program s p true halted has = absurd (cc (halted, has.0))
+halted_turn program s p false halted has = has (halted_stays program p s halted)
+
+pub stopped_turns : (old new : CoreValue) (p : ℕ) (waits : Bool) (stop : Stop) → IsStanding old → IsChoice old p (Err (refused.Stopped stop)) new → TurnMade old p waits (Ok false) new
+stopped_turns old new p waits stop h (inl c) = λ room has.
+    halted_turn old.program (state_of old) p waits (is_halted (state_of old) stop (sym (ap (λ k. k.stop) h) ∙ c.0)) has
+stopped_turns old new p waits stop h (inr c) = λ room has. omega (arith, limit_is old h, c.2)
+
+-- ---- many turns
+
+pub standing_longer : (old mid : CoreValue) (more : List Entry) → mid ≡ longer old more → IsStanding mid
+standing_longer old mid more e = subst IsStanding (sym e) refl
+
+abbrev pub one : ℕ → Entry
+one p = record { process = p; steps = 1 }
+
+pub expand_ones : (p n : ℕ) → schedule_of (replicate n (one p)) ≡ replicate n p
+unfolding schedule_of
+expand_ones p zero = refl
+expand_ones p (suc n) = ap (λ ps. p ∷ ps) (expand_ones p n)
+
+state_ones : (program : Units) (es : List Entry) (p n : ℕ) → state_after program (es ++ replicate n (one p)) ≡ run_from program (state_after program es) (replicate n p)
+state_ones program es p n = state_after_statement program es (replicate n (one p)) ∙ ap (run_from program (state_after program es)) (expand_ones p n)
+
+steps_last : (program : Units) (s : State) (p i : ℕ) → AreSteps program s (replicate i p) → step program p (run_from program s (replicate i p)) ≢ None → AreSteps program s (replicate (suc i) p)
+unfolding run_from
+steps_last program s p zero h more = (more, tt)
+steps_last program s p (suc i) h more = (h.0, steps_last program (state_after_turn program p s) p i h.1 more)
+
+steps_at : (program : Units) (s : State) (p i n : ℕ) → i < n → AreSteps program s (replicate n p) → step program p (run_from program s (replicate i p)) ≢ None
+unfolding run_from
+steps_at program s p i zero lt h = absurd (omega arith)
+steps_at program s p zero (suc n) lt h = h.0
+steps_at program s p (suc i) (suc n) lt h = steps_at program (state_after_turn program p s) p i n (omega arith) h.1
+
+one_last : (x : Entry) (i : ℕ) → replicate i x ++ x ∷ [] ≡ replicate (i + 1) x
+one_last x i = replicate-append-replicate i 1 x
+
+-- the loop over steps goes on
+pub steps_more : (old mid new : CoreValue) (p i : ℕ) → AreSteps old.program (state_of old) (replicate i p) → mid ≡ longer old (replicate i (one p)) → TurnMade mid p false (Ok true) new
+    → (length old.history + (i + 1) ≤ most_entries) × AreSteps old.program (state_of old) (replicate (i + 1) p) × (new ≡ longer old (replicate (i + 1) (one p)))
+steps_more old mid new p i steps made t =
+    let u = subst (λ (m : CoreValue). TurnMade m p false (Ok true) new) made t in
+    let there : step old.program p (run_from old.program (state_of old) (replicate i p)) ≢ None =
+    subst (λ (s : State). step old.program p s ≢ None) (state_ones old.program old.history p i) u.1 in
+    let history : (old.history ++ replicate i (one p)) ++ one p ∷ [] ≡ old.history ++ replicate (i + 1) (one p) =
+    append_assoc old.history (replicate i (one p)) (one p ∷ []) ∙ ap (λ (es : List Entry). old.history ++ es) (one_last (one p) i) in (
+      omega (arith, u.0, length-append old.history (replicate i (one p)), length-replicate i (one p)),
+      rw add-one (steps_last old.program (state_of old) p i steps there),
+      u.2 ∙ ap (λ (es : List Entry). standing old.program old.cells es) history,
+    )
+
+-- a step that isn't there ends it
+pub steps_end : (old mid new : CoreValue) (p i n : ℕ) → i < n → mid ≡ longer old (replicate i (one p)) → TurnMade mid p false (Ok false) new
+    → length old.history + n ≤ most_entries → AreSteps old.program (state_of old) (replicate n p) → ⊥
+steps_end old mid new p i n lt made t room steps =
+    let u = subst (λ (m : CoreValue). TurnMade m p false (Ok false) new) made t in
+    u (omega (arith, length-append old.history (replicate i (one p)), length-replicate i (one p))) (
+    subst (λ (s : State). step old.program p s ≢ None) (sym (state_ones old.program old.history p i)) (steps_at old.program (state_of old) p i n lt steps))

@@ -1,0 +1,5 @@
+pub mod Lines
+pub mod Choices
+pub mod Histories
+pub mod Replays
+pub mod Progress

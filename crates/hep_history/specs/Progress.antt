@@ -1,0 +1,53 @@
+-- How far a history was made again: docs/ARCHITECTURE.md, "Forms".
+use Rattle.std.specs.Prelude.{◌≡◌, ◌≢◌, ℕ, ◌+◌, ◌<◌, ◌≤◌, Bool, true, false, List, [], ◌∷◌, ◌++◌, length, replicate, Result, Ok, Err, None}
+use Rattle.hep_machine.specs.declared.event.Entry.{Entry}
+use Rattle.hep_machine.specs.Run.{AreSteps}
+use Rattle.hep_machine.specs.State.{State}
+use Rattle.hep_machine.specs.Step.{step, is_waiting}
+use Rattle.hep_source.specs.Units.{Units}
+use Rattle.hep_core.specs.Value.{CoreValue, state_of}
+use Rattle.hep_history.specs.declared.fault.ReplayFault.{ReplayFault}
+use Rattle.hep_history.specs.declared.fault.ReplayFault.TheVariants.{NoMemory}
+use Rattle.hep_history.specs.Replays.{IsThere, most_entries, single_steps, standing}
+
+-- the core is what its history makes it
+abbrev pub IsStanding : CoreValue → Type 0
+IsStanding core = core ≡ standing core.program core.cells core.history
+
+-- the core with these entries more
+abbrev pub longer : CoreValue → List Entry → CoreValue
+longer core more = standing core.program core.cells (core.history ++ more)
+
+-- one step of p is there, or p waits
+abbrev pub HasTurn : Units → State → ℕ → Bool → Type 0
+HasTurn program s p true = (s.halted ≡ false) × (is_waiting program s p ≡ true)
+HasTurn program s p false = step program p s ≢ None
+
+abbrev pub turn_entry : ℕ → Bool → Entry
+turn_entry p true = record { process = p; steps = 0 }
+turn_entry p false = record { process = p; steps = 1 }
+
+-- what came of a turn: it was made, or there is none, or memory was refused
+abbrev pub TurnMade : CoreValue → ℕ → Bool → Result Bool ReplayFault → CoreValue → Type 0
+TurnMade old p waits (Ok true) new =
+    (length old.history < most_entries) × HasTurn old.program (state_of old) p waits × (new ≡ longer old (turn_entry p waits ∷ []))
+TurnMade old p waits (Ok false) new = length old.history < most_entries → HasTurn old.program (state_of old) p waits → ⊥
+TurnMade old p waits (Err fault) new = fault ≡ NoMemory
+
+-- of so many steps
+abbrev pub StepsMade : CoreValue → ℕ → ℕ → Result Bool ReplayFault → CoreValue → Type 0
+StepsMade old p n (Ok true) new =
+    (length old.history + n ≤ most_entries) × AreSteps old.program (state_of old) (replicate n p)
+    × (new ≡ longer old (replicate n (record { process = p; steps = 1 })))
+StepsMade old p n (Ok false) new =
+    length old.history + n ≤ most_entries → AreSteps old.program (state_of old) (replicate n p) → ⊥
+StepsMade old p n (Err fault) new = fault ≡ NoMemory
+
+-- of an entry
+abbrev pub EntryMade : CoreValue → Entry → Result Bool ReplayFault → CoreValue → Type 0
+EntryMade old e (Ok true) new =
+    (length old.history + length (single_steps e.process e.steps) ≤ most_entries) × IsThere old.program (state_of old) e.process e.steps
+    × (new ≡ longer old (single_steps e.process e.steps))
+EntryMade old e (Ok false) new =
+    length old.history + length (single_steps e.process e.steps) ≤ most_entries → IsThere old.program (state_of old) e.process e.steps → ⊥
+EntryMade old e (Err fault) new = fault ≡ NoMemory

@@ -1,0 +1,93 @@
+//! The text of a history.
+ghost use Rattle.std.specs.Prelude.{◌≡◌, ◌≢◌, ℕ, ◌++◌, List, IfOk, IfErr, OnOk, IfSome, IfNone, MatchResult};
+ghost use Rattle.hep_machine.specs.declared.event.Entry.{Entry};
+ghost use Rattle.hep_base.specs.declared.refusal.Refusal.TheVariants.{NoMemory};
+ghost use Rattle.hep_history.specs.Lines.{AreLines, IsRefusedText, ReportsLine};
+ghost use Rattle.hep_history.specs.Histories.{entry_text, history_text, IsAllowed};
+
+use crate::number::{append_number, number_before};
+use hep_base::{Refusal as HistoryFault, Sequence};
+use hep_machine::Entry;
+use std::alloc::{AllocError, Global};
+
+/// The most bytes of a text of a history or of choices.
+pub const MOST_BYTES: usize = 150_000_000;
+
+/// The highest number of a process.
+pub const MOST_PROCESS: u64 = 9_223_372_036_854_775_807;
+
+/// The most steps of an entry.
+const MOST_STEPS: u64 = 1_024;
+
+/// The entries of a history.
+pub type History = Sequence<Entry>;
+
+// Appends the line of an entry.
+fn append_entry(text: &mut Vec<u8>, entry: &Entry) -> Result<(), AllocError>
+    ensures { OnOk result (text.new.items ≡ text.old.items ++ entry_text entry.now) }
+{
+    append_number(text, entry.process)?;
+    text.extend_from_slice(b" ")?;
+    append_number(text, entry.steps)?;
+    text.extend_from_slice(b"\n")?;
+    Ok(())
+}
+
+/// The text of a history: a line `p n` for each entry, with its process and its steps.
+///
+/// # Errors
+///
+/// Only where memory was refused.
+pub fn write_text(alloc: Global, history: &[Entry]) -> Result<Vec<u8>, AllocError>
+    ensures { IfOk result (λ text. text.items ≡ history_text history.now) }
+{
+    let mut text = Vec::new(alloc);
+    for entry in history {
+        append_entry(&mut text, entry)?;
+    }
+    Ok(text)
+}
+
+// The entry whose line stands at the front of a text, and the text after it.
+fn entry_at(text: &[u8]) -> Option<(Entry, &[u8])>
+    ensures allowed { IfSome result (λ found. IsAllowed found.0) }
+    ensures found { IfSome result (λ found. text.now ≡ entry_text found.0 ++ found.1.now) }
+    ensures none { IfNone result ((e : Entry) (more : List ℕ) → IsAllowed e
+        → text.now ≢ entry_text e ++ more) }
+{
+    let (process, rest_after) = number_before(text, b' ', MOST_PROCESS)?;
+    let (steps, rest) = number_before(rest_after, b'\n', MOST_STEPS)?;
+    if process == 0 {
+        return None;
+    }
+    let steps = steps as u32;
+    Some((Entry { process, steps }, rest))
+}
+
+/// The history that a text has.
+///
+/// # Errors
+///
+/// `Refused` with 601 at the first bad line, or at line 0 where the text has more than 150,000,000
+/// bytes; `NoMemory`.
+pub fn read_text(alloc: Global, text: &[u8]) -> Result<History, HistoryFault>
+    ensures read { IfOk result (λ history. AreLines entry_text IsAllowed text.now history) }
+    ensures refused { IfErr result (λ fault.
+        ReportsLine 601 (IsRefusedText entry_text IsAllowed text.now) fault) }
+    ensures accepted { (es : List Entry) → AreLines entry_text IsAllowed text.now es
+        → MatchResult result (λ history. history ≡ es) (λ fault. fault ≡ NoMemory) }
+{
+    if MOST_BYTES < text.len() {
+        return Err(HistoryFault::refused(alloc, 601, 0));
+    }
+    let mut entries = Vec::new(alloc);
+    let mut rest = text;
+    while !rest.is_empty() {
+        let Some((entry, rest_after)) = entry_at(rest) else {
+            return Err(HistoryFault::refused(alloc, 601, entries.len() as u32 + 1));
+        };
+        entries.push(entry)?;
+        rest = rest_after;
+    }
+    Ok(History::from(entries))
+}

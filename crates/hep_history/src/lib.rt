@@ -1,0 +1,21 @@
+//! Histories and choices as texts, and histories made again.
+//!
+//! A text has one line for each entry or choice. [`read_text`] and [`read_choices`] take just the
+//! texts that there are: each history in range has one spelling. [`replay`] makes a history again on
+//! a new core.
+#![tactic(auto)]
+
+pub mod choices;
+pub mod fault;
+pub mod history;
+pub mod laws;
+mod number;
+pub mod replays;
+
+pub use choices::{Choices, read_choices};
+pub use fault::ReplayFault;
+/// Why a text is refused: 601 for a history, 602 for choices, with the first bad line, and line 0
+/// where the text is too long. Neither is about a name.
+pub use hep_base::Refusal as HistoryFault;
+pub use history::{History, read_text, write_text};
+pub use replays::replay;

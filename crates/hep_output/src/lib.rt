@@ -1,0 +1,8 @@
+//! The lines of records, and writing a whole output.
+#![tactic(auto)]
+
+pub mod records;
+pub mod writer;
+
+pub use records::{append_number, append_record, append_records, output_text, record_text};
+pub use writer::{PutFault, put_all};

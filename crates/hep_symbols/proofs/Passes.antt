@@ -1,0 +1,108 @@
+-- Conditions of names, as one pass over a unit tells them.
+use Rattle.std.proofs.Common.{◌≡◌, ◌<◌, ◌≤◌, get_or, arith, ℕ, zero, suc, Bool, true, false, Option, Some, None, List, [], ◌∷◌, ◌++◌, length, append-nil, refl, ap, sym, ◌∙◌, if◌then◌else◌}
+use Rattle.std.specs.Prelude.{slice_get, MatchOption, IfSome}
+use Rattle.std.specs.Bool.{◌==◌}
+use Rattle.std.specs.Borrow.{Bor}
+use Rattle.std.proofs.lemmas.Bool.Decides.{nat_tests}
+use Rattle.std.specs.Option.{option_map, unwrap_or, option_copied}
+use Rattle.std.specs.List.{flat_map}
+use Rattle.hep_source.specs.Names.{index_where, same_letters, letters_of}
+use Rattle.hep_source.specs.Tree.{Tree, trees_of}
+use Rattle.hep_source.specs.Units.{Units, unit_at, dummies_of, names_of_occurrences}
+use Rattle.hep_source.specs.declared.name.Occurrence.{Occurrence}
+use Rattle.std.proofs.lemmas.List.{length-map}
+use Rattle.hep_source.specs.declared.declaration.DataGroup.{DataGroup}
+use Rattle.hep_source.specs.declared.statement.Form.{Form}
+use Rattle.hep_source.specs.declared.statement.Form.TheVariants.{Program, Subroutine, Implicit, Declare, Dimension, Common, Parameter, Data, Assign, GoTo, ComputedGoTo, ArithmeticIf, IfThen, ElseIf, Else, EndIf, Do, Call, Create, Purge, Print, Continue, Return, Stop, End}
+use Rattle.hep_source.specs.declared.statement.Statement.{Statement}
+use Rattle.hep_check.specs.Counts.{count_of, takes_actuals}
+use Rattle.hep_check.specs.Statements.{targets_assigned, targets_in_data, targets_purged, targets_of_groups}
+use Rattle.std.proofs.lemmas.Grind.{flat_map-append}
+use Rattle.hep_symbols.specs.Passes.{takes_dummies, unknown_target, unknown_in_group, unknown_in_form}
+
+pub count_is_length : (ts : List Tree) → count_of (trees_of ts) ≡ length ts
+count_is_length [] = refl
+count_is_length (t ∷ ts) = ap suc (count_is_length ts)
+
+pub takes_called : (program : Units) (o : Option ℕ) (n : ℕ) → takes_actuals program o n ≡ takes_dummies (option_map (unit_at program) o) n
+takes_called program None n = refl
+takes_called program (Some u) n = refl
+
+-- the number that was found is one of an element
+pub found-within : {A : Type 0} (test : A → Bool) (xs : List A) (k : ℕ) (d : A) → index_where test xs ≡ Some k → slice_get xs k ≡ Some (unwrap_or (slice_get xs k) d)
+found-within test [] k d h = cc
+found-within test (x ∷ xs) k d h = by (test x) (index_where test xs) h (λ j e. found-within test xs j d e)
+  where
+    later : (o : Option ℕ) (j : ℕ) → option_map suc o ≡ Some j → ((i : ℕ) → o ≡ Some i → slice_get xs i ≡ Some (unwrap_or (slice_get xs i) d)) → slice_get (x ∷ xs) j ≡ Some (unwrap_or (slice_get (x ∷ xs) j) d)
+    later None j e f = cc
+    later (Some i) j e f = let s : suc i ≡ j = cc in rw (← s) (f i refl)
+
+    by : (b : Bool) (o : Option ℕ) → (if b then Some 0 else option_map suc o) ≡ Some k → ((i : ℕ) → o ≡ Some i → slice_get xs i ≡ Some (unwrap_or (slice_get xs i) d)) → slice_get (x ∷ xs) k ≡ Some (unwrap_or (slice_get (x ∷ xs) k) d)
+    by true o e f = let s : 0 ≡ k = cc in rw (← s) refl
+    by false o e f = later o k e f
+
+groups-targets : (unit : List Statement) (line : ℕ) (gs : List DataGroup)
+    → flat_map (unknown_in_group unit line) gs ≡ flat_map (unknown_target unit line) (targets_of_groups gs)
+groups-targets unit line [] = refl
+groups-targets unit line (g ∷ gs) =
+    ap (λ vs. unknown_in_group unit line g ++ vs) (groups-targets unit line gs) ∙ sym (flat_map-append (unknown_target unit line) g.targets (targets_of_groups gs))
+
+-- what is assigned, given a value or purged, form by form
+pub unknown-targets : (unit : List Statement) (line : ℕ) (f : Form)
+    → unknown_in_form unit line f ≡ flat_map (unknown_target unit line) (targets_assigned f ++ (targets_in_data f ++ targets_purged f))
+unknown-targets unit line (Assign x t) = sym (append-nil (unknown_target unit line x))
+unknown-targets unit line (Data gs) = groups-targets unit line gs ∙ ap (flat_map (unknown_target unit line)) (sym (append-nil (targets_of_groups gs)))
+unknown-targets unit line (Purge ts) = refl
+unknown-targets unit line (Program p) = refl
+unknown-targets unit line (Subroutine p ds) = refl
+unknown-targets unit line (Implicit gs) = refl
+unknown-targets unit line (Declare t ds) = refl
+unknown-targets unit line (Dimension ds) = refl
+unknown-targets unit line (Common bs) = refl
+unknown-targets unit line (Parameter cs) = refl
+unknown-targets unit line (GoTo l) = refl
+unknown-targets unit line (ComputedGoTo ls t) = refl
+unknown-targets unit line (ArithmeticIf t ls) = refl
+unknown-targets unit line (IfThen t) = refl
+unknown-targets unit line (ElseIf t) = refl
+unknown-targets unit line Else = refl
+unknown-targets unit line EndIf = refl
+unknown-targets unit line (Do c) = refl
+unknown-targets unit line (Call p ts) = refl
+unknown-targets unit line (Create p ts) = refl
+unknown-targets unit line (Print is) = refl
+unknown-targets unit line Continue = refl
+unknown-targets unit line Return = refl
+unknown-targets unit line Stop = refl
+unknown-targets unit line End = refl
+
+pub dummies_counted : (ps : List Occurrence) (unit : List Statement) → names_of_occurrences ps ≡ dummies_of unit → length ps ≡ length (dummies_of unit)
+dummies_counted ps unit h = sym (length-map ps (λ (p : Occurrence). p.name)) ∙ ap length h
+
+-- ---- reading
+
+within : {A : Type 0} (xs : List A) (k : ℕ) (u : A) → slice_get xs k ≡ Some u → k < length xs
+within [] k u h = cc
+within (x ∷ xs) zero u h = omega arith
+within (x ∷ xs) (suc k) u h = let p = within xs k u h in omega arith
+
+get_or-found : {A : Type 0} (xs : List A) (k : ℕ) (u d : A) → slice_get xs k ≡ Some u → get_or xs k d ≡ u
+get_or-found [] k u d h = cc
+get_or-found (x ∷ xs) zero u d h = cc
+get_or-found (x ∷ xs) (suc k) u d h = get_or-found xs k u d h
+
+-- what was read is the element that is there
+pub item-read : {A : Type 0} (P : Bor A → Type 0) (xs : List A) (k : ℕ) (r : Option (Bor A)) (u : A) → MatchOption r (length xs ≤ k) P
+    → IfSome r (λ x. x.now ≡ get_or xs k x.now) → slice_get xs k ≡ Some u → option_copied r ≡ Some u
+item-read P xs k None u m i h = let p = within xs k u h in absurd (omega arith)
+item-read P xs k (Some x) u m i h = ap Some (i ∙ get_or-found xs k u x.now h)
+
+-- ---- letters
+
+one-more : (n : ℕ) → (suc n == 0) ≡ false
+one-more n = grind (arith, nat_tests)
+
+pub empty-letters : (cs ws : List ℕ) → length cs < 1 → (length ws == 0) ≡ same_letters ws (letters_of cs)
+empty-letters [] [] h = refl
+empty-letters [] (w ∷ ws) h = one-more (length ws)
+empty-letters (c ∷ cs) ws h = absurd (omega arith)

@@ -1,0 +1,10 @@
+use Rattle.std.proofs.Common.{◌≡◌, drop}
+use Rattle.std.specs.Option.{option_or}
+use Rattle.indexmap.specs.IndexMap.{get}
+use Rattle.hep_source.specs.declared.name.Name.{Name}
+use Rattle.hep_symbols.specs.Tables as tables
+use Rattle.hep_symbols.specs.Tables.{name_eq}
+use Rattle.hep_symbols.proofs.specification.common_blocks.Given as goal
+
+abbrev pub invariant-loop-statement : goal.invariant-loop-statement
+invariant-loop-statement l = (x : Name) → option_or (get name_eq l.blocks x) (tables.first_in (tables.block_by_form x) (drop l.statement-index l.unit)) ≡ tables.first_in (tables.block_by_form x) l.unit

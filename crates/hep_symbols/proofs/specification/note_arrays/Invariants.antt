@@ -1,0 +1,10 @@
+use Rattle.std.proofs.Common.{◌≡◌, drop}
+use Rattle.std.specs.Option.{option_or}
+use Rattle.indexmap.specs.IndexMap.{get}
+use Rattle.hep_source.specs.declared.name.Name.{Name}
+use Rattle.hep_machine.specs.Declarations.{declarator_among}
+use Rattle.hep_symbols.specs.Tables.{name_eq, seen}
+use Rattle.hep_symbols.proofs.specification.note_arrays.Given as goal
+
+abbrev pub invariant-loop-declarator : goal.invariant-loop-declarator
+invariant-loop-declarator l = (x : Name) → option_or (seen (get name_eq l.arrays x)) (declarator_among x (drop l.declarator-index l.declarators)) ≡ option_or (seen (get name_eq l.initial.arrays x)) (declarator_among x l.declarators)

@@ -1,0 +1,10 @@
+use Rattle.std.proofs.Common.{◌≡◌, drop}
+use Rattle.std.specs.Option.{option_or}
+use Rattle.indexmap.specs.IndexMap.{get}
+use Rattle.hep_source.specs.declared.name.Name.{Name}
+use Rattle.hep_machine.specs.Declarations as declarations
+use Rattle.hep_symbols.specs.Tables.{name_eq}
+use Rattle.hep_symbols.proofs.specification.note_blocks.Given as goal
+
+abbrev pub invariant-loop-block : goal.invariant-loop-block
+invariant-loop-block l = (x : Name) → option_or (get name_eq l.blocks x) (declarations.block_holding x (drop l.block-index l.named)) ≡ option_or (get name_eq l.initial.blocks x) (declarations.block_holding x l.named)

@@ -1,0 +1,9 @@
+use Rattle.std.proofs.Common.{◌≡◌, drop}
+use Rattle.std.specs.List.{flat_map}
+use Rattle.hep_check.specs.Names.{untyped_in}
+use Rattle.hep_check.specs.Violations.{first_of}
+use Rattle.hep_check.specs.Reported.{first_of_two}
+use Rattle.hep_symbols.proofs.untyped.type_missing_violation.Given as goal
+
+abbrev pub invariant-loop-statement : goal.invariant-loop-statement
+invariant-loop-statement l = first_of_two l.first (first_of (flat_map (untyped_in l.symbols) (drop l.statement-index l.statement-items))) ≡ first_of (flat_map (untyped_in l.symbols) l.statement-items)

@@ -1,0 +1,5 @@
+pub mod Tables
+pub mod Statements
+pub mod Lists
+pub mod Passes
+pub mod Meanings

@@ -1,0 +1,91 @@
+-- What tables of names give: X3.9-1978, section 8.
+use Rattle.std.specs.Prelude.{◌≡◌, ◌<◌, get_or, ℕ, ◌+◌, Bool, true, false, ◌&&◌, nat_eq, if◌then◌else◌, List, [], ◌∷◌, Option, Some, None}
+use Rattle.std.specs.Borrow.{Bor}
+use Rattle.std.specs.Option.{option_or}
+use Rattle.std.specs.Cmp.Lexicographic.{pointwise}
+use mathlib.Core.Bool.{beq}
+use Rattle.hep_source.specs.declared.declaration.Declarator.{Declarator}
+use Rattle.hep_source.specs.declared.name.Name.{Name}
+use Rattle.hep_source.specs.declared.name.Occurrence.{Occurrence}
+use Rattle.hep_source.specs.declared.statement.Form.{Form}
+use Rattle.hep_source.specs.declared.statement.Form.TheVariants.{Subroutine}
+use Rattle.hep_source.specs.declared.statement.Statement.{Statement}
+use Rattle.hep_source.specs.Names.{same_name, is_among, index_among}
+use Rattle.hep_source.specs.Units.{Units, dummies_of, is_named, subroutine_name}
+use Rattle.hep_source.specs.declared.declaration.ValueType.{ValueType}
+use Rattle.hep_machine.specs.Declarations.{declared_type, implicit_type, declarators_of, common_block, is_constant_name, BlockName, names_declared, block_holding, blocks_in, names_of_constants, is_nonempty, constants_in, declarator_among, declarators_in}
+
+-- the test that a table makes of two names
+abbrev pub name_eq : Name → Name → Bool
+name_eq x y = beq x.asynchronous y.asynchronous && pointwise nat_eq x.letters y.letters
+
+abbrev pub either : Bool → Bool → Bool
+either a b = if a then true else b
+
+-- what is after a reference
+abbrev pub seen : {A : Type 0} → Option (Bor A) → Option A
+seen None = None
+seen (Some r) = Some r.now
+
+-- this, where it is so
+abbrev pub given : {A : Type 0} → Bool → A → Option A
+given b a = if b then Some a else None
+
+-- what a name has that is given to this one alone
+abbrev pub by_name : {A : Type 0} → Name → A → Name → Option A
+by_name y value x = if same_name x y then Some value else None
+
+-- what a name has that is given to these alone
+abbrev pub by_declarators : {A : Type 0} → A → List Declarator → Name → Option A
+by_declarators value ds x = if is_among x (names_declared ds) then Some value else None
+
+-- what the first of these statements says that says anything
+abbrev pub first_in : {A : Type 0} → (Form → Option A) → List Statement → Option A
+first_in says [] = None
+first_in says (s ∷ ss) = option_or (says s.form) (first_in says ss)
+
+-- some of these statements says so
+abbrev pub any_in : (Form → Bool) → List Statement → Bool
+any_in says [] = false
+any_in says (s ∷ ss) = either (says s.form) (any_in says ss)
+
+-- the position of a name among these, the first of which has this one
+abbrev pub index_from : ℕ → Name → List Occurrence → Option ℕ
+index_from k x [] = None
+index_from k x (p ∷ ps) = if same_name x p.name then Some k else index_from (k + 1) x ps
+
+abbrev pub block_by_form : Name → Form → Option BlockName
+block_by_form x f = block_holding x (blocks_in f)
+
+abbrev pub constant_by_form : Name → Form → Bool
+constant_by_form x f = is_among x (names_of_constants (constants_in f))
+
+abbrev pub declarator_by_form : Name → Form → Option Declarator
+declarator_by_form x f = declarator_among x (declarators_in f)
+
+-- this declarator, where it gives a name dimensions
+abbrev pub by_declarator : Declarator → Name → Option Declarator
+by_declarator d x = given (same_name d.occurrence.name x && is_nonempty d.dimensions) d
+
+abbrev pub dummies_by_form : Form → List Occurrence
+dummies_by_form (Subroutine p dummies) = dummies
+dummies_by_form _ = []
+
+-- where the dummy arguments of a unit stand in its header
+abbrev pub dummies_in : List Statement → List Occurrence
+dummies_in [] = []
+dummies_in (s ∷ ss) = dummies_by_form s.form
+
+-- the tables of a unit: what they give for each name is what its specification statements say of it
+pub record Describes (unit : List Statement) (types : Name → Option ValueType) (letters : List (Option ValueType)) (arrays : Name → Option Declarator) (dummies : Name → Option ℕ) (blocks : Name → Option BlockName) (constants : Name → Bool) : Type 0 where
+  pub typed : (x : Name) → types x ≡ declared_type x unit
+  pub lettered : (c : ℕ) → c < 256 → get_or letters c None ≡ implicit_type c unit
+  pub bounded : (x : Name) → arrays x ≡ declarator_among x (declarators_of unit)
+  pub numbered : (x : Name) → dummies x ≡ index_among x (dummies_of unit)
+  pub common : (x : Name) → blocks x ≡ common_block unit x
+  pub constant : (x : Name) → constants x ≡ is_constant_name unit x
+
+-- the number of the first of these units that a name calls, where the first one has this number
+abbrev pub called_from : ℕ → Name → Units → Option ℕ
+called_from k x [] = None
+called_from k x (u ∷ us) = option_or (given (is_named (subroutine_name u) x) k) (called_from (k + 1) x us)

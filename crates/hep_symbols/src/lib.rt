@@ -1,0 +1,24 @@
+//! The names of a unit: what its specification statements say of each (X3.9-1978, section 8), by
+//! look-ups of constant time, and the conditions of names.
+#![tactic(auto)]
+
+pub mod counts;
+mod expressions;
+pub mod functions;
+pub mod lists;
+pub mod occurrences;
+pub mod program;
+mod reported;
+mod specification;
+pub mod symbols;
+mod table;
+pub mod unknown;
+pub mod untyped;
+
+pub use counts::count_violation;
+pub use functions::{Meaning, function_named};
+pub use lists::{NameWithList, names_with_lists};
+pub use program::ProgramSymbols;
+pub use symbols::Symbols;
+pub use unknown::unknown_name_violation;
+pub use untyped::type_missing_violation;

@@ -1,0 +1,82 @@
+//! The names with lists in a statement.
+ghost use Rattle.std.specs.Prelude.{◌≡◌, ◌++◌, map, IfOk, OnOk};
+ghost use Rattle.std.specs.List.{flat_map};
+ghost use Rattle.hep_source.specs.Tree.{trees_of};
+ghost use Rattle.hep_check.specs.Statements as statements;
+ghost use Rattle.hep_symbols.specs.Statements.{rest_after};
+ghost use Rattle.hep_symbols.specs.Lists.{listed};
+
+use crate::expressions::expressions;
+use hep_source::{Expr, Node, Occurrence, Statement};
+use std::alloc::{AllocError, Global};
+
+/// A name with a list, where it stands in an expression (X3.9-1978, 5.3 and 15.2).
+#[derive(Clone, Copy)]
+pub struct NameWithList<'a> {
+    pub occurrence: Occurrence,
+    pub arguments: &'a [Expr],
+}
+
+type Found<'a> = Vec<NameWithList<'a>>;
+
+#[cycle(add_in)]
+fn add_in<'a>(found: &mut Found<'a>, expression: &'a Expr) -> Result<(), AllocError>
+    ensures { OnOk result (map listed found.new.items ≡ map listed found.old.items ++ statements.names_with_lists_in expression.now) }
+{
+    match &expression.node {
+        Node::Constant(_) | Node::Occurrence(_) => Ok(()),
+        Node::WithList(occurrence, arguments) => {
+            found.push(NameWithList {
+                occurrence: *occurrence,
+                arguments,
+            })?;
+            add_in_list(found, arguments)
+        }
+        Node::Parenthesized(inner) => add_in(found, inner),
+        Node::Signed(_, term) => add_in(found, term),
+        Node::Negated(operand) => add_in(found, operand),
+        Node::Binary(_, left, right) => {
+            add_in(found, left)?;
+            add_in(found, right)
+        }
+    }
+}
+
+#[cycle(add_in)]
+fn add_in_list<'a>(found: &mut Found<'a>, list: &'a [Expr]) -> Result<(), AllocError>
+    ensures { OnOk result (map listed found.new.items ≡ map listed found.old.items ++ statements.names_with_lists_in_all (trees_of list.now)) }
+{
+    match list {
+        [] => Ok(()),
+        [first, rest @ ..] => {
+            add_in(found, first)?;
+            add_in_list(found, rest)
+        }
+    }
+}
+
+fn add_in_each<'a>(found: &mut Found<'a>, expressions: &[&'a Expr]) -> Result<(), AllocError>
+    ensures { OnOk result (map listed found.new.items ≡ map listed found.old.items ++ flat_map statements.names_with_lists_in (rest_after expressions.now)) }
+{
+    for expression in expressions {
+        add_in(found, expression)?;
+    }
+    Ok(())
+}
+
+/// The names with lists in the expressions of a statement, in the order of its text.
+///
+/// # Errors
+///
+/// Only where memory was refused.
+pub fn names_with_lists(
+    alloc: Global,
+    statement: &Statement,
+) -> Result<Vec<NameWithList<'_>>, AllocError>
+    ensures { IfOk result (λ found. map listed found.items ≡ statements.names_with_lists statement.now) }
+{
+    let expressions = expressions(alloc, statement)?;
+    let mut found = Vec::new(alloc);
+    add_in_each(&mut found, &expressions)?;
+    Ok(found)
+}

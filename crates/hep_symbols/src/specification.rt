@@ -1,0 +1,265 @@
+//! Tables of what the specification statements of a unit say of its names (X3.9-1978, section 8).
+ghost use Rattle.std.specs.List.{list_any};
+ghost use Rattle.std.specs.Prelude.{nat_eq, ◌≡◌, ◌<◌, ℕ, None, get_or, IfOk, OnOk};
+ghost use Rattle.std.specs.Option.{option_or};
+ghost use Rattle.indexmap.specs.IndexMap.{get};
+ghost use Rattle.indexmap.specs.IndexSet.{contains};
+ghost use Rattle.hep_source.specs.Units as units;
+ghost use Rattle.hep_source.specs.Names as names;
+ghost use Rattle.hep_source.specs.declared.name.Name.{Name as PureName};
+ghost use Rattle.hep_machine.specs.Declarations as declarations;
+ghost use Rattle.hep_symbols.specs.Tables as tables;
+ghost use Rattle.hep_symbols.specs.Tables.{name_eq};
+
+use crate::table::{add, note};
+use hep_source::{
+    CommonBlock, Declarator, Form, ImplicitGroup, LetterRange, Name, NamedConstant, Occurrence,
+    Statement, ValueType,
+};
+use indexmap::{IndexMap, IndexSet};
+use std::alloc::{AllocError, Global};
+
+fn note_types(
+    types: &mut IndexMap<Name, ValueType>,
+    value_type: ValueType,
+    declarators: &[Declarator],
+) -> Result<(), AllocError>
+    ensures { OnOk result ((x : PureName) → get name_eq types.new x
+        ≡ option_or (get name_eq types.old x) (tables.by_declarators value_type declarators.now x)) }
+{
+    for declarator in declarators {
+        note(types, declarator.occurrence.name, value_type)?;
+    }
+    Ok(())
+}
+
+// The types that type statements give (8.4).
+pub(crate) fn declared_types(
+    alloc: Global,
+    unit: &[Statement],
+) -> Result<IndexMap<Name, ValueType>, AllocError>
+    ensures { IfOk result (λ types. (x : PureName) → get name_eq types x ≡ declarations.declared_type x unit.now) }
+{
+    let mut types = IndexMap::new(alloc);
+    for statement in unit {
+        if let Form::Declare(value_type, declarators) = &statement.form {
+            note_types(&mut types, *value_type, declarators.as_slice())?;
+        }
+    }
+    Ok(types)
+}
+
+fn note_block(
+    blocks: &mut IndexMap<Name, Option<Name>>,
+    block: Option<Name>,
+    entries: &[Declarator],
+) -> Result<(), AllocError>
+    ensures { OnOk result ((x : PureName) → get name_eq blocks.new x
+        ≡ option_or (get name_eq blocks.old x) (tables.by_declarators block entries.now x)) }
+{
+    for entry in entries {
+        note(blocks, entry.occurrence.name, block)?;
+    }
+    Ok(())
+}
+
+fn note_blocks(
+    blocks: &mut IndexMap<Name, Option<Name>>,
+    named: &[CommonBlock],
+) -> Result<(), AllocError>
+    ensures { OnOk result ((x : PureName) → get name_eq blocks.new x
+        ≡ option_or (get name_eq blocks.old x) (declarations.block_holding x named.now)) }
+{
+    for block in named {
+        let name = block.block.map(|occurrence| occurrence.name);
+        note_block(blocks, name, block.entries.as_slice())?;
+    }
+    Ok(())
+}
+
+// The block in which each name of COMMON is (8.3); none for blank COMMON.
+pub(crate) fn common_blocks(
+    alloc: Global,
+    unit: &[Statement],
+) -> Result<IndexMap<Name, Option<Name>>, AllocError>
+    ensures { IfOk result (λ blocks. (x : PureName) → get name_eq blocks x ≡ tables.first_in (tables.block_by_form x) unit.now) }
+{
+    let mut blocks = IndexMap::new(alloc);
+    for statement in unit {
+        if let Form::Common(named) = &statement.form {
+            note_blocks(&mut blocks, named.as_slice())?;
+        }
+    }
+    Ok(blocks)
+}
+
+fn add_constants(constants: &mut IndexSet<Name>, given: &[NamedConstant]) -> Result<(), AllocError>
+    ensures { OnOk result ((x : PureName) → contains name_eq constants.new x
+        ≡ tables.either (contains name_eq constants.old x) (names.is_among x (declarations.names_of_constants given.now))) }
+{
+    for constant in given {
+        add(constants, constant.occurrence.name)?;
+    }
+    Ok(())
+}
+
+// The names of constants (8.6).
+pub(crate) fn constant_names(
+    alloc: Global,
+    unit: &[Statement],
+) -> Result<IndexSet<Name>, AllocError>
+    ensures { IfOk result (λ constants. (x : PureName) → contains name_eq constants x ≡ tables.any_in (tables.constant_by_form x) unit.now) }
+{
+    let mut constants = IndexSet::new(alloc);
+    for statement in unit {
+        if let Form::Parameter(given) = &statement.form {
+            add_constants(&mut constants, given.as_slice())?;
+        }
+    }
+    Ok(constants)
+}
+
+// The position of each dummy argument, the first where it stands twice (15.6.1).
+fn numbered(alloc: Global, dummies: &[Occurrence]) -> Result<IndexMap<Name, usize>, AllocError>
+    ensures { IfOk result (λ table. (x : PureName) → get name_eq table x ≡ tables.index_from 0 x dummies.now) }
+{
+    let mut table = IndexMap::new(alloc);
+    for (index, dummy) in dummies.iter().enumerate() {
+        note(&mut table, dummy.name, index)?;
+    }
+    Ok(table)
+}
+
+// The dummy arguments of a unit: those of its header (15.6.1).
+pub(crate) fn dummy_positions(
+    alloc: Global,
+    unit: &[Statement],
+) -> Result<IndexMap<Name, usize>, AllocError>
+    ensures { IfOk result (λ table. (x : PureName) → get name_eq table x ≡ tables.index_from 0 x (tables.dummies_in unit.now)) }
+{
+    match unit.first() {
+        Some(
+            Statement {
+                form: Form::Subroutine(_, dummies),
+                ..
+            },
+        ) => numbered(alloc, dummies.as_slice()),
+        _ => Ok(IndexMap::new(alloc)),
+    }
+}
+
+// Notes a declarator where it gives a name dimensions.
+fn note_array<'a>(
+    arrays: &mut IndexMap<Name, &'a Declarator>,
+    declarator: &'a Declarator,
+) -> Result<(), AllocError>
+    ensures { OnOk result ((x : PureName) → tables.seen (get name_eq arrays.new x)
+        ≡ option_or (tables.seen (get name_eq arrays.old x)) (tables.by_declarator declarator.now x)) }
+{
+    if !declarator.dimensions.as_slice().is_empty() {
+        note(arrays, declarator.occurrence.name, declarator)?;
+    }
+    Ok(())
+}
+
+fn note_arrays<'a>(
+    arrays: &mut IndexMap<Name, &'a Declarator>,
+    declarators: &'a [Declarator],
+) -> Result<(), AllocError>
+    ensures { OnOk result ((x : PureName) → tables.seen (get name_eq arrays.new x)
+        ≡ option_or (tables.seen (get name_eq arrays.old x)) (declarations.declarator_among x declarators.now)) }
+{
+    for declarator in declarators {
+        note_array(arrays, declarator)?;
+    }
+    Ok(())
+}
+
+fn note_block_arrays<'a>(
+    arrays: &mut IndexMap<Name, &'a Declarator>,
+    blocks: &'a [CommonBlock],
+) -> Result<(), AllocError>
+    ensures { OnOk result ((x : PureName) → tables.seen (get name_eq arrays.new x)
+        ≡ option_or (tables.seen (get name_eq arrays.old x)) (declarations.declarator_among x (declarations.entries_of_blocks blocks.now))) }
+{
+    for block in blocks {
+        note_arrays(arrays, block.entries.as_slice())?;
+    }
+    Ok(())
+}
+
+// The declarator that gives each array its dimensions (5.1, 8.1, 8.3 and 8.4).
+pub(crate) fn arrays<'a>(
+    alloc: Global,
+    unit: &'a [Statement],
+) -> Result<IndexMap<Name, &'a Declarator>, AllocError>
+    ensures { IfOk result (λ arrays. (x : PureName) → tables.seen (get name_eq arrays x)
+        ≡ tables.first_in (tables.declarator_by_form x) unit.now) }
+{
+    let mut arrays = IndexMap::new(alloc);
+    for statement in unit {
+        match &statement.form {
+            Form::Declare(_, declarators) | Form::Dimension(declarators) => note_arrays(
+                &mut arrays,
+                declarators.as_slice(),
+            )?,
+            Form::Common(blocks) => note_block_arrays(&mut arrays, blocks.as_slice())?,
+            _ => {}
+        }
+    }
+    Ok(arrays)
+}
+
+// The type of each first letter, as IMPLICIT gives it.
+pub(crate) type LetterTypes = [Option<ValueType>; 256];
+
+// Gives a letter a type, unless it has one.
+fn note_letter(types: &mut LetterTypes, letter: usize, value_type: ValueType)
+    requires { letter < 256 }
+    ensures { (c : ℕ) → c < 256 → get_or types.new c None
+        ≡ option_or (get_or types.old c None) (tables.given (nat_eq c letter) value_type) }
+{
+    if types[letter].is_none() {
+        types[letter] = Some(value_type);
+    }
+}
+
+fn note_range(types: &mut LetterTypes, range: &LetterRange, value_type: ValueType)
+    ensures { (c : ℕ) → c < 256 → get_or types.new c None
+        ≡ option_or (get_or types.old c None) (tables.given (declarations.is_letter_in c range.now) value_type) }
+{
+    for letter in usize::from(range.first)..usize::from(range.last) + 1 {
+        note_letter(types, letter, value_type);
+    }
+}
+
+fn note_ranges(types: &mut LetterTypes, ranges: &[LetterRange], value_type: ValueType)
+    ensures { (c : ℕ) → c < 256 → get_or types.new c None
+        ≡ option_or (get_or types.old c None) (tables.given (list_any (declarations.is_letter_in c) ranges.now) value_type) }
+{
+    for range in ranges {
+        note_range(types, range, value_type);
+    }
+}
+
+fn note_groups(types: &mut LetterTypes, groups: &[ImplicitGroup])
+    ensures { (c : ℕ) → c < 256 → get_or types.new c None
+        ≡ option_or (get_or types.old c None) (declarations.type_by_groups c groups.now) }
+{
+    for group in groups {
+        note_ranges(types, group.letters.as_slice(), group.value_type);
+    }
+}
+
+// The types that IMPLICIT gives by first letters (8.5).
+pub(crate) fn implicit_types(unit: &[Statement]) -> LetterTypes
+    ensures { (c : ℕ) → c < 256 → get_or result c None ≡ declarations.implicit_type c unit.now }
+{
+    let mut types = [None; 256];
+    for statement in unit {
+        if let Form::Implicit(groups) = &statement.form {
+            note_groups(&mut types, groups.as_slice());
+        }
+    }
+    types
+}

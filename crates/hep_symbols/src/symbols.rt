@@ -1,0 +1,171 @@
+//! The symbol table of a unit.
+ghost use Rattle.std.specs.Prelude.{◌≡◌, IfOk};
+ghost use Rattle.hep_source.specs.Names as names;
+ghost use Rattle.hep_source.specs.Units as units;
+ghost use Rattle.hep_machine.specs.Declarations as declarations;
+
+use crate::specification::{
+    LetterTypes, arrays, common_blocks, constant_names, declared_types, dummy_positions,
+    implicit_types,
+};
+use hep_source::{Declarator, Dimension, Form, Name, Occurrence, Statement, ValueType};
+use indexmap::{IndexMap, IndexSet};
+use std::alloc::{AllocError, Global};
+use std::marker::Model;
+
+/// What the specification statements of a unit say of its names (X3.9-1978, section 8), by look-ups
+/// of constant time. Contracts see the statements of the unit.
+#[derive(Drop)]
+pub struct Symbols<'a> {
+    statements: &'a [Statement],
+    types: IndexMap<Name, ValueType>,
+    letters: LetterTypes,
+    arrays: IndexMap<Name, &'a Declarator>,
+    dummies: IndexMap<Name, usize>,
+    blocks: IndexMap<Name, Option<Name>>,
+    constants: IndexSet<Name>,
+}
+
+impl<'a> Model for Symbols<'a> {
+    ghost use Rattle.std.specs.Prelude.{List};
+    ghost use Rattle.std.specs.Coded.{codes};
+    ghost use Rattle.indexmap.specs.IndexMap.{get};
+    ghost use Rattle.indexmap.specs.IndexSet.{contains};
+    ghost use Rattle.hep_source.specs.declared.statement.Statement.{Statement as PureStatement};
+    ghost use Rattle.hep_source.specs.contracts.expression.Expr as expression;
+    ghost use Rattle.hep_symbols.specs.Tables.{name_eq, seen, Describes};
+
+    ghost Value = { List PureStatement };
+
+    ghost coded = { Prim.hlevel (codes, expression.the_row.coded) };
+
+    ghost view = { λ a. a.statements.now };
+
+    ghost invariant = { λ a. Describes a.statements.now (get name_eq a.types) a.letters (λ x. seen (get name_eq a.arrays x)) (get name_eq a.dummies) (get name_eq a.blocks) (contains name_eq a.constants) };
+}
+
+impl<'a> Symbols<'a> {
+    /// The symbol table of these statements, which are those of one unit.
+    ///
+    /// # Errors
+    ///
+    /// Only where memory was refused.
+    pub fn new(alloc: Global, statements: &'a [Statement]) -> Result<Symbols<'a>, AllocError>
+        ensures { IfOk result (λ symbols. symbols ≡ statements.now) }
+    {
+        let types = declared_types(alloc, statements)?;
+        let letters = implicit_types(statements);
+        let arrays = arrays(alloc, statements)?;
+        let dummies = dummy_positions(alloc, statements)?;
+        let blocks = common_blocks(alloc, statements)?;
+        let constants = constant_names(alloc, statements)?;
+        Ok(Symbols {
+            statements,
+            types,
+            letters,
+            arrays,
+            dummies,
+            blocks,
+            constants,
+        })
+    }
+
+    /// The statements of the unit.
+    pub fn statements(&self) -> &'a [Statement]
+        ensures { result.now ≡ self.now }
+    {
+        self.statements
+    }
+
+    /// The type that a type statement gives a name (8.4).
+    pub fn declared_type(&self, name: &Name) -> Option<ValueType>
+        ensures { result ≡ declarations.declared_type name.now self.now }
+    {
+        self.types.get(name).copied()
+    }
+
+    /// The type of a name: by a type statement, else by an IMPLICIT, else by its first letter; none where
+    /// it is real (4.1.2, 8.4 and 8.5).
+    pub fn type_of(&self, name: &Name) -> Option<ValueType>
+        ensures { result ≡ declarations.type_of self.now name.now }
+    {
+        let letter = usize::from(name.letters[0]);
+        self.declared_type(name)
+            .or(self.letters[letter])
+            .or(type_by_letter(name))
+    }
+
+    /// The dimensions of a name, the first one first; a scalar has none (5.1).
+    pub fn dimensions(&self, name: &Name) -> &'a [Dimension]
+        ensures { result.now ≡ declarations.dimensions_of self.now name.now }
+    {
+        match self.arrays.get(name) {
+            Some(declarator) => declarator.dimensions.as_slice(),
+            None => &[],
+        }
+    }
+
+    /// The name is an array's.
+    pub fn is_array(&self, name: &Name) -> bool
+        ensures { result ≡ declarations.is_array self.now name.now }
+    {
+        !self.dimensions(name).is_empty()
+    }
+
+    /// The dummy arguments of the unit, in order (15.6.1); a main program has none.
+    pub fn dummies(&self) -> &'a [Occurrence]
+        ensures { units.names_of_occurrences result.now ≡ units.dummies_of self.now }
+    {
+        match self.statements.first() {
+            Some(
+                Statement {
+                    form: Form::Subroutine(_, dummies),
+                    ..
+                },
+            ) => dummies.as_slice(),
+            _ => &[],
+        }
+    }
+
+    /// The position of a dummy argument among those of the unit, counted from 0 (15.6.1); none where the
+    /// name isn't one.
+    pub fn dummy_position(&self, name: &Name) -> Option<usize>
+        ensures { result ≡ names.index_among name.now (units.dummies_of self.now) }
+    {
+        self.dummies.get(name).copied()
+    }
+
+    /// The block of COMMON in which a name is (8.3), where blank COMMON has no name; none where the name
+    /// isn't in COMMON.
+    pub fn common_block(&self, name: &Name) -> Option<Option<Name>>
+        ensures { result ≡ declarations.common_block self.now name.now }
+    {
+        self.blocks.get(name).copied()
+    }
+
+    /// The name is in COMMON (8.3).
+    pub fn is_common(&self, name: &Name) -> bool
+        ensures { result ≡ declarations.is_common self.now name.now }
+    {
+        self.common_block(name).is_some()
+    }
+
+    /// The name is a constant's (8.6).
+    pub fn is_constant_name(&self, name: &Name) -> bool
+        ensures { result ≡ declarations.is_constant_name self.now name.now }
+    {
+        self.constants.contains(name)
+    }
+}
+
+/// The type of a name without a declaration: an integer where its first letter is I to N, else real, which
+/// no variable is here (4.1.2).
+pub fn type_by_letter(name: &Name) -> Option<ValueType>
+    ensures { result ≡ declarations.type_by_letter name.now }
+{
+    if (b'I'..=b'N').contains(&name.letters[0]) {
+        Some(ValueType::Integer)
+    } else {
+        None
+    }
+}

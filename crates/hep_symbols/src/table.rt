@@ -1,0 +1,36 @@
+//! Tables of names.
+ghost use Rattle.std.specs.Prelude.{◌≡◌, OnOk};
+ghost use Rattle.std.specs.Option.{option_or};
+ghost use Rattle.indexmap.specs.IndexMap.{get};
+ghost use Rattle.indexmap.specs.IndexSet.{contains};
+ghost use Rattle.hep_source.specs.Names.{same_name};
+ghost use Rattle.hep_source.specs.declared.name.Name.{Name as PureName};
+ghost use Rattle.hep_symbols.specs.Tables.{name_eq, by_name, either};
+
+use hep_source::Name;
+use indexmap::{IndexMap, IndexSet};
+use std::alloc::AllocError;
+
+// Gives a name a value, unless it has one.
+pub(crate) fn note<V: Drop>(
+    table: &mut IndexMap<Name, V>,
+    name: Name,
+    value: V,
+) -> Result<(), AllocError>
+    ensures { OnOk result ((x : PureName) → get name_eq table.new x
+        ≡ option_or (get name_eq table.old x) (by_name name value x)) }
+{
+    if !table.contains_key(&name) {
+        table.insert(name, value)?;
+    }
+    Ok(())
+}
+
+// Adds a name to a set.
+pub(crate) fn add(set: &mut IndexSet<Name>, name: Name) -> Result<(), AllocError>
+    ensures { OnOk result ((x : PureName) → contains name_eq set.new x
+        ≡ either (contains name_eq set.old x) (same_name x name)) }
+{
+    set.insert(name)?;
+    Ok(())
+}

@@ -1,0 +1,62 @@
+//! 301: a variable or named constant has no type (X3.9-1978, 4.1.2, 8.4 and 8.5).
+ghost use Rattle.std.specs.Prelude.{◌≡◌, IfOk};
+ghost use Rattle.std.specs.List.{flat_map};
+ghost use Rattle.hep_check.specs.Names as conditions;
+ghost use Rattle.hep_check.specs.Violations.{first_of};
+ghost use Rattle.hep_symbols.specs.Passes as passes;
+
+use crate::occurrences::occurrences;
+use crate::reported::{first_of_two, violation_by};
+use crate::symbols::Symbols;
+use hep_check::Violation;
+use hep_source::{Occurrence, Statement};
+use std::alloc::{AllocError, Global};
+
+fn untyped(symbols: &Symbols, line: u32, occurrence: &Occurrence) -> Option<Violation>
+    ensures { result ≡ first_of (passes.untyped symbols.now line occurrence.now) }
+{
+    if symbols.type_of(&occurrence.name).is_none() {
+        Some(violation_by(301, line, occurrence))
+    } else {
+        None
+    }
+}
+
+fn first_untyped(symbols: &Symbols, line: u32, occurrences: &[Occurrence]) -> Option<Violation>
+    ensures { result ≡ first_of (flat_map (passes.untyped symbols.now line) occurrences.now) }
+{
+    let mut first = None;
+    for occurrence in occurrences {
+        first = first_of_two(first, untyped(symbols, line, occurrence));
+    }
+    first
+}
+
+fn untyped_in(
+    alloc: Global,
+    symbols: &Symbols,
+    statement: &Statement,
+) -> Result<Option<Violation>, AllocError>
+    ensures { IfOk result (λ violation. violation ≡ first_of (conditions.untyped_in symbols.now statement.now)) }
+{
+    let occurrences = occurrences(alloc, symbols, statement)?;
+    Ok(first_untyped(symbols, statement.line, &occurrences))
+}
+
+/// The first violation of 301 in a unit: a variable or named constant that has no type.
+///
+/// # Errors
+///
+/// Only where memory was refused.
+pub fn type_missing_violation(
+    alloc: Global,
+    symbols: &Symbols,
+) -> Result<Option<Violation>, AllocError>
+    ensures { IfOk result (λ violation. violation ≡ first_of (conditions.type_missing_violations symbols.now)) }
+{
+    let mut first = None;
+    for statement in symbols.statements() {
+        first = first_of_two(first, untyped_in(alloc, symbols, statement)?);
+    }
+    Ok(first)
+}
