@@ -1,4 +1,4 @@
-C     Not supported yet: refused today with 403, in line 4.
+C     Not supported yet: refused with 403, in line 4.
 C     A self-scheduled loop: each process takes the next iteration.
       PROGRAM SELF
       INTEGER $NEXT, $SUM, $DONE

@@ -1,4 +1,4 @@
-C     Not supported yet: refused today with 403, in line 4.
+C     Not supported yet: refused with 403, in line 4.
 C     An array that a subroutine sorts.
       PROGRAM SORTED
       INTEGER L(4)

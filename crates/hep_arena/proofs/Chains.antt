@@ -21,7 +21,7 @@ last-inside low high p [] t e = absurd (none-some p e)
 last-inside low high p (h ∷ []) t e = let is = same_Some h.0 p e in (omega (arith, t.0), omega (arith, t.1, t.2))
 last-inside low high p (h ∷ k ∷ hs) t e = let r = last-inside (h.0 + h.1 + 1) high p (k ∷ hs) t.3 e in (omega (arith, r.0, t.0), r.1)
 
--- the place of the last hole is not out
+-- the first cell of the last hole is not out
 pub last-not_out : (low high p : ℕ) (hs : List Hole) → AreHoles low high hs → last_place hs ≡ Some p → IsOut p hs → ⊥
 last-not_out low high p [] t e out = none-some p e
 last-not_out low high p (h ∷ []) t e out = let is = same_Some h.0 p e in elim out.0 [ inl l ↦ omega (arith, t.1) | inr l ↦ omega (arith, t.1) ]

@@ -95,7 +95,7 @@ taken-gaps cells a n from first (f ∷ fs) one h e = by_fit (λ d. taken-gaps ce
 
 -- ---- a frame that leaves
 
--- the first hole, if there is one, begins at a place or after it
+-- the first hole, if there is one, begins at an index or after it
 abbrev BeginFrom : ℕ → List Hole → Type 0
 BeginFrom from [] = Unit {0}
 BeginFrom from (h ∷ hs) = from ≤ h.0
@@ -114,7 +114,7 @@ joined-alone : (from n : ℕ) (hs : List Hole) → BeginFrom (suc (from + n)) hs
 joined-alone from n [] k = refl
 joined-alone from n (h ∷ hs) k = let no : nat_eq (from + n) h.0 ≡ false = grind (arith, nat_tests) in rw no refl
 
--- the cells up to a place, with the gap after it
+-- the cells up to an index, with the gap after it
 joined-gap_before : (from e to : ℕ) (hs : List Hole) → from < e → e ≤ to → BeginFrom (suc e) hs → joined (from, e - from) (gap_before e to hs) ≡ gap_before from to hs
 joined-gap_before from e to hs some le k = by_gap (nat_lt e to) refl where
   by_gap : (b : Bool) → nat_lt e to ≡ b → joined (from, e - from) (if b then (e, to - e) ∷ hs else hs) ≡ gap_before from to hs

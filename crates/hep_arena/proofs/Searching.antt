@@ -11,7 +11,7 @@ use Rattle.hep_arena.proofs.Chains.{last-snoc, leads-snoc}
 
 -- ---- a walk along the chain
 
--- the holes in front of a place were passed, and those after it lie from low on
+-- the holes in front of an index were passed, and those after it lie from low on
 pub record IsWalk (s : List Slot) (head : ℕ) (hs : List Hole) (at : ℕ) (before : Option ℕ) : Type 0 where
   pub front : List Hole
   pub back : List Hole
@@ -25,7 +25,7 @@ pub record IsWalk (s : List Slot) (head : ℕ) (hs : List Hole) (at : ℕ) (befo
 pub walk-begins : (s : List Slot) (head : ℕ) (hs : List Hole) → IsChain s head hs → IsWalk s head hs head None
 walk-begins s head hs chain = record { front = []; back = hs; low = 0; all = refl; passed = refl; ahead = chain.0; last = refl; apart = chain.1 }
 
--- the hole at the place, and those after it
+-- the hole at the index, and those after it
 record Stands (s : List Slot) (hs front : List Hole) (at : ℕ) : Type 0 where
   back : List Hole
   all : hs ≡ front ++ (at, (link_at s at).0) ∷ back
@@ -116,7 +116,7 @@ module _ (s : List Slot) (head n : ℕ) (hs : List Hole) (at : ℕ) (before : Op
         last = e₀ ∙ w.walk.last;
       }
 
--- ---- the holes on both sides of a place
+-- ---- the holes on both sides of an index
 
 -- the holes that were passed begin below it
 pub record IsApproach (s : List Slot) (head at : ℕ) (hs : List Hole) (next : ℕ) (before : Option ℕ) : Type 0 where

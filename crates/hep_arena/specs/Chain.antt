@@ -1,4 +1,4 @@
--- The holes as a chain inside the slots: the first slot of a hole holds its length and the place of the next hole.
+-- The holes as a chain inside the slots: the first slot of a hole holds its length and the index of the next hole.
 use Rattle.std.specs.Prelude.{◌≡◌, ℕ, zero, suc, ◌+◌, ◌≤◌, ◌/◌, ◌%◌, nat_lt, if◌then◌else◌, ℤ, pos, negsuc, List, [], ◌∷◌, length, Option, Some, None, slice_get}
 use Rattle.hep_machine.specs.declared.slot.Slot.{Slot}
 use Rattle.hep_source.specs.declared.value.Value.{Value}
@@ -6,7 +6,7 @@ use Rattle.hep_source.specs.declared.value.Value.TheVariants.{Int, Truth}
 use Rattle.hep_arena.specs.Holes.{Hole, AreHoles, free_cells}
 use Rattle.hep_arena.specs.Space.{Space}
 
--- ---- a link: a length, and a place
+-- ---- a link: a length, and an index
 
 abbrev pub link_of_integer : ℤ → ℕ × ℕ
 link_of_integer (pos n) = (n / 4294967296, n % 4294967296)
@@ -21,13 +21,13 @@ abbrev pub link_of_slot : Option Slot → ℕ × ℕ
 link_of_slot (Some slot) = link_of_value slot.value
 link_of_slot None = (0, 0)
 
--- the link that the slot at a place holds
+-- the link that the slot at an index holds
 abbrev pub link_at : List Slot → ℕ → ℕ × ℕ
 link_at slots at = link_of_slot (slice_get slots at)
 
 -- ---- chains
 
--- the links from a place on lead through these holes, and then to another place
+-- the links from an index on lead through these holes, and then to another index
 abbrev pub Leads : List Slot → ℕ → List Hole → ℕ → Type 0
 Leads slots at [] to = at ≡ to
 Leads slots at (h ∷ hs) to = (at ≡ h.0) × ((link_at slots at).0 ≡ h.1) × Leads slots (link_at slots at).1 hs to

@@ -3,7 +3,7 @@ use Rattle.std.specs.Prelude.{ℕ, ◌+◌, ◌-◌, Bool, nat_eq, nat_lt, if◌
 use Rattle.hep_machine.specs.Layout.{Frame, Layout}
 use Rattle.hep_arena.specs.Holes.{Hole, given}
 
--- the free cells from a place up to another, before holes after these
+-- the free cells from an index up to another, in front of these holes
 abbrev pub gap_before : ℕ → ℕ → List Hole → List Hole
 gap_before from to hs = if nat_lt from to then (from, to - from) ∷ hs else hs
 

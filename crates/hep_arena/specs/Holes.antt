@@ -1,11 +1,11 @@
 -- The holes of an arena as a list, and what taking and giving make of it.
 use Rattle.std.specs.Prelude.{◌⊎◌, ℕ, ◌+◌, ◌-◌, ◌<◌, ◌≤◌, nat_eq, nat_le, nat_lt, if◌then◌else◌, List, [], ◌∷◌, Option, Some, None}
 
--- a free place, and so many free cells from there on
+-- the index of a free cell, and how many cells are free from there on
 abbrev pub Hole : Type 0
 Hole = ℕ × ℕ
 
--- from a place up to another, holes in rising order: none is empty, none overlaps or touches the next one
+-- from an index up to another, holes in rising order: none is empty, none overlaps or touches the next one
 abbrev pub AreHoles : ℕ → ℕ → List Hole → Type 0
 AreHoles from to [] = Unit {0}
 AreHoles from to (h ∷ hs) = (from ≤ h.0) × (0 < h.1) × (h.0 + h.1 ≤ to) × AreHoles (h.0 + h.1 + 1) to hs

@@ -10,7 +10,7 @@ use Rattle.hep_arena.specs.contracts.region.Region.{the_row}
 abbrev pub covered : List Slot → List Slot → List Slot
 covered xs ys = take (length xs) ys ++ drop (length ys) xs
 
--- xs with ys over the n slots from a place on
+-- xs with ys over the n slots from an index on
 abbrev pub with_run : List Slot → ℕ → ℕ → List Slot → List Slot
 with_run xs at n ys = take at xs ++ covered (take n (drop at xs)) ys ++ drop n (drop at xs)
 
@@ -20,10 +20,10 @@ with_slots r slots = record r { slots = slots }
 abbrev pub with_slots_run : Region → ℕ → ℕ → List Slot → Region
 with_slots_run r at n run = record r { slots = with_run r.slots at n run }
 
--- all slots of the region are in the end what lies after the loan
+-- once the loan ends, all slots of the region are what the loan then holds
 abbrev pub LendsAll : MutBor Region → MutBor (List Slot) → Fml
 LendsAll region loan = Lends the_row (Array slot_row 0) region loan (with_slots region.now)
 
--- the n slots from a place on are in the end what lies after the loan
+-- once the loan ends, the n slots from an index on are what the loan then holds
 abbrev pub LendsRun : MutBor Region → ℕ → ℕ → MutBor (List Slot) → Fml
 LendsRun region at n loan = Lends the_row (Array slot_row 0) region loan (with_slots_run region.now at n)

@@ -10,6 +10,6 @@ use Rattle.hep_arena.specs.contracts.arena.Arena.{the_row}
 abbrev pub with_block : Space → ℕ → ℕ → List Slot → Space
 with_block space at n slots = record space { contents = with_run space.contents at n slots }
 
--- the n slots from a place on are in the end what lies after the loan, and nothing else changes
+-- once the loan ends, the n slots from an index on are what the loan then holds, and nothing else changes
 abbrev pub LendsBlock : MutBor Space → ℕ → ℕ → MutBor (List Slot) → Fml
 LendsBlock space at n loan = Lends the_row (Array slot_row 0) space loan (with_block space.now at n)

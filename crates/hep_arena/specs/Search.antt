@@ -7,7 +7,7 @@ use Rattle.hep_arena.specs.declared.holes.Between.{Between}
 use Rattle.hep_arena.specs.Holes.{Hole, AreHoles, joined}
 use Rattle.hep_arena.specs.Chain.{Leads}
 
--- the place of the last hole
+-- the index of the last hole
 abbrev pub last_place : List Hole → Option ℕ
 last_place [] = None
 last_place (h ∷ []) = Some h.0
@@ -18,12 +18,12 @@ abbrev pub AreShort : ℕ → List Hole → Type 0
 AreShort n [] = Unit {0}
 AreShort n (h ∷ hs) = (h.1 < n) × AreShort n hs
 
--- all begin below a place
+-- all begin below an index
 abbrev pub AreBelow : ℕ → List Hole → Type 0
 AreBelow at [] = Unit {0}
 AreBelow at (h ∷ hs) = (h.0 < at) × AreBelow at hs
 
--- none begins below a place
+-- none begins below an index
 abbrev pub AreAbove : ℕ → List Hole → Type 0
 AreAbove at [] = Unit {0}
 AreAbove at (h ∷ hs) = (at ≤ h.0) × AreAbove at hs
@@ -39,7 +39,7 @@ pub record IsFound (slots : List Slot) (head n : ℕ) (hs : List Hole) (found : 
   pub rest_after : Leads slots found.link.next back (length slots)
   pub last : found.before ≡ last_place front
 
--- the holes that begin below a place, and those that don't
+-- the holes that begin below an index, and those that don't
 pub record IsBetween (slots : List Slot) (head at : ℕ) (hs : List Hole) (found : Between) : Type 0 where
   pub front : List Hole
   pub back : List Hole
@@ -50,7 +50,7 @@ pub record IsBetween (slots : List Slot) (head at : ℕ) (hs : List Hole) (found
   pub rest_after : Leads slots found.next back (length slots)
   pub last : found.before ≡ last_place front
 
--- how many cells the hole has that begins where others end, 0 where none does, and the place of the hole after it:
+-- how many cells the hole has that begins where others end, 0 where none does, and the index of the hole after it:
 -- whatever ends there joins it
 abbrev pub IsAfter : List Slot → ℕ → ℕ → Link → Type 0
 IsAfter slots end next link =

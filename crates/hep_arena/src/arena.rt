@@ -62,7 +62,7 @@ impl Arena {
 
     /// An arena of so many cells, all of them free.
     ///
-    /// There is one cell at least, and no more than 16,777,216. Fails where memory is out.
+    /// There is one cell at least, and no more than 16,777,216. Fails where memory was refused.
     pub fn new(alloc: Global, cells: u32) -> Result<Arena, AllocError>
         requires some { 1 ≤ cells }
         requires few { cells ≤ 16777216 }

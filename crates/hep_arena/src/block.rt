@@ -10,7 +10,7 @@ pub struct Block {
 }
 
 impl Block {
-    // The cells from a place on.
+    // So many cells from an index on.
     pub(crate) fn new(at: u32, len: u32) -> Block
         requires { 0 < len }
         ensures { (result.at ≡ at) × (result.len ≡ len) }
@@ -18,7 +18,7 @@ impl Block {
         Block { at, len }
     }
 
-    /// The place of its first cell.
+    /// The index of its first cell.
     pub fn at(&self) -> u32
         ensures { result ≡ self.now.at }
     {

@@ -1,5 +1,5 @@
 //! The holes of an arena, linked inside the slots: the first slot of a hole holds its length and the
-//! place of the next one.
+//! index of the next one.
 ghost use Rattle.std.specs.Prelude.{◌≡◌, ◌⊎◌, ℕ, ◌+◌, ◌^◌, ◌<◌, ◌≤◌, List, [], ◌∷◌, ◌++◌, length, slice_get, Some, None, MatchOption, IfSome};
 ghost use Rattle.hep_machine.specs.Access.{unset_cell};
 ghost use Rattle.hep_arena.specs.Holes.{Hole, AreHoles, IsOut, first_fit, shortened, taken, given};
@@ -33,7 +33,7 @@ pub(crate) struct Found {
     pub link: Link,
 }
 
-/// The last hole below a place, if there is one, and where the first one after it is.
+/// The last hole that begins below an index, if there is one, and where the first one after it is.
 #[derive(Clone, Copy)]
 pub(crate) struct Between {
     pub before: Option<u32>,
@@ -49,7 +49,7 @@ pub(crate) struct Taken {
 
 // ---- links
 
-// A link in the place of a value.
+// A slot that holds a link instead of a value.
 fn slot_with(link: Link) -> Slot
     requires { link.length < 2 ^ 31 }
     ensures { link_of_slot (Some result) ≡ (link.length, link.next) }
@@ -206,7 +206,7 @@ pub(crate) fn take(slots: &mut [Slot], head: u32, n: u32) -> Option<Taken>
 
 // ---- giving
 
-// The holes on both sides of a place.
+// The holes on both sides of an index.
 fn around(slots: &[Slot], head: u32, at: u32) -> Between
     ghost holes: { List Hole }
     requires chain { IsChain slots.now head holes }

@@ -33,7 +33,7 @@ pub fn giving_undoes_taking()
     ensures { (cells n at : ℕ) (hs : List Hole) → AreHoles 0 cells hs → 1 ≤ n → first_fit n hs ≡ Some at → given (at, n) (taken n hs) ≡ hs }
 {}
 
-/// The slots after a loan are those of the contents. What comes back stands in their place, and every
+/// The slots that are lent are those of the contents. What comes back stands in their place, and every
 /// other slot is as it was; so a write to one slot of the loan is a write to the contents.
 pub fn lending()
     ensures cells { (contents loan : List Slot) (at n : ℕ) → length (with_run contents at n loan) ≡ length contents }

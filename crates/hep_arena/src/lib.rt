@@ -1,4 +1,5 @@
-//! An arena of cells: blocks of them are taken from its front, and given back in any order.
+//! An arena of cells: blocks of them are taken, each from the lowest hole that is long enough, and given
+//! back in any order.
 //!
 //! No call takes memory but the one that makes the arena.
 #![tactic(auto)]

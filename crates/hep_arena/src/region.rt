@@ -1,7 +1,7 @@
 //! Slots side by side in memory of their own, which are lent in whole or in parts.
 //!
-//! The pointer is used in this file alone, by short functions. What goes beyond a loan of slots is
-//! safe code in the files above it.
+//! The pointer is followed in this file alone, by short functions. What goes beyond a loan of slots is
+//! safe code in the files that call it.
 ghost use Rattle.std.specs.Prelude.{◌≡◌, ◌<◌, length, List};
 ghost use Rattle.std_alloc.specs.Vec.{vec_ptr, vec_len, vec_capacity};
 ghost use Rattle.hep_machine.specs.declared.slot.Slot.{Slot as SlotValue};
@@ -10,7 +10,8 @@ use hep_machine::Slot;
 use std::alloc::Global;
 use std::marker::{Model, Move, Owns};
 
-/// So many slots after a pointer. It owns the slots, and not the right to free their memory.
+/// So many slots from the one on that the pointer points at. It owns the slots, and not the right to free
+/// their memory.
 pub struct Region {
     memory: *mut Slot,
     cells: usize,

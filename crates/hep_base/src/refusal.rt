@@ -1,4 +1,4 @@
-//! Why a source, or a text beside it, is refused.
+//! Why a source, or a text of a history or of choices, is refused.
 ghost use Rattle.std.specs.Prelude.{◌≡◌, []};
 ghost use Rattle.hep_base.specs.declared.refusal.Refusal.TheVariants as refusal;
 ghost use Rattle.hep_base.specs.Refusals.{Reports};
@@ -7,7 +7,8 @@ use crate::sequence::Text;
 use std::alloc::{AllocError, AllocFailed, Global};
 use thiserror::Error;
 
-/// Why a source, or a text beside it, is refused, or that there was too little memory to know.
+/// Why a source, or a text of a history or of choices, is refused, or that there was too little memory
+/// to know.
 #[derive(Debug, Drop, Error)]
 pub enum Refusal {
     /// A growth was refused, which says nothing of the source.

@@ -1,4 +1,4 @@
-//! Accesses to cells: reading, assignment, the functions of states, and PURGE.
+//! Accesses to cells: reading, assignment, the functions of full and empty, and PURGE.
 //!
 //! Nothing here takes memory.
 #![tactic(auto)]

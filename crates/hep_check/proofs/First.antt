@@ -52,6 +52,6 @@ pub none_reported : (vs : Violations) → first_of vs ≡ None → vs ≡ []
 none_reported [] h = refl
 none_reported (v ∷ vs) h = cc
 
--- the parts that are told nothing of
+-- a part without a violation changes nothing
 pub first_of-none : (vs ws : Violations) → first_of vs ≡ None → first_of (vs ++ ws) ≡ first_of ws
 first_of-none vs ws h = first_of-append vs ws ∙ ap (λ v. first_of_two v (first_of ws)) h

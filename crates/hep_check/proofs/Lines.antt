@@ -1,4 +1,4 @@
--- The first of violations that their lines tell.
+-- The first of violations that differ in their lines alone.
 use Rattle.std.proofs.Common.{◌≡◌, ℕ, Bool, true, false, ◌||◌, nat_lt, Option, Some, None, List, [], ◌∷◌, ◌++◌, refl, ◌∙◌, sym, ap, arith, true≢false, if◌then◌else◌}
 use Rattle.std.specs.List.{flat_map, list_any}
 use Rattle.std.specs.Option.{option_map}
@@ -71,13 +71,13 @@ pub reported-append : (number : ℕ) (vs ws : Violations) (a b : Option ℕ) →
     → first_of (vs ++ ws) ≡ reported number (least_line a b)
 reported-append number vs ws a b p q = rw (first_of-append vs ws, p, q) (first_of_two-reported number a b)
 
--- each element tells a line
+-- each element gives a line
 pub reported-of : {A : Type 0} (number : ℕ) (f : A → Violations) (line : A → Option ℕ) → ((x : A) → first_of (f x) ≡ reported number (line x))
     → (xs : List A) → first_of (flat_map f xs) ≡ reported number (least_line_of line xs)
 reported-of number f line t [] = refl
 reported-of number f line t (x ∷ xs) = reported-append number (f x) (flat_map f xs) (line x) (least_line_of line xs) (t x) (reported-of number f line t xs)
 
--- each element that passes a test tells its line
+-- each element that passes a test gives its line
 pub reported-where : {A : Type 0} (number : ℕ) (test : A → Bool) (line : A → ℕ) (xs : List A)
     → first_of (flat_map (λ x. when (test x) (at_line number (line x))) xs) ≡ reported number (least_line_where test line xs)
 reported-where number test line [] = refl

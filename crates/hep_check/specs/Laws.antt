@@ -1,4 +1,4 @@
--- Words of the laws of the conditions: docs/LANGUAGE.md, 10.
+-- What the laws of the conditions speak of: docs/LANGUAGE.md, 10.
 use Rattle.std.specs.Prelude.{◌≡◌, []}
 use Rattle.hep_source.specs.declared.name.Name.{Name}
 use Rattle.hep_machine.specs.Constants.{Constants, value_among}

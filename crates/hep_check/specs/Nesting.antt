@@ -33,7 +33,7 @@ is_unconditional s = not (is_nonempty s.conditions)
 
 -- ---- DO ranges: 11.10.1
 
--- a DO: its place, the index of its terminal statement and its variable
+-- a DO: its index, that of its terminal statement, and its variable
 pub record DoRange : Type 0 where
   pub start : ℕ
   pub terminal : ℕ

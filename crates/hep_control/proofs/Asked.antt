@@ -1,9 +1,9 @@
--- What questions tell that stand after values, in a list without order.
-use Rattle.std.proofs.Common.{◌≡◌, ℕ, Bool, true, false, ◌&&◌, ◌||◌, nat_lt, List, [], ◌∷◌, ◌++◌, map, Option, Some, None, refl, ◌∙◌, sym, ap}
+-- What questions give that stand after values, in a list without order.
+use Rattle.std.proofs.Common.{◌≡◌, ℕ, Bool, true, false, ◌&&◌, ◌||◌, nat_lt, List, [], ◌∷◌, ◌++◌, map, Option, None, refl, ◌∙◌, ap}
 use Rattle.std.specs.List.{list_any}
 use Rattle.std.proofs.lemmas.List.Folds.{list_any-append}
 use Rattle.hep_check.specs.Reported.{least_line, line_when, least_line_of}
-use Rattle.hep_check.proofs.Lines.{least_line_of-append, least_line_of-same}
+use Rattle.hep_check.proofs.Lines.{least_line_of-append}
 use Rattle.hep_control.specs.declared.sweep.Event.{Event}
 use Rattle.hep_control.specs.declared.sweep.Event.TheVariants.{Value, Question}
 use Rattle.hep_control.specs.Sweep.{is_within, comes_before, line_asked, least_met}

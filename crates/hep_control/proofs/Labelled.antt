@@ -1,5 +1,5 @@
 -- Where labels lead, statement by statement.
-use Rattle.std.proofs.Common.{◌≡◌, ℕ, suc, ◌+◌, Bool, true, false, ◌&&◌, nat_eq, if◌then◌else◌, Option, Some, None, List, [], ◌∷◌, refl, ◌∙◌, sym, ap, arith, subst, length, ◌<◌, IfSome}
+use Rattle.std.proofs.Common.{◌≡◌, ℕ, suc, ◌+◌, Bool, true, false, ◌&&◌, nat_eq, if◌then◌else◌, Option, Some, None, List, [], ◌∷◌, refl, ◌∙◌, sym, ap, arith, length, ◌<◌, IfSome}
 use Rattle.std.specs.Option.{option_map}
 use Rattle.hep_source.specs.declared.statement.Statement.{Statement}
 use Rattle.hep_source.specs.Units.{is_executable}

@@ -9,14 +9,14 @@ use Rattle.hep_machine.specs.Control.{role_of, index_labelled}
 use Rattle.hep_check.specs.Nesting as nesting
 use Rattle.hep_check.specs.Nesting.{IndexedStatement, indexed_statements, is_in, enters, is_division, is_wrong_jump, jump_to, jump_violations, regions_of}
 use Rattle.hep_check.specs.Statements.{targets_of_jump}
-use Rattle.hep_check.specs.Violations.{Violations, first_of, when, at_line}
+use Rattle.hep_check.specs.Violations.{Violations, first_of}
 use Rattle.hep_check.specs.Reported.{reported, least_line, line_when, least_line_of}
 use Rattle.hep_check.proofs.Lines.{reported-append, reported-when, least_line_of-append, least_line_of-same, least_line_of-both, least_line-or, least_line-none}
 use Rattle.hep_control.specs.declared.region.Region.{Region}
 use Rattle.hep_control.specs.declared.region.Jump.{Jump}
 use Rattle.hep_control.specs.Sweep.{is_within, least_met}
-use Rattle.hep_control.specs.Jumps.{region, Leap, leap, leap_to, leaps_by, leaps_at, leaps_of, value_by_start, question_by_start, value_by_end, question_by_end, line_to_division}
-use Rattle.hep_control.proofs.Sets.{any-same}
+use Rattle.hep_control.specs.Jumps.{region, Leap, leap, leap_to, leaps_at, leaps_of, value_by_start, question_by_start, value_by_end, question_by_end, line_to_division}
+use Rattle.hep_control.proofs.Sets.{any-same, any-map}
 use Rattle.hep_control.proofs.Asked.{met-asked}
 
 -- ---- jump by jump
@@ -111,16 +111,12 @@ any-or p q (x ∷ xs) = ap (λ b. (p x || q x) || b) (any-or p q xs) ∙ turn (p
     turn false true false d = refl
     turn false false c d = refl
 
-any-map : {A B : Type 0} (test : B → Bool) (f : A → B) (xs : List A) → list_any test (map f xs) ≡ list_any (λ x. test (f x)) xs
-any-map test f [] = refl
-any-map test f (x ∷ xs) = ap (λ b. test (f x) || b) (any-map test f xs)
-
 any-enters : (j : Jump) (rs : List Region) → list_any (enters j.from j.to) (map region rs) ≡ (list_any (enters_late j) rs || list_any (enters_early j) rs)
 any-enters j rs =
     any-map (enters j.from j.to) region rs
     ∙ (any-same (λ r. enters j.from j.to (region r)) (λ r. enters_late j r || enters_early j r) (one-enters j) rs ∙ any-or (enters_late j) (enters_early j) rs)
 
-least_line_of-map : {A B : Type 0} (line : B → Option ℕ) (f : A → B) (xs : List A) → least_line_of line (map f xs) ≡ least_line_of (λ x. line (f x)) xs
+pub least_line_of-map : {A B : Type 0} (line : B → Option ℕ) (f : A → B) (xs : List A) → least_line_of line (map f xs) ≡ least_line_of (λ x. line (f x)) xs
 least_line_of-map line f [] = refl
 least_line_of-map line f (x ∷ xs) = ap (least_line (line (f x))) (least_line_of-map line f xs)
 

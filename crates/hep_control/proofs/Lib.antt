@@ -8,4 +8,8 @@ pub mod Asked
 pub mod Leaps
 pub mod Reordered
 pub mod Nested
+pub mod Shared
+pub mod Crossed
 pub mod Alone
+pub mod Ahead
+pub mod Looped

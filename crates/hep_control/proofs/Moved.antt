@@ -1,4 +1,4 @@
--- Lists in another order tell the same.
+-- Lists in another order give the same line.
 use Rattle.std.proofs.Common.{◌≡◌, ℕ, Bool, true, false, Option, Some, None, List, [], ◌∷◌, refl, ◌∙◌, sym, ap, arith, reverse}
 use Rattle.std.specs.List.{list_any, All}
 use Rattle.std.specs.List.Sorted.{IsPermutation}
@@ -6,7 +6,7 @@ use Rattle.std.proofs.lemmas.Bool.Decides.{nat_tests}
 use Rattle.std.proofs.lemmas.List.Sorted.{All-permutation, IsPermutation-sym, IsPermutation-reverse}
 use Rattle.std.proofs.lemmas.List.Elements.{All-nil, All-cons, All-head, All-tail, All-weaker}
 use Rattle.hep_check.specs.Reported.{least_line, line_when, least_line_of}
-use Rattle.hep_check.proofs.Lines.{least_line-none, least_line-assoc, least_line-comm, least_line_of-any, least_line_of-same}
+use Rattle.hep_check.proofs.Lines.{least_line-none, least_line-assoc, least_line-comm, least_line_of-any}
 
 least_line-again : (m : Option ℕ) → least_line m m ≡ m
 least_line-again None = refl

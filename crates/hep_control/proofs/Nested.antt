@@ -1,10 +1,10 @@
 -- What isn't nested, in four parts: 307.
-use Rattle.std.proofs.Common.{◌≡◌, ℕ, Bool, true, false, ◌||◌, Option, List, ◌++◌, refl, ◌∙◌, sym, ap}
+use Rattle.std.proofs.Common.{◌≡◌, ℕ, ◌||◌, Option, List, ◌++◌, ◌∙◌, sym, ap}
 use Rattle.std.specs.List.{flat_map, list_any}
 use Rattle.hep_source.specs.declared.statement.Statement.{Statement}
 use Rattle.hep_source.specs.Units.{line_at}
 use Rattle.hep_check.specs.Nesting.{DoRange, BlockIf, ranges_of, block_ifs_of, ranges_cross, shares_variable, range_pair, leaves_range, leaves_block, crossing, nesting_violations}
-use Rattle.hep_check.specs.Violations.{Violations, first_of, when, at_line}
+use Rattle.hep_check.specs.Violations.{first_of, when, at_line}
 use Rattle.hep_check.specs.Reported.{reported, least_line, line_when, least_line_of}
 use Rattle.hep_check.proofs.Lines.{reported-append, reported-when, reported-of, least_line-or, least_line_of-same, least_line_of-both, least_line_of-any, least_line_of-turned}
 use Rattle.hep_control.proofs.Leaps.{any-or}

@@ -9,7 +9,7 @@ use Rattle.hep_check.specs.Nesting.{regions_before, regions_to_last, block_regio
 use Rattle.hep_control.specs.declared.blocks.BlockIf.{BlockIf}
 use Rattle.hep_control.specs.Blocks.{block_if}
 use Rattle.hep_control.specs.Jumps.{blocks_from, blocks_in}
-use Rattle.hep_control.proofs.Sets.{or-comm, any-same}
+use Rattle.hep_control.proofs.Sets.{or-comm, any-same, any-map, any-flat}
 use Rattle.hep_control.proofs.Moved.{any-reverse}
 
 reverse_aux-append : {A : Type 0} (xs ys : List A) → reverse_aux xs ys ≡ reverse_aux xs [] ++ ys
@@ -60,20 +60,12 @@ module _ (test : nesting.Region → Bool) where
   one : (b : BlockIf) → list_any test (blocks_in b) ≡ list_any test (block_regions (block_if b))
   one b = by_end b.start b.divisions.items b.has_else b.end
 
-  any-flat : {A : Type 0} (f : A → List nesting.Region) (xs : List A) → list_any test (flat_map f xs) ≡ list_any (λ x. list_any test (f x)) xs
-  any-flat f [] = refl
-  any-flat f (x ∷ xs) = list_any-append test (f x) (flat_map f xs) ∙ ap (λ b. list_any test (f x) || b) (any-flat f xs)
-
   blocks-any : (bs : List BlockIf) → list_any test (flat_map blocks_in bs) ≡ list_any test (flat_map block_regions (reverse (map block_if bs)))
   blocks-any bs =
-      any-flat blocks_in bs
+      any-flat test blocks_in bs
       ∙ (any-same (λ b. list_any test (blocks_in b)) (λ b. list_any test (block_regions (block_if b))) one bs
-      ∙ (sym (any-map bs)
-      ∙ (sym (any-reverse (λ b. list_any test (block_regions b)) (map block_if bs)) ∙ sym (any-flat block_regions (reverse (map block_if bs))))))
-    where
-      any-map : (xs : List BlockIf) → list_any (λ b. list_any test (block_regions b)) (map block_if xs) ≡ list_any (λ b. list_any test (block_regions (block_if b))) xs
-      any-map [] = refl
-      any-map (x ∷ xs) = ap (λ t. list_any test (block_regions (block_if x)) || t) (any-map xs)
+      ∙ (sym (any-map (λ b. list_any test (block_regions b)) block_if bs)
+      ∙ (sym (any-reverse (λ b. list_any test (block_regions b)) (map block_if bs)) ∙ sym (any-flat test block_regions (reverse (map block_if bs))))))
 
   pub regions-any : (unit : List Statement) (rs : List nesting.DoRange) (cs us : List BlockIf) → rs ≡ ranges_of unit
       → reverse (map block_if cs) ≡ (block_ifs_of unit).closed → reverse (map block_if us) ≡ (block_ifs_of unit).unclosed

@@ -1,11 +1,11 @@
 -- What is reported of labels: 306.
-use Rattle.std.proofs.Common.{◌≡◌, ℕ, Bool, true, false, ◌||◌, nat_eq, List, [], ◌∷◌, ◌++◌, map, Option, Some, None, option_to_list, refl, ◌∙◌, sym, ap}
+use Rattle.std.proofs.Common.{◌≡◌, ℕ, Bool, false, ◌||◌, nat_eq, List, [], ◌∷◌, ◌++◌, map, Option, Some, None, option_to_list, refl, ◌∙◌, ap}
 use Rattle.std.specs.List.{flat_map, list_any}
 use Rattle.hep_source.specs.declared.statement.Statement.{Statement}
 use Rattle.hep_check.specs.Labels.{unlabelled, labels_of, label_violations}
 use Rattle.hep_check.specs.Statements.{targets_of_jump, terminal_labels}
-use Rattle.hep_check.specs.Violations.{Violations, first_of, when, at_line, repeated_after, repeated_by}
-use Rattle.hep_check.specs.Reported.{reported, least_line, line_when, least_line_of, least_line_where}
+use Rattle.hep_check.specs.Violations.{first_of, when, at_line, repeated_after, repeated_by}
+use Rattle.hep_check.specs.Reported.{reported, least_line, line_when}
 use Rattle.hep_check.proofs.Lines.{reported-any, reported-append, reported-of, reported-when, least_line-where, least_line-assoc}
 use Rattle.hep_control.specs.Labels.{is_absent, goes_nowhere, line_of, least_unlabelled, is_seen, with_seen, least_repeated}
 

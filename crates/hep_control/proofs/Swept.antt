@@ -1,5 +1,5 @@
--- One pass over events in order tells what their questions tell.
-use Rattle.std.proofs.Common.{◌≡◌, ℕ, suc, ◌+◌, ◌*◌, ◌<◌, ◌≤◌, Bool, true, false, ◌&&◌, ◌||◌, nat_lt, nat_le, Option, Some, None, List, [], ◌∷◌, ◌++◌, length, refl, ◌∙◌, sym, ap, arith, append_assoc}
+-- One pass over events in order gives the lines that their questions give.
+use Rattle.std.proofs.Common.{◌≡◌, ℕ, suc, ◌+◌, ◌*◌, ◌<◌, ◌≤◌, Bool, true, false, ◌&&◌, ◌||◌, nat_lt, Option, List, [], ◌∷◌, ◌++◌, refl, ◌∙◌, sym, ap, arith, append_assoc}
 use Rattle.std.specs.List.{list_any}
 use Rattle.std.specs.List.Sorted.{IsNonDecreasingBy, IsPermutation}
 use Rattle.std.proofs.lemmas.Bool.Decides.{nat_tests}
@@ -9,7 +9,6 @@ use Rattle.hep_check.proofs.Lines.{least_line-assoc, least_line_of-same}
 use Rattle.hep_control.specs.declared.sweep.Event.{Event}
 use Rattle.hep_control.specs.declared.sweep.Event.TheVariants.{Value, Question}
 use Rattle.hep_control.specs.Sweep.{is_within, comes_before, line_asked, least_met, rank, line_met, with_event, least_swept}
-use Rattle.hep_control.proofs.Sets.{or-comm}
 use Rattle.hep_control.proofs.Moved.{least_line_of-permutation, any-permutation}
 
 -- ---- what a pass keeps

@@ -1,15 +1,14 @@
 -- Jumps and what they may not lead into, as the code keeps them (X3.9-1978, 11.6.3, 11.7.2, 11.8.2 and 11.10.8).
-use Rattle.std.specs.Prelude.{ℕ, suc, ◌-◌, Bool, ◌&&◌, nat_le, List, [], ◌∷◌, ◌++◌, map, Option, Some, None}
+use Rattle.std.specs.Prelude.{ℕ, suc, ◌-◌, List, [], ◌∷◌, Option, Some, None}
 use Rattle.std.specs.List.{flat_map}
 use Rattle.std.below.core.specs.declared.int.usize.TheConstants.{MAX}
-use Rattle.hep_source.specs.declared.statement.Form.{Form}
 use Rattle.hep_source.specs.declared.statement.Statement.{Statement}
 use Rattle.hep_source.specs.Units.{statement_at}
 use Rattle.hep_machine.specs.Control.{role_of, index_labelled}
 use Rattle.hep_check.specs.Nesting as nesting
 use Rattle.hep_check.specs.Nesting.{DoRange, IndexedStatement, indexed_statements, is_division}
 use Rattle.hep_check.specs.Statements.{targets_of_jump}
-use Rattle.hep_check.specs.Reported.{line_when, least_line_of}
+use Rattle.hep_check.specs.Reported.{line_when}
 use Rattle.hep_control.specs.declared.blocks.BlockIf.{BlockIf}
 use Rattle.hep_control.specs.declared.region.Region.{Region}
 use Rattle.hep_control.specs.declared.region.Jump.{Jump}

@@ -1,5 +1,5 @@
 -- One pass over the labels of a unit (X3.9-1978, 3.4).
-use Rattle.std.specs.Prelude.{ℕ, Bool, true, false, ◌||◌, nat_eq, if◌then◌else◌, List, [], ◌∷◌, ◌++◌, Option, Some, None, is_none}
+use Rattle.std.specs.Prelude.{ℕ, Bool, false, ◌||◌, nat_eq, if◌then◌else◌, List, [], ◌∷◌, ◌++◌, Option, Some, None, is_none}
 use Rattle.std.specs.List.{list_any}
 use Rattle.hep_source.specs.declared.statement.Statement.{Statement}
 use Rattle.hep_source.specs.Units.{is_executable}
@@ -11,7 +11,7 @@ use Rattle.hep_check.specs.Reported.{least_line, line_when, least_line_where}
 abbrev pub executable_label : Statement → Option ℕ
 executable_label s = if is_executable s.form then s.label else None
 
--- where a label is, once it is met again or first
+-- where a label is, after one more statement, which has the label or not: the first one that has it counts
 abbrev pub noted : Option ℕ → Bool → ℕ → Option ℕ
 noted (Some k) is_met index = Some k
 noted None is_met index = if is_met then Some index else None

@@ -4,3 +4,6 @@ pub mod Blocks
 pub mod Ranges
 pub mod Jumps
 pub mod Structure
+pub mod Crossing
+pub mod Successors
+pub mod Loops

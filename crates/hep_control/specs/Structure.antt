@@ -8,6 +8,7 @@ use Rattle.hep_machine.specs.Control.{index_labelled}
 use Rattle.hep_check.specs.Nesting.{IndexedStatement, is_unconditional, is_wrong_terminal, holds_wrongly}
 use Rattle.hep_check.specs.Types.{is_plain_integer_scalar}
 use Rattle.hep_check.specs.Reported.{least_line, line_when, least_line_of}
+use Rattle.hep_control.specs.declared.blocks.BlockIf.{BlockIf}
 
 -- for each statement whether its DO variable, where it has one, is a plain integer scalar
 abbrev pub has_loop_variable : List Statement → Form → Bool
@@ -17,7 +18,7 @@ has_loop_variable unit _ = true
 abbrev pub loop_variables : List Statement → List Bool
 loop_variables unit = map (λ (s : Statement). has_loop_variable unit s.form) unit
 
--- ---- the lines that statements by themselves tell
+-- ---- the lines at which statements by themselves are reported
 
 abbrev pub terminal_line : List Statement → ℕ → ℕ → Option ℕ → Option ℕ
 terminal_line unit line k None = None
@@ -36,3 +37,11 @@ statement_line unit is_variable p =
 
 abbrev pub least_statement : List Statement → List IndexedStatement → Option ℕ
 least_statement unit ps = least_line_of (λ (p : IndexedStatement). statement_line unit (has_loop_variable unit p.statement.form) p) ps
+
+-- ---- the lines that block IFs by themselves tell
+
+abbrev pub line_of_stray : List Statement → ℕ → Option ℕ
+line_of_stray unit k = Some (line_at unit k)
+
+abbrev pub line_of_unclosed : List Statement → BlockIf → Option ℕ
+line_of_unclosed unit b = Some (line_at unit b.start)

@@ -1,5 +1,5 @@
--- Which intervals have a value that comes before them.
-use Rattle.std.specs.Prelude.{ℕ, suc, ◌+◌, ◌*◌, Bool, true, false, ◌&&◌, nat_lt, nat_le, List, [], ◌∷◌, Option, Some, None}
+-- Values and questions: whether a value with a lesser key lies in an interval.
+use Rattle.std.specs.Prelude.{ℕ, ◌+◌, ◌*◌, Bool, false, ◌&&◌, nat_lt, nat_le, List, [], ◌∷◌, Option, None}
 use Rattle.std.specs.List.{list_any}
 use Rattle.hep_check.specs.Reported.{least_line, line_when, least_line_of}
 use Rattle.hep_control.specs.declared.sweep.Event.{Event}
@@ -13,12 +13,12 @@ abbrev pub comes_before : ℕ → ℕ → ℕ → Event → Bool
 comes_before key low high (Value k v) = nat_lt k key && is_within low high v
 comes_before key low high (Question k l h line) = false
 
--- what a question tells of these events
+-- the line that a question gives among these events
 abbrev pub line_asked : List Event → Event → Option ℕ
 line_asked events (Value k v) = None
 line_asked events (Question key low high line) = line_when (list_any (comes_before key low high) events) line
 
--- the least line that the questions tell, in whatever order they stand
+-- the least line that the questions give, in whatever order they stand
 abbrev pub least_met : List Event → Option ℕ
 least_met events = least_line_of (line_asked events) events
 

@@ -56,6 +56,13 @@ impl BlockIfs {
         &self.unclosed
     }
 
+    // ELSE IF, ELSE and END IF statements of no block IF.
+    pub(crate) fn stray(&self) -> &[usize]
+        ensures { reverse result.now ≡ self.now.stray }
+    {
+        &self.stray
+    }
+
     fn open(&mut self, alloc: Global, index: usize) -> Result<(), AllocError>
         ensures { OnOk result (self.new ≡ nesting.with_block_if self.old index) }
     {

@@ -108,7 +108,8 @@ fn jumps_of(alloc: Global, labels: &Labels) -> Result<Vec<Jump>, AllocError>
     Ok(jumps)
 }
 
-// Each region as a value from its start on, and whether it ends before the jump to a statement.
+// Asks of each jump whether it comes into a region from after the region's end: some region begins before
+// the target, and ends after it and no later than at the jump.
 fn events_by_start(
     alloc: Global,
     regions: &[Region],
@@ -134,7 +135,8 @@ fn events_by_start(
     Ok(events)
 }
 
-// The same from the end of the unit.
+// Asks of each jump whether it comes into a region from before the region's start: some region ends after
+// the target, and begins before it and no earlier than at the jump.
 fn events_by_end(
     alloc: Global,
     regions: &[Region],

@@ -5,6 +5,7 @@ ghost use Rattle.std.specs.Option.{is_none};
 ghost use Rattle.indexmap.specs.IndexMap.{get};
 ghost use Rattle.indexmap.specs.IndexSet.{contains};
 ghost use Rattle.hep_machine.specs.Control as control;
+ghost use Rattle.hep_source.specs.Units as units;
 ghost use Rattle.hep_check.specs.Labels.{label_violations};
 ghost use Rattle.hep_check.specs.Statements.{targets_of_jump, terminal_labels};
 ghost use Rattle.hep_check.specs.Violations.{first_of};
@@ -42,7 +43,7 @@ impl<'a> Model for Labels<'a> {
 }
 
 impl<'a> Labels<'a> {
-    /// Goes through the statements of a unit once.
+    /// The labels of a unit, by one pass over its statements.
     ///
     /// # Errors
     ///
@@ -72,6 +73,16 @@ impl<'a> Labels<'a> {
         ensures in_unit { IfSome result (λ index. index < length self.now) }
     {
         self.indices.get(&label).copied()
+    }
+
+    /// The same, and past the last statement where there is none.
+    pub fn index_of_label(&self, label: u32) -> usize
+        ensures { result ≡ control.index_of_label self.now label }
+    {
+        match self.index_labelled(label) {
+            Some(index) => index,
+            None => self.unit.len(),
+        }
     }
 
     fn is_absent(&self, label: u32) -> bool
@@ -107,7 +118,7 @@ fn least_unlabelled(labels: &Labels) -> Option<u32>
     least
 }
 
-// Whether no executable statement has some label that a statement goes to.
+// Whether some label that a statement goes to is on no executable statement.
 fn goes_nowhere(labels: &Labels, form: &Form) -> bool
     ensures { result ≡ list_any (passes.is_absent labels.now) (targets_of_jump form.now ++ terminal_labels form.now) }
 {
@@ -155,7 +166,17 @@ fn is_repeated(seen: &mut IndexSet<u32>, label: Option<u32>) -> Result<bool, All
 fn executable_label(statement: &Statement) -> Option<u32>
     ensures { result ≡ passes.executable_label statement.now }
 {
-    match statement.form {
+    if is_executable(&statement.form) {
+        statement.label
+    } else {
+        None
+    }
+}
+
+pub(crate) fn is_executable(form: &Form) -> bool
+    ensures { result ≡ units.is_executable form.now }
+{
+    match form {
         Form::Program(_)
         | Form::Subroutine(..)
         | Form::Implicit(_)
@@ -163,8 +184,8 @@ fn executable_label(statement: &Statement) -> Option<u32>
         | Form::Dimension(_)
         | Form::Common(_)
         | Form::Parameter(_)
-        | Form::Data(_) => None,
-        _ => statement.label,
+        | Form::Data(_) => false,
+        _ => true,
     }
 }
 

@@ -1,9 +1,11 @@
-//! Violations that their lines tell.
+//! Violations of one number and without a name, by their lines.
 ghost use Rattle.std.specs.Prelude.{◌≡◌};
 ghost use Rattle.hep_check.specs.Reported as reported;
 ghost use Rattle.hep_check.specs.Violations.{at_line};
+ghost use Rattle.hep_source.specs.Units as units;
 
 use hep_check::Violation;
+use hep_source::Statement;
 
 // The violation of a condition by the statement at a line.
 fn violation_at(number: u16, line: u32) -> Violation
@@ -14,6 +16,16 @@ fn violation_at(number: u16, line: u32) -> Violation
         number,
         name: None,
         position: 0,
+    }
+}
+
+// The line of the statement at an index.
+pub(crate) fn line_at(unit: &[Statement], index: usize) -> u32
+    ensures { result ≡ units.line_at unit.now index }
+{
+    match unit.get(index) {
+        Some(statement) => statement.line,
+        None => 0,
     }
 }
 

@@ -1,13 +1,100 @@
 //! DOs and block IFs that are wrong or aren't nested: 307 (X3.9-1978, 11.5 to 11.10).
-ghost use Rattle.std.specs.Prelude.{◌≡◌};
+ghost use Rattle.std.specs.Prelude.{◌≡◌, IfOk, true, slice_get};
+ghost use Rattle.std.specs.Option.{unwrap_or};
 ghost use Rattle.hep_check.specs.Nesting as nesting;
+ghost use Rattle.hep_check.specs.Reported as lines;
+ghost use Rattle.hep_check.specs.Violations.{first_of};
 ghost use Rattle.hep_control.specs.Structure as spec;
 
+use crate::blocks::{BlockIf, BlockIfs, block_ifs_of};
+use crate::crossing::least_crossing;
 use crate::labels::Labels;
-use crate::reported::{lesser, line_when};
+use crate::ranges::ranges_of;
+use crate::reported::{lesser, line_at, line_when, reported};
+use hep_check::Violation;
 use hep_source::{Form, Statement};
+use std::alloc::{AllocError, Global};
 
-// What a statement by itself tells.
+/// The first violation of 307: a DO or a logical IF that is wrong by itself, a block IF that isn't
+/// complete, and what isn't nested. The caller says of each statement whether its DO variable, where it
+/// has one, is a plain integer scalar.
+///
+/// # Errors
+///
+/// Only where memory was refused.
+pub fn structure_violation(
+    alloc: Global,
+    labels: &Labels,
+    loop_variables: &[bool],
+) -> Result<Option<Violation>, AllocError>
+    requires { loop_variables.now ≡ spec.loop_variables labels.now }
+    ensures { IfOk result (λ violation. violation ≡ first_of (nesting.structure_violations labels.now)) }
+{
+    let unit = labels.unit();
+    let ranges = ranges_of(alloc, labels)?;
+    let blocks = block_ifs_of(alloc, unit)?;
+    let alone = least_statement(labels, loop_variables);
+    let unmatched = least_unmatched(unit, &blocks);
+    let crossing = least_crossing(alloc, unit, &ranges, &blocks)?;
+    Ok(reported(307, lesser(alone, lesser(unmatched, crossing))))
+}
+
+// The least line of an ELSE IF, ELSE or END IF of no block IF, or of a block IF without END IF.
+fn least_unmatched(unit: &[Statement], blocks: &BlockIfs) -> Option<u32>
+    requires { blocks.now ≡ nesting.block_ifs_of unit.now }
+    ensures { lines.reported 307 result ≡ first_of (nesting.block_violations unit.now) }
+{
+    lesser(
+        least_stray(unit, blocks.stray()),
+        least_unclosed(unit, blocks.unclosed()),
+    )
+}
+
+fn least_stray(unit: &[Statement], stray: &[usize]) -> Option<u32>
+    ensures { result ≡ lines.least_line_of (spec.line_of_stray unit.now) stray.now }
+{
+    let mut least = None;
+    for index in stray {
+        least = lesser(least, Some(line_at(unit, *index)));
+    }
+    least
+}
+
+fn least_unclosed(unit: &[Statement], blocks: &[BlockIf]) -> Option<u32>
+    ensures { result ≡ lines.least_line_of (spec.line_of_unclosed unit.now) blocks.now }
+{
+    let mut least = None;
+    for block in blocks {
+        least = lesser(least, Some(line_at(unit, block.start)));
+    }
+    least
+}
+
+// The least line that statements by themselves tell.
+fn least_statement(labels: &Labels, loop_variables: &[bool]) -> Option<u32>
+    requires { loop_variables.now ≡ spec.loop_variables labels.now }
+    ensures { result ≡ spec.least_statement labels.now (nesting.indexed_statements labels.now) }
+{
+    let mut least = None;
+    for (index, statement) in labels.unit().iter().enumerate() {
+        let is_variable = is_loop_variable(loop_variables, index);
+        let line = statement_line(labels, is_variable, index, statement);
+        least = lesser(least, line);
+    }
+    least
+}
+
+fn is_loop_variable(loop_variables: &[bool], index: usize) -> bool
+    ensures { result ≡ unwrap_or (slice_get loop_variables.now index) true }
+{
+    match loop_variables.get(index) {
+        Some(is_variable) => *is_variable,
+        None => true,
+    }
+}
+
+// The line at which a statement by itself is reported, if it is. `is_variable` says whether the variable
+// of a DO is a plain integer scalar.
 fn statement_line(
     labels: &Labels,
     is_variable: bool,
@@ -24,7 +111,7 @@ fn statement_line(
     }
 }
 
-// What a DO tells.
+// The same of a DO.
 fn loop_line(labels: &Labels, is_variable: bool, index: usize, statement: &Statement) -> Option<u32>
     ensures { result ≡ spec.loop_line labels.now is_variable statement.now.line index statement.now.form }
 {
@@ -41,7 +128,7 @@ fn loop_line(labels: &Labels, is_variable: bool, index: usize, statement: &State
     }
 }
 
-// What the terminal statement of a DO tells.
+// The same of the terminal statement of a DO.
 fn terminal_line(labels: &Labels, line: u32, index: usize, terminal: Option<usize>) -> Option<u32>
     ensures { result ≡ spec.terminal_line labels.now line index terminal }
 {

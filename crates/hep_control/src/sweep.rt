@@ -1,4 +1,5 @@
-//! Which intervals have a value that comes before them.
+//! One pass over values and questions by rising keys: each question asks whether a value with a lesser key
+//! lies in an interval.
 ghost use Rattle.std.specs.Prelude.{◌≡◌, ℕ, Bool, IfOk, OnOk};
 ghost use Rattle.std.specs.List.{list_any};
 ghost use Rattle.hep_control.specs.Sweep as sweep;
@@ -14,7 +15,7 @@ pub(crate) enum Event {
         key: usize,
         value: usize,
     },
-    // Tells a line where a value with a lesser key is from `low` to below `high`.
+    // Asks whether a value with a lesser key is from `low` to below `high`, and gives the line where one is.
     Question {
         key: usize,
         low: usize,
@@ -33,7 +34,7 @@ fn rank(event: &Event) -> u128
     }
 }
 
-// The least line that these questions tell of these values.
+// The least line that the questions give.
 pub(crate) fn least_met(alloc: Global, mut events: Vec<Event>) -> Result<Option<u32>, AllocError>
     ensures { IfOk result (λ line. line ≡ sweep.least_met events.items) }
 {
@@ -47,7 +48,7 @@ pub(crate) fn least_met(alloc: Global, mut events: Vec<Event>) -> Result<Option<
     Ok(least)
 }
 
-// What an event tells of the values before it; from now on its own is among them.
+// The line that a question gives by the values before it; a value is among them from now on.
 fn line_met(values: &mut BTreeSet<usize>, event: &Event) -> Result<Option<u32>, AllocError>
     ensures line { IfOk result (λ line. line ≡ sweep.line_met values.old.keys event.now) }
     ensures values { OnOk result ((test : ℕ → Bool) → list_any test values.new.keys ≡ list_any test (sweep.with_event event.now values.old.keys)) }

@@ -22,7 +22,7 @@ use Rattle.hep_core.proofs.Declared.{with_names-append}
 use Rattle.hep_core.proofs.Names.{names_append}
 
 module _ (unit : List Statement) where
-  -- ---- what runs has no name with a list, so its places are the same in each unit
+  -- ---- what is supported has no name with a list, so its occurrences are the same in each unit
 
   tree_places : (t : Tree) → may_be_left t ≡ true → occurrences_in unit t ≡ occurrences_in [] t
   tree_places (constant v) e = refl

@@ -1,4 +1,4 @@
--- What a program that runs today is to the source machine: it declares nothing, and has no DO and no block IF.
+-- What a supported program is to the source machine: it declares nothing, and has no DO and no block IF.
 use Rattle.std.proofs.Common.{◌≡◌, ℕ, zero, suc, ◌+◌, ◌<◌, ◌≤◌, Bool, true, false, List, [], ◌∷◌, ◌++◌, length, take, get_or, refl, sym, ap, ◌∙◌, subst, arith, Option, Some, None}
 use Rattle.std.specs.Prelude.{◌*◌, ◌&&◌, ◌==◌, nat_le, if◌then◌else◌, IsSome, Ok}
 use Rattle.std.specs.List.{list_all, flat_map, filter}
@@ -213,7 +213,7 @@ following_is unit k h =
     let role : role_of s ≡ other = ap (λ ts. role_after ts s.form) runs.0 ∙ no_role s.form runs.1 in
     ap (past_block unit next) role
 
--- the main program's activation at the first executable statement from a place on
+-- the main program's activation at the first executable statement from an index on
 abbrev pub level_from : List Statement → ℕ → Level
 level_from unit j = level_of (executable_from unit j) (statement_at unit (executable_from unit j)).form
 

@@ -1,4 +1,4 @@
--- No process of a program that runs today ever waits.
+-- No process of a supported program ever waits.
 use Rattle.std.proofs.Common.{◌≡◌, ℕ, List, [], ◌∷◌, true, refl, sym, ap, ◌∙◌, subst, Option, Some, None}
 use Rattle.std.specs.Prelude.{Result, Ok, Err}
 use Rattle.hep_machine.specs.declared.event.Kind.{Kind}

@@ -1,4 +1,4 @@
--- What an image keeps true of its fields: docs/ARCHITECTURE.md.
+-- What an image keeps true of its fields.
 use Rattle.std.specs.Prelude.{◌≡◌, None, length}
 use Rattle.hep_core.specs.Code.{program_code}
 use Rattle.hep_core.specs.Runnable.{first_unsupported_in}

@@ -1,4 +1,4 @@
--- What a core runs today: docs/MACHINE.md, "What runs today". Everything else of the language is refused with 403.
+-- What is supported: docs/MACHINE.md, "What is supported". Everything else of the language is refused with 403.
 use Rattle.std.specs.Prelude.{ℕ, Bool, true, false, not, ◌&&◌, ◌==◌, if◌then◌else◌, List, [], ◌∷◌, Option, Some, None, length}
 use Rattle.std.specs.List.{list_all}
 use Rattle.std.specs.Option.{option_or}
@@ -53,11 +53,11 @@ abbrev pub is_supported_form : Form → Bool
 is_supported_form (Program p) = true
 is_supported_form f = acts_on is_arithmetic is_supported_item f
 
--- a logical IF (X3.9-1978, 11.5) doesn't run
+-- a logical IF (X3.9-1978, 11.5) isn't supported
 abbrev pub runs : Statement → Bool
 runs s = (length s.conditions == 0) && is_supported_form s.form
 
--- the line of the first statement that doesn't run
+-- the line of the first statement that isn't supported
 abbrev pub first_unsupported : List Statement → Option ℕ
 first_unsupported [] = None
 first_unsupported (s ∷ ss) = if runs s then first_unsupported ss else Some s.line
@@ -67,7 +67,7 @@ abbrev pub first_unsupported_in : Units → Option ℕ
 first_unsupported_in [] = None
 first_unsupported_in (unit ∷ units) = option_or (first_unsupported unit) (first_unsupported_in units)
 
--- ---- what is left of a statement that runs: values, logical ones too, stand in the place of what was evaluated
+-- ---- what is left of a supported statement: values, logical ones too, stand in the place of what was evaluated
 
 abbrev pub is_value : Value → Bool
 is_value v = true

@@ -18,7 +18,7 @@ use Rattle.hep_core.specs.Symbols.{main_variables}
 
 -- ---- storage
 
--- no storage unit of a program that runs today is ever full
+-- no storage unit of a supported program is ever full
 abbrev pub plain_cell : Option Value → Cell
 plain_cell v = record { value = v; full = false }
 

@@ -18,9 +18,9 @@ use Rattle.hep_base.specs.declared.refusal.Refusal.TheVariants.{NoMemory, Refuse
 abbrev pub main_variables : Units → List Name
 main_variables program = locals_of (unit_at program (main_unit program))
 
--- ---- the variables of statements that run today
+-- ---- the variables of supported statements
 
--- the variables of an expression, in the order of the text: no program that runs today declares an array
+-- the variables of an expression, in the order of the text: no supported program declares an array
 abbrev pub names_in : Tree → List Name
 names_in t = names_of_occurrences (occurrences_in [] t)
 
@@ -30,7 +30,7 @@ names_in_all ts = names_of_occurrences (occurrences_in_all [] ts)
 abbrev pub names_in_items : List PrintItem → List Name
 names_in_items items = names_of_occurrences (flat_map (occurrences_in_item []) items)
 
--- the variables of a statement, in the order of the text; statements that don't run today have none
+-- the variables of a statement, in the order of the text; statements that aren't supported have none
 abbrev pub names_in_form : Form → List Name
 names_in_form (Assign x t) = x.occurrence.name ∷ names_in t
 names_in_form (Print items) = names_in_items items

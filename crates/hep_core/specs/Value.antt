@@ -52,7 +52,7 @@ abbrev pub core_after_choice : CoreValue → ℕ → ℕ → State → CoreValue
 core_after_choice old p n s =
     record old { history = old.history ++ record { process = p; steps = n } ∷ []; stop = stop_after s; view = view_of old.program has_frame s }
 
--- p made a step, or was found disabled
+-- p made a step, or was found waiting
 abbrev pub IsTurn : CoreValue → ℕ → ℕ → Bool → CoreValue → Type 0
 IsTurn old p (suc zero) false new = (s : State) × (step old.program p (state_of old) ≡ Some s) × (new ≡ core_after_choice old p 1 s)
 IsTurn old p zero true new =
@@ -74,7 +74,7 @@ IsChoice old p (Err refused.NoMemory) new = HasNoStop old × (living (state_of o
 
 -- ---- stops
 
--- a stop by its name, and none: the core is Halted just where the machine is; no step of a program that runs today makes a frame
+-- a stop by its name, and none: the core is Halted just where the machine is; no step of a supported program makes a frame
 abbrev pub IsStop : Units → ℕ → List Entry → Option Stop → Type 0
 IsStop program limit history None = (state_after program history).halted ≡ false
 IsStop program limit history (Some Halted) = (state_after program history).halted ≡ true

@@ -49,7 +49,7 @@ impl Model for Image {
 }
 
 impl Image {
-    /// The name with this number, of a unit or a variable: first the units in the order of the
+    /// The name with this number, counted from 0, of a unit or a variable: first the units in the order of the
     /// source, a main program without PROGRAM statement as `MAIN_NAME`, then the variables in order
     /// of first appearance. None where there is no such number.
     pub fn name(&self, number: u32) -> Option<&[u8]>
@@ -74,7 +74,7 @@ impl Image {
         &self.code
     }
 
-    /// How many variables the main program has; every statement of an image's program runs.
+    /// How many variables the main program has; every statement of an image's program is supported.
     pub fn variables(&self) -> usize
         ensures count { result ≡ length (main_variables self.now) }
         ensures runs { runnable.first_unsupported_in self.now ≡ None }
@@ -83,7 +83,7 @@ impl Image {
     }
 }
 
-// The statements of the main program, of a program that runs.
+// The statements of the main program, where each statement of the program is supported.
 fn main_statements(program: &Program) -> &[Statement]
     requires { runnable.first_unsupported_in program.now ≡ None }
     ensures { result.now ≡ units.unit_at program.now (units.main_unit program.now) }
@@ -145,7 +145,7 @@ fn names_of(
 ///
 /// # Errors
 ///
-/// 403 for the first statement that doesn't run today, with its line (docs/MACHINE.md); where there
+/// 403 for the first statement that isn't supported, with its line (docs/MACHINE.md); where there
 /// is none, 301 for the first variable whose letter isn't I to N, with its line and name; or want
 /// of memory.
 pub fn image_of(alloc: Global, program: Program) -> Result<Image, ImageFault>

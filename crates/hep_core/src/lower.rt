@@ -35,7 +35,8 @@ pub fn item_of(value: Value) -> Item
     }
 }
 
-// The number of a variable in the symbol table; a name that isn't there has no number of one.
+// The number of a variable in the symbol table, counted from 0; a name that isn't there has the number
+// after the last one.
 fn number_of(symbols: &IndexSet<Name>, name: Name) -> usize
     ensures { result ≡ code_words.number_of symbols.now.keys name }
 {

@@ -11,11 +11,11 @@ use hep_source::{Syntax, Value};
 use std::alloc::{AllocError, Global};
 use std::mem;
 
-/// The process that a run begins with; today there is no other.
+/// The process that a run begins with; so far there is no other.
 pub const MAIN_PROCESS: u64 = 1;
 
-// The main program's number among the units: the main program of a program that runs today is its
-// first unit.
+// The main program's index among the units: the main program of a supported program is its first
+// unit.
 const MAIN_UNIT: u32 = 0;
 
 /// The state of a run, of its one process.
@@ -23,7 +23,7 @@ const MAIN_UNIT: u32 = 0;
 pub struct Machine {
     /// Whether the process hasn't ended yet.
     pub is_living: bool,
-    /// The place of the next operation.
+    /// The index of the next operation.
     pub program_counter: usize,
     /// What was evaluated of the statement so far, the last operand on top.
     pub operands: Vec<Item>,

@@ -1,11 +1,11 @@
-//! What runs today. Everything else of the language is refused with 403 (docs/MACHINE.md).
+//! What is supported. Everything else of the language is refused with 403 (docs/MACHINE.md).
 ghost use Rattle.std.specs.Prelude.{◌≡◌};
 ghost use Rattle.std.specs.List.{list_all};
 ghost use Rattle.hep_core.specs.Runnable as runnable;
 
 use hep_source::{Expr, Form, Node, Operator, PrintItem, Statement, Target, Unit, Value};
 
-/// Whether an expression is arithmetic (X3.9-1978, 6.1) and runs: integers and the names of
+/// Whether an expression is arithmetic (X3.9-1978, 6.1) and supported: integers and the names of
 /// variables without `$`, in parentheses, with signs and operators.
 pub fn is_arithmetic(expression: &Expr) -> bool
     ensures { result ≡ runnable.is_arithmetic expression.now }
@@ -22,7 +22,7 @@ pub fn is_arithmetic(expression: &Expr) -> bool
     }
 }
 
-/// Whether an item of PRINT runs: an arithmetic expression, a logical constant by itself, or a
+/// Whether an item of PRINT is supported: an arithmetic expression, a logical constant by itself, or a
 /// character constant.
 pub fn is_supported_item(item: &PrintItem) -> bool
     ensures { result ≡ runnable.is_supported_item item.now }
@@ -36,7 +36,7 @@ pub fn is_supported_item(item: &PrintItem) -> bool
     }
 }
 
-// Whether each of these items runs.
+// Whether each of these items is supported.
 fn all_run(items: &[PrintItem]) -> bool
     ensures { result ≡ list_all runnable.is_supported_item items.now }
 {
@@ -50,7 +50,7 @@ fn is_variable(target: &Target) -> bool
     !target.occurrence.name.asynchronous && target.subscripts.as_slice().is_empty()
 }
 
-/// Whether what a statement says runs.
+/// Whether a form is supported.
 pub fn is_supported_form(form: &Form) -> bool
     ensures { result ≡ runnable.is_supported_form form.now }
 {
@@ -63,14 +63,14 @@ pub fn is_supported_form(form: &Form) -> bool
     }
 }
 
-/// Whether a statement runs: it is no logical IF, and what it says runs.
+/// Whether a statement is supported: it is no logical IF, and its form is supported.
 pub fn runs(statement: &Statement) -> bool
     ensures { result ≡ runnable.runs statement.now }
 {
     statement.conditions.as_slice().is_empty() && is_supported_form(&statement.form)
 }
 
-/// The line of the first of these statements that doesn't run.
+/// The line of the first of these statements that isn't supported.
 pub fn first_unsupported(statements: &[Statement]) -> Option<u32>
     ensures { result ≡ runnable.first_unsupported statements.now }
 {
@@ -82,7 +82,7 @@ pub fn first_unsupported(statements: &[Statement]) -> Option<u32>
     None
 }
 
-/// The line of the first statement that doesn't run, over all units in the order of the source.
+/// The line of the first statement that isn't supported, over all units in the order of the source.
 pub fn first_unsupported_in(units: &[Unit]) -> Option<u32>
     ensures { result ≡ runnable.first_unsupported_in units.now }
 {

@@ -71,7 +71,7 @@ impl Core {
         })
     }
 
-    /// One step of process p, and one entry of the history.
+    /// A turn of process p: one step, or none where it waits, and one entry of the history.
     ///
     /// # Errors
     ///

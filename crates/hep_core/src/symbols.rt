@@ -138,7 +138,7 @@ fn declare_statement(
             declare_in(alloc, symbols, line, expression)
         }
         Form::Print(list) => declare_items(alloc, symbols, line, list.as_slice()),
-        // PROGRAM and END have no variables, and `image_of` refuses what doesn't run before.
+        // PROGRAM and END have no variables, and `image_of` refuses what isn't supported before.
         _ => Ok(()),
     }
 }

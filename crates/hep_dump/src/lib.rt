@@ -1,4 +1,4 @@
-//! The lines that tell of a core at its end: its faults, and the processes that wait.
+//! Lines about a core at its end: its faults, and the processes that wait.
 #![tactic(auto)]
 
 pub mod faults;

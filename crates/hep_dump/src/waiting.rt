@@ -12,16 +12,16 @@ use std::alloc::{AllocError, Global};
 #[derive(Clone, Copy, Debug, PartialEq, Eq)]
 pub struct Listed {
     pub process: u64,
-    /// The number of the unit among the names of an image.
+    /// The number of the unit among the names of an image, counted from 0.
     pub unit: u32,
     /// The initial line of the statement, counted from 1.
     pub line: u32,
-    /// Whether it waits until the place is full, or else until it is empty.
+    /// Whether it waits until the location is full, or else until it is empty.
     pub full: bool,
     /// The activation that owns the variable; 0 for COMMON.
     pub owner: u64,
-    /// The number of the variable or the block among the names of an image. Blank COMMON has a name
-    /// without characters.
+    /// The number of the variable or the block among the names of an image, counted from 0. Blank COMMON
+    /// has a name without characters.
     pub name: u32,
     /// The element, counted from 1; 0 for a variable that is no array. In COMMON it is the position
     /// in the block, counted from 1.
@@ -67,7 +67,7 @@ fn append_variable(
     Ok(())
 }
 
-// The place that a process waits for.
+// The location that a process waits for.
 fn append_place(text: &mut Vec<u8>, name: &[u8], listed: &Listed) -> Result<(), AllocError>
     ensures { OnOk result (text.new.items
         ≡ text.old.items ++ words.place_text name.now listed.now) }
@@ -85,7 +85,7 @@ fn state_text(full: bool) -> &'static [u8]
     if full { b"FULL" } else { b"EMPTY" }
 }
 
-// What a process waits for: ` FOR FULL place`, or ` FOR EMPTY`.
+// What a process waits for: ` FOR FULL location`, or ` FOR EMPTY`.
 fn append_wish(text: &mut Vec<u8>, image: &Image, listed: &Listed) -> Result<(), AllocError>
     ensures { OnOk result (text.new.items
         ≡ text.old.items ++ words.wish_text (names_of image.now) listed.now) }
@@ -98,7 +98,7 @@ fn append_wish(text: &mut Vec<u8>, image: &Image, listed: &Listed) -> Result<(),
     Ok(())
 }
 
-/// Appends the line of a process that waits: `WAITING p unit LINE n FOR FULL place`, or
+/// Appends the line of a process that waits: `WAITING p unit LINE n FOR FULL location`, or
 /// `FOR EMPTY`.
 ///
 /// # Errors

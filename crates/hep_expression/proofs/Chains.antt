@@ -1,4 +1,4 @@
--- One turn of the loops that read operators with their operands, and arguments.
+-- One iteration of the loops that read operators with their operands, and arguments.
 use Rattle.std.proofs.Common.{◌≡◌, ℕ, suc, ◌+◌, ◌-◌, ◌<◌, ◌≤◌, List, [], ◌∷◌, ◌++◌, Option, Some, None, refl, sym, ap, ◌∙◌, arith}
 use Rattle.hep_source.specs.Tree.{Tree, Trees, binary, no_trees, trees, trees_of}
 use Rattle.hep_source.specs.declared.operator.Operator.{Operator}
@@ -7,7 +7,7 @@ use Rattle.hep_expression.specs.declared.unread.Unread.TheVariants as unread
 use Rattle.hep_expression.specs.Reading.{Reader, ◌>>=◌, after, Fails}
 use Rattle.hep_expression.specs.ReadingExpression.{operator_at, chain, arguments}
 
--- n turns are allowed, i of them are done, and the rest of the chain gives the whole.
+-- n iterations are allowed, i of them are done, and the rest of the chain gives the whole.
 module _ (among : List Operator) (next : Reader Tree) (n i : ℕ) (t : Tree) (s : List ℕ) (whole : Option (Tree × List ℕ)) where
   pub chain_goes_on : (o : Operator) (y : Tree) (m r : List ℕ) → i < n → operator_at among s ≡ Some (o, m) → next m ≡ Some (y, r) → chain among next (n - i) t s ≡ whole → chain among next (n - (i + 1)) (binary o t y) r ≡ whole
   unfolding chain

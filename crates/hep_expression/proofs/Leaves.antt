@@ -22,7 +22,7 @@ use Rattle.hep_expression.specs.Characters.{is_digit, is_letter, is_letter_or_di
 use Rattle.hep_expression.specs.Expression.{left, right, spelling, sign_spelling, term, Reads, ReadsAll}
 use Rattle.hep_expression.specs.Reading.{◌>>=◌, if_some, begins, front, rest_after, after, after_text, one_of, letters_at, name_at, with_position, occurrence_at, plain_occurrence_at, integer, integer_at, logical_at}
 
--- ---- options and truths
+-- ---- options and Booleans
 
 module _ {A B : Type 0} where
   pub bind_some : (o : Option A) (f : A → Option B) (y : B) → (o >>= f) ≡ Some y → (x : A) × (o ≡ Some x) × (f x ≡ Some y)

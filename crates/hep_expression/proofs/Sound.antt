@@ -29,7 +29,7 @@ looser k (signed g t) l m s r le h = (omega (arith, h.0), h.1, h.2, h.3)
 looser k (negated t) l m s r le h = (omega (arith, h.0), h.1, h.2, h.3)
 looser k (binary o a b) l m s r le h = (omega (arith, h.0), h.1, h.2, h.3)
 
--- what a reader reads of the end of a statement's text
+-- what a reader reads of the rest of a statement's text
 abbrev pub Sound : Context → ℕ → Reader Tree → Type 0
 Sound k l read = (s r : List ℕ) (t : Tree) → length s ≤ k.length → read s ≡ Some (t, r) → Reads k t l s r
 

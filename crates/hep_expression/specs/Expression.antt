@@ -12,7 +12,7 @@ use Rattle.hep_source.specs.declared.operator.LogicalOperator.TheVariants.{And, 
 use Rattle.hep_expression.specs.declared.characters.Context.{Context}
 use Rattle.hep_expression.specs.Characters.{ReadsOccurrence, IsDigits, IsInteger, logical_spelling}
 
--- The levels of an expression, from the loosest to the tightest (X3.9-1978, 6.5, with 6.1.2, 6.3 and
+-- The levels of precedence in an expression, from the loosest to the tightest (X3.9-1978, 6.5, with 6.1.2, 6.3 and
 -- 6.4.2). An expression reads at the loosest level.
 abbrev pub equivalence : ℕ
 equivalence = 0

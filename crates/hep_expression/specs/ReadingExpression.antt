@@ -43,7 +43,7 @@ operators Conjunction = Logical And ∷ []
 operators Sum = Arithmetic Add ∷ Arithmetic Subtract ∷ []
 operators Term = Arithmetic Multiply ∷ Arithmetic Divide ∷ []
 
--- operators and operands after a first one, from left to right; the number bounds the turns
+-- operators and operands after a first one, from left to right; the number is the most operators that are read
 unfoldable pub chain : List Operator → Reader Tree → ℕ → Tree → Reader Tree
 chain among next zero t s = Some (t, s)
 chain among next (suc n) t s = if_some (operator_at among s) (λ o. next o.1 >>= λ y. chain among next n (binary o.0 t y.0) y.1) (Some (t, s))
@@ -56,7 +56,7 @@ left_to_right among first next s = first s >>= λ x. chain among next (length s)
 unfoldable pub in_parentheses : Reader Tree → Reader Tree
 in_parentheses inner s = inner s >>= λ x. after right_parenthesis x.1 >>= λ r. Some (parenthesized x.0, r)
 
--- expressions with commas between them and `)` after the last; the number bounds the turns
+-- expressions with commas between them and `)` after the last; the number is the most expressions that are read
 unfoldable pub arguments : Reader Tree → ℕ → Reader Trees
 arguments inner zero s = None
 arguments inner (suc n) s =

@@ -149,11 +149,11 @@ fn name_at(s: &[u8]) -> Option<(Name, &[u8])>
     }
 }
 
-/// How many characters of the statement stand before an end of its text.
+/// How many characters of the statement stand before s, which is the rest of its text from some character on.
 fn position_of(context: Context, s: &[u8]) -> usize
     ensures { result ≡ context.length - length s.now }
 {
-    // s is an end of the statement's text, so nothing saturates.
+    // s is no longer than the statement's text, so nothing saturates.
     context.length.saturating_sub(s.len())
 }
 

@@ -1,5 +1,5 @@
-//! Reading expressions (X3.9-1978, section 6): a function for each level, from the loosest to the
-//! tightest, and one for what goes on from left to right after a first operand.
+//! Reading expressions (X3.9-1978, section 6): a function for each level of precedence, from the loosest
+//! to the tightest, and one for what goes on from left to right after a first operand.
 ghost use Rattle.std.specs.Prelude.{◌≡◌, length, option_map};
 ghost use Rattle.hep_source.specs.Tree.{trees_of};
 ghost use Rattle.hep_expression.specs.Expression as grammar;
@@ -39,8 +39,8 @@ fn spelling(operator: Operator) -> &'static [u8]
     }
 }
 
-/// A level at which operators go from left to right (X3.9-1978, 6.1.2 and 6.4.2), from the loosest
-/// to the tightest.
+/// A level of precedence at which operators go from left to right (X3.9-1978, 6.1.2 and 6.4.2), from the
+/// loosest to the tightest.
 #[derive(Clone, Copy, Debug, PartialEq, Eq)]
 enum Precedence {
     /// Of `.EQV.` and `.NEQV.`
@@ -169,8 +169,8 @@ fn expression(
     )
 }
 
-/// Operators of a level and their operands after a first operand, from left to right. The turns
-/// bound how many there are.
+/// Operators of a level and their operands after a first operand, from left to right: at most `turns`
+/// operators.
 #[cycle(expression)]
 #[tactic(auto, using(crate::proofs::Chains::chain_goes_on, crate::proofs::Chains::chain_ends, crate::proofs::Chains::chain_is_over, crate::proofs::Chains::chain_fails))]
 fn chain(

@@ -48,7 +48,7 @@ module _ {A : Type 0} (line : A → List ℕ) (Allows : A → Type 0) (lines : A
   not_both text k ys (inr p) q =
       p.1.some (same_lines p.1.before ys p.1.rest [] p.1.each q.each p.1.none nothing_stops (sym p.1.whole ∙ q.whole ∙ sym (append-nil (flat_map line ys)))).1
 
-  -- a line is bad first at one place only
+  -- a text has one first bad line only
   one_bad : (text : List ℕ) (j k : ℕ) → IsFirstBad line Allows text j → IsFirstBad line Allows text k → j ≡ k
   one_bad text j k p q =
       let same = (same_lines p.before q.before p.rest q.rest p.each q.each p.none q.none (sym p.whole ∙ q.whole)).0 in

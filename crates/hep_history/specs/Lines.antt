@@ -29,7 +29,7 @@ abbrev pub IsRefusedText : {A : Type 0} → (A → List ℕ) → (A → Type 0) 
 IsRefusedText line Allows text k =
     ((k ≡ 0) × (most_bytes < length text)) ⊎ ((length text ≤ most_bytes) × IsFirstBad line Allows text k)
 
--- the fault has this number and tells a line that is refused so; want of memory says nothing of the text
+-- the fault has this number and names a line that is refused so; want of memory says nothing of the text
 abbrev pub ReportsLine : ℕ → (ℕ → Type 0) → HistoryFault → Type 0
 ReportsLine n IsAt NoMemory = Unit {0}
 ReportsLine n IsAt (Refused number line name) = (number ≡ n) × (name ≡ []) × IsAt line

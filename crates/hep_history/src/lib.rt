@@ -1,7 +1,7 @@
 //! Histories and choices as texts, and histories made again.
 //!
-//! A text has one line for each entry or choice. [`read_text`] and [`read_choices`] take just the
-//! texts that there are: each history in range has one spelling. [`replay`] makes a history again on
+//! A text has one line for each entry or choice. [`read_text`] and [`read_choices`] take just the texts
+//! of histories and choices in range, each of which has one spelling. [`replay`] makes a history again on
 //! a new core.
 #![tactic(auto)]
 

@@ -47,7 +47,7 @@ odd_reciprocal z n h odd =
     let one : n % 2 ≡ 1 = omega arith in
     rw h (rw minus_one_power (rw one refl))
 
--- a size of 2^64 or more is no integer, under either sign
+-- an absolute value of 2^64 or more is that of no integer
 pub fitted_far : (m : ℕ) → 2 ^ 64 ≤ m → integer_or_overflow (pos m) ≡ Err Overflow
 fitted_far m h =
     let test : nat_lt m (2 ^ 63) ≡ false = grind arith in

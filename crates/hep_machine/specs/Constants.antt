@@ -43,7 +43,7 @@ both None vs = None
 both (Some v) None = None
 both (Some v) (Some vs) = Some (v ∷ vs)
 
--- only pure functions may stand in such an expression: docs/LANGUAGE.md, 7
+-- only functions of integers may stand in such an expression: docs/LANGUAGE.md, 7
 abbrev pub by_meaning : Meaning → Option (List Value) → Option Value
 by_meaning (pure f) (Some vs) = without_fault (function_value f vs)
 by_meaning _ _ = None

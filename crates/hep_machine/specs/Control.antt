@@ -52,7 +52,7 @@ role_after (t ∷ ts) f = other
 abbrev pub role_of : Statement → Role
 role_of s = role_after s.conditions s.form
 
--- the depth after a statement, and where its own block IF is alone, the end of the search
+-- the search for an END IF at one statement: it goes on at the depth after it, or ends there
 abbrev pub to_end_if : Role → ℕ → (ℕ → ℕ) → ℕ
 to_end_if opens depth rest_after = suc (rest_after (suc depth))
 to_end_if closes zero rest_after = 0
@@ -77,7 +77,7 @@ before_alternative (s ∷ ss) depth = to_alternative (role_of s) depth (before_a
 abbrev pub end_if_after : List Statement → ℕ → ℕ
 end_if_after unit k = suc k + before_end_if (drop (suc k) unit) 0
 
--- where a block ends with this statement, its IF does: 11.6.3
+-- from an ELSE IF or ELSE, where a block ends, to its END IF: 11.6.3
 abbrev pub past_block : List Statement → ℕ → Role → ℕ
 past_block unit k alternative = end_if_after unit k
 past_block unit k otherwise = end_if_after unit k
@@ -113,11 +113,11 @@ loops_among unit k j [] found = found
 loops_among unit k j (s ∷ ss) found =
     loops_among unit k (suc j) ss (if is_ended_at unit k (terminal_by_form s.conditions s.form) then j ∷ found else found)
 
--- the DO statements that end at index k, the innermost first: whoever is there is in all their ranges, by condition 308
+-- the DO statements that end at index k, the innermost first: a process that is there is in all their ranges, by condition 308
 abbrev pub loops_ending_at : List Statement → ℕ → List ℕ
 loops_ending_at unit k = loops_among unit k 0 (take k unit) []
 
--- those that hold the DO at index d
+-- of these the ones around the DO at index d
 abbrev pub loops_around : ℕ → List ℕ → List ℕ
 loops_around d [] = []
 loops_around d (e ∷ es) = if nat_eq e d then es else loops_around d es

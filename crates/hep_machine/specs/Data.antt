@@ -31,7 +31,7 @@ data_groups unit = flat_map (λ (s : Statement). groups_in s.form) unit
 
 -- ---- what is given a value: 9.2
 
--- elements of a variable, one after the other: the number of the first one, and how many
+-- a stretch: elements of a variable, one after the other, by the number of the first one and how many they are
 pub record Stretch : Type 0 where
   pub name : Name
   pub first : ℕ

@@ -49,7 +49,7 @@ abbrev pub mapped_part : {A B : Type 0} → (A → B) → Part A → Part B
 mapped_part f (whole x) = whole (f x)
 mapped_part f (first_redex r) = first_redex r
 
--- a part whose operands are all that is left of it
+-- a part whose operands are all values is a redex; else its first redex is one of an operand
 abbrev pub redex_of : {A B : Type 0} → (A → Redex) → Part A → Part B
 redex_of f (whole x) = first_redex (f x)
 redex_of f (first_redex r) = first_redex r
@@ -99,7 +99,7 @@ abbrev mutual
   reference_of unit (trees (with_list p ts) no_trees) = reference_of_listed (listed_meaning unit p.name) p.name (parts_of unit ts)
   reference_of unit _ = whole (no_name, [])
 
--- an expression that is left but for its own step becomes the value of that step
+-- an expression whose operands are all values is a redex itself, and becomes the value that it gives
 abbrev pub plugged : {A : Type 0} → Part A → Tree → Value → Tree
 plugged (whole x) t v = constant v
 plugged (first_redex r) t v = t
@@ -142,7 +142,7 @@ plug_list unit (t ∷ ts) v = plugged_first (part_of unit t) (plug unit t v ∷ 
 
 -- ---- actual arguments: 15.9.2 and 15.9.3
 
--- an expression by its value; a variable, an element or a whole array by its place, which isn't read
+-- an expression by its value; a variable, an element or a whole array by its location, which isn't read
 pub data Actual : Type 0 where
   evaluated : (v : Value) → Actual
   referred : (reference : Reference) → Actual

@@ -1,4 +1,4 @@
--- Words of the laws of the source machine: docs/MACHINE.md, "Laws".
+-- What the laws of the source machine speak of: docs/MACHINE.md, "Laws".
 use Rattle.std.specs.Prelude.{◌≡◌, ◌⊎◌, ℕ, ◌+◌, ◌<◌, ◌≤◌, Bool, true, false, List, [], ◌∷◌, ◌++◌, Option, Some, None}
 use Rattle.hep_machine.specs.declared.event.Entry.{Entry}
 use Rattle.hep_machine.specs.Evaluation.{purging, Next, does, next_of}

@@ -1,4 +1,4 @@
--- Which storage units a name is in an activation: X3.9-1978, 2.13, 2.14, 5.2.5, 8.3.2 and 15.9.3.
+-- Which storage units a name stands for in an activation: X3.9-1978, 2.13, 2.14, 5.2.5, 8.3.2 and 15.9.3.
 use Rattle.std.specs.Prelude.{ℕ, ◌+◌, ◌-◌, nat_le, if◌then◌else◌, List, Option, Some, None, Result, Ok, Err, slice_get}
 use Rattle.std.specs.Option.{unwrap_or}
 use Rattle.hep_machine.specs.declared.event.Kind.{Kind}

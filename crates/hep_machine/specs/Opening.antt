@@ -24,7 +24,7 @@ StorageUnits = Location × ℕ
 abbrev pub storage_units_of : Scope → Stretch → StorageUnits
 storage_units_of scope e = (further (storage_of scope e.name).start (e.first - 1), e.count)
 
--- the index of a storage unit that is so far after the first of these, or else among those after them
+-- the index of a storage unit in rows of them: in the first row, where it is so far from its beginning, or else in those after it
 abbrev pub index_within : ℕ → Option ℕ → Option ℕ → Option ℕ
 index_within count None after = option_map (λ n. count + n) after
 index_within count (Some i) after = if nat_lt i count then Some i else option_map (λ n. count + n) after

@@ -7,7 +7,7 @@ use Rattle.hep_machine.specs.State.{State}
 use Rattle.hep_machine.specs.Step.{step}
 use Rattle.hep_source.specs.Units.{Units}
 
--- the state after a step of p, and the same state where there is none
+-- the state after a turn of p: after its step, and the same state where it has none
 abbrev pub state_after_turn : Units → ℕ → State → State
 state_after_turn program p s = unwrap_or (step program p s) s
 

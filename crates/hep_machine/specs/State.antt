@@ -40,12 +40,12 @@ pub record Activation : Type 0 where
 
 -- ---- processes: "Activations and processes"
 
--- what is left of a statement: the conditions before its form, or the end of the DO at a place (X3.9-1978, 11.10.4 to 11.10.7)
+-- what is left of a statement: the conditions before its form, or the end of the DO at an index (X3.9-1978, 11.10.4 to 11.10.7)
 pub data Work : Type 0 where
   doing : (conditions : List Tree) (form : Form) → Work
   ending : (loop : ℕ) → Work
 
--- a DO that was begun: its place, its iteration count and its increment
+-- a DO that was begun: its index, its iteration count and its increment
 pub record Loop : Type 0 where
   pub statement : ℕ
   pub count : ℤ

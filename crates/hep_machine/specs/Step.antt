@@ -174,13 +174,13 @@ result_after_purge program t (Ok store) = stepped (state_with_store t store (lev
 
 -- ---- DO: X3.9-1978, 11.10.3 to 11.10.7
 
--- the iteration count, from the initial, the limit and the increment: 0 where the quotient is below it
+-- the iteration count, from the initial value, the limit and the increment: 0 where the quotient is below it
 abbrev pub iterations : ℤ → ℤ → ℤ → Result ℤ Kind
 iterations m n (pos zero) = Err Step
 iterations m n (pos (suc k)) = integer_or_overflow (pos (natural (int_div ((n -ℤ m) +ℤ pos (suc k)) (pos (suc k)))))
 iterations m n (negsuc k) = integer_or_overflow (pos (natural (int_div ((n -ℤ m) +ℤ negsuc k) (negsuc k))))
 
--- into the range where turns are left, and else after the DO
+-- into the range where iterations are left, and else after the DO
 abbrev pub level_after_count : List Statement → Level → ℕ → ℤ → Level
 level_after_count unit level d count = if int_lt (pos 0) count then level_in_range unit level d else level_after_loop unit level d
 
@@ -199,7 +199,7 @@ abbrev pub result_after_increment : Units → Top → Loop → Location → Resu
 result_after_increment program t l at (Err k) = result_after_fault program t k
 result_after_increment program t l at (Ok z) = stepped (state_after_count program t l.statement at z (l.count -ℤ pos 1) l.increment)
 
--- the variable is raised by the increment, and a turn is over
+-- the variable is raised by the increment, and an iteration is over
 abbrev pub result_after_loop_variable : Units → Top → Loop → Location → Option Value → StepResult
 result_after_loop_variable program t l at None = result_after_fault program t Undefined
 result_after_loop_variable program t l at (Some v) = result_after_increment program t l at (integer_or_overflow (integer_of v +ℤ l.increment))
@@ -303,7 +303,7 @@ state_made (stepped s) = Some s
 state_made (waiting w) = None
 state_made absent = None
 
--- the state that a step of process p leads to; none where the machine is halted, p doesn't live or p is disabled
+-- the state that a step of process p leads to; none where the machine is halted, p doesn't live or p waits
 abbrev pub step : Units → ℕ → State → Option State
 step program p s = if s.halted then None else state_made (step_result_of program p s)
 
@@ -312,7 +312,7 @@ wanted_of (stepped s) = None
 wanted_of (waiting w) = Some w
 wanted_of absent = None
 
--- what process p waits for, where it lives and is disabled
+-- what the next step of process p waits for, where p lives and that step waits
 abbrev pub wanted_by : Units → ℕ → State → Option Wanted
 wanted_by program p s = wanted_of (step_result_of program p s)
 

@@ -30,7 +30,7 @@ use Rattle.hep_source.specs.Units.{dummies_of, names_of_occurrences}
 
 -- ---- where a statement names variables and constants, in the order of its text: docs/MACHINE.md, "Variables and frames"
 
--- a name with a list is one only where the unit has that array
+-- a name with a list names a variable only where the unit has that array
 abbrev pub array_occurrence : List Statement → Occurrence → List Occurrence
 array_occurrence unit p = if is_array unit p.name then p ∷ [] else []
 

@@ -17,7 +17,7 @@ use Rattle.hep_machine.specs.Processes.{unit_of}
 
 -- ---- processes
 
--- where a living process is: its number, the unit and the line of its top statement, and what it waits for where it is disabled
+-- where a living process is: its number, the unit and the line of its top statement, and what it waits for, if it does
 pub record ProcessView : Type 0 where
   pub process : ℕ
   pub unit : ℕ
@@ -40,7 +40,7 @@ process_views_from program s p (q ∷ qs) = process_view_of program s p q ++ pro
 
 -- ---- storage
 
--- where a cell is, and what it is
+-- a location, and the cell that it holds
 pub record CellView : Type 0 where
   pub at : Location
   pub cell : Cell

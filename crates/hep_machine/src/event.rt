@@ -21,7 +21,7 @@ pub enum Kind {
 #[derive(Clone, Copy, Debug, PartialEq, Eq)]
 pub struct Fault {
     pub process: u64,
-    /// The number of the unit in the program, counted from 0.
+    /// The index of the unit in the program, counted from 0.
     pub unit: u32,
     /// The initial line of the statement, counted from 1.
     pub line: u32,

@@ -60,8 +60,8 @@ pub fn frames_lie_apart()
     ensures { (program : Units) (cells : ℕ) (has : State → ℕ → Bool) (processes : List ℕ) (layout : Layout) → layout_of program cells has processes ≡ Some layout → StandApart cells (common_cells program) layout }
 {}
 
-/// A legal history can be replayed: each of its steps is there when its turn comes. The state after
-/// any history is that of its entries, one after the other.
+/// A legal history can be made again: each of its steps is there in the state that those before it leave.
+/// The state after any history is that of its entries, one after the other.
 pub fn legal_histories_replay()
     ensures steps { (program : Units) (cells limit : ℕ) (history : List Entry) → IsLegal program cells limit history → AreSteps program (opening program) (schedule_of history) }
     ensures state { (program : Units) (history : List Entry) → state_after program history ≡ state_replayed program (opening program) history }

@@ -1,6 +1,6 @@
 //! The bounds of an array, where they are known (X3.9-1978, section 5).
 
-/// The bounds of one dimension (X3.9-1978, 5.1.1), in storage order the first one first.
+/// The bounds of one dimension (X3.9-1978, 5.1.1).
 #[derive(Clone, Copy, Debug, Default, PartialEq, Eq)]
 pub struct Bound {
     /// The least subscript.

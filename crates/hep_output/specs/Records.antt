@@ -1,4 +1,4 @@
--- The lines of records: docs/MACHINE.md, "The program".
+-- The lines of records: docs/LANGUAGE.md, 5, "What a PRINT writes".
 use Rattle.std.specs.Prelude.{ℕ, Bool, true, false, not, ◌&&◌, if◌then◌else◌, List, [], ◌∷◌, ◌++◌, codes}
 use Rattle.std.specs.Fmt.{signed_decimal}
 use Rattle.hep_machine.specs.declared.record.Item.{Item}

@@ -31,7 +31,7 @@ unread z s e conditions f h = none_is (conditions, f) (sym e ∙ form_read z s.t
 word_left_out : (s : Stmt) (word : List ℕ) → IsLeftOutStatement s word → left_out (context Any s.text) (length s.text) s.text ≡ Some word
 word_left_out s word h = left_out_read (context Any s.text) h.0 (length s.text) s.text word (omega arith) h.1
 
--- ---- places
+-- ---- the order of statements
 
 both_of : (start main begins : Bool) → (start && main && begins) ≡ true → (start ≡ true) × (main ≡ true) × (begins ≡ true)
 both_of true true true e = (refl, refl, refl)
@@ -43,7 +43,7 @@ empty_is : (before : List StatementClass) → is_empty before ≡ true → befor
 empty_is [] e = refl
 empty_is (y ∷ before) e = absurd cc
 
--- a part has no place after those before it, or would begin a second main program
+-- a part may not stand after those before it, or would begin a second main program
 abbrev IsDisplaced : State → List StatementClass → StatementClass → Bool → Type 0
 IsDisplaced x before p begins = (MayStandAfter before p → ⊥) ⊎ ((before ≡ []) × (x.has_main ≡ true) × (begins ≡ true))
 
@@ -174,7 +174,7 @@ module _ (x : State) (before : List StatementClass) (s : Stmt) (rest_after : Lis
         ])
       ]
 
-  -- a statement that is read is refused only for its place
+  -- a statement that is read is refused only for where it stands
   only_place : (c : List Tree × Form) → form Fitting s.text ≡ Some c → (m : ℕ) (v : List ℕ) → IsRefusedStatement before x.has_main s rest_after m v → (m ≡ 205) × (v ≡ []) × IsMisplaced before x.has_main c.0 c.1 rest_after
   only_place c found m v h =
       let is = form_is Fitting s.text c found in

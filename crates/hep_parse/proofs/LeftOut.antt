@@ -17,7 +17,7 @@ use Rattle.hep_statement.specs.ReadingStatement.{logical_if}
 use Rattle.hep_parse.specs.ReadingProgram.{word_at, by_rule, left_out}
 use Rattle.hep_statement.proofs.Forms.{logical_if_is, logical_if_read}
 
--- ---- one turn of the loop: n turns are allowed, i of them are done
+-- ---- one iteration of the loop: n iterations are allowed, i of them are done
 
 module _ (k : Context) (n i : ℕ) (s : List ℕ) (whole : Option (List ℕ)) where
   one_turn : i < n → left_out k (n - i) s ≡ whole → left_out k (suc (n - (i + 1))) s ≡ whole

@@ -186,7 +186,7 @@ Stands x before = ((p : StatementClass) → may_stand before p ≡ may_follow x.
 pub stands_first : Stands nothing_read []
 stands_first = ((λ p. refl), refl)
 
--- the state after a part that has its place there
+-- the state after a part that may stand there
 abbrev pub next_state : State → StatementClass → Bool → State
 next_state x p begins = record { stage = stage_after x.stage p; has_main = x.has_main || (is_start x.stage && begins) }
 
@@ -205,7 +205,7 @@ stands_other x before p begins stands first other = (
   stage_after_other x.stage p other ∙ sym (some_empty before p),
 )
 
--- what a state says of a part that has its place
+-- what a state says of a part that may stand there
 pub state_is : (x next : State) (p : StatementClass) (begins : Bool) → state_after_statement x p begins ≡ Some next → (may_follow x.stage p ≡ true) × ((is_start x.stage && x.has_main && begins) ≡ false) × (next_state x p begins ≡ next)
 state_is x next p begins e = elim (chosen (may_follow x.stage p && not (is_start x.stage && x.has_main && begins)) (Some (next_state x p begins)) None (Some next) e) [
   | inl g ↦ (

@@ -1,4 +1,4 @@
--- One turn of the loop that reads the statements of a source.
+-- One iteration of the loop that reads the statements of a source.
 use Rattle.std.proofs.Common.{◌≡◌, ℕ, ◌+◌, ◌<◌, true, false, List, [], ◌∷◌, ◌++◌, length, get_or, drop, Result, Ok, Err, refl, sym, ap, subst, ◌∙◌, append-nil, append_assoc}
 use Rattle.std.specs.Result.{IsErr, IsErrAnd}
 use Rattle.std.proofs.lemmas.List.{drop_more}
@@ -12,7 +12,7 @@ use Rattle.hep_base.specs.declared.refusal.Refusal.TheVariants.{NoMemory, Refuse
 use Rattle.hep_parse.specs.ReadingProgram.{Refusal, Misses, Answers, or_refusal, is_start, placed, after_some, after_one, units}
 use Rattle.hep_parse.proofs.Programs.{ok}
 
--- what is left of a list at one of its places
+-- what is left of a list from one of its indexes on
 pub left_at : (given : List Stmt) (i : ℕ) (s : Stmt) → i < length given → s ≡ get_or given i s → drop i given ≡ s ∷ drop (i + 1) given
 left_at given i s lt e = drop_more given i s lt ∙ ap (λ (x : Stmt). x ∷ drop (i + 1) given) (sym e)
 

@@ -126,7 +126,7 @@ IsLeftOut k (t ∷ more) s name = (r : List ℕ) × IsLogicalIf k t s r × IsLef
 abbrev pub IsLeftOutStatement : Stmt → List ℕ → Type 0
 IsLeftOutStatement s name = (conditions : List Tree) × IsLeftOut (context Any s.text) conditions s.text name
 
--- The statement has no place after these parts of its unit: it may not stand there; it begins a
+-- The statement is in the wrong order after these parts of its unit: it may not stand there; it begins a
 -- second main program; it is the last statement of the source and isn't END.
 abbrev pub IsMisplaced : List StatementClass → Bool → List Tree → Form → List Stmt → Type 0
 IsMisplaced before main_is_there conditions f rest_after =

@@ -189,7 +189,7 @@ fn statement(alloc: Global, given: &Stmt) -> Result<Statement, ParseFault>
 ///
 /// # Errors
 ///
-/// A refusal of the statement, with 205 where it has no place there; no memory.
+/// A refusal of the statement, with 205 where it may not stand there; no memory.
 #[tactic(auto, unfolding(crate::specs::ReadingProgram::placed))]
 fn placed(alloc: Global, state: State, given: &Stmt) -> Result<(Statement, State), ParseFault>
     ensures { Answers (λ x. x) result (reading.placed state given.now) }
@@ -255,7 +255,7 @@ fn program(alloc: Global, statements: &[Stmt]) -> Result<Program, ParseFault>
 /// [`ParseFault::Refused`] with the first fault by the order of the statements. Of a statement
 /// without a reading it is 203 where only the size of its integer constants is against it, 202 with
 /// the word where the language leaves the statement out, and else 201; 205 is for a statement that
-/// may not stand at its place in the unit, for the first statement of a second main program, and for
+/// may not stand where it does in the unit, for the first statement of a second main program, and for
 /// a last statement that isn't END. 204 is reported where no statement is refused and there is no main
 /// program. [`ParseFault::NoMemory`] where memory was refused.
 pub fn parse(alloc: Global, statements: &[Stmt]) -> Result<Program, ParseFault>

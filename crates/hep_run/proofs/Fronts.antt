@@ -8,7 +8,8 @@ use Rattle.hep_text.specs.Reading.{statements_of, refusal}
 use Rattle.hep_run.specs.declared.options.Options.{Options}
 use Rattle.hep_run.specs.Outcome.{Outcome, IsRefusedSource, IsOutcome}
 use Rattle.hep_run.specs.declared.options.Run.{Run}
-use Rattle.hep_run.specs.Delivery.{IsOutcomeOf, RunsBytes, RunsSource}
+use Rattle.hep_run.specs.Replay.{IsReplayOutcome}
+use Rattle.hep_run.specs.Delivery.{IsOutcomeOf, LeavesOneOf, LeavesOfSource}
 
 long : (n : ℕ) → 4194304 < n → nat_lt 4194304 n ≡ true
 long n h = grind (arith, nat_tests)
@@ -22,9 +23,17 @@ refused_too s t number line name same (inl (e, none)) = inl (same ∙ e, none)
 refused_too s t number line name same (inr (inl (ss, e, first))) = inr (inl (ss, same ∙ e, first))
 refused_too s t number line name same (inr (inr (ss, p, e, program, unrun))) = inr (inr (ss, p, same ∙ e, program, unrun))
 
-outcome_too : (s t : List ℕ) (options : Options) (o : Outcome) → statements_of s ≡ statements_of t → IsOutcome t options o → IsOutcome s options o
-outcome_too s t options o same (inl (number, line, name, r, is)) = inl (number, line, name, refused_too s t number line name same r, is)
-outcome_too s t options o same (inr (p, (ss, e, program, runnable), is)) = inr (p, (ss, same ∙ e, program, runnable), is)
+-- what holds of a source holds of each one with the same statements
+abbrev pub GoesByStatements : (List ℕ → Outcome → Type 0) → Type 0
+GoesByStatements Is = (s t : List ℕ) (o : Outcome) → statements_of s ≡ statements_of t → Is t o → Is s o
+
+pub run_goes : (options : Options) → GoesByStatements (IsOutcome options)
+run_goes options s t o same (inl (number, line, name, r, is)) = inl (number, line, name, refused_too s t number line name same r, is)
+run_goes options s t o same (inr (p, (ss, e, program, runnable), is)) = inr (p, (ss, same ∙ e, program, runnable), is)
+
+pub replay_goes : (text : List ℕ) (cells : ℕ) → GoesByStatements (IsReplayOutcome text cells)
+replay_goes text cells s t o same (inl (number, line, name, r, is)) = inl (number, line, name, refused_too s t number line name same r, is)
+replay_goes text cells s t o same (inr (p, (ss, e, program, runnable), is)) = inr (p, (ss, same ∙ e, program, runnable), is)
 
 front : (bytes rest : List ℕ) → (length bytes ≤ 4194304 → rest ≡ []) → statements_of (bytes ++ rest) ≡ statements_of bytes
 front bytes rest end = elim (cases_lt 4194304 (length bytes)) [
@@ -32,13 +41,13 @@ front bytes rest end = elim (cases_lt 4194304 (length bytes)) [
   | inr within ↦ ap statements_of (ap (λ (l : List ℕ). bytes ++ l) (end within) ∙ append-nil bytes)
 ]
 
-pub outcome_of_front : (known left : Option (List ℕ)) (bytes : List ℕ) (options : Options) (o : Outcome) → Consumes known left bytes → (length bytes ≤ 4194304 → IsAtEnd left) → IsOutcome bytes options o → IsOutcomeOf known options o
-outcome_of_front None left bytes options o taken end is = (bytes, is)
-outcome_of_front (Some source) None bytes options o taken end is = absurd taken
-outcome_of_front (Some source) (Some rest) bytes options o taken end is = outcome_too source bytes options o (ap statements_of taken ∙ front bytes rest end) is
+outcome_of_front : (Is : List ℕ → Outcome → Type 0) → GoesByStatements Is → (known left : Option (List ℕ)) (bytes : List ℕ) (o : Outcome) → Consumes known left bytes → (length bytes ≤ 4194304 → IsAtEnd left) → Is bytes o → IsOutcomeOf Is known o
+outcome_of_front Is goes None left bytes o taken end is = (bytes, is)
+outcome_of_front Is goes (Some source) None bytes o taken end is = absurd taken
+outcome_of_front Is goes (Some source) (Some rest) bytes o taken end is = goes source bytes o (ap statements_of taken ∙ front bytes rest end) is
 
--- a run of the bytes that were read is a run of the reader's bytes
-pub source_run : (known left : Option (List ℕ)) (bytes : List ℕ) (options : Options) (run : Run) (output output' messages messages' : Option (List ℕ)) → Consumes known left bytes → (length bytes ≤ 4194304 → IsAtEnd left) → RunsBytes bytes options run output output' messages messages' → RunsSource known left options run output output' messages messages'
-source_run known left bytes options run output output' messages messages' taken end (inl wants) = inl wants
-source_run known left bytes options run output output' messages messages' taken end (inr (o, is, leaves)) =
-    inr (inr ((bytes, taken, end), o, outcome_of_front known left bytes options o taken end is, leaves))
+-- what is left of the bytes that were read is left of the reader's bytes
+pub source_left : (Is : List ℕ → Outcome → Type 0) → GoesByStatements Is → (known left : Option (List ℕ)) (bytes : List ℕ) (run : Run) (output output' messages messages' : Option (List ℕ)) → Consumes known left bytes → (length bytes ≤ 4194304 → IsAtEnd left) → LeavesOneOf (Is bytes) run output output' messages messages' → LeavesOfSource Is known left run output output' messages messages'
+source_left Is goes known left bytes run output output' messages messages' taken end (inl wants) = inr ((bytes, taken, end), inl wants)
+source_left Is goes known left bytes run output output' messages messages' taken end (inr (o, is, leaves)) =
+    inr ((bytes, taken, end), inr (o, outcome_of_front Is goes known left bytes o taken end is, leaves))

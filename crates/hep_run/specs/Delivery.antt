@@ -2,13 +2,12 @@
 use Rattle.std.specs.Prelude.{◌≡◌, ◌⊎◌, ℕ, ◌<◌, ◌≤◌, List, [], ◌++◌, codes, length, take, Option, Some, None}
 use Rattle.std.specs.Io.KnownBytes.{Appends, Keeps, Consumes, IsAtEnd}
 use Rattle.hep_machine.specs.declared.event.Entry.{Entry}
-use Rattle.hep_run.specs.declared.options.Options.{Options}
 use Rattle.hep_run.specs.declared.options.Run.{Run}
 use Rattle.hep_run.specs.declared.status.Status.{Status}
 use Rattle.hep_run.specs.declared.status.Status.TheVariants.{NoMemory, DeviceFailed}
 use Rattle.hep_run.specs.Statuses.{status_code}
 use Rattle.hep_run.specs.Texts.{write_fault_text}
-use Rattle.hep_run.specs.Outcome.{Outcome, IsOutcome}
+use Rattle.hep_run.specs.Outcome.{Outcome}
 
 -- the run has this outcome, and both outputs took all of it
 pub record IsDelivered (o : Outcome) (run : Run) (output output' messages messages' : Option (List ℕ)) : Type 0 where
@@ -46,28 +45,32 @@ abbrev pub Leaves : Outcome → Run → Option (List ℕ) → Option (List ℕ) 
 Leaves o run output output' messages messages' =
     IsDelivered o run output output' messages messages' ⊎ IsBroken o run output output' messages messages'
 
+-- these lines were written, and the exit status is that of this status; or the writer took just n bytes, fewer than there are
+abbrev pub SaysLines : List ℕ → Status → ℕ → Option (List ℕ) → Option (List ℕ) → Type 0
+SaysLines lines status code messages messages' =
+    ((code ≡ status_code status) × Appends messages messages' lines)
+    ⊎ ((code ≡ status_code DeviceFailed) × (n : ℕ) × (n < length lines) × WritesStartOf messages messages' (take n lines) (write_fault_text n))
+
 -- a run with this history says these lines, with this status, or fails at them
 abbrev pub WritesMessages : List ℕ → Status → List Entry → Run → Option (List ℕ) → Option (List ℕ) → Type 0
 WritesMessages lines status history run messages messages' =
-    (run.history ≡ history)
-    × (((run.status ≡ status_code status) × Appends messages messages' lines)
-    ⊎ ((run.status ≡ status_code DeviceFailed) × (n : ℕ) × (n < length lines) × WritesStartOf messages messages' (take n lines) (write_fault_text n)))
+    (run.history ≡ history) × SaysLines lines status run.status messages messages'
 
 -- an outcome of these bytes, where they are known
-abbrev pub IsOutcomeOf : Option (List ℕ) → Options → Outcome → Type 0
-IsOutcomeOf None options o = (source : List ℕ) × IsOutcome source options o
-IsOutcomeOf (Some source) options o = IsOutcome source options o
+abbrev pub IsOutcomeOf : (List ℕ → Outcome → Type 0) → Option (List ℕ) → Outcome → Type 0
+IsOutcomeOf Is None o = (source : List ℕ) × Is source o
+IsOutcomeOf Is (Some source) o = Is source o
 
 -- memory was refused, and no record is written
 abbrev pub WantsMemory : Run → Option (List ℕ) → Option (List ℕ) → Option (List ℕ) → Option (List ℕ) → Type 0
 WantsMemory run output output' messages messages' =
     Keeps output output' × WritesMessages (codes "NO MEMORY\n") NoMemory [] run messages messages'
 
--- all that a run of these bytes may leave: memory was refused; or else an outcome of the bytes
-abbrev pub RunsBytes : List ℕ → Options → Run → Option (List ℕ) → Option (List ℕ) → Option (List ℕ) → Option (List ℕ) → Type 0
-RunsBytes source options run output output' messages messages' =
+-- what is left where an outcome is one of these: memory was refused, or one of them is delivered
+abbrev pub LeavesOneOf : (Outcome → Type 0) → Run → Option (List ℕ) → Option (List ℕ) → Option (List ℕ) → Option (List ℕ) → Type 0
+LeavesOneOf Is run output output' messages messages' =
     WantsMemory run output output' messages messages'
-    ⊎ ((o : Outcome) × IsOutcome source options o × Leaves o run output output' messages messages')
+    ⊎ ((o : Outcome) × Is o × Leaves o run output output' messages messages')
 
 -- the most bytes of a source
 abbrev pub most_source_bytes : ℕ
@@ -77,10 +80,13 @@ most_source_bytes = 4194304
 abbrev pub HasRead : Option (List ℕ) → Option (List ℕ) → Type 0
 HasRead source source' = (bytes : List ℕ) × Consumes source source' bytes × (length bytes ≤ most_source_bytes → IsAtEnd source')
 
--- All that a run of a reader's bytes may leave: memory was refused, or the reader failed, and no record is written; or else
--- the source was read, and there is an outcome of the reader's bytes.
-abbrev pub RunsSource : Option (List ℕ) → Option (List ℕ) → Options → Run → Option (List ℕ) → Option (List ℕ) → Option (List ℕ) → Option (List ℕ) → Type 0
-RunsSource source source' options run output output' messages messages' =
-    WantsMemory run output output' messages messages'
-    ⊎ (Keeps output output' × WritesMessages (codes "READ FAULT\n") DeviceFailed [] run messages messages')
-    ⊎ (HasRead source source' × (o : Outcome) × IsOutcomeOf source options o × Leaves o run output output' messages messages')
+-- memory was refused for an input, or its reader failed
+abbrev pub CannotRead : ℕ → Option (List ℕ) → Option (List ℕ) → Type 0
+CannotRead code messages messages' =
+    SaysLines (codes "NO MEMORY\n") NoMemory code messages messages' ⊎ SaysLines (codes "READ FAULT\n") DeviceFailed code messages messages'
+
+-- All that may be left of a reader's bytes that have these outcomes: they couldn't be read, and no record is written; or they were.
+abbrev pub LeavesOfSource : (List ℕ → Outcome → Type 0) → Option (List ℕ) → Option (List ℕ) → Run → Option (List ℕ) → Option (List ℕ) → Option (List ℕ) → Option (List ℕ) → Type 0
+LeavesOfSource Is source source' run output output' messages messages' =
+    (Keeps output output' × (run.history ≡ []) × CannotRead run.status messages messages')
+    ⊎ (HasRead source source' × LeavesOneOf (IsOutcomeOf Is source) run output output' messages messages')

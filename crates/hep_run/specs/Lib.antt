@@ -1,7 +1,9 @@
 pub mod Texts
 pub mod Statuses
 pub mod Outcome
+pub mod Replay
 pub mod Refusals
 pub mod Transcripts
 pub mod Delivery
+pub mod Files
 pub mod Progress

@@ -97,7 +97,7 @@ outcome_of_full_arena = record { output = []; messages = stop_text (Some ArenaFu
 
 -- choices are counted from 1
 abbrev pub outcome_of_refused_choice : List Entry → Outcome
-outcome_of_refused_choice history = record { output = []; messages = choice_text (length history + 1); status = statuses.ChoiceRefused; history = history }
+outcome_of_refused_choice history = record { output = []; messages = choice_text (length history + 1); status = statuses.Usage; history = history }
 
 abbrev pub status_by_faults : List Fault → Status
 status_by_faults [] = statuses.Done
@@ -130,7 +130,7 @@ abbrev pub IsProgramOutcome : Units → Options → Outcome → Type 0
 IsProgramOutcome program options o = ((opening_layout program options.arena ≡ None) × (o ≡ outcome_of_full_arena)) ⊎ IsRunOutcome program options o
 
 -- what a run of a source comes to by these options
-abbrev pub IsOutcome : List ℕ → Options → Outcome → Type 0
-IsOutcome source options o =
+abbrev pub IsOutcome : Options → List ℕ → Outcome → Type 0
+IsOutcome options source o =
     ((number : ℕ) × (line : ℕ) × (name : List ℕ) × IsRefusedSource source number line name × (o ≡ refused number line name))
     ⊎ ((program : Units) × IsRunnableSource source program × IsProgramOutcome program options o)

@@ -1,4 +1,4 @@
--- What a report says: docs/ARCHITECTURE.md, "Forms".
+-- What a transcript says, as an outcome: docs/ARCHITECTURE.md, "Forms".
 use Rattle.hep_run.specs.declared.transcript.Transcript.{Transcript}
 use Rattle.hep_run.specs.Outcome.{Outcome}
 

@@ -3,7 +3,8 @@ ghost use Rattle.std.specs.Prelude.{OnOk, IfErr};
 ghost use Rattle.std.specs.Io.KnownBytes.{Appends};
 ghost use Rattle.hep_run.specs.Texts.{write_fault_text};
 ghost use Rattle.hep_run.specs.Transcripts.{outcome_of};
-ghost use Rattle.hep_run.specs.Delivery.{Leaves, WritesMessages, SomeOf};
+ghost use Rattle.hep_run.specs.Delivery.{Leaves, SaysLines, WritesMessages, SomeOf};
+ghost use Rattle.hep_run.specs.Files.{PutsText};
 
 use crate::options::Run;
 use crate::status::Status;
@@ -31,10 +32,23 @@ pub fn put_write_fault<E: Write>(messages: &mut E, written: usize) -> Result<(),
     Ok(())
 }
 
-/// Writes the messages of a run that has this history and comes to this status.
+/// Writes lines to `messages` and gives the exit status of `status`.
 ///
-/// Where that fails, `messages` is given how many bytes it took, and the run comes to
+/// Where that fails, `messages` is given how many bytes it took, and the answer is the exit status of
 /// `DeviceFailed`; if this fails too, no more is said.
+pub fn say<E: Write>(messages: &mut E, lines: &[u8], status: Status) -> u8
+    ensures { SaysLines lines.now status result (E.contents messages.old) (E.contents messages.new) }
+{
+    match put_all(messages, lines) {
+        Ok(()) => status.code(),
+        Err(fault) => {
+            let _ = put_write_fault(messages, fault.written);
+            Status::DeviceFailed.code()
+        }
+    }
+}
+
+/// Writes the messages of a run that has this history and comes to this status, as `say` does.
 pub fn write_messages<E: Write>(
     messages: &mut E,
     lines: &[u8],
@@ -44,16 +58,30 @@ pub fn write_messages<E: Write>(
     ensures { WritesMessages lines.now status history result
         (E.contents messages.old) (E.contents messages.new) }
 {
-    match put_all(messages, lines) {
-        Ok(()) => Run::new(status, history),
+    Run {
+        status: say(messages, lines, status),
+        history,
+    }
+}
+
+/// Writes a text to a stream and gives `code`.
+///
+/// Where the stream fails, `messages` is given how many bytes it took, and the answer is the exit
+/// status of `DeviceFailed`; if this fails too, no more is said.
+pub fn put_text<W: Write, E: Write>(text: &[u8], code: u8, stream: &mut W, messages: &mut E) -> u8
+    ensures { PutsText text.now code result (W.contents stream.old) (W.contents stream.new)
+        (E.contents messages.old) (E.contents messages.new) }
+{
+    match put_all(stream, text) {
+        Ok(()) => code,
         Err(fault) => {
             let _ = put_write_fault(messages, fault.written);
-            Run::new(Status::DeviceFailed, history)
+            Status::DeviceFailed.code()
         }
     }
 }
 
-/// Writes a report, the records first.
+/// Writes a transcript, the records first.
 ///
 /// Where a writer fails, `messages` is given how many bytes that stream took, and the run comes to
 /// `DeviceFailed`; if this fails too, no more is said.

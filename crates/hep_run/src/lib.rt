@@ -2,14 +2,20 @@
 #![tactic(auto)]
 
 pub mod deliver;
+pub mod files;
+pub mod front;
 pub mod input;
 pub mod options;
 pub mod refusal;
+pub mod replay;
 pub mod run;
 pub mod source;
 pub mod status;
 pub mod texts;
 pub mod transcript;
 
+pub use deliver::put_text;
+pub use files::{answer, choices_of, history_text, read_text_file, say_unread, say_unwritten};
+pub use input::ReadFault;
 pub use options::{Options, Run};
-pub use source::{run_bytes, run_source};
+pub use source::{replay_bytes, replay_source, run_bytes, run_source};

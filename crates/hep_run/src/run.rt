@@ -1,4 +1,4 @@
-//! A source's bytes to what its run writes.
+//! From a source's bytes to what its run writes.
 ghost use Rattle.std.specs.Prelude.{◌≡◌, ◌≤◌, [], None, IfOk, IfErr, OnOk, length};
 ghost use Rattle.hep_core.specs.Value.{opening_of};
 ghost use Rattle.hep_run.specs.Outcome.{IsOutcome, IsRunOutcome, next_process};
@@ -6,15 +6,14 @@ ghost use Rattle.hep_run.specs.Refusals.{IsOpeningFault};
 ghost use Rattle.hep_run.specs.Transcripts.{outcome_of};
 ghost use Rattle.hep_run.specs.Progress.{IsOpening, IsRunning, IsHaltedBy};
 
+use crate::front::image_of_source;
 use crate::options::Options;
 use crate::refusal::OpeningFault;
 use crate::transcript::{
     Transcript, choice_transcript, ended_transcript, full_transcript, refused_transcript,
 };
 use hep_base::Refusal;
-use hep_core::{ChooseFault, Core, image_of};
-use hep_parse::parse;
-use hep_text::statements;
+use hep_core::{ChooseFault, Core};
 use std::alloc::{AllocError, Global};
 
 /// Why the choices weren't all made.
@@ -31,9 +30,7 @@ fn core_of(alloc: Global, source: &[u8], options: &Options) -> Result<Core, Open
     ensures made { IfOk result (IsOpening source.now options.now) }
     ensures refused { IfErr result (IsOpeningFault source.now options.now) }
 {
-    let statements = statements(alloc, source)?;
-    let program = parse(alloc, &statements)?;
-    let image = image_of(alloc, program)?;
+    let image = image_of_source(alloc, source)?;
     let core = Core::new(alloc, image, options.arena, options.steps)?;
     Ok(core)
 }
@@ -110,7 +107,7 @@ pub fn transcript_of(
     source: &[u8],
     options: &Options,
 ) -> Result<Transcript, AllocError>
-    ensures { IfOk result (λ r. IsOutcome source.now options.now (outcome_of r)) }
+    ensures { IfOk result (λ r. IsOutcome options.now source.now (outcome_of r)) }
 {
     match core_of(alloc, source, options) {
         Ok(core) => run_transcript(alloc, core, options),

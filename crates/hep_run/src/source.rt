@@ -1,9 +1,13 @@
-//! The program's work on one source, from its reader to its two writers.
-ghost use Rattle.hep_run.specs.Delivery.{RunsBytes, RunsSource};
+//! The program's work on one source, from its reader to its two writers: a run, or a replay.
+ghost use Rattle.hep_run.specs.Delivery.{LeavesOneOf, LeavesOfSource};
+ghost use Rattle.hep_run.specs.Outcome.{IsOutcome};
+ghost use Rattle.hep_run.specs.Replay.{IsReplayOutcome};
 
 use crate::deliver::{deliver, write_messages};
-use crate::input::{ReadFault, read_input};
+use crate::files::say_unread;
+use crate::input::read_input;
 use crate::options::{Options, Run};
+use crate::replay::replay_transcript;
 use crate::run::transcript_of;
 use crate::status::Status;
 use hep_history::History;
@@ -12,13 +16,13 @@ use std::io::{Read, Write};
 
 /// The most bytes of a source; its reading ends once more have come.
 ///
-/// It is `MOST_BYTES` of `hep_text`, which refuses a longer source with 107. Were it less, a front
-/// of a source could be run in the place of the source; `run_source` is proved for just this number
+/// It is `MOST_BYTES` of `hep_text`, which refuses a longer source with 107. Were it less, the
+/// first part of a source could be run as if it were the source; `run_source` is proved for just this number
 /// in both.
 pub const MOST_BYTES: usize = 4_194_304;
 
-// The line where memory was refused.
-const NO_MEMORY: &[u8] = b"NO MEMORY\n";
+/// The line where memory was refused.
+pub const NO_MEMORY: &[u8] = b"NO MEMORY\n";
 
 /// Runs a source that was read: checks it, runs it by the options, and then writes the records to
 /// `output` and the faults, the stop or the refusal to `messages`.
@@ -31,7 +35,7 @@ pub fn run_bytes<W: Write, E: Write>(
     output: &mut W,
     messages: &mut E,
 ) -> Run
-    ensures { RunsBytes source.now options.now result
+    ensures { LeavesOneOf (IsOutcome options.now source.now) result
         (W.contents output.old) (W.contents output.new)
         (E.contents messages.old) (E.contents messages.new) }
 {
@@ -53,22 +57,64 @@ pub fn run_source<R: Read, W: Write, E: Write>(
     output: &mut W,
     messages: &mut E,
 ) -> Run
-    ensures { RunsSource (R.remaining source.old) (R.remaining source.new) options.now result
+    ensures { LeavesOfSource (IsOutcome options.now) (R.remaining source.old) (R.remaining source.new)
+        result (W.contents output.old) (W.contents output.new)
+        (E.contents messages.old) (E.contents messages.new) }
+{
+    match read_input(alloc, source, MOST_BYTES) {
+        Ok(bytes) => run_bytes(alloc, &bytes, options, output, messages),
+        Err(fault) => Run {
+            status: say_unread(messages, fault),
+            history: History::from(Vec::new(alloc)),
+        },
+    }
+}
+
+/// Makes the steps of a history of a source again, both as bytes, in an arena of so many cells, and
+/// then writes as `run_bytes` does, and `STILL RUNNING` to `messages` where the run could go on.
+///
+/// The run's status is the code of a `Status`, and its history has an entry for each step.
+pub fn replay_bytes<W: Write, E: Write>(
+    alloc: Global,
+    source: &[u8],
+    history: &[u8],
+    cells: u32,
+    output: &mut W,
+    messages: &mut E,
+) -> Run
+    ensures { LeavesOneOf (IsReplayOutcome history.now cells source.now) result
         (W.contents output.old) (W.contents output.new)
         (E.contents messages.old) (E.contents messages.new) }
 {
     let none = History::from(Vec::new(alloc));
-    let bytes = match read_input(alloc, source, MOST_BYTES) {
-        Ok(bytes) => bytes,
-        Err(ReadFault::NoMemory) => return write_messages(
-            messages,
-            NO_MEMORY,
-            Status::NoMemory,
-            none,
-        ),
-        Err(ReadFault::Failed) => {
-            return write_messages(messages, b"READ FAULT\n", Status::DeviceFailed, none);
-        }
-    };
-    run_bytes(alloc, &bytes, options, output, messages)
+    match replay_transcript(alloc, source, history, cells) {
+        Ok(transcript) => deliver(transcript, output, messages),
+        Err(_) => write_messages(messages, NO_MEMORY, Status::NoMemory, none),
+    }
+}
+
+/// Reads a source and makes the steps of a history of it again, as `replay_bytes` does.
+///
+/// The history's bytes were read before, so that faults come in the order of the words: one of
+/// reading the history first, then those of the source, then those of the history's text.
+pub fn replay_source<R: Read, W: Write, E: Write>(
+    alloc: Global,
+    source: &mut R,
+    history: &[u8],
+    cells: u32,
+    output: &mut W,
+    messages: &mut E,
+) -> Run
+    ensures { LeavesOfSource (IsReplayOutcome history.now cells)
+        (R.remaining source.old) (R.remaining source.new)
+        result (W.contents output.old) (W.contents output.new)
+        (E.contents messages.old) (E.contents messages.new) }
+{
+    match read_input(alloc, source, MOST_BYTES) {
+        Ok(bytes) => replay_bytes(alloc, &bytes, history, cells, output, messages),
+        Err(fault) => Run {
+            status: say_unread(messages, fault),
+            history: History::from(Vec::new(alloc)),
+        },
+    }
 }

@@ -9,8 +9,8 @@ pub enum Status {
     Done,
     /// The source is refused.
     Refused,
-    /// A choice names no living process.
-    ChoiceRefused,
+    /// What was handed in beside the source can't be used: the words, the choices or a history.
+    Usage,
     /// The run is done, and a process ended by a fault.
     Faulted,
     /// The main program's frame doesn't fit the arena.
@@ -31,7 +31,7 @@ impl Status {
         match self {
             Status::Done => 0,
             Status::Refused => 1,
-            Status::ChoiceRefused => 2,
+            Status::Usage => 2,
             Status::Faulted => 3,
             Status::ArenaFull => 5,
             Status::StepLimit => 6,

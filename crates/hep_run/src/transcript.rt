@@ -3,6 +3,8 @@ ghost use Rattle.std.specs.Prelude.{◌≡◌, ◌+◌, [], IfOk, length};
 ghost use Rattle.hep_run.specs.Texts as texts;
 ghost use Rattle.hep_run.specs.Outcome as outcome;
 ghost use Rattle.hep_run.specs.Outcome.{outcome_of_end, outcome_of_refused_choice};
+ghost use Rattle.hep_run.specs.Replay as replay;
+ghost use Rattle.hep_run.specs.Replay.{outcome_of_core, outcome_of_refused_history};
 ghost use Rattle.hep_run.specs.Transcripts.{outcome_of};
 
 use crate::status::Status;
@@ -28,7 +30,7 @@ pub struct Transcript {
 }
 
 impl Transcript {
-    /// The same as an outcome, with no record.
+    /// A transcript without records.
     fn silent(alloc: Global, messages: Vec<u8>, status: Status, history: History) -> Transcript
         ensures output { result.output.items ≡ [] }
         ensures messages { result.messages ≡ messages }
@@ -105,6 +107,30 @@ pub fn ended_transcript(alloc: Global, core: &Core) -> Result<Transcript, AllocE
     })
 }
 
+fn running_text(verdict: Verdict) -> &'static [u8]
+    ensures { result.now ≡ replay.running_text verdict }
+{
+    match verdict {
+        Verdict::Running => b"STILL RUNNING\n",
+        Verdict::Done | Verdict::Waiting | Verdict::Stopped(_) => b"",
+    }
+}
+
+/// What a core writes that has made all entries of a history.
+///
+/// # Errors
+///
+/// Only where memory was refused.
+pub fn core_transcript(alloc: Global, core: &Core) -> Result<Transcript, AllocError>
+    ensures { IfOk result (λ r. outcome_of r ≡ outcome_of_core core.now) }
+{
+    let mut transcript = ended_transcript(alloc, core)?;
+    transcript
+        .messages
+        .extend_from_slice(running_text(core.verdict()))?;
+    Ok(transcript)
+}
+
 /// What a run writes whose next choice is refused; it is this one, counted from 1.
 ///
 /// # Errors
@@ -121,7 +147,21 @@ pub fn choice_transcript(
     let history = history_of(alloc, core)?;
     let mut messages = Vec::new(alloc);
     put_refusal(&mut messages, 501, choice as u64, b"")?;
-    Ok(Transcript::silent(alloc, messages, Status::ChoiceRefused, history))
+    Ok(Transcript::silent(alloc, messages, Status::Usage, history))
+}
+
+/// What a history leaves that is refused at this line of its text, or at this entry.
+///
+/// # Errors
+///
+/// Only where memory was refused.
+pub fn history_transcript(alloc: Global, number: u16, place: u64) -> Result<Transcript, AllocError>
+    ensures { IfOk result (λ r. outcome_of r ≡ outcome_of_refused_history number place) }
+{
+    let mut messages = Vec::new(alloc);
+    put_refusal(&mut messages, number, place, b"")?;
+    let history = History::from(Vec::new(alloc));
+    Ok(Transcript::silent(alloc, messages, Status::Usage, history))
 }
 
 /// What a refused source leaves.

@@ -31,7 +31,7 @@ second gnil = gnil
 second (gnum n) = gnil
 second (gcons a b) = b
 
--- ---- characters and truths
+-- ---- characters and Booleans
 
 abbrev characters : List ℕ → Gv
 characters [] = gnil
@@ -90,7 +90,7 @@ value_back-value : (v : Value) → value_back (value v) ≡ v
 value_back-value (Int z) = ap Int (integer_back-integer z)
 value_back-value (Truth b) = ap Truth (bool_back-bool_code b)
 
--- ---- places
+-- ---- occurrences
 
 abbrev occurrence_code : Occurrence → Gv
 occurrence_code p = gcons (gnum p.position) (gcons (gnum (bool_code p.name.asynchronous)) (characters p.name.letters))

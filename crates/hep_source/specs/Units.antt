@@ -19,7 +19,7 @@ unit_at program u = unwrap_or (slice_get program u) []
 
 -- ---- headers: 14.1 and 15.6.1
 
--- how a main program without PROGRAM statement is called: docs/MACHINE.md, "Names and units"
+-- the name by which a main program without PROGRAM statement is shown: docs/MACHINE.md, "Names and units"
 abbrev pub main_name : List ℕ
 main_name = codes "MAIN"
 
@@ -58,7 +58,7 @@ abbrev pub is_named : Option Name → Name → Bool
 is_named None x = false
 is_named (Some y) x = same_name y x
 
--- the number of the subroutine of a name
+-- the index of the subroutine that has a name
 abbrev pub subroutine_called : Units → Name → Option ℕ
 subroutine_called program x = index_where (λ unit. is_named (subroutine_name unit) x) program
 
@@ -69,7 +69,7 @@ is_main (Some x) = false
 abbrev pub main_among : Units → Option ℕ
 main_among program = index_where (λ unit. is_main (subroutine_name unit)) program
 
--- the number of the main program
+-- the index of the main program
 abbrev pub main_unit : Units → ℕ
 main_unit program = unwrap_or (main_among program) no_unit
 

@@ -7,7 +7,7 @@ pub enum PureFunction {
     AbsoluteValue,
     /// MOD.
     Remainder,
-    /// SIGN and ISIGN: the size of the first argument with the sign of the second.
+    /// SIGN and ISIGN: the absolute value of the first argument with the sign of the second.
     TransferOfSign,
     /// DIM and IDIM.
     PositiveDifference,

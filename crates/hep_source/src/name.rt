@@ -1,4 +1,4 @@
-//! Symbolic names and the places at which they stand.
+//! Symbolic names, and names where they stand in a statement.
 
 /// A symbolic name (X3.9-1978, 2.2): one to six letters or digits, the first a letter, with blanks
 /// after them up to six. The sign `$` before a name makes it asynchronous; it isn't one of the

@@ -78,7 +78,7 @@ pub enum Form {
     Call(Occurrence, Sequence<Expr>),
     /// CREATE: a call whose subroutine runs as a process of its own (docs/LANGUAGE.md).
     Create(Occurrence, Sequence<Expr>),
-    /// PURGE: places become empty (docs/LANGUAGE.md).
+    /// PURGE: variables, elements and arrays become empty (docs/LANGUAGE.md).
     Purge(Sequence<Target>),
     /// `PRINT *` with its list (12.8).
     Print(Sequence<PrintItem>),
@@ -92,7 +92,7 @@ pub enum Form {
     End,
 }
 
-/// A statement: its initial line, counted from 1, its label, and what it says.
+/// A statement: its initial line, counted from 1, its label, its conditions and its form.
 #[derive(Drop)]
 pub struct Statement {
     pub line: u32,

@@ -1,6 +1,6 @@
 //! The values of a run.
 
-/// A value: an integer or a logical (X3.9-1978, 4.3 and 4.7).
+/// A value: an integer or a logical value (X3.9-1978, 4.3 and 4.7).
 #[derive(Clone, Copy, Debug, PartialEq, Eq)]
 pub enum Value {
     Int(i64),

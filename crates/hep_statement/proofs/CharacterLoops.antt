@@ -4,7 +4,7 @@ use Rattle.hep_expression.specs.Reading.{◌>>=◌, after}
 use Rattle.hep_statement.specs.ReadingLists.{with_part}
 use Rattle.hep_statement.specs.ReadingConstant.{character_at, characters}
 
--- In all of these n turns are allowed, i of them are done, and what is left gives the whole with what
+-- In all of these n iterations are allowed, i of them are done, and what is left gives the whole with what
 -- was read before.
 
 left_over : (n i : ℕ) → i < n → n - i ≡ suc (n - (i + 1))

@@ -1,4 +1,4 @@
--- One turn of the loop that reads the conditions of logical IFs.
+-- One iteration of the loop that reads the conditions of logical IFs.
 use Rattle.std.proofs.Common.{◌≡◌, ℕ, suc, ◌+◌, ◌-◌, ◌<◌, ◌≤◌, List, [], ◌∷◌, ◌++◌, Some, None, refl, sym, ap, ◌∙◌, arith, append-nil, append_assoc}
 use Rattle.hep_source.specs.Tree.{Tree}
 use Rattle.hep_expression.specs.declared.characters.Context.{Context}
@@ -8,7 +8,7 @@ use Rattle.hep_statement.specs.ReadingStatement.{logical_if, conditions}
 abbrev pub rest_after : List Tree → List Tree × List ℕ → List Tree × List ℕ
 rest_after ts x = (ts ++ x.0, x.1)
 
--- n turns are allowed, i of them are done, and what is read after the conditions so far gives the
+-- n iterations are allowed, i of them are done, and what is read after the conditions so far gives the
 -- whole
 module _ (k : Context) (n i : ℕ) (ts : List Tree) (s : List ℕ) (whole : List Tree × List ℕ) where
   pub goes_on : (t : Tree) (r : List ℕ) → i < n → logical_if k s ≡ Some (t, r) → rest_after ts (conditions k (n - i) s) ≡ whole → rest_after (ts ++ t ∷ []) (conditions k (n - (i + 1)) r) ≡ whole

@@ -1,4 +1,4 @@
--- One turn of the loop that reads parts up to the end of a text.
+-- One iteration of the loop that reads parts up to the end of a text.
 use Rattle.std.proofs.Common.{◌≡◌, ℕ, suc, ◌+◌, ◌-◌, ◌<◌, ◌≤◌, List, [], ◌∷◌, ◌++◌, Option, Some, None, Result, Ok, Err, refl, sym, ap, ◌∙◌, arith, append-nil, append_assoc}
 use Rattle.hep_expression.specs.declared.unread.Unread.{Unread}
 use Rattle.hep_expression.specs.declared.unread.Unread.TheVariants as unread
@@ -20,7 +20,7 @@ module _ {A : Type 0} where
   at_end done [] = ap (λ (l : List A). Some l) (append-nil done)
   at_end done (c ∷ s) = refl
 
-  -- n turns are allowed, i of them are done, and what is read after the parts so far gives the whole
+  -- n iterations are allowed, i of them are done, and what is read after the parts so far gives the whole
   module _ (next : Reader A) (n i : ℕ) (done : List A) (s : List ℕ) (whole : Option (List A)) where
     pub end_goes_on : (x : A) (r : List ℕ) → i < n → next (after_optional_comma s) ≡ Some (x, r) → with_before done (parts_to_end next (n - i) s) ≡ whole → with_before (done ++ x ∷ []) (parts_to_end next (n - (i + 1)) r) ≡ whole
     unfolding parts_to_end

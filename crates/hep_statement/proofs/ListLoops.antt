@@ -1,4 +1,4 @@
--- One turn of the loop that reads parts in a row.
+-- One iteration of the loop that reads parts in a row.
 use Rattle.std.proofs.Common.{◌≡◌, ℕ, suc, ◌+◌, ◌-◌, ◌<◌, ◌≤◌, List, [], ◌∷◌, ◌++◌, length, Option, Some, None, refl, sym, ap, ◌∙◌, arith, append-nil, append_assoc}
 use Rattle.hep_expression.specs.declared.unread.Unread.{Unread}
 use Rattle.hep_expression.specs.declared.unread.Unread.TheVariants as unread
@@ -28,7 +28,7 @@ module _ {A : Type 0} where
   unfolding listed
   begins next x s r e = one_part x (parts_after next (length s) r) ∙ sym (rw e refl)
 
-  -- n turns are allowed, i of them are done, and what is read after the parts so far gives the whole
+  -- n iterations are allowed, i of them are done, and what is read after the parts so far gives the whole
   module _ (next : Reader A) (n i : ℕ) (xs : List A) (s : List ℕ) (whole : Option (List A × List ℕ)) where
     pub goes_on : (x : A) (r : List ℕ) → i < n → part_after_comma next s ≡ Some (x, r) → with_parts xs (parts_after next (n - i) s) ≡ whole → with_parts (xs ++ x ∷ []) (parts_after next (n - (i + 1)) r) ≡ whole
     unfolding parts_after

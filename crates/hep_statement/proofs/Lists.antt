@@ -7,7 +7,7 @@ use Rattle.hep_statement.specs.Lists.{AreAfter, AreListed, AreEnclosed, AreOptio
 use Rattle.hep_statement.specs.ReadingLists.{part_after_comma, with_part, parts_after, listed, closed, enclosed, optional, whole, arguments_within, arguments}
 
 module _ {A : Type 0} where
-  -- what a reader reads of the end of a statement's text is so
+  -- what a reader reads of the rest of a statement's text is so
   abbrev pub IsSound : Context → (A → List ℕ → List ℕ → Type 0) → Reader A → Type 0
   IsSound k P next = (s : List ℕ) (x : A × List ℕ) → length s ≤ k.length → next s ≡ Some x → P x.0 s x.1
 

@@ -1,4 +1,4 @@
--- Which form a statement has (docs/LANGUAGE.md, 'Which form a statement has').
+-- Which form a statement has: docs/LANGUAGE.md, 5.
 use Rattle.std.specs.Prelude.{◌≡◌, ℕ, zero, suc, ◌&&◌, ◌||◌, not, nat_eq, nat_le, Bool, true, false, if◌then◌else◌, codes, List, [], ◌∷◌, ◌++◌, length, Option, Some, None}
 use Rattle.hep_source.specs.Tree.{Tree}
 use Rattle.hep_source.specs.Units.{is_executable}

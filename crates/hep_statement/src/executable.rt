@@ -238,7 +238,7 @@ pub fn create(alloc: Global, context: Context, s: &[u8]) -> Result<Form, Unread>
     Ok(Form::Create(subroutine, Sequence::from(actuals)))
 }
 
-/// What follows PURGE (docs/LANGUAGE.md): the places that become empty.
+/// What follows PURGE (docs/LANGUAGE.md): the variables, elements and arrays that become empty.
 ///
 /// # Errors
 ///

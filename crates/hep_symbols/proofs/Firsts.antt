@@ -11,7 +11,7 @@ pub next_first : {A : Type 0} (f : A → Violations) (best : Option Violation) (
     → first_of_two (first_of_two best (first_of (f x))) (first_of (flat_map f xs)) ≡ first_of_two best (first_of (flat_map f (x ∷ xs)))
 next_first f best x xs = first_of-next f best x xs
 
--- a turn of a loop over elements, of which this one is next
+-- an iteration of a loop over elements, of which this one is next
 pub turn : {A : Type 0} (f : A → Violations) (best found next whole : Option Violation) (x : A) (xs ys : List A)
     → first_of_two best (first_of (flat_map f xs)) ≡ whole → next ≡ first_of_two best found → found ≡ first_of (f x) → xs ≡ x ∷ ys
     → first_of_two next (first_of (flat_map f ys)) ≡ whole

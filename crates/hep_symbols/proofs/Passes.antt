@@ -1,4 +1,4 @@
--- Conditions of names, as one pass over a unit tells them.
+-- Conditions of names, as one pass over a unit finds their violations.
 use Rattle.std.proofs.Common.{◌≡◌, ◌<◌, ◌≤◌, get_or, arith, ℕ, zero, suc, Bool, true, false, Option, Some, None, List, [], ◌∷◌, ◌++◌, length, append-nil, refl, ap, sym, ◌∙◌, if◌then◌else◌}
 use Rattle.std.specs.Prelude.{slice_get, MatchOption, IfSome}
 use Rattle.std.specs.Bool.{◌==◌}

@@ -1,4 +1,4 @@
--- Conditions of names, as one pass over a unit tells them.
+-- Conditions of names, as one pass over a unit finds their violations.
 use Rattle.std.specs.Prelude.{ℕ, Bool, true, not, ◌&&◌, nat_eq, List, [], ◌++◌, length, Option, Some, None, is_none}
 use Rattle.std.specs.List.{flat_map, list_all}
 use Rattle.std.specs.Option.{option_map}

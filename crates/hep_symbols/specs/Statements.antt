@@ -13,7 +13,7 @@ use Rattle.hep_source.specs.declared.statement.Form.TheVariants as form
 use Rattle.hep_source.specs.declared.statement.Statement.{Statement}
 use Rattle.hep_check.specs.Statements.{trees_in_declarator, trees_in_item}
 
--- what is after references
+-- what references point at
 abbrev pub rest_after : {A : Type 0} → List (Bor A) → List A
 rest_after [] = []
 rest_after (r ∷ rs) = r.now ∷ rest_after rs

@@ -15,27 +15,27 @@ use Rattle.hep_source.specs.Units.{Units, dummies_of, is_named, subroutine_name}
 use Rattle.hep_source.specs.declared.declaration.ValueType.{ValueType}
 use Rattle.hep_machine.specs.Declarations.{declared_type, implicit_type, declarators_of, common_block, is_constant_name, BlockName, names_declared, block_holding, blocks_in, names_of_constants, is_nonempty, constants_in, declarator_among, declarators_in}
 
--- the test that a table makes of two names
+-- the test by which a table compares two names
 abbrev pub name_eq : Name → Name → Bool
 name_eq x y = beq x.asynchronous y.asynchronous && pointwise nat_eq x.letters y.letters
 
 abbrev pub either : Bool → Bool → Bool
 either a b = if a then true else b
 
--- what is after a reference
+-- what a reference points at
 abbrev pub seen : {A : Type 0} → Option (Bor A) → Option A
 seen None = None
 seen (Some r) = Some r.now
 
--- this, where it is so
+-- this, where the test is true
 abbrev pub given : {A : Type 0} → Bool → A → Option A
 given b a = if b then Some a else None
 
--- what a name has that is given to this one alone
+-- what name x has, where a value is given to name y alone
 abbrev pub by_name : {A : Type 0} → Name → A → Name → Option A
 by_name y value x = if same_name x y then Some value else None
 
--- what a name has that is given to these alone
+-- what name x has, where a value is given to the names of these declarators alone
 abbrev pub by_declarators : {A : Type 0} → A → List Declarator → Name → Option A
 by_declarators value ds x = if is_among x (names_declared ds) then Some value else None
 
@@ -44,12 +44,12 @@ abbrev pub first_in : {A : Type 0} → (Form → Option A) → List Statement �
 first_in says [] = None
 first_in says (s ∷ ss) = option_or (says s.form) (first_in says ss)
 
--- some of these statements says so
+-- some one of these statements says so
 abbrev pub any_in : (Form → Bool) → List Statement → Bool
 any_in says [] = false
 any_in says (s ∷ ss) = either (says s.form) (any_in says ss)
 
--- the position of a name among these, the first of which has this one
+-- the index of a name among these, counted from k
 abbrev pub index_from : ℕ → Name → List Occurrence → Option ℕ
 index_from k x [] = None
 index_from k x (p ∷ ps) = if same_name x p.name then Some k else index_from (k + 1) x ps
@@ -85,7 +85,7 @@ pub record Describes (unit : List Statement) (types : Name → Option ValueType)
   pub common : (x : Name) → blocks x ≡ common_block unit x
   pub constant : (x : Name) → constants x ≡ is_constant_name unit x
 
--- the number of the first of these units that a name calls, where the first one has this number
+-- the index of the first of these units that a name calls, counted from k
 abbrev pub called_from : ℕ → Name → Units → Option ℕ
 called_from k x [] = None
 called_from k x (u ∷ us) = option_or (given (is_named (subroutine_name u) x) k) (called_from (k + 1) x us)

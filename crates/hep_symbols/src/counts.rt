@@ -39,8 +39,9 @@ fn takes_list(listed: Meaning, count: usize) -> bool
     }
 }
 
+/// A function has as many arguments as it takes.
 #[tactic(auto, using(crate::proofs::Passes::count_is_length))]
-fn is_counted(symbols: &Symbols, name: &NameWithList) -> bool
+pub fn is_counted(symbols: &Symbols, name: &NameWithList) -> bool
     ensures { result ≡ conditions.is_counted symbols.now (listed name.now) }
 {
     takes_list(

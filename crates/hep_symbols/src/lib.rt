@@ -1,5 +1,5 @@
-//! The names of a unit: what its specification statements say of each (X3.9-1978, section 8), by
-//! look-ups of constant time, and the conditions of names.
+//! The names of a unit: what its specification statements say of each (X3.9-1978, section 8), by look-ups
+//! in tables, and the conditions 301, 303 and 310.
 #![tactic(auto)]
 
 pub mod counts;
@@ -8,7 +8,7 @@ pub mod functions;
 pub mod lists;
 pub mod occurrences;
 pub mod program;
-mod reported;
+pub mod reported;
 mod specification;
 pub mod symbols;
 mod table;

@@ -19,8 +19,13 @@ pub struct NameWithList<'a> {
 
 type Found<'a> = Vec<NameWithList<'a>>;
 
+/// Adds the names with lists in an expression, in the order of its text.
+///
+/// # Errors
+///
+/// Only where memory was refused.
 #[cycle(add_in)]
-fn add_in<'a>(found: &mut Found<'a>, expression: &'a Expr) -> Result<(), AllocError>
+pub fn add_in<'a>(found: &mut Vec<NameWithList<'a>>, expression: &'a Expr) -> Result<(), AllocError>
     ensures { OnOk result (map listed found.new.items ≡ map listed found.old.items ++ statements.names_with_lists_in expression.now) }
 {
     match &expression.node {

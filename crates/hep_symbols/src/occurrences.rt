@@ -13,7 +13,7 @@ use std::alloc::{AllocError, Global};
 
 type Found = Vec<Occurrence>;
 
-// A name with a list is one only where the unit has that array.
+// A name with a list names a variable only where the unit has that array.
 fn add_array(symbols: &Symbols, found: &mut Found, occurrence: Occurrence) -> Result<(), AllocError>
     ensures { OnOk result (found.new.items ≡ found.old.items ++ variables.array_occurrence symbols.now occurrence) }
 {
@@ -23,8 +23,17 @@ fn add_array(symbols: &Symbols, found: &mut Found, occurrence: Occurrence) -> Re
     Ok(())
 }
 
+/// Adds where an expression of a unit names variables and constants, in the order of its text.
+///
+/// # Errors
+///
+/// Only where memory was refused.
 #[cycle(add_in)]
-fn add_in(symbols: &Symbols, found: &mut Found, expression: &Expr) -> Result<(), AllocError>
+pub fn add_in(
+    symbols: &Symbols,
+    found: &mut Vec<Occurrence>,
+    expression: &Expr,
+) -> Result<(), AllocError>
     ensures { OnOk result (found.new.items ≡ found.old.items ++ variables.occurrences_in symbols.now expression.now) }
 {
     match &expression.node {

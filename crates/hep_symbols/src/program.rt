@@ -69,7 +69,7 @@ fn note_subroutine(
     Ok(())
 }
 
-// The number of the unit that each name calls: the first of those with the name.
+// The index of the unit that each name calls: the first of those with the name.
 fn subroutines(alloc: Global, program: &[Symbols]) -> Result<IndexMap<Name, usize>, AllocError>
     ensures { IfOk result (λ table. (x : PureName) → get name_eq table x ≡ tables.called_from 0 x program.now) }
 {
@@ -111,7 +111,7 @@ impl<'a> ProgramSymbols<'a> {
         &self.units
     }
 
-    /// The number of the subroutine of a name, counted from 0: the first of those with the name.
+    /// The index of the subroutine of a name, counted from 0: the first of those with the name.
     pub fn subroutine_called(&self, name: &Name) -> Option<usize>
         ensures { result ≡ units.subroutine_called self.now name.now }
     {

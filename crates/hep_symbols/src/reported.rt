@@ -6,8 +6,8 @@ ghost use Rattle.hep_check.specs.Violations as violations;
 use hep_check::Violation;
 use hep_source::Occurrence;
 
-// The violation of a condition by a name in the statement at a line.
-pub(crate) fn violation_by(number: u16, line: u32, occurrence: &Occurrence) -> Violation
+/// The violation of a condition by a name in the statement at a line.
+pub fn violation_by(number: u16, line: u32, occurrence: &Occurrence) -> Violation
     ensures { result ≡ violations.at_occurrence number line occurrence.now }
 {
     Violation {
@@ -18,8 +18,8 @@ pub(crate) fn violation_by(number: u16, line: u32, occurrence: &Occurrence) -> V
     }
 }
 
-// The violation of a condition by the statement at a line, if there is a line.
-pub(crate) fn reported(number: u16, line: Option<u32>) -> Option<Violation>
+/// The violation of a condition by the statement at a line, if there is a line.
+pub fn reported(number: u16, line: Option<u32>) -> Option<Violation>
     ensures { result ≡ reported.reported number line }
 {
     match line {
@@ -33,15 +33,15 @@ pub(crate) fn reported(number: u16, line: Option<u32>) -> Option<Violation>
     }
 }
 
-// A line, where it is reported.
-pub(crate) fn line_when(is_reported: bool, line: u32) -> Option<u32>
+/// A line, where it is reported.
+pub fn line_when(is_reported: bool, line: u32) -> Option<u32>
     ensures { result ≡ reported.line_when is_reported line }
 {
     if is_reported { Some(line) } else { None }
 }
 
-// The lesser of two lines.
-pub(crate) fn lesser(first: Option<u32>, second: Option<u32>) -> Option<u32>
+/// The lesser of two lines.
+pub fn lesser(first: Option<u32>, second: Option<u32>) -> Option<u32>
     ensures { result ≡ reported.least_line first second }
 {
     match (first, second) {
@@ -59,8 +59,8 @@ fn precedes(a: &Violation, b: &Violation) -> bool
             && (a.number < b.number || (a.number == b.number && a.position < b.position)))
 }
 
-// The first of two violations; of two in one place the left one.
-pub(crate) fn first_of_two(left: Option<Violation>, right: Option<Violation>) -> Option<Violation>
+/// The first of two violations; of two at one position the left one.
+pub fn first_of_two(left: Option<Violation>, right: Option<Violation>) -> Option<Violation>
     ensures { result ≡ reported.first_of_two left right }
 {
     match (left, right) {

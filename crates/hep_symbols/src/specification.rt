@@ -119,7 +119,7 @@ pub(crate) fn constant_names(
     Ok(constants)
 }
 
-// The position of each dummy argument, the first where it stands twice (15.6.1).
+// The index of each dummy argument, the first where it stands twice (15.6.1).
 fn numbered(alloc: Global, dummies: &[Occurrence]) -> Result<IndexMap<Name, usize>, AllocError>
     ensures { IfOk result (λ table. (x : PureName) → get name_eq table x ≡ tables.index_from 0 x dummies.now) }
 {

@@ -13,8 +13,8 @@ use indexmap::{IndexMap, IndexSet};
 use std::alloc::{AllocError, Global};
 use std::marker::Model;
 
-/// What the specification statements of a unit say of its names (X3.9-1978, section 8), by look-ups
-/// of constant time. Contracts see the statements of the unit.
+/// What the specification statements of a unit say of its names (X3.9-1978, section 8), by look-ups in
+/// tables. Contracts see the statements of the unit.
 #[derive(Drop)]
 pub struct Symbols<'a> {
     statements: &'a [Statement],
@@ -127,7 +127,7 @@ impl<'a> Symbols<'a> {
         }
     }
 
-    /// The position of a dummy argument among those of the unit, counted from 0 (15.6.1); none where the
+    /// The index of a dummy argument among those of the unit, counted from 0 (15.6.1); none where the
     /// name isn't one.
     pub fn dummy_position(&self, name: &Name) -> Option<usize>
         ensures { result ≡ names.index_among name.now (units.dummies_of self.now) }

@@ -56,12 +56,12 @@ abbrev pub with_kept : Option ℕ → Span → List Character → List Character
 with_kept None span xs = xs
 with_kept (Some c) span xs = record { byte = c; span = span } ∷ xs
 
--- the text of some characters, the first of which stands at a place
+-- the text of some characters, from this state of the scanner on
 abbrev pub text_from : Scanner → List Character → List Character
 text_from p [] = []
 text_from p (x ∷ xs) = with_kept (kept_character p x.byte) x.span (text_from (next p x.byte) xs)
 
--- where the character after them stands
+-- the state of the scanner after them
 abbrev pub scanner_after : Scanner → List Character → Scanner
 scanner_after p [] = p
 scanner_after p (x ∷ xs) = scanner_after (next p x.byte) xs

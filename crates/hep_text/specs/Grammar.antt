@@ -25,6 +25,6 @@ pub data IsText : List Character → List Character → Type 0 where
   plain : (x : Character) (s t : List Character) → is_blank x.byte ≡ false → is_apostrophe x.byte ≡ false → IsText s t → IsText (x ∷ s) (record { byte = upper_case x.byte; span = x.span } ∷ t)
   constant : (x y : Character) (u s t : List Character) → is_apostrophe x.byte ≡ true → u ≢ [] → Within u → is_apostrophe y.byte ≡ true → at_apostrophe s ≡ false → IsText s t → IsText (x ∷ (u ++ y ∷ s)) (x ∷ (u ++ y ∷ t))
 
--- what the definitions of Constant give as a statement's text, where its constants are as they must be
+-- what the definitions of Constant give as a statement's text, where none of its constants is open or empty
 abbrev pub Gives : List Character → List Character → Type 0
 Gives s t = (is_over (scanner_after Outside s) ≡ true) × (text_from Outside s ≡ t)

@@ -22,7 +22,7 @@ pub record Started : Type 0 where
 abbrev pub started : Pending → Started
 started p = record { line = p.line; label = p.label; continued = p.continued; text = p.text.items; spans = p.spans.items; scanner = p.scanner }
 
--- it with more characters after it
+-- the statement with more characters after it
 abbrev pub longer : Started → List Character → Started
 longer p xs = record {
   line = p.line;
@@ -33,7 +33,7 @@ longer p xs = record {
   scanner = scanner_after p.scanner xs;
 }
 
--- it at its end
+-- the statement at its end
 abbrev pub over : Started → Result Stmt Refusal
 over p =
     if is_over p.scanner then Ok (record { line = p.line; label = p.label; text = p.text; spans = p.spans }) else refusal 106 p.line

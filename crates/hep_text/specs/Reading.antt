@@ -17,7 +17,7 @@ pub record Refusal : Type 0 where
 abbrev pub refusal : {A : Type 0} → ℕ → ℕ → Result A Refusal
 refusal k n = Err (record { number = k; line = n })
 
--- what follows a reading that may be refused
+-- goes on with what was read, unless that is refused
 infixl 10 ◌>>=◌
 abbrev pub ◌>>=◌ : {A B : Type 0} → Result A Refusal → (A → Result B Refusal) → Result B Refusal
 (Ok x) >>= f = f x
@@ -63,7 +63,7 @@ abbrev pub continuing : ℕ → Option ℕ → List Character → (Option ℕ �
 continuing n None body rest_after = refusal 105 n
 continuing n (Some k) body rest_after = if nat_lt k most_continuation_lines then continued body (rest_after (Some (k + 1))) else refusal 104 n
 
--- A line of each kind, and what the lines after it are by the count of continuation lines. A
+-- A line of each kind, and what the lines after it give by the count of continuation lines. A
 -- comment line may stand anywhere and isn't counted (X3.9-1978, 3.2.1).
 abbrev pub by_kind : ℕ → Option ℕ → KindOfLine → (Option ℕ → Joined) → Joined
 by_kind n count comment rest_after = rest_after count

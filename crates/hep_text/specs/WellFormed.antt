@@ -12,7 +12,7 @@ abbrev pub LabelFits : Option ℕ → Type 0
 LabelFits None = Unit {0}
 LabelFits (Some n) = (1 ≤ n) × (n ≤ greatest_label)
 
--- each of its characters has a place
+-- each of its characters has a span, which says where it stands
 abbrev pub HasSpans : Stmt → Type 0
 HasSpans s = length s.text ≡ length s.spans
 

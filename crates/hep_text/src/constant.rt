@@ -5,7 +5,7 @@ ghost use Rattle.hep_text.specs.Constant as constant;
 /// How far a lower-case letter stands after its upper-case one.
 const CASE_DISTANCE: u8 = 32;
 
-/// Where a character of a statement stands, by those before it.
+/// Whether a character of a statement is in a character constant, and how far, by those before it.
 #[derive(Clone, Copy, Debug, PartialEq, Eq)]
 pub enum Scanner {
     /// Outside character constants.
@@ -25,7 +25,7 @@ pub enum Scanner {
 }
 
 impl Scanner {
-    /// Where the character after `byte` stands.
+    /// The same of the character after `byte`.
     pub fn next(self, byte: u8) -> Scanner
         ensures { result ≡ constant.next self byte }
     {

@@ -2,8 +2,8 @@
 //!
 //! A text is a sequence of lines of 72 columns (X3.9-1978, 3.2). [`statements`] cuts it into its
 //! statements: each with the line that it begins on, its label, its characters without the blanks
-//! that don't matter, and where in the source each character stands. It answers the first fault of
-//! the text's form in place of them.
+//! that don't matter, and where in the source each character stands. Of a text that breaks a rule of
+//! fixed form it gives the first fault instead.
 #![tactic(auto)]
 
 pub mod constant;

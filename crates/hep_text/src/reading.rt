@@ -46,7 +46,7 @@ struct Pending {
     text: Vec<u8>,
     /// Where each character of the text stands.
     spans: Vec<Span>,
-    /// Where its next character stands, by those before it.
+    /// Whether its next character is in a character constant, by those before it.
     scanner: Scanner,
 }
 
@@ -57,7 +57,7 @@ struct Reading {
     done: Vec<Stmt>,
     /// The one that isn't over.
     pending: Option<Pending>,
-    /// The line of the first statement whose constants aren't as they must be.
+    /// The line of the first statement with a character constant that is open or empty.
     open: Option<u32>,
 }
 
@@ -251,7 +251,7 @@ fn ended(pending: Pending) -> Stmt
     }
 }
 
-/// The statements that were read, once each line is.
+/// The statements that were read, once every line was.
 fn all_read(alloc: Global, reading: Reading) -> Result<Vec<Stmt>, TextFault>
     ensures ok { IfOk result (λ v. with_last (done_of reading) (pending_of reading.pending) ≡ Ok v.items) }
     ensures refused { IfErr result (λ e. Reports e (with_last (done_of reading) (pending_of reading.pending))) }

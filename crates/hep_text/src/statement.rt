@@ -10,7 +10,7 @@ pub struct Span {
     pub column: u32,
 }
 
-/// A statement of the source (X3.9-1978, 3.3).
+/// A statement of the source (X3.9-1978, 3.3) as a text; its form isn't read yet.
 #[derive(Debug, Drop)]
 pub struct Stmt {
     /// The line that it begins on, counted from 1.

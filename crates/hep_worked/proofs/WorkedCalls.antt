@@ -43,7 +43,7 @@ expression_actuals_runs : runs expression_actuals ≡ record { records = numbers
 unfolding runs
 expression_actuals_runs = refl
 
--- an element by its place, and by its value
+-- an element by its location, and by its value
 abbrev element_and_its_value : List String
 element_and_its_value =
     "      INTEGER X(3)"

@@ -1,4 +1,4 @@
--- Worked sources: what is reported of them, and neighbors that are accepted.
+-- Worked sources: what is reported of them, and neighbours that are accepted.
 use Rattle.std.specs.Prelude.{codes, [], ◌∷◌, refl}
 use Rattle.hep_worked.proofs.Sources.{units_of}
 use Rattle.hep_worked.proofs.Reported.{spelled, reported_of, reported_by, reported, accepts, refuses, names}

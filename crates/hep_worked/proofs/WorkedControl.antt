@@ -93,7 +93,7 @@ jump_to_end_if_runs : runs jump_to_end_if ≡ record { records = one 2 ∷ []; f
 unfolding runs
 jump_to_end_if_runs = refl
 
--- a terminal statement before ELSE, and before ELSE IF where the loop has no turn
+-- a terminal statement before ELSE, and before ELSE IF where the DO has no iteration
 abbrev block_ends_in_a_loop : List String
 block_ends_in_a_loop =
     "      IF(.TRUE.)THEN"
@@ -218,7 +218,7 @@ variables_of_bounds_changed_runs : runs variables_of_bounds_changed ≡ record {
 unfolding runs
 variables_of_bounds_changed_runs = refl
 
--- after the last turn the DO variable would be above the greatest integer
+-- after the last iteration the DO variable would be above the greatest integer
 abbrev last_turn_overflows : List String
 last_turn_overflows =
     "      DO 10 I=9223372036854775806,9223372036854775807"
@@ -243,7 +243,7 @@ count_overflows_runs = refl
 
 -- ---- Terminal statements
 
--- the inner DO has no turn at first
+-- the inner DO has no iteration at first
 abbrev shared_terminal_count_0 : List String
 shared_terminal_count_0 =
     "      DO 10 I=1,3"
@@ -323,7 +323,7 @@ call_in_logical_terminal_runs : runs call_in_logical_terminal ≡ record { recor
 unfolding runs
 call_in_logical_terminal_runs = refl
 
--- it ends a turn only where it goes on
+-- it ends an iteration only where it goes on
 abbrev computed_terminal : List String
 computed_terminal =
     "      N=0"

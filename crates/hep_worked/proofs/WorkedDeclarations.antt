@@ -1,4 +1,4 @@
--- Further sources at the conditions of declarations: places in COMMON, adjustable bounds, DATA and large counts; a run of a large
+-- Further sources at the conditions of declarations: positions in COMMON, adjustable bounds, DATA and large counts; a run of a large
 -- array, and a long chain of activations.
 use Rattle.std.specs.Prelude.{◌≡◌, ℕ, zero, suc, true, false, List, [], ◌∷◌, ◌++◌, Option, Some, None, replicate, refl}
 use Prim.Native.String.{String}
@@ -79,7 +79,7 @@ rows = record {
   blank_common_of_the_largest_array = refl;
 }
 
--- ---- the first state: the value at each place of a long list
+-- ---- the first state: the value at each index of a long list
 
 abbrev largest_array : List String
 largest_array = "      INTEGER I(1048576)" ∷ "      DATA I/1048575*7,8/" ∷ "      PRINT *,I(1),I(1048575),I(1048576)" ∷ "      END" ∷ []

@@ -1,4 +1,4 @@
--- Further sources at the edges of the conditions: several violations at once, neighbors of each rule, and cells of frames.
+-- Further sources at the edges of the conditions: several violations at once, neighbours of each rule, and cells of frames.
 use Rattle.std.specs.Prelude.{◌≡◌, ℕ, codes, List, [], ◌∷◌, Result, Ok, Err, refl}
 use Rattle.hep_source.specs.Units.{Units}
 use Rattle.hep_machine.specs.Variables.{frame_cells}
@@ -214,6 +214,9 @@ record Rows : Type 0 where
   unknown_actual_for_logical : names 310 1 (codes "J") ("      CALL S(J(1))" ∷ "      END" ∷ "      SUBROUTINE S(L)" ∷ "      LOGICAL L" ∷ "      END" ∷ [])
   unknown_subscript : names 310 2 (codes "J") ("      INTEGER X(2)" ∷ "      X(J(1))=1" ∷ "      END" ∷ [])
   function_of_integers_to_a_logical : refuses 302 2 ("      LOGICAL L" ∷ "      L=MAX(1)" ∷ "      END" ∷ [])
+  value_of_two_has_the_type_of_the_first : refuses 302 2 ("      LOGICAL $L" ∷ "      I=VALUE($L,$K)" ∷ "      END" ∷ [])
+  value_of_two_of_its_type : refuses 303 1 ("      I=VALUE($J,$K)" ∷ "      END" ∷ [])
+  no_shape_beside_an_open_bound : refuses 303 1 ("      INTEGER A(MAX(1),3:2)" ∷ "      END" ∷ [])
   value_of_an_expression_has_no_type : refuses 304 2 ("      LOGICAL L" ∷ "      L=VALUE(1)" ∷ "      END" ∷ [])
   full_is_logical_of_anything : refuses 302 1 ("      I=FULL(1)" ∷ "      END" ∷ [])
   second_item_of_purge : refuses 304 1 ("      PURGE $I,J" ∷ "      END" ∷ [])
@@ -491,6 +494,9 @@ rows = record {
   unknown_actual_for_logical = refl;
   unknown_subscript = refl;
   function_of_integers_to_a_logical = refl;
+  value_of_two_has_the_type_of_the_first = refl;
+  value_of_two_of_its_type = refl;
+  no_shape_beside_an_open_bound = refl;
   value_of_an_expression_has_no_type = refl;
   full_is_logical_of_anything = refl;
   second_item_of_purge = refl;

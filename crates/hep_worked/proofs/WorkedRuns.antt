@@ -134,7 +134,7 @@ late_declaration_runs = refl
 
 -- ---- One process
 
--- each turn of a DO is its statements and its end
+-- each iteration of a DO is its statements and its end
 abbrev counting : List String
 counting =
     "      D O 1 0 I = 1 , 3"
@@ -665,7 +665,7 @@ adders_in_14_cells : report adders 14 is_made 10000000 (1 ∷ 1 ∷ 1 ∷ []) �
 unfolding report
 adders_in_14_cells = refl
 
--- the frame of A stays until B has ended, which has a place in it
+-- the frame of A stays until B has ended, whose dummy argument stands for a variable of A
 abbrev creator_returns : List String
 creator_returns =
     "      PROGRAM P"

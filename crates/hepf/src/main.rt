@@ -1,18 +1,168 @@
-//! `hepf`: runs a HEP FORTRAN source from standard input.
+//! `hepf`: runs, replays and explains HEP FORTRAN.
+//!
+//! What stands here opens files, and joins calls that do the rest: `hep_command` reads the words, and
+//! `hep_run` does the work and says what went wrong.
 #![tactic(auto)]
 
 #[cfg(test)]
 mod tests;
 
-use hep_run::{Options, run_source};
+use hep_command::{Job, explain, read_words};
+use hep_history::Choices;
+use hep_run::{
+    Options, ReadFault, Run, answer, choices_of, history_text, put_text, read_text_file,
+    replay_source, run_source, say_unread, say_unwritten,
+};
+use std::fs::File;
+use std::io::ErrorKind;
 use std::process::ExitCode;
+use std::{env, io};
 
-fn main(rt: HostRuntime) -> ExitCode {
+// Each function here gives the exit status, or what it is named after or else the exit status.
+
+// The bytes of a file of choices or of a history.
+fn file_bytes(rt: &HostRuntime, path: &str) -> Result<Vec<u8>, u8> {
+    let mut messages = rt.stderr();
+    match File::open(rt, path) {
+        Ok(mut file) => read_text_file(rt.alloc(), &mut file, &mut messages),
+        Err(_) => Err(say_unread(&mut messages, ReadFault::Failed)),
+    }
+}
+
+fn file_choices(rt: &HostRuntime, path: Option<&str>) -> Result<Choices, u8> {
+    match path {
+        Some(path) => {
+            let text = file_bytes(rt, path)?;
+            choices_of(rt.alloc(), &text, &mut rt.stderr())
+        }
+        None => Ok(Choices::from(Vec::new(rt.alloc()))),
+    }
+}
+
+fn write_history(rt: &HostRuntime, run: &Run, path: &str) -> u8 {
+    let mut messages = rt.stderr();
+    let text = match history_text(rt.alloc(), run, &mut messages) {
+        Ok(text) => text,
+        Err(status) => return status,
+    };
+    match File::create(rt, path) {
+        Ok(mut file) => put_text(&text, run.status, &mut file, &mut messages),
+        Err(_) => say_unwritten(&mut messages),
+    }
+}
+
+fn run_standard(rt: &HostRuntime) -> u8 {
     let alloc = rt.alloc();
     let options = Options::defaults(alloc);
     let mut source = rt.stdin();
-    let mut records = rt.stdout();
+    run_source(
+        alloc,
+        &mut source,
+        &options,
+        &mut rt.stdout(),
+        &mut rt.stderr(),
+    )
+    .status
+}
+
+fn run_file(rt: &HostRuntime, file: &str, options: &Options, history: Option<&str>) -> u8 {
     let mut messages = rt.stderr();
-    let run = run_source(alloc, &mut source, &options, &mut records, &mut messages);
-    ExitCode::from(run.status)
+    let run = match File::open(rt, file) {
+        Ok(mut source) => {
+            run_source(
+                rt.alloc(),
+                &mut source,
+                options,
+                &mut rt.stdout(),
+                &mut messages,
+            )
+        }
+        Err(_) => return say_unread(&mut messages, ReadFault::Failed),
+    };
+    match history {
+        Some(path) => write_history(rt, &run, path),
+        None => run.status,
+    }
+}
+
+fn replay_file(rt: &HostRuntime, file: &str, history: &[u8], arena: u32) -> u8 {
+    let mut messages = rt.stderr();
+    match File::open(rt, file) {
+        Ok(mut source) => {
+            let mut records = rt.stdout();
+            replay_source(
+                rt.alloc(),
+                &mut source,
+                history,
+                arena,
+                &mut records,
+                &mut messages,
+            )
+            .status
+        }
+        Err(_) => say_unread(&mut messages, ReadFault::Failed),
+    }
+}
+
+fn done(rt: &HostRuntime, job: Job<'_>) -> Result<u8, u8> {
+    let status = match job {
+        Job::Standard => run_standard(rt),
+        Job::Run {
+            file,
+            arena,
+            steps,
+            choices,
+            history,
+        } => {
+            let choices = file_choices(rt, choices)?;
+            let options = Options {
+                arena,
+                steps,
+                choices,
+            };
+            run_file(rt, file, &options, history)
+        }
+        Job::Replay {
+            file,
+            history,
+            arena,
+        } => replay_file(rt, file, &file_bytes(rt, history)?, arena),
+        Job::Explain { number } => {
+            let usage = explain(rt.alloc(), number);
+            answer(
+                usage.status,
+                &usage.text,
+                &mut rt.stdout(),
+                &mut rt.stderr(),
+            )
+        }
+    };
+    Ok(status)
+}
+
+// The words of the command line, the program's name first.
+fn words_of(rt: &HostRuntime) -> io::Result<Vec<String>> {
+    let words = env::args(rt)?;
+    Ok(words.collect(rt.alloc())?)
+}
+
+fn status_of(rt: &HostRuntime) -> Result<u8, u8> {
+    let (output, messages) = (&mut rt.stdout(), &mut rt.stderr());
+    let words = match words_of(rt) {
+        Ok(words) => words,
+        Err(fault) if fault.kind() == ErrorKind::OutOfMemory => {
+            return Err(answer(7, b"", output, messages));
+        }
+        Err(_) => return Err(answer(2, b"error: a word isn't UTF-8\n", output, messages)),
+    };
+    match read_words(rt.alloc(), &words) {
+        Ok(job) => done(rt, job),
+        Err(usage) => Err(answer(usage.status, &usage.text, output, messages)),
+    }
+}
+
+fn main(rt: HostRuntime) -> ExitCode {
+    match status_of(&rt) {
+        Ok(status) | Err(status) => ExitCode::from(status),
+    }
 }

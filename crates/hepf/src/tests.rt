@@ -4,10 +4,11 @@ mod parts;
 mod shapes;
 mod texts;
 
-use hep_core::{ChooseFault, Core, Entry, Stop, Verdict, image_of};
+use hep_core::{ChooseFault, Core, Entry, Stop, Turn, Verdict, image_of};
 use hep_history::Choices;
 use hep_parse::parse;
 use hep_run::{Options, Run, run_source};
+use hep_source::Program;
 use hep_text::statements;
 use std::alloc::{AllocError, Global};
 use std::io;
@@ -45,6 +46,21 @@ fn outcome_with(alloc: Global, source: &[u8], options: &Options) -> Outcome {
 
 fn outcome_of(alloc: Global, source: &[u8]) -> Outcome {
     outcome_with(alloc, source, &Options::defaults(alloc))
+}
+
+// The calls that the tests make, without what their contracts say of them.
+
+fn program_of(alloc: Global, source: &[u8]) -> Result<Program, Fail> {
+    Ok(parse(alloc, &statements(alloc, source)?)?)
+}
+
+fn core_of(alloc: Global, source: &[u8], cells: u32, steps: u64) -> Result<Core, Fail> {
+    let program = program_of(alloc, source)?;
+    Ok(Core::new(alloc, image_of(alloc, program)?, cells, steps)?)
+}
+
+fn chosen(core: &mut Core, process: u64) -> Result<Turn, ChooseFault> {
+    core.choose(process)
 }
 
 // So many entries of one step of process 1.
@@ -495,11 +511,11 @@ fn source_of(alloc: Global, lines: &[&[u8]]) -> Result<Vec<u8>, AllocError> {
 fn forms(rt: HostRuntime) -> Result<(), Fail> {
     let alloc = rt.alloc();
     let source = source_of(alloc, &FORMS)?;
-    let program = parse(alloc, &statements(alloc, &source)?)?;
+    let program = program_of(alloc, &source)?;
     assert_eq!(rt; program.as_slice().len(), 2);
     let copy = program.copy(alloc)?;
     assert!(rt; program.same(&copy));
-    let other = parse(alloc, &statements(alloc, UNDEFINED)?)?;
+    let other = program_of(alloc, UNDEFINED)?;
     assert!(rt; !program.same(&other));
     let outcome = outcome_of(alloc, &source);
     assert_eq!(rt;
@@ -652,13 +668,12 @@ fn core(rt: HostRuntime) -> Result<(), Fail> {
 #[test]
 fn step_limit(rt: HostRuntime) -> Result<(), Fail> {
     let alloc = rt.alloc();
-    let program = parse(alloc, &statements(alloc, UNDEFINED)?)?;
-    let mut core = Core::new(alloc, image_of(alloc, program)?, 3, 1)?;
-    let _first = core.choose(1)?;
+    let mut core = core_of(alloc, UNDEFINED, 3, 1)?;
+    let _first = chosen(&mut core, 1)?;
     assert_eq!(rt; core.verdict(), Verdict::Running);
     for _again in 0..2 {
         assert_eq!(rt;
-            core.choose(1).err(),
+            chosen(&mut core, 1).err(),
             Some(ChooseFault::Stopped(Stop::StepLimit))
         );
         assert_eq!(rt; core.verdict(), Verdict::Stopped(Stop::StepLimit));

@@ -1,13 +1,15 @@
 //! The parts by themselves, through their public calls, and what only a whole run shows of them.
 
-use super::{FIRST, UNDEFINED, is_single_steps, outcome_of, source_of};
+use super::{
+    FIRST, UNDEFINED, chosen, core_of, is_single_steps, outcome_of, program_of, source_of,
+};
+use hep_arena::Arena;
 use hep_core::{ChooseFault, Core, NewFault, Stop, Verdict, image_of};
 use hep_machine::{Fault, Item, Kind, Record, laws};
-use hep_parse::{at_most_one_program, parse};
+use hep_parse::at_most_one_program;
 use hep_run::{Options, run_source};
 use hep_source::Text;
 use hep_text::{Span, statements};
-use std::alloc::Global;
 use std::io;
 use std::io::{Error, ErrorKind, Read};
 use std::test::Fail;
@@ -88,7 +90,7 @@ const UNITS: [&[u8]; 18] = [
 fn three_units(rt: HostRuntime) -> Result<(), Fail> {
     let alloc = rt.alloc();
     let source = source_of(alloc, &UNITS)?;
-    let program = parse(alloc, &statements(alloc, &source)?)?;
+    let program = program_of(alloc, &source)?;
     let mut units = program.into_vec();
     assert_eq!(rt; units.len(), 3);
     if let Some(two) = units.pop() {
@@ -171,11 +173,6 @@ fn faulty(rt: HostRuntime) {
 
 // ---- the core
 
-fn core_of(alloc: Global, source: &[u8], cells: u32, steps: u64) -> Result<Core, Fail> {
-    let program = parse(alloc, &statements(alloc, source)?)?;
-    Ok(Core::new(alloc, image_of(alloc, program)?, cells, steps)?)
-}
-
 #[test]
 fn record_and_fault(rt: HostRuntime) -> Result<(), Fail> {
     let mut core = core_of(rt.alloc(), UNDEFINED, 3, 100)?;
@@ -183,7 +180,7 @@ fn record_and_fault(rt: HostRuntime) -> Result<(), Fail> {
     assert_eq!(rt; core.image().program().as_slice().len(), 1);
     assert_eq!(rt; core.used(), 3);
     for _step in 0..7 {
-        let _turn = core.choose(1)?;
+        let _turn = chosen(&mut core, 1)?;
     }
     match core.output() {
         [record] => assert!(rt; matches!(record.as_slice(), [Item::Int(8)])),
@@ -204,24 +201,45 @@ fn record_and_fault(rt: HostRuntime) -> Result<(), Fail> {
 #[test]
 fn full_history(rt: HostRuntime) -> Result<(), Fail> {
     let alloc = rt.alloc();
-    let program = parse(alloc, &statements(alloc, UNDEFINED)?)?;
+    let program = program_of(alloc, UNDEFINED)?;
     let refused = Core::new(alloc, image_of(alloc, program)?, 2, 100);
     assert_eq!(rt; refused.err(), Some(NewFault::ArenaFull));
     let mut core = core_of(alloc, UNDEFINED, 3, 3)?;
     for _step in 0..3 {
-        let _turn = core.choose(1)?;
+        let _turn = chosen(&mut core, 1)?;
     }
     // That a process doesn't live is reported before that the history is full, and a stop before both.
-    assert_eq!(rt; core.choose(2).err(), Some(ChooseFault::NoSuchProcess));
+    assert_eq!(rt;
+        chosen(&mut core, 2).err(),
+        Some(ChooseFault::NoSuchProcess)
+    );
     assert_eq!(rt; core.verdict(), Verdict::Running);
     for process in [1, 2, 1] {
         assert_eq!(rt;
-            core.choose(process).err(),
+            chosen(&mut core, process).err(),
             Some(ChooseFault::Stopped(Stop::StepLimit))
         );
         assert_eq!(rt; core.verdict(), Verdict::Stopped(Stop::StepLimit));
         assert!(rt; is_single_steps(core.history(), 3));
     }
+    Ok(())
+}
+
+// ---- the arena
+
+// Three blocks in an arena of ten cells leave a hole of one.
+#[test]
+fn three_blocks(rt: HostRuntime) -> Result<(), Fail> {
+    let mut arena = Arena::new(rt.alloc(), 10)?.sent();
+    let first = arena.take(3).ok_or("no block")?;
+    let second = arena.take(4).ok_or("no block")?;
+    let third = arena.take(2).ok_or("no block")?;
+    assert_eq!(rt; (first.at(), second.at(), third.at()), (0, 3, 7));
+    assert_eq!(rt; (first.len(), second.len(), third.len()), (3, 4, 2));
+    assert_eq!(rt; arena.used(), 9);
+    assert!(rt; arena.fits(1));
+    assert!(rt; !arena.fits(2));
+    assert!(rt; arena.take(2).is_none());
     Ok(())
 }
 

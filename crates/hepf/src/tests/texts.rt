@@ -1,13 +1,12 @@
 //! Texts of records, histories, choices and processes that wait, each public call once.
 
-use super::source_of;
+use super::program_of;
 use hep_core::{Core, Entry, image_of};
 use hep_dump::{Listed, fault_text, waiting_text};
 use hep_history::{read_choices, read_text, replay, write_text};
 use hep_machine::{Item, Record};
 use hep_output::{output_text, put_all, record_text};
-use hep_parse::parse;
-use hep_text::statements;
+use std::alloc::Global;
 use std::test::Fail;
 
 #[test]
@@ -48,18 +47,18 @@ fn histories(rt: HostRuntime) -> Result<(), Fail> {
     Ok(())
 }
 
+// A run made again from a history of one entry.
+fn replayed(alloc: Global, source: &[u8], steps: u32) -> Result<Core, Fail> {
+    let image = image_of(alloc, program_of(alloc, source)?)?;
+    let entries = [Entry { process: 1, steps }];
+    Ok(replay(alloc, image, 10, &entries)?)
+}
+
 // A run made again from its history, its faults, and the line of a process that would wait.
 #[test]
 fn replays(rt: HostRuntime) -> Result<(), Fail> {
     let alloc = rt.alloc();
-    let source = source_of(alloc, &[b"      I=1/0", b"      END"])?;
-    let read = statements(alloc, &source)?;
-    let image = image_of(alloc, parse(alloc, &read)?)?;
-    let entries = [Entry {
-        process: 1,
-        steps: 1,
-    }];
-    let core: Core = replay(alloc, image, 10, &entries)?;
+    let core = replayed(alloc, b"      I=1/0\n      END\n", 1)?;
     let faults = fault_text(alloc, &core)?;
     assert_eq!(rt;
         faults.as_slice(),

@@ -5,7 +5,7 @@ use Rattle.hep_expression.specs.ReadingExpression.{operators, chain, next_operan
 use Rattle.hep_expression.proofs.Chains.{after_read}
 use Rattle.hep_expression.proofs.expression.+expression.Given as goal
 
--- the place of a level's operands in the order of calls at one depth: what calls has a greater one
+-- the rank of a level's operands in the order of calls at one depth: what calls has a greater one
 abbrev rank : Precedence → ℕ
 rank Equivalence = 22
 rank Disjunction = 19

@@ -1,0 +1,14 @@
+-- The refusals that the program may report: docs/REFUSALS.md.
+use Rattle.std.specs.Prelude.{ℕ, Bool, List, [], ◌∷◌, nat_eq}
+use Rattle.std.specs.List.{list_any}
+
+-- of lines, of statements, of a program, of choices, and of the texts of histories and choices
+abbrev pub refusals : List ℕ
+refusals =
+    101 ∷ 102 ∷ 103 ∷ 104 ∷ 105 ∷ 106 ∷ 107
+    ∷ 201 ∷ 202 ∷ 203 ∷ 204 ∷ 205
+    ∷ 301 ∷ 403 ∷ 501
+    ∷ 601 ∷ 602 ∷ 603 ∷ []
+
+abbrev pub is_refusal : ℕ → Bool
+is_refusal number = list_any (nat_eq number) refusals

@@ -1,0 +1,21 @@
+-- What a command line may ask for: docs/MACHINE.md, "The program".
+use Rattle.std.specs.Prelude.{◌≡◌, ◌⊎◌, ℕ, ◌≤◌}
+use Rattle.hep_command.specs.declared.job.Job.{Job}
+use Rattle.hep_command.specs.declared.job.Job.TheVariants.{Standard, Run, Replay, Explain}
+
+abbrev pub IsArena : ℕ → Type 0
+IsArena cells = (1 ≤ cells) × (cells ≤ 16777216)
+
+abbrev pub IsSteps : ℕ → Type 0
+IsSteps entries = (1 ≤ entries) × (entries ≤ 4294967296)
+
+-- the numbers of the job are those that its options allow
+abbrev pub IsInRange : Job → Type 0
+IsInRange Standard = Unit {0}
+IsInRange (Run file arena steps choices history) = IsArena arena × IsSteps steps
+IsInRange (Replay file history arena) = IsArena arena
+IsInRange (Explain number) = Unit {0}
+
+-- a text was asked for, the words are wrong, or memory was refused
+abbrev pub IsUsageStatus : ℕ → Type 0
+IsUsageStatus status = (status ≡ 0) ⊎ (status ≡ 2) ⊎ (status ≡ 7)

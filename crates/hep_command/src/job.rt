@@ -1,0 +1,78 @@
+//! What a command line asks for.
+ghost use Rattle.std.specs.Prelude.{◌≡◌, ◌⊎◌, []};
+
+use std::alloc::Global;
+
+/// The cells of the arena of a run, where no option says how many.
+pub const ARENA: u32 = 65_536;
+
+/// The most cells of an arena.
+pub const MOST_ARENA: u32 = 16_777_216;
+
+/// The entries that a history may have, where no option says how many.
+pub const STEPS: u64 = 10_000_000;
+
+/// The most entries that an option allows a history.
+pub const MOST_STEPS: u64 = 4_294_967_296;
+
+/// What a command line asks for. Files go by their paths.
+#[derive(Clone, Copy, Debug, PartialEq, Eq)]
+pub enum Job<'a> {
+    /// To run the source on standard input with the defaults: there is no word.
+    Standard,
+    /// To run a source.
+    Run {
+        file: &'a str,
+        /// The cells of the arena, 1 to 16,777,216.
+        arena: u32,
+        /// The entries that the history may have, 1 to 4,294,967,296.
+        steps: u64,
+        /// The file of the choices.
+        choices: Option<&'a str>,
+        /// The file that gets the history.
+        history: Option<&'a str>,
+    },
+    /// To make the steps of a history again.
+    Replay {
+        file: &'a str,
+        history: &'a str,
+        /// The cells of the arena, 1 to 16,777,216.
+        arena: u32,
+    },
+    /// To say what a refusal means.
+    Explain {
+        number: u16,
+    },
+}
+
+/// A text for the one who gave the words, and an exit status.
+#[derive(Drop)]
+pub struct Usage {
+    /// 0 for help, the version and an explanation, which go to standard output; 2 for a mistake in
+    /// the words, which goes to standard error; 7 where memory was refused, which has no text.
+    pub status: u8,
+    pub text: Vec<u8>,
+}
+
+impl Usage {
+    pub(crate) fn no_memory(alloc: Global) -> Usage
+        ensures status { result.status ≡ 7 }
+        ensures text { result.text.items ≡ [] }
+    {
+        Usage {
+            status: 7,
+            text: Vec::new(alloc),
+        }
+    }
+
+    /// This text, unless memory is refused for it.
+    pub(crate) fn of_text(alloc: Global, status: u8, text: &str) -> Usage
+        ensures { ((result.status ≡ status) × (result.text.items ≡ text.now))
+            ⊎ ((result.status ≡ 7) × (result.text.items ≡ [])) }
+    {
+        match Vec::from_slice(alloc, text.as_bytes()) {
+            Ok(text) => Usage { status, text },
+            Err(_) => Usage::no_memory(alloc),
+        }
+    }
+}

@@ -1,0 +1,102 @@
+//! The commands and options, as `clap` reads them and shows them in its help.
+
+use crate::job::{MOST_ARENA, MOST_STEPS};
+use clap::builder::ValueParser;
+use clap::{Arg, Command};
+use std::alloc::{AllocError, Global};
+
+/// What `hepf --version` says after the program's name.
+const VERSION: &str = "0.1.0, rattle-kit-13b logic dac8208d650f15bf";
+
+const ABOUT: &str = "Compiles and runs HEP FORTRAN.
+With no command it runs the source on standard input.";
+
+const EXAMPLES: &str = "Example: hepf run examples/powers.f
+`hepf COMMAND --help` has more; `man -l docs/hepf.1` has all, statuses too.";
+
+const RUN_EXAMPLE: &str = "Example: hepf run examples/powers.f --history powers.history";
+
+const REPLAY_EXAMPLE: &str = "Example: hepf replay examples/powers.f powers.history";
+
+const EXPLAIN_EXAMPLE: &str = "Example: hepf explain 403";
+
+// A word that has to be there.
+fn argument<'a>(alloc: Global, id: &'a str, name: &'a str) -> Arg<'a> {
+    Arg::new(alloc, id).value_name(name).required(true)
+}
+
+fn file_option<'a>(alloc: Global, id: &'a str) -> Arg<'a> {
+    Arg::new(alloc, id).long(id).value_name("FILE")
+}
+
+fn number_option<'a>(alloc: Global, id: &'a str, most: u64) -> Arg<'a> {
+    Arg::new(alloc, id)
+        .long(id)
+        .value_name("N")
+        .value_parser(ValueParser::unsigned(1, most))
+}
+
+fn arena_option<'a>(alloc: Global) -> Arg<'a> {
+    number_option(alloc, "arena", u64::from(MOST_ARENA)).help(
+        "Cells of storage, 1 to 16777216 [default: 65536]",
+    )
+}
+
+fn run_command<'a>(alloc: Global) -> Result<Command<'a>, AllocError> {
+    let steps = number_option(alloc, "steps", MOST_STEPS).help(
+        "Steps at most, 1 to 4294967296 [default: 10000000]",
+    );
+    let choices = file_option(alloc, "choices").help(
+        "The processes that are chosen first, one a line",
+    );
+    let history = file_option(alloc, "history").help(
+        "Gets the history: process and steps, an entry a line",
+    );
+    let file = argument(alloc, "file", "FILE").help("The source");
+    Command::new(alloc, "run")
+        .about("Run a source")
+        .after_help(RUN_EXAMPLE)
+        .arg(file)?
+        .arg(arena_option(alloc))?
+        .arg(steps)?
+        .arg(choices)?
+        .arg(history)
+}
+
+fn replay_command<'a>(alloc: Global) -> Result<Command<'a>, AllocError> {
+    let file = argument(alloc, "file", "FILE").help("The source");
+    let history = argument(alloc, "history", "HISTORY").help(
+        "A history that `run --history` wrote, or some first lines of it",
+    );
+    Command::new(alloc, "replay")
+        .about("Make the steps of a history again")
+        .after_help(REPLAY_EXAMPLE)
+        .arg(file)?
+        .arg(history)?
+        .arg(arena_option(alloc))
+}
+
+fn explain_command<'a>(alloc: Global) -> Result<Command<'a>, AllocError> {
+    let number = argument(alloc, "number", "NUMBER")
+        .value_parser(ValueParser::unsigned(0, u64::from(u16::MAX)))
+        .help("The number of a line REFUSED");
+    Command::new(alloc, "explain")
+        .about("Say what a refusal means and what to do about it")
+        .after_help(EXPLAIN_EXAMPLE)
+        .arg(number)
+}
+
+/// The command line of the program.
+///
+/// # Errors
+///
+/// Only where memory was refused.
+pub fn program<'a>(alloc: Global) -> Result<Command<'a>, AllocError> {
+    Command::new(alloc, "hepf")
+        .version(VERSION)
+        .about(ABOUT)
+        .after_help(EXAMPLES)
+        .subcommand(run_command(alloc)?)?
+        .subcommand(replay_command(alloc)?)?
+        .subcommand(explain_command(alloc)?)
+}

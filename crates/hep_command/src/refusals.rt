@@ -1,0 +1,93 @@
+//! What refusals mean, by their numbers.
+ghost use Rattle.std.specs.Prelude.{◌≡◌, ◌⊎◌, is_some, true, false};
+ghost use Rattle.hep_command.specs.Explanations.{is_refusal};
+
+use crate::job::Usage;
+use std::alloc::Global;
+
+/// What the refusal with this number means, and then what to do.
+pub fn explanation(number: u16) -> Option<&'static str>
+    ensures { is_some result ≡ is_refusal number }
+{
+    let text = match number {
+        101 => "A tab stands in columns 1 to 72 of the line.
+Write blanks in its place; many editors can do that for a whole file.
+",
+        102 => "A byte in columns 1 to 72 of the line is no printable ASCII character.
+Write plain letters and apostrophes, and end lines with a line feed.
+",
+        103 => "Columns 1 to 5 hold something else than digits and blanks, or zeros only, or
+there is a label on a line with a mark in column 6.
+Begin statements in column 7, and comments with C or * in column 1.
+",
+        104 => "The line is the twentieth continuation line of its statement.
+Make the statement shorter, or make several of it.
+",
+        105 => "The line has a mark in column 6, but no statement stands before it.
+Leave column 6 blank.
+",
+        106 => "A character constant of the statement isn't closed, or has no characters.
+Close it by an apostrophe in columns 7 to 72; one within it is written twice.
+",
+        107 => "The source has more than 65,535 lines or 4,194,304 bytes. The line is 0.
+Make it shorter; bytes after column 72 and comments count too.
+",
+        201 => "The statement has no reading: it is no statement of the language.
+Look at its spelling, its parentheses and commas, and that names have at most
+six characters. A decimal point makes a constant real; there are integers only.
+",
+        202 =>
+            "The statement begins with a word that the language leaves out; the line has the word.
+There are integers and logicals only, no files, and no input. Leave it out.
+",
+        203 => "An integer constant is above 9223372036854775807, also behind a minus sign.
+Write a smaller one; the least integer is (-9223372036854775807-1).
+",
+        204 => "There is no main program. The line is 0.
+Write one: statements and END, with a PROGRAM statement before them or without.
+",
+        205 =>
+            "The statement stands where none of its kind may stand: a declaration after an executable
+statement, a second main program; or the last statement of the source isn't END.
+Move it, or end the unit with END.
+",
+        301 =>
+            "A name has no type, since it begins with no letter from I to N; the line has the name.
+Take a name that begins with I to N.
+",
+        403 => "The statement is one of the language, but it doesn't run yet.
+What runs is one main program of assignments and PRINT statements over integers.
+",
+        501 => "This line of the file of choices names no living process.
+Take it and the lines after it out: a run goes on by itself after its choices.
+",
+        601 =>
+            "This line of the history isn't a process, one blank and a number of steps up to 1024.
+Numbers have no zero in front and each line ends with a line feed, the last one too. At
+line 0 the file has more than 150,000,000 bytes. Take what `run --history` wrote.
+",
+        602 =>
+            "This line of the file of choices isn't a process: a number from 1 without a zero in front.
+Each line ends with a line feed, the last one too. At line 0 the file has more than
+150,000,000 bytes.
+",
+        603 => "This entry of the history isn't possible after those before it.
+The history is of another source, or was changed. Take the one that
+`run --history` wrote.
+",
+        _ => return None,
+    };
+    Some(text)
+}
+
+/// What `hepf explain NUMBER` writes: with status 0 the explanation, with status 2 that there is no
+/// such refusal, and with status 7 nothing, where memory was refused.
+pub fn explain(alloc: Global, number: u16) -> Usage
+    ensures { (result.status ≡ 7) ⊎ ((is_refusal number ≡ true) × (result.status ≡ 0))
+        ⊎ ((is_refusal number ≡ false) × (result.status ≡ 2)) }
+{
+    match explanation(number) {
+        Some(text) => Usage::of_text(alloc, 0, text),
+        None => Usage::of_text(alloc, 2, "error: no refusal has this number\n"),
+    }
+}

@@ -1,0 +1,10 @@
+use Rattle.std.proofs.Common.{◌≡◌, None, drop, map}
+use Rattle.indexmap.specs.IndexMap.{get}
+use Rattle.hep_check.specs.Reported.{least_line}
+use Rattle.hep_control.specs.Ranges.{do_range}
+use Rattle.hep_control.specs.Crossing.{name_eq, least_shared}
+use Rattle.hep_control.proofs.crossing.least_shared.Given as goal
+
+abbrev pub invariant-loop-range : goal.invariant-loop-range
+invariant-loop-range l =
+    least_line l.least (least_shared l.unit (get name_eq l.last) (map do_range (drop l.range-index l.ranges))) ≡ least_shared l.unit (λ x. None) (map do_range l.ranges)

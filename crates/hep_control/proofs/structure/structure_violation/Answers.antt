@@ -1,0 +1,19 @@
+use Rattle.std.proofs.Common.{◌≡◌, ◌∙◌, ap}
+use Rattle.hep_check.specs.Nesting.{block_violations, nesting_violations}
+use Rattle.hep_check.specs.Violations.{first_of}
+use Rattle.hep_check.specs.Reported.{reported, least_line}
+use Rattle.hep_control.proofs.Alone.{reported-structure}
+use Rattle.hep_control.proofs.structure.structure_violation.Goals as goal
+
+pub returns : goal.returns
+returns c =
+    let unit = c.args.labels.now in
+    let line : c.lesser-2.result ≡ least_line c.least_statement-alone.result (least_line c.least_unmatched-unmatched.result c.in_ok-crossing.crossing) =
+    cc (c.lesser-2.ensures, c.lesser.ensures) in
+    let unmatched : reported 307 c.least_unmatched-unmatched.result ≡ first_of (block_violations unit) =
+    c.least_unmatched-unmatched.ensures ∙ ap (λ u. first_of (block_violations u)) c.unit-unit.ensures in
+    let crossing : reported 307 c.in_ok-crossing.crossing ≡ first_of (nesting_violations unit) =
+    c.in_ok-crossing.ensures ∙ ap (λ u. first_of (nesting_violations u)) c.unit-unit.ensures in
+    c.reported.ensures
+    ∙ (ap (reported 307) line
+    ∙ reported-structure unit c.least_statement-alone.result c.least_unmatched-unmatched.result c.in_ok-crossing.crossing c.least_statement-alone.ensures unmatched crossing)

@@ -1,0 +1,188 @@
+//! DO ranges and block IFs that aren't nested (X3.9-1978, 11.10.1).
+ghost use Rattle.std.specs.Prelude.{◌≡◌, ◌++◌, IfOk, OnOk, None, map};
+ghost use Rattle.std.specs.List.{flat_map};
+ghost use Rattle.indexmap.specs.IndexMap.{get};
+ghost use Rattle.hep_source.specs.declared.name.Name.{Name as PureName};
+ghost use Rattle.hep_check.specs.Nesting as nesting;
+ghost use Rattle.hep_check.specs.Reported.{reported};
+ghost use Rattle.hep_check.specs.Violations.{first_of};
+ghost use Rattle.hep_control.specs.Ranges.{do_range};
+ghost use Rattle.hep_control.specs.Crossing as spec;
+
+use crate::blocks::{BlockIf, BlockIfs};
+use crate::do_range::DoRange;
+use crate::reported::{lesser, line_at, line_when};
+use crate::sweep::{Event, least_met};
+use hep_source::{Name, Statement};
+use indexmap::IndexMap;
+use std::alloc::{AllocError, Global};
+
+// The least line of a DO or a block IF that isn't nested in the ranges and blocks around it.
+pub(crate) fn least_crossing(
+    alloc: Global,
+    unit: &[Statement],
+    ranges: &[DoRange],
+    blocks: &BlockIfs,
+) -> Result<Option<u32>, AllocError>
+    requires ranges { map do_range ranges.now ≡ nesting.ranges_of unit.now }
+    requires blocks { blocks.now ≡ nesting.block_ifs_of unit.now }
+    ensures { IfOk result (λ line. reported 307 line ≡ first_of (nesting.nesting_violations unit.now)) }
+{
+    let closed = blocks.closed();
+    let crossed = least_met(alloc, events_of_ranges(alloc, unit, ranges)?)?;
+    let shared = least_shared(alloc, unit, ranges)?;
+    let by_block = least_met(alloc, events_of_blocks(alloc, unit, ranges, closed)?)?;
+    let by_range = least_met(alloc, events_in_blocks(alloc, unit, ranges, closed)?)?;
+    Ok(lesser(lesser(crossed, shared), lesser(by_block, by_range)))
+}
+
+// The ranges, and of each whether one that begins before it goes on to its DO and ends before it does.
+fn events_of_ranges(
+    alloc: Global,
+    unit: &[Statement],
+    ranges: &[DoRange],
+) -> Result<Vec<Event>, AllocError>
+    ensures { IfOk result (λ events. events.items ≡ map spec.value_of_range ranges.now ++ map (spec.question_of_range unit.now) ranges.now) }
+{
+    let mut events = Vec::new(alloc);
+    add_ranges(&mut events, ranges)?;
+    for range in ranges {
+        events.push(Event::Question {
+            key: range.start,
+            low: range.start,
+            high: range.terminal,
+            line: line_at(unit, range.start),
+        })?;
+    }
+    Ok(events)
+}
+
+// The ranges, and the same of each block IF.
+fn events_of_blocks(
+    alloc: Global,
+    unit: &[Statement],
+    ranges: &[DoRange],
+    blocks: &[BlockIf],
+) -> Result<Vec<Event>, AllocError>
+    ensures { IfOk result (λ events. events.items ≡ map spec.value_of_range ranges.now ++ map (spec.question_of_block unit.now) blocks.now) }
+{
+    let mut events = Vec::new(alloc);
+    add_ranges(&mut events, ranges)?;
+    for block in blocks {
+        events.push(Event::Question {
+            key: block.start,
+            low: block.start,
+            high: block.end.unwrap_or(0),
+            line: line_at(unit, block.start),
+        })?;
+    }
+    Ok(events)
+}
+
+// Where blocks end, and of each range whether one of a block IF that begins before it ends in it.
+fn events_in_blocks(
+    alloc: Global,
+    unit: &[Statement],
+    ranges: &[DoRange],
+    blocks: &[BlockIf],
+) -> Result<Vec<Event>, AllocError>
+    ensures { IfOk result (λ events. events.items ≡ flat_map spec.values_in blocks.now ++ map (spec.question_in_range unit.now) ranges.now) }
+{
+    let mut events = Vec::new(alloc);
+    add_all_ends(&mut events, blocks)?;
+    for range in ranges {
+        events.push(Event::Question {
+            key: range.start,
+            low: range.start + 1,
+            high: range.terminal + 1,
+            line: line_at(unit, range.start),
+        })?;
+    }
+    Ok(events)
+}
+
+fn add_ranges(events: &mut Vec<Event>, ranges: &[DoRange]) -> Result<(), AllocError>
+    ensures { OnOk result (events.new.items ≡ events.old.items ++ map spec.value_of_range ranges.now) }
+{
+    for range in ranges {
+        events.push(Event::Value {
+            key: range.start,
+            value: range.terminal,
+        })?;
+    }
+    Ok(())
+}
+
+fn add_all_ends(events: &mut Vec<Event>, blocks: &[BlockIf]) -> Result<(), AllocError>
+    ensures { OnOk result (events.new.items ≡ events.old.items ++ flat_map spec.values_in blocks.now) }
+{
+    for block in blocks {
+        add_ends(events, block)?;
+    }
+    Ok(())
+}
+
+// Where the blocks of a block IF end.
+fn add_ends(events: &mut Vec<Event>, block: &BlockIf) -> Result<(), AllocError>
+    ensures { OnOk result (events.new.items ≡ events.old.items ++ spec.values_in block.now) }
+{
+    for division in &block.divisions {
+        events.push(Event::Value {
+            key: block.start,
+            value: *division,
+        })?;
+    }
+    if let Some(end) = block.end {
+        events.push(Event::Value {
+            key: block.start,
+            value: end,
+        })?;
+    }
+    Ok(())
+}
+
+// The least line of a DO in the range of one with its variable.
+fn least_shared(
+    alloc: Global,
+    unit: &[Statement],
+    ranges: &[DoRange],
+) -> Result<Option<u32>, AllocError>
+    ensures { IfOk result (λ line. line ≡ spec.least_shared unit.now (λ x. None) (map do_range ranges.now)) }
+{
+    let mut last = IndexMap::new(alloc);
+    let mut least = None;
+    for range in ranges {
+        let is_reported = is_shared(&mut last, range)?;
+        least = lesser(least, line_when(is_reported, line_at(unit, range.start)));
+    }
+    Ok(least)
+}
+
+// Whether a range of this variable that was met has this DO in it; from now on this one is met too.
+fn is_shared(last: &mut IndexMap<Name, usize>, range: &DoRange) -> Result<bool, AllocError>
+    ensures shared { IfOk result (λ it. it ≡ spec.reaches (get spec.name_eq last.old range.now.variable) range.now.start) }
+    ensures met { OnOk result ((x : PureName) → get spec.name_eq last.new x ≡ spec.with_range (get spec.name_eq last.old) (do_range range.now) x) }
+{
+    let before = last.get(&range.variable).copied();
+    last.insert(range.variable, later(before, range.terminal))?;
+    Ok(reaches(before, range.start))
+}
+
+// The later of two terminal statements, where there is one before.
+fn later(before: Option<usize>, terminal: usize) -> usize
+    ensures { result ≡ spec.later before terminal }
+{
+    match before {
+        Some(before) => before.max(terminal),
+        None => terminal,
+    }
+}
+
+fn reaches(terminal: Option<usize>, index: usize) -> bool
+    ensures { result ≡ spec.reaches terminal index }
+{
+    match terminal {
+        Some(terminal) => index <= terminal,
+        None => false,
+    }
+}

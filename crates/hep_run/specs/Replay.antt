@@ -1,0 +1,60 @@
+-- What a replay comes to, from the bytes of a source and of a history to the bytes that it writes: docs/MACHINE.md, "The program".
+use Rattle.std.specs.Prelude.{◌≡◌, ◌⊎◌, ℕ, List, [], ◌++◌, codes, length, None, IsSome}
+use Rattle.hep_machine.specs.declared.event.Entry.{Entry}
+use Rattle.hep_source.specs.Units.{Units}
+use Rattle.hep_machine.specs.Layout.{opening_layout}
+use Rattle.hep_core.specs.declared.stop.Verdict.{Verdict}
+use Rattle.hep_core.specs.declared.stop.Verdict.TheVariants.{Running}
+use Rattle.hep_core.specs.Names.{names_of}
+use Rattle.hep_core.specs.Value.{CoreValue, state_of, verdict_of}
+use Rattle.hep_output.specs.Records.{records_text}
+use Rattle.hep_dump.specs.Faults.{faults_text}
+use Rattle.hep_history.specs.Lines.{AreLines, IsRefusedText}
+use Rattle.hep_history.specs.Histories.{entry_text, IsAllowed}
+use Rattle.hep_history.specs.Replays.{replayed, ArePossible, IsFirstImpossible}
+use Rattle.hep_run.specs.declared.status.Status.TheVariants as statuses
+use Rattle.hep_run.specs.Outcome.{Outcome, IsRefusedSource, IsRunnableSource, refused, outcome_of_full_arena, status_of}
+use Rattle.hep_run.specs.Texts.{refusal_text, stop_text}
+
+-- ---- outcomes
+
+-- the history can't be used: by this number, at this line of its text or this entry
+abbrev pub outcome_of_refused_history : ℕ → ℕ → Outcome
+outcome_of_refused_history number k = record { output = []; messages = refusal_text number k []; status = statuses.Usage; history = [] }
+
+-- the run could go on
+abbrev pub running_text : Verdict → List ℕ
+running_text Running = codes "STILL RUNNING\n"
+running_text _ = []
+
+-- what a core shows that has made all entries
+abbrev pub outcome_of_core : CoreValue → Outcome
+outcome_of_core core =
+    record {
+      output = records_text (state_of core).records;
+      messages = faults_text (names_of core.program) (state_of core).faults ++ stop_text core.stop ++ running_text (verdict_of core);
+      status = status_of core.stop (state_of core).faults;
+      history = core.history;
+    }
+
+-- ---- sources and histories
+
+-- what comes of these entries
+abbrev pub IsEntriesOutcome : Units → ℕ → List Entry → Outcome → Type 0
+IsEntriesOutcome program cells entries o =
+    ((opening_layout program cells ≡ None) × (o ≡ outcome_of_full_arena))
+    ⊎ (IsSome (opening_layout program cells) × (
+    ((k : ℕ) × IsFirstImpossible program entries k × (o ≡ outcome_of_refused_history 603 k))
+    ⊎ (ArePossible program entries (length entries) × (o ≡ outcome_of_core (replayed program cells entries)))))
+
+-- what comes of a text of a history
+abbrev pub IsTextOutcome : List ℕ → ℕ → Units → Outcome → Type 0
+IsTextOutcome text cells program o =
+    ((k : ℕ) × IsRefusedText entry_text IsAllowed text k × (o ≡ outcome_of_refused_history 601 k))
+    ⊎ ((entries : List Entry) × AreLines entry_text IsAllowed text entries × IsEntriesOutcome program cells entries o)
+
+-- what a replay of a source by this text comes to, in an arena of so many cells
+abbrev pub IsReplayOutcome : List ℕ → ℕ → List ℕ → Outcome → Type 0
+IsReplayOutcome text cells source o =
+    ((number : ℕ) × (line : ℕ) × (name : List ℕ) × IsRefusedSource source number line name × (o ≡ refused number line name))
+    ⊎ ((program : Units) × IsRunnableSource source program × IsTextOutcome text cells program o)

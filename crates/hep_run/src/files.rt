@@ -1,0 +1,134 @@
+//! Files beside a source: choices, histories, and texts for the one who gave the words.
+//!
+//! Opening them is the program's; all else stands here. Each call that answers an exit status has said
+//! why, so that nothing more is to be written.
+ghost use Rattle.std.specs.Prelude.{◌≡◌, codes, IfOk, IfErr, Ok, Err};
+ghost use Rattle.std.specs.Io.KnownBytes.{Keeps};
+ghost use Rattle.hep_run.specs.Delivery.{CannotRead, SaysLines, SomeOf};
+ghost use Rattle.hep_run.specs.Files.{HasReadText, KeepsHistory, PutsText, ReadsChoices, SaysRefusal};
+ghost use Rattle.hep_run.specs.Texts.{write_fault_text};
+ghost use Rattle.hep_run.specs.declared.status.Status.TheVariants.{NoMemory, Usage};
+
+use crate::deliver::{put_text, put_write_fault, say};
+use crate::input::{ReadFault, read_input};
+use crate::options::Run;
+use crate::source::NO_MEMORY;
+use crate::status::Status;
+use crate::texts::put_refusal;
+use hep_base::Refusal;
+use hep_history::history::MOST_BYTES;
+use hep_history::{Choices, read_choices, write_text};
+use std::alloc::Global;
+use std::io::{Read, Write};
+
+/// Says why an input couldn't be read, and gives the exit status. A file that can't be opened has
+/// `Failed`.
+pub fn say_unread<E: Write>(messages: &mut E, fault: ReadFault) -> u8
+    ensures { CannotRead result (E.contents messages.old) (E.contents messages.new) }
+{
+    match fault {
+        ReadFault::NoMemory => say(messages, NO_MEMORY, Status::NoMemory),
+        ReadFault::Failed => say(messages, b"READ FAULT\n", Status::DeviceFailed),
+    }
+}
+
+/// The bytes of a file of choices or of a history, or its first bytes, once more have come than such
+/// a text may have.
+///
+/// # Errors
+///
+/// The exit status, where the file couldn't be read.
+pub fn read_text_file<R: Read, E: Write>(
+    alloc: Global,
+    file: &mut R,
+    messages: &mut E,
+) -> Result<Vec<u8>, u8>
+    ensures read { IfOk result (λ bytes.
+        HasReadText (R.remaining file.old) (R.remaining file.new) bytes.items) }
+    ensures silent { IfOk result (λ _. Keeps (E.contents messages.old) (E.contents messages.new)) }
+    ensures unread { IfErr result (λ code.
+        CannotRead code (E.contents messages.old) (E.contents messages.new)) }
+{
+    match read_input(alloc, file, MOST_BYTES) {
+        Ok(bytes) => Ok(bytes),
+        Err(fault) => Err(say_unread(messages, fault)),
+    }
+}
+
+// Says that a text beside a source is refused, and gives the exit status.
+fn say_refusal<E: Write>(alloc: Global, messages: &mut E, number: u16, line: u32) -> u8
+    ensures { SaysRefusal number line result (E.contents messages.old) (E.contents messages.new) }
+{
+    let mut text = Vec::new(alloc);
+    match put_refusal(&mut text, number, u64::from(line), b"") {
+        Ok(()) => say(messages, &text, Status::Usage),
+        Err(_) => say(messages, NO_MEMORY, Status::NoMemory),
+    }
+}
+
+/// The choices that a text has.
+///
+/// # Errors
+///
+/// The exit status, where the text is refused or there was too little memory.
+pub fn choices_of<E: Write>(alloc: Global, text: &[u8], messages: &mut E) -> Result<Choices, u8>
+    ensures { ReadsChoices text.now result (E.contents messages.old) (E.contents messages.new) }
+{
+    match read_choices(alloc, text) {
+        Ok(choices) => Ok(choices),
+        Err(Refusal::NoMemory) => Err(say(messages, NO_MEMORY, Status::NoMemory)),
+        Err(Refusal::Refused { number, line, .. }) => {
+            Err(say_refusal(alloc, messages, number, line))
+        }
+    }
+}
+
+/// The text of a run's history, where it is to be written: not where the source, the choices or a
+/// history was refused, memory was, or a read or a write failed.
+///
+/// # Errors
+///
+/// The exit status of the run where its history isn't to be written; else memory was refused for the
+/// text.
+pub fn history_text<E: Write>(alloc: Global, run: &Run, messages: &mut E) -> Result<Vec<u8>, u8>
+    ensures kept { IfOk result (λ text.
+        KeepsHistory run.now (Ok text.items) (E.contents messages.old) (E.contents messages.new)) }
+    ensures unkept { IfErr result (λ code.
+        KeepsHistory run.now (Err code) (E.contents messages.old) (E.contents messages.new)) }
+{
+    if !matches!(run.status, 0 | 3..=6) {
+        return Err(run.status);
+    }
+    match write_text(alloc, run.history.as_slice()) {
+        Ok(text) => Ok(text),
+        Err(_) => Err(say(messages, NO_MEMORY, Status::NoMemory)),
+    }
+}
+
+/// Says that a file couldn't be opened for writing, and gives the exit status.
+pub fn say_unwritten<E: Write>(messages: &mut E) -> u8
+    ensures code { result ≡ 8 }
+    ensures said { SomeOf (E.contents messages.old) (E.contents messages.new) (write_fault_text 0) }
+{
+    let _ = put_write_fault(messages, 0);
+    Status::DeviceFailed.code()
+}
+
+/// Writes a text for the one who gave the words: to `output` where it was asked for, which is status
+/// 0, and to `messages` where the words are wrong, 2. At 7 memory was refused for it. It gives the
+/// exit status.
+pub fn answer<W: Write, E: Write>(status: u8, text: &[u8], output: &mut W, messages: &mut E) -> u8
+    ensures asked { status ≡ 0 → PutsText text.now 0 result (W.contents output.old)
+        (W.contents output.new) (E.contents messages.old) (E.contents messages.new) }
+    ensures mistaken { status ≡ 2 → Keeps (W.contents output.old) (W.contents output.new)
+        × SaysLines text.now Usage result (E.contents messages.old) (E.contents messages.new) }
+    ensures unmade { status ≡ 7 → Keeps (W.contents output.old) (W.contents output.new)
+        × SaysLines (codes "NO MEMORY\n") NoMemory result
+        (E.contents messages.old) (E.contents messages.new) }
+{
+    match status {
+        0 => put_text(text, 0, output, messages),
+        2 => say(messages, text, Status::Usage),
+        _ => say(messages, NO_MEMORY, Status::NoMemory),
+    }
+}

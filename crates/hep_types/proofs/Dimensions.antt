@@ -1,0 +1,60 @@
+-- Bounds of arrays, dimension by dimension.
+use Rattle.std.proofs.Common.{◌≡◌, suc, Bool, true, false, ◌&&◌, ◌||◌, if◌then◌else◌, Option, Some, None, is_some, List, [], ◌∷◌, ◌++◌, length, refl, ap, sym, ◌∙◌}
+use Rattle.std.specs.Bool.{◌==◌}
+use Rattle.std.specs.List.{list_all, list_any, flat_map}
+use Rattle.std.specs.Option.{option_map}
+use Rattle.std.proofs.lemmas.List.Folds.{list_any-append}
+use Rattle.hep_source.specs.declared.name.Name.{Name}
+use Rattle.hep_source.specs.Names.{same_name, is_among, index_among}
+use Rattle.hep_source.specs.declared.declaration.Declarator.{Declarator}
+use Rattle.hep_source.specs.declared.declaration.Dimension.{Dimension}
+use Rattle.hep_source.specs.declared.statement.Statement.{Statement}
+use Rattle.hep_source.specs.declared.value.Value.{Value}
+use Rattle.hep_machine.specs.Arithmetic.{integer_of}
+use Rattle.hep_machine.specs.Constants.{Constants, bounds_of, value_among}
+use Rattle.hep_machine.specs.Declarations.{is_nonempty, is_dummy}
+use Rattle.hep_check.specs.Constants.{Parameters, is_dimension, are_bounds_open, is_shape_if_known, has_bounds}
+use Rattle.hep_symbols.proofs.Notes.{not-empty}
+use Rattle.hep_machine.specs.Shapes.{Bounds}
+
+is-some-map : {A B : Type 0} (f : A → B) (o : Option A) → is_some (option_map f o) ≡ is_some o
+is-some-map f None = refl
+is-some-map f (Some x) = refl
+
+-- a name that has a position among others is one of them
+pub dummy_is : (x : Name) (xs : List Name) → is_some (index_among x xs) ≡ is_among x xs
+dummy_is x [] = refl
+dummy_is x (y ∷ xs) = by (same_name x y) (is-some-map suc (index_among x xs) ∙ dummy_is x xs)
+  where
+    by : (b : Bool) → is_some (option_map suc (index_among x xs)) ≡ is_among x xs
+        → is_some (if b then Some 0 else option_map suc (index_among x xs)) ≡ (if b then true else is_among x xs)
+    by true h = refl
+    by false h = h
+
+-- a test of what elements hold, element by element
+pub any-within : {A B : Type 0} (test : B → Bool) (f : A → List B) (xs : List A) → list_any (λ x. list_any test (f x)) xs ≡ list_any test (flat_map f xs)
+any-within test f [] = refl
+any-within test f (x ∷ xs) = ap (λ b. list_any test (f x) || b) (any-within test f xs) ∙ sym (list_any-append test (f x) (flat_map f xs))
+
+-- bounds, and those of more dimensions after them
+abbrev pub prefixed : Bounds → Option Bounds → Option Bounds
+prefixed bs None = None
+prefixed bs (Some cs) = Some (bs ++ cs)
+
+-- an upper bound that isn't open
+pub closed-value : (o : Option Value) → option_map Some (option_map integer_of o) ≡ option_map (λ (v : Value). Some (integer_of v)) o
+closed-value None = refl
+closed-value (Some v) = refl
+
+-- the parts of the test of a declarator with dimensions
+pub bounds-right : (unit : List Statement) (ps : Parameters) (d : Declarator) (of_dummy a o s : Bool) (ds : List Dimension) (k : Constants) (bs : Option Bounds) (r : Bool)
+    → (length ds == 0) ≡ false → r ≡ (a && (o || s)) → a ≡ list_all (is_dimension unit ps of_dummy) ds → of_dummy ≡ is_dummy unit d.occurrence.name → ds ≡ d.dimensions
+    → o ≡ are_bounds_open unit ps d → s ≡ is_shape_if_known bs → bs ≡ bounds_of unit (value_among k) ds → k ≡ ps.known → r ≡ has_bounds unit ps d
+bounds-right unit ps d of_dummy a o s ds k bs r hn hr ha hd hs ho hx hb hk =
+    hr
+    ∙ (ap (λ c. c && (o || s)) (ha ∙ (ap (λ b. list_all (is_dimension unit ps b) ds) hd ∙ ap (list_all (is_dimension unit ps (is_dummy unit d.occurrence.name))) hs))
+    ∙ (ap (λ c. list_all (is_dimension unit ps (is_dummy unit d.occurrence.name)) d.dimensions && (c || s)) ho
+    ∙ (ap (λ c. list_all (is_dimension unit ps (is_dummy unit d.occurrence.name)) d.dimensions && (are_bounds_open unit ps d || c))
+    (hx ∙ ap is_shape_if_known (hb ∙ (ap (λ z. bounds_of unit (value_among z) ds) hk ∙ ap (bounds_of unit (value_among ps.known)) hs)))
+    ∙ sym (ap (λ b. if b then list_all (is_dimension unit ps (is_dummy unit d.occurrence.name)) d.dimensions && (are_bounds_open unit ps d || is_shape_if_known (bounds_of unit (value_among ps.known) d.dimensions)) else true)
+    (sym (ap is_nonempty hs) ∙ not-empty ds hn)))))

@@ -1,0 +1,7 @@
+pub mod Remainders
+pub mod Tables
+pub mod Evaluations
+pub mod Dimensions
+pub mod KnownShapes
+pub mod Passes
+pub mod Results

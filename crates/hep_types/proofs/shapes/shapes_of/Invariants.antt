@@ -1,0 +1,10 @@
+use Rattle.std.proofs.Common.{◌≡◌, drop}
+use Rattle.indexmap.specs.IndexMap.{get}
+use Rattle.hep_source.specs.declared.name.Name.{Name}
+use Rattle.hep_check.specs.Constants.{known_shape, known_shape_from}
+use Rattle.hep_symbols.specs.Tables.{name_eq}
+use Rattle.hep_types.specs.Shapes.{shape_or}
+use Rattle.hep_types.proofs.shapes.shapes_of.Given as goal
+
+abbrev pub invariant-loop-statement : goal.invariant-loop-statement
+invariant-loop-statement l = (x : Name) → shape_or (get name_eq l.shapes x) (known_shape_from l.symbols l.parameters (drop l.statement-index l.statement-items) x) ≡ known_shape l.symbols x

@@ -1,0 +1,8 @@
+use Rattle.std.proofs.Common.{◌≡◌, drop}
+use Rattle.std.specs.List.{list_all}
+use Rattle.hep_source.specs.declared.declaration.ValueType.TheVariants.{Integer}
+use Rattle.hep_check.specs.Constants.{is_constant_of}
+use Rattle.hep_types.proofs.violation.are_constant.Given as goal
+
+abbrev pub invariant-loop-subscript : goal.invariant-loop-subscript
+invariant-loop-subscript l = list_all (is_constant_of l.symbols l.parameters Integer) (drop l.subscript-index l.subscripts) ≡ list_all (is_constant_of l.symbols l.parameters Integer) l.subscripts

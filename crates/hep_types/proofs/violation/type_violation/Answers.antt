@@ -1,0 +1,8 @@
+use Rattle.std.proofs.Common.{◌∙◌, ap, sym}
+use Rattle.hep_check.specs.Constants.{no_parameters}
+use Rattle.hep_check.specs.Reported.{reported}
+use Rattle.hep_types.proofs.Passes.{reported-untyped}
+use Rattle.hep_types.proofs.violation.type_violation.Goals as goal
+
+pub returns : goal.returns
+returns c = c.reported.ensures ∙ (ap (reported 302) c.in_ok-least_untyped.ensures ∙ sym (reported-untyped c.args.symbols.now no_parameters c.args.symbols.now))

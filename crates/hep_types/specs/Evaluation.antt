@@ -1,0 +1,49 @@
+-- Values of expressions, as one walk over a tree tells them.
+use Rattle.std.specs.Prelude.{ℤ, Bool, not, ◌||◌, List, [], ◌∷◌, ◌++◌, Option, Some, None}
+use Rattle.std.specs.List.{list_all, list_any}
+use Rattle.hep_source.specs.Tree.{Tree, Trees}
+use Rattle.hep_source.specs.declared.name.Name.{Name}
+use Rattle.hep_source.specs.declared.name.Occurrence.{Occurrence}
+use Rattle.hep_source.specs.declared.statement.Statement.{Statement}
+use Rattle.hep_source.specs.declared.value.Value.{Value}
+use Rattle.hep_source.specs.Names.{is_among}
+use Rattle.hep_machine.specs.Arithmetic.{integer_of, integers_of, as_value, function_result}
+use Rattle.hep_machine.specs.Constants.{Constants, without_fault}
+use Rattle.hep_machine.specs.Functions.{Meaning, pure}
+use Rattle.hep_machine.specs.Variables.{occurrences_in_all}
+use Rattle.hep_check.specs.Constants.{Parameters, has_value_or_is_open}
+use Rattle.hep_check.specs.Counts.{is_counted}
+use Rattle.hep_check.specs.Statements.{subexpressions_of, subexpressions_of_all, names_with_lists_in_all}
+
+abbrev pub parameters : Constants → List Name → Parameters
+parameters known doubtful = record { known = known; doubtful = doubtful }
+
+-- each expression in this one has a value or is open
+abbrev pub are_parts_known : List Statement → Parameters → Tree → Bool
+are_parts_known unit ps t = list_all (has_value_or_is_open unit ps) (subexpressions_of t)
+
+-- ---- expressions in a row
+
+abbrev pub are_all_parts_known : List Statement → Parameters → Trees → Bool
+are_all_parts_known unit ps ts = list_all (has_value_or_is_open unit ps) (subexpressions_of_all ts)
+
+abbrev pub is_any_open : List Statement → Parameters → Trees → Bool
+is_any_open unit ps ts =
+    list_any (λ (p : Occurrence). is_among p.name ps.doubtful) (occurrences_in_all unit ts) || not (list_all (is_counted unit) (names_with_lists_in_all ts))
+
+-- integers, and after them the one that a value is
+abbrev pub with_last : Option (List ℤ) → Option Value → Option (List ℤ)
+with_last None v = None
+with_last (Some zs) None = None
+with_last (Some zs) (Some v) = Some (zs ++ integer_of v ∷ [])
+
+-- integers, and after them those that values are
+abbrev pub integers_after : Option (List ℤ) → Option (List Value) → Option (List ℤ)
+integers_after None vs = None
+integers_after (Some zs) None = None
+integers_after (Some zs) (Some vs) = Some (zs ++ integers_of vs)
+
+-- the value of a name with a list by the integers that it is given
+abbrev pub applied : Meaning → Option (List ℤ) → Option Value
+applied (pure f) (Some zs) = without_fault (as_value (function_result f zs))
+applied _ _ = None

@@ -1,0 +1,28 @@
+-- Shapes of names, declarator by declarator.
+use Rattle.std.specs.Prelude.{List, [], Option, Some, None}
+use Rattle.std.specs.Option.{option_map}
+use Rattle.hep_source.specs.declared.declaration.Declarator.{Declarator}
+use Rattle.hep_source.specs.declared.name.Name.{Name}
+use Rattle.hep_source.specs.declared.statement.Statement.{Statement}
+use Rattle.hep_machine.specs.Declarations.{declarator_among}
+use Rattle.hep_machine.specs.Shapes.{Bounds}
+use Rattle.hep_check.specs.Constants.{Parameters}
+use Rattle.hep_symbols.specs.Tables.{by_declarator}
+use Rattle.hep_types.specs.Bounds.{shape_given}
+
+-- what a table has for a name, else this
+abbrev pub shape_or : Option (Option Bounds) → Option Bounds → Option Bounds
+shape_or None later = later
+shape_or (Some o) later = o
+
+-- a scalar has no dimension
+abbrev pub shape_by : Option (Option Bounds) → Option Bounds
+shape_by o = shape_or o (Some [])
+
+-- the shape that a declarator gives a name, where it gives this one dimensions
+abbrev pub shape_by_declarator : List Statement → Parameters → Declarator → Name → Option (Option Bounds)
+shape_by_declarator unit ps d x = option_map (shape_given unit ps) (by_declarator d x)
+
+-- the shape that the first of these declarators gives a name that gives it dimensions
+abbrev pub shape_among : List Statement → Parameters → Name → List Declarator → Option (Option Bounds)
+shape_among unit ps x ds = option_map (shape_given unit ps) (declarator_among x ds)

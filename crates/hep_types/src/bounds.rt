@@ -1,0 +1,403 @@
+//! Bounds of arrays (X3.9-1978, 5.1.1 and 5.1.2).
+ghost use Rattle.std.specs.Prelude.{◌≡◌, ◌||◌, ◌&&◌, true, Some, is_some, is_none, option_to_list, IfOk};
+ghost use Rattle.std.specs.List.{list_all, list_any};
+ghost use Rattle.std.specs.Option.{option_map};
+ghost use Rattle.std.specs.Vec.{vec_items};
+ghost use Rattle.hep_source.specs.declared.name.Occurrence.{Occurrence as PureOccurrence};
+ghost use Rattle.hep_machine.specs.Arithmetic as arithmetic;
+ghost use Rattle.hep_machine.specs.Constants as values;
+ghost use Rattle.hep_machine.specs.Constants.{value_among};
+ghost use Rattle.hep_machine.specs.Declarations.{is_nonempty};
+ghost use Rattle.hep_check.specs.Constants as conditions;
+ghost use Rattle.hep_check.specs.Statements as statements;
+ghost use Rattle.hep_types.specs.Bounds as walks;
+
+use crate::constants::Constants;
+use crate::evaluation::value_of;
+use crate::parameters::{Parameters, has_value};
+use crate::types::is_typed_as;
+use crate::variables::is_plain_integer_scalar;
+use hep_machine::Bound;
+use hep_shape::Shape;
+use hep_source::{Declarator, Dimension, Expr, Name, Occurrence, UpperBound, Value, ValueType};
+use hep_symbols::{Symbols, lists, occurrences};
+use std::alloc::{AllocError, Global};
+
+// A scalar by which a bound may be adjusted: a plain integer that is a dummy argument or in COMMON.
+#[tactic(auto, using(crate::proofs::Dimensions::dummy_is))]
+fn is_adjusting(symbols: &Symbols, name: &Name) -> bool
+    ensures { result ≡ conditions.is_adjusting symbols.now name.now }
+{
+    is_plain_integer_scalar(symbols, name)
+        && (symbols.dummy_position(name).is_some() || symbols.is_common(name))
+}
+
+fn are_adjusting(symbols: &Symbols, constants: &Constants, occurrences: &[Occurrence]) -> bool
+    ensures { result ≡ list_all (λ (p : PureOccurrence). is_some (value_among constants.now p.name) || conditions.is_adjusting symbols.now p.name) occurrences.now }
+{
+    for occurrence in occurrences {
+        let name = &occurrence.name;
+        let is_constant = constants.get(name).is_some();
+        let is_right = is_constant || is_adjusting(symbols, name);
+        if !is_right {
+            return false;
+        }
+    }
+    true
+}
+
+fn is_any_adjusted(constants: &Constants, occurrences: &[Occurrence]) -> bool
+    ensures { result ≡ list_any (λ (p : PureOccurrence). is_none (value_among constants.now p.name)) occurrences.now }
+{
+    for occurrence in occurrences {
+        if constants.get(&occurrence.name).is_none() {
+            return true;
+        }
+    }
+    false
+}
+
+// A bound that such scalars adjust, with constants alone beside them and without a reference of a function.
+fn is_adjusted(
+    alloc: Global,
+    symbols: &Symbols,
+    constants: &Constants,
+    expression: &Expr,
+) -> Result<bool, AllocError>
+    ensures { IfOk result (λ is_adjusted. is_adjusted ≡ (conditions.is_adjusted symbols.now constants.now expression.now && conditions.is_adjustable symbols.now constants.now expression.now)) }
+{
+    let mut found = Vec::new(alloc);
+    occurrences::add_in(symbols, &mut found, expression)?;
+    let mut names = Vec::new(alloc);
+    lists::add_in(&mut names, expression)?;
+    let is_adjustable = are_adjusting(symbols, constants, &found) && names.is_empty();
+    Ok(is_any_adjusted(constants, &found) && is_adjustable)
+}
+
+fn is_bound(
+    alloc: Global,
+    symbols: &Symbols,
+    parameters: &Parameters,
+    is_of_dummy: bool,
+    expression: &Expr,
+) -> Result<bool, AllocError>
+    ensures { IfOk result (λ is_bound. is_bound ≡ conditions.is_bound symbols.now parameters.now is_of_dummy expression.now) }
+{
+    let has_value = has_value(alloc, symbols, parameters, expression)?;
+    let is_adjusted = is_adjusted(alloc, symbols, parameters.known(), expression)?;
+    Ok(
+        is_typed_as(symbols, ValueType::Integer, expression)
+            && (has_value || (is_of_dummy && is_adjusted)),
+    )
+}
+
+fn is_lower_bound(
+    alloc: Global,
+    symbols: &Symbols,
+    parameters: &Parameters,
+    is_of_dummy: bool,
+    lower: &Option<Expr>,
+) -> Result<bool, AllocError>
+    ensures { IfOk result (λ is_bound. is_bound ≡ list_all (conditions.is_bound symbols.now parameters.now is_of_dummy) (option_to_list lower.now)) }
+{
+    match lower {
+        Some(lower) => is_bound(alloc, symbols, parameters, is_of_dummy, lower),
+        None => Ok(true),
+    }
+}
+
+fn is_upper_bound(
+    alloc: Global,
+    symbols: &Symbols,
+    parameters: &Parameters,
+    is_of_dummy: bool,
+    upper: &UpperBound,
+) -> Result<bool, AllocError>
+    ensures { IfOk result (λ is_bound. is_bound ≡ conditions.is_upper_bound symbols.now parameters.now is_of_dummy upper.now) }
+{
+    match upper {
+        UpperBound::Expression(upper) => is_bound(alloc, symbols, parameters, is_of_dummy, upper),
+        UpperBound::Open => Ok(is_of_dummy),
+    }
+}
+
+fn is_dimension(
+    alloc: Global,
+    symbols: &Symbols,
+    parameters: &Parameters,
+    is_of_dummy: bool,
+    dimension: &Dimension,
+) -> Result<bool, AllocError>
+    ensures { IfOk result (λ is_dimension. is_dimension ≡ conditions.is_dimension symbols.now parameters.now is_of_dummy dimension.now) }
+{
+    let is_lower = is_lower_bound(alloc, symbols, parameters, is_of_dummy, &dimension.lower)?;
+    let is_upper = is_upper_bound(alloc, symbols, parameters, is_of_dummy, &dimension.upper)?;
+    Ok(is_lower && is_upper)
+}
+
+fn are_dimensions(
+    alloc: Global,
+    symbols: &Symbols,
+    parameters: &Parameters,
+    is_of_dummy: bool,
+    dimensions: &[Dimension],
+) -> Result<bool, AllocError>
+    ensures { IfOk result (λ are_dimensions. are_dimensions ≡ list_all (conditions.is_dimension symbols.now parameters.now is_of_dummy) dimensions.now) }
+{
+    for dimension in dimensions {
+        if !is_dimension(alloc, symbols, parameters, is_of_dummy, dimension)? {
+            return Ok(false);
+        }
+    }
+    Ok(true)
+}
+
+// ---- bounds that a violation leaves open
+
+fn is_open(
+    alloc: Global,
+    symbols: &Symbols,
+    parameters: &Parameters,
+    expression: &Expr,
+) -> Result<bool, AllocError>
+    ensures { IfOk result (λ is_open. is_open ≡ conditions.is_open symbols.now parameters.now expression.now) }
+{
+    let evaluation = parameters.evaluate(alloc, symbols, expression)?;
+    Ok(evaluation.is_open)
+}
+
+fn is_lower_open(
+    alloc: Global,
+    symbols: &Symbols,
+    parameters: &Parameters,
+    lower: &Option<Expr>,
+) -> Result<bool, AllocError>
+    ensures { IfOk result (λ is_open. is_open ≡ list_any (conditions.is_open symbols.now parameters.now) (option_to_list lower.now)) }
+{
+    match lower {
+        Some(lower) => is_open(alloc, symbols, parameters, lower),
+        None => Ok(false),
+    }
+}
+
+fn is_upper_open(
+    alloc: Global,
+    symbols: &Symbols,
+    parameters: &Parameters,
+    upper: &UpperBound,
+) -> Result<bool, AllocError>
+    ensures { IfOk result (λ is_open. is_open ≡ list_any (conditions.is_open symbols.now parameters.now) (statements.trees_in_upper upper.now)) }
+{
+    match upper {
+        UpperBound::Expression(upper) => is_open(alloc, symbols, parameters, upper),
+        UpperBound::Open => Ok(false),
+    }
+}
+
+fn is_dimension_open(
+    alloc: Global,
+    symbols: &Symbols,
+    parameters: &Parameters,
+    dimension: &Dimension,
+) -> Result<bool, AllocError>
+    ensures { IfOk result (λ is_open. is_open ≡ walks.is_dimension_open symbols.now parameters.now dimension.now) }
+{
+    let is_lower = is_lower_open(alloc, symbols, parameters, &dimension.lower)?;
+    let is_upper = is_upper_open(alloc, symbols, parameters, &dimension.upper)?;
+    Ok(is_lower || is_upper)
+}
+
+fn is_any_open(
+    alloc: Global,
+    symbols: &Symbols,
+    parameters: &Parameters,
+    dimensions: &[Dimension],
+) -> Result<bool, AllocError>
+    ensures { IfOk result (λ is_open. is_open ≡ list_any (walks.is_dimension_open symbols.now parameters.now) dimensions.now) }
+{
+    for dimension in dimensions {
+        if is_dimension_open(alloc, symbols, parameters, dimension)? {
+            return Ok(true);
+        }
+    }
+    Ok(false)
+}
+
+/// A violation leaves some bound of a declarator open.
+///
+/// # Errors
+///
+/// Only where memory was refused.
+pub fn are_bounds_open(
+    alloc: Global,
+    symbols: &Symbols,
+    parameters: &Parameters,
+    declarator: &Declarator,
+) -> Result<bool, AllocError>
+    ensures { IfOk result (λ are_open. are_open ≡ conditions.are_bounds_open symbols.now parameters.now declarator.now) }
+{
+    is_any_open(alloc, symbols, parameters, declarator.dimensions.as_slice())
+}
+
+// ---- values of bounds
+
+fn as_integer(value: Option<Value>) -> Option<i64>
+    ensures { result ≡ option_map arithmetic.integer_of value }
+{
+    match value {
+        Some(Value::Int(integer)) => Some(integer),
+        Some(Value::Truth(_)) => Some(0),
+        None => None,
+    }
+}
+
+// A lower bound is 1 where there is none.
+fn lower_value(
+    alloc: Global,
+    symbols: &Symbols,
+    constants: &Constants,
+    lower: &Option<Expr>,
+) -> Result<Option<i64>, AllocError>
+    ensures { IfOk result (λ value. value ≡ values.lower_value symbols.now (value_among constants.now) lower.now) }
+{
+    match lower {
+        Some(lower) => {
+            let value = value_of(alloc, symbols, constants, lower)?;
+            Ok(as_integer(value))
+        }
+        None => Ok(Some(1)),
+    }
+}
+
+fn closed_at(upper: Option<i64>) -> Option<Option<i64>>
+    ensures { result ≡ option_map Some upper }
+{
+    match upper {
+        Some(upper) => Some(Some(upper)),
+        None => None,
+    }
+}
+
+fn upper_value(
+    alloc: Global,
+    symbols: &Symbols,
+    constants: &Constants,
+    upper: &UpperBound,
+) -> Result<Option<Option<i64>>, AllocError>
+    ensures { IfOk result (λ value. value ≡ values.upper_value symbols.now (value_among constants.now) upper.now) }
+{
+    match upper {
+        UpperBound::Expression(upper) => {
+            let value = value_of(alloc, symbols, constants, upper)?;
+            Ok(closed_at(as_integer(value)))
+        }
+        UpperBound::Open => Ok(Some(None)),
+    }
+}
+
+fn bound_of(lower: Option<i64>, upper: Option<Option<i64>>) -> Option<Bound>
+    ensures { result ≡ values.bound_of lower upper }
+{
+    match (lower, upper) {
+        (Some(lower), Some(upper)) => Some(Bound { lower, upper }),
+        _ => None,
+    }
+}
+
+fn bound_by(
+    alloc: Global,
+    symbols: &Symbols,
+    constants: &Constants,
+    dimension: &Dimension,
+) -> Result<Option<Bound>, AllocError>
+    ensures { IfOk result (λ bound. bound ≡ walks.bound_by symbols.now (value_among constants.now) dimension.now) }
+{
+    let lower = lower_value(alloc, symbols, constants, &dimension.lower)?;
+    let upper = upper_value(alloc, symbols, constants, &dimension.upper)?;
+    Ok(bound_of(lower, upper))
+}
+
+// The bounds of dimensions, where all have values.
+fn bounds_of(
+    alloc: Global,
+    symbols: &Symbols,
+    constants: &Constants,
+    dimensions: &[Dimension],
+) -> Result<Option<Vec<Bound>>, AllocError>
+    ensures { IfOk result (λ bounds. option_map vec_items bounds ≡ values.bounds_of symbols.now (value_among constants.now) dimensions.now) }
+{
+    let mut bounds = Vec::new(alloc);
+    for dimension in dimensions {
+        match bound_by(alloc, symbols, constants, dimension)? {
+            Some(bound) => bounds.push(bound)?,
+            None => return Ok(None),
+        }
+    }
+    Ok(Some(bounds))
+}
+
+fn is_shape_if_known(bounds: &Option<Vec<Bound>>) -> bool
+    ensures { result ≡ conditions.is_shape_if_known (option_map vec_items bounds.now) }
+{
+    match bounds {
+        Some(bounds) => Shape::new(bounds).is_some(),
+        None => true,
+    }
+}
+
+// Right dimensions make a shape, unless a bound is open.
+fn are_right(are_dimensions: bool, are_open: bool, is_shape: bool) -> bool
+    ensures { result ≡ (are_dimensions && (are_open || is_shape)) }
+{
+    are_dimensions && (are_open || is_shape)
+}
+
+/// The bounds of a declarator are right: constant, or adjustable in a dummy argument, and where all are constant
+/// they make a shape.
+///
+/// # Errors
+///
+/// Only where memory was refused.
+pub fn has_bounds(
+    alloc: Global,
+    symbols: &Symbols,
+    parameters: &Parameters,
+    declarator: &Declarator,
+) -> Result<bool, AllocError>
+    ensures { IfOk result (λ has_bounds. has_bounds ≡ conditions.has_bounds symbols.now parameters.now declarator.now) }
+{
+    let dimensions = declarator.dimensions.as_slice();
+    if dimensions.is_empty() {
+        return Ok(true);
+    }
+    let is_of_dummy = symbols
+        .dummy_position(&declarator.occurrence.name)
+        .is_some();
+    let are_dimensions = are_dimensions(alloc, symbols, parameters, is_of_dummy, dimensions)?;
+    let are_open = are_bounds_open(alloc, symbols, parameters, declarator)?;
+    let bounds = bounds_of(alloc, symbols, parameters.known(), dimensions)?;
+    Ok(are_right(are_dimensions, are_open, is_shape_if_known(&bounds)))
+}
+
+/// The shape that a declarator with dimensions gives its name; none where the bounds are refused, open or not
+/// constant.
+///
+/// # Errors
+///
+/// Only where memory was refused.
+pub fn shape_given(
+    alloc: Global,
+    symbols: &Symbols,
+    parameters: &Parameters,
+    declarator: &Declarator,
+) -> Result<Option<Shape>, AllocError>
+    ensures { is_nonempty declarator.now.dimensions ≡ true → IfOk result (λ shape. shape ≡ walks.shape_given symbols.now parameters.now declarator.now) }
+{
+    let has_bounds = has_bounds(alloc, symbols, parameters, declarator)?;
+    let are_open = are_bounds_open(alloc, symbols, parameters, declarator)?;
+    let dimensions = declarator.dimensions.as_slice();
+    match bounds_of(alloc, symbols, parameters.known(), dimensions)? {
+        Some(bounds) if has_bounds && !are_open => Ok(Shape::new(&bounds)),
+        _ => Ok(None),
+    }
+}

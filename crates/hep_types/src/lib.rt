@@ -1,0 +1,24 @@
+//! condition 302 that they are right.
+#![tactic(auto)]
+
+pub mod bounds;
+pub mod constants;
+pub mod declarators;
+pub mod evaluation;
+pub mod forms;
+pub mod intrinsics;
+pub mod parameters;
+pub mod shapes;
+pub mod types;
+pub mod variables;
+pub mod violation;
+
+pub use bounds::has_bounds;
+pub use constants::Constants;
+pub use evaluation::value_of;
+pub use forms::is_form_typed;
+pub use parameters::{Parameters, has_value, is_constant_expression};
+pub use shapes::{KnownShape, Shapes};
+pub use types::{KnownType, is_typed, is_typed_as, type_of_tree};
+pub use variables::{is_plain_integer_scalar, loop_variables};
+pub use violation::type_violation;

@@ -1,0 +1,251 @@
+//! The constants that PARAMETER gave before a statement (X3.9-1978, 8.6), and constant expressions.
+ghost use Rattle.std.specs.Prelude.{◌≡◌, if◌then◌else◌, is_some, map, IfOk, OnOk};
+ghost use Rattle.std.specs.List.{list_all};
+ghost use Rattle.hep_source.specs.declared.name.Occurrence.{Occurrence as PureOccurrence};
+ghost use Rattle.hep_check.specs.Constants as conditions;
+ghost use Rattle.hep_check.specs.Statements.{NameWithList as PureReference};
+ghost use Rattle.hep_machine.specs.Constants.{value_among, with_constant};
+ghost use Rattle.hep_machine.specs.Functions.{listed_meaning};
+ghost use Rattle.hep_symbols.specs.Lists.{listed};
+ghost use Rattle.hep_types.specs.Evaluation as walks;
+
+use crate::constants::{Constants, NameSet};
+use crate::evaluation::{Evaluation, evaluate};
+use crate::types::{agree, is_typed, is_typed_as, type_of_tree};
+use hep_source::{Expr, Name, NamedConstant, Occurrence, Value, ValueType};
+use hep_symbols::{Meaning, NameWithList, Symbols, lists, occurrences};
+use std::alloc::{AllocError, Global};
+use std::marker::Model;
+
+/// The constants that PARAMETER gave before a statement: those that are known, and the names of those that a
+/// violation leaves open.
+#[derive(Drop)]
+pub struct Parameters {
+    known: Constants,
+    doubtful: NameSet,
+}
+
+impl Model for Parameters {
+    ghost use Rattle.hep_check.specs.Constants.{Parameters as PureParameters};
+    ghost use Rattle.hep_types.specs.Evaluation.{parameters};
+
+    ghost Value = { PureParameters };
+
+    ghost view = { λ a. parameters a.known a.doubtful };
+}
+
+impl Parameters {
+    /// No constants.
+    pub fn new(alloc: Global) -> Parameters
+        ensures { result ≡ conditions.no_parameters }
+    {
+        Parameters {
+            known: Constants::new(alloc),
+            doubtful: NameSet::new(alloc),
+        }
+    }
+
+    /// The constants that are known.
+    pub fn known(&self) -> &Constants
+        ensures { result.now ≡ self.now.known }
+    {
+        &self.known
+    }
+
+    /// A name that was given a value before, which holds.
+    pub fn is_given(&self, name: &Name) -> bool
+        ensures { result ≡ conditions.is_given self.now name.now }
+    {
+        self.doubtful.contains(name) || self.known.get(name).is_some()
+    }
+
+    /// What one walk over an expression of a unit tells of its value.
+    ///
+    /// # Errors
+    ///
+    /// Only where memory was refused.
+    pub fn evaluate(
+        &self,
+        alloc: Global,
+        symbols: &Symbols,
+        expression: &Expr,
+    ) -> Result<Evaluation, AllocError>
+        ensures value { IfOk result (λ e. e.value ≡ conditions.value_by symbols.now self.now expression.now) }
+        ensures is_open { IfOk result (λ e. e.is_open ≡ conditions.is_open symbols.now self.now expression.now) }
+        ensures are_parts_known { IfOk result (λ e. e.are_parts_known ≡ walks.are_parts_known symbols.now self.now expression.now) }
+    {
+        evaluate(alloc, symbols, &self.known, &self.doubtful, expression)
+    }
+}
+
+fn are_given(parameters: &Parameters, occurrences: &[Occurrence]) -> bool
+    ensures { result ≡ list_all (λ (p : PureOccurrence). conditions.is_given parameters.now p.name) occurrences.now }
+{
+    for occurrence in occurrences {
+        if !parameters.is_given(&occurrence.name) {
+            return false;
+        }
+    }
+    true
+}
+
+fn is_pure(symbols: &Symbols, name: &NameWithList) -> bool
+    ensures { result ≡ conditions.is_pure (listed_meaning symbols.now name.now.occurrence.name) }
+{
+    match symbols.listed_meaning(&name.occurrence.name) {
+        Meaning::Pure(_) => true,
+        _ => false,
+    }
+}
+
+fn are_pure(symbols: &Symbols, names: &[NameWithList]) -> bool
+    ensures { result ≡ list_all (λ (r : PureReference). conditions.is_pure (listed_meaning symbols.now r.occurrence.name)) (map listed names.now) }
+{
+    for name in names {
+        if !is_pure(symbols, name) {
+            return false;
+        }
+    }
+    true
+}
+
+/// Constants, names that were given a value before, and references of pure functions alone: docs/LANGUAGE.md,
+/// 7.
+///
+/// # Errors
+///
+/// Only where memory was refused.
+pub fn is_constant_expression(
+    alloc: Global,
+    symbols: &Symbols,
+    parameters: &Parameters,
+    expression: &Expr,
+) -> Result<bool, AllocError>
+    ensures { IfOk result (λ is_constant. is_constant ≡ conditions.is_constant_expression symbols.now parameters.now expression.now) }
+{
+    let mut found = Vec::new(alloc);
+    occurrences::add_in(symbols, &mut found, expression)?;
+    let mut names = Vec::new(alloc);
+    lists::add_in(&mut names, expression)?;
+    Ok(are_given(parameters, &found) && are_pure(symbols, &names))
+}
+
+/// A constant expression each part of which has a value, unless a violation leaves that part open.
+///
+/// # Errors
+///
+/// Only where memory was refused.
+pub fn has_value(
+    alloc: Global,
+    symbols: &Symbols,
+    parameters: &Parameters,
+    expression: &Expr,
+) -> Result<bool, AllocError>
+    ensures { IfOk result (λ has_value. has_value ≡ conditions.has_value symbols.now parameters.now expression.now) }
+{
+    let is_constant = is_constant_expression(alloc, symbols, parameters, expression)?;
+    let evaluation = parameters.evaluate(alloc, symbols, expression)?;
+    Ok(is_constant && evaluation.are_parts_known)
+}
+
+/// An expression of this type that has a value by the constants given before.
+///
+/// # Errors
+///
+/// Only where memory was refused.
+pub fn is_constant_of(
+    alloc: Global,
+    symbols: &Symbols,
+    parameters: &Parameters,
+    value_type: ValueType,
+    expression: &Expr,
+) -> Result<bool, AllocError>
+    ensures { IfOk result (λ is_constant. is_constant ≡ conditions.is_constant_of symbols.now parameters.now value_type expression.now) }
+{
+    let has_value = has_value(alloc, symbols, parameters, expression)?;
+    Ok(is_typed_as(symbols, value_type, expression) && has_value)
+}
+
+/// A constant expression of the type of its name (6.1.3, 6.4.4 and 8.6).
+///
+/// # Errors
+///
+/// Only where memory was refused.
+pub fn is_constant_given(
+    alloc: Global,
+    symbols: &Symbols,
+    parameters: &Parameters,
+    constant: &NamedConstant,
+) -> Result<bool, AllocError>
+    ensures { IfOk result (λ is_given. is_given ≡ conditions.is_constant_given symbols.now parameters.now constant.now) }
+{
+    let has_value = has_value(alloc, symbols, parameters, &constant.value)?;
+    let declared = Some(symbols.type_of(&constant.occurrence.name));
+    Ok(
+        is_typed(symbols, &constant.value)
+            && has_value
+            && agree(declared, type_of_tree(symbols, &constant.value)),
+    )
+}
+
+impl Parameters {
+    // A value for a name that has none yet.
+    fn note(&mut self, name: Name, value: Option<Value>) -> Result<(), AllocError>
+        ensures { OnOk result (self.new ≡ record self.old { known = if is_some (value_among self.old.known name) then self.old.known else with_constant self.old.known name value }) }
+    {
+        match value {
+            Some(value) => self.known.add(name, value),
+            None => Ok(()),
+        }
+    }
+
+    /// Takes a constant of PARAMETER in, and tells whether it is a constant expression of the type of its name.
+    ///
+    /// # Errors
+    ///
+    /// Only where memory was refused.
+    pub fn add(
+        &mut self,
+        alloc: Global,
+        symbols: &Symbols,
+        constant: &NamedConstant,
+    ) -> Result<bool, AllocError>
+        ensures given { IfOk result (λ is_given. is_given ≡ conditions.is_constant_given symbols.now self.old constant.now) }
+        ensures taken { OnOk result (self.new ≡ conditions.with_parameter symbols.now self.old constant.now) }
+    {
+        let is_given = is_constant_given(alloc, symbols, self, constant)?;
+        let evaluation = self.evaluate(alloc, symbols, &constant.value)?;
+        let name = constant.occurrence.name;
+        if !self.is_given(&name) {
+            if is_given && !evaluation.is_open {
+                self.note(name, evaluation.value)?;
+            } else {
+                self.doubtful.add(name)?;
+            }
+        }
+        Ok(is_given)
+    }
+
+    /// Takes the constants of a PARAMETER statement in, each by those before it, and tells whether all are
+    /// constant expressions of the types of their names.
+    ///
+    /// # Errors
+    ///
+    /// Only where memory was refused.
+    pub fn add_all(
+        &mut self,
+        alloc: Global,
+        symbols: &Symbols,
+        constants: &[NamedConstant],
+    ) -> Result<bool, AllocError>
+        ensures given { IfOk result (λ are_given. are_given ≡ conditions.are_constants_given symbols.now self.old constants.now) }
+        ensures taken { OnOk result (self.new ≡ conditions.with_parameters symbols.now self.old constants.now) }
+    {
+        let mut are_given = true;
+        for constant in constants {
+            let is_given = self.add(alloc, symbols, constant)?;
+            are_given = are_given && is_given;
+        }
+        Ok(are_given)
+    }
+}

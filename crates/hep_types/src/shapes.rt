@@ -1,0 +1,142 @@
+//! Shapes of arrays that are known (docs/LANGUAGE.md, 10).
+ghost use Rattle.std.specs.Prelude.{◌≡◌, IfOk, OnOk};
+ghost use Rattle.std.specs.Option.{option_or};
+ghost use Rattle.indexmap.specs.IndexMap.{get};
+ghost use Rattle.hep_source.specs.declared.name.Name.{Name as PureName};
+ghost use Rattle.hep_check.specs.Constants as conditions;
+ghost use Rattle.hep_symbols.specs.Statements.{rest_after};
+ghost use Rattle.hep_symbols.specs.Tables.{name_eq, by_name};
+ghost use Rattle.hep_types.specs.Shapes as tables;
+ghost use Rattle.hep_types.specs.Known.{known};
+
+use crate::bounds::shape_given;
+use crate::declarators::{constants_in, declarators_in};
+use crate::parameters::Parameters;
+use hep_shape::Shape;
+use hep_source::{Declarator, Name, Statement};
+use hep_symbols::Symbols;
+use indexmap::IndexMap;
+use std::alloc::{AllocError, Global};
+use std::marker::Model;
+
+/// The shape of a name, as far as it is known.
+#[derive(Clone, Copy)]
+pub enum KnownShape<'a> {
+    Scalar,
+    Array(&'a Shape),
+    /// The bounds are refused, open or not constant.
+    Unknown,
+}
+
+/// The shapes of the names of a unit, by the first bounds that each is given. Contracts see the statements of
+/// the unit.
+#[derive(Drop)]
+pub struct Shapes<'a> {
+    statements: &'a [Statement],
+    shapes: IndexMap<Name, Option<Shape>>,
+}
+
+impl<'a> Model for Shapes<'a> {
+    ghost use Rattle.std.specs.Prelude.{◌≡◌, List};
+    ghost use Rattle.std.specs.Coded.{codes};
+    ghost use Rattle.indexmap.specs.IndexMap.{get};
+    ghost use Rattle.hep_source.specs.declared.name.Name.{Name as PureName};
+    ghost use Rattle.hep_source.specs.declared.statement.Statement.{Statement as PureStatement};
+    ghost use Rattle.hep_source.specs.contracts.expression.Expr as expression;
+    ghost use Rattle.hep_check.specs.Constants.{known_shape};
+    ghost use Rattle.hep_symbols.specs.Tables.{name_eq, by_name};
+    ghost use Rattle.hep_types.specs.Shapes.{shape_by};
+
+    ghost Value = { List PureStatement };
+
+    ghost coded = { Prim.hlevel (codes, expression.the_row.coded) };
+
+    ghost view = { λ a. a.statements.now };
+
+    ghost invariant = { λ a. (x : PureName) → shape_by (get name_eq a.shapes x) ≡ known_shape a.statements.now x };
+}
+
+type Table = IndexMap<Name, Option<Shape>>;
+
+// Gives a name a shape, unless it has one.
+fn note(shapes: &mut Table, name: Name, shape: Option<Shape>) -> Result<(), AllocError>
+    ensures { OnOk result ((x : PureName) → get name_eq shapes.new x ≡ option_or (get name_eq shapes.old x) (by_name name shape x)) }
+{
+    if !shapes.contains_key(&name) {
+        shapes.insert(name, shape)?;
+    }
+    Ok(())
+}
+
+// The shape that a declarator gives its name, where it gives dimensions and is the first that does.
+fn note_shape(
+    alloc: Global,
+    symbols: &Symbols,
+    parameters: &Parameters,
+    declarator: &Declarator,
+    shapes: &mut Table,
+) -> Result<(), AllocError>
+    ensures { OnOk result ((x : PureName) → get name_eq shapes.new x ≡ option_or (get name_eq shapes.old x) (tables.shape_by_declarator symbols.now parameters.now declarator.now x)) }
+{
+    if !declarator.dimensions.as_slice().is_empty() {
+        let shape = shape_given(alloc, symbols, parameters, declarator)?;
+        note(shapes, declarator.occurrence.name, shape)?;
+    }
+    Ok(())
+}
+
+fn note_shapes(
+    alloc: Global,
+    symbols: &Symbols,
+    parameters: &Parameters,
+    declarators: &[&Declarator],
+    shapes: &mut Table,
+) -> Result<(), AllocError>
+    ensures { OnOk result ((x : PureName) → get name_eq shapes.new x ≡ option_or (get name_eq shapes.old x) (tables.shape_among symbols.now parameters.now x (rest_after declarators.now))) }
+{
+    for declarator in declarators {
+        note_shape(alloc, symbols, parameters, declarator, shapes)?;
+    }
+    Ok(())
+}
+
+fn shapes_of(alloc: Global, symbols: &Symbols) -> Result<Table, AllocError>
+    ensures { IfOk result (λ shapes. (x : PureName) → tables.shape_by (get name_eq shapes x) ≡ conditions.known_shape symbols.now x) }
+{
+    let mut shapes = IndexMap::new(alloc);
+    let mut parameters = Parameters::new(alloc);
+    for statement in symbols.statements() {
+        let declarators = declarators_in(alloc, &statement.form)?;
+        note_shapes(alloc, symbols, &parameters, &declarators, &mut shapes)?;
+        parameters.add_all(alloc, symbols, constants_in(&statement.form))?;
+    }
+    Ok(shapes)
+}
+
+impl<'a> Shapes<'a> {
+    /// The shapes of the names of a unit.
+    ///
+    /// # Errors
+    ///
+    /// Only where memory was refused.
+    pub fn new(alloc: Global, symbols: &Symbols<'a>) -> Result<Shapes<'a>, AllocError>
+        ensures { IfOk result (λ shapes. shapes ≡ symbols.now) }
+    {
+        let shapes = shapes_of(alloc, symbols)?;
+        Ok(Shapes {
+            statements: symbols.statements(),
+            shapes,
+        })
+    }
+
+    /// The shape of a name.
+    pub fn known_shape(&self, name: &Name) -> KnownShape
+        ensures { known result ≡ conditions.known_shape self.now name.now }
+    {
+        match self.shapes.get(name) {
+            Some(Some(shape)) => KnownShape::Array(shape),
+            Some(None) => KnownShape::Unknown,
+            None => KnownShape::Scalar,
+        }
+    }
+}

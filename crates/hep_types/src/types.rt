@@ -1,0 +1,262 @@
+//! Types of expressions (X3.9-1978, 6.1.4, 6.3.3, 6.4.2 and 15.10).
+ghost use Rattle.std.specs.Prelude.{◌≡◌};
+ghost use Rattle.hep_source.specs.Tree.{trees_of};
+ghost use Rattle.hep_check.specs.Types as types;
+ghost use Rattle.hep_symbols.specs.Meanings.{meaning};
+ghost use Rattle.hep_types.specs.Types as walks;
+
+use hep_source::{Expr, Name, Node, Operator, StateFunction, Value, ValueType};
+use hep_symbols::{Meaning, Symbols};
+
+/// The type of an expression, as far as it is known: integer, logical, or none where it is real, which no
+/// value is here; nothing where another violation leaves it open.
+pub type KnownType = Option<Option<ValueType>>;
+
+// An expression as an operand.
+#[derive(Clone, Copy, Debug, PartialEq, Eq)]
+struct Operand {
+    // Its own type.
+    known_type: KnownType,
+    // Each operand in it has the right type, and no array stands where a scalar must.
+    is_typed: bool,
+}
+
+impl Operand {
+    fn is_typed_as(self, value_type: ValueType) -> bool
+        ensures { result ≡ walks.is_typed_by self.is_typed value_type self.known_type }
+    {
+        self.is_typed && is_of(value_type, self.known_type)
+    }
+}
+
+fn same_type(first: ValueType, second: ValueType) -> bool
+    ensures { result ≡ types.same_type first second }
+{
+    match (first, second) {
+        (ValueType::Integer, ValueType::Integer) | (ValueType::Logical, ValueType::Logical) => true,
+        _ => false,
+    }
+}
+
+/// Two names have one type.
+pub fn same_declared(first: Option<ValueType>, second: Option<ValueType>) -> bool
+    ensures { result ≡ types.same_declared first second }
+{
+    match (first, second) {
+        (None, None) => true,
+        (Some(first), Some(second)) => same_type(first, second),
+        _ => false,
+    }
+}
+
+/// Two types are one, as far as they are known: what is open agrees with everything.
+pub fn agree(first: KnownType, second: KnownType) -> bool
+    ensures { result ≡ types.agree first second }
+{
+    match (first, second) {
+        (Some(first), Some(second)) => same_declared(first, second),
+        _ => true,
+    }
+}
+
+/// A type is this one, or open.
+pub fn is_of(value_type: ValueType, known_type: KnownType) -> bool
+    ensures { result ≡ types.is_of value_type known_type }
+{
+    agree(known_type, Some(Some(value_type)))
+}
+
+fn type_of_value(value: Value) -> ValueType
+    ensures { result ≡ types.type_of_value value }
+{
+    match value {
+        Value::Int(_) => ValueType::Integer,
+        Value::Truth(_) => ValueType::Logical,
+    }
+}
+
+fn type_of_operation(operator: Operator) -> ValueType
+    ensures { result ≡ types.type_of_operation operator }
+{
+    match operator {
+        Operator::Arithmetic(_) => ValueType::Integer,
+        Operator::Relational(_) | Operator::Logical(_) => ValueType::Logical,
+    }
+}
+
+fn type_of_operands(operator: Operator) -> ValueType
+    ensures { result ≡ types.type_of_operands operator }
+{
+    match operator {
+        Operator::Arithmetic(_) | Operator::Relational(_) => ValueType::Integer,
+        Operator::Logical(_) => ValueType::Logical,
+    }
+}
+
+// The type of what FULL, EMPTY, VALUE, SETE and WAITF are given.
+fn type_of_tested(symbols: &Symbols, arguments: &[Expr]) -> KnownType
+    ensures { result ≡ types.type_of_tested symbols.now (trees_of arguments.now) }
+{
+    let [argument, ..] = arguments else {
+        return None;
+    };
+    match &argument.node {
+        Node::Occurrence(occurrence) => Some(symbols.type_of(&occurrence.name)),
+        Node::WithList(occurrence, _) if symbols.is_array(&occurrence.name) => {
+            Some(symbols.type_of(&occurrence.name))
+        }
+        _ => None,
+    }
+}
+
+// FULL and EMPTY are logical, and VALUE, SETE and WAITF of the type of their first argument.
+fn type_of_test(symbols: &Symbols, function: StateFunction, arguments: &[Expr]) -> KnownType
+    ensures { result ≡ types.type_of_test symbols.now function (trees_of arguments.now) }
+{
+    match function {
+        StateFunction::IsFull | StateFunction::IsEmpty => Some(Some(ValueType::Logical)),
+        _ => type_of_tested(symbols, arguments),
+    }
+}
+
+// The type of a name with a list.
+fn type_of_listed(symbols: &Symbols, listed: Meaning, name: &Name, arguments: &[Expr]) -> KnownType
+    ensures { result ≡ types.type_of_listed symbols.now (meaning listed) name.now (trees_of arguments.now) }
+{
+    match listed {
+        Meaning::Element => Some(symbols.type_of(name)),
+        Meaning::Pure(_) => Some(Some(ValueType::Integer)),
+        Meaning::State(function) => type_of_test(symbols, function, arguments),
+        Meaning::Unknown => None,
+    }
+}
+
+// The subscripts of an array are as many as its dimensions (5.4.1).
+#[tactic(auto, using(hep_symbols::proofs::Passes::count_is_length))]
+fn has_dimensions(symbols: &Symbols, name: &Name, subscripts: &[Expr]) -> bool
+    ensures { result ≡ types.has_dimensions symbols.now name.now (trees_of subscripts.now) }
+{
+    subscripts.len() == symbols.dimensions(name).len()
+}
+
+/// The list of a name is right: subscripts, as many as the dimensions, and arguments of pure functions are
+/// integers, and what FULL, EMPTY, VALUE, SETE, WAITF and an unknown name are given may be a name by itself.
+#[cycle(typing)]
+pub fn is_list_typed(symbols: &Symbols, listed: Meaning, name: &Name, list: &[Expr]) -> bool
+    ensures { result ≡ types.is_list_typed symbols.now (meaning listed) name.now (trees_of list.now) (types.are_integers symbols.now (trees_of list.now)) (types.are_actuals symbols.now (trees_of list.now)) }
+{
+    match listed {
+        Meaning::Element => has_dimensions(symbols, name, list) && are_integers(symbols, list),
+        Meaning::Pure(_) => are_integers(symbols, list),
+        Meaning::State(_) | Meaning::Unknown => are_actuals(symbols, list),
+    }
+}
+
+#[cycle(typing)]
+fn typing(symbols: &Symbols, expression: &Expr) -> Operand
+    ensures known_type { result.known_type ≡ types.type_of_tree symbols.now expression.now }
+    ensures is_typed { result.is_typed ≡ types.is_typed symbols.now expression.now }
+{
+    match &expression.node {
+        Node::Constant(value) => Operand {
+            known_type: Some(Some(type_of_value(*value))),
+            is_typed: true,
+        },
+        Node::Occurrence(occurrence) => Operand {
+            known_type: Some(symbols.type_of(&occurrence.name)),
+            is_typed: !symbols.is_array(&occurrence.name),
+        },
+        Node::WithList(occurrence, list) => {
+            let name = &occurrence.name;
+            let listed = symbols.listed_meaning(name);
+            Operand {
+                known_type: type_of_listed(symbols, listed, name, list),
+                is_typed: is_list_typed(symbols, listed, name, list),
+            }
+        }
+        Node::Parenthesized(inner) => typing(symbols, inner),
+        Node::Signed(_, term) => Operand {
+            known_type: Some(Some(ValueType::Integer)),
+            is_typed: typing(symbols, term).is_typed_as(ValueType::Integer),
+        },
+        Node::Negated(operand) => Operand {
+            known_type: Some(Some(ValueType::Logical)),
+            is_typed: typing(symbols, operand).is_typed_as(ValueType::Logical),
+        },
+        Node::Binary(operator, left, right) => {
+            let operands = type_of_operands(*operator);
+            Operand {
+                known_type: Some(Some(type_of_operation(*operator))),
+                is_typed: typing(symbols, left).is_typed_as(operands)
+                    && typing(symbols, right).is_typed_as(operands),
+            }
+        }
+    }
+}
+
+/// Subscripts, or arguments of a function of integers.
+#[cycle(typing)]
+pub fn are_integers(symbols: &Symbols, list: &[Expr]) -> bool
+    ensures { result ≡ types.are_integers symbols.now (trees_of list.now) }
+{
+    match list {
+        [] => true,
+        [first, rest @ ..] => {
+            typing(symbols, first).is_typed_as(ValueType::Integer) && are_integers(symbols, rest)
+        }
+    }
+}
+
+/// Actual arguments: a name by itself is no operand.
+#[cycle(typing)]
+pub fn are_actuals(symbols: &Symbols, list: &[Expr]) -> bool
+    ensures { result ≡ types.are_actuals symbols.now (trees_of list.now) }
+{
+    match list {
+        [] => true,
+        [first, rest @ ..] => is_actual(symbols, first) && are_actuals(symbols, rest),
+    }
+}
+
+#[cycle(typing)]
+fn is_actual(symbols: &Symbols, actual: &Expr) -> bool
+    ensures { result ≡ walks.is_actual symbols.now actual.now }
+{
+    match &actual.node {
+        Node::Occurrence(_) => true,
+        _ => typing(symbols, actual).is_typed,
+    }
+}
+
+/// The type of an expression of a unit.
+#[cycle(type_of_tree)]
+pub fn type_of_tree(symbols: &Symbols, expression: &Expr) -> KnownType
+    ensures { result ≡ types.type_of_tree symbols.now expression.now }
+{
+    match &expression.node {
+        Node::Constant(value) => Some(Some(type_of_value(*value))),
+        Node::Occurrence(occurrence) => Some(symbols.type_of(&occurrence.name)),
+        Node::WithList(occurrence, list) => {
+            let listed = symbols.listed_meaning(&occurrence.name);
+            type_of_listed(symbols, listed, &occurrence.name, list)
+        }
+        Node::Parenthesized(inner) => type_of_tree(symbols, inner),
+        Node::Signed(..) => Some(Some(ValueType::Integer)),
+        Node::Negated(_) => Some(Some(ValueType::Logical)),
+        Node::Binary(operator, _, _) => Some(Some(type_of_operation(*operator))),
+    }
+}
+
+/// Each operand in an expression has the right type, and no array stands where a scalar must.
+pub fn is_typed(symbols: &Symbols, expression: &Expr) -> bool
+    ensures { result ≡ types.is_typed symbols.now expression.now }
+{
+    typing(symbols, expression).is_typed
+}
+
+/// An expression of this type.
+pub fn is_typed_as(symbols: &Symbols, value_type: ValueType, expression: &Expr) -> bool
+    ensures { result ≡ types.is_typed_as symbols.now value_type expression.now }
+{
+    typing(symbols, expression).is_typed_as(value_type)
+}

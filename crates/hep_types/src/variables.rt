@@ -1,0 +1,43 @@
+//! Variables by which a DO counts, or a bound is adjusted (X3.9-1978, 5.5.1 and 11.10).
+ghost use Rattle.std.specs.Prelude.{◌≡◌, IfOk};
+ghost use Rattle.hep_check.specs.Types as types;
+ghost use Rattle.hep_types.specs.Types as walks;
+
+use crate::types::same_declared;
+use hep_source::{Form, Name, ValueType};
+use hep_symbols::Symbols;
+use std::alloc::{AllocError, Global};
+
+/// A scalar variable without `$` that is an integer; a constant's name is no variable.
+pub fn is_plain_integer_scalar(symbols: &Symbols, name: &Name) -> bool
+    ensures { result ≡ types.is_plain_integer_scalar symbols.now name.now }
+{
+    !symbols.is_constant_name(name)
+        && !name.asynchronous
+        && !symbols.is_array(name)
+        && same_declared(symbols.type_of(name), Some(ValueType::Integer))
+}
+
+fn has_loop_variable(symbols: &Symbols, form: &Form) -> bool
+    ensures { result ≡ walks.has_loop_variable symbols.now form.now }
+{
+    match form {
+        Form::Do(control) => is_plain_integer_scalar(symbols, &control.variable.name),
+        _ => true,
+    }
+}
+
+/// For each statement of a unit whether its DO variable, where it has one, is a plain integer scalar.
+///
+/// # Errors
+///
+/// Only where memory was refused.
+pub fn loop_variables(alloc: Global, symbols: &Symbols) -> Result<Vec<bool>, AllocError>
+    ensures { IfOk result (λ variables. variables.items ≡ walks.loop_variables symbols.now) }
+{
+    let mut variables = Vec::new(alloc);
+    for statement in symbols.statements() {
+        variables.push(has_loop_variable(symbols, &statement.form))?;
+    }
+    Ok(variables)
+}

@@ -1,0 +1,150 @@
+//! 302: types, constants and bounds (X3.9-1978, sections 5, 6, 8, 9, 10 and 11).
+ghost use Rattle.std.specs.Prelude.{◌≡◌, IfOk, OnOk};
+ghost use Rattle.std.specs.List.{list_all};
+ghost use Rattle.hep_check.specs.Constants as conditions;
+ghost use Rattle.hep_check.specs.Types as types;
+ghost use Rattle.hep_check.specs.Violations.{first_of};
+ghost use Rattle.hep_symbols.specs.Statements.{rest_after};
+ghost use Rattle.hep_types.specs.Passes as passes;
+
+use crate::bounds::has_bounds;
+use crate::declarators::{constants_in, declarators_in, groups_in};
+use crate::forms::{is_form_typed, is_target_typed};
+use crate::parameters::{Parameters, is_constant_of};
+use crate::types::is_typed_as;
+use hep_check::Violation;
+use hep_source::{DataGroup, Declarator, Expr, Statement, Target, ValueType};
+use hep_symbols::Symbols;
+use hep_symbols::reported::{lesser, line_when, reported};
+use std::alloc::{AllocError, Global};
+
+fn are_conditions(symbols: &Symbols, conditions: &[Expr]) -> bool
+    ensures { result ≡ list_all (types.is_typed_as symbols.now ValueType.Logical) conditions.now }
+{
+    for condition in conditions {
+        if !is_typed_as(symbols, ValueType::Logical, condition) {
+            return false;
+        }
+    }
+    true
+}
+
+fn are_bounded(
+    alloc: Global,
+    symbols: &Symbols,
+    parameters: &Parameters,
+    declarators: &[&Declarator],
+) -> Result<bool, AllocError>
+    ensures { IfOk result (λ are_bounded. are_bounded ≡ list_all (conditions.has_bounds symbols.now parameters.now) (rest_after declarators.now)) }
+{
+    for declarator in declarators {
+        if !has_bounds(alloc, symbols, parameters, declarator)? {
+            return Ok(false);
+        }
+    }
+    Ok(true)
+}
+
+fn are_constant(
+    alloc: Global,
+    symbols: &Symbols,
+    parameters: &Parameters,
+    subscripts: &[Expr],
+) -> Result<bool, AllocError>
+    ensures { IfOk result (λ are_constant. are_constant ≡ list_all (conditions.is_constant_of symbols.now parameters.now ValueType.Integer) subscripts.now) }
+{
+    for subscript in subscripts {
+        if !is_constant_of(alloc, symbols, parameters, ValueType::Integer, subscript)? {
+            return Ok(false);
+        }
+    }
+    Ok(true)
+}
+
+// A subscript in DATA is a constant expression (9.2).
+fn has_constant_subscripts(
+    alloc: Global,
+    symbols: &Symbols,
+    parameters: &Parameters,
+    target: &Target,
+) -> Result<bool, AllocError>
+    ensures { IfOk result (λ has_them. has_them ≡ conditions.has_constant_subscripts symbols.now parameters.now target.now) }
+{
+    let are_constant = are_constant(alloc, symbols, parameters, target.subscripts.as_slice())?;
+    Ok(is_target_typed(symbols, target) && are_constant)
+}
+
+fn are_targets_typed(
+    alloc: Global,
+    symbols: &Symbols,
+    parameters: &Parameters,
+    targets: &[Target],
+) -> Result<bool, AllocError>
+    ensures { IfOk result (λ are_typed. are_typed ≡ list_all (conditions.has_constant_subscripts symbols.now parameters.now) targets.now) }
+{
+    for target in targets {
+        if !has_constant_subscripts(alloc, symbols, parameters, target)? {
+            return Ok(false);
+        }
+    }
+    Ok(true)
+}
+
+fn are_groups_typed(
+    alloc: Global,
+    symbols: &Symbols,
+    parameters: &Parameters,
+    groups: &[DataGroup],
+) -> Result<bool, AllocError>
+    ensures { IfOk result (λ are_typed. are_typed ≡ list_all (conditions.is_group_typed symbols.now parameters.now) groups.now) }
+{
+    for group in groups {
+        if !are_targets_typed(alloc, symbols, parameters, group.targets.as_slice())? {
+            return Ok(false);
+        }
+    }
+    Ok(true)
+}
+
+// Whether a statement is typed, by the constants given before it; those that it gives join them.
+fn is_statement_typed(
+    alloc: Global,
+    symbols: &Symbols,
+    parameters: &mut Parameters,
+    statement: &Statement,
+) -> Result<bool, AllocError>
+    ensures typed { IfOk result (λ is_typed. is_typed ≡ conditions.is_statement_typed symbols.now parameters.old statement.now) }
+    ensures taken { OnOk result (parameters.new ≡ passes.parameters_after symbols.now parameters.old statement.now) }
+{
+    let form = &statement.form;
+    let declarators = declarators_in(alloc, form)?;
+    let are_conditions = are_conditions(symbols, statement.conditions.as_slice());
+    let is_form = is_form_typed(symbols, form);
+    let are_bounded = are_bounded(alloc, symbols, parameters, &declarators)?;
+    let are_groups = are_groups_typed(alloc, symbols, parameters, groups_in(form))?;
+    let are_given = parameters.add_all(alloc, symbols, constants_in(form))?;
+    Ok(are_conditions && is_form && are_given && are_bounded && are_groups)
+}
+
+fn least_untyped(alloc: Global, symbols: &Symbols) -> Result<Option<u32>, AllocError>
+    ensures { IfOk result (λ line. line ≡ passes.least_untyped symbols.now conditions.no_parameters symbols.now) }
+{
+    let mut parameters = Parameters::new(alloc);
+    let mut least = None;
+    for statement in symbols.statements() {
+        let is_typed = is_statement_typed(alloc, symbols, &mut parameters, statement)?;
+        least = lesser(least, line_when(!is_typed, statement.line));
+    }
+    Ok(least)
+}
+
+/// The first violation of 302 in a unit: an expression, a constant or the bounds of an array are not right.
+///
+/// # Errors
+///
+/// Only where memory was refused.
+pub fn type_violation(alloc: Global, symbols: &Symbols) -> Result<Option<Violation>, AllocError>
+    ensures { IfOk result (λ violation. violation ≡ first_of (conditions.type_violations symbols.now)) }
+{
+    Ok(reported(302, least_untyped(alloc, symbols)?))
+}

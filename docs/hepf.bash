@@ -1,0 +1,41 @@
+# Completion of hepf's words for bash: `source docs/hepf.bash`.
+
+_hepf() {
+    local word=${COMP_WORDS[COMP_CWORD]} before=${COMP_WORDS[COMP_CWORD - 1]}
+    COMPREPLY=()
+    case $before in
+        --arena | --steps) return ;;
+        --choices | --history)
+            mapfile -t COMPREPLY < <(compgen -f -- "$word")
+            return
+            ;;
+    esac
+    if ((COMP_CWORD == 1)); then
+        mapfile -t COMPREPLY < <(compgen -W "run replay explain help --help --version" -- "$word")
+        return
+    fi
+    case ${COMP_WORDS[1]} in
+        run)
+            if [[ $word == -* ]]; then
+                mapfile -t COMPREPLY < <(compgen -W "--arena --steps --choices --history --help" -- "$word")
+            else
+                mapfile -t COMPREPLY < <(compgen -f -- "$word")
+            fi
+            ;;
+        replay)
+            if [[ $word == -* ]]; then
+                mapfile -t COMPREPLY < <(compgen -W "--arena --help" -- "$word")
+            else
+                mapfile -t COMPREPLY < <(compgen -f -- "$word")
+            fi
+            ;;
+        help)
+            mapfile -t COMPREPLY < <(compgen -W "run replay explain" -- "$word")
+            ;;
+        explain)
+            mapfile -t COMPREPLY < <(compgen -W "101 102 103 104 105 106 107 201 202 203 204 205 301 403 501 601 602 603" -- "$word")
+            ;;
+    esac
+}
+
+complete -o filenames -F _hepf hepf ./hepf
