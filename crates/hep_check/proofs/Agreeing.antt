@@ -1,9 +1,9 @@
 -- The constants that the conditions keep are those of the source machine.
 use Rattle.std.proofs.Common.{◌≡◌, ℕ, zero, suc, Bool, true, false, List, [], ◌∷◌, ◌++◌, map, Option, Some, None, refl, sym, ap, ◌∙◌, subst}
-use Rattle.std.specs.Prelude.{◌&&◌, ◌||◌, not, if◌then◌else◌, is_some, nat_eq, slice_get}
+use Rattle.std.specs.Prelude.{◌&&◌, ◌||◌, not, if◌then◌else◌, is_some, slice_get}
 use Rattle.std.specs.List.{flat_map, list_all, list_any}
 use Rattle.std.specs.Option.{option_or}
-use Rattle.std.proofs.lemmas.Bool.{and_parts, eqb-true, false≢true}
+use Rattle.std.proofs.lemmas.Bool.{and_parts, false≢true}
 use Rattle.std.proofs.lemmas.List.Folds.{list_all-append}
 use Rattle.std.proofs.lemmas.Option.{none-some, same_Some}
 use Rattle.hep_source.specs.declared.declaration.NamedConstant.{NamedConstant}
@@ -11,8 +11,9 @@ use Rattle.hep_source.specs.declared.name.Name.{Name}
 use Rattle.hep_source.specs.declared.name.Occurrence.{Occurrence}
 use Rattle.hep_source.specs.declared.statement.Statement.{Statement}
 use Rattle.hep_source.specs.declared.value.Value.{Value}
-use Rattle.hep_source.specs.Names.{same_logical, same_letters, same_name, is_among}
+use Rattle.hep_source.specs.Names.{same_name, is_among}
 use Rattle.hep_source.specs.Tree.{Tree}
+use Rattle.hep_source.proofs.NameTests.{equal_names}
 use Rattle.hep_source.specs.Units.{Units}
 use Rattle.hep_machine.specs.Constants.{Constants, value_of, value_among, with_constant, given_by}
 use Rattle.hep_machine.specs.Declarations.{constants_in, declarators_in, named_constants}
@@ -25,29 +26,6 @@ use Rattle.hep_check.specs.Laws.{Keeps}
 use Rattle.hep_check.specs.Names.{type_missing_violations}
 use Rattle.hep_check.specs.Statements.{names_with_lists, names_with_lists_in, trees_in_declarator, calls_in}
 use Rattle.hep_check.specs.Violations.{Violations, at_line, when}
-
--- ---- names are the same where they are equal
-
-equal_logicals : (a b : Bool) → same_logical a b ≡ true → a ≡ b
-equal_logicals true true e = refl
-equal_logicals true false e = absurd cc
-equal_logicals false true e = absurd cc
-equal_logicals false false e = refl
-
-equal_letters : (cs ds : List ℕ) → same_letters cs ds ≡ true → cs ≡ ds
-equal_letters [] [] e = refl
-equal_letters [] (d ∷ ds) e = absurd cc
-equal_letters (c ∷ cs) [] e = absurd cc
-equal_letters (c ∷ cs) (d ∷ ds) e =
-    let h = and_parts (nat_eq c d) (same_letters cs ds) e in
-    ap (λ x. x ∷ cs) (eqb-true c d h.0) ∙ ap (λ xs. d ∷ xs) (equal_letters cs ds h.1)
-
-equal_names : (x y : Name) → same_name x y ≡ true → x ≡ y
-equal_names x y e =
-    let h = and_parts (same_logical x.asynchronous y.asynchronous) (same_letters x.letters y.letters) e in
-    let t = equal_logicals x.asynchronous y.asynchronous h.0 in
-    let l = equal_letters x.letters y.letters h.1 in
-    λ i. record { asynchronous = t i; letters = l i }
 
 -- ---- no violations
 

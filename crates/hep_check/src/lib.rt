@@ -5,6 +5,7 @@
 #![tactic(auto)]
 
 pub mod laws;
+pub mod reported;
 pub mod violation;
 
 pub use violation::Violation;

@@ -91,7 +91,7 @@ fn explain_command<'a>(alloc: Global) -> Result<Command<'a>, AllocError> {
 /// # Errors
 ///
 /// Only where memory was refused.
-pub fn program<'a>(alloc: Global) -> Result<Command<'a>, AllocError> {
+pub(crate) fn program<'a>(alloc: Global) -> Result<Command<'a>, AllocError> {
     Command::new(alloc, "hepf")
         .version(VERSION)
         .about(ABOUT)

@@ -3,6 +3,7 @@ ghost use Rattle.std.specs.Prelude.{◌≡◌, ◌++◌, IfOk, OnOk, None, map};
 ghost use Rattle.std.specs.List.{flat_map};
 ghost use Rattle.indexmap.specs.IndexMap.{get};
 ghost use Rattle.hep_source.specs.declared.name.Name.{Name as PureName};
+ghost use Rattle.hep_source.specs.Units as units;
 ghost use Rattle.hep_check.specs.Nesting as nesting;
 ghost use Rattle.hep_check.specs.Reported.{reported};
 ghost use Rattle.hep_check.specs.Violations.{first_of};
@@ -11,11 +12,21 @@ ghost use Rattle.hep_control.specs.Crossing as spec;
 
 use crate::blocks::{BlockIf, BlockIfs};
 use crate::do_range::DoRange;
-use crate::reported::{lesser, line_at, line_when};
 use crate::sweep::{Event, least_met};
+use hep_check::reported::{lesser, line_when};
 use hep_source::{Name, Statement};
 use indexmap::IndexMap;
 use std::alloc::{AllocError, Global};
+
+// The line of the statement at an index.
+pub(crate) fn line_at(unit: &[Statement], index: usize) -> u32
+    ensures { result ≡ units.line_at unit.now index }
+{
+    match unit.get(index) {
+        Some(statement) => statement.line,
+        None => 0,
+    }
+}
 
 // The least line of a DO or a block IF that isn't nested in the ranges and blocks around it.
 pub(crate) fn least_crossing(

@@ -12,9 +12,9 @@ ghost use Rattle.hep_control.specs.Jumps as spec;
 use crate::labels::Labels;
 use crate::region::{Jump, Region};
 use crate::regions::regions_of;
-use crate::reported::{lesser, line_when, reported};
 use crate::sweep::{Event, least_met};
 use hep_check::Violation;
+use hep_check::reported::{lesser, line_when, reported};
 use hep_source::{Form, Statement};
 use std::alloc::{AllocError, Global};
 

@@ -11,8 +11,8 @@ ghost use Rattle.hep_check.specs.Statements.{targets_of_jump, terminal_labels};
 ghost use Rattle.hep_check.specs.Violations.{first_of};
 ghost use Rattle.hep_control.specs.Labels as passes;
 
-use crate::reported::{lesser, line_when, reported};
 use hep_check::Violation;
+use hep_check::reported::{lesser, line_when, reported};
 use hep_source::{Form, Statement};
 use indexmap::{IndexMap, IndexSet};
 use std::alloc::{AllocError, Global};

@@ -1,5 +1,5 @@
 //! The structure of a program unit: its labels, DOs and block IFs (X3.9-1978, section 11), and the
-//! first violation of 306 and of 308. Of 307 there are parts, and no call reports it yet.
+//! first violation of 306, of 307 and of 308.
 #![tactic(auto)]
 
 pub(crate) mod blocks;
@@ -12,7 +12,6 @@ pub(crate) mod loops;
 pub(crate) mod ranges;
 pub(crate) mod region;
 pub(crate) mod regions;
-pub(crate) mod reported;
 pub mod structure;
 pub(crate) mod successors;
 pub(crate) mod sweep;

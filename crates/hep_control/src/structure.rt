@@ -7,11 +7,11 @@ ghost use Rattle.hep_check.specs.Violations.{first_of};
 ghost use Rattle.hep_control.specs.Structure as spec;
 
 use crate::blocks::{BlockIf, BlockIfs, block_ifs_of};
-use crate::crossing::least_crossing;
+use crate::crossing::{least_crossing, line_at};
 use crate::labels::Labels;
 use crate::ranges::ranges_of;
-use crate::reported::{lesser, line_at, line_when, reported};
 use hep_check::Violation;
+use hep_check::reported::{lesser, line_when, reported};
 use hep_source::{Form, Statement};
 use std::alloc::{AllocError, Global};
 

@@ -2,15 +2,12 @@
 use Rattle.std.proofs.Common.{◌≡◌, ℕ, Bool, true, false, List, [], ◌∷◌, ◌++◌, refl, ap, sym, ◌∙◌, Option, Some, None, cond, subst}
 use Rattle.std.specs.Prelude.{Result, Ok, Err}
 use Rattle.hep_source.specs.declared.name.Name.{Name}
-use Rattle.hep_source.specs.Names.{with_name, with_names}
+use Rattle.hep_source.specs.Names.{with_names}
+use Rattle.hep_source.proofs.NameTests.{with_names-append}
 use Rattle.hep_base.specs.declared.refusal.Refusal.{Refusal as ImageFault}
 use Rattle.hep_base.specs.declared.refusal.Refusal.TheVariants.{NoMemory, Refused}
 use Rattle.hep_machine.specs.Declarations.{is_integer_by_letter}
 use Rattle.hep_core.specs.Symbols.{first_real, or_later, untyped_in, Reports, Declares}
-
-pub with_names-append : (xs ys zs : List Name) → with_names xs (ys ++ zs) ≡ with_names (with_names xs ys) zs
-with_names-append xs [] zs = refl
-with_names-append xs (y ∷ ys) zs = with_names-append (with_name xs y) ys zs
 
 -- the first of two that is there
 abbrev either : Option Name → Option Name → Option Name

@@ -18,7 +18,7 @@ use Rattle.hep_machine.specs.Variables.{array_occurrence, occurrences_in, occurr
 use Rattle.hep_core.specs.Runnable.{is_variable, may_be_left, is_supported_item, is_arithmetic, is_supported_form, first_unsupported_in}
 use Rattle.hep_core.specs.Symbols.{main_variables, names_in_form, with_statements, variables_of}
 use Rattle.hep_core.proofs.Running.{AllRun, both, no_elements, arithmetic_may_be_left, item_left, no_named_constants, no_common_block, no_dummies, main_runs}
-use Rattle.hep_core.proofs.Declared.{with_names-append}
+use Rattle.hep_source.proofs.NameTests.{with_names-append}
 use Rattle.hep_core.proofs.Names.{names_append}
 
 module _ (unit : List Statement) where

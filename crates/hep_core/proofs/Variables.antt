@@ -1,7 +1,6 @@
 -- The variables of a unit, and the cells that hold their values.
 use Rattle.std.proofs.Common.{◌≡◌, ℕ, zero, suc, ◌<◌, Bool, true, false, List, [], ◌∷◌, ◌++◌, map, drop, length, refl, sym, ap, ◌∙◌, subst, arith, Option, Some}
-use Rattle.std.specs.Prelude.{slice_get, slice_set, if◌then◌else◌, ◌&&◌, nat_eq}
-use Rattle.std.proofs.lemmas.Bool.{eqb-true, eq-eqb}
+use Rattle.std.specs.Prelude.{slice_get, slice_set, if◌then◌else◌, ◌&&◌}
 use Rattle.std.proofs.lemmas.Option.{slice_get-map}
 use Rattle.hep_source.specs.declared.name.Name.{Name}
 use Rattle.hep_source.specs.declared.value.Value.{Value}
@@ -12,8 +11,8 @@ use Rattle.hep_source.specs.declared.statement.Form.TheVariants as form
 use Rattle.hep_source.specs.declared.statement.Statement.{Statement}
 use Rattle.hep_source.specs.declared.operator.Operator.TheVariants.{Arithmetic}
 use Rattle.hep_source.specs.Tree.{Tree, constant, occurrence, parenthesized, signed, binary}
-use Rattle.hep_source.specs.Names.{same_logical}
-use Rattle.hep_source.specs.Names.{same_name, same_letters, is_among, with_name, with_names}
+use Rattle.hep_source.specs.Names.{same_name, is_among, with_name, with_names}
+use Rattle.hep_source.proofs.NameTests.{equal_names, same_name-self, same_name-turned}
 use Rattle.hep_machine.specs.Storage.{with_value}
 use Rattle.hep_machine.specs.State.{local, Store}
 use Rattle.hep_core.specs.declared.operation.Evaluation.TheVariants.{Load, Sign, Binary}
@@ -24,48 +23,11 @@ use Rattle.hep_core.specs.Code.{number_of, tree_code, items_code, form_code, cod
 use Rattle.hep_core.specs.Simulation.{values_of}
 use Rattle.hep_core.specs.Symbols.{with_statements, variables_of, names_in, names_in_items, names_in_form}
 use Rattle.hep_core.proofs.Names.{binary_names, items_names}
-use Rattle.hep_core.proofs.Running.{both}
 
--- ---- names are the same where they are equal
-
-equal_logicals : (a b : Bool) → same_logical a b ≡ true → a ≡ b
-equal_logicals true true e = refl
-equal_logicals true false e = absurd cc
-equal_logicals false true e = absurd cc
-equal_logicals false false e = refl
-
-equal_letters : (cs ds : List ℕ) → same_letters cs ds ≡ true → cs ≡ ds
-equal_letters [] [] e = refl
-equal_letters [] (d ∷ ds) e = absurd cc
-equal_letters (c ∷ cs) [] e = absurd cc
-equal_letters (c ∷ cs) (d ∷ ds) e =
-    let h = both (nat_eq c d) (same_letters cs ds) e in
-    ap (λ x. x ∷ cs) (eqb-true c d h.0) ∙ ap (λ xs. d ∷ xs) (equal_letters cs ds h.1)
-
-equal_names : (x y : Name) → same_name x y ≡ true → x ≡ y
-equal_names x y e =
-    let h = both (same_logical x.asynchronous y.asynchronous) (same_letters x.letters y.letters) e in
-    let t = equal_logicals x.asynchronous y.asynchronous h.0 in
-    let l = equal_letters x.letters y.letters h.1 in
-    λ i. record { asynchronous = t i; letters = l i }
-
-same_logical-self : (a : Bool) → same_logical a a ≡ true
-same_logical-self true = refl
-same_logical-self false = refl
-
-same_letters-self : (cs : List ℕ) → same_letters cs cs ≡ true
-same_letters-self [] = refl
-same_letters-self (c ∷ cs) = rw (eq-eqb c c refl) (same_letters-self cs)
-
-same_name-self : (x : Name) → same_name x x ≡ true
-same_name-self x = rw (same_logical-self x.asynchronous) (same_letters-self x.letters)
-
-other_by : (x y : Name) (b : Bool) → same_name y x ≡ b → same_name x y ≡ false → b ≡ false
-other_by x y true e f = let g : same_name x y ≡ true = rw (equal_names y x e) (same_name-self x) in cc
-other_by x y false e f = refl
+-- ---- names that are not the same
 
 other_way : (x y : Name) → same_name x y ≡ false → same_name y x ≡ false
-other_way x y f = other_by x y (same_name y x) refl f
+other_way x y f = sym (same_name-turned x y) ∙ f
 
 -- ---- among
 

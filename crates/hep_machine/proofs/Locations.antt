@@ -1,38 +1,16 @@
 -- Names, blocks and locations that are the same are equal.
-use Rattle.std.proofs.Common.{◌≡◌, ℕ, Bool, true, false, List, [], ◌∷◌, Some, None, refl, ap, ◌∙◌}
+use Rattle.std.proofs.Common.{◌≡◌, Bool, true, false, Some, None, refl, ap}
 use Rattle.std.specs.Prelude.{◌&&◌, nat_eq}
 use Rattle.std.proofs.lemmas.Bool.{eqb-true}
-use Rattle.hep_source.specs.declared.name.Name.{Name}
-use Rattle.hep_source.specs.Names.{same_logical}
+use Rattle.hep_source.proofs.NameTests.{equal_names}
 use Rattle.hep_machine.specs.Declarations.{BlockName, same_block}
-use Rattle.hep_source.specs.Names.{same_letters, same_name}
+use Rattle.hep_source.specs.Names.{same_name}
 use Rattle.hep_machine.specs.Storage.{same_location}
 use Rattle.hep_machine.specs.State.{Location, local, common}
 
 both : (a b : Bool) → (a && b) ≡ true → (a ≡ true) × (b ≡ true)
 both true b e = (refl, e)
 both false b e = absurd cc
-
-equal_logicals : (a b : Bool) → same_logical a b ≡ true → a ≡ b
-equal_logicals true true e = refl
-equal_logicals true false e = absurd cc
-equal_logicals false true e = absurd cc
-equal_logicals false false e = refl
-
-equal_letters : (cs ds : List ℕ) → same_letters cs ds ≡ true → cs ≡ ds
-equal_letters [] [] e = refl
-equal_letters [] (d ∷ ds) e = absurd cc
-equal_letters (c ∷ cs) [] e = absurd cc
-equal_letters (c ∷ cs) (d ∷ ds) e =
-    let h = both (nat_eq c d) (same_letters cs ds) e in
-    ap (λ x. x ∷ cs) (eqb-true c d h.0) ∙ ap (λ xs. d ∷ xs) (equal_letters cs ds h.1)
-
-pub equal_names : (x y : Name) → same_name x y ≡ true → x ≡ y
-equal_names x y e =
-    let h = both (same_logical x.asynchronous y.asynchronous) (same_letters x.letters y.letters) e in
-    let t = equal_logicals x.asynchronous y.asynchronous h.0 in
-    let l = equal_letters x.letters y.letters h.1 in
-    λ i. record { asynchronous = t i; letters = l i }
 
 pub equal_blocks : (m n : BlockName) → same_block m n ≡ true → m ≡ n
 equal_blocks None None e = refl

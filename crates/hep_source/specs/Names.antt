@@ -1,6 +1,8 @@
 -- Names: X3.9-1978, 2.2.
 use Rattle.std.specs.Prelude.{ℕ, suc, Bool, true, false, not, ◌&&◌, nat_eq, if◌then◌else◌, List, [], ◌∷◌, ◌++◌, Option, Some, None}
 use Rattle.std.specs.Option.{option_map}
+use Rattle.std.specs.Cmp.Lexicographic.{pointwise}
+use mathlib.Core.Bool.{beq}
 use Rattle.hep_source.specs.declared.name.Name.{Name}
 
 abbrev pub same_logical : Bool → Bool → Bool
@@ -16,6 +18,10 @@ same_letters (c ∷ cs) (d ∷ ds) = nat_eq c d && same_letters cs ds
 -- the same letters, and both or neither with `$`
 abbrev pub same_name : Name → Name → Bool
 same_name x y = same_logical x.asynchronous y.asynchronous && same_letters x.letters y.letters
+
+-- the same test as `==` makes it, by which tables look names up
+abbrev pub name_eq : Name → Name → Bool
+name_eq x y = beq x.asynchronous y.asynchronous && pointwise nat_eq x.letters y.letters
 
 -- the letters without the blanks after them
 abbrev pub letters_of : List ℕ → List ℕ

@@ -1,5 +1,5 @@
 -- The first of violations, as loops keep it.
-use Rattle.std.proofs.Common.{◌≡◌, ◌<◌, ◌+◌, ℕ, Option, List, ◌∷◌, ◌++◌, get_or, length, drop, ap, sym, ◌∙◌}
+use Rattle.std.proofs.Common.{◌≡◌, ◌<◌, ◌+◌, ℕ, Option, List, ◌∷◌, ◌++◌, get_or, length, drop, append_assoc, ap, sym, ◌∙◌}
 use Rattle.std.proofs.lemmas.List.{drop_more}
 use Rattle.std.specs.List.{flat_map}
 use Rattle.hep_check.specs.declared.violation.Violation.{Violation}
@@ -30,3 +30,9 @@ three us vs ws x y z p q r =
     ∙ (ap (λ o. first_of_two (first_of us) (first_of_two o z)) q
     ∙ (ap (λ o. first_of_two (first_of us) (first_of_two (first_of vs) o)) r
     ∙ (ap (first_of_two (first_of us)) (sym (first_of-append vs ws)) ∙ sym (first_of-append us (vs ++ ws)))))
+
+-- a turn of a loop that puts a list together
+pub grow : {A B : Type 0} (f : A → List B) (found next whole : List B) (x : A) (xs ys : List A) → found ++ flat_map f xs ≡ whole → next ≡ found ++ f x → xs ≡ x ∷ ys
+    → next ++ flat_map f ys ≡ whole
+grow f found next whole x xs ys h n d =
+    ap (λ bs. bs ++ flat_map f ys) n ∙ (append_assoc found (f x) (flat_map f ys) ∙ (ap (λ zs. found ++ flat_map f zs) (sym d) ∙ h))

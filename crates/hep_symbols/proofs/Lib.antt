@@ -1,6 +1,6 @@
-pub mod NameTests
 pub mod Notes
 pub mod Statements
 pub mod Firsts
 pub mod Trees
 pub mod Passes
+pub mod Owned

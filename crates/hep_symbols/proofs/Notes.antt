@@ -8,8 +8,9 @@ use Rattle.hep_machine.specs.Declarations.{is_nonempty}
 use Rattle.hep_source.specs.declared.declaration.Declarator.{Declarator}
 use Rattle.hep_source.specs.declared.name.Name.{Name}
 use Rattle.hep_source.specs.Names.{same_name}
-use Rattle.hep_symbols.specs.Tables.{name_eq, by_name, either, seen, given, by_declarator}
-use Rattle.hep_symbols.proofs.NameTests.{same_is, same-equal, same-turned}
+use Rattle.hep_source.specs.Names.{name_eq}
+use Rattle.hep_symbols.specs.Tables.{by_name, either, seen, given, by_declarator}
+use Rattle.hep_source.proofs.NameTests.{name_eq-is, equal_names, same_name-turned}
 
 pub or-none : {A : Type 0} (o : Option A) → option_or o None ≡ o
 or-none None = refl
@@ -21,10 +22,10 @@ or-assoc (Some x) b c = refl
 
 module _ {A : Type 0} (name x : Name) (value : A) (old : Name → Option A) where
   pub noted : old name ≡ None → cond (name_eq name x) (Some value) (old x) ≡ option_or (old x) (by_name name value x)
-  noted h = ap (λ b. cond b (Some value) (old x)) (same_is name x ∙ same-turned name x) ∙ by (same_name x name) refl
+  noted h = ap (λ b. cond b (Some value) (old x)) (name_eq-is name x ∙ same_name-turned name x) ∙ by (same_name x name) refl
     where
       by : (b : Bool) → same_name x name ≡ b → cond b (Some value) (old x) ≡ option_or (old x) (if b then Some value else None)
-      by true e = rw (same-equal x name e, h) refl
+      by true e = rw (equal_names x name e, h) refl
       by false e = sym (or-none (old x))
 
   pub kept : is_some (old name) ≡ true → old x ≡ option_or (old x) (by_name name value x)
@@ -35,7 +36,7 @@ module _ {A : Type 0} (name x : Name) (value : A) (old : Name → Option A) wher
       some (Some a) b i = refl
 
       by : (b : Bool) → same_name x name ≡ b → old x ≡ option_or (old x) (if b then Some value else None)
-      by true e = some (old x) (Some value) (ap (λ n. is_some (old n)) (same-equal x name e) ∙ h)
+      by true e = some (old x) (Some value) (ap (λ n. is_some (old n)) (equal_names x name e) ∙ h)
       by false e = sym (or-none (old x))
 
 pub none-from-not : {A : Type 0} (o : Option A) → is_some o ≡ false → o ≡ None
@@ -44,7 +45,7 @@ none-from-not (Some a) h = absurd (true≢false h)
 
 -- a name that a set gets
 pub added : (name x : Name) (old : Bool) → cond (name_eq name x) true old ≡ either old (same_name x name)
-added name x old = ap (λ b. cond b true old) (same_is name x ∙ same-turned name x) ∙ by old (same_name x name)
+added name x old = ap (λ b. cond b true old) (name_eq-is name x ∙ same_name-turned name x) ∙ by old (same_name x name)
   where
     by : (a b : Bool) → cond b true a ≡ either a b
     by true true = refl
@@ -56,7 +57,7 @@ added name x old = ap (λ b. cond b true old) (same_is name x ∙ same-turned na
 pub array-noted : (x : Name) (r : Bor Declarator) (old new : Option (Bor Declarator)) → new ≡ option_or old (by_name r.now.occurrence.name r x)
     → is_nonempty r.now.dimensions ≡ true → seen new ≡ option_or (seen old) (by_declarator r.now x)
 array-noted x r (Some o) new e h = ap seen e
-array-noted x r None new e h = ap seen e ∙ (ap (λ b. seen (if b then Some r else None)) (same-turned x r.now.occurrence.name) ∙ rw h (by (same_name r.now.occurrence.name x)))
+array-noted x r None new e h = ap seen e ∙ (ap (λ b. seen (if b then Some r else None)) (same_name-turned x r.now.occurrence.name) ∙ rw h (by (same_name r.now.occurrence.name x)))
   where
     by : (b : Bool) → seen (if b then Some r else None) ≡ given (b && true) r.now
     by true = refl
@@ -76,4 +77,4 @@ not-empty (x ∷ xs) h = refl
 
 -- a number that a table gets for the name of a subroutine
 pub called-noted : (x name : Name) (k : ℕ) → by_name name k x ≡ given (same_name name x) k
-called-noted x name k = ap (λ b. if b then Some k else None) (same-turned x name)
+called-noted x name k = ap (λ b. if b then Some k else None) (same_name-turned x name)

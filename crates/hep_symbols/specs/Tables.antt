@@ -1,9 +1,7 @@
 -- What tables of names give: X3.9-1978, section 8.
-use Rattle.std.specs.Prelude.{◌≡◌, ◌<◌, get_or, ℕ, ◌+◌, Bool, true, false, ◌&&◌, nat_eq, if◌then◌else◌, List, [], ◌∷◌, Option, Some, None}
+use Rattle.std.specs.Prelude.{◌≡◌, ◌<◌, get_or, ℕ, ◌+◌, Bool, true, false, ◌&&◌, not, is_some, if◌then◌else◌, List, [], ◌∷◌, Option, Some, None}
 use Rattle.std.specs.Borrow.{Bor}
 use Rattle.std.specs.Option.{option_or}
-use Rattle.std.specs.Cmp.Lexicographic.{pointwise}
-use mathlib.Core.Bool.{beq}
 use Rattle.hep_source.specs.declared.declaration.Declarator.{Declarator}
 use Rattle.hep_source.specs.declared.name.Name.{Name}
 use Rattle.hep_source.specs.declared.name.Occurrence.{Occurrence}
@@ -13,11 +11,8 @@ use Rattle.hep_source.specs.declared.statement.Statement.{Statement}
 use Rattle.hep_source.specs.Names.{same_name, is_among, index_among}
 use Rattle.hep_source.specs.Units.{Units, dummies_of, is_named, subroutine_name}
 use Rattle.hep_source.specs.declared.declaration.ValueType.{ValueType}
-use Rattle.hep_machine.specs.Declarations.{declared_type, implicit_type, declarators_of, common_block, is_constant_name, BlockName, names_declared, block_holding, blocks_in, names_of_constants, is_nonempty, constants_in, declarator_among, declarators_in}
-
--- the test by which a table compares two names
-abbrev pub name_eq : Name → Name → Bool
-name_eq x y = beq x.asynchronous y.asynchronous && pointwise nat_eq x.letters y.letters
+use Rattle.hep_machine.specs.Variables.{names_of, locals_of}
+use Rattle.hep_machine.specs.Declarations.{declared_type, implicit_type, common_block, is_constant_name, BlockName, names_declared, block_holding, blocks_in, names_of_constants, is_nonempty, constants_in, declarator_among, declarators_in}
 
 abbrev pub either : Bool → Bool → Bool
 either a b = if a then true else b
@@ -77,15 +72,21 @@ dummies_in [] = []
 dummies_in (s ∷ ss) = dummies_by_form s.form
 
 -- the tables of a unit: what they give for each name is what its specification statements say of it
-pub record Describes (unit : List Statement) (types : Name → Option ValueType) (letters : List (Option ValueType)) (arrays : Name → Option Declarator) (dummies : Name → Option ℕ) (blocks : Name → Option BlockName) (constants : Name → Bool) : Type 0 where
+pub record Describes (unit : List Statement) (types : Name → Option ValueType) (letters : List (Option ValueType)) (arrays : List Statement) (dummies : Name → Option ℕ) (blocks : Name → Option BlockName) (constants : Name → Bool) (names locals : List Name) : Type 0 where
   pub typed : (x : Name) → types x ≡ declared_type x unit
   pub lettered : (c : ℕ) → c < 256 → get_or letters c None ≡ implicit_type c unit
-  pub bounded : (x : Name) → arrays x ≡ declarator_among x (declarators_of unit)
+  pub bounded : arrays ≡ unit
   pub numbered : (x : Name) → dummies x ≡ index_among x (dummies_of unit)
   pub common : (x : Name) → blocks x ≡ common_block unit x
   pub constant : (x : Name) → constants x ≡ is_constant_name unit x
+  pub named : names ≡ names_of unit
+  pub owned : locals ≡ locals_of unit
 
 -- the index of the first of these units that a name calls, counted from k
 abbrev pub called_from : ℕ → Name → Units → Option ℕ
 called_from k x [] = None
 called_from k x (u ∷ us) = option_or (given (is_named (subroutine_name u) x) k) (called_from (k + 1) x us)
+
+-- a name that these tables have neither as a dummy argument nor in COMMON nor as a constant
+abbrev pub is_local_by : (Name → Option ℕ) → (Name → Option BlockName) → (Name → Bool) → Name → Bool
+is_local_by dummies blocks constants x = not (is_some (dummies x)) && (not (is_some (blocks x)) && not (constants x))

@@ -12,9 +12,9 @@ ghost use Rattle.hep_symbols.specs.Passes as passes;
 use crate::functions::Meaning;
 use crate::lists::{NameWithList, names_with_lists};
 use crate::program::ProgramSymbols;
-use crate::reported::{lesser, line_when, reported};
 use crate::symbols::Symbols;
 use hep_check::Violation;
+use hep_check::reported::{lesser, line_when, reported};
 use hep_source::{Expr, Form, Name, PureFunction, Statement};
 use std::alloc::{AllocError, Global};
 

@@ -2,13 +2,14 @@
 //! in tables, and the conditions 301, 303 and 310.
 #![tactic(auto)]
 
+mod arrays;
 pub mod counts;
 mod expressions;
 pub mod functions;
 pub mod lists;
+mod names;
 pub mod occurrences;
 pub mod program;
-pub mod reported;
 mod specification;
 pub mod symbols;
 mod table;

@@ -9,7 +9,7 @@ ghost use Rattle.hep_source.specs.Names as names;
 ghost use Rattle.hep_source.specs.declared.name.Name.{Name as PureName};
 ghost use Rattle.hep_machine.specs.Declarations as declarations;
 ghost use Rattle.hep_symbols.specs.Tables as tables;
-ghost use Rattle.hep_symbols.specs.Tables.{name_eq};
+ghost use Rattle.hep_source.specs.Names.{name_eq};
 
 use crate::table::{add, note};
 use hep_source::{

@@ -3,12 +3,14 @@ ghost use Rattle.std.specs.Prelude.{◌≡◌, IfOk};
 ghost use Rattle.hep_source.specs.Names as names;
 ghost use Rattle.hep_source.specs.Units as units;
 ghost use Rattle.hep_machine.specs.Declarations as declarations;
+ghost use Rattle.hep_machine.specs.Variables as variables;
 
+use crate::arrays::Arrays;
+use crate::names::{locals_among, names_of};
 use crate::specification::{
-    LetterTypes, arrays, common_blocks, constant_names, declared_types, dummy_positions,
-    implicit_types,
+    LetterTypes, common_blocks, constant_names, declared_types, dummy_positions, implicit_types,
 };
-use hep_source::{Declarator, Dimension, Form, Name, Occurrence, Statement, ValueType};
+use hep_source::{Dimension, Form, Name, Occurrence, Statement, ValueType};
 use indexmap::{IndexMap, IndexSet};
 use std::alloc::{AllocError, Global};
 use std::marker::Model;
@@ -20,10 +22,12 @@ pub struct Symbols<'a> {
     statements: &'a [Statement],
     types: IndexMap<Name, ValueType>,
     letters: LetterTypes,
-    arrays: IndexMap<Name, &'a Declarator>,
+    arrays: Arrays<'a>,
     dummies: IndexMap<Name, usize>,
     blocks: IndexMap<Name, Option<Name>>,
     constants: IndexSet<Name>,
+    names: IndexSet<Name>,
+    locals: Vec<Name>,
 }
 
 impl<'a> Model for Symbols<'a> {
@@ -33,7 +37,8 @@ impl<'a> Model for Symbols<'a> {
     ghost use Rattle.indexmap.specs.IndexSet.{contains};
     ghost use Rattle.hep_source.specs.declared.statement.Statement.{Statement as PureStatement};
     ghost use Rattle.hep_source.specs.contracts.expression.Expr as expression;
-    ghost use Rattle.hep_symbols.specs.Tables.{name_eq, seen, Describes};
+    ghost use Rattle.hep_source.specs.Names.{name_eq};
+    ghost use Rattle.hep_symbols.specs.Tables.{Describes};
 
     ghost Value = { List PureStatement };
 
@@ -41,7 +46,7 @@ impl<'a> Model for Symbols<'a> {
 
     ghost view = { λ a. a.statements.now };
 
-    ghost invariant = { λ a. Describes a.statements.now (get name_eq a.types) a.letters (λ x. seen (get name_eq a.arrays x)) (get name_eq a.dummies) (get name_eq a.blocks) (contains name_eq a.constants) };
+    ghost invariant = { λ a. Describes a.statements.now (get name_eq a.types) a.letters a.arrays (get name_eq a.dummies) (get name_eq a.blocks) (contains name_eq a.constants) a.names.keys a.locals.items };
 }
 
 impl<'a> Symbols<'a> {
@@ -55,10 +60,12 @@ impl<'a> Symbols<'a> {
     {
         let types = declared_types(alloc, statements)?;
         let letters = implicit_types(statements);
-        let arrays = arrays(alloc, statements)?;
+        let arrays = Arrays::new(alloc, statements)?;
         let dummies = dummy_positions(alloc, statements)?;
         let blocks = common_blocks(alloc, statements)?;
         let constants = constant_names(alloc, statements)?;
+        let names = names_of(alloc, &arrays)?;
+        let locals = locals_among(alloc, &dummies, &blocks, &constants, names.as_slice())?;
         Ok(Symbols {
             statements,
             types,
@@ -67,6 +74,8 @@ impl<'a> Symbols<'a> {
             dummies,
             blocks,
             constants,
+            names,
+            locals,
         })
     }
 
@@ -75,6 +84,29 @@ impl<'a> Symbols<'a> {
         ensures { result.now ≡ self.now }
     {
         self.statements
+    }
+
+    // The arrays of the unit.
+    pub(crate) fn arrays(&self) -> &Arrays<'a>
+        ensures { result.now ≡ self.now }
+    {
+        &self.arrays
+    }
+
+    /// The names of variables and constants of the unit, each once, in the order of their first
+    /// occurrences.
+    pub fn names(&self) -> &IndexSet<Name>
+        ensures { result.now.keys ≡ variables.names_of self.now }
+    {
+        &self.names
+    }
+
+    /// The variables that an activation of the unit owns, in the same order: those that are neither dummy
+    /// arguments nor in COMMON (2.5).
+    pub fn locals(&self) -> &[Name]
+        ensures { result.now ≡ variables.locals_of self.now }
+    {
+        &self.locals
     }
 
     /// The type that a type statement gives a name (8.4).
@@ -99,17 +131,14 @@ impl<'a> Symbols<'a> {
     pub fn dimensions(&self, name: &Name) -> &'a [Dimension]
         ensures { result.now ≡ declarations.dimensions_of self.now name.now }
     {
-        match self.arrays.get(name) {
-            Some(declarator) => declarator.dimensions.as_slice(),
-            None => &[],
-        }
+        self.arrays.dimensions(name)
     }
 
     /// The name is an array's.
     pub fn is_array(&self, name: &Name) -> bool
         ensures { result ≡ declarations.is_array self.now name.now }
     {
-        !self.dimensions(name).is_empty()
+        self.arrays.is_array(name)
     }
 
     /// The dummy arguments of the unit, in order (15.6.1); a main program has none.

@@ -1,11 +1,12 @@
 //! Tables of names.
-ghost use Rattle.std.specs.Prelude.{◌≡◌, OnOk};
+ghost use Rattle.std.specs.Prelude.{◌≡◌, IfOk, OnOk};
 ghost use Rattle.std.specs.Option.{option_or};
 ghost use Rattle.indexmap.specs.IndexMap.{get};
 ghost use Rattle.indexmap.specs.IndexSet.{contains};
 ghost use Rattle.hep_source.specs.Names.{same_name};
 ghost use Rattle.hep_source.specs.declared.name.Name.{Name as PureName};
-ghost use Rattle.hep_symbols.specs.Tables.{name_eq, by_name, either};
+ghost use Rattle.hep_source.specs.Names.{name_eq};
+ghost use Rattle.hep_symbols.specs.Tables.{by_name, either};
 
 use hep_source::Name;
 use indexmap::{IndexMap, IndexSet};
@@ -26,11 +27,11 @@ pub(crate) fn note<V: Drop>(
     Ok(())
 }
 
-// Adds a name to a set.
-pub(crate) fn add(set: &mut IndexSet<Name>, name: Name) -> Result<(), AllocError>
-    ensures { OnOk result ((x : PureName) → contains name_eq set.new x
+// Adds a name to a set, and says whether it was there.
+pub(crate) fn add(set: &mut IndexSet<Name>, name: Name) -> Result<bool, AllocError>
+    ensures added { OnOk result ((x : PureName) → contains name_eq set.new x
         ≡ either (contains name_eq set.old x) (same_name x name)) }
+    ensures seen { IfOk result (λ was_there. was_there ≡ contains name_eq set.old name) }
 {
-    set.insert(name)?;
-    Ok(())
+    Ok(!set.insert(name)?)
 }

@@ -9,9 +9,9 @@ ghost use Rattle.hep_symbols.specs.Passes as passes;
 use crate::functions::Meaning;
 use crate::lists::{NameWithList, names_with_lists};
 use crate::program::ProgramSymbols;
-use crate::reported::{first_of_two, violation_by};
 use crate::symbols::Symbols;
 use hep_check::Violation;
+use hep_check::reported::{first_of_two, violation_by};
 use hep_source::{DataGroup, Form, Occurrence, Statement, Target};
 use std::alloc::{AllocError, Global};
 

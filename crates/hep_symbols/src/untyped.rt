@@ -6,9 +6,9 @@ ghost use Rattle.hep_check.specs.Violations.{first_of};
 ghost use Rattle.hep_symbols.specs.Passes as passes;
 
 use crate::occurrences::occurrences;
-use crate::reported::{first_of_two, violation_by};
 use crate::symbols::Symbols;
 use hep_check::Violation;
+use hep_check::reported::{first_of_two, violation_by};
 use hep_source::{Occurrence, Statement};
 use std::alloc::{AllocError, Global};
 

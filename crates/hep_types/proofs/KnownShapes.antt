@@ -10,7 +10,7 @@ use Rattle.hep_machine.specs.Declarations.{declarators_in, constants_in, declara
 use Rattle.hep_machine.specs.Shapes.{Bounds}
 use Rattle.hep_check.specs.Constants.{Parameters, shape_by_declarator, known_shape_from, with_parameters, has_bounds, are_bounds_open}
 use Rattle.hep_symbols.specs.Tables.{by_name, by_declarator, given}
-use Rattle.hep_symbols.proofs.NameTests.{same-turned}
+use Rattle.hep_source.proofs.NameTests.{same_name-turned}
 use Rattle.hep_types.specs.Shapes.{shape_or, shape_among}
 
 -- ---- tables
@@ -18,7 +18,7 @@ use Rattle.hep_types.specs.Shapes.{shape_or, shape_among}
 module _ (f : Declarator → Option Bounds) (x : Name) where
   -- a shape that a table gets
   pub noted : (d : Declarator) (o : Option Bounds) → is_nonempty d.dimensions ≡ true → o ≡ f d → by_name d.occurrence.name o x ≡ option_map f (by_declarator d x)
-  noted d o h e = ap (λ b. if b then Some o else None) (same-turned x d.occurrence.name) ∙ rw h (by (same_name d.occurrence.name x))
+  noted d o h e = ap (λ b. if b then Some o else None) (same_name-turned x d.occurrence.name) ∙ rw h (by (same_name d.occurrence.name x))
     where
       by : (b : Bool) → (if b then Some o else None) ≡ option_map f (given (b && true) d)
       by true = ap Some e

@@ -7,15 +7,15 @@ use Rattle.hep_source.specs.declared.name.Name.{Name}
 use Rattle.hep_source.specs.Names.{same_name, is_among}
 use Rattle.hep_source.specs.declared.value.Value.{Value}
 use Rattle.hep_machine.specs.Constants.{Constants, value_among}
-use Rattle.hep_symbols.specs.Tables.{name_eq}
-use Rattle.hep_symbols.proofs.NameTests.{same_is, same-turned, among-is}
+use Rattle.hep_source.specs.Names.{name_eq}
+use Rattle.hep_source.proofs.NameTests.{name_eq-is, same_name-turned, among-is}
 use Rattle.indexmap.specs.IndexMap.{insert_entry}
 use Rattle.indexmap.proofs.MapLemmas.{insert_entry-absent, absent_from_lookup}
 
 -- the value that a table gets
 pub value-found : (x : Name) (es : Constants) → lookup (name_eq x) es ≡ value_among es x
 value-found x [] = refl
-value-found x (e ∷ es) = ap (λ b. cond b (Some e.1) (lookup (name_eq x) es)) (same_is x e.0 ∙ same-turned x e.0) ∙ by (same_name e.0 x) (value-found x es)
+value-found x (e ∷ es) = ap (λ b. cond b (Some e.1) (lookup (name_eq x) es)) (name_eq-is x e.0 ∙ same_name-turned x e.0) ∙ by (same_name e.0 x) (value-found x es)
   where
     by : (b : Bool) → lookup (name_eq x) es ≡ value_among es x → cond b (Some e.1) (lookup (name_eq x) es) ≡ (if b then Some e.1 else value_among es x)
     by true h = refl

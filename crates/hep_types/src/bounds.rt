@@ -67,7 +67,7 @@ fn is_adjusted(
     ensures { IfOk result (λ is_adjusted. is_adjusted ≡ (conditions.is_adjusted symbols.now constants.now expression.now && conditions.is_adjustable symbols.now constants.now expression.now)) }
 {
     let mut found = Vec::new(alloc);
-    occurrences::add_in(symbols, &mut found, expression)?;
+    occurrences::add_in_expression(symbols, &mut found, expression)?;
     let mut names = Vec::new(alloc);
     lists::add_in(&mut names, expression)?;
     let is_adjustable = are_adjusting(symbols, constants, &found) && names.is_empty();

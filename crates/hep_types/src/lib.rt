@@ -1,4 +1,5 @@
-//! condition 302 that they are right.
+//! The types of expressions, the values of constants, and the bounds and shapes of arrays in a unit (X3.9-1978,
+//! sections 4 to 6 and 8.6), and the condition 302, that each of them is right.
 #![tactic(auto)]
 
 pub mod bounds;

@@ -124,7 +124,7 @@ pub fn is_constant_expression(
     ensures { IfOk result (λ is_constant. is_constant ≡ conditions.is_constant_expression symbols.now parameters.now expression.now) }
 {
     let mut found = Vec::new(alloc);
-    occurrences::add_in(symbols, &mut found, expression)?;
+    occurrences::add_in_expression(symbols, &mut found, expression)?;
     let mut names = Vec::new(alloc);
     lists::add_in(&mut names, expression)?;
     Ok(are_given(parameters, &found) && are_pure(symbols, &names))

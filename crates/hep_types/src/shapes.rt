@@ -5,7 +5,8 @@ ghost use Rattle.indexmap.specs.IndexMap.{get};
 ghost use Rattle.hep_source.specs.declared.name.Name.{Name as PureName};
 ghost use Rattle.hep_check.specs.Constants as conditions;
 ghost use Rattle.hep_symbols.specs.Statements.{rest_after};
-ghost use Rattle.hep_symbols.specs.Tables.{name_eq, by_name};
+ghost use Rattle.hep_source.specs.Names.{name_eq};
+ghost use Rattle.hep_symbols.specs.Tables.{by_name};
 ghost use Rattle.hep_types.specs.Shapes as tables;
 ghost use Rattle.hep_types.specs.Known.{known};
 
@@ -44,7 +45,8 @@ impl<'a> Model for Shapes<'a> {
     ghost use Rattle.hep_source.specs.declared.statement.Statement.{Statement as PureStatement};
     ghost use Rattle.hep_source.specs.contracts.expression.Expr as expression;
     ghost use Rattle.hep_check.specs.Constants.{known_shape};
-    ghost use Rattle.hep_symbols.specs.Tables.{name_eq, by_name};
+    ghost use Rattle.hep_source.specs.Names.{name_eq};
+    ghost use Rattle.hep_symbols.specs.Tables.{by_name};
     ghost use Rattle.hep_types.specs.Shapes.{shape_by};
 
     ghost Value = { List PureStatement };

@@ -13,9 +13,9 @@ use crate::forms::{is_form_typed, is_target_typed};
 use crate::parameters::{Parameters, is_constant_of};
 use crate::types::is_typed_as;
 use hep_check::Violation;
+use hep_check::reported::{lesser, line_when, reported};
 use hep_source::{DataGroup, Declarator, Expr, Statement, Target, ValueType};
 use hep_symbols::Symbols;
-use hep_symbols::reported::{lesser, line_when, reported};
 use std::alloc::{AllocError, Global};
 
 fn are_conditions(symbols: &Symbols, conditions: &[Expr]) -> bool

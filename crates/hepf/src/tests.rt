@@ -1,5 +1,6 @@
 //! Whole runs, with their bytes.
 
+mod commands;
 mod parts;
 mod shapes;
 mod texts;

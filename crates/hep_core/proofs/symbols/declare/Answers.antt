@@ -1,6 +1,6 @@
 use Rattle.std.proofs.Common.{◌∙◌, ap, sym, None, Some}
 use Rattle.std.specs.Prelude.{if◌then◌else◌}
-use Rattle.hep_core.proofs.NameTests.{inserted}
+use Rattle.hep_source.proofs.NameTests.{inserted}
 use Rattle.hep_core.proofs.symbols.declare.Goals as goal
 
 pub returns : goal.returns

@@ -5,7 +5,8 @@ use Rattle.hep_source.specs.Names.{with_names}
 use Rattle.hep_core.specs.Symbols.{names_in, names_in_items, first_real, Reports, untyped_in}
 use Rattle.hep_core.proofs.Lists.{ahead}
 use Rattle.hep_core.proofs.Names.{items_names}
-use Rattle.hep_core.proofs.Declared.{with_names-append, first_real-after, names-before}
+use Rattle.hep_source.proofs.NameTests.{with_names-append}
+use Rattle.hep_core.proofs.Declared.{first_real-after, names-before}
 use Rattle.hep_core.proofs.symbols.declare_items.Goals as goal
 use Rattle.hep_core.proofs.symbols.declare_items.Goals.{in-Expression+in_ok-declare_in-in-Expression, in-Characters}
 

@@ -3,7 +3,7 @@ use Rattle.std.specs.Option.{option_or}
 use Rattle.indexmap.specs.IndexMap.{get}
 use Rattle.hep_source.specs.declared.name.Name.{Name}
 use Rattle.hep_symbols.specs.Tables as tables
-use Rattle.hep_symbols.specs.Tables.{name_eq}
+use Rattle.hep_source.specs.Names.{name_eq}
 use Rattle.hep_symbols.proofs.specification.common_blocks.Given as goal
 
 abbrev pub invariant-loop-statement : goal.invariant-loop-statement

@@ -3,7 +3,8 @@ use Rattle.std.specs.Option.{option_or}
 use Rattle.indexmap.specs.IndexMap.{get}
 use Rattle.hep_source.specs.declared.name.Name.{Name}
 use Rattle.hep_machine.specs.Declarations.{declarator_among}
-use Rattle.hep_symbols.specs.Tables.{name_eq, seen}
+use Rattle.hep_source.specs.Names.{name_eq}
+use Rattle.hep_symbols.specs.Tables.{seen}
 use Rattle.hep_symbols.proofs.specification.note_arrays.Given as goal
 
 abbrev pub invariant-loop-declarator : goal.invariant-loop-declarator

@@ -3,7 +3,8 @@ use Rattle.std.specs.Option.{option_or}
 use Rattle.std.proofs.lemmas.List.{drop_more}
 use Rattle.indexmap.specs.IndexMap.{get}
 use Rattle.hep_machine.specs.Declarations.{declarator_among, entries_of_blocks}
-use Rattle.hep_symbols.specs.Tables.{name_eq, seen}
+use Rattle.hep_source.specs.Names.{name_eq}
+use Rattle.hep_symbols.specs.Tables.{seen}
 use Rattle.hep_symbols.proofs.Statements.{among-next}
 use Rattle.hep_symbols.proofs.specification.note_block_arrays.Goals as goal
 

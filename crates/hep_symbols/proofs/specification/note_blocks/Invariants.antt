@@ -3,7 +3,7 @@ use Rattle.std.specs.Option.{option_or}
 use Rattle.indexmap.specs.IndexMap.{get}
 use Rattle.hep_source.specs.declared.name.Name.{Name}
 use Rattle.hep_machine.specs.Declarations as declarations
-use Rattle.hep_symbols.specs.Tables.{name_eq}
+use Rattle.hep_source.specs.Names.{name_eq}
 use Rattle.hep_symbols.proofs.specification.note_blocks.Given as goal
 
 abbrev pub invariant-loop-block : goal.invariant-loop-block

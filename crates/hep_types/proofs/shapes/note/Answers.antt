@@ -1,6 +1,6 @@
 use Rattle.std.proofs.Common.{◌∙◌, sym}
 use Rattle.indexmap.specs.IndexMap.{get}
-use Rattle.hep_symbols.specs.Tables.{name_eq}
+use Rattle.hep_source.specs.Names.{name_eq}
 use Rattle.hep_symbols.proofs.Notes.{noted, kept, none-from-not}
 use Rattle.hep_types.proofs.shapes.note.Goals as goal
 

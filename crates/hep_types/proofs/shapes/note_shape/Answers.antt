@@ -2,7 +2,7 @@ use Rattle.std.proofs.Common.{◌∙◌, ap, sym, length}
 use Rattle.std.specs.Bool.{◌==◌}
 use Rattle.std.specs.Option.{option_or}
 use Rattle.indexmap.specs.IndexMap.{get}
-use Rattle.hep_symbols.specs.Tables.{name_eq}
+use Rattle.hep_source.specs.Names.{name_eq}
 use Rattle.hep_symbols.proofs.Notes.{not-empty}
 use Rattle.hep_types.specs.Bounds.{shape_given}
 use Rattle.hep_types.proofs.KnownShapes.{noted}

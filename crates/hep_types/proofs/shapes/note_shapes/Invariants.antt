@@ -3,7 +3,7 @@ use Rattle.std.specs.Option.{option_or}
 use Rattle.indexmap.specs.IndexMap.{get}
 use Rattle.hep_source.specs.declared.name.Name.{Name}
 use Rattle.hep_symbols.specs.Statements.{rest_after}
-use Rattle.hep_symbols.specs.Tables.{name_eq}
+use Rattle.hep_source.specs.Names.{name_eq}
 use Rattle.hep_types.specs.Shapes.{shape_among}
 use Rattle.hep_types.proofs.shapes.note_shapes.Given as goal
 

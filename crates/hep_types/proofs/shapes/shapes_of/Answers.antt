@@ -2,7 +2,7 @@ use Rattle.std.proofs.Common.{◌+◌, ◌∙◌, ap, drop}
 use Rattle.indexmap.specs.IndexMap.{get}
 use Rattle.hep_check.specs.Constants.{with_parameters}
 use Rattle.hep_symbols.specs.Statements.{rest_after}
-use Rattle.hep_symbols.specs.Tables.{name_eq}
+use Rattle.hep_source.specs.Names.{name_eq}
 use Rattle.hep_symbols.proofs.Firsts.{ahead}
 use Rattle.hep_types.proofs.KnownShapes.{next-shape}
 use Rattle.hep_types.proofs.shapes.shapes_of.Goals as goal

@@ -1,15 +1,35 @@
-use Rattle.std.proofs.Common.{◌∙◌}
-use Rattle.hep_symbols.proofs.Statements.{declarator-by-statements, dummies-by-header, block-by-statements, constant-by-statements}
+use Rattle.std.proofs.Common.{◌≡◌, ◌∙◌, ap}
+use Rattle.std.specs.List.{filter}
+use Rattle.indexmap.specs.IndexMap.{get}
+use Rattle.indexmap.specs.IndexSet.{contains}
+use Rattle.hep_source.specs.declared.name.Name.{Name}
+use Rattle.hep_source.specs.Names.{index_among}
+use Rattle.hep_source.specs.Units.{dummies_of}
+use Rattle.hep_machine.specs.Declarations.{common_block, is_constant_name}
+use Rattle.hep_machine.specs.Variables.{names_of}
+use Rattle.hep_source.specs.Names.{name_eq}
+use Rattle.hep_symbols.specs.Tables.{is_local_by}
+use Rattle.hep_symbols.proofs.Owned.{locals-owned}
+use Rattle.hep_symbols.proofs.Statements.{dummies-by-header, block-by-statements, constant-by-statements}
 use Rattle.hep_symbols.proofs.symbols.Symbols.new.Goals as goal
 
 pub invariant_of-result : goal.invariant_of-result
 invariant_of-result c =
     let unit = c.args.statements.now in
+    let numbered : (x : Name) → get name_eq c.in_ok-dummies.dummies x ≡ index_among x (dummies_of unit) = λ x. c.in_ok-dummies.ensures x ∙ dummies-by-header x unit in
+    let common : (x : Name) → get name_eq c.in_ok-blocks.blocks x ≡ common_block unit x = λ x. c.in_ok-blocks.ensures x ∙ block-by-statements x unit in
+    let constant : (x : Name) → contains name_eq c.in_ok-constants.constants x ≡ is_constant_name unit x = λ x. c.in_ok-constants.ensures x ∙ constant-by-statements x unit in
+    let names = c.in_ok-names.ensures ∙ ap names_of c.in_ok-arrays.ensures in
     record {
       typed = c.in_ok-types.ensures;
       lettered = c.implicit_types-letters.ensures;
-      bounded = λ x. c.in_ok-arrays.ensures x ∙ declarator-by-statements x unit;
-      numbered = λ x. c.in_ok-dummies.ensures x ∙ dummies-by-header x unit;
-      common = λ x. c.in_ok-blocks.ensures x ∙ block-by-statements x unit;
-      constant = λ x. c.in_ok-constants.ensures x ∙ constant-by-statements x unit;
+      bounded = c.in_ok-arrays.ensures;
+      numbered = numbered;
+      common = common;
+      constant = constant;
+      named = names;
+      owned =
+          c.in_ok-locals.ensures
+          ∙ (ap (filter (is_local_by (get name_eq c.in_ok-dummies.dummies) (get name_eq c.in_ok-blocks.blocks) (contains name_eq c.in_ok-constants.constants))) c.as_slice.ensures.keys
+          ∙ locals-owned unit (get name_eq c.in_ok-dummies.dummies) (get name_eq c.in_ok-blocks.blocks) (contains name_eq c.in_ok-constants.constants) c.in_ok-names.names.keys numbered common constant names);
     }

@@ -1,0 +1,15 @@
+use Rattle.std.proofs.Common.{◌≡◌, ◌&&◌, ap, sym, ◌∙◌}
+use Rattle.hep_source.specs.Tree.{with_list, trees_of}
+use Rattle.hep_machine.specs.Declarations.{is_array}
+use Rattle.hep_check.specs.Arguments.{actual_class, is_asynchronous_scalar}
+use Rattle.hep_calls.proofs.Passes.{element_given}
+use Rattle.hep_calls.proofs.state.is_asynchronous_scalar.Goals as goal
+
+pub returns-else-occurrence : goal.returns-else-occurrence
+returns-else-occurrence c =
+    let unit = c.args.symbols.now in
+    let p = c.in-WithList.occurrence in
+    let ts = trees_of c.in-WithList.field-1.items in
+    let tree : c.args.actual.now ≡ with_list p ts = cc in
+    let plain = c.if-occurrence.false in
+    plain ∙ (sym (ap (λ b. b && is_array unit p.name) plain) ∙ (sym (element_given unit p ts) ∙ sym (ap (λ t. is_asynchronous_scalar (actual_class unit t)) tree)))

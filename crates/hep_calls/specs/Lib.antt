@@ -1,0 +1,2 @@
+pub mod Actuals
+pub mod Passes

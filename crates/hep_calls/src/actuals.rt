@@ -1,0 +1,68 @@
+//! Actual arguments (X3.9-1978, 15.9.2).
+ghost use Rattle.std.specs.Prelude.{◌≡◌};
+ghost use Rattle.hep_check.specs.Arguments as conditions;
+ghost use Rattle.hep_calls.specs.Actuals.{class};
+
+use hep_source::{Expr, Name, Node, ValueType};
+use hep_symbols::{Meaning, Symbols};
+use hep_types::{KnownType, type_of_tree};
+
+/// What an actual argument is (15.9.2).
+#[derive(Clone, Copy, Debug, PartialEq, Eq)]
+pub enum ActualClass {
+    /// An expression; the name of a constant is one.
+    Value(KnownType),
+    /// A variable or an element of an array.
+    Variable {
+        asynchronous: bool,
+        is_element: bool,
+        value_type: Option<ValueType>,
+    },
+    WholeArray {
+        asynchronous: bool,
+        value_type: Option<ValueType>,
+    },
+    /// A name with a list that is no array's and no function's, so that it is open what it is.
+    UnknownList,
+}
+
+fn class_of_name(symbols: &Symbols, name: &Name) -> ActualClass
+    ensures { class result ≡ conditions.given_name symbols.now name.now }
+{
+    let value_type = symbols.type_of(name);
+    if symbols.is_constant_name(name) {
+        ActualClass::Value(Some(value_type))
+    } else if symbols.is_array(name) {
+        ActualClass::WholeArray {
+            asynchronous: name.asynchronous,
+            value_type,
+        }
+    } else {
+        ActualClass::Variable {
+            asynchronous: name.asynchronous,
+            is_element: false,
+            value_type,
+        }
+    }
+}
+
+/// What an actual argument of a unit is.
+pub fn actual_class(symbols: &Symbols, actual: &Expr) -> ActualClass
+    ensures { class result ≡ conditions.actual_class symbols.now actual.now }
+{
+    match &actual.node {
+        Node::Occurrence(occurrence) => class_of_name(symbols, &occurrence.name),
+        Node::WithList(occurrence, _) => match symbols.listed_meaning(&occurrence.name) {
+            Meaning::Element => ActualClass::Variable {
+                asynchronous: occurrence.name.asynchronous,
+                is_element: true,
+                value_type: symbols.type_of(&occurrence.name),
+            },
+            Meaning::Pure(_) | Meaning::State(_) => {
+                ActualClass::Value(type_of_tree(symbols, actual))
+            }
+            Meaning::Unknown => ActualClass::UnknownList,
+        },
+        _ => ActualClass::Value(type_of_tree(symbols, actual)),
+    }
+}

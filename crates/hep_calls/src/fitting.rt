@@ -1,0 +1,115 @@
+//! Actual arguments for the dummy arguments of a subroutine (X3.9-1978, 15.9.3).
+ghost use Rattle.std.specs.Prelude.{◌≡◌, ◌&&◌};
+ghost use Rattle.std.specs.List.{list_all};
+ghost use Rattle.hep_source.specs.Names.{same_logical};
+ghost use Rattle.hep_source.specs.Units.{names_of_occurrences};
+ghost use Rattle.hep_check.specs.Arguments as conditions;
+ghost use Rattle.hep_check.specs.Statements as statements;
+ghost use Rattle.hep_check.specs.Types as types;
+ghost use Rattle.hep_symbols.specs.Passes.{unit_called};
+ghost use Rattle.hep_calls.specs.Actuals.{class};
+ghost use Rattle.hep_calls.specs.Passes as passes;
+
+use crate::actuals::{ActualClass, actual_class};
+use hep_source::{Expr, Form, Name, Occurrence, ValueType};
+use hep_symbols::{ProgramSymbols, Symbols};
+use hep_types::types::{agree, same_declared};
+
+// Both are asynchronous or neither is, and both have one type.
+fn are_alike(
+    asynchronous: bool,
+    value_type: Option<ValueType>,
+    is_asynchronous: bool,
+    given_type: Option<ValueType>,
+) -> bool
+    ensures { result ≡ (same_logical asynchronous is_asynchronous && types.same_declared value_type given_type) }
+{
+    asynchronous == is_asynchronous && same_declared(value_type, given_type)
+}
+
+// A scalar dummy argument of this type takes the actual argument.
+fn fits_scalar(asynchronous: bool, value_type: Option<ValueType>, actual: ActualClass) -> bool
+    ensures { result ≡ conditions.fits_scalar asynchronous value_type (class actual) }
+{
+    match actual {
+        ActualClass::Value(known_type) => !asynchronous && agree(known_type, Some(value_type)),
+        ActualClass::Variable {
+            asynchronous: is_asynchronous,
+            value_type: given_type,
+            ..
+        } => are_alike(asynchronous, value_type, is_asynchronous, given_type),
+        ActualClass::WholeArray { .. } => false,
+        ActualClass::UnknownList => true,
+    }
+}
+
+// An array dummy argument of this type takes the actual argument: an array or an element of one.
+fn fits_array(asynchronous: bool, value_type: Option<ValueType>, actual: ActualClass) -> bool
+    ensures { result ≡ conditions.fits_array asynchronous value_type (class actual) }
+{
+    match actual {
+        ActualClass::Variable {
+            asynchronous: is_asynchronous,
+            is_element,
+            value_type: given_type,
+        } => is_element && are_alike(asynchronous, value_type, is_asynchronous, given_type),
+        ActualClass::WholeArray {
+            asynchronous: is_asynchronous,
+            value_type: given_type,
+        } => are_alike(asynchronous, value_type, is_asynchronous, given_type),
+        ActualClass::Value(_) | ActualClass::UnknownList => false,
+    }
+}
+
+// A dummy argument takes the actual argument, by the table of the unit that is called.
+fn fits_dummy(called: &Symbols, dummy: &Name, actual: ActualClass) -> bool
+    ensures { result ≡ conditions.fits_dummy called.now dummy.now (class actual) }
+{
+    let value_type = called.type_of(dummy);
+    if called.is_array(dummy) {
+        fits_array(dummy.asynchronous, value_type, actual)
+    } else {
+        fits_scalar(dummy.asynchronous, value_type, actual)
+    }
+}
+
+// The dummy arguments of a subroutine take the actual arguments of a unit, as far as there are both.
+fn fit_dummies(
+    called: &Symbols,
+    dummies: &[Occurrence],
+    symbols: &Symbols,
+    actuals: &[Expr],
+) -> bool
+    ensures { result ≡ conditions.fit_dummies called.now (names_of_occurrences dummies.now) (conditions.all_given symbols.now actuals.now) }
+{
+    for (dummy, actual) in dummies.iter().zip(actuals) {
+        if !fits_dummy(called, &dummy.name, actual_class(symbols, actual)) {
+            return false;
+        }
+    }
+    true
+}
+
+// A name that no subroutine has is reported by another condition.
+#[tactic(auto, using(crate::proofs::Passes::fits_unit_called))]
+fn fits_call(program: &ProgramSymbols, symbols: &Symbols, name: &Name, actuals: &[Expr]) -> bool
+    ensures { result ≡ passes.fits_unit symbols.now (unit_called program.now name.now) actuals.now }
+{
+    match program.called(name) {
+        Some(called) => fit_dummies(called, called.dummies(), symbols, actuals),
+        None => true,
+    }
+}
+
+// What a statement calls or creates takes its actual arguments.
+#[tactic(auto, using(crate::proofs::Passes::fits_called))]
+pub(crate) fn are_calls_fitting(program: &ProgramSymbols, symbols: &Symbols, form: &Form) -> bool
+    ensures { result ≡ list_all (conditions.fits_call program.now symbols.now) (statements.calls_in form.now) }
+{
+    match form {
+        Form::Call(occurrence, actuals) | Form::Create(occurrence, actuals) => {
+            fits_call(program, symbols, &occurrence.name, actuals.as_slice())
+        }
+        _ => true,
+    }
+}

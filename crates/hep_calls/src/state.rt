@@ -1,0 +1,89 @@
+//! What FULL, EMPTY, VALUE, SETE, WAITF and PURGE are given (docs/LANGUAGE.md, 8 and 9).
+ghost use Rattle.std.specs.Prelude.{◌≡◌, map};
+ghost use Rattle.std.specs.List.{list_all};
+ghost use Rattle.hep_source.specs.Tree.{trees_of};
+ghost use Rattle.hep_check.specs.Arguments as conditions;
+ghost use Rattle.hep_check.specs.Statements as statements;
+ghost use Rattle.hep_symbols.specs.Meanings.{meaning};
+ghost use Rattle.hep_symbols.specs.Lists.{listed};
+
+use hep_source::{Expr, Form, Node, Target};
+use hep_symbols::{Meaning, NameWithList, Symbols};
+
+// An asynchronous variable, or an element of an asynchronous array. Its whole class isn't asked for:
+// that has a type, which nothing here needs.
+#[tactic(auto, using(crate::proofs::Passes::element_given))]
+fn is_asynchronous_scalar(symbols: &Symbols, actual: &Expr) -> bool
+    ensures { result ≡ conditions.is_asynchronous_scalar (conditions.actual_class symbols.now actual.now) }
+{
+    match &actual.node {
+        Node::Occurrence(occurrence) => {
+            let name = &occurrence.name;
+            name.asynchronous && !symbols.is_constant_name(name) && !symbols.is_array(name)
+        }
+        Node::WithList(occurrence, _) => {
+            occurrence.name.asynchronous && symbols.is_array(&occurrence.name)
+        }
+        _ => false,
+    }
+}
+
+fn is_test_typed(symbols: &Symbols, listed: Meaning, arguments: &[Expr]) -> bool
+    ensures { result ≡ conditions.is_test_typed symbols.now (meaning listed) (trees_of arguments.now) }
+{
+    match (listed, arguments) {
+        (Meaning::State(_), [tested, ..]) => is_asynchronous_scalar(symbols, tested),
+        _ => true,
+    }
+}
+
+// What FULL, EMPTY, VALUE, SETE and WAITF are given is an asynchronous scalar.
+fn is_reference_given(symbols: &Symbols, reference: &NameWithList) -> bool
+    ensures { result ≡ conditions.is_reference_given symbols.now (listed reference.now) }
+{
+    is_test_typed(
+        symbols,
+        symbols.listed_meaning(&reference.occurrence.name),
+        reference.arguments,
+    )
+}
+
+pub(crate) fn are_references_given(symbols: &Symbols, references: &[NameWithList]) -> bool
+    ensures { result ≡ list_all (conditions.is_reference_given symbols.now) (map listed references.now) }
+{
+    for reference in references {
+        if !is_reference_given(symbols, reference) {
+            return false;
+        }
+    }
+    true
+}
+
+// What is purged is an asynchronous variable, array or element.
+fn is_purgeable(symbols: &Symbols, target: &Target) -> bool
+    ensures { result ≡ conditions.is_purgeable symbols.now target.now }
+{
+    let name = &target.occurrence.name;
+    name.asynchronous && (target.subscripts.as_slice().is_empty() || symbols.is_array(name))
+}
+
+fn are_purgeable(symbols: &Symbols, targets: &[Target]) -> bool
+    ensures { result ≡ list_all (conditions.is_purgeable symbols.now) targets.now }
+{
+    for target in targets {
+        if !is_purgeable(symbols, target) {
+            return false;
+        }
+    }
+    true
+}
+
+// A statement purges nothing else.
+pub(crate) fn are_targets_purgeable(symbols: &Symbols, form: &Form) -> bool
+    ensures { result ≡ list_all (conditions.is_purgeable symbols.now) (statements.targets_purged form.now) }
+{
+    match form {
+        Form::Purge(targets) => are_purgeable(symbols, targets.as_slice()),
+        _ => true,
+    }
+}

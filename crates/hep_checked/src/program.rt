@@ -1,0 +1,61 @@
+//! The first violation in a program.
+ghost use Rattle.std.specs.Prelude.{◌≡◌, IfOk};
+ghost use Rattle.std.specs.List.{flat_map};
+ghost use Rattle.hep_check.specs.Conditions as conditions;
+ghost use Rattle.hep_check.specs.Names.{ambiguous_in};
+ghost use Rattle.hep_check.specs.Violations.{first_of};
+
+use crate::unit::{first_found, unit_violation};
+use hep_check::Violation;
+use hep_check::reported::first_of_two;
+use hep_source::Program;
+use hep_storage::common_violation;
+use hep_symbols::ProgramSymbols;
+use hep_uses::{ambiguous_unit_violation, ambiguous_violation};
+use std::alloc::{AllocError, Global};
+
+// The first violation of the conditions on units by themselves.
+fn units_violation(alloc: Global, program: &ProgramSymbols) -> Result<Option<Violation>, AllocError>
+    ensures { IfOk result (λ violation. violation ≡ first_of (flat_map (conditions.violations_in program.now) program.now)) }
+{
+    let mut first = None;
+    for symbols in program.units() {
+        first = first_of_two(first, unit_violation(alloc, program, symbols)?);
+    }
+    Ok(first)
+}
+
+// The first violation of 309 in the units.
+fn ambiguity_violation(
+    alloc: Global,
+    program: &ProgramSymbols,
+) -> Result<Option<Violation>, AllocError>
+    ensures { IfOk result (λ violation. violation ≡ first_of (flat_map ambiguous_in program.now)) }
+{
+    let mut first = None;
+    for symbols in program.units() {
+        first = first_of_two(first, ambiguous_violation(alloc, symbols)?);
+    }
+    Ok(first)
+}
+
+/// The first violation in a program, by line, then by number, then by the position of the name.
+///
+/// # Errors
+///
+/// Only where memory was refused.
+pub(crate) fn first_violation(
+    alloc: Global,
+    program: &Program,
+) -> Result<Option<Violation>, AllocError>
+    ensures { IfOk result (λ violation. violation ≡ conditions.first_violation program.now) }
+{
+    let program = ProgramSymbols::new(alloc, program.as_slice())?;
+    let found = [
+        units_violation(alloc, &program)?,
+        common_violation(alloc, &program)?,
+        ambiguous_unit_violation(alloc, &program)?,
+        ambiguity_violation(alloc, &program)?,
+    ];
+    Ok(first_found(&found))
+}

@@ -1,0 +1,188 @@
+-- Tables of the blocks of a unit, list by list of COMMON and statement by statement.
+use Rattle.std.proofs.Common.{◌≡◌, ◌<◌, ◌≤◌, ◌+◌, ℕ, Bool, true, false, ◌||◌, Option, Some, None, List, [], ◌∷◌, ◌++◌, take, length, get_or, append-nil, append_assoc, refl, ap, sym, subst, ◌∙◌, cond, if◌then◌else◌}
+use Rattle.std.specs.List.{list_any}
+use Rattle.std.specs.Option.{option_eq, option_map}
+use Rattle.std.proofs.lemmas.Grind.{flat_map-append}
+use Rattle.std.proofs.lemmas.List.{take_more, take_all}
+use Rattle.indexmap.specs.IndexSet.{contains}
+use Rattle.hep_source.specs.declared.declaration.CommonBlock.{CommonBlock}
+use Rattle.hep_source.specs.declared.declaration.Declarator.{Declarator}
+use Rattle.hep_source.specs.declared.name.Name.{Name}
+use Rattle.hep_source.specs.declared.statement.Statement.{Statement}
+use Rattle.hep_source.specs.Names.{name_eq}
+use Rattle.hep_source.proofs.NameTests.{name_eq-is}
+use Rattle.hep_machine.specs.Declarations.{BlockName, same_block, block_of, blocks_in, blocks_of_unit, names_in_block, entries_under, names_declared}
+use Rattle.hep_check.specs.Common as conditions
+use Rattle.hep_storage.specs.Blocks.{KnownPlaces, Holds, Has, known, no_run, block, block_in, places_of_names, names_under, later_line}
+use Rattle.hep_storage.specs.declared.blocks.Contents.{Contents}
+use Rattle.hep_storage.proofs.Pairs.{block-equal}
+
+-- ---- the test that a table of blocks makes is the definitions' test
+
+block_eq-is : (k b : BlockName) → option_eq name_eq k b ≡ same_block k b
+block_eq-is None None = refl
+block_eq-is None (Some y) = refl
+block_eq-is (Some x) None = refl
+block_eq-is (Some x) (Some y) = name_eq-is x y
+
+pub changed : {A : Type 0} (k b : BlockName) (new old : A) → cond (option_eq name_eq k b) new old ≡ (if same_block k b then new else old)
+changed k b new old = ap (λ t. cond t new old) (block_eq-is k b) ∙ by (same_block k b)
+  where
+    by : (t : Bool) → cond t new old ≡ (if t then new else old)
+    by true = refl
+    by false = refl
+
+pub other-kept : {A : Type 0} (k b : BlockName) (new old : A) → same_block k b ≡ false → cond (option_eq name_eq k b) new old ≡ old
+other-kept k b new old h = changed k b new old ∙ ap (λ t. if t then new else old) h
+
+-- ---- lists of COMMON
+
+names-append : (ds es : List Declarator) → names_declared (ds ++ es) ≡ names_declared ds ++ names_declared es
+names-append [] es = refl
+names-append (d ∷ ds) es = ap (λ xs. d.occurrence.name ∷ xs) (names-append ds es)
+
+pub names-next : (ds : List Declarator) (i : ℕ) (d e : Declarator) (xs : List Name) → i < length ds → e ≡ get_or ds i d
+    → (xs ++ names_declared (take i ds)) ++ e.occurrence.name ∷ [] ≡ xs ++ names_declared (take (i + 1) ds)
+names-next ds i d e xs lt is =
+    append_assoc xs (names_declared (take i ds)) (e.occurrence.name ∷ [])
+    ∙ ap (λ ys. xs ++ ys) (sym (ap names_declared (take_more ds i d lt ∙ ap (λ y. take i ds ++ y ∷ []) (sym is)) ∙ names-append (take i ds) (e ∷ [])))
+
+-- one name more of a list
+pub name-turn : (unit : List Statement) (b : BlockName) (ds : List Declarator) (i : ℕ) (d e : Declarator) (xs : List Name) (c : Contents) → i < length ds → e ≡ get_or ds i d
+    → Holds unit b ((xs ++ names_declared (take i ds)) ++ e.occurrence.name ∷ []) c → Holds unit b (xs ++ names_declared (take (i + 1) ds)) c
+name-turn unit b ds i d e xs c lt is h = subst (λ ys. Holds unit b ys c) (names-next ds i d e xs lt is) h
+
+pub name-start : (unit : List Statement) (b : BlockName) (xs : List Name) (c : Contents) → Holds unit b xs c → Holds unit b (xs ++ []) c
+name-start unit b xs c h = subst (λ ys. Holds unit b ys c) (sym (append-nil xs)) h
+
+pub names-whole : (unit : List Statement) (b : BlockName) (ds : List Declarator) (i : ℕ) (xs : List Name) (c : Contents) → length ds ≤ i
+    → Holds unit b (xs ++ names_declared (take i ds)) c → Holds unit b (xs ++ names_declared ds) c
+names-whole unit b ds i xs c k h = subst (λ ys. Holds unit b (xs ++ names_declared ys) c) (take_all i ds k) h
+
+under-append : (b : BlockName) (cs ds : List CommonBlock) → entries_under b (cs ++ ds) ≡ entries_under b cs ++ entries_under b ds
+under-append b [] ds = refl
+under-append b (c ∷ cs) ds = by (same_block (block_of c) b) (under-append b cs ds)
+  where
+    by : (t : Bool) → entries_under b (cs ++ ds) ≡ entries_under b cs ++ entries_under b ds
+        → (if t then c.entries ++ entries_under b (cs ++ ds) else entries_under b (cs ++ ds)) ≡ (if t then c.entries ++ entries_under b cs else entries_under b cs) ++ entries_under b ds
+    by true h = ap (λ es. c.entries ++ es) h ∙ sym (append_assoc c.entries (entries_under b cs) (entries_under b ds))
+    by false h = h
+
+pub names_under-append : (b : BlockName) (cs ds : List CommonBlock) → names_under b (cs ++ ds) ≡ names_under b cs ++ names_under b ds
+names_under-append b cs ds = ap names_declared (under-append b cs ds) ∙ names-append (entries_under b cs) (entries_under b ds)
+
+abbrev is_named : BlockName → List CommonBlock → Bool
+is_named b cs = list_any (λ (c : CommonBlock). same_block (block_of c) b) cs
+
+later-append : (b : BlockName) (before : Option ℕ) (line : ℕ) (cs ds : List CommonBlock) → later_line b (later_line b before line cs) line ds ≡ later_line b before line (cs ++ ds)
+later-append b before line [] ds = refl
+later-append b before line (c ∷ cs) ds = by (same_block (block_of c) b) (later-append b before line cs ds)
+  where
+    again : (t : Bool) → (if t then Some line else Some line) ≡ Some line
+    again true = refl
+    again false = refl
+
+    by : (t : Bool) → later_line b (later_line b before line cs) line ds ≡ later_line b before line (cs ++ ds)
+        → later_line b (if t || is_named b cs then Some line else before) line ds ≡ (if t || is_named b (cs ++ ds) then Some line else before)
+    by true h = again (is_named b ds)
+    by false h = h
+
+-- one list more
+pub list-turn : (unit : List Statement) (b : BlockName) (lists : List CommonBlock) (i : ℕ) (d c : CommonBlock) (xs : List Name) (before : Option ℕ) (line : ℕ) (new : Option Contents) → i < length lists → c ≡ get_or lists i d
+    → Has unit b ((xs ++ names_under b (take i lists)) ++ names_under b (c ∷ [])) (later_line b (later_line b before line (take i lists)) line (c ∷ [])) new
+    → Has unit b (xs ++ names_under b (take (i + 1) lists)) (later_line b before line (take (i + 1) lists)) new
+list-turn unit b lists i d c xs before line new lt is h =
+    let e : take (i + 1) lists ≡ take i lists ++ c ∷ [] = take_more lists i d lt ∙ ap (λ y. take i lists ++ y ∷ []) (sym is) in
+    subst (λ ys. Has unit b ys (later_line b before line (take (i + 1) lists)) new)
+    (append_assoc xs (names_under b (take i lists)) (names_under b (c ∷ [])) ∙ ap (λ ys. xs ++ ys) (sym (ap (names_under b) e ∙ names_under-append b (take i lists) (c ∷ []))))
+    (subst (λ l. Has unit b ((xs ++ names_under b (take i lists)) ++ names_under b (c ∷ [])) l new)
+    (later-append b before line (take i lists) (c ∷ []) ∙ sym (ap (later_line b before line) e)) h)
+
+pub lists-whole : (unit : List Statement) (b : BlockName) (lists : List CommonBlock) (i : ℕ) (xs : List Name) (before : Option ℕ) (line : ℕ) (new : Option Contents) → length lists ≤ i
+    → Has unit b (xs ++ names_under b (take i lists)) (later_line b before line (take i lists)) new → Has unit b (xs ++ names_under b lists) (later_line b before line lists) new
+lists-whole unit b lists i xs before line new k h = subst (λ cs. Has unit b (xs ++ names_under b cs) (later_line b before line cs) new) (take_all i lists k) h
+
+pub list-start : (unit : List Statement) (b : BlockName) (xs : List Name) (before : Option ℕ) (new : Option Contents) → Has unit b xs before new → Has unit b (xs ++ []) before new
+list-start unit b xs before new h = subst (λ ys. Has unit b ys before new) (sym (append-nil xs)) h
+
+-- ---- statements
+
+blocks-append : (us vs : List Statement) → blocks_of_unit (us ++ vs) ≡ blocks_of_unit us ++ blocks_of_unit vs
+blocks-append us vs = flat_map-append (λ (s : Statement). blocks_in s.form) us vs
+
+last-next : (b : BlockName) (us : List Statement) (s : Statement) → conditions.last_line b (us ++ s ∷ []) ≡ later_line b (conditions.last_line b us) s.line (blocks_in s.form)
+last-next b [] s = refl
+last-next b (u ∷ us) s = by (conditions.names_block b s) refl (conditions.last_line b us) refl (last-next b us s)
+  where
+    by : (t : Bool) → conditions.names_block b s ≡ t → (l : Option ℕ) → conditions.last_line b us ≡ l
+        → conditions.last_line b (us ++ s ∷ []) ≡ later_line b (conditions.last_line b us) s.line (blocks_in s.form)
+        → conditions.last_line b (u ∷ (us ++ s ∷ [])) ≡ later_line b (conditions.last_line b (u ∷ us)) s.line (blocks_in s.form)
+    by true e l f h = rw (h, e) refl
+    by false e None f h = rw (h, e, f) refl
+    by false e (Some k) f h = rw (h, e, f) refl
+
+-- one statement more
+pub statement-turn : (whole : List Statement) (b : BlockName) (items unit : List Statement) (i : ℕ) (d s : Statement) (lists : List CommonBlock) (new : Option Contents)
+    → items ≡ unit → i < length items → s ≡ get_or items i d → lists ≡ blocks_in s.form
+    → Has whole b (names_in_block (take i unit) b ++ names_under b lists) (later_line b (conditions.last_line b (take i unit)) s.line lists) new
+    → Has whole b (names_in_block (take (i + 1) unit) b) (conditions.last_line b (take (i + 1) unit)) new
+statement-turn whole b items unit i d s lists new same lt is q h =
+    let more : i < length unit = subst (λ us. i < length us) same lt in
+    let e : take (i + 1) unit ≡ take i unit ++ s ∷ [] = take_more unit i d more ∙ ap (λ y. take i unit ++ y ∷ []) (sym (is ∙ ap (λ us. get_or us i d) same)) in
+    subst (λ ys. Has whole b ys (conditions.last_line b (take (i + 1) unit)) new)
+    (sym
+    (ap (λ us. names_in_block us b) e
+    ∙ (ap (names_under b) (blocks-append (take i unit) (s ∷ []))
+    ∙ (names_under-append b (blocks_of_unit (take i unit)) (blocks_in s.form ++ [])
+    ∙ ap (λ cs. names_in_block (take i unit) b ++ names_under b cs) (append-nil (blocks_in s.form))))))
+    (subst (λ l. Has whole b (names_in_block (take i unit) b ++ names_under b (blocks_in s.form)) l new) (sym (ap (conditions.last_line b) e ∙ last-next b (take i unit) s))
+    (subst (λ cs. Has whole b (names_in_block (take i unit) b ++ names_under b cs) (later_line b (conditions.last_line b (take i unit)) s.line cs) new) q h))
+
+-- what a table has at the end
+pub table-whole : (unit : List Statement) (b : BlockName) (o : Option Contents) → Has unit b (names_in_block unit b) (conditions.last_line b unit) o → option_map block o ≡ block_in unit b
+table-whole unit b None h = sym (ap (option_map (λ line. record { list = places_of_names unit b (names_in_block unit b); line = line })) h.1)
+table-whole unit b (Some c) h =
+    ap (λ (k : KnownPlaces). Some (record { list = k; line = c.line })) h.0.0
+    ∙ sym (ap (option_map (λ line. record { list = places_of_names unit b (names_in_block unit b); line = line })) h.1)
+
+-- ---- one list of COMMON
+
+pub holds-new : (unit : List Statement) (b : BlockName) (xs : List Name) (c : Contents) → known c.known ≡ no_run → ((x : Name) → contains name_eq c.names x ≡ false) → xs ≡ [] → Holds unit b xs c
+holds-new unit b xs c h k e = subst (λ ys. Holds unit b ys c) (sym e) (h, k)
+
+-- a list that names this block, and one that names another
+module _ (unit : List Statement) (list : CommonBlock) (b : BlockName) (xs : List Name) (before : Option ℕ) (line : ℕ) where
+  pub here-noted : (c : Contents) → same_block (block_of list) b ≡ true → c.line ≡ line → Holds unit (block_of list) (xs ++ names_declared list.entries) c
+      → Has unit b (xs ++ names_under b (list ∷ [])) (later_line b before line (list ∷ [])) (Some c)
+  here-noted c e l h =
+      rw e (subst (λ ys. Holds unit b (xs ++ names_declared ys) c) (sym (append-nil list.entries)) (subst (λ k. Holds unit k (xs ++ names_declared list.entries) c) (block-equal (block_of list) b e) h), ap Some (sym l))
+
+  pub other-noted : (o : Option Contents) → same_block (block_of list) b ≡ false → Has unit b xs before o → Has unit b (xs ++ names_under b (list ∷ [])) (later_line b before line (list ∷ [])) o
+  other-noted o e h = rw e (list-start unit b xs before o h)
+
+-- ---- the whole
+
+pub unit-whole : (unit : List Statement) (b : BlockName) (i : ℕ) (o : Option Contents) → length unit ≤ i
+    → Has unit b (names_in_block (take i unit) b) (conditions.last_line b (take i unit)) o → option_map block o ≡ block_in unit b
+unit-whole unit b i o k h = table-whole unit b o (subst (λ us. Has unit b (names_in_block us b) (conditions.last_line b us) o) (take_all i unit k) h)
+
+-- a list of COMMON, whichever block it names
+pub list-noted : (unit : List Statement) (list : CommonBlock) (k : BlockName) (names : List Declarator) (line : ℕ) (old after new : BlockName → Option Contents) (taken c : Contents)
+    → k ≡ block_of list → names ≡ list.entries
+    → ((xs : List Name) (before : Option ℕ) → Has unit k xs before (old k) → Holds unit k xs taken)
+    → ((xs : List Name) → Holds unit k xs taken → Holds unit k (xs ++ names_declared names) c)
+    → c.line ≡ line → ((b : BlockName) → same_block k b ≡ false → after b ≡ old b)
+    → ((b : BlockName) → new b ≡ cond (option_eq name_eq k b) (Some c) (after b))
+    → (b : BlockName) (xs : List Name) (before : Option ℕ) → Has unit b xs before (old b) → Has unit b (xs ++ names_under b (list ∷ [])) (later_line b before line (list ∷ [])) (new b)
+list-noted unit list k names line old after new taken c is same had adds at others put b xs before h = by (same_block k b) refl
+  where
+    by : (t : Bool) → same_block k b ≡ t → Has unit b (xs ++ names_under b (list ∷ [])) (later_line b before line (list ∷ [])) (new b)
+    by true e =
+        let f : k ≡ b = block-equal k b e in
+        let g : Holds unit k (xs ++ names_declared names) c = adds xs (had xs before (subst (λ j. Has unit j xs before (old j)) (sym f) h)) in
+        subst (Has unit b (xs ++ names_under b (list ∷ [])) (later_line b before line (list ∷ []))) (sym (put b ∙ (changed k b (Some c) (after b) ∙ ap (λ t. if t then Some c else after b) e)))
+        (here-noted unit list b xs before line c (sym (ap (λ j. same_block j b) is) ∙ e) at
+        (subst (λ j. Holds unit j (xs ++ names_declared list.entries) c) is (subst (λ ds. Holds unit k (xs ++ names_declared ds) c) same g)))
+    by false e =
+        subst (Has unit b (xs ++ names_under b (list ∷ [])) (later_line b before line (list ∷ []))) (sym (put b ∙ (other-kept k b (Some c) (after b) e ∙ others b e)))
+        (other-noted unit list b xs before line (old b) (sym (ap (λ j. same_block j b) is) ∙ e) h)

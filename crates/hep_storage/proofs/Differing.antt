@@ -1,0 +1,216 @@
+-- Pairs of units that have a block otherwise, against what the units before have in common.
+use Rattle.std.proofs.Common.{◌≡◌, ℕ, zero, suc, ◌+◌, Bool, true, false, not, ◌&&◌, ◌||◌, nat_eq, Option, Some, None, is_some, List, [], ◌∷◌, map, length, refl, ap, sym, ◌∙◌, arith, if◌then◌else◌}
+use Rattle.std.specs.List.{flat_map}
+use Rattle.std.proofs.lemmas.Bool.Decides.{nat_tests}
+use Rattle.hep_source.specs.declared.statement.Statement.{Statement}
+use Rattle.hep_source.specs.Units.{Units}
+use Rattle.hep_machine.specs.Data.{Repeated}
+use Rattle.hep_machine.specs.Declarations.{BlockName, blocks_of}
+use Rattle.hep_check.specs.Common as conditions
+use Rattle.hep_check.specs.Known.{Known as Items, count_of_items, holds_at_each_place}
+use Rattle.hep_check.specs.Reported.{least_line, line_when, least_line_of, reported}
+use Rattle.hep_check.specs.Violations.{first_of}
+use Rattle.hep_check.proofs.Lines.{least_line-or, least_line_of-same, least_line_of-both, least_line_of-turned, reported-append, reported-of, reported-when}
+use Rattle.hep_storage.specs.Agreement.{Summed, nothing_summed, with_list, with_block, with_count, with_length, is_other_count, is_other_length, place_count, differs_from, line_after, least_after, least_of_blocks}
+use Rattle.hep_storage.specs.Blocks.{KnownPlaces, Block, run_of, known_places, block_in}
+use Rattle.hep_storage.specs.Runs.{alike, positions_in}
+use Rattle.hep_storage.specs.Shared.{departs}
+use Rattle.hep_storage.specs.Spread.{repeat_before, spread, agree_as_far}
+use Rattle.hep_storage.specs.declared.agreement.Lengths.{Lengths}
+use Rattle.hep_storage.specs.declared.agreement.Lengths.TheVariants as lengths
+use Rattle.hep_storage.specs.declared.runs.Position.{Position}
+use Rattle.hep_storage.proofs.Pairs.{each_pair, each_later, pairs-from-start, nones}
+use Rattle.hep_storage.proofs.Places.{at_each_place}
+use Rattle.hep_storage.proofs.Sharing.{one-more}
+
+or-false : (a : Bool) → (a || false) ≡ a
+or-false true = refl
+or-false false = refl
+
+or-true : (a : Bool) → (a || true) ≡ true
+or-true true = refl
+or-true false = refl
+
+-- ---- two lists of a block
+
+abbrev differs : BlockName → KnownPlaces → KnownPlaces → Bool
+differs b k l =
+    not (agree_as_far alike k.positions l.positions)
+    || (is_some b && (k.is_whole && (l.is_whole && not (nat_eq (place_count k) (place_count l)))))
+
+abbrev position_of : conditions.Position → Position
+position_of p = record { asynchronous = p.0; value_type = p.1 }
+
+map-repeat : (n : ℕ) (p : conditions.Position) (ps : List conditions.Position) → map position_of (repeat_before n p ps) ≡ repeat_before n (position_of p) (map position_of ps)
+map-repeat zero p ps = refl
+map-repeat (suc n) p ps = ap (λ qs. position_of p ∷ qs) (map-repeat n p ps)
+
+positions-spread : (rs : List (Repeated conditions.Position)) → positions_in (map run_of rs) ≡ map position_of (spread rs)
+positions-spread [] = refl
+positions-spread (r ∷ rs) = ap (repeat_before r.count (position_of r.item)) (positions-spread rs) ∙ sym (map-repeat r.count r.item (spread rs))
+
+agree-map : (ps qs : List conditions.Position) → agree_as_far alike (map position_of ps) (map position_of qs) ≡ agree_as_far conditions.same_position ps qs
+agree-map [] qs = refl
+agree-map (p ∷ ps) [] = refl
+agree-map (p ∷ ps) (q ∷ qs) = ap (λ b. conditions.same_position p q && b) (agree-map ps qs)
+
+-- places that both lists have
+agree-places : (ps qs : List (Repeated conditions.Position)) → holds_at_each_place conditions.same_position ps qs ≡ agree_as_far alike (positions_in (map run_of ps)) (positions_in (map run_of qs))
+agree-places ps qs =
+    at_each_place conditions.same_position ps qs
+    ∙ (sym (agree-map (spread ps) (spread qs))
+    ∙ (ap (λ rs. agree_as_far alike rs (map position_of (spread qs))) (sym (positions-spread ps)) ∙ ap (agree_as_far alike (positions_in (map run_of ps))) (sym (positions-spread qs))))
+
+length-repeat : (n : ℕ) (p : Position) (ps : List Position) → length (repeat_before n p ps) ≡ n + length ps
+length-repeat zero p ps = omega arith
+length-repeat (suc n) p ps = let e = length-repeat n p ps in omega (arith, e)
+
+count-places : (rs : List (Repeated conditions.Position)) → count_of_items rs ≡ length (positions_in (map run_of rs))
+count-places [] = refl
+count-places (r ∷ rs) = ap (λ n. r.count + n) (count-places rs) ∙ sym (length-repeat r.count (position_of r.item) (positions_in (map run_of rs)))
+
+-- two lists are not the same where they differ
+contents-differ : (b : BlockName) (ps qs : Items conditions.Position) → not (conditions.same_contents b ps qs) ≡ differs b (known_places ps) (known_places qs)
+contents-differ None ps qs = ap not (agree-places ps.items qs.items) ∙ sym (or-false (not (agree_as_far alike (positions_in (map run_of ps.items)) (positions_in (map run_of qs.items)))))
+contents-differ (Some x) ps qs =
+    rw (agree-places ps.items qs.items, count-places ps.items, count-places qs.items)
+    (by ps.whole qs.whole (nat_eq (length (positions_in (map run_of ps.items))) (length (positions_in (map run_of qs.items)))) (agree_as_far alike (positions_in (map run_of ps.items)) (positions_in (map run_of qs.items))))
+  where
+    by : (w v e a : Bool) → not ((not (w && v) || e) && a) ≡ (not a || (true && (w && (v && not e))))
+    by true true true true = refl
+    by true true true false = refl
+    by true true false true = refl
+    by true true false false = refl
+    by true false e true = refl
+    by true false e false = refl
+    by false v e true = refl
+    by false v e false = refl
+
+-- ---- a list against several
+
+-- one list of another length, or one of those before
+length-more : (k l : KnownPlaces) (s : Lengths)
+    → ((k.is_whole && (l.is_whole && not (nat_eq (place_count k) (place_count l)))) || is_other_length l s) ≡ is_other_length l (with_length k s)
+length-more k l s = by k.is_whole l.is_whole (place_count k) (place_count l) s
+  where
+    several : (m n o : ℕ) (e f g : Bool) → nat_eq m n ≡ e → nat_eq n o ≡ f → nat_eq m o ≡ g → (not f || not g) ≡ is_other_count o (if e then lengths.One m else lengths.Several)
+    several m n o true true true d f g = sym (ap not g)
+    several m n o true true false d f g = absurd (grind (arith, nat_tests, d, f, g))
+    several m n o true false true d f g = absurd (grind (arith, nat_tests, d, f, g))
+    several m n o true false false d f g = sym (ap not g)
+    several m n o false true true d f g = absurd (grind (arith, nat_tests, d, f, g))
+    several m n o false true false d f g = refl
+    several m n o false false g d f h = refl
+
+    none : (v : Bool) → ((v && false) || false) ≡ false
+    none true = refl
+    none false = refl
+
+    by : (v w : Bool) (n o : ℕ) (s : Lengths) → ((v && (w && not (nat_eq n o))) || (w && is_other_count o s)) ≡ (w && is_other_count o (if v then with_count n s else s))
+    by v false n o s = none v
+    by true true n o lengths.Open = or-false (not (nat_eq n o))
+    by true true n o (lengths.One m) = several m n o (nat_eq m n) (nat_eq n o) (nat_eq m o) refl refl refl
+    by true true n o lengths.Several = or-true (not (nat_eq n o))
+    by false true n o s = refl
+
+differs-more : (b : BlockName) (k l : KnownPlaces) (s : Summed) → (differs b k l || differs_from b s l) ≡ differs_from b (with_list k s) l
+differs-more b k l s =
+    grouped (not (agree_as_far alike k.positions l.positions)) (is_some b)
+    (k.is_whole && (l.is_whole && not (nat_eq (place_count k) (place_count l)))) (departs s.is_cut s.positions l.positions) (is_other_length l s.lengths)
+    ∙ (ap (λ d. d || (is_some b && ((k.is_whole && (l.is_whole && not (nat_eq (place_count k) (place_count l)))) || is_other_length l s.lengths))) (one-more s.is_cut s.positions k.positions l.positions)
+    ∙ ap (λ d. departs (with_list k s).is_cut (with_list k s).positions l.positions || (is_some b && d)) (length-more k l s.lengths))
+  where
+    grouped : (a n l d m : Bool) → ((a || (n && l)) || (d || (n && m))) ≡ ((a || d) || (n && (l || m)))
+    grouped true n l d m = refl
+    grouped false true true true m = refl
+    grouped false true true false m = refl
+    grouped false true false d m = refl
+    grouped false false l d m = refl
+
+-- ---- units
+
+abbrev pair_of_blocks : BlockName → Option Block → Option Block → Option ℕ
+pair_of_blocks b None d = None
+pair_of_blocks b (Some c) None = None
+pair_of_blocks b (Some c) (Some d) = line_when (differs b c.list d.list) d.line
+
+abbrev pair : BlockName → List Statement → List Statement → Option ℕ
+pair b unit later = pair_of_blocks b (block_in unit b) (block_in later b)
+
+-- what these units have in a block, the last one first
+abbrev summed_over : BlockName → Units → Summed
+summed_over b [] = nothing_summed
+summed_over b (unit ∷ units) = with_block (block_in unit b) (summed_over b units)
+
+block_differs-line : (b : BlockName) (unit later : List Statement) → first_of (conditions.block_differs b unit later) ≡ reported 305 (pair b unit later)
+block_differs-line b unit later = by (conditions.last_line b unit) (conditions.last_line b later) refl refl
+  where
+    by : (k l : Option ℕ) → conditions.last_line b unit ≡ k → conditions.last_line b later ≡ l → first_of (conditions.block_differs b unit later) ≡ reported 305 (pair b unit later)
+    by None l e f = rw e refl
+    by (Some k) None e f = rw (e, f) refl
+    by (Some k) (Some line) e f =
+        rw (e, f)
+        (reported-when 305 line (not (conditions.same_contents b (conditions.positions_of_block unit b) (conditions.positions_of_block later b)))
+        ∙ ap (λ d. reported 305 (line_when d line)) (contents-differ b (conditions.positions_of_block unit b) (conditions.positions_of_block later b)))
+
+nothing-differs : (b : BlockName) (k : KnownPlaces) → differs_from b nothing_summed k ≡ false
+nothing-differs b k = by k.positions (is_some b) k.is_whole
+  where
+    by : (qs : List Position) (n w : Bool) → (departs false [] qs || (n && (w && false))) ≡ false
+    by [] true true = refl
+    by [] true false = refl
+    by [] false w = refl
+    by (q ∷ qs) true true = refl
+    by (q ∷ qs) true false = refl
+    by (q ∷ qs) false w = refl
+
+no-pair : (b : BlockName) (c : Option Block) → pair_of_blocks b c None ≡ None
+no-pair b None = refl
+no-pair b (Some c) = refl
+
+-- a unit with each of those before
+against : (b : BlockName) (later : List Statement) (before : Units) → least_line_of (λ unit. pair b unit later) before ≡ line_after b (summed_over b before) (block_in later b)
+against b later before = by (block_in later b) before
+  where
+    more : (d : Block) (c : Option Block) (s : Summed) → least_line (pair_of_blocks b c (Some d)) (line_after b s (Some d)) ≡ line_after b (with_block c s) (Some d)
+    more d None s = refl
+    more d (Some c) s = least_line-or d.line (differs b c.list d.list) (differs_from b s d.list) ∙ ap (λ t. line_when t d.line) (differs-more b c.list d.list s)
+
+    by : (d : Option Block) (us : Units) → least_line_of (λ unit. pair_of_blocks b (block_in unit b) d) us ≡ line_after b (summed_over b us) d
+    by None [] = refl
+    by None (u ∷ us) = ap (λ l. least_line l (least_line_of (λ unit. pair_of_blocks b (block_in unit b) None) us)) (no-pair b (block_in u b)) ∙ by None us
+    by (Some d) [] = sym (ap (λ t. line_when t d.line) (nothing-differs b d.list))
+    by (Some d) (u ∷ us) = ap (least_line (pair_of_blocks b (block_in u b) (Some d))) (by (Some d) us) ∙ more d (block_in u b) (summed_over b us)
+
+later-units : (b : BlockName) (before us : Units) → least_after b (summed_over b before) us ≡ each_later (pair b) before us
+later-units b before [] = refl
+later-units b before (u ∷ us) =
+    ap (λ l. least_line l (least_after b (summed_over b (u ∷ before)) us)) (sym (against b u before))
+    ∙ ap (least_line (least_line_of (λ unit. pair b unit u) before)) (later-units b (u ∷ before) us)
+
+-- ---- the whole
+
+abbrev pair_among : List BlockName → List Statement → List Statement → Option ℕ
+pair_among bs unit later = least_line_of (λ b. pair b unit later) bs
+
+differing-line : (bs : List BlockName) (us : Units) → first_of (conditions.differing bs us) ≡ reported 305 (each_pair (pair_among bs) us)
+differing-line bs [] = refl
+differing-line bs (u ∷ us) =
+    reported-append 305 (flat_map (conditions.blocks_differ bs u) us) (conditions.differing bs us) (least_line_of (pair_among bs u) us) (each_pair (pair_among bs) us)
+    (reported-of 305 (conditions.blocks_differ bs u) (pair_among bs u) (λ w. reported-of 305 (λ b. conditions.block_differs b u w) (λ b. pair b u w) (λ b. block_differs-line b u w) bs) us)
+    (differing-line bs us)
+
+by-blocks : (bs : List BlockName) (us : Units) → each_pair (pair_among bs) us ≡ least_line_of (λ b. each_pair (pair b) us) bs
+by-blocks bs [] = sym (nones bs)
+by-blocks bs (u ∷ us) =
+    ap (λ l. least_line l (each_pair (pair_among bs) us)) (least_line_of-turned (λ w b. pair b u w) us bs)
+    ∙ (ap (least_line (least_line_of (λ b. least_line_of (pair b u) us) bs)) (by-blocks bs us)
+    ∙ sym (least_line_of-both (λ b. least_line_of (pair b u) us) (λ b. each_pair (pair b) us) bs))
+
+-- what is reported of each unit with each one after it is the least line of units against those before
+pub all-pairs : (program : Units) → first_of (conditions.common_violations program) ≡ reported 305 (least_of_blocks (blocks_of program) (λ b. nothing_summed) program)
+all-pairs program =
+    differing-line (blocks_of program) program
+    ∙ ap (reported 305)
+    (by-blocks (blocks_of program) program
+    ∙ least_line_of-same (λ b. each_pair (pair b) program) (λ b. least_after b nothing_summed program) (λ b. sym (pairs-from-start (pair b) program) ∙ sym (later-units b [] program)) (blocks_of program))

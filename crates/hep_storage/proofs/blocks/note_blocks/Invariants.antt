@@ -1,0 +1,12 @@
+use Rattle.std.proofs.Common.{ℕ, ◌++◌, List, Option, take}
+use Rattle.std.specs.Option.{option_eq}
+use Rattle.indexmap.specs.IndexMap.{get}
+use Rattle.hep_source.specs.declared.name.Name.{Name}
+use Rattle.hep_source.specs.Names.{name_eq}
+use Rattle.hep_machine.specs.Declarations.{BlockName}
+use Rattle.hep_storage.specs.Blocks.{Has, names_under, later_line}
+use Rattle.hep_storage.proofs.blocks.note_blocks.Given as goal
+
+abbrev pub invariant-loop-list : goal.invariant-loop-list
+invariant-loop-list l = (b : BlockName) (xs : List Name) (before : Option ℕ) → Has l.symbols b xs before (get (option_eq name_eq) l.initial.table b)
+    → Has l.symbols b (xs ++ names_under b (take l.list-index l.lists)) (later_line b before l.line (take l.list-index l.lists)) (get (option_eq name_eq) l.table b)

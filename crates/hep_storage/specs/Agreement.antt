@@ -1,0 +1,93 @@
+-- What the units before say of a common block in a later one: X3.9-1978, 8.3.
+use Rattle.std.specs.Prelude.{◌≡◌, ℕ, Bool, true, false, not, ◌&&◌, ◌||◌, nat_eq, if◌then◌else◌, List, [], ◌∷◌, length, Option, Some, None, is_some}
+use Rattle.hep_source.specs.Units.{Units}
+use Rattle.hep_machine.specs.Declarations.{BlockName, is_block_among}
+use Rattle.hep_check.specs.Reported.{least_line, line_when, least_line_of}
+use Rattle.hep_storage.specs.Blocks.{KnownPlaces, Block, block_in}
+use Rattle.hep_storage.specs.Runs.{positions_in}
+use Rattle.hep_storage.specs.Shared.{departs, in_common}
+use Rattle.hep_storage.specs.declared.agreement.Lengths.{Lengths}
+use Rattle.hep_storage.specs.declared.agreement.Lengths.TheVariants as lengths
+use Rattle.hep_storage.specs.declared.agreement.Summary.{Summary}
+use Rattle.hep_storage.specs.declared.runs.Position.{Position}
+
+-- ---- lengths
+
+abbrev pub place_count : KnownPlaces → ℕ
+place_count k = length k.positions
+
+abbrev pub with_count : ℕ → Lengths → Lengths
+with_count n lengths.Open = lengths.One n
+with_count n (lengths.One m) = if nat_eq m n then lengths.One m else lengths.Several
+with_count n lengths.Several = lengths.Several
+
+abbrev pub with_length : KnownPlaces → Lengths → Lengths
+with_length k l = if k.is_whole then with_count (place_count k) l else l
+
+-- some list is of another length
+abbrev pub is_other_count : ℕ → Lengths → Bool
+is_other_count n lengths.Open = false
+is_other_count n (lengths.One m) = not (nat_eq m n)
+is_other_count n lengths.Several = true
+
+abbrev pub is_other_length : KnownPlaces → Lengths → Bool
+is_other_length k l = k.is_whole && is_other_count (place_count k) l
+
+-- ---- lists
+
+-- what several lists of a block have in common, and their lengths
+pub record Summed : Type 0 where
+  pub positions : List Position
+  pub is_cut : Bool
+  pub lengths : Lengths
+
+abbrev pub nothing_summed : Summed
+nothing_summed = record { positions = []; is_cut = false; lengths = lengths.Open }
+
+abbrev pub summed : Summary → Summed
+summed s = record { positions = positions_in s.shared.runs.items; is_cut = s.shared.is_cut; lengths = s.lengths }
+
+abbrev pub summed_at : Option Summary → Summed
+summed_at None = nothing_summed
+summed_at (Some s) = summed s
+
+abbrev pub with_list : KnownPlaces → Summed → Summed
+with_list k s =
+    record {
+      positions = (in_common s.is_cut s.positions k.positions).positions;
+      is_cut = (in_common s.is_cut s.positions k.positions).is_cut;
+      lengths = with_length k s.lengths;
+    }
+
+-- a list of a block differs from one of those; blank COMMON may be of several lengths
+abbrev pub differs_from : BlockName → Summed → KnownPlaces → Bool
+differs_from b s k = departs s.is_cut s.positions k.positions || (is_some b && is_other_length k s.lengths)
+
+-- ---- units
+
+-- with what one more unit has, if it has the block
+abbrev pub with_block : Option Block → Summed → Summed
+with_block None s = s
+with_block (Some c) s = with_list c.list s
+
+-- the line of one more unit, if it has the block and otherwise than one of those
+abbrev pub line_after : BlockName → Summed → Option Block → Option ℕ
+line_after b s None = None
+line_after b s (Some c) = line_when (differs_from b s c.list) c.line
+
+-- the least line of further units that have the block otherwise than one before
+abbrev pub least_after : BlockName → Summed → Units → Option ℕ
+least_after b s [] = None
+least_after b s (unit ∷ units) = least_line (line_after b s (block_in unit b)) (least_after b (with_block (block_in unit b) s) units)
+
+-- the least line of these blocks
+abbrev pub least_of_blocks : List BlockName → (BlockName → Summed) → Units → Option ℕ
+least_of_blocks bs s units = least_line_of (λ b. least_after b (s b) units) bs
+
+-- the least line of these blocks of one unit
+abbrev pub least_of_left : List BlockName → (BlockName → Summed) → (BlockName → Option Block) → Option ℕ
+least_of_left bs s left = least_line_of (λ b. line_after b (s b) (left b)) bs
+
+-- each block that there is, is among these
+abbrev pub AreAmong : List BlockName → (BlockName → Option Block) → Type 0
+AreAmong bs left = (b : BlockName) → is_some (left b) ≡ true → is_block_among b bs ≡ true

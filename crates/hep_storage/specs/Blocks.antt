@@ -1,0 +1,86 @@
+-- What is known of the common blocks of a unit: X3.9-1978, 8.3.
+use Rattle.std.specs.Prelude.{◌≡◌, ℕ, Bool, true, false, if◌then◌else◌, List, [], ◌++◌, map, Option, Some, None}
+use Rattle.std.specs.Option.{option_map}
+use Rattle.std.specs.List.{list_any}
+use Rattle.indexmap.specs.IndexSet.{contains}
+use Rattle.hep_source.specs.declared.declaration.CommonBlock.{CommonBlock}
+use Rattle.hep_source.specs.declared.name.Name.{Name}
+use Rattle.hep_source.specs.declared.statement.Statement.{Statement}
+use Rattle.hep_source.specs.Names.{is_among, name_eq}
+use Rattle.hep_machine.specs.Data.{Repeated}
+use Rattle.hep_machine.specs.Declarations.{BlockName, same_block, block_of, entries_under, names_declared}
+use Rattle.hep_check.specs.Common as conditions
+use Rattle.hep_check.specs.Known.{Known as Items}
+use Rattle.hep_storage.specs.declared.blocks.Contents.{Contents}
+use Rattle.hep_storage.specs.declared.runs.Known.{Known}
+use Rattle.hep_storage.specs.Runs.{positions_in}
+use Rattle.hep_storage.specs.Spread.{repeat_before}
+use Rattle.hep_storage.specs.declared.runs.Position.{Position}
+use Rattle.hep_storage.specs.declared.runs.Run.{Run}
+
+abbrev pub run_of : Repeated conditions.Position → Run
+run_of r = record { position = record { asynchronous = r.item.0; value_type = r.item.1 }; count = r.count }
+
+-- the places of a name, which are alike
+abbrev pub run_of_name : List Statement → Name → Option Run
+run_of_name unit x = option_map run_of (conditions.positions_of_name unit x)
+
+-- what each place of a block has as far as that is known, and whether that is all
+pub record KnownPlaces : Type 0 where
+  pub positions : List Position
+  pub is_whole : Bool
+
+abbrev pub no_run : KnownPlaces
+no_run = record { positions = []; is_whole = true }
+
+abbrev pub known : Known → KnownPlaces
+known k = record { positions = positions_in k.runs.items; is_whole = k.is_whole }
+
+-- the places of one run
+abbrev pub places_of : Run → List Position
+places_of r = repeat_before r.count r.position []
+
+-- one run more, where all is known before it
+abbrev pub with_known_run : List Position → Option Run → KnownPlaces
+with_known_run ps None = record { positions = ps; is_whole = false }
+with_known_run ps (Some r) = record { positions = ps ++ places_of r; is_whole = true }
+
+abbrev pub with_run : KnownPlaces → Option Run → KnownPlaces
+with_run k r = if k.is_whole then with_known_run k.positions r else k
+
+abbrev pub known_places : Items conditions.Position → KnownPlaces
+known_places k = record { positions = positions_in (map run_of k.items); is_whole = k.whole }
+
+-- what is known of a block in which these names stand, in order
+abbrev pub places_of_names : List Statement → BlockName → List Name → KnownPlaces
+places_of_names unit b xs = known_places (conditions.positions_of unit (conditions.first_names unit b [] xs))
+
+-- what is known of a block of a unit, and the line of the last statement that names it
+pub record Block : Type 0 where
+  pub list : KnownPlaces
+  pub line : ℕ
+
+abbrev pub block : Contents → Block
+block c = record { list = known c.known; line = c.line }
+
+abbrev pub block_in : List Statement → BlockName → Option Block
+block_in unit b = option_map (λ line. record { list = known_places (conditions.positions_of_block unit b); line = line }) (conditions.last_line b unit)
+
+-- ---- one pass
+
+-- what is known after these names of a block
+abbrev pub Holds : List Statement → BlockName → List Name → Contents → Type 0
+Holds unit b xs c = (known c.known ≡ places_of_names unit b xs) × ((x : Name) → contains name_eq c.names x ≡ is_among x xs)
+
+-- what a table has of a block after these names of it, which was last named at this line
+abbrev pub Has : List Statement → BlockName → List Name → Option ℕ → Option Contents → Type 0
+Has unit b xs line None = (xs ≡ []) × (line ≡ None)
+Has unit b xs line (Some c) = Holds unit b xs c × (line ≡ Some c.line)
+
+-- the names that some COMMON lists add to a block
+abbrev pub names_under : BlockName → List CommonBlock → List Name
+names_under b cs = names_declared (entries_under b cs)
+
+-- the line of the last statement that named a block, after one with these lists
+abbrev pub later_line : BlockName → Option ℕ → ℕ → List CommonBlock → Option ℕ
+later_line b before line cs = if list_any (λ (c : CommonBlock). same_block (block_of c) b) cs then Some line else before

@@ -1,0 +1,7 @@
+use Rattle.std.proofs.Common.{◌≡◌, drop}
+use Rattle.hep_source.specs.Names.{with_names}
+use Rattle.hep_source.specs.Units.{names_of_occurrences}
+use Rattle.hep_symbols.proofs.names.add_names.Given as goal
+
+abbrev pub invariant-loop-occurrence : goal.invariant-loop-occurrence
+invariant-loop-occurrence l = with_names l.names.keys (names_of_occurrences (drop l.occurrence-index l.occurrences)) ≡ with_names l.initial.names.keys (names_of_occurrences l.occurrences)

@@ -1,0 +1,10 @@
+use Rattle.std.proofs.Common.{◌≡◌, ◌++◌, drop}
+use Rattle.std.specs.List.{filter}
+use Rattle.indexmap.specs.IndexMap.{get}
+use Rattle.indexmap.specs.IndexSet.{contains}
+use Rattle.hep_source.specs.Names.{name_eq}
+use Rattle.hep_symbols.specs.Tables.{is_local_by}
+use Rattle.hep_symbols.proofs.names.locals_among.Given as goal
+
+abbrev pub invariant-loop-name : goal.invariant-loop-name
+invariant-loop-name l = l.locals.items ++ filter (is_local_by (get name_eq l.dummies) (get name_eq l.blocks) (contains name_eq l.constants)) (drop l.name-index l.names) ≡ filter (is_local_by (get name_eq l.dummies) (get name_eq l.blocks) (contains name_eq l.constants)) l.names

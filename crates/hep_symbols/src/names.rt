@@ -1,0 +1,73 @@
+//! The names of a unit, and its local variables (X3.9-1978, 2.5 and 18).
+ghost use Rattle.std.specs.Prelude.{◌≡◌, IfOk, OnOk};
+ghost use Rattle.std.specs.List.{filter};
+ghost use Rattle.indexmap.specs.IndexMap.{get};
+ghost use Rattle.indexmap.specs.IndexSet.{contains};
+ghost use Rattle.hep_source.specs.Names.{name_eq, with_name, with_names};
+ghost use Rattle.hep_source.specs.Units.{names_of_occurrences};
+ghost use Rattle.hep_machine.specs.Variables as variables;
+ghost use Rattle.hep_symbols.specs.Tables as tables;
+
+use crate::arrays::Arrays;
+use crate::occurrences::occurrences_by;
+use hep_source::{Name, Occurrence};
+use indexmap::{IndexMap, IndexSet};
+use std::alloc::{AllocError, Global};
+
+fn add_name(names: &mut IndexSet<Name>, name: Name) -> Result<(), AllocError>
+    ensures { OnOk result (names.new.keys ≡ with_name names.old.keys name) }
+{
+    names.insert(name)?;
+    Ok(())
+}
+
+fn add_names(names: &mut IndexSet<Name>, occurrences: &[Occurrence]) -> Result<(), AllocError>
+    ensures { OnOk result (names.new.keys ≡ with_names names.old.keys (names_of_occurrences occurrences.now)) }
+{
+    for occurrence in occurrences {
+        add_name(names, occurrence.name)?;
+    }
+    Ok(())
+}
+
+// The names of variables and constants of a unit, each once, in order of first appearance.
+pub(crate) fn names_of(alloc: Global, arrays: &Arrays) -> Result<IndexSet<Name>, AllocError>
+    ensures { IfOk result (λ names. names.keys ≡ variables.names_of arrays.now) }
+{
+    let mut names = IndexSet::new(alloc);
+    for statement in arrays.statements() {
+        let occurrences = occurrences_by(alloc, arrays, statement)?;
+        add_names(&mut names, &occurrences)?;
+    }
+    Ok(names)
+}
+
+fn is_local(
+    dummies: &IndexMap<Name, usize>,
+    blocks: &IndexMap<Name, Option<Name>>,
+    constants: &IndexSet<Name>,
+    name: &Name,
+) -> bool
+    ensures { result ≡ tables.is_local_by (get name_eq dummies.now) (get name_eq blocks.now) (contains name_eq constants.now) name.now }
+{
+    !dummies.contains_key(name) && !blocks.contains_key(name) && !constants.contains(name)
+}
+
+// Those of these names that are neither dummy arguments nor in COMMON, and no constants' either.
+pub(crate) fn locals_among(
+    alloc: Global,
+    dummies: &IndexMap<Name, usize>,
+    blocks: &IndexMap<Name, Option<Name>>,
+    constants: &IndexSet<Name>,
+    names: &[Name],
+) -> Result<Vec<Name>, AllocError>
+    ensures { IfOk result (λ locals. locals.items ≡ filter (tables.is_local_by (get name_eq dummies.now) (get name_eq blocks.now) (contains name_eq constants.now)) names.now) }
+{
+    let mut locals = Vec::new(alloc);
+    for name in names {
+        if is_local(dummies, blocks, constants, name) {
+            locals.push(*name)?;
+        }
+    }
+    Ok(locals)
+}

@@ -1,0 +1,3 @@
+pub mod Used
+pub mod Overlaps
+pub mod Ways

@@ -1,0 +1,10 @@
+use Rattle.std.proofs.Common.{◌≡◌, drop}
+use Rattle.indexmap.specs.IndexSet.{contains}
+use Rattle.hep_source.specs.Names.{same_name}
+use Rattle.hep_check.specs.Reported.{least_line}
+use Rattle.hep_uses.specs.Ambiguous as passes
+use Rattle.hep_source.specs.Names.{name_eq}
+use Rattle.hep_uses.proofs.repeated.least_repeated.Given as goal
+
+abbrev pub invariant-loop-name : goal.invariant-loop-name
+invariant-loop-name l = least_line l.least (passes.least_repeated same_name (contains name_eq l.seen) (drop l.name-index l.uses)) ≡ passes.least_repeated_name l.uses

@@ -1,0 +1,110 @@
+-- 309 by lines, as passes over uses tell it: X3.9-1978, 8.5, 18.1 and 18.2.
+use Rattle.std.specs.Prelude.{ℕ, ◌+◌, max, Bool, false, ◌||◌, nat_le, List, [], ◌∷◌, map, take, Option, Some, None}
+use Rattle.std.specs.List.{flat_map, list_any}
+use Rattle.std.specs.Option.{option_map}
+use Rattle.hep_source.specs.declared.declaration.ImplicitGroup.{ImplicitGroup}
+use Rattle.hep_source.specs.declared.declaration.LetterRange.{LetterRange}
+use Rattle.hep_source.specs.declared.name.Name.{Name}
+use Rattle.hep_source.specs.declared.statement.Statement.{Statement}
+use Rattle.hep_source.specs.Names.{same_name}
+use Rattle.hep_source.specs.Units.{Units}
+use Rattle.hep_check.specs.Names.{Use, overlap, letter_ranges_of}
+use Rattle.hep_check.specs.Reported.{least_line, line_when, least_line_of, least_line_where}
+use Rattle.hep_uses.specs.declared.uses.Way.{Way}
+use Rattle.hep_uses.specs.declared.uses.Way.TheVariants.{Header, Block, Dummy, Typed, Bounded, Common, Constant, Data, Assigned, Called, Variable}
+use Rattle.hep_uses.specs.Uses.{uses_of}
+
+-- ---- what is given twice
+
+-- what was seen, and this
+abbrev pub with_seen : {A : Type 0} → (A → A → Bool) → (A → Bool) → A → A → Bool
+with_seen agrees seen y x = agrees x y || seen x
+
+-- the least line of a thing that agrees with one that was seen, or that stands before it
+abbrev pub least_repeated : {A : Type 0} → (A → A → Bool) → (A → Bool) → List (A × ℕ) → Option ℕ
+least_repeated agrees seen [] = None
+least_repeated agrees seen (u ∷ us) = least_line (line_when (seen u.0) u.1) (least_repeated agrees (with_seen agrees seen u.0) us)
+
+abbrev pub none_seen : {A : Type 0} → A → Bool
+none_seen x = false
+
+abbrev pub least_repeated_name : List Use → Option ℕ
+least_repeated_name us = least_repeated same_name none_seen us
+
+abbrev pub least_given_twice : List Statement → List Way → Option ℕ
+least_given_twice unit ways = least_line_of (λ way. least_repeated_name (uses_of way unit)) ways
+
+-- ---- what is used in two ways
+
+abbrev pub line_of_use : Use → ℕ
+line_of_use u = u.1
+
+abbrev pub is_use_of : Name → Use → Bool
+is_use_of x u = same_name u.0 x
+
+-- the least line of a use of a name
+abbrev pub least_named : List Use → Name → Option ℕ
+least_named us x = least_line_where (is_use_of x) line_of_use us
+
+-- the later of the line of a use and of that which its name has elsewhere
+abbrev pub later_line : (Name → Option ℕ) → Use → Option ℕ
+later_line lines w = option_map (max w.1) (lines w.0)
+
+abbrev pub least_met : (Name → Option ℕ) → List Use → Option ℕ
+least_met lines ws = least_line_of (later_line lines) ws
+
+abbrev pub least_both_ways : List Use → List Use → Option ℕ
+least_both_ways us ws = least_met (least_named us) ws
+
+abbrev pub least_of_two_ways : List Statement → Way → Way → Option ℕ
+least_of_two_ways unit one other = least_both_ways (uses_of one unit) (uses_of other unit)
+
+-- the least line at which a constant is used in another of these ways
+abbrev pub least_misused : List Statement → List Way → Option ℕ
+least_misused unit ways = least_line_of (least_of_two_ways unit Constant) ways
+
+-- ---- letters that IMPLICIT names twice
+
+-- a last letter, if any, isn't before a letter
+abbrev pub reaches : ℕ → Option ℕ → Bool
+reaches c None = false
+reaches c (Some last) = nat_le c last
+
+-- some range begins up to the last letter of this one, and doesn't end before the first, where for each first letter the
+-- greatest last letter is kept
+abbrev pub meets : List (Option ℕ) → LetterRange → Bool
+meets lasts r = list_any (reaches r.first) (take (r.last + 1) lasts)
+
+abbrev pub later_letter : Option ℕ → ℕ → Option ℕ
+later_letter None last = Some last
+later_letter (Some other) last = Some (max other last)
+
+abbrev pub ranges_at : ℕ → List LetterRange → List (LetterRange × ℕ)
+ranges_at line rs = map (λ (r : LetterRange). (r, line)) rs
+
+abbrev pub ranges_of_group : ℕ → ImplicitGroup → List (LetterRange × ℕ)
+ranges_of_group line g = ranges_at line g.letters
+
+abbrev pub least_overlapping : List (LetterRange × ℕ) → Option ℕ
+least_overlapping rs = least_repeated overlap none_seen rs
+
+-- ---- a unit, and a program
+
+abbrev pub given_once : List Way
+given_once = Dummy ∷ Typed ∷ Bounded ∷ Common ∷ Constant ∷ []
+
+abbrev pub no_constants : List Way
+no_constants = Dummy ∷ Bounded ∷ Common ∷ Data ∷ Assigned ∷ Called ∷ []
+
+abbrev pub least_ambiguous : List Statement → Option ℕ
+least_ambiguous unit =
+    least_line (least_overlapping (letter_ranges_of unit)) (
+    least_line (least_given_twice unit given_once) (
+    least_line (least_of_two_ways unit Dummy Common) (
+    least_line (least_misused unit no_constants) (
+    least_of_two_ways unit Called Variable))))
+
+abbrev pub least_ambiguous_unit : Units → Option ℕ
+least_ambiguous_unit program =
+    let units = flat_map (uses_of Header) program in
+    least_line (least_repeated_name units) (least_both_ways units (flat_map (uses_of Block) program))
