@@ -11,13 +11,20 @@ _hepf() {
             ;;
     esac
     if ((COMP_CWORD == 1)); then
-        mapfile -t COMPREPLY < <(compgen -W "run replay explain help --help --version" -- "$word")
+        mapfile -t COMPREPLY < <(compgen -W "check run replay list explain help --help --version" -- "$word")
         return
     fi
     case ${COMP_WORDS[1]} in
         run)
             if [[ $word == -* ]]; then
                 mapfile -t COMPREPLY < <(compgen -W "--arena --steps --choices --history --help" -- "$word")
+            else
+                mapfile -t COMPREPLY < <(compgen -f -- "$word")
+            fi
+            ;;
+        check | list)
+            if [[ $word == -* ]]; then
+                mapfile -t COMPREPLY < <(compgen -W "--help" -- "$word")
             else
                 mapfile -t COMPREPLY < <(compgen -f -- "$word")
             fi
@@ -30,10 +37,10 @@ _hepf() {
             fi
             ;;
         help)
-            mapfile -t COMPREPLY < <(compgen -W "run replay explain" -- "$word")
+            mapfile -t COMPREPLY < <(compgen -W "check run replay list explain" -- "$word")
             ;;
         explain)
-            mapfile -t COMPREPLY < <(compgen -W "101 102 103 104 105 106 107 201 202 203 204 205 301 403 501 601 602 603" -- "$word")
+            mapfile -t COMPREPLY < <(compgen -W "101 102 103 104 105 106 107 201 202 203 204 205 301 302 303 304 305 306 307 308 309 310 311 403 501 601 602 603" -- "$word")
             ;;
     esac
 }

@@ -36,6 +36,8 @@ judge() {
 printf '      PRINT *,1+2\n      END\n' > three.f
 printf '      I=1/0\n      END\n' > fault.f
 printf '      X=1\n      END\n' > refused.f
+printf '      CALL S\n      END\n' > unknown.f
+printf '      CONTINUE\n      END\n' > later.f
 : > empty
 printf '1\n7\n' > seven
 printf 'x\n' > bad
@@ -48,14 +50,27 @@ mkdir folder
 wants 0 ' 3' '' run three.f
 wants 3 '' 'FAULT 1 MAIN LINE 1 DIVIDE' run fault.f
 wants 1 '' 'REFUSED 301 LINE 1 NAME X' run refused.f
+wants 1 '' 'REFUSED 310 LINE 1 NAME S' run unknown.f
+wants 1 '' 'REFUSED 403 LINE 1' run later.f
+wants 1 '' 'REFUSED 403 LINE 4' run "$root/examples/sort.f"
 wants 1 '' 'REFUSED 204 LINE 0' run empty
 wants 1 '' 'REFUSED 204 LINE 0'
 wants 5 '' 'STOPPED ARENA FULL' run fault.f --arena 1
 wants 6 '' 'STOPPED STEP LIMIT' run three.f --steps 1 --choices empty
 
+# Checks and lists.
+wants 0 '' '' check three.f
+wants 1 '' 'REFUSED 301 LINE 1 NAME X' check refused.f
+wants 1 '' 'REFUSED 403 LINE 1' check later.f
+wants 0 'UNIT MAIN CELLS 1' '' list later.f
+wants 0 $'UNIT SORTED CELLS 5\nUNIT SORT CELLS 14' '' list "$root/examples/sort.f"
+wants 1 '' 'REFUSED 310 LINE 1 NAME S' list unknown.f
+
 # Files.
 wants 8 '' 'READ FAULT' run nothing
 wants 8 '' 'READ FAULT' run folder
+wants 8 '' 'READ FAULT' check nothing
+wants 8 '' 'READ FAULT' list folder
 wants 8 '' 'READ FAULT' run three.f --choices nothing
 wants 8 '' 'READ FAULT' run nothing --choices folder
 wants 8 '' 'READ FAULT' replay refused.f nothing
@@ -66,14 +81,16 @@ wants 2 '' 'REFUSED 501 LINE 2' run three.f --choices seven --history untouched
 # Words.
 wants 2 '' 'error: unrecognized subcommand*' walk three.f
 wants 2 '' 'error: the following required arguments*' run
+wants 2 '' 'error: unexpected argument*' check three.f --arena 3
+wants 2 '' 'error: the following required arguments*' list
 wants 2 '' 'error: unexpected argument*' run three.f refused.f
-wants 2 '' 'error: unexpected argument*' run three.f --workers 2
+wants 2 '' 'error: unexpected argument*' run three.f --colour 2
 wants 2 '' 'error: invalid value*' run three.f --arena 0
 wants 2 '' 'error: invalid value*' run three.f --arena 16777217
 wants 2 '' 'error: invalid value*' run three.f --steps 4294967297
 wants 2 '' 'error: the argument*' run three.f --arena 5 --arena 6
 wants 2 '' 'error: no refusal has this number' explain 7
-for words in --help --version help 'run --help' 'replay --help' 'explain --help' 'explain 403'; do
+for words in --help --version help 'check --help' 'run --help' 'replay --help' 'list --help' 'explain --help' 'explain 311' 'explain 403'; do
     # shellcheck disable=SC2086
     "$program" $words < /dev/null > output 2> error
     status=$?
@@ -108,6 +125,9 @@ judge 8 '' 'WRITE FAULT AFTER 0' $status 'a full standard output'
 "$program" run three.f >&- 2> error < /dev/null
 status=$?
 judge 8 '' 'WRITE FAULT AFTER 0' $status 'a closed standard output'
+"$program" list three.f > /dev/full 2> error < /dev/null
+status=$?
+judge 8 '' 'WRITE FAULT AFTER 0' $status 'a list to a full standard output'
 "$program" --help > /dev/full 2> error < /dev/null
 status=$?
 judge 8 '' 'WRITE FAULT AFTER 0' $status 'help to a full standard output'

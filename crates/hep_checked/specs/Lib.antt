@@ -1,2 +1,4 @@
 pub mod Found
 pub mod Faults
+pub mod Lengths
+pub mod Listing

@@ -1,76 +1,14 @@
-//! Checked programs.
+//! Which programs are accepted.
 ghost use Rattle.std.specs.Prelude.{◌≡◌, IfOk, IfErr, OnOk};
 ghost use Rattle.hep_check.specs.Conditions.{IsAccepted};
-ghost use Rattle.hep_source.specs.Names as names;
 ghost use Rattle.hep_checked.specs.Faults.{Refuses, Reports};
 
+use crate::frames::frames;
 use crate::program::first_violation;
 use hep_base::Refusal as CheckFault;
-use hep_check::Violation;
-use hep_source::{Name, Program, Text};
-use std::alloc::{AllocError, Global};
-use std::marker::Model;
-
-/// A program that violates no condition. Contracts see its units.
-#[derive(Drop)]
-pub struct Checked {
-    program: Program,
-}
-
-impl Model for Checked {
-    ghost use Rattle.std.specs.Prelude.{List};
-    ghost use Rattle.std.specs.Coded.{codes};
-    ghost use Rattle.hep_source.specs.declared.statement.Statement.{Statement};
-    ghost use Rattle.hep_source.specs.contracts.expression.Expr as expression;
-    ghost use Rattle.hep_check.specs.Conditions.{IsAccepted};
-
-    ghost Value = { List (List Statement) };
-
-    ghost coded = { Prim.hlevel (codes, expression.the_row.coded) };
-
-    ghost view = { λ a. a.program };
-
-    ghost invariant = { λ a. IsAccepted a.program };
-}
-
-impl Checked {
-    /// The program.
-    pub fn program(&self) -> &Program
-        ensures { result.now ≡ self.now }
-    {
-        &self.program
-    }
-
-    /// The program by itself; this takes no memory.
-    pub fn into_program(self) -> Program
-        ensures { result ≡ self }
-    {
-        self.program
-    }
-
-    /// A checked program has no violation.
-    pub fn is_accepted(&self)
-        ensures { IsAccepted self.now }
-    {
-        let _ = &self.program;
-    }
-}
-
-// The characters of a name, with `$` before it where it is asynchronous.
-fn spelling(alloc: Global, name: &Name) -> Result<Text, AllocError>
-    ensures { IfOk result (λ text. text ≡ names.spelling name.now) }
-{
-    let mut characters = Vec::with_capacity(alloc, 7)?;
-    if name.asynchronous {
-        characters.push(b'$')?;
-    }
-    for letter in &name.letters {
-        if *letter != b' ' {
-            characters.push(*letter)?;
-        }
-    }
-    Ok(Text::from(characters))
-}
+use hep_check::{Checked, Violation};
+use hep_source::Program;
+use std::alloc::Global;
 
 // A violation as it is reported.
 fn fault_of(alloc: Global, violation: Violation) -> CheckFault
@@ -79,7 +17,7 @@ fn fault_of(alloc: Global, violation: Violation) -> CheckFault
     let Violation { number, line, .. } = violation;
     match violation.name {
         None => CheckFault::refused(alloc, number, line),
-        Some(name) => match spelling(alloc, &name) {
+        Some(name) => match name.spelling(alloc) {
             Ok(name) => CheckFault::Refused { number, line, name },
             Err(_) => CheckFault::NoMemory,
         },
@@ -101,7 +39,10 @@ pub fn check(alloc: Global, program: Program) -> Result<Checked, CheckFault>
     ensures refused { IfErr result (Refuses program) }
 {
     match first_violation(alloc, &program)? {
-        None => Ok(Checked { program }),
+        None => {
+            let frames = frames(alloc, program.as_slice())?;
+            Ok(Checked::new(program, frames))
+        }
         Some(violation) => Err(fault_of(alloc, violation)),
     }
 }

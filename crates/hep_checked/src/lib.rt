@@ -1,12 +1,18 @@
 //! Checked programs: all conditions, 301 to 311, put together (docs/LANGUAGE.md, 10).
 //!
-//! [`check`] accepts a program that violates none of them, and else answers with the first violation.
+//! [`check`] accepts a program that violates none of them, and else answers with the first violation. A checked
+//! program knows how many cells its frames have, and [`list_text`] shows them with those of its common blocks.
 #![tactic(auto)]
 
 mod checked;
+mod common;
+mod frames;
+mod listing;
 mod program;
 mod unit;
 
-pub use checked::{Checked, check};
+pub use checked::check;
 /// Why a program isn't accepted: refusals 301 to 311, of which 301 and 310 are about a name.
 pub use hep_base::Refusal as CheckFault;
+pub use hep_check::Checked;
+pub use listing::list_text;

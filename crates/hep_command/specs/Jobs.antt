@@ -1,7 +1,7 @@
 -- What a command line may ask for: docs/MACHINE.md, "The program".
 use Rattle.std.specs.Prelude.{◌≡◌, ◌⊎◌, ℕ, ◌≤◌}
 use Rattle.hep_command.specs.declared.job.Job.{Job}
-use Rattle.hep_command.specs.declared.job.Job.TheVariants.{Standard, Run, Replay, Explain}
+use Rattle.hep_command.specs.declared.job.Job.TheVariants.{Standard, Check, Run, Replay, List, Explain}
 
 abbrev pub IsArena : ℕ → Type 0
 IsArena cells = (1 ≤ cells) × (cells ≤ 16777216)
@@ -12,8 +12,10 @@ IsSteps entries = (1 ≤ entries) × (entries ≤ 4294967296)
 -- the numbers of the job are those that its options allow
 abbrev pub IsInRange : Job → Type 0
 IsInRange Standard = Unit {0}
+IsInRange (Check file) = Unit {0}
 IsInRange (Run file arena steps choices history) = IsArena arena × IsSteps steps
 IsInRange (Replay file history arena) = IsArena arena
+IsInRange (List file) = Unit {0}
 IsInRange (Explain number) = Unit {0}
 
 -- a text was asked for, the words are wrong, or memory was refused

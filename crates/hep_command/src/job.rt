@@ -20,6 +20,10 @@ pub const MOST_STEPS: u64 = 4_294_967_296;
 pub enum Job<'a> {
     /// To run the source on standard input with the defaults: there is no word.
     Standard,
+    /// To say why a source is refused or not supported, if it is.
+    Check {
+        file: &'a str,
+    },
     /// To run a source.
     Run {
         file: &'a str,
@@ -38,6 +42,10 @@ pub enum Job<'a> {
         history: &'a str,
         /// The cells of the arena, 1 to 16,777,216.
         arena: u32,
+    },
+    /// To list the units and common blocks of a source with their cells.
+    List {
+        file: &'a str,
     },
     /// To say what a refusal means.
     Explain {

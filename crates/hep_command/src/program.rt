@@ -14,9 +14,13 @@ With no command it runs the source on standard input.";
 const EXAMPLES: &str = "Example: hepf run examples/powers.f
 `hepf COMMAND --help` has more; `man -l docs/hepf.1` has all, statuses too.";
 
+const CHECK_EXAMPLE: &str = "Example: hepf check examples/powers.f";
+
 const RUN_EXAMPLE: &str = "Example: hepf run examples/powers.f --history powers.history";
 
 const REPLAY_EXAMPLE: &str = "Example: hepf replay examples/powers.f powers.history";
+
+const LIST_EXAMPLE: &str = "Example: hepf list examples/sort.f";
 
 const EXPLAIN_EXAMPLE: &str = "Example: hepf explain 403";
 
@@ -42,6 +46,18 @@ fn arena_option<'a>(alloc: Global) -> Arg<'a> {
     )
 }
 
+// The source of a command.
+fn source_argument<'a>(alloc: Global) -> Arg<'a> {
+    argument(alloc, "file", "FILE").help("The source")
+}
+
+fn check_command<'a>(alloc: Global) -> Result<Command<'a>, AllocError> {
+    Command::new(alloc, "check")
+        .about("Say why a source can't run, and nothing if it can")
+        .after_help(CHECK_EXAMPLE)
+        .arg(source_argument(alloc))
+}
+
 fn run_command<'a>(alloc: Global) -> Result<Command<'a>, AllocError> {
     let steps = number_option(alloc, "steps", MOST_STEPS).help(
         "Steps at most, 1 to 4294967296 [default: 10000000]",
@@ -52,11 +68,10 @@ fn run_command<'a>(alloc: Global) -> Result<Command<'a>, AllocError> {
     let history = file_option(alloc, "history").help(
         "Gets the history: process and steps, an entry a line",
     );
-    let file = argument(alloc, "file", "FILE").help("The source");
     Command::new(alloc, "run")
         .about("Run a source")
         .after_help(RUN_EXAMPLE)
-        .arg(file)?
+        .arg(source_argument(alloc))?
         .arg(arena_option(alloc))?
         .arg(steps)?
         .arg(choices)?
@@ -64,16 +79,22 @@ fn run_command<'a>(alloc: Global) -> Result<Command<'a>, AllocError> {
 }
 
 fn replay_command<'a>(alloc: Global) -> Result<Command<'a>, AllocError> {
-    let file = argument(alloc, "file", "FILE").help("The source");
     let history = argument(alloc, "history", "HISTORY").help(
         "A history that `run --history` wrote, or some first lines of it",
     );
     Command::new(alloc, "replay")
         .about("Make the steps of a history again")
         .after_help(REPLAY_EXAMPLE)
-        .arg(file)?
+        .arg(source_argument(alloc))?
         .arg(history)?
         .arg(arena_option(alloc))
+}
+
+fn list_command<'a>(alloc: Global) -> Result<Command<'a>, AllocError> {
+    Command::new(alloc, "list")
+        .about("List the units and common blocks of a source with their cells")
+        .after_help(LIST_EXAMPLE)
+        .arg(source_argument(alloc))
 }
 
 fn explain_command<'a>(alloc: Global) -> Result<Command<'a>, AllocError> {
@@ -96,7 +117,9 @@ pub(crate) fn program<'a>(alloc: Global) -> Result<Command<'a>, AllocError> {
         .version(VERSION)
         .about(ABOUT)
         .after_help(EXAMPLES)
+        .subcommand(check_command(alloc)?)?
         .subcommand(run_command(alloc)?)?
         .subcommand(replay_command(alloc)?)?
+        .subcommand(list_command(alloc)?)?
         .subcommand(explain_command(alloc)?)
 }

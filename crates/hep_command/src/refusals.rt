@@ -51,11 +51,46 @@ Write one: statements and END, with a PROGRAM statement before them or without.
 statement, a second main program; or the last statement of the source isn't END.
 Move it, or end the unit with END.
 ",
-        301 =>
-            "A name has no type, since it begins with no letter from I to N; the line has the name.
-Take a name that begins with I to N.
+        301 => "A name has no type: it begins with no letter from I to N, and no INTEGER, LOGICAL
+or IMPLICIT gives it one; the line has the name.
+Declare it, or take a name that begins with I to N.
 ",
-        403 => "The statement is one of the language, but it doesn't run yet.
+        302 => "The statement has a value of the wrong type, or an array where a scalar must
+stand; or its bounds, subscripts or PARAMETER value aren't as they must be.
+Write an integer or a logical value, as the statement wants it.
+",
+        303 => "A subroutine or function gets another number of arguments than it has.
+Write as many as its SUBROUTINE statement or its definition has.
+",
+        304 => "An argument doesn't fit what it is given to: by its type, array or scalar, $ or
+plain. FULL, EMPTY, VALUE, SETE, WAITF and PURGE want names that begin with $.
+",
+        305 => "The unit has a common block of another length, or with other types, than a unit
+before it. Give the block the same length and the same types in each unit.
+",
+        306 => "A label that the statement uses is on no executable statement of the unit, or the
+statement has a label that another one has too.
+Put each label on one executable statement.
+",
+        307 => "A DO or a block IF isn't closed, or isn't nested as it must be; or a logical IF
+or the end of a DO is a statement that can't stand there.
+Close each DO and each IF within the one around it.
+",
+        308 => "The statement jumps into a DO or into a block of an IF, or to an ELSE or ELSE IF.
+Jump to its DO or its IF, or to a statement around it.
+",
+        309 => "A name stands for two things, or is given its type, bounds or value twice; or
+IMPLICIT names a letter twice. The line is the later one of the two.
+Take another name, or take one of the two out.
+",
+        310 => "A name is no subroutine, array or function, but is used so; the line has the name.
+Write the subroutine, or declare the array.
+",
+        311 => "DATA stands where there may be none, or has too few or too many values, a wrong
+value, or one for what has a value already.
+Give each element of the main program's own variables one value of its type.
+",
+        403 => "The program breaks no rule, but this statement of it doesn't run yet.
 What runs is one main program of assignments and PRINT statements over integers.
 ",
         501 => "This line of the file of choices names no living process.

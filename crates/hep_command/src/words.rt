@@ -35,6 +35,14 @@ fn arena_of(found: &ArgMatches<'_>) -> Option<u32>
     Some(cells as u32)
 }
 
+fn check_job<'a>(found: &ArgMatches<'a>) -> Option<Job<'a>>
+    ensures { IfSome result IsInRange }
+{
+    Some(Job::Check {
+        file: found.get_str("file")?,
+    })
+}
+
 fn run_job<'a>(found: &ArgMatches<'a>) -> Option<Job<'a>>
     ensures { IfSome result IsInRange }
 {
@@ -57,6 +65,14 @@ fn replay_job<'a>(found: &ArgMatches<'a>) -> Option<Job<'a>>
     })
 }
 
+fn list_job<'a>(found: &ArgMatches<'a>) -> Option<Job<'a>>
+    ensures { IfSome result IsInRange }
+{
+    Some(Job::List {
+        file: found.get_str("file")?,
+    })
+}
+
 fn explain_job<'a>(found: &ArgMatches<'a>) -> Option<Job<'a>>
     ensures { IfSome result IsInRange }
 {
@@ -71,11 +87,17 @@ fn job_of<'a>(matches: &ArgMatches<'a>) -> Option<Job<'a>>
     let Some((command, found)) = matches.subcommand() else {
         return Some(Job::Standard);
     };
+    if command == "check" {
+        return check_job(found);
+    }
     if command == "run" {
         return run_job(found);
     }
     if command == "replay" {
         return replay_job(found);
+    }
+    if command == "list" {
+        return list_job(found);
     }
     if command == "explain" {
         return explain_job(found);

@@ -1,70 +1,27 @@
 -- Ranges of one variable, one in another: 307.
-use Rattle.std.proofs.Common.{◌≡◌, ℕ, suc, ◌<◌, ◌≤◌, Bool, true, false, ◌&&◌, ◌||◌, nat_eq, nat_lt, nat_le, cond, if◌then◌else◌, true≢false, List, [], ◌∷◌, ◌++◌, Option, Some, None, refl, ◌∙◌, sym, ap, arith}
+use Rattle.std.proofs.Common.{◌≡◌, ℕ, suc, ◌<◌, ◌≤◌, Bool, true, false, ◌&&◌, ◌||◌, nat_lt, nat_le, cond, if◌then◌else◌, List, [], ◌∷◌, ◌++◌, Option, Some, None, refl, ◌∙◌, sym, ap, arith}
 use Rattle.std.specs.List.{flat_map, list_any}
-use Rattle.std.specs.Cmp.Lexicographic.{pointwise}
 use Rattle.std.proofs.lemmas.Bool.Decides.{nat_tests}
-use mathlib.Core.Bool.{beq}
 use Rattle.hep_source.specs.declared.name.Name.{Name}
 use Rattle.hep_source.specs.declared.statement.Form.{Form}
 use Rattle.hep_source.specs.declared.statement.Form.TheVariants as form
 use Rattle.hep_source.specs.declared.statement.Statement.{Statement}
-use Rattle.hep_source.specs.Names.{same_logical, same_letters, same_name}
+use Rattle.hep_source.specs.Names.{name_eq, same_name}
 use Rattle.hep_source.specs.Units.{line_at}
+use Rattle.hep_source.proofs.NameTests.{equal_names, name_eq-is}
 use Rattle.hep_machine.specs.Control.{index_labelled}
 use Rattle.hep_check.specs.Nesting.{DoRange, indexed_from, is_unconditional, range_to, range_by, ranges_of, shares_variable}
 use Rattle.hep_check.specs.Reported.{least_line, line_when, least_line_of}
 use Rattle.hep_check.proofs.Lines.{least_line-assoc}
 use Rattle.hep_control.specs.Ranges.{range_at}
-use Rattle.hep_control.specs.Crossing.{name_eq, later, with_range, reaches, least_shared}
-
--- ---- the test that a table makes of two names is the definitions' test
-
-logicals : (a b : Bool) → beq a b ≡ same_logical a b
-logicals true true = refl
-logicals true false = refl
-logicals false true = refl
-logicals false false = refl
-
-letters : (cs ds : List ℕ) → pointwise nat_eq cs ds ≡ same_letters cs ds
-letters [] [] = refl
-letters [] (d ∷ ds) = refl
-letters (c ∷ cs) [] = refl
-letters (c ∷ cs) (d ∷ ds) = ap (λ b. nat_eq c d && b) (letters cs ds)
-
-same-is : (x y : Name) → name_eq x y ≡ same_name x y
-same-is x y = ap (λ b. b && pointwise nat_eq x.letters y.letters) (logicals x.asynchronous y.asynchronous) ∙ ap (λ b. same_logical x.asynchronous y.asynchronous && b) (letters x.letters y.letters)
-
-logical-equal : (a b : Bool) → same_logical a b ≡ true → a ≡ b
-logical-equal true true h = refl
-logical-equal false false h = refl
-logical-equal true false h = sym h
-logical-equal false true h = h
-
-and-parts : (a b : Bool) → (a && b) ≡ true → (a ≡ true) × (b ≡ true)
-and-parts true b h = (refl, h)
-and-parts false b h = absurd (true≢false (sym h))
-
-number-equal : (a b : ℕ) → nat_eq a b ≡ true → a ≡ b
-number-equal a b h = grind (arith, nat_tests, h)
-
-letters-equal : (cs ds : List ℕ) → same_letters cs ds ≡ true → cs ≡ ds
-letters-equal [] [] h = refl
-letters-equal [] (d ∷ ds) h = absurd (true≢false (sym h))
-letters-equal (c ∷ cs) [] h = absurd (true≢false (sym h))
-letters-equal (c ∷ cs) (d ∷ ds) h = let p = and-parts (nat_eq c d) (same_letters cs ds) h in rw (number-equal c d p.0, letters-equal cs ds p.1) refl
-
-same-equal : (x y : Name) → same_name x y ≡ true → x ≡ y
-same-equal x y h = let p = and-parts (same_logical x.asynchronous y.asynchronous) (same_letters x.letters y.letters) h in by (logical-equal x.asynchronous y.asynchronous p.0) (letters-equal x.letters y.letters p.1)
-  where
-    by : x.asynchronous ≡ y.asynchronous → x.letters ≡ y.letters → x ≡ y
-    by a l = ap (λ b. record { asynchronous = b; letters = x.letters }) a ∙ ap (λ cs. record { asynchronous = y.asynchronous; letters = cs }) l
+use Rattle.hep_control.specs.Crossing.{later, with_range, reaches, least_shared}
 
 -- ---- the pass
 
 -- a range that a table gets
 pub met-range : (last : Name → Option ℕ) (r : DoRange) (x : Name)
     → cond (name_eq r.variable x) (Some (later (last r.variable) r.terminal)) (last x) ≡ with_range last r x
-met-range last r x = ap (λ b. cond b (Some (later (last r.variable) r.terminal)) (last x)) (same-is r.variable x) ∙ by (same_name r.variable x)
+met-range last r x = ap (λ b. cond b (Some (later (last r.variable) r.terminal)) (last x)) (name_eq-is r.variable x) ∙ by (same_name r.variable x)
   where
     by : (b : Bool) → cond b (Some (later (last r.variable) r.terminal)) (last x) ≡ (if b then Some (later (last r.variable) r.terminal) else last x)
     by true = refl
@@ -159,7 +116,7 @@ latest-reaches k x (r ∷ rs) = by (same_name r.variable x) refl (latest-reaches
     by : (b : Bool) → same_name r.variable x ≡ b → reaches (latest rs x) k ≡ list_any (reaches_by k x) rs
         → reaches (if b then Some (later (latest rs r.variable) r.terminal) else latest rs x) k ≡ ((nat_le k r.terminal && b) || list_any (reaches_by k x) rs)
     by true e h =
-        ap (λ y. reaches (Some (later (latest rs y) r.terminal)) k) (same-equal r.variable x e)
+        ap (λ y. reaches (Some (later (latest rs y) r.terminal)) k) (equal_names r.variable x e)
         ∙ (reaches-later (latest rs x) r.terminal k ∙ (ap (λ b. nat_le k r.terminal || b) h ∙ ap (λ b. b || list_any (reaches_by k x) rs) (and-true (nat_le k r.terminal))))
     by false e h = h ∙ ap (λ b. b || list_any (reaches_by k x) rs) (and-false (nat_le k r.terminal))
 

@@ -1,8 +1,6 @@
 -- What isn't nested, by events and by variables (X3.9-1978, 11.10.1).
-use Rattle.std.specs.Prelude.{ℕ, suc, Bool, false, ◌&&◌, nat_eq, nat_le, max, if◌then◌else◌, List, [], ◌∷◌, map, Option, Some, None}
+use Rattle.std.specs.Prelude.{ℕ, suc, Bool, false, nat_le, max, if◌then◌else◌, List, [], ◌∷◌, map, Option, Some, None}
 use Rattle.std.specs.Option.{unwrap_or}
-use Rattle.std.specs.Cmp.Lexicographic.{pointwise}
-use mathlib.Core.Bool.{beq}
 use Rattle.hep_source.specs.declared.name.Name.{Name}
 use Rattle.hep_source.specs.declared.statement.Statement.{Statement}
 use Rattle.hep_source.specs.Names.{same_name}
@@ -54,10 +52,6 @@ abbrev pub question_in_range : List Statement → DoRange → Event
 question_in_range unit r = Question r.start (suc r.start) (suc r.terminal) (line_at unit r.start)
 
 -- ---- ranges of one variable
-
--- the test that a table makes of two names
-abbrev pub name_eq : Name → Name → Bool
-name_eq x y = beq x.asynchronous y.asynchronous && pointwise nat_eq x.letters y.letters
 
 -- the later of two terminal statements, where there is one before
 abbrev pub later : Option ℕ → ℕ → ℕ

@@ -3,6 +3,7 @@ ghost use Rattle.std.specs.Prelude.{◌≡◌, ◌++◌, IfOk, OnOk, None, map};
 ghost use Rattle.std.specs.List.{flat_map};
 ghost use Rattle.indexmap.specs.IndexMap.{get};
 ghost use Rattle.hep_source.specs.declared.name.Name.{Name as PureName};
+ghost use Rattle.hep_source.specs.Names as names;
 ghost use Rattle.hep_source.specs.Units as units;
 ghost use Rattle.hep_check.specs.Nesting as nesting;
 ghost use Rattle.hep_check.specs.Reported.{reported};
@@ -171,8 +172,8 @@ fn least_shared(
 
 // Whether a range of this variable that was met has this DO in it; from now on this one is met too.
 fn is_shared(last: &mut IndexMap<Name, usize>, range: &DoRange) -> Result<bool, AllocError>
-    ensures shared { IfOk result (λ it. it ≡ spec.reaches (get spec.name_eq last.old range.now.variable) range.now.start) }
-    ensures met { OnOk result ((x : PureName) → get spec.name_eq last.new x ≡ spec.with_range (get spec.name_eq last.old) (do_range range.now) x) }
+    ensures shared { IfOk result (λ it. it ≡ spec.reaches (get names.name_eq last.old range.now.variable) range.now.start) }
+    ensures met { OnOk result ((x : PureName) → get names.name_eq last.new x ≡ spec.with_range (get names.name_eq last.old) (do_range range.now) x) }
 {
     let before = last.get(&range.variable).copied();
     last.insert(range.variable, later(before, range.terminal))?;

@@ -1,5 +1,5 @@
 //! Images: a program with its operations.
-ghost use Rattle.std.specs.Prelude.{◌≡◌, ◌<◌, ◌++◌, ◌^◌, ◌∷◌, [], None, Some, IfOk, OnOk, IfErr, length, map, option_map, slice_get};
+ghost use Rattle.std.specs.Prelude.{◌≡◌, ◌++◌, None, IfOk, OnOk, IfErr, length, map, option_map, slice_get};
 ghost use Rattle.hep_source.specs.Names.{spelling as spelling_of};
 ghost use Rattle.hep_source.specs.Units as units;
 ghost use Rattle.hep_core.specs.Runnable as runnable;
@@ -11,15 +11,13 @@ ghost use Rattle.hep_core.specs.Names as words;
 use crate::lower::code_of;
 use crate::operation::Instruction;
 use crate::runnable::first_unsupported_in;
-use crate::symbols::{spelling, symbols_of};
+use crate::symbols::symbols_of;
 use hep_base::Refusal as ImageFault;
-use hep_source::{Form, Name, Program, Statement, Text, Unit};
+use hep_check::Checked;
+use hep_source::{Name, Program, Statement, Text, Unit};
 use indexmap::IndexSet;
 use std::alloc::{AllocError, Global};
 use std::marker::Model;
-
-/// The name of a main program without PROGRAM statement (X3.9-1978, 14.1).
-pub const MAIN_NAME: &[u8] = b"MAIN";
 
 /// A program that can run: its tree, its operations and its names. Contracts see the program.
 #[derive(Drop)]
@@ -50,7 +48,7 @@ impl Model for Image {
 
 impl Image {
     /// The name with this number, counted from 0, of a unit or a variable: first the units in the order of the
-    /// source, a main program without PROGRAM statement as `MAIN_NAME`, then the variables in order
+    /// source, a main program without PROGRAM statement as `MAIN`, then the variables in order
     /// of first appearance. None where there is no such number.
     pub fn name(&self, number: u32) -> Option<&[u8]>
         ensures { option_map (λ name. name.now) result
@@ -94,24 +92,12 @@ fn main_statements(program: &Program) -> &[Statement]
     }
 }
 
-// The name of a unit, or that of a main program where it has no header.
-fn unit_name(alloc: Global, statements: &[Statement]) -> Result<Text, AllocError>
-    ensures { IfOk result (λ name. name ≡ units.unit_name statements.now) }
-{
-    if let [first, ..] = statements {
-        if let Form::Program(occurrence) | Form::Subroutine(occurrence, _) = &first.form {
-            return spelling(alloc, &occurrence.name);
-        }
-    }
-    Ok(Text::from(Vec::from_slice(alloc, MAIN_NAME)?))
-}
-
 // Appends the names of these units.
 fn add_unit_names(alloc: Global, names: &mut Vec<Text>, list: &[Unit]) -> Result<(), AllocError>
     ensures { OnOk result (names.new.items ≡ names.old.items ++ map units.unit_name list.now) }
 {
     for unit in list {
-        names.push(unit_name(alloc, unit.as_slice())?)?;
+        names.push(unit.name(alloc)?)?;
     }
     Ok(())
 }
@@ -121,7 +107,7 @@ fn add_spellings(alloc: Global, names: &mut Vec<Text>, list: &[Name]) -> Result<
     ensures { OnOk result (names.new.items ≡ names.old.items ++ map spelling_of list.now) }
 {
     for name in list {
-        names.push(spelling(alloc, name)?)?;
+        names.push(name.spelling(alloc)?)?;
     }
     Ok(())
 }
@@ -141,24 +127,21 @@ fn names_of(
     Ok(names)
 }
 
-/// The image of a program.
+/// The image of a checked program.
 ///
 /// # Errors
 ///
-/// 403 for the first statement that isn't supported, with its line (docs/MACHINE.md); where there
-/// is none, 301 for the first variable whose letter isn't I to N, with its line and name; or want
-/// of memory.
-pub fn image_of(alloc: Global, program: Program) -> Result<Image, ImageFault>
-    ensures ok { IfOk result (λ image. image ≡ program) }
-    ensures runs { OnOk result (IsRunnable program) }
-    ensures refused { IfErr result (Refuses program) }
+/// 403 for the first statement that isn't supported, with its line (docs/MACHINE.md); or want of
+/// memory.
+pub fn image_of(alloc: Global, checked: Checked) -> Result<Image, ImageFault>
+    ensures ok { IfOk result (λ image. image ≡ checked) }
+    ensures runs { OnOk result (IsRunnable checked) }
+    ensures refused { IfErr result (Refuses checked) }
 {
+    checked.is_accepted();
+    let program = checked.into_program();
     if let Some(line) = first_unsupported_in(program.as_slice()) {
-        return Err(ImageFault::Refused {
-            number: 403,
-            line,
-            name: Text::from(Vec::new(alloc)),
-        });
+        return Err(ImageFault::refused(alloc, 403, line));
     }
     let statements = main_statements(&program);
     let symbols = symbols_of(alloc, statements)?;

@@ -12,12 +12,11 @@ pub mod stop;
 mod symbols;
 
 pub use fault::{ChooseFault, NewFault};
-/// Why a program has no image: 403, with the line and without a name, where a statement isn't
-/// supported; or 301, with the line and the name, where the letter of a variable isn't I to N
-/// (X3.9-1978, 4.1.2).
+/// Why a checked program has no image: 403, with the line and without a name, where a statement isn't
+/// supported.
 pub use hep_base::Refusal as ImageFault;
 pub use hep_machine::{Entry, Fault};
-pub use image::{Image, MAIN_NAME, image_of};
+pub use image::{Image, image_of};
 pub use operation::{Evaluation, Instruction, Operation};
 pub use scheduler::Core;
 pub use stop::{Stop, Turn, Verdict};

@@ -6,8 +6,9 @@ ghost use Rattle.hep_dump.specs.Faults as words;
 ghost use Rattle.hep_dump.specs.Names.{name_found};
 
 use crate::number::append_number;
-use hep_core::{Core, Image, MAIN_NAME};
+use hep_core::{Core, Image};
 use hep_machine::{Fault, Kind};
+use hep_source::MAIN_NAME;
 use std::alloc::{AllocError, Global};
 
 fn kind_text(kind: Kind) -> &'static [u8]

@@ -1,4 +1,5 @@
 mod Schedules
 mod Messages
 mod Fronts
+mod Accepted
 mod Outcomes

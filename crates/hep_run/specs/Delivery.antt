@@ -90,3 +90,7 @@ abbrev pub LeavesOfSource : (List ℕ → Outcome → Type 0) → Option (List �
 LeavesOfSource Is source source' run output output' messages messages' =
     (Keeps output output' × (run.history ≡ []) × CannotRead run.status messages messages')
     ⊎ (HasRead source source' × LeavesOneOf (IsOutcomeOf Is source) run output output' messages messages')
+
+-- a run without a history, of this exit status
+abbrev pub status_alone : ℕ → Run
+status_alone code = record { status = code; history = [] }

@@ -1,7 +1,9 @@
 pub mod Texts
 pub mod Statuses
+pub mod Sources
 pub mod Outcome
 pub mod Replay
+pub mod Checks
 pub mod Refusals
 pub mod Transcripts
 pub mod Delivery

@@ -1,8 +1,5 @@
 -- What a run of a source comes to, from its bytes to the bytes that it writes: docs/MACHINE.md, "The program".
-use Rattle.std.specs.Prelude.{◌≡◌, ◌≢◌, ◌⊎◌, ℕ, ◌+◌, ◌≤◌, true, false, if◌then◌else◌, List, [], ◌∷◌, ◌++◌, length, take, slice_get, Option, Some, None, Ok}
-use Rattle.hep_text.specs.declared.statement.Stmt.{Stmt}
-use Rattle.hep_text.specs.Reading.{statements_of, refusal}
-use Rattle.hep_parse.specs.Program.{IsProgram, IsFirstFault}
+use Rattle.std.specs.Prelude.{◌≡◌, ◌≢◌, ◌⊎◌, ℕ, ◌+◌, ◌≤◌, true, false, if◌then◌else◌, List, [], ◌∷◌, ◌++◌, length, take, slice_get, Option, Some, None}
 use Rattle.hep_machine.specs.declared.event.Entry.{Entry}
 use Rattle.hep_machine.specs.declared.event.Fault.{Fault}
 use Rattle.hep_source.specs.Units.{Units}
@@ -14,12 +11,12 @@ use Rattle.hep_machine.specs.Processes.{living}
 use Rattle.hep_core.specs.declared.stop.Stop.{Stop}
 use Rattle.hep_core.specs.declared.stop.Stop.TheVariants.{Halted, ArenaFull, StepLimit}
 use Rattle.hep_core.specs.Names.{names_of}
-use Rattle.hep_core.specs.Refusals.{IsRunnable, IsUnsupported}
 use Rattle.hep_run.specs.declared.options.Options.{Options}
 use Rattle.hep_run.specs.declared.status.Status.{Status}
 use Rattle.hep_run.specs.declared.status.Status.TheVariants as statuses
 use Rattle.hep_output.specs.Records.{records_text}
 use Rattle.hep_dump.specs.Faults.{faults_text}
+use Rattle.hep_run.specs.Sources.{IsRefusedSource, IsRunnableSource}
 use Rattle.hep_run.specs.Texts.{refusal_text, stop_text, choice_text}
 
 -- what a run writes to its two outputs, its status, and its history
@@ -28,20 +25,6 @@ pub record Outcome : Type 0 where
   pub messages : List ℕ
   pub status : Status
   pub history : List Entry
-
--- ---- sources
-
--- the source is refused with this number, line and name
-abbrev pub IsRefusedSource : List ℕ → ℕ → ℕ → List ℕ → Type 0
-IsRefusedSource source number line name =
-    ((statements_of source ≡ refusal number line) × (name ≡ []))
-    ⊎ ((statements : List Stmt) × (statements_of source ≡ Ok statements) × IsFirstFault statements number line name)
-    ⊎ ((statements : List Stmt) × (program : Units) × (statements_of source ≡ Ok statements) × IsProgram statements program × IsUnsupported program number line name)
-
--- the source is this program, and accepted
-abbrev pub IsRunnableSource : List ℕ → Units → Type 0
-IsRunnableSource source program =
-    (statements : List Stmt) × (statements_of source ≡ Ok statements) × IsProgram statements program × IsRunnable program
 
 -- ---- schedules
 

@@ -8,7 +8,8 @@ use Rattle.hep_core.specs.Value.{CoreValue, opening_of}
 use Rattle.hep_run.specs.declared.options.Options.{Options}
 use Rattle.hep_run.specs.declared.run.Halt.{Halt}
 use Rattle.hep_run.specs.declared.run.Halt.TheVariants.{NoMemory, NoSuchProcess}
-use Rattle.hep_run.specs.Outcome.{IsRunnableSource, IsScheduled, IsCutShort, IsChoiceRefused}
+use Rattle.hep_run.specs.Sources.{IsRunnableSource}
+use Rattle.hep_run.specs.Outcome.{IsScheduled, IsCutShort, IsChoiceRefused}
 
 -- the core is at the opening of the accepted program that the source is, whose main program's frame has a gap in the arena
 abbrev pub IsOpening : List ℕ → Options → CoreValue → Type 0

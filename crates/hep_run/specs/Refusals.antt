@@ -9,16 +9,24 @@ use Rattle.hep_core.specs.declared.fault.NewFault.TheVariants as new
 use Rattle.hep_run.specs.declared.options.Options.{Options}
 use Rattle.hep_run.specs.declared.refusal.OpeningFault.{OpeningFault}
 use Rattle.hep_run.specs.declared.refusal.OpeningFault.TheVariants.{Source, ArenaFull}
-use Rattle.hep_run.specs.Outcome.{IsRefusedSource, IsRunnableSource}
+use Rattle.hep_run.specs.Sources.{IsRefusedSource, IsUnacceptedSource, IsRunnableSource}
 
 abbrev pub of_new : NewFault → OpeningFault
 of_new new.NoMemory = Source NoMemory
 of_new new.ArenaFull = ArenaFull
 
--- the source is refused so; want of memory says nothing of it
+-- a refusal has such a number, line and name; want of memory says nothing
+abbrev pub Tells : (ℕ → ℕ → List ℕ → Type 0) → Refusal → Type 0
+Tells Is NoMemory = Unit {0}
+Tells Is (Refused number line name) = Is number line name
+
+-- why a source isn't accepted
+abbrev pub IsCheckRefusal : List ℕ → Refusal → Type 0
+IsCheckRefusal source refusal = Tells (IsUnacceptedSource source) refusal
+
+-- why a source isn't run
 abbrev pub IsSourceRefusal : List ℕ → Refusal → Type 0
-IsSourceRefusal source NoMemory = Unit {0}
-IsSourceRefusal source (Refused number line name) = IsRefusedSource source number line name
+IsSourceRefusal source refusal = Tells (IsRefusedSource source) refusal
 
 -- the source is refused so, or its frame has no gap in the arena
 abbrev pub IsOpeningFault : List ℕ → Options → OpeningFault → Type 0

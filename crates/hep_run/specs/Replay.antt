@@ -13,7 +13,8 @@ use Rattle.hep_history.specs.Lines.{AreLines, IsRefusedText}
 use Rattle.hep_history.specs.Histories.{entry_text, IsAllowed}
 use Rattle.hep_history.specs.Replays.{replayed, ArePossible, IsFirstImpossible}
 use Rattle.hep_run.specs.declared.status.Status.TheVariants as statuses
-use Rattle.hep_run.specs.Outcome.{Outcome, IsRefusedSource, IsRunnableSource, refused, outcome_of_full_arena, status_of}
+use Rattle.hep_run.specs.Sources.{IsRefusedSource, IsRunnableSource}
+use Rattle.hep_run.specs.Outcome.{Outcome, refused, outcome_of_full_arena, status_of}
 use Rattle.hep_run.specs.Texts.{refusal_text, stop_text}
 
 -- ---- outcomes

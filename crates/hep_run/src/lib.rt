@@ -1,6 +1,7 @@
 //! The work on one source, from its reader's bytes to the bytes of its two outputs.
 #![tactic(auto)]
 
+pub mod checks;
 pub mod deliver;
 pub mod files;
 pub mod front;
@@ -18,4 +19,4 @@ pub use deliver::put_text;
 pub use files::{answer, choices_of, history_text, read_text_file, say_unread, say_unwritten};
 pub use input::ReadFault;
 pub use options::{Options, Run};
-pub use source::{replay_bytes, replay_source, run_bytes, run_source};
+pub use source::{check_source, list_source, replay_bytes, replay_source, run_bytes, run_source};

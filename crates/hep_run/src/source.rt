@@ -1,9 +1,11 @@
-//! The program's work on one source, from its reader to its two writers: a run, or a replay.
-ghost use Rattle.hep_run.specs.Delivery.{LeavesOneOf, LeavesOfSource};
+//! The program's work on one source, from its reader to its two writers: a check, its lines, a run, or a replay.
+ghost use Rattle.hep_run.specs.Delivery.{LeavesOneOf, LeavesOfSource, status_alone};
+ghost use Rattle.hep_run.specs.Checks.{IsCheckOutcome, IsListOutcome};
 ghost use Rattle.hep_run.specs.Outcome.{IsOutcome};
 ghost use Rattle.hep_run.specs.Replay.{IsReplayOutcome};
 
-use crate::deliver::{deliver, write_messages};
+use crate::checks::{check_transcript, list_transcript};
+use crate::deliver::{deliver, say, write_messages};
 use crate::files::say_unread;
 use crate::input::read_input;
 use crate::options::{Options, Run};
@@ -23,6 +25,78 @@ pub const MOST_BYTES: usize = 4_194_304;
 
 /// The line where memory was refused.
 pub const NO_MEMORY: &[u8] = b"NO MEMORY\n";
+
+fn check_bytes<W: Write, E: Write>(
+    alloc: Global,
+    source: &[u8],
+    output: &mut W,
+    messages: &mut E,
+) -> u8
+    ensures { LeavesOneOf (IsCheckOutcome source.now) (status_alone result)
+        (W.contents output.old) (W.contents output.new)
+        (E.contents messages.old) (E.contents messages.new) }
+{
+    match check_transcript(alloc, source) {
+        Ok(transcript) => deliver(transcript, output, messages).status,
+        Err(_) => say(messages, NO_MEMORY, Status::NoMemory),
+    }
+}
+
+/// Checks a source: reads it, and writes to `messages` why it is refused or not supported, if it is. Where it
+/// isn't, nothing is written, and `run_source` would run it.
+///
+/// The answer is the code of a `Status`.
+pub fn check_source<R: Read, W: Write, E: Write>(
+    alloc: Global,
+    source: &mut R,
+    output: &mut W,
+    messages: &mut E,
+) -> u8
+    ensures { LeavesOfSource IsCheckOutcome (R.remaining source.old) (R.remaining source.new)
+        (status_alone result) (W.contents output.old) (W.contents output.new)
+        (E.contents messages.old) (E.contents messages.new) }
+{
+    match read_input(alloc, source, MOST_BYTES) {
+        Ok(bytes) => check_bytes(alloc, &bytes, output, messages),
+        Err(fault) => say_unread(messages, fault),
+    }
+}
+
+fn list_bytes<W: Write, E: Write>(
+    alloc: Global,
+    source: &[u8],
+    output: &mut W,
+    messages: &mut E,
+) -> u8
+    ensures { LeavesOneOf (IsListOutcome source.now) (status_alone result)
+        (W.contents output.old) (W.contents output.new)
+        (E.contents messages.old) (E.contents messages.new) }
+{
+    match list_transcript(alloc, source) {
+        Ok(transcript) => deliver(transcript, output, messages).status,
+        Err(_) => say(messages, NO_MEMORY, Status::NoMemory),
+    }
+}
+
+/// Lists a source: reads it, and writes to `output` the lines of its units and common blocks, also where it isn't
+/// supported; or to `messages` why it is refused.
+///
+/// The answer is the code of a `Status`.
+pub fn list_source<R: Read, W: Write, E: Write>(
+    alloc: Global,
+    source: &mut R,
+    output: &mut W,
+    messages: &mut E,
+) -> u8
+    ensures { LeavesOfSource IsListOutcome (R.remaining source.old) (R.remaining source.new)
+        (status_alone result) (W.contents output.old) (W.contents output.new)
+        (E.contents messages.old) (E.contents messages.new) }
+{
+    match read_input(alloc, source, MOST_BYTES) {
+        Ok(bytes) => list_bytes(alloc, &bytes, output, messages),
+        Err(fault) => say_unread(messages, fault),
+    }
+}
 
 /// Runs a source that was read: checks it, runs it by the options, and then writes the records to
 /// `output` and the faults, the stop or the refusal to `messages`.

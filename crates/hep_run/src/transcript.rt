@@ -3,6 +3,7 @@ ghost use Rattle.std.specs.Prelude.{◌≡◌, ◌+◌, [], IfOk, length};
 ghost use Rattle.hep_run.specs.Texts as texts;
 ghost use Rattle.hep_run.specs.Outcome as outcome;
 ghost use Rattle.hep_run.specs.Outcome.{outcome_of_end, outcome_of_refused_choice};
+ghost use Rattle.hep_run.specs.Checks.{outcome_of_text};
 ghost use Rattle.hep_run.specs.Replay as replay;
 ghost use Rattle.hep_run.specs.Replay.{outcome_of_core, outcome_of_refused_history};
 ghost use Rattle.hep_run.specs.Transcripts.{outcome_of};
@@ -181,6 +182,18 @@ pub fn refused_transcript(
     put_refusal(&mut messages, number, u64::from(line), name.as_slice())?;
     let history = History::from(Vec::new(alloc));
     Ok(Transcript::silent(alloc, messages, Status::Refused, history))
+}
+
+/// What is left where this text is the answer.
+pub fn text_transcript(alloc: Global, text: Vec<u8>) -> Transcript
+    ensures { outcome_of result ≡ outcome_of_text text.items }
+{
+    Transcript {
+        output: text,
+        messages: Vec::new(alloc),
+        status: Status::Done,
+        history: History::from(Vec::new(alloc)),
+    }
 }
 
 /// What a program leaves whose frame doesn't fit the arena.

@@ -22,7 +22,7 @@ pub use function::{PureFunction, StateFunction};
 pub use hep_base::{Sequence, Text};
 pub use name::{Name, Occurrence};
 pub use operator::{ArithmeticOperator, LogicalOperator, Operator, RelationalOperator, Sign};
-pub use program::{Program, Unit};
+pub use program::{MAIN_NAME, Program, Unit};
 pub use statement::{DoControl, Form, PrintItem, SignLabels, Statement};
 pub use syntax::Syntax;
 pub use value::Value;

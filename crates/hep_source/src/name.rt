@@ -1,4 +1,9 @@
 //! Symbolic names, and names where they stand in a statement.
+ghost use Rattle.std.specs.Prelude.{◌≡◌, IfOk};
+ghost use Rattle.hep_source.specs.Names as names;
+
+use hep_base::Text;
+use std::alloc::{AllocError, Global};
 
 /// A symbolic name (X3.9-1978, 2.2): one to six letters or digits, the first a letter, with blanks
 /// after them up to six. The sign `$` before a name makes it asynchronous; it isn't one of the
@@ -7,6 +12,28 @@
 pub struct Name {
     pub asynchronous: bool,
     pub letters: [u8; 6],
+}
+
+impl Name {
+    /// The characters of the name, with `$` before them where it is asynchronous.
+    ///
+    /// # Errors
+    ///
+    /// Only where memory was refused.
+    pub fn spelling(&self, alloc: Global) -> Result<Text, AllocError>
+        ensures { IfOk result (λ text. text ≡ names.spelling self.now) }
+    {
+        let mut characters = Vec::with_capacity(alloc, 7)?;
+        if self.asynchronous {
+            characters.push(b'$')?;
+        }
+        for letter in &self.letters {
+            if *letter != b' ' {
+                characters.push(*letter)?;
+            }
+        }
+        Ok(Text::from(characters))
+    }
 }
 
 /// A name where it stands in a statement.

@@ -1,10 +1,15 @@
 //! Program units and programs.
 ghost use Rattle.std.specs.Prelude.{◌≡◌, ◌↔◌, IfOk, IsTrue};
+ghost use Rattle.hep_source.specs.Units as units;
 
-use crate::statement::Statement;
+use crate::statement::{Form, Statement};
 use crate::syntax::{Syntax, copy_all, same_all};
+use hep_base::Text;
 use std::alloc::{AllocError, Global};
 use std::marker::Model;
+
+/// The name by which a main program without PROGRAM statement is shown (X3.9-1978, 14.1).
+pub const MAIN_NAME: &[u8] = b"MAIN";
 
 /// A program unit (X3.9-1978, 2.4): its statements from the header, where it has one, to END.
 /// Contracts see their list.
@@ -47,6 +52,23 @@ impl Unit {
         ensures { result.items ≡ self }
     {
         self.statements
+    }
+
+    /// The name by which the unit is shown: that of its header, or `MAIN` for a main program without PROGRAM
+    /// statement.
+    ///
+    /// # Errors
+    ///
+    /// Only where memory was refused.
+    pub fn name(&self, alloc: Global) -> Result<Text, AllocError>
+        ensures { IfOk result (λ name. name ≡ units.unit_name self.now) }
+    {
+        if let [first, ..] = self.as_slice() {
+            if let Form::Program(occurrence) | Form::Subroutine(occurrence, _) = &first.form {
+                return occurrence.name.spelling(alloc);
+            }
+        }
+        Ok(Text::from(Vec::from_slice(alloc, MAIN_NAME)?))
     }
 }
 

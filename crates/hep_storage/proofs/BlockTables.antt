@@ -19,7 +19,7 @@ use Rattle.hep_storage.proofs.Pairs.{block-equal}
 
 -- ---- the test that a table of blocks makes is the definitions' test
 
-block_eq-is : (k b : BlockName) → option_eq name_eq k b ≡ same_block k b
+pub block_eq-is : (k b : BlockName) → option_eq name_eq k b ≡ same_block k b
 block_eq-is None None = refl
 block_eq-is None (Some y) = refl
 block_eq-is (Some x) None = refl
@@ -37,7 +37,7 @@ other-kept k b new old h = changed k b new old ∙ ap (λ t. if t then new else 
 
 -- ---- lists of COMMON
 
-names-append : (ds es : List Declarator) → names_declared (ds ++ es) ≡ names_declared ds ++ names_declared es
+pub names-append : (ds es : List Declarator) → names_declared (ds ++ es) ≡ names_declared ds ++ names_declared es
 names-append [] es = refl
 names-append (d ∷ ds) es = ap (λ xs. d.occurrence.name ∷ xs) (names-append ds es)
 

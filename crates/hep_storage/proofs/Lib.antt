@@ -17,3 +17,4 @@ pub mod Listings
 pub mod BlockTables
 pub mod BlocksNamed
 pub mod Joins
+pub mod CellCounts

@@ -55,7 +55,7 @@ block-self (Some x) = same_name-self x
 either-true : (a b : Bool) → a ≡ true → (a || b) ≡ true
 either-true a b h = ap (λ c. c || b) h
 
-or-true : (a b : Bool) → b ≡ true → (a || b) ≡ true
+pub or-true : (a b : Bool) → b ≡ true → (a || b) ≡ true
 or-true true b h = refl
 or-true false b h = h
 

@@ -4,8 +4,9 @@
 
 mod agreement;
 mod blocks;
+pub mod cells;
 mod common;
-mod constants;
+pub mod constants;
 mod data;
 mod given;
 mod runs;
@@ -13,4 +14,5 @@ mod shapes;
 mod violation;
 
 pub use agreement::common_violation;
+pub use cells::{adjustable_dimensions, cells_of};
 pub use violation::data_violation;

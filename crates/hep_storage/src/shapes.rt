@@ -136,7 +136,8 @@ fn bound_of(
     }
 }
 
-fn bounds_of(
+// The bounds of these dimensions; none where one has no value.
+pub(crate) fn bounds_of(
     alloc: Global,
     symbols: &Symbols,
     constants: &Constants,

@@ -1,4 +1,4 @@
-//! `hepf`: runs, replays and explains HEP FORTRAN.
+//! `hepf`: checks, lists, runs, replays and explains HEP FORTRAN.
 //!
 //! What stands here opens files, and joins calls that do the rest: `hep_command` reads the words, and
 //! `hep_run` does the work and says what went wrong.
@@ -10,8 +10,8 @@ mod tests;
 use hep_command::{Job, explain, read_words};
 use hep_history::Choices;
 use hep_run::{
-    Options, ReadFault, Run, answer, choices_of, history_text, put_text, read_text_file,
-    replay_source, run_source, say_unread, say_unwritten,
+    Options, ReadFault, Run, answer, check_source, choices_of, history_text, list_source, put_text,
+    read_text_file, replay_source, run_source, say_unread, say_unwritten,
 };
 use std::fs::File;
 use std::io::ErrorKind;
@@ -65,6 +65,22 @@ fn run_standard(rt: &HostRuntime) -> u8 {
     .status
 }
 
+fn check_file(rt: &HostRuntime, file: &str) -> u8 {
+    let mut messages = rt.stderr();
+    match File::open(rt, file) {
+        Ok(mut source) => check_source(rt.alloc(), &mut source, &mut rt.stdout(), &mut messages),
+        Err(_) => say_unread(&mut messages, ReadFault::Failed),
+    }
+}
+
+fn list_file(rt: &HostRuntime, file: &str) -> u8 {
+    let mut messages = rt.stderr();
+    match File::open(rt, file) {
+        Ok(mut source) => list_source(rt.alloc(), &mut source, &mut rt.stdout(), &mut messages),
+        Err(_) => say_unread(&mut messages, ReadFault::Failed),
+    }
+}
+
 fn run_file(rt: &HostRuntime, file: &str, options: &Options, history: Option<&str>) -> u8 {
     let mut messages = rt.stderr();
     let run = match File::open(rt, file) {
@@ -107,6 +123,7 @@ fn replay_file(rt: &HostRuntime, file: &str, history: &[u8], arena: u32) -> u8 {
 fn done(rt: &HostRuntime, job: Job<'_>) -> Result<u8, u8> {
     let status = match job {
         Job::Standard => run_standard(rt),
+        Job::Check { file } => check_file(rt, file),
         Job::Run {
             file,
             arena,
@@ -127,6 +144,7 @@ fn done(rt: &HostRuntime, job: Job<'_>) -> Result<u8, u8> {
             history,
             arena,
         } => replay_file(rt, file, &file_bytes(rt, history)?, arena),
+        Job::List { file } => list_file(rt, file),
         Job::Explain { number } => {
             let usage = explain(rt.alloc(), number);
             answer(

@@ -1,11 +1,13 @@
 //! Whole runs, with their bytes.
 
 mod commands;
+mod conditions;
 mod parts;
 mod shapes;
 mod texts;
 
-use hep_core::{ChooseFault, Core, Entry, Stop, Turn, Verdict, image_of};
+use hep_checked::check;
+use hep_core::{ChooseFault, Core, Entry, Image, Stop, Turn, Verdict, image_of};
 use hep_history::Choices;
 use hep_parse::parse;
 use hep_run::{Options, Run, run_source};
@@ -55,9 +57,13 @@ fn program_of(alloc: Global, source: &[u8]) -> Result<Program, Fail> {
     Ok(parse(alloc, &statements(alloc, source)?)?)
 }
 
+fn image_from(alloc: Global, source: &[u8]) -> Result<Image, Fail> {
+    let checked = check(alloc, program_of(alloc, source)?)?;
+    Ok(image_of(alloc, checked)?)
+}
+
 fn core_of(alloc: Global, source: &[u8], cells: u32, steps: u64) -> Result<Core, Fail> {
-    let program = program_of(alloc, source)?;
-    Ok(Core::new(alloc, image_of(alloc, program)?, cells, steps)?)
+    Ok(Core::new(alloc, image_from(alloc, source)?, cells, steps)?)
 }
 
 fn chosen(core: &mut Core, process: u64) -> Result<Turn, ChooseFault> {
@@ -420,15 +426,15 @@ const REFUSALS: [Refusal; 17] = [
     },
     Refusal {
         source: b"      PRINT *,.TRUE..AND.1\n      END\n",
-        messages: b"REFUSED 403 LINE 1\n",
+        messages: b"REFUSED 302 LINE 1\n",
     },
     Refusal {
         source: b"      END\n      SUBROUTINE S($X,Y)\n      $X=Y\n      END\n",
-        messages: b"REFUSED 403 LINE 2\n",
+        messages: b"REFUSED 301 LINE 2 NAME $X\n",
     },
     Refusal {
         source: b"      d o 1 0 i = 1 , 3\n      end\n",
-        messages: b"REFUSED 403 LINE 1\n",
+        messages: b"REFUSED 306 LINE 1\n",
     },
     Refusal {
         source: b"      d o 1 0 i = 1\n      end\n",
@@ -440,7 +446,7 @@ const REFUSALS: [Refusal; 17] = [
     },
     Refusal {
         source: b"      PROGRAM END\n      INTEGER INTEGE,REAL\n      COMMON /COMMON/ DATA\n      DATA PRINT/1/\n      CALL CALL(IF,DO)\n      CREATE CREATE\n      DO 10 DO=IF,END\n      PURGE $PURGE\n      GO TO (10),GOTO\n      IF (IF.EQ.THEN) THEN=ELSE\n      END\n      SUBROUTINE RETURN(STOP,$ELSE)\n      END\n",
-        messages: b"REFUSED 403 LINE 2\n",
+        messages: b"REFUSED 301 LINE 3 NAME DATA\n",
     },
 ];
 
@@ -521,7 +527,7 @@ fn forms(rt: HostRuntime) -> Result<(), Fail> {
     let outcome = outcome_of(alloc, &source);
     assert_eq!(rt;
         outcome.messages.as_slice(),
-        b"REFUSED 403 LINE 2\n".as_slice()
+        b"REFUSED 302 LINE 4\n".as_slice()
     );
     Ok(())
 }
@@ -644,8 +650,10 @@ fn choices(rt: HostRuntime) -> Result<(), Fail> {
 #[test]
 fn core(rt: HostRuntime) -> Result<(), Fail> {
     let alloc = rt.alloc();
-    let program = parse(alloc, &statements(alloc, UNDEFINED)?)?;
-    let mut core = Core::new(alloc, image_of(alloc, program)?, 3, 7)?;
+    let checked = check(alloc, parse(alloc, &statements(alloc, UNDEFINED)?)?)?;
+    checked.is_accepted();
+    assert_eq!(rt; checked.program().as_slice().len(), 1);
+    let mut core = Core::new(alloc, image_of(alloc, checked)?, 3, 7)?;
     assert_eq!(rt; core.image().name(0), Some(b"MAIN".as_slice()));
     assert_eq!(rt; core.image().name(2), Some(b"J".as_slice()));
     assert_eq!(rt; core.image().name(3), None);

@@ -2,7 +2,10 @@
 
 use hep_command::job::{ARENA, STEPS};
 use hep_command::{Job, explanation, read_words};
-use hep_run::{Options, Run, answer, choices_of, history_text, put_text, replay_bytes, run_bytes};
+use hep_run::{
+    Options, Run, answer, check_source, choices_of, history_text, list_source, put_text,
+    replay_bytes, run_bytes,
+};
 use std::alloc::Global;
 use std::process::Abort;
 use std::test::Fail;
@@ -62,6 +65,8 @@ fn words(rt: HostRuntime) -> Result<(), Fail> {
             &["hepf", "replay", "a.f", "h", "--arena", "16777216"]
         )? == replay
     );
+    assert!(rt; job(alloc, &["hepf", "check", "a.f"])? == Job::Check { file: "a.f" });
+    assert!(rt; job(alloc, &["hepf", "list", "a.f"])? == Job::List { file: "a.f" });
     assert!(rt; job(alloc, &["hepf", "explain", "403"])? == Job::Explain { number: 403 });
     let defaults = Options::defaults(alloc);
     assert!(rt; defaults.arena == ARENA && defaults.steps == STEPS);
@@ -139,6 +144,72 @@ fn replays(rt: HostRuntime) -> Result<(), Fail> {
     assert!(rt; full.run.status == 5);
     assert!(rt; full.messages.as_slice() == b"STOPPED ARENA FULL\n".as_slice());
     Ok(())
+}
+
+// A source, and what a command writes of it to both outputs; its status is 1 where the second gets something.
+type Said = (&'static [u8], &'static [u8], &'static [u8]);
+
+const CHECKED: [Said; 4] = [
+    (b"      PRINT *,1\n      END\n", b"", b""),
+    (
+        b"      I=1\n      CONTINUE\n      END\n",
+        b"",
+        b"REFUSED 403 LINE 2\n",
+    ),
+    (
+        b"      X=1\n      END\n",
+        b"",
+        b"REFUSED 301 LINE 1 NAME X\n",
+    ),
+    (b"      I=1\n", b"", b"REFUSED 205 LINE 1\n"),
+];
+
+// What isn't supported is listed too.
+const LISTED: [Said; 6] = [
+    (b"      PRINT *,1\n      END\n", b"UNIT MAIN CELLS 1\n", b""),
+    (
+        b"      PROGRAM P\n      INTEGER $X,$D\n      $X=0\n      CREATE ADD($X,$D)\n      CREATE ADD($X,$D)\n      I=$D\n      I=$D\n      PRINT *,$X\n      END\n      SUBROUTINE ADD($A,$B)\n      INTEGER $A,$B\n      $A=$A+1\n      $B=1\n      END\n",
+        b"UNIT P CELLS 4\nUNIT ADD CELLS 5\n",
+        b"",
+    ),
+    (
+        b"      PROGRAM P\n      CREATE S\n      CREATE S\n      END\n      SUBROUTINE S\n      COMMON N\n      DO 10 I=1,1000\n10    N=I\n      END\n",
+        b"UNIT P CELLS 1\nUNIT S CELLS 4\nBLOCK // CELLS 1\n",
+        b"",
+    ),
+    (
+        b"      COMMON /B/ I,J(3)\n      COMMON /A/ K\n      END\n",
+        b"UNIT MAIN CELLS 1\nBLOCK /B/ CELLS 4\nBLOCK /A/ CELLS 1\n",
+        b"",
+    ),
+    (
+        b"      X=1\n      END\n",
+        b"",
+        b"REFUSED 301 LINE 1 NAME X\n",
+    ),
+    (b"      I=1\n", b"", b"REFUSED 205 LINE 1\n"),
+];
+
+#[test]
+fn checks(rt: HostRuntime) {
+    let alloc = rt.alloc();
+    for (source, text, said) in CHECKED {
+        let (mut reader, mut output, mut messages) = (source, Vec::new(alloc), Vec::new(alloc));
+        let status = check_source(alloc, &mut reader, &mut output, &mut messages);
+        assert!(rt; output.as_slice() == text && messages.as_slice() == said);
+        assert!(rt; (status == 0) == said.is_empty() && status <= 1);
+    }
+}
+
+#[test]
+fn lists(rt: HostRuntime) {
+    let alloc = rt.alloc();
+    for (source, text, said) in LISTED {
+        let (mut reader, mut output, mut messages) = (source, Vec::new(alloc), Vec::new(alloc));
+        let status = list_source(alloc, &mut reader, &mut output, &mut messages);
+        assert!(rt; output.as_slice() == text && messages.as_slice() == said);
+        assert!(rt; (status == 0) == said.is_empty() && status <= 1);
+    }
 }
 
 #[test]

@@ -1,10 +1,11 @@
 //! The parts by themselves, through their public calls, and what only a whole run shows of them.
 
 use super::{
-    FIRST, UNDEFINED, chosen, core_of, is_single_steps, outcome_of, program_of, source_of,
+    FIRST, UNDEFINED, chosen, core_of, image_from, is_single_steps, outcome_of, program_of,
+    source_of,
 };
 use hep_arena::Arena;
-use hep_core::{ChooseFault, Core, NewFault, Stop, Verdict, image_of};
+use hep_core::{ChooseFault, Core, NewFault, Stop, Verdict};
 use hep_machine::{Fault, Item, Kind, Record, laws};
 use hep_parse::at_most_one_program;
 use hep_run::{Options, run_source};
@@ -150,12 +151,11 @@ const FAULTY: [(&[u8], &[u8]); 17] = [
         b"REFUSED 205 LINE 3\n",
     ),
     (b"      I=A\n      END\n", b"REFUSED 301 LINE 1 NAME A\n"),
-    // What doesn't run is refused before a variable's type is looked at.
     (
-        b"      I=A\n      CONTINUE\n      END\n",
+        b"      I=1\n      CONTINUE\n      END\n",
         b"REFUSED 403 LINE 2\n",
     ),
-    (b"      L=.TRUE.\n      END\n", b"REFUSED 403 LINE 1\n"),
+    (b"      L=.TRUE.\n      END\n", b"REFUSED 302 LINE 1\n"),
 ];
 
 #[test]
@@ -201,8 +201,7 @@ fn record_and_fault(rt: HostRuntime) -> Result<(), Fail> {
 #[test]
 fn full_history(rt: HostRuntime) -> Result<(), Fail> {
     let alloc = rt.alloc();
-    let program = program_of(alloc, UNDEFINED)?;
-    let refused = Core::new(alloc, image_of(alloc, program)?, 2, 100);
+    let refused = Core::new(alloc, image_from(alloc, UNDEFINED)?, 2, 100);
     assert_eq!(rt; refused.err(), Some(NewFault::ArenaFull));
     let mut core = core_of(alloc, UNDEFINED, 3, 3)?;
     for _step in 0..3 {

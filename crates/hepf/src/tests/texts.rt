@@ -1,7 +1,7 @@
 //! Texts of records, histories, choices and processes that wait, each public call once.
 
-use super::program_of;
-use hep_core::{Core, Entry, image_of};
+use super::image_from;
+use hep_core::{Core, Entry};
 use hep_dump::{Listed, fault_text, waiting_text};
 use hep_history::{read_choices, read_text, replay, write_text};
 use hep_machine::{Item, Record};
@@ -49,7 +49,7 @@ fn histories(rt: HostRuntime) -> Result<(), Fail> {
 
 // A run made again from a history of one entry.
 fn replayed(alloc: Global, source: &[u8], steps: u32) -> Result<Core, Fail> {
-    let image = image_of(alloc, program_of(alloc, source)?)?;
+    let image = image_from(alloc, source)?;
     let entries = [Entry { process: 1, steps }];
     Ok(replay(alloc, image, 10, &entries)?)
 }

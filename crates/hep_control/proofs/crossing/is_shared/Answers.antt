@@ -1,7 +1,8 @@
 use Rattle.std.proofs.Common.{rules, ◌≡◌, cond, Some, ◌∙◌, ap}
 use Rattle.indexmap.specs.IndexMap.{get}
 use Rattle.hep_control.specs.Ranges.{do_range}
-use Rattle.hep_control.specs.Crossing.{name_eq, later}
+use Rattle.hep_source.specs.Names.{name_eq}
+use Rattle.hep_control.specs.Crossing.{later}
 use Rattle.hep_control.proofs.Shared.{met-range}
 use Rattle.hep_control.proofs.crossing.is_shared.Goals as goal
 

@@ -2,7 +2,8 @@ use Rattle.std.proofs.Common.{◌≡◌, None, drop, map}
 use Rattle.indexmap.specs.IndexMap.{get}
 use Rattle.hep_check.specs.Reported.{least_line}
 use Rattle.hep_control.specs.Ranges.{do_range}
-use Rattle.hep_control.specs.Crossing.{name_eq, least_shared}
+use Rattle.hep_source.specs.Names.{name_eq}
+use Rattle.hep_control.specs.Crossing.{least_shared}
 use Rattle.hep_control.proofs.crossing.least_shared.Given as goal
 
 abbrev pub invariant-loop-range : goal.invariant-loop-range

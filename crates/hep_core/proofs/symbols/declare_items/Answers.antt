@@ -1,28 +1,12 @@
 use Rattle.std.proofs.Common.{◌≡◌, ◌∙◌, ◌++◌, ap, sym, drop, ◌+◌}
-use Rattle.std.proofs.lemmas.Result.{err_from_is_err_and}
 use Rattle.hep_source.specs.declared.statement.PrintItem.TheVariants.{Expression, Characters}
 use Rattle.hep_source.specs.Names.{with_names}
-use Rattle.hep_core.specs.Symbols.{names_in, names_in_items, first_real, Reports, untyped_in}
+use Rattle.hep_core.specs.Symbols.{names_in, names_in_items}
 use Rattle.hep_core.proofs.Lists.{ahead}
 use Rattle.hep_core.proofs.Names.{items_names}
 use Rattle.hep_source.proofs.NameTests.{with_names-append}
-use Rattle.hep_core.proofs.Declared.{first_real-after, names-before}
 use Rattle.hep_core.proofs.symbols.declare_items.Goals as goal
 use Rattle.hep_core.proofs.symbols.declare_items.Goals.{in-Expression+in_ok-declare_in-in-Expression, in-Characters}
-
-pub returns-in_err-declare_in-in-Expression : goal.returns-in_err-declare_in-in-Expression
-returns-in_err-declare_in-in-Expression c =
-    let p = err_from_is_err_and c.from_residual.result c.from_residual.ensures.1 in
-    let items = c.args.items.now in
-    let i = c.loop-item.item-index in
-    let t = c.in-Expression.expression in
-    let e = c.in_err-declare_in-in-Expression.field-0.0 in
-    let rest-items = drop (i + 1) items in
-    let rest = names_in_items rest-items in
-    let here : names_in_items (drop i items) ≡ names_in t ++ rest = ap names_in_items (ahead items i c.item-item.result (Expression t) c.loop-item-test.true c.item-item.is c.in-Expression.is) ∙ items_names t rest-items in
-    let all : first_real (names_in t ++ rest) ≡ first_real (names_in_items items) = ap first_real (sym here) ∙ c.loop-item.invariant.typed in
-    let h : Reports e (untyped_in c.args.line (names_in t ++ rest)) = names-before e c.args.line (names_in t) rest c.in_err-declare_in-in-Expression.ensures in
-    rw (p.1, p.2, ← all) h
 
 pub loop-item-preserved : goal.loop-item-preserved
 loop-item-preserved c =
@@ -34,16 +18,9 @@ loop-item-preserved c =
       | in-Expression+in_ok-declare_in-in-Expression w ↦
           let t = w.in-Expression.expression in
           let here : names_in_items (drop i items) ≡ names_in t ++ rest = ap names_in_items (ahead items i c.item-item.result (Expression t) c.loop-item-test.true c.item-item.is w.in-Expression.is) ∙ items_names t rest-items in
-          let done = w.in_ok-declare_in-in-Expression.ensures in
-          record {
-            keys = ap (λ s. with_names s.keys rest) w.symbols-is ∙ ap (λ xs. with_names xs rest) done.0 ∙ sym (with_names-append c.loop-item.symbols.keys (names_in t) rest)
-                ∙ ap (with_names c.loop-item.symbols.keys) (sym here) ∙ c.loop-item.invariant.keys;
-            typed = sym (first_real-after (names_in t) rest done.1) ∙ ap first_real (sym here) ∙ c.loop-item.invariant.typed;
-          }
+          ap (λ s. with_names s.keys rest) w.symbols-is ∙ ap (λ xs. with_names xs rest) w.in_ok-declare_in-in-Expression.ensures ∙ sym (with_names-append c.loop-item.symbols.keys (names_in t) rest)
+          ∙ ap (with_names c.loop-item.symbols.keys) (sym here) ∙ c.loop-item.invariant
       | in-Characters w ↦
           let here : names_in_items (drop i items) ≡ rest = ap names_in_items (ahead items i c.item-item.result (Characters w.in-Characters.field-0) c.loop-item-test.true c.item-item.is w.in-Characters.is) in
-          record {
-            keys = ap (λ s. with_names s.keys rest) w.symbols-is ∙ ap (with_names c.loop-item.symbols.keys) (sym here) ∙ c.loop-item.invariant.keys;
-            typed = ap first_real (sym here) ∙ c.loop-item.invariant.typed;
-          }
+          ap (λ s. with_names s.keys rest) w.symbols-is ∙ ap (with_names c.loop-item.symbols.keys) (sym here) ∙ c.loop-item.invariant
     ]

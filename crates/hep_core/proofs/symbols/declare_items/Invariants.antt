@@ -1,10 +1,7 @@
 use Rattle.std.proofs.Common.{◌≡◌, drop}
 use Rattle.hep_source.specs.Names.{with_names}
-use Rattle.hep_core.specs.Symbols.{names_in_items, first_real}
+use Rattle.hep_core.specs.Symbols.{names_in_items}
 use Rattle.hep_core.proofs.symbols.declare_items.Given as goal
 
 abbrev pub invariant-loop-item : goal.invariant-loop-item
-invariant-loop-item l = record {
-  keys : with_names l.symbols.keys (names_in_items (drop l.item-index l.items)) ≡ with_names l.initial.symbols.keys (names_in_items l.items);
-  typed : first_real (names_in_items (drop l.item-index l.items)) ≡ first_real (names_in_items l.items);
-}
+invariant-loop-item l = with_names l.symbols.keys (names_in_items (drop l.item-index l.items)) ≡ with_names l.initial.symbols.keys (names_in_items l.items)

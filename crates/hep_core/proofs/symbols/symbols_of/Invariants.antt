@@ -1,9 +1,6 @@
 use Rattle.std.proofs.Common.{◌≡◌, drop}
-use Rattle.hep_core.specs.Symbols.{with_statements, variables_of, first_untyped}
+use Rattle.hep_core.specs.Symbols.{with_statements, variables_of}
 use Rattle.hep_core.proofs.symbols.symbols_of.Given as goal
 
 abbrev pub invariant-loop-statement : goal.invariant-loop-statement
-invariant-loop-statement l = record {
-  keys : with_statements l.symbols.keys (drop l.statement-index l.statements) ≡ variables_of l.statements;
-  typed : first_untyped (drop l.statement-index l.statements) ≡ first_untyped l.statements;
-}
+invariant-loop-statement l = with_statements l.symbols.keys (drop l.statement-index l.statements) ≡ variables_of l.statements

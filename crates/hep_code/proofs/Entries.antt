@@ -1,0 +1,268 @@
+-- The code of actual arguments, of what is assigned or purged, of items and of the control of a DO, and what stands of them behind the
+-- operation, which stays while they are evaluated.
+use Rattle.std.proofs.Common.{◌≡◌, ℕ, List, [], ◌∷◌, ◌++◌, map, length, refl, ap, sym, ◌∙◌, Option, Some, None}
+use Rattle.std.specs.List.{flat_map}
+use Rattle.hep_source.specs.declared.declaration.Target.{Target}
+use Rattle.hep_source.specs.declared.name.Name.{Name}
+use Rattle.hep_source.specs.declared.name.Occurrence.{Occurrence}
+use Rattle.hep_source.specs.declared.operator.Operator.{Operator}
+use Rattle.hep_source.specs.declared.operator.Sign.{Sign as SignBefore}
+use Rattle.hep_source.specs.declared.statement.DoControl.{DoControl}
+use Rattle.hep_source.specs.declared.statement.PrintItem.{PrintItem}
+use Rattle.hep_source.specs.declared.statement.PrintItem.TheVariants as print_item
+use Rattle.hep_source.specs.declared.value.Value.{Value}
+use Rattle.hep_source.specs.declared.value.Value.TheVariants as value
+use Rattle.hep_source.specs.Tree.{Tree, Trees, constant, occurrence, with_list, parenthesized, signed, negated, binary, trees, trees_of}
+use Rattle.hep_machine.specs.declared.record.Item.{Item}
+use Rattle.hep_machine.specs.Constants.{constant_value}
+use Rattle.hep_machine.specs.Evaluation.{Reference, Part, whole, first_redex, redex_of, then_part, mapped_part, signing, negating, combined, part_of_listed, part_of, parts_of, reference_of, plugged, plugged_first, plugged_listed, plug, plug_all, list_part, plug_list, Actual, evaluated, actual_of_name, actual_of_listed, actual_of, actuals_of, plug_actuals, target_part, plug_target, targets_part, plug_targets, item_of, item_part, items_part, plug_item, plug_items, increment_of, control_part, plug_control}
+use Rattle.hep_machine.specs.Functions.{Meaning, element, pure, state, unknown, listed_meaning}
+use Rattle.hep_code.specs.declared.instruction.Argument.{Argument}
+use Rattle.hep_code.specs.declared.instruction.Argument.TheVariants.{Evaluated, Referred}
+use Rattle.hep_code.specs.declared.instruction.Instruction.{Instruction}
+use Rattle.hep_code.specs.declared.instruction.Instruction.TheVariants.{Push, Pass, Show}
+use Rattle.hep_code.specs.declared.instruction.Printed.TheVariants.{Operand}
+use Rattle.hep_code.specs.declared.variable.Variable.{Variable}
+use Rattle.hep_code.specs.Actions.{operands_of_actual, argument_of_actual, referred_argument, operands_of_item, printed_item}
+use Rattle.hep_code.specs.ExpressionCode.{count, actual_name_code, actual_listed_code, actual_code, actuals_code, argument_of_name, argument_of_listed, argument_of, target_code, targets_code, argument_of_target, item_code, items_code, printed_of, control_code}
+use Rattle.hep_code.specs.UnitCode.{AddressedUnit, names_of}
+use Rattle.hep_code.proofs.Parts.{FirstIs, PartIs, one, Any, before_more, behind_values, both_values, same_after}
+use Rattle.hep_code.proofs.Expressions.{code, codes, ValueIs, ValuesAre, count_stays, tree_is, trees_are}
+
+-- where a part has a redex
+abbrev pub IfFirst : {A : Type 0} → Part A → Type 0 → Type 0
+IfFirst (whole x) P = Unit {0}
+IfFirst (first_redex r) P = P
+
+in_first : {A : Type 0} {P : Type 0} (p : Part A) → P → IfFirst p P
+in_first (whole x) h = tt
+in_first (first_redex r) h = h
+
+module _ (addressed : AddressedUnit) (line : ℕ) where
+  -- the code of a part with what stands of it behind the operation: of a whole, that of what it is, and else the same with a value in its
+  -- first redex
+  abbrev pub HasEntry : {A E : Type 0} → (A → List Value) → (A → E) → Part A → List Instruction → (Value → List Instruction) → E → (Value → E) → Type 0
+  HasEntry operands entry (whole x) c after e later = (c ≡ map Push (operands x)) × (entry x ≡ e)
+  HasEntry operands entry (first_redex r) c after e later = FirstIs addressed line r c after × ((v : Value) → later v ≡ e)
+
+  pub mapped_entry : {A E F : Type 0} (operands : A → List Value) (entry : A → E) (g : E → F) (p : Part A) (c : List Instruction) (after : Value → List Instruction) (e : E) (later : Value → E) → HasEntry operands entry p c after e later → HasEntry operands (λ x. g (entry x)) p c after (g e) (λ v. g (later v))
+  mapped_entry operands entry g (whole x) c after e later h = (h.0, ap g h.1)
+  mapped_entry operands entry g (first_redex r) c after e later h = (h.0, λ v. ap g (h.1 v))
+
+  -- one more before a list
+  pub list_entries : {A T : Type 0} (operands : A → List Value) (entry : A → Instruction) (c : T → List Instruction) (entry_of : T → Instruction) (p : Part A) (q : Part (List A)) (t : T) (ts : List T) (f : Value → T) (g : Value → List T) → HasEntry operands entry p (c t) (λ v. c (f v)) (entry_of t) (λ v. entry_of (f v)) → HasEntry (flat_map operands) (map entry) q (flat_map c ts) (λ v. flat_map c (g v)) (map entry_of ts) (λ v. map entry_of (g v)) → HasEntry (flat_map operands) (map entry) (then_part (λ x xs. x ∷ xs) p q) (flat_map c (t ∷ ts)) (λ v. flat_map c (plugged_first p (f v ∷ ts) (t ∷ g v))) (map entry_of (t ∷ ts)) (λ v. map entry_of (plugged_first p (f v ∷ ts) (t ∷ g v)))
+  list_entries operands entry c entry_of (first_redex r) q t ts f g h i = (
+    before_more addressed line r (c t) (flat_map c ts) (λ v. c (f v)) h.0,
+    λ v. ap (λ i. i ∷ map entry_of ts) (h.1 v),
+  )
+  list_entries operands entry c entry_of (whole x) (first_redex r) t ts f g h i = (
+    behind_values addressed line r (operands x) (c t) (flat_map c ts) (λ v. flat_map c (g v)) h.0 i.0,
+    λ v. ap (λ is. entry_of t ∷ is) (i.1 v),
+  )
+  list_entries operands entry c entry_of (whole x) (whole xs) t ts f g h i = (
+    both_values addressed line (operands x) (flat_map operands xs) (flat_map operands (x ∷ xs)) (c t) (flat_map c ts) h.0 i.0 refl,
+    ap (λ y. y ∷ map entry xs) h.1 ∙ ap (λ is. entry_of t ∷ is) i.1,
+  )
+
+  -- ---- actual arguments: 15.9.2 and 15.9.3
+
+  abbrev pub passed : Actual → Instruction
+  passed a = Pass (argument_of_actual addressed.variables a)
+
+  abbrev pub passed_tree : Tree → Instruction
+  passed_tree t = Pass (argument_of (names_of addressed) t)
+
+  abbrev pub argument_code : Tree → List Instruction
+  argument_code t = actual_code (names_of addressed) line t
+
+  abbrev ActualIs : Part Actual → List Instruction → (Value → List Instruction) → Argument → (Value → Argument) → Type 0
+  ActualIs p c after e later = HasEntry operands_of_actual passed p c after (Pass e) (λ v. Pass (later v))
+
+  -- one that is an expression, and stays one
+  expression_is : (p : Part Value) (c : List Instruction) (after later : Value → List Instruction) (e : Argument) (passed_later : Value → Argument) → e ≡ Evaluated → IfFirst p ((v : Value) → (later v ≡ after v) × (passed_later v ≡ Evaluated)) → PartIs addressed line (one addressed line) (Any addressed line) p c after → ActualIs (mapped_part evaluated p) c later e passed_later
+  expression_is (whole x) c after later e passed_later is stays h = (h.0, ap Pass (sym is))
+  expression_is (first_redex r) c after later e passed_later is stays h =
+      (same_after addressed line r c after later (λ v. (stays v).0) h, λ v. ap Pass ((stays v).1 ∙ sym is))
+
+  name_is : (p : Occurrence) (known : Option Value) → ActualIs (actual_of_name known p.name) (actual_name_code known) (λ v. Push v ∷ []) (argument_of_name (names_of addressed) known p.name) (λ v. Evaluated)
+  name_is p None = (refl, refl)
+  name_is p (Some v) = (refl, refl)
+
+  -- the code and the argument of a name with a list that is partly evaluated, its meaning as it was
+  with_list_code : (m : Meaning) (p : Occurrence) (us : Trees) → m ≡ listed_meaning addressed.unit p.name → argument_code (with_list p us) ≡ actual_listed_code m (codes addressed line us) (code addressed line (with_list p us))
+  with_list_code m p us is = ap (λ m. actual_listed_code m (codes addressed line us) (code addressed line (with_list p us))) (sym is)
+
+  with_list_argument : (m : Meaning) (p : Occurrence) (us : Trees) → m ≡ listed_meaning addressed.unit p.name → argument_of (names_of addressed) (with_list p us) ≡ argument_of_listed (names_of addressed) m p.name (count us)
+  with_list_argument m p us is = ap (λ m. argument_of_listed (names_of addressed) m p.name (count us)) (sym is)
+
+  listed_is : (m : Meaning) (p : Occurrence) (ts : Trees) (q : Part (List Value)) (r : Part Reference) → m ≡ listed_meaning addressed.unit p.name → ValuesAre addressed line q ts (plug_all addressed.unit ts) → ValueIs addressed line (part_of_listed m p.name q r) (with_list p ts) (λ v. plugged_listed m q r (with_list p (plug_all addressed.unit ts v)) v) → ActualIs (actual_of_listed m p.name q (part_of_listed m p.name q r)) (actual_listed_code m (codes addressed line ts) (code addressed line (with_list p ts))) (λ v. argument_code (plugged_listed m q r (with_list p (plug_all addressed.unit ts v)) v)) (argument_of_listed (names_of addressed) m p.name (count ts)) (λ v. argument_of (names_of addressed) (plugged_listed m q r (with_list p (plug_all addressed.unit ts v)) v))
+  listed_is element p ts (whole xs) r is h i = (h.0, ap (λ n. Pass (Referred (addressed.variables p.name) n)) h.1)
+  listed_is element p ts (first_redex s) r is h i =
+      let us : Value → Trees = plug_all addressed.unit ts in (
+        same_after addressed line s (codes addressed line ts) (λ v. codes addressed line (us v)) (λ v. argument_code (with_list p (us v))) (λ v. with_list_code element p (us v) is) h,
+        λ v. ap Pass (with_list_argument element p (us v) is ∙ ap (Referred (addressed.variables p.name)) (count_stays addressed line ts v)),
+      )
+  listed_is (pure f) p ts (whole xs) r is h i = (i, λ v. refl)
+  listed_is (pure f) p ts (first_redex s) r is h i =
+      let us : Value → Trees = plug_all addressed.unit ts in (
+        same_after addressed line s (code addressed line (with_list p ts)) (λ v. code addressed line (with_list p (us v))) (λ v. argument_code (with_list p (us v))) (λ v. with_list_code (pure f) p (us v) is) i,
+        λ v. ap Pass (with_list_argument (pure f) p (us v) is),
+      )
+  listed_is (state f) p ts q (whole x) is h i = (i, λ v. refl)
+  listed_is (state f) p ts q (first_redex s) is h i =
+      let us : Value → Trees = plug_all addressed.unit ts in (
+        same_after addressed line s (code addressed line (with_list p ts)) (λ v. code addressed line (with_list p (us v))) (λ v. argument_code (with_list p (us v))) (λ v. with_list_code (state f) p (us v) is) i,
+        λ v. ap Pass (with_list_argument (state f) p (us v) is),
+      )
+  listed_is unknown p ts q r is h i = (i.0, refl)
+
+  -- an expression that is neither a name nor a name with a list stays one, or becomes a value
+  abbrev StaysExpression : Part Value → (Value → Tree) → Type 0
+  StaysExpression p f = IfFirst p ((v : Value) → (argument_code (f v) ≡ code addressed line (f v)) × (argument_of (names_of addressed) (f v) ≡ Evaluated))
+
+  signed_stays : (s : SignBefore) (p : Part Value) (f : Value → Tree) → StaysExpression (redex_of (signing s) p) (λ v. plugged p (signed s (f v)) v)
+  signed_stays s (whole x) f = λ v. (refl, refl)
+  signed_stays s (first_redex r) f = λ v. (refl, refl)
+
+  negated_stays : (p : Part Value) (f : Value → Tree) → StaysExpression (redex_of negating p) (λ v. plugged p (negated (f v)) v)
+  negated_stays (whole x) f = λ v. (refl, refl)
+  negated_stays (first_redex r) f = λ v. (refl, refl)
+
+  binary_stays : (o : Operator) (a b : Tree) (p q : Part Value) (f g : Value → Tree) → StaysExpression (redex_of (combined o) (then_part (λ v w. (v, w)) p q)) (λ v. plugged_first p (binary o (f v) b) (plugged q (binary o a (g v)) v))
+  binary_stays o a b (first_redex r) q f g = λ v. (refl, refl)
+  binary_stays o a b (whole x) (first_redex r) f g = λ v. (refl, refl)
+  binary_stays o a b (whole x) (whole y) f g = λ v. (refl, refl)
+
+  stays_is : (t : Tree) (p : Part Value) (f : Value → Tree) → argument_of (names_of addressed) t ≡ Evaluated → StaysExpression p f → ValueIs addressed line p t f → ActualIs (mapped_part evaluated p) (code addressed line t) (λ v. argument_code (f v)) (argument_of (names_of addressed) t) (λ v. argument_of (names_of addressed) (f v))
+  stays_is t p f is stays h =
+      expression_is p (code addressed line t) (λ v. code addressed line (f v)) (λ v. argument_code (f v)) (argument_of (names_of addressed) t) (λ v. argument_of (names_of addressed) (f v)) is stays h
+
+  pub actual_is : (t : Tree) → ActualIs (actual_of addressed.unit t) (argument_code t) (λ v. argument_code (plug addressed.unit t v)) (argument_of (names_of addressed) t) (λ v. argument_of (names_of addressed) (plug addressed.unit t v))
+  actual_is (occurrence p) = name_is p (constant_value addressed.unit p.name)
+  actual_is (with_list p ts) =
+      listed_is (listed_meaning addressed.unit p.name) p ts (parts_of addressed.unit ts) (reference_of addressed.unit ts) refl (trees_are addressed line ts) (tree_is addressed line (with_list p ts))
+  actual_is (constant x) = (refl, refl)
+  actual_is (parenthesized t) =
+      stays_is (parenthesized t) (part_of addressed.unit t) (plug addressed.unit (parenthesized t)) refl (in_first (part_of addressed.unit t) (λ v. (refl, refl))) (tree_is addressed line t)
+  actual_is (signed s t) =
+      stays_is (signed s t) (part_of addressed.unit (signed s t)) (plug addressed.unit (signed s t)) refl (signed_stays s (part_of addressed.unit t) (plug addressed.unit t)) (tree_is addressed line (signed s t))
+  actual_is (negated t) =
+      stays_is (negated t) (part_of addressed.unit (negated t)) (plug addressed.unit (negated t)) refl (negated_stays (part_of addressed.unit t) (plug addressed.unit t)) (tree_is addressed line (negated t))
+  actual_is (binary o a b) =
+      stays_is (binary o a b) (part_of addressed.unit (binary o a b)) (plug addressed.unit (binary o a b)) refl
+      (binary_stays o a b (part_of addressed.unit a) (part_of addressed.unit b) (plug addressed.unit a) (plug addressed.unit b)) (tree_is addressed line (binary o a b))
+
+  pub actuals_are : (ts : List Tree) → HasEntry (flat_map operands_of_actual) (map passed) (actuals_of addressed.unit ts) (actuals_code (names_of addressed) line ts) (λ v. actuals_code (names_of addressed) line (plug_actuals addressed.unit ts v)) (map passed_tree ts) (λ v. map passed_tree (plug_actuals addressed.unit ts v))
+  actuals_are [] = (refl, refl)
+  actuals_are (t ∷ ts) =
+      list_entries operands_of_actual passed argument_code passed_tree (actual_of addressed.unit t) (actuals_of addressed.unit ts) t ts (plug addressed.unit t) (plug_actuals addressed.unit ts) (actual_is t) (actuals_are ts)
+
+  -- ---- what is assigned (10.1 and 10.2) or purged (docs/LANGUAGE.md, 9)
+
+  -- where a variable is, and the number of its subscripts
+  abbrev pub place_of_target : Target → Variable × ℕ
+  place_of_target t = (addressed.variables t.occurrence.name, count (trees_of t.subscripts))
+
+  abbrev pub place_of_reference : Reference → Variable × ℕ
+  place_of_reference r = (addressed.variables r.0, length r.1)
+
+  abbrev pub subscripts : Reference → List Value
+  subscripts r = r.1
+
+  trees_first : (p : Part Value) (t u : Tree) (ts us : List Tree) → trees_of (plugged_first p (u ∷ ts) (t ∷ us)) ≡ plugged_first p (trees u (trees_of ts)) (trees t (trees_of us))
+  trees_first (whole x) t u ts us = refl
+  trees_first (first_redex r) t u ts us = refl
+
+  plugged_trees : (ts : List Tree) (v : Value) → trees_of (plug_list addressed.unit ts v) ≡ plug_all addressed.unit (trees_of ts) v
+  plugged_trees [] v = refl
+  plugged_trees (t ∷ ts) v =
+      trees_first (part_of addressed.unit t) t (plug addressed.unit t v) ts (plug_list addressed.unit ts v)
+      ∙ ap (λ us. plugged_first (part_of addressed.unit t) (trees (plug addressed.unit t v) (trees_of ts)) (trees t us)) (plugged_trees ts v)
+
+  target_by : (x : Name) (ts : List Tree) (q : Part (List Value)) → ValuesAre addressed line q (trees_of ts) (plug_all addressed.unit (trees_of ts)) → HasEntry subscripts place_of_reference (mapped_part (λ vs. (x, vs)) q) (codes addressed line (trees_of ts)) (λ v. codes addressed line (trees_of (plug_list addressed.unit ts v))) (addressed.variables x, count (trees_of ts)) (λ v. (addressed.variables x, count (trees_of (plug_list addressed.unit ts v))))
+  target_by x ts (whole xs) h = (h.0, ap (λ n. (addressed.variables x, n)) h.1)
+  target_by x ts (first_redex r) h = (
+    same_after addressed line r (codes addressed line (trees_of ts)) (λ v. codes addressed line (plug_all addressed.unit (trees_of ts) v)) (λ v. codes addressed line (trees_of (plug_list addressed.unit ts v)))
+        (λ v. ap (codes addressed line) (plugged_trees ts v)) h,
+    λ v. ap (λ n. (addressed.variables x, n)) (ap count (plugged_trees ts v) ∙ count_stays addressed line (trees_of ts) v),
+  )
+
+  pub target_is : (t : Target) → HasEntry subscripts place_of_reference (target_part addressed.unit t) (target_code (names_of addressed) line t) (λ v. target_code (names_of addressed) line (plug_target addressed.unit t v)) (place_of_target t) (λ v. place_of_target (plug_target addressed.unit t v))
+  target_is t =
+      target_by t.occurrence.name t.subscripts (list_part addressed.unit t.subscripts) (trees_are addressed line (trees_of t.subscripts))
+
+  abbrev pub purged : Reference → Instruction
+  purged r = Pass (referred_argument addressed.variables r)
+
+  abbrev pub purged_target : Target → Instruction
+  purged_target t = Pass (argument_of_target (names_of addressed) t)
+
+  pub targets_are : (ts : List Target) → HasEntry (flat_map subscripts) (map purged) (targets_part addressed.unit ts) (targets_code (names_of addressed) line ts) (λ v. targets_code (names_of addressed) line (plug_targets addressed.unit ts v)) (map purged_target ts) (λ v. map purged_target (plug_targets addressed.unit ts v))
+  targets_are [] = (refl, refl)
+  targets_are (t ∷ ts) =
+      list_entries subscripts purged (target_code (names_of addressed) line) purged_target (target_part addressed.unit t) (targets_part addressed.unit ts) t ts (plug_target addressed.unit t) (plug_targets addressed.unit ts)
+      (mapped_entry subscripts place_of_reference (λ e. Pass (Referred e.0 e.1)) (target_part addressed.unit t) (target_code (names_of addressed) line t) (λ v. target_code (names_of addressed) line (plug_target addressed.unit t v)) (place_of_target t) (λ v. place_of_target (plug_target addressed.unit t v)) (target_is t))
+      (targets_are ts)
+
+  -- ---- items of a PRINT: 12.8.2
+
+  abbrev pub shown : Item → Instruction
+  shown i = Show (printed_item i)
+
+  abbrev pub shown_item : PrintItem → Instruction
+  shown_item i = Show (printed_of i)
+
+  value_shown : (v : Value) → (operands_of_item (item_of v) ≡ v ∷ []) × (printed_item (item_of v) ≡ Operand)
+  value_shown (value.Int z) = (refl, refl)
+  value_shown (value.Truth b) = (refl, refl)
+
+  item_by : (t : Tree) (p : Part Value) (f : Value → Tree) → ValueIs addressed line p t f → HasEntry operands_of_item shown (mapped_part item_of p) (code addressed line t) (λ v. code addressed line (f v)) (Show Operand) (λ v. Show Operand)
+  item_by t (whole x) f h = (h.0 ∙ ap (map Push) (sym (value_shown x).0), ap Show (value_shown x).1)
+  item_by t (first_redex r) f h = (h, λ v. refl)
+
+  item_is : (i : PrintItem) → HasEntry operands_of_item shown (item_part addressed.unit i) (item_code (names_of addressed) line i) (λ v. item_code (names_of addressed) line (plug_item addressed.unit i v)) (shown_item i) (λ v. shown_item (plug_item addressed.unit i v))
+  item_is (print_item.Expression t) = item_by t (part_of addressed.unit t) (plug addressed.unit t) (tree_is addressed line t)
+  item_is (print_item.Characters cs) = (refl, refl)
+
+  pub items_are : (is : List PrintItem) → HasEntry (flat_map operands_of_item) (map shown) (items_part addressed.unit is) (items_code (names_of addressed) line is) (λ v. items_code (names_of addressed) line (plug_items addressed.unit is v)) (map shown_item is) (λ v. map shown_item (plug_items addressed.unit is v))
+  items_are [] = (refl, refl)
+  items_are (i ∷ is) =
+      list_entries operands_of_item shown (item_code (names_of addressed) line) shown_item (item_part addressed.unit i) (items_part addressed.unit is) i is (plug_item addressed.unit i) (plug_items addressed.unit is) (item_is i) (items_are is)
+
+  -- ---- DO: 11.10.3
+
+  abbrev pub three : Value × Value × Value → List Value
+  three m = m.0 ∷ m.1 ∷ m.2 ∷ []
+
+  -- with a value in the first redex of the initial value, the limit or the increment
+  abbrev control_after : DoControl → Part Value → Part Value → Value → DoControl
+  control_after c p q v =
+      plugged_first p (record c { initial = plug addressed.unit c.initial v }) (
+      plugged_first q (record c { limit = plug addressed.unit c.limit v }) (record c { increment = Some (plug addressed.unit (increment_of c.increment) v) }))
+
+  control_by : (c : DoControl) (p q r : Part Value) → ValueIs addressed line p c.initial (plug addressed.unit c.initial) → ValueIs addressed line q c.limit (plug addressed.unit c.limit) → ValueIs addressed line r (increment_of c.increment) (plug addressed.unit (increment_of c.increment)) → HasEntry three (λ m. c.variable.name) (then_part (λ m (rest_after : Value × Value). (m, rest_after.0, rest_after.1)) p (then_part (λ m n. (m, n)) q r)) (control_code (names_of addressed) line c) (λ v. control_code (names_of addressed) line (control_after c p q v)) c.variable.name (λ v. (control_after c p q v).variable.name)
+  control_by c (first_redex s) q r h i j =
+      let limit_and_increment = code addressed line c.limit ++ code addressed line (increment_of c.increment) in
+      (before_more addressed line s (code addressed line c.initial) limit_and_increment (λ v. code addressed line (plug addressed.unit c.initial v)) h, λ v. refl)
+  control_by c (whole x) (first_redex s) r h i j =
+      let last = code addressed line (increment_of c.increment) in (
+        behind_values addressed line s (x ∷ []) (code addressed line c.initial) (code addressed line c.limit ++ last) (λ v. code addressed line (plug addressed.unit c.limit v) ++ last) h.0
+            (before_more addressed line s (code addressed line c.limit) last (λ v. code addressed line (plug addressed.unit c.limit v)) i),
+        λ v. refl,
+      )
+  control_by c (whole x) (whole y) (first_redex s) h i j =
+      let increment = increment_of c.increment in
+      let after : Value → List Instruction = λ v. code addressed line (plug addressed.unit increment v) in (
+        behind_values addressed line s (x ∷ []) (code addressed line c.initial) (code addressed line c.limit ++ code addressed line increment) (λ v. code addressed line c.limit ++ after v) h.0
+            (behind_values addressed line s (y ∷ []) (code addressed line c.limit) (code addressed line increment) after i.0 j),
+        λ v. refl,
+      )
+  control_by c (whole x) (whole y) (whole z) h i j = (
+    both_values addressed line (x ∷ []) (y ∷ z ∷ []) (x ∷ y ∷ z ∷ []) (code addressed line c.initial) (code addressed line c.limit ++ code addressed line (increment_of c.increment)) h.0
+        (both_values addressed line (y ∷ []) (z ∷ []) (y ∷ z ∷ []) (code addressed line c.limit) (code addressed line (increment_of c.increment)) i.0 j.0 refl) refl,
+    refl,
+  )
+
+  pub control_is : (c : DoControl) → HasEntry three (λ m. c.variable.name) (control_part addressed.unit c) (control_code (names_of addressed) line c) (λ v. control_code (names_of addressed) line (plug_control addressed.unit c v)) c.variable.name (λ v. (plug_control addressed.unit c v).variable.name)
+  control_is c =
+      control_by c (part_of addressed.unit c.initial) (part_of addressed.unit c.limit) (part_of addressed.unit (increment_of c.increment)) (tree_is addressed line c.initial) (tree_is addressed line c.limit) (tree_is addressed line (increment_of c.increment))

@@ -1,0 +1,113 @@
+-- Processes in the code, as activations are added, begin and end: X3.9-1978, 15.6.2 and 15.8.
+use Rattle.std.proofs.Common.{◌≡◌, ℕ, zero, suc, ◌<◌, ◌≤◌, List, [], ◌∷◌, ◌++◌, length, length-append, refl, ap, sym, ◌∙◌, subst, arith, Option, Some}
+use Rattle.std.specs.Prelude.{slice_get}
+use Rattle.std.specs.Option.{unwrap_or}
+use Rattle.hep_source.specs.Units.{Units, unit_at, executable_from}
+use Rattle.hep_machine.specs.Binding.{Binding}
+use Rattle.hep_machine.specs.Control.{level_after_statement}
+use Rattle.hep_machine.specs.Defaults.{no_activation}
+use Rattle.hep_machine.specs.Processes.{numbered, unit_of}
+use Rattle.hep_machine.specs.State.{Activation, Level, Process, State}
+use Rattle.hep_machine.specs.Step.{Top, entry_level, next_activation, with_activation, stack_after_return}
+use Rattle.hep_code.specs.Stacks.{Addresses, addressed_unit, CodeLevel, IsOf, IsBelow, IsTop, AreBelow, AreLevels, NoLoops, entered, calling}
+use Rattle.hep_code.specs.Standing.{Counts, HoldsLoops, Stands}
+use Rattle.hep_code.proofs.Moves.{StandsAt, after_statement_stands, after_statement_keeps, entry_stands}
+
+-- ---- activations that are added leave the others as they are
+
+of_front : {A : Type 0} (xs ys : List A) (i : ℕ) → i < length xs → slice_get (xs ++ ys) i ≡ slice_get xs i
+of_front [] ys i lt = absurd (omega arith)
+of_front (x ∷ xs) ys zero lt = refl
+of_front (x ∷ xs) ys (suc i) lt = of_front xs ys i (omega arith)
+
+of_last : {A : Type 0} (xs : List A) (y : A) → slice_get (xs ++ y ∷ []) (length xs) ≡ Some y
+of_last [] y = refl
+of_last (x ∷ xs) y = of_last xs y
+
+still_numbered : (xs ys : List Activation) (a : ℕ) → 1 ≤ a → a ≤ length xs → numbered (xs ++ ys) a ≡ numbered xs a
+still_numbered xs ys zero ge le = absurd (omega arith)
+still_numbered xs ys (suc i) ge le = of_front xs ys i (omega arith)
+
+module _ (program : Units) (addresses : Addresses) (s t : State) (ys : List Activation) (more : t.activations ≡ s.activations ++ ys) where
+  still_of : (f : CodeLevel) (level : Level) → IsOf program addresses s f level → IsOf program addresses t f level
+  still_of f level h =
+      let n = length-append s.activations ys in
+      record {
+        activation = h.activation;
+        made = (h.made.0, subst (λ xs. f.activation ≤ length xs) (sym more) (omega (arith, n, h.made.1)));
+        unit = ap (λ xs. (unwrap_or (numbered xs f.activation) no_activation).unit) more
+            ∙ ap (λ (o : Option Activation). (unwrap_or o no_activation).unit) (still_numbered s.activations ys f.activation h.made.0 h.made.1) ∙ h.unit;
+      }
+
+  pub still_below : (fs : List CodeLevel) (levels : Process) → AreBelow program addresses s fs levels → AreBelow program addresses t fs levels
+  still_below [] [] h = tt
+  still_below (f ∷ fs) (level ∷ levels) h =
+      (record { is_of = still_of f level h.0.is_of; index = h.0.index; operands = h.0.operands; loops = h.0.loops }, still_below fs levels h.1)
+  still_below [] (level ∷ levels) h = absurd h
+  still_below (f ∷ fs) [] h = absurd h
+
+  pub still_levels : (fs : List CodeLevel) (levels : Process) → AreLevels program addresses s fs levels → AreLevels program addresses t fs levels
+  still_levels [] [] h = tt
+  still_levels (f ∷ fs) (level ∷ levels) h = (record { is_of = still_of f level h.0.is_of; at = h.0.at }, still_below fs levels h.1)
+  still_levels [] (level ∷ levels) h = absurd h
+  still_levels (f ∷ fs) [] h = absurd h
+
+-- ---- RETURN and END: the caller goes on
+
+module _ (program : Units) (addresses : Addresses) (s : State) where
+  top_again : (f : CodeLevel) (level : Level) → IsBelow program addresses s f level → IsTop program addresses s f (level_after_statement (unit_at program f.unit) level)
+  top_again f level h =
+      let addressed = addressed_unit program addresses f.unit in
+      let after = level_after_statement addressed.unit level in
+      let stands : StandsAt addressed after f.index = subst (StandsAt addressed after) (sym h.index) (after_statement_stands addressed level) in
+      record {
+        is_of = record { activation = (after_statement_keeps addressed level).1 ∙ h.is_of.activation; made = h.is_of.made; unit = h.is_of.unit };
+        at = record {
+          stands = subst (λ vs. Stands addressed after.statement after.work vs f.index) (sym h.operands) stands;
+          loops = subst (HoldsLoops addressed.unit f.counts) (sym (after_statement_keeps addressed level).0) h.loops;
+        };
+      }
+
+  pub returned : (fs : List CodeLevel) (levels : Process) → AreBelow program addresses s fs levels → AreLevels program addresses s fs (stack_after_return program s levels)
+  returned [] [] h = tt
+  returned (f ∷ fs) (level ∷ levels) h =
+      let u : unit_of s level.activation ≡ f.unit = ap (unit_of s) h.0.is_of.activation ∙ h.0.is_of.unit in
+      subst (λ n. AreLevels program addresses s (f ∷ fs) (level_after_statement (unit_at program n) level ∷ levels)) (sym u) (top_again f level h.0, h.1)
+  returned [] (level ∷ levels) h = absurd h
+  returned (f ∷ fs) [] h = absurd h
+
+-- ---- CALL and CREATE
+
+-- the new activation at its first statement
+begun : (program : Units) (addresses : Addresses) (top : Top) (u : ℕ) (b : Binding) (counts : Counts) → NoLoops (unit_at program u) counts → IsTop program addresses (with_activation top u b) (entered program addresses (next_activation top.state) u counts) (entry_level (unit_at program u) (next_activation top.state))
+begun program addresses top u b counts none =
+    let s = top.state in
+    let made : Activation = record { unit = u; parent = Some top.level.activation; dummies = b.dummies } in
+    let n = length-append s.activations (made ∷ []) in
+    let number : next_activation s ≡ suc (length s.activations) = omega arith in
+    let addressed = addressed_unit program addresses u in
+    record {
+      is_of = record {
+        activation = refl;
+        made = (omega arith, omega (arith, n));
+        unit = ap (λ a. (unwrap_or (numbered (s.activations ++ made ∷ []) a) no_activation).unit) number
+            ∙ ap (λ (o : Option Activation). (unwrap_or o no_activation).unit) (of_last s.activations made);
+      };
+      at = record { stands = entry_stands addressed (entry_level addressed.unit (next_activation s)) (executable_from addressed.unit 0); loops = none };
+    }
+
+pub called : (program : Units) (addresses : Addresses) (top : Top) (u : ℕ) (b : Binding) (counts : Counts) (f : CodeLevel) (fs : List CodeLevel) → NoLoops (unit_at program u) counts → AreLevels program addresses top.state (f ∷ fs) (top.level ∷ top.below) → AreLevels program addresses (with_activation top u b) (entered program addresses (next_activation top.state) u counts ∷ (calling program addresses f top.level ∷ fs)) (entry_level (unit_at program u) (next_activation top.state) ∷ (top.level ∷ top.below))
+called program addresses top u b counts f fs none h =
+    let made : Activation = record { unit = u; parent = Some top.level.activation; dummies = b.dummies } in
+    let s = top.state in
+    let t = with_activation top u b in
+    let of = still_of program addresses s t (made ∷ []) refl f top.level h.0.is_of in (
+      begun program addresses top u b counts none,
+      (
+        record { is_of = record { activation = of.activation; made = of.made; unit = of.unit }; index = refl; operands = refl; loops = h.0.at.loops },
+        still_below program addresses s t (made ∷ []) refl fs top.below h.1,
+      ),
+    )
+
+pub created : (program : Units) (addresses : Addresses) (top : Top) (u : ℕ) (b : Binding) (counts : Counts) → NoLoops (unit_at program u) counts → AreLevels program addresses (with_activation top u b) (entered program addresses (next_activation top.state) u counts ∷ []) (entry_level (unit_at program u) (next_activation top.state) ∷ [])
+created program addresses top u b counts none = (begun program addresses top u b counts none, tt)

@@ -1,0 +1,13 @@
+pub mod Targets
+pub mod Tables
+pub mod ExpressionCode
+pub mod StatementCode
+pub mod UnitCode
+pub mod Standing
+pub mod Actions
+pub mod Ahead
+pub mod Moves
+pub mod Passing
+pub mod Replies
+pub mod Leads
+pub mod Stacks

@@ -1,0 +1,82 @@
+-- A process in the code of its program's units: docs/MACHINE.md, "Activations and processes".
+use Rattle.std.specs.Prelude.{◌≡◌, ℕ, ◌≤◌, List, [], ◌∷◌, length}
+use Rattle.hep_source.specs.declared.name.Name.{Name}
+use Rattle.hep_source.specs.declared.statement.Statement.{Statement}
+use Rattle.hep_source.specs.declared.value.Value.{Value}
+use Rattle.hep_source.specs.Units.{Units, unit_at, executable_from}
+use Rattle.hep_machine.specs.Processes.{unit_of}
+use Rattle.hep_machine.specs.State.{Level, Process, State}
+use Rattle.hep_machine.specs.Step.{unit_called}
+use Rattle.hep_code.specs.declared.variable.Variable.{Variable}
+use Rattle.hep_code.specs.Targets.{at}
+use Rattle.hep_code.specs.UnitCode.{AddressedUnit, index_of, table_of}
+use Rattle.hep_code.specs.Standing.{Counts, HoldsLoops, IsAt}
+
+-- where variables and the cells of DOs are, by the number of the unit
+pub record Addresses : Type 0 where
+  pub variables : ℕ → Name → Variable
+  pub cells : ℕ → ℕ → ℕ
+
+-- unit u of a program
+abbrev pub addressed_unit : Units → Addresses → ℕ → AddressedUnit
+addressed_unit program addresses u =
+    record {
+      unit = unit_at program u;
+      variables = addresses.variables u;
+      cells = addresses.cells u;
+      subroutines = unit_called program;
+    }
+
+-- the first instruction of a unit's first executable statement: X3.9-1978, 3.6 and 15.6.2.1
+abbrev pub entry_index : AddressedUnit → ℕ
+entry_index addressed = index_of addressed (at (executable_from addressed.unit 0))
+
+-- a level in the code: the activation, its unit, where it is in the unit's code, its operands, and what the cells of its DOs hold
+pub record CodeLevel : Type 0 where
+  pub activation : ℕ
+  pub unit : ℕ
+  pub index : ℕ
+  pub operands : List Value
+  pub counts : Counts
+
+module _ (program : Units) (addresses : Addresses) (s : State) where
+  -- the activation of a level, which was made, and its unit
+  pub record IsOf (f : CodeLevel) (level : Level) : Type 0 where
+    pub activation : level.activation ≡ f.activation
+    pub made : (1 ≤ f.activation) × (f.activation ≤ length s.activations)
+    pub unit : unit_of s f.activation ≡ f.unit
+
+  -- one below the top has made its CALL, and goes on after it
+  pub record IsBelow (f : CodeLevel) (level : Level) : Type 0 where
+    pub is_of : IsOf f level
+    pub index : f.index ≡ ((table_of (addressed_unit program addresses f.unit)).flows level.statement).next
+    pub operands : f.operands ≡ []
+    pub loops : HoldsLoops (unit_at program f.unit) f.counts level.loops
+
+  pub record IsTop (f : CodeLevel) (level : Level) : Type 0 where
+    pub is_of : IsOf f level
+    pub at : IsAt (addressed_unit program addresses f.unit) level f.operands f.counts f.index
+
+  abbrev pub AreBelow : List CodeLevel → Process → Type 0
+  AreBelow [] [] = Unit {0}
+  AreBelow (f ∷ fs) (level ∷ levels) = IsBelow f level × AreBelow fs levels
+  AreBelow _ _ = ⊥
+
+  -- those of a process, the top first
+  abbrev pub AreLevels : List CodeLevel → Process → Type 0
+  AreLevels [] [] = Unit {0}
+  AreLevels (f ∷ fs) (level ∷ levels) = IsTop f level × AreBelow fs levels
+  AreLevels _ _ = ⊥
+
+-- a new activation's level, at the first executable statement of its unit, with no DO begun
+abbrev pub NoLoops : List Statement → Counts → Type 0
+NoLoops unit counts = HoldsLoops unit counts []
+
+abbrev pub entered : Units → Addresses → ℕ → ℕ → Counts → CodeLevel
+entered program addresses a u counts =
+    record { activation = a; unit = u; index = entry_index (addressed_unit program addresses u); operands = []; counts = counts }
+
+-- a level that has made its CALL
+abbrev pub calling : Units → Addresses → CodeLevel → Level → CodeLevel
+calling program addresses f level =
+    record f { index = ((table_of (addressed_unit program addresses f.unit)).flows level.statement).next; operands = [] }

@@ -1,0 +1,383 @@
+//! Instructions. Each statement is a row of them: those that give its operands, then one operation that says where
+//! the activation goes, and behind it what there are several of, as the labels of a computed GO TO.
+//!
+//! Indexes of instructions are counted from the first one of the unit.
+
+use crate::variable::Variable;
+use hep_source::{Operator, PureFunction, Sign, StateFunction, Syntax, Text, Value};
+use std::alloc::{AllocError, Global};
+
+/// An operation that puts a value in the place of its operands, which are the last ones of all.
+#[derive(Clone, Copy, Debug)]
+pub enum Evaluation {
+    /// Reads a variable, or the element with these subscripts (X3.9-1978, 5.3).
+    Load {
+        variable: Variable,
+        subscripts: u32,
+    },
+    /// Puts a sign before an operand (6.1.2).
+    Sign(Sign),
+    /// `.NOT.` (6.4.1).
+    Not,
+    /// Combines two operands (6.1.1, 6.3.1 and 6.4.1).
+    Combine(Operator),
+    /// A function of integers (15.10).
+    Apply {
+        function: PureFunction,
+        arguments: u32,
+    },
+    /// FULL, EMPTY, VALUE, SETE or WAITF of a variable, or of the element with these subscripts
+    /// (`docs/LANGUAGE.md`).
+    Test {
+        function: StateFunction,
+        variable: Variable,
+        subscripts: u32,
+    },
+}
+
+/// One step of a statement. Where it goes on is an index of an instruction.
+#[derive(Clone, Copy, Debug)]
+pub enum Operation {
+    Evaluate(Evaluation),
+    /// Assigns the first operand to a variable, or to the element whose subscripts are the other ones
+    /// (X3.9-1978, 10.1 and 10.2).
+    Store {
+        variable: Variable,
+        subscripts: u32,
+        next: u32,
+    },
+    /// An unconditional GO TO (11.1), and each statement that does nothing but go on, as CONTINUE (11.11).
+    Jump {
+        next: u32,
+    },
+    /// A computed GO TO (11.2), with so many [`Instruction::To`] behind it.
+    Choose {
+        count: u32,
+        next: u32,
+    },
+    /// An arithmetic IF (11.4).
+    BySign {
+        negative: u32,
+        zero: u32,
+        positive: u32,
+    },
+    /// The condition of a logical IF (11.5): where it is true, the statement that it holds comes next.
+    Condition {
+        otherwise: u32,
+    },
+    /// The condition of an IF THEN or ELSE IF (11.6 and 11.7).
+    Branch {
+        inside: u32,
+        otherwise: u32,
+    },
+    /// A DO, of the initial value, the limit and the increment, with the first of the two cells for its
+    /// iteration count and its increment (11.10.3).
+    EnterLoop {
+        variable: Variable,
+        cells: u32,
+        inside: u32,
+        behind: u32,
+    },
+    /// The end of a DO (11.10.6 and 11.10.7).
+    EndLoop {
+        variable: Variable,
+        cells: u32,
+        inside: u32,
+        behind: u32,
+    },
+    /// CALL of a unit (15.6.2), with so many [`Instruction::Pass`] behind it.
+    Call {
+        unit: u32,
+        count: u32,
+        next: u32,
+    },
+    /// CREATE of a unit (`docs/LANGUAGE.md`), with so many [`Instruction::Pass`] behind it.
+    Create {
+        unit: u32,
+        count: u32,
+        next: u32,
+    },
+    /// PURGE (`docs/LANGUAGE.md`), with so many [`Instruction::Pass`] behind it.
+    Purge {
+        count: u32,
+        next: u32,
+    },
+    /// PRINT (12.8), with so many [`Instruction::Show`] behind it.
+    Print {
+        count: u32,
+        next: u32,
+    },
+    /// RETURN (15.8), and END of a unit (11.14).
+    Return,
+    /// STOP (11.12).
+    Stop,
+}
+
+/// How an actual argument is passed (X3.9-1978, 15.9.3), or what is purged.
+#[derive(Clone, Copy, Debug)]
+pub enum Argument {
+    /// The value of an expression, which is an operand.
+    Evaluated,
+    /// A variable, an array, or the element whose subscripts are operands.
+    Referred { variable: Variable, subscripts: u32 },
+}
+
+/// An item of a record (X3.9-1978, 12.8.2).
+#[derive(Debug, Drop)]
+pub enum Printed {
+    /// The value of an expression, which is an operand.
+    Operand,
+    /// The characters of a character constant.
+    Characters(Text),
+}
+
+/// What the code of a unit is made of.
+#[derive(Debug, Drop)]
+pub enum Instruction {
+    /// Puts a value behind the operands; this is no step.
+    Push(Value),
+    /// An operation, with the initial line of its statement.
+    Step { line: u32, operation: Operation },
+    /// The index to which one of the labels of a computed GO TO leads.
+    To(u32),
+    /// One of the actual arguments, or of what is purged.
+    Pass(Argument),
+    /// One of the items of a PRINT.
+    Show(Printed),
+}
+
+impl Syntax for Printed {
+    fn copy(&self, alloc: Global) -> Result<Printed, AllocError> {
+        match self {
+            Printed::Operand => Ok(Printed::Operand),
+            Printed::Characters(text) => Ok(Printed::Characters(text.copy(alloc)?)),
+        }
+    }
+
+    fn same(&self, other: &Printed) -> bool {
+        match (self, other) {
+            (Printed::Operand, Printed::Operand) => true,
+            (Printed::Characters(a), Printed::Characters(b)) => a.same(b),
+            _ => false,
+        }
+    }
+}
+
+impl Syntax for Evaluation {
+    fn copy(&self, _alloc: Global) -> Result<Evaluation, AllocError> {
+        Ok(*self)
+    }
+
+    fn same(&self, other: &Evaluation) -> bool {
+        match (self, other) {
+            (
+                Evaluation::Load {
+                    variable: x,
+                    subscripts: m,
+                },
+                Evaluation::Load {
+                    variable: y,
+                    subscripts: n,
+                },
+            ) => x.same(y) && m == n,
+            (Evaluation::Sign(a), Evaluation::Sign(b)) => a == b,
+            (Evaluation::Not, Evaluation::Not) => true,
+            (Evaluation::Combine(a), Evaluation::Combine(b)) => a == b,
+            (
+                Evaluation::Apply {
+                    function: f,
+                    arguments: m,
+                },
+                Evaluation::Apply {
+                    function: g,
+                    arguments: n,
+                },
+            ) => f == g && m == n,
+            (
+                Evaluation::Test {
+                    function: f,
+                    variable: x,
+                    subscripts: m,
+                },
+                Evaluation::Test {
+                    function: g,
+                    variable: y,
+                    subscripts: n,
+                },
+            ) => f == g && x.same(y) && m == n,
+            _ => false,
+        }
+    }
+}
+
+impl Syntax for Operation {
+    fn copy(&self, _alloc: Global) -> Result<Operation, AllocError> {
+        Ok(*self)
+    }
+
+    fn same(&self, other: &Operation) -> bool {
+        match (self, other) {
+            (Operation::Evaluate(a), Operation::Evaluate(b)) => a.same(b),
+            (
+                Operation::Store {
+                    variable: x,
+                    subscripts: m,
+                    next: i,
+                },
+                Operation::Store {
+                    variable: y,
+                    subscripts: n,
+                    next: j,
+                },
+            ) => x.same(y) && m == n && i == j,
+            (Operation::Jump { next: i }, Operation::Jump { next: j }) => i == j,
+            (Operation::Choose { count: m, next: i }, Operation::Choose { count: n, next: j }) => {
+                m == n && i == j
+            }
+            (
+                Operation::BySign {
+                    negative: a,
+                    zero: b,
+                    positive: c,
+                },
+                Operation::BySign {
+                    negative: d,
+                    zero: e,
+                    positive: f,
+                },
+            ) => a == d && b == e && c == f,
+            (Operation::Condition { otherwise: i }, Operation::Condition { otherwise: j }) => {
+                i == j
+            }
+            (
+                Operation::Branch {
+                    inside: a,
+                    otherwise: i,
+                },
+                Operation::Branch {
+                    inside: b,
+                    otherwise: j,
+                },
+            ) => a == b && i == j,
+            (
+                Operation::EnterLoop {
+                    variable: x,
+                    cells: c,
+                    inside: a,
+                    behind: i,
+                },
+                Operation::EnterLoop {
+                    variable: y,
+                    cells: d,
+                    inside: b,
+                    behind: j,
+                },
+            ) => x.same(y) && c == d && a == b && i == j,
+            (
+                Operation::EndLoop {
+                    variable: x,
+                    cells: c,
+                    inside: a,
+                    behind: i,
+                },
+                Operation::EndLoop {
+                    variable: y,
+                    cells: d,
+                    inside: b,
+                    behind: j,
+                },
+            ) => x.same(y) && c == d && a == b && i == j,
+            (
+                Operation::Call {
+                    unit: u,
+                    count: m,
+                    next: i,
+                },
+                Operation::Call {
+                    unit: v,
+                    count: n,
+                    next: j,
+                },
+            ) => u == v && m == n && i == j,
+            (
+                Operation::Create {
+                    unit: u,
+                    count: m,
+                    next: i,
+                },
+                Operation::Create {
+                    unit: v,
+                    count: n,
+                    next: j,
+                },
+            ) => u == v && m == n && i == j,
+            (Operation::Purge { count: m, next: i }, Operation::Purge { count: n, next: j }) => {
+                m == n && i == j
+            }
+            (Operation::Print { count: m, next: i }, Operation::Print { count: n, next: j }) => {
+                m == n && i == j
+            }
+            (Operation::Return, Operation::Return) => true,
+            (Operation::Stop, Operation::Stop) => true,
+            _ => false,
+        }
+    }
+}
+
+impl Syntax for Argument {
+    fn copy(&self, _alloc: Global) -> Result<Argument, AllocError> {
+        Ok(*self)
+    }
+
+    fn same(&self, other: &Argument) -> bool {
+        match (self, other) {
+            (Argument::Evaluated, Argument::Evaluated) => true,
+            (
+                Argument::Referred {
+                    variable: x,
+                    subscripts: m,
+                },
+                Argument::Referred {
+                    variable: y,
+                    subscripts: n,
+                },
+            ) => x.same(y) && m == n,
+            _ => false,
+        }
+    }
+}
+
+impl Syntax for Instruction {
+    fn copy(&self, alloc: Global) -> Result<Instruction, AllocError> {
+        match self {
+            Instruction::Push(value) => Ok(Instruction::Push(*value)),
+            Instruction::Step { line, operation } => Ok(Instruction::Step {
+                line: *line,
+                operation: *operation,
+            }),
+            Instruction::To(index) => Ok(Instruction::To(*index)),
+            Instruction::Pass(argument) => Ok(Instruction::Pass(*argument)),
+            Instruction::Show(printed) => Ok(Instruction::Show(printed.copy(alloc)?)),
+        }
+    }
+
+    fn same(&self, other: &Instruction) -> bool {
+        match (self, other) {
+            (Instruction::Push(a), Instruction::Push(b)) => a == b,
+            (
+                Instruction::Step {
+                    line: a,
+                    operation: o,
+                },
+                Instruction::Step {
+                    line: b,
+                    operation: p,
+                },
+            ) => a == b && o.same(p),
+            (Instruction::To(a), Instruction::To(b)) => a == b,
+            (Instruction::Pass(a), Instruction::Pass(b)) => a.same(b),
+            (Instruction::Show(a), Instruction::Show(b)) => a.same(b),
+            _ => false,
+        }
+    }
+}

@@ -1,0 +1,69 @@
+//! Laws of the code: what stands ahead of an activation, and how its levels stay in the code as activations
+//! begin and end.
+ghost use Rattle.std.specs.Prelude.{◌≡◌, ◌∷◌, ◌++◌, ℕ, Bool, true, List, Result, drop, length, map, []};
+ghost use Rattle.std.specs.List.{flat_map};
+ghost use Rattle.hep_source.specs.declared.name.Name.{Name};
+ghost use Rattle.hep_source.specs.declared.statement.Statement.{Statement};
+ghost use Rattle.hep_source.specs.declared.value.Value.{Value};
+ghost use Rattle.hep_source.specs.Units.{Units, line_at, statement_at, unit_at};
+ghost use Rattle.hep_machine.specs.Binding.{Binding};
+ghost use Rattle.hep_machine.specs.declared.event.Kind.{Kind};
+ghost use Rattle.hep_machine.specs.declared.record.Item.{Item};
+ghost use Rattle.hep_machine.specs.declared.slot.Slot.{Slot};
+ghost use Rattle.hep_machine.specs.Control.{level_after_statement};
+ghost use Rattle.hep_machine.specs.Evaluation.{Actual, Redex, Reference, does, entering_loop, ending_loop, next_of};
+ghost use Rattle.hep_machine.specs.Locations.{Scope, location_of_name};
+ghost use Rattle.hep_machine.specs.State.{Activation, Location, Process, State, Store, Work};
+ghost use Rattle.hep_machine.specs.Step.{Top, answer_of, entry_level, next_activation, result_after_assignment, result_after_write, stack_after_return, unit_on_top, with_activation};
+ghost use Rattle.hep_machine.specs.Variables.{is_do};
+ghost use Rattle.hep_code.specs.declared.instruction.Instruction.{Instruction};
+ghost use Rattle.hep_code.specs.declared.instruction.Instruction.TheVariants.{Pass, Show, Step};
+ghost use Rattle.hep_code.specs.declared.instruction.Operation.{Operation};
+ghost use Rattle.hep_code.specs.declared.variable.Variable.{Variable};
+ghost use Rattle.hep_code.specs.Actions.{argument_of_actual, evaluation_of, operands_of_actual, operands_of_item, operands_of_redex, printed_item, referred_argument};
+ghost use Rattle.hep_code.specs.Ahead.{IsNext, IsPastPushes};
+ghost use Rattle.hep_code.specs.Passing.{items_from, passed_actual, passed_from, passed_reference};
+ghost use Rattle.hep_code.specs.Replies.{Addressing, Answers, Finds, IsAddressed, IsAddressedIn, answer_to_store, reply_of, reply_to_store};
+ghost use Rattle.hep_code.specs.Stacks.{Addresses, AreBelow, AreLevels, CodeLevel, NoLoops, calling, entered};
+ghost use Rattle.hep_code.specs.Standing.{Counts, Fits, Stands};
+ghost use Rattle.hep_code.specs.UnitCode.{AddressedUnit, code_of};
+
+/// Where an activation stands and no value stands ahead, there is an operation, with the line of the statement.
+/// An operation that stands ahead is that of what comes next of the statement: of a redex or an action,
+/// with its operands and its entries; and a value in the place of the redex leads to the next index.
+pub fn operations_stand_ahead()
+    ensures step { (addressed : AddressedUnit) (k : ℕ) (work : Work) (operands : List Value) (index : ℕ) → Stands addressed k work operands index → IsPastPushes (code_of addressed) index → (operation : Operation) × (behind : List Instruction) × (drop index (code_of addressed) ≡ Step (line_at addressed.unit k) operation ∷ behind) }
+    ensures next { (addressed : AddressedUnit) (k : ℕ) (work : Work) (operands : List Value) (index line : ℕ) (operation : Operation) (behind : List Instruction) → Stands addressed k work operands index → drop index (code_of addressed) ≡ Step line operation ∷ behind → (line_at addressed.unit k ≡ line) × IsNext addressed k work operands index (next_of addressed.unit work) operation behind }
+{}
+
+/// Where a DO is entered or ended there is that DO.
+pub fn loops_are_there()
+    ensures entered { (unit : List Statement) (k : ℕ) (work : Work) (x : Name) (m n i : Value) → Fits unit k work → next_of unit work ≡ does (entering_loop x m n i) → is_do (statement_at unit k).form ≡ true }
+    ensures ended { (unit : List Statement) (k : ℕ) (work : Work) (d : ℕ) → Fits unit k work → next_of unit work ≡ does (ending_loop d) → is_do (statement_at unit d).form ≡ true }
+{}
+
+/// An operation that gives a value replies what the machine answers to the redex whose operation it is, and one
+/// that stores a value what the machine makes of the assignment, where the cells have what the machine has stored.
+pub fn operations_reply_as_the_machine_answers()
+    ensures redex { (addressing : Addressing) (store : Store) (cells : ℕ → Slot) (scope : Scope) (address : Variable → List Value → Result ℕ Kind) (variables : Name → Variable) (r : Redex) → Finds addressing cells store → IsAddressedIn addressing scope address variables r → Answers addressing store (reply_of cells address (evaluation_of variables r) (operands_of_redex r)) (answer_of scope store r) }
+    ensures stored { (addressing : Addressing) (store : Store) (cells : ℕ → Slot) (scope : Scope) (address : Variable → List Value → Result ℕ Kind) (variables : Name → Variable) (x : Name) (v : Value) (subscripts : List Value) → Finds addressing cells store → IsAddressed addressing scope address variables x subscripts → Answers addressing store (reply_to_store cells address (variables x) v subscripts) (answer_to_store store x.asynchronous v (location_of_name scope x subscripts)) }
+    ensures assigned { (program : Units) (top : Top) (asynchronous : Bool) (location : Result Location Kind) (v : Value) → result_after_assignment program top asynchronous location v ≡ result_after_write program top (level_after_statement (unit_on_top program top) top.level) (answer_to_store top.state.store asynchronous v location) }
+{}
+
+/// What stands behind the operation of a CALL, CREATE, PURGE or PRINT, with the operands, is what is passed, purged
+/// or printed, in order.
+pub fn entries_stand_for_lists()
+    ensures actuals { (variables : Name → Variable) (actuals : List Actual) (more : List Instruction) → passed_from (length actuals) (map (λ a. Pass (argument_of_actual variables a)) actuals ++ more) (flat_map operands_of_actual actuals) ≡ map (passed_actual variables) actuals }
+    ensures purged { (variables : Name → Variable) (references : List Reference) (more : List Instruction) → passed_from (length references) (map (λ r. Pass (referred_argument variables r)) references ++ more) (flat_map (λ (r : Reference). r.1) references) ≡ map (passed_reference variables) references }
+    ensures printed { (items : List Item) (more : List Instruction) → items_from (length items) (map (λ i. Show (printed_item i)) items ++ more) (flat_map operands_of_item items) ≡ items }
+{}
+
+/// The levels of a process stay where they are as activations are added. A caller goes on where its CALL leads
+/// once the subroutine has returned, and a new activation begins at its unit's first statement, on top of its
+/// caller or as a process of its own.
+pub fn levels_stay_in_the_code()
+    ensures added { (program : Units) (addresses : Addresses) (s t : State) (added : List Activation) (fs : List CodeLevel) (levels : Process) → t.activations ≡ s.activations ++ added → AreLevels program addresses s fs levels → AreLevels program addresses t fs levels }
+    ensures returned { (program : Units) (addresses : Addresses) (s : State) (fs : List CodeLevel) (levels : Process) → AreBelow program addresses s fs levels → AreLevels program addresses s fs (stack_after_return program s levels) }
+    ensures called { (program : Units) (addresses : Addresses) (top : Top) (u : ℕ) (b : Binding) (counts : Counts) (f : CodeLevel) (fs : List CodeLevel) → NoLoops (unit_at program u) counts → AreLevels program addresses top.state (f ∷ fs) (top.level ∷ top.below) → AreLevels program addresses (with_activation top u b) (entered program addresses (next_activation top.state) u counts ∷ (calling program addresses f top.level ∷ fs)) (entry_level (unit_at program u) (next_activation top.state) ∷ (top.level ∷ top.below)) }
+    ensures created { (program : Units) (addresses : Addresses) (top : Top) (u : ℕ) (b : Binding) (counts : Counts) → NoLoops (unit_at program u) counts → AreLevels program addresses (with_activation top u b) (entered program addresses (next_activation top.state) u counts ∷ []) (entry_level (unit_at program u) (next_activation top.state) ∷ []) }
+{}

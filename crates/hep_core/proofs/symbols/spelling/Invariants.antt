@@ -1,6 +1,0 @@
-use Rattle.std.proofs.Common.{◌≡◌, ◌++◌, drop}
-use Rattle.hep_source.specs.Names as names
-use Rattle.hep_core.proofs.symbols.spelling.Given as goal
-
-abbrev pub invariant-loop-letter : goal.invariant-loop-letter
-invariant-loop-letter l = l.characters.items ++ names.letters_of (drop l.letter-index l.name.letters) ≡ names.spelling l.name

@@ -1,0 +1,4 @@
+pub mod Rows
+pub mod Addresses
+pub mod Descriptors
+pub mod Tree

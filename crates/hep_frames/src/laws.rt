@@ -1,0 +1,167 @@
+//! Laws of frames: what holds of the frames of every unit, of COMMON in every program, and of the arena in
+//! which the storage units of a state are kept.
+ghost use Rattle.std.specs.Prelude.{◌≡◌, ◌⊎◌, ◌↔◌, ◌<◌, ◌≤◌, ◌+◌, ◌*◌, ◌∷◌, ◌++◌, [], ℕ, nat_eq, nat_lt, pos, if◌then◌else◌, Bool, true, false, List, Some, None, length, take, slice_get, slice_set};
+ghost use Rattle.std.specs.List.{filter};
+ghost use Rattle.hep_source.specs.declared.name.Name.{Name};
+ghost use Rattle.hep_source.specs.declared.statement.Statement.{Statement};
+ghost use Rattle.hep_source.specs.Names.{same_name, is_among, index_among};
+ghost use Rattle.hep_source.specs.Units.{Units, dummies_of};
+ghost use Rattle.hep_machine.specs.Constants.{adjustable_dimensions, cells_of, cells_of_all, cells_before};
+ghost use Rattle.hep_machine.specs.Declarations.{BlockName, same_block, names_in_block};
+ghost use Rattle.hep_machine.specs.declared.slot.Slot.{Slot};
+ghost use Rattle.hep_machine.specs.Access.{unset_cell};
+ghost use Rattle.hep_machine.specs.Layout.{Frame, Layout, block_cells, common_cells, frame_of, is_held, lowest_gap, with_frame};
+ghost use Rattle.hep_machine.specs.Run.{run};
+ghost use Rattle.hep_machine.specs.State.{Activation, Level, Location, Loop, State, local};
+ghost use Rattle.hep_machine.specs.Processes.{parent_of, with_loop};
+ghost use Rattle.hep_machine.specs.Shapes.{natural};
+ghost use Rattle.hep_machine.specs.Storage.{with_cell};
+ghost use Rattle.hep_machine.specs.Variables.{adjustable_dimensions_of_all, do_statements, frame_cells, is_do, locals_of};
+ghost use Rattle.hep_machine.specs.Views.{is_owned};
+ghost use Rattle.hep_arena.specs.Gaps.{frame_among, framed_cells, gaps, without};
+ghost use Rattle.hep_arena.specs.Holes.{Hole, IsOut, first_fit, free_cells, given, taken};
+ghost use Rattle.hep_frames.specs.Addresses.{AreSingle, IsLaid, IsMemory, address, frame_address, frame_from};
+ghost use Rattle.hep_frames.specs.Descriptors.{Describes, Wanted, is_descriptor, level_of, number, wanted_of};
+ghost use Rattle.hep_frames.specs.Tree.{AreFramed, AreWantedBut, IsAtRest, IsTree, IsWanted, Node, Nodes, activation_under, also, but, new_node, with_ended, with_node, without_node};
+ghost use Rattle.hep_frames.specs.Rows.{FramePart, argument, block_row, bounds, cells_in, common_row, first_in, first_in_common, first_of_block, first_of_part, frame_row, iteration, owner_in, place_in, place_of_block, place_of_part, same_part, size_in, variable};
+
+/// The rows have just the cells that there are: of a frame, of COMMON, and of a block in a unit, which
+/// has no more of them than the block.
+pub fn rows_have_all_cells()
+    ensures frame { (unit : List Statement) → cells_in (frame_row unit) ≡ frame_cells unit }
+    ensures common { (program : Units) → cells_in (common_row program) ≡ common_cells program }
+    ensures block { (unit : List Statement) (b : BlockName) → cells_in (block_row unit b) ≡ cells_of_all unit (names_in_block unit b) }
+    ensures greatest { (program : Units) (u : ℕ) (unit : List Statement) (b : BlockName) → slice_get program u ≡ Some unit → cells_in (block_row unit b) ≤ block_cells program b }
+{}
+
+/// The cells of a part, of a block and of a name in a block follow one another from the first one on,
+/// as many as it has.
+pub fn places_follow_first_cells()
+    ensures frame { (unit : List Statement) (part : FramePart) (i : ℕ) → place_of_part unit part i ≡ (if nat_lt i (size_in (same_part part) (frame_row unit)) then Some (first_of_part unit part + i) else None) }
+    ensures common { (program : Units) (b : BlockName) (i : ℕ) → place_of_block program b i ≡ (if nat_lt i (size_in (same_block b) (common_row program)) then Some (first_of_block program b + i) else None) }
+    ensures block { (unit : List Statement) (b : BlockName) (x : Name) (i : ℕ) → place_in (same_name x) i (block_row unit b) ≡ (if nat_lt i (size_in (same_name x) (block_row unit b)) then Some (first_in (same_name x) (block_row unit b) + i) else None) }
+{}
+
+/// No cell is one of two parts, of two blocks or of two names in a block, nor twice of one of them: from
+/// the cell its owner and the index are found again. Each lies within the frame, COMMON or the block.
+pub fn owners_share_no_cell()
+    ensures frame { (unit : List Statement) (part : FramePart) (i n : ℕ) → place_of_part unit part i ≡ Some n → (owner_in (frame_row unit) n ≡ Some (part, i)) × (n < frame_cells unit) }
+    ensures common { (program : Units) (b : BlockName) (i n : ℕ) → place_of_block program b i ≡ Some n → (owner_in (common_row program) n ≡ Some (b, i)) × (n < common_cells program) }
+    ensures block { (unit : List Statement) (b : BlockName) (x : Name) (i n : ℕ) → place_in (same_name x) i (block_row unit b) ≡ Some n → (owner_in (block_row unit b) n ≡ Some (x, i)) × (n < cells_of_all unit (names_in_block unit b)) }
+{}
+
+/// Where the cells of each part of a frame begin, and how many they are: behind the header and what
+/// stands before the part, in the order of the frame's cells.
+pub fn parts_in_order()
+    ensures argument { (unit : List Statement) (x : Name) (k : ℕ) → index_among x (dummies_of unit) ≡ Some k → (first_of_part unit (argument x) ≡ 1 + 2 * k) × (size_in (same_part (argument x)) (frame_row unit) ≡ 2) }
+    ensures variable { (unit : List Statement) (x : Name) → is_among x (locals_of unit) ≡ true → (first_of_part unit (variable x) ≡ 1 + (2 * length (dummies_of unit) + cells_before unit x (locals_of unit))) × (size_in (same_part (variable x)) (frame_row unit) ≡ cells_of unit x) }
+    ensures iteration { (unit : List Statement) (d : ℕ) (s : Statement) → slice_get unit d ≡ Some s → is_do s.form ≡ true → (first_of_part unit (iteration d) ≡ 1 + (2 * length (dummies_of unit) + (cells_of_all unit (locals_of unit) + 2 * do_statements (take d unit)))) × (size_in (same_part (iteration d)) (frame_row unit) ≡ 2) }
+    ensures bounds { (unit : List Statement) (x : Name) (k : ℕ) → index_among x (dummies_of unit) ≡ Some k → (first_of_part unit (bounds x) ≡ 1 + (2 * length (dummies_of unit) + (cells_of_all unit (locals_of unit) + (2 * do_statements unit + 2 * adjustable_dimensions_of_all unit (take k (dummies_of unit)))))) × (size_in (same_part (bounds x)) (frame_row unit) ≡ 2 * adjustable_dimensions unit x) }
+{}
+
+/// A name in a block begins as many cells behind the block's first one as the names before it have.
+pub fn names_follow_in_common()
+    ensures first { (program : Units) (unit : List Statement) (b : BlockName) (x : Name) → first_in_common program unit b x ≡ first_of_block program b + cells_before unit x (names_in_block unit b) }
+    ensures size { (unit : List Statement) (b : BlockName) (x : Name) → is_among x (names_in_block unit b) ≡ true → size_in (same_name x) (block_row unit b) ≡ cells_of unit x }
+{}
+
+/// No two storage units are kept in the same cell. Each one's lies in the arena and in no hole.
+pub fn addresses_are_apart()
+    ensures one { (program : Units) (s : State) (cells : ℕ) (layout : Layout) (l m : Location) (p : ℕ) → IsLaid program s cells layout → address program s layout l ≡ Some p → address program s layout m ≡ Some p → l ≡ m }
+    ensures inside { (program : Units) (s : State) (cells : ℕ) (layout : Layout) (at : Location) (p : ℕ) → IsLaid program s cells layout → address program s layout at ≡ Some p → p < cells }
+    ensures out { (program : Units) (s : State) (layout : Layout) (contents : List Slot) (holes : List Hole) (at : Location) (p : ℕ) → IsMemory program s layout contents holes → address program s layout at ≡ Some p → IsOut p holes }
+{}
+
+/// A write of a storage unit's cell is a write at its address: what is kept elsewhere stays.
+pub fn writes_change_one_cell()
+    ensures same { (program : Units) (s t : State) (layout : Layout) (contents : List Slot) (holes : List Hole) → IsMemory program s layout contents holes → t.activations ≡ s.activations → t.store ≡ s.store → IsMemory program t layout contents holes }
+    ensures written { (program : Units) (s t : State) (layout : Layout) (contents : List Slot) (holes : List Hole) (at : Location) (p : ℕ) (cell : Slot) → IsMemory program s layout contents holes → address program s layout at ≡ Some p → t.activations ≡ s.activations → t.store ≡ with_cell s.store at cell → IsMemory program t layout (slice_set contents p cell) holes }
+    ensures elsewhere { (program : Units) (s : State) (layout : Layout) (contents : List Slot) (l m : Location) (p q : ℕ) (cell : Slot) → IsLaid program s (length contents) layout → address program s layout l ≡ Some p → address program s layout m ≡ Some q → (l ≡ m → ⊥) → slice_get (slice_set contents p cell) q ≡ slice_get contents q }
+{}
+
+/// The frame of a new activation fits just where the layout has a gap. Where it enters, the block is taken
+/// and its cells are cleared, the arena is that of the state with the activation, in which nothing is
+/// stored yet; and what was kept somewhere is kept there still.
+pub fn frames_enter()
+    ensures fits { (program : Units) (s : State) (layout : Layout) (contents : List Slot) (holes : List Hole) (n : ℕ) → IsMemory program s layout contents holes → 1 ≤ n → first_fit n holes ≡ lowest_gap (length contents) n (common_cells program) layout }
+    ensures memory { (program : Units) (s t : State) (x : Activation) (layout : Layout) (first : ℕ) (old new : List Slot) (holes : List Hole) → IsMemory program s layout old holes → t.activations ≡ s.activations ++ x ∷ [] → t.store ≡ s.store → ((y : Name) (i : ℕ) → s.store (local (length t.activations) y i) ≡ unset_cell) → first_fit (frame_of program t (length t.activations)) holes ≡ Some first → length new ≡ length old → ((p : ℕ) → IsOut p holes → slice_get new p ≡ slice_get old p) → ((p : ℕ) → first ≤ p → p < first + frame_of program t (length t.activations) → slice_get new p ≡ Some unset_cell) → IsMemory program t (with_frame layout (frame_from program t (length t.activations) first)) new (taken (frame_of program t (length t.activations)) holes) }
+    ensures addresses { (program : Units) (s t : State) (x : Activation) (layout : Layout) (first cells p : ℕ) (at : Location) → IsLaid program s cells layout → t.activations ≡ s.activations ++ x ∷ [] → address program s layout at ≡ Some p → address program t (with_frame layout (frame_from program t (length t.activations) first)) at ≡ Some p }
+{}
+
+/// Where an activation's frame is given back, the arena is that of the state with the layout without it,
+/// and what is of other activations or in COMMON is kept where it was.
+pub fn frames_leave()
+    ensures out { (program : Units) (s : State) (layout : Layout) (contents : List Slot) (holes : List Hole) (a p : ℕ) (f : Frame) → IsMemory program s layout contents holes → frame_among a layout ≡ Some f → f.first ≤ p → p < f.first + f.cells → IsOut p holes }
+    ensures memory { (program : Units) (s : State) (a : ℕ) (layout : Layout) (f : Frame) (old new : List Slot) (holes : List Hole) → IsMemory program s layout old holes → frame_among a layout ≡ Some f → length new ≡ length old → ((p : ℕ) → IsOut p (given (f.first, f.cells) holes) → slice_get new p ≡ slice_get old p) → IsMemory program s (without a layout) new (given (f.first, f.cells) holes) }
+    ensures addresses { (program : Units) (s : State) (a cells : ℕ) (layout : Layout) (at : Location) → IsLaid program s cells layout → is_owned a at ≡ false → address program s (without a layout) at ≡ address program s layout at }
+{}
+
+/// COMMON, the frames of the layout and the holes are all cells of the arena.
+pub fn cells_are_used_or_free()
+    ensures { (program : Units) (s : State) (layout : Layout) (contents : List Slot) (holes : List Hole) → IsMemory program s layout contents holes → free_cells holes + (common_cells program + framed_cells layout) ≡ length contents }
+{}
+
+/// Two cells of frames at one place are one cell. Where a cell keeps no storage unit, no storage unit is kept.
+pub fn descriptors_are_apart()
+    ensures one { (program : Units) (s : State) (cells : ℕ) (layout : Layout) (a b p : ℕ) (c d : FramePart × ℕ) → IsLaid program s cells layout → frame_address program s layout a c ≡ Some p → frame_address program s layout b d ≡ Some p → (a ≡ b) × (c ≡ d) }
+    ensures units { (program : Units) (s : State) (cells : ℕ) (layout : Layout) (at : Location) (a p : ℕ) (c : FramePart × ℕ) → IsLaid program s cells layout → is_descriptor program s a c ≡ true → frame_address program s layout a c ≡ Some p → address program s layout at ≡ Some p → ⊥ }
+{}
+
+/// A write to a storage unit leaves the descriptors, and a write to a descriptor the storage units and the
+/// other descriptors. A DO that begins or goes on is two writes.
+pub fn descriptors_are_written()
+    ensures unit { (program : Units) (s : State) (layout : Layout) (wanted : Wanted) (contents : List Slot) (at : Location) (p : ℕ) (slot : Slot) → IsLaid program s (length contents) layout → Describes program s layout wanted contents → address program s layout at ≡ Some p → Describes program s layout wanted (slice_set contents p slot) }
+    ensures memory { (program : Units) (s : State) (layout : Layout) (contents : List Slot) (holes : List Hole) (a p : ℕ) (c : FramePart × ℕ) (slot : Slot) → IsMemory program s layout contents holes → is_descriptor program s a c ≡ true → frame_address program s layout a c ≡ Some p → IsMemory program s layout (slice_set contents p slot) holes }
+    ensures descriptor { (program : Units) (s : State) (layout : Layout) (old new : Wanted) (contents : List Slot) (a p : ℕ) (c : FramePart × ℕ) (slot : Slot) → IsLaid program s (length contents) layout → Describes program s layout old contents → frame_address program s layout a c ≡ Some p → new a c ≡ Some slot → ((b : ℕ) (d : FramePart × ℕ) (v : Slot) → ((a ≡ b) × (c ≡ d) → ⊥) → new b d ≡ Some v → old b d ≡ Some v) → Describes program s layout new (slice_set contents p slot) }
+    ensures iteration { (program : Units) (s t : State) (layout : Layout) (contents : List Slot) (a : ℕ) (level after : Level) (l : Loop) (p q : ℕ) → IsLaid program s (length contents) layout → Describes program s layout (wanted_of program s layout) contents → t.activations ≡ s.activations → level_of s a ≡ Some level → level_of t a ≡ Some after → after.loops ≡ with_loop level.loops l → ((b : ℕ) → nat_eq a b ≡ false → level_of t b ≡ level_of s b) → frame_address program s layout a (iteration l.statement, 0) ≡ Some p → frame_address program s layout a (iteration l.statement, 1) ≡ Some q → Describes program t layout (wanted_of program t layout) (slice_set (slice_set contents p (number (pos (natural l.count)))) q (number l.increment)) }
+    ensures same { (program : Units) (s t : State) (layout : Layout) (old new : Wanted) (contents : List Slot) → Describes program s layout old contents → t.activations ≡ s.activations → ((a : ℕ) (c : FramePart × ℕ) (v : Slot) → new a c ≡ Some v → old a c ≡ Some v) → Describes program t layout new contents }
+{}
+
+/// Where a frame enters or leaves, the descriptors of the others stay; those of a new frame have no values.
+pub fn descriptors_stay()
+    ensures enters { (program : Units) (s t : State) (x : Activation) (layout : Layout) (first : ℕ) (wanted : Wanted) (old new : List Slot) → IsLaid program s (length old) layout → Describes program s layout wanted old → t.activations ≡ s.activations ++ x ∷ [] → lowest_gap (length old) (frame_of program t (length t.activations)) (common_cells program) layout ≡ Some first → ((c : FramePart × ℕ) (v : Slot) → wanted (length t.activations) c ≡ Some v → v ≡ unset_cell) → ((p : ℕ) → IsOut p (gaps (length old) (common_cells program) layout) → slice_get new p ≡ slice_get old p) → ((p : ℕ) → first ≤ p → p < first + frame_of program t (length t.activations) → slice_get new p ≡ Some unset_cell) → Describes program t (with_frame layout (frame_from program t (length t.activations) first)) wanted new }
+    ensures leaves { (program : Units) (s : State) (a : ℕ) (layout : Layout) (wanted : Wanted) (old new : List Slot) → IsLaid program s (length old) layout → Describes program s layout wanted old → ((p : ℕ) → IsOut p (gaps (length old) (common_cells program) (without a layout)) → slice_get new p ≡ slice_get old p) → Describes program s (without a layout) wanted new }
+{}
+
+/// Where nothing is left to be given back, just the frames of held activations are out, and these have nodes.
+pub fn frames_out_are_held()
+    ensures out { (program : Units) (processes : List ℕ) (out : ℕ → Bool) (nodes : Nodes) (a : ℕ) → IsAtRest (run program processes) out nodes → out a ≡ is_held (run program processes) a }
+    ensures nodes { (program : Units) (processes : List ℕ) (out : ℕ → Bool) (nodes : Nodes) (a : ℕ) → IsAtRest (run program processes) out nodes → (is_held (run program processes) a ≡ true) ↔ ((k : ℕ) × (n : Node) × (nodes k ≡ Some n) × (n.activation ≡ a)) }
+{}
+
+/// An activation that has ended and has no child out is given back: the tree is one without it, and then
+/// its parent alone may not be wanted any more, whose node is another one and has counted it.
+pub fn frames_are_given_back_upwards()
+    ensures tree { (s : State) (on out : ℕ → Bool) (nodes : Nodes) (k : ℕ) (n : Node) → IsTree s on out nodes → nodes k ≡ Some n → n.finished ≡ true → n.children ≡ 0 → IsTree s on (but n.activation out) (without_node nodes k n) }
+    ensures wanted { (s : State) (on out : ℕ → Bool) (nodes : Nodes) (k : ℕ) (n : Node) → IsTree s on out nodes → nodes k ≡ Some n → AreWantedBut (Some n.activation) s on out → AreWantedBut (parent_of s n.activation) s on (but n.activation out) }
+    ensures parent { (s : State) (on out : ℕ → Bool) (nodes : Nodes) (k : ℕ) (n : Node) → IsTree s on out nodes → nodes k ≡ Some n → n.children ≡ 0 → activation_under (without_node nodes k n) n.parent ≡ Some (parent_of s n.activation) }
+    ensures apart { (s : State) (on out : ℕ → Bool) (nodes : Nodes) (k l : ℕ) (n : Node) → IsTree s on out nodes → nodes k ≡ Some n → n.children ≡ 0 → n.parent ≡ Some l → nat_eq l k ≡ false }
+    ensures counted { (s : State) (on out : ℕ → Bool) (nodes : Nodes) (k l : ℕ) (n m : Node) → IsTree s on out nodes → nodes k ≡ Some n → n.parent ≡ Some l → nodes l ≡ Some m → 1 ≤ m.children }
+{}
+
+/// What has not ended, or has a child out, is wanted; where that was the exception, all that is out is wanted.
+pub fn giving_back_stops()
+    ensures node { (s : State) (on out : ℕ → Bool) (nodes : Nodes) (k : ℕ) (n : Node) → IsTree s on out nodes → nodes k ≡ Some n → (n.finished ≡ false) ⊎ (1 ≤ n.children) → IsWanted s on out n.activation }
+    ensures wanted { (s : State) (on out : ℕ → Bool) (a : ℕ) → AreWantedBut (Some a) s on out → IsWanted s on out a → AreWantedBut None s on out }
+{}
+
+/// An activation that ends stays out until it is given back, and it alone may not be wanted any more.
+pub fn activations_end()
+    ensures tree { (s : State) (on out : ℕ → Bool) (nodes : Nodes) (k : ℕ) (n : Node) → IsTree s on out nodes → nodes k ≡ Some n → IsTree s (but n.activation on) out (with_ended nodes k) }
+    ensures wanted { (s : State) (on out : ℕ → Bool) (a : ℕ) → AreWantedBut None s on out → AreWantedBut (Some a) s (but a on) out }
+{}
+
+/// A new activation is a child of the one that makes it.
+pub fn activations_begin()
+    ensures tree { (s t : State) (x : Activation) (on out : ℕ → Bool) (nodes : Nodes) (first cells v k : ℕ) (n : Node) → IsTree s on out nodes → nodes v ≡ None → nodes k ≡ Some n → t.activations ≡ s.activations ++ x ∷ [] → x.parent ≡ Some n.activation → IsTree t (also (length t.activations) on) (also (length t.activations) out) (with_node nodes v (new_node (length t.activations) first cells k) k) }
+    ensures wanted { (s t : State) (x : Activation) (on out : ℕ → Bool) (nodes : Nodes) (k : ℕ) (n : Node) → IsTree s on out nodes → nodes k ≡ Some n → t.activations ≡ s.activations ++ x ∷ [] → x.parent ≡ Some n.activation → AreWantedBut None s on out → AreWantedBut None t (also (length t.activations) on) (also (length t.activations) out) }
+{}
+
+/// The nodes have the frames of the layout, whatever begins, ends or is given back; and the frames of what
+/// is out, without that of one activation, are those of what is out but that one.
+pub fn nodes_have_frames()
+    ensures begun { (s t : State) (x : Activation) (on out : ℕ → Bool) (nodes : Nodes) (first cells v k : ℕ) (n : Node) (layout : Layout) → IsTree s on out nodes → nodes v ≡ None → nodes k ≡ Some n → t.activations ≡ s.activations ++ x ∷ [] → x.parent ≡ Some n.activation → frame_among (length t.activations) layout ≡ None → AreFramed layout nodes → AreFramed (with_frame layout (record { activation = length t.activations; first = first; cells = cells })) (with_node nodes v (new_node (length t.activations) first cells k) k) }
+    ensures ended { (layout : Layout) (nodes : Nodes) (k : ℕ) → AreFramed layout nodes → AreFramed layout (with_ended nodes k) }
+    ensures given { (s : State) (on out : ℕ → Bool) (layout : Layout) (nodes : Nodes) (k : ℕ) (n : Node) → IsTree s on out nodes → nodes k ≡ Some n → AreSingle layout → AreFramed layout nodes → AreFramed (without n.activation layout) (without_node nodes k n) }
+    ensures layout { (out : ℕ → Bool) (a : ℕ) (layout : Layout) → AreSingle layout → without a (filter (λ (f : Frame). out f.activation) layout) ≡ filter (λ (f : Frame). but a out f.activation) layout }
+{}

@@ -1,0 +1,23 @@
+-- What `check` and `list` of a source come to, from its bytes to the bytes that they write: docs/MACHINE.md, "The program".
+use Rattle.std.specs.Prelude.{◌≡◌, ◌⊎◌, ℕ, List, []}
+use Rattle.hep_source.specs.Units.{Units}
+use Rattle.hep_checked.specs.Listing.{listing}
+use Rattle.hep_run.specs.declared.status.Status.TheVariants as statuses
+use Rattle.hep_run.specs.Sources.{IsRefusedSource, IsUnacceptedSource, IsRunnableSource, IsAcceptedSource}
+use Rattle.hep_run.specs.Outcome.{Outcome, refused}
+
+-- this text is the answer
+abbrev pub outcome_of_text : List ℕ → Outcome
+outcome_of_text text = record { output = text; messages = []; status = statuses.Done; history = [] }
+
+-- what `check` comes to: why the source isn't run, or nothing
+abbrev pub IsCheckOutcome : List ℕ → Outcome → Type 0
+IsCheckOutcome source o =
+    ((number : ℕ) × (line : ℕ) × (name : List ℕ) × IsRefusedSource source number line name × (o ≡ refused number line name))
+    ⊎ ((program : Units) × IsRunnableSource source program × (o ≡ outcome_of_text []))
+
+-- what `list` comes to: why the source isn't accepted, or the lines of its units and common blocks; it may not be supported
+abbrev pub IsListOutcome : List ℕ → Outcome → Type 0
+IsListOutcome source o =
+    ((number : ℕ) × (line : ℕ) × (name : List ℕ) × IsUnacceptedSource source number line name × (o ≡ refused number line name))
+    ⊎ ((program : Units) × IsAcceptedSource source program × (o ≡ outcome_of_text (listing program)))

@@ -1,0 +1,47 @@
+-- Which sources are refused, accepted and run: docs/MACHINE.md, "The program".
+use Rattle.std.specs.Prelude.{◌≡◌, ◌⊎◌, ℕ, List, [], Ok}
+use Rattle.hep_base.specs.declared.refusal.Refusal.TheVariants as refusals
+use Rattle.hep_text.specs.declared.statement.Stmt.{Stmt}
+use Rattle.hep_text.specs.Reading.{statements_of, refusal}
+use Rattle.hep_parse.specs.Program.{IsProgram, IsFirstFault}
+use Rattle.hep_source.specs.Units.{Units}
+use Rattle.hep_check.specs.Conditions.{IsAccepted}
+use Rattle.hep_checked.specs.Faults.{Refuses}
+use Rattle.hep_core.specs.Refusals.{IsRunnable, IsUnsupported}
+
+-- ---- why there is no program to go on with: a number, a line and a name
+
+-- the program violates a condition, and its first violation is reported so
+abbrev pub IsViolatingProgram : Units → ℕ → ℕ → List ℕ → Type 0
+IsViolatingProgram program number line name = Refuses program (refusals.Refused number line name)
+
+-- it does, or it violates no condition and isn't supported
+abbrev pub IsRefusedProgram : Units → ℕ → ℕ → List ℕ → Type 0
+IsRefusedProgram program number line name = IsViolatingProgram program number line name ⊎ IsUnsupported program number line name
+
+-- the text of the source is refused so, or its statements are, or its program is
+abbrev pub IsRefusedFor : (Units → ℕ → ℕ → List ℕ → Type 0) → List ℕ → ℕ → ℕ → List ℕ → Type 0
+IsRefusedFor Is source number line name =
+    ((statements_of source ≡ refusal number line) × (name ≡ []))
+    ⊎ ((statements : List Stmt) × (statements_of source ≡ Ok statements) × IsFirstFault statements number line name)
+    ⊎ ((statements : List Stmt) × (program : Units) × (statements_of source ≡ Ok statements) × IsProgram statements program × Is program number line name)
+
+-- the source isn't accepted
+abbrev pub IsUnacceptedSource : List ℕ → ℕ → ℕ → List ℕ → Type 0
+IsUnacceptedSource source number line name = IsRefusedFor IsViolatingProgram source number line name
+
+-- the source isn't run: it isn't accepted, or not supported
+abbrev pub IsRefusedSource : List ℕ → ℕ → ℕ → List ℕ → Type 0
+IsRefusedSource source number line name = IsRefusedFor IsRefusedProgram source number line name
+
+-- ---- programs
+
+-- the source is this program, which is accepted
+abbrev pub IsAcceptedSource : List ℕ → Units → Type 0
+IsAcceptedSource source program =
+    (statements : List Stmt) × (statements_of source ≡ Ok statements) × IsProgram statements program × IsAccepted program
+
+-- the source is this program, which is accepted and supported
+abbrev pub IsRunnableSource : List ℕ → Units → Type 0
+IsRunnableSource source program =
+    (statements : List Stmt) × (statements_of source ≡ Ok statements) × IsProgram statements program × IsRunnable program

@@ -1,0 +1,47 @@
+//! The bytes of a source to what `check` and `list` write.
+ghost use Rattle.std.specs.Prelude.{IfOk};
+ghost use Rattle.hep_run.specs.Checks.{IsCheckOutcome, IsListOutcome};
+ghost use Rattle.hep_run.specs.Transcripts.{outcome_of};
+
+use crate::front::{checked_source, image_of_source};
+use crate::transcript::{Transcript, refused_transcript, text_transcript};
+use hep_base::Refusal;
+use hep_checked::list_text;
+use std::alloc::{AllocError, Global};
+
+/// All that `check` of a source comes to, before a byte of it is written.
+///
+/// # Errors
+///
+/// Only where memory was refused.
+pub fn check_transcript(alloc: Global, source: &[u8]) -> Result<Transcript, AllocError>
+    ensures { IfOk result (λ r. IsCheckOutcome source.now (outcome_of r)) }
+{
+    match image_of_source(alloc, source) {
+        Ok(_) => Ok(text_transcript(alloc, Vec::new(alloc))),
+        Err(Refusal::NoMemory) => Err(AllocError),
+        Err(Refusal::Refused { number, line, name }) => {
+            refused_transcript(alloc, number, line, &name)
+        }
+    }
+}
+
+/// All that `list` of a source comes to, before a byte of it is written.
+///
+/// # Errors
+///
+/// Only where memory was refused.
+pub fn list_transcript(alloc: Global, source: &[u8]) -> Result<Transcript, AllocError>
+    ensures { IfOk result (λ r. IsListOutcome source.now (outcome_of r)) }
+{
+    match checked_source(alloc, source) {
+        Ok(checked) => {
+            let text = list_text(alloc, &checked)?;
+            Ok(text_transcript(alloc, text.into_vec()))
+        }
+        Err(Refusal::NoMemory) => Err(AllocError),
+        Err(Refusal::Refused { number, line, name }) => {
+            refused_transcript(alloc, number, line, &name)
+        }
+    }
+}
