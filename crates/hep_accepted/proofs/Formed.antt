@@ -185,6 +185,10 @@ occurs unit s e p (inr (inr (inl h))) g = has_behind (flat_map (occurrences_in u
 occurs unit s e p (inr (inr (inr (inl h)))) g = has_behind (flat_map (occurrences_in unit) s.conditions) (occurrences_in_form unit s.form) p (groups_occur unit s.form e p h g)
 occurs unit s e p (inr (inr (inr (inr h)))) g = has_behind (flat_map (occurrences_in unit) s.conditions) (occurrences_in_form unit s.form) p (form_occurs unit s.form e p h g)
 
+-- each occurrence in an expression of a statement is one in the statement
+pub occurrence_in_statement : (unit : List Statement) (s : Statement) (e : Tree) (p : Occurrence) → Has (trees_in_statement s) e → Has (occurrences_in unit e) p → Has (occurrences_in_statement unit s) p
+occurrence_in_statement unit s e p h g = occurs unit s e p (part_of s e h) g
+
 pub is_there : {A : Type 0} (o : Option A) → (x : A) × (o ≡ Some x) → is_some o ≡ true
 is_there o h = ap is_some h.1
 

@@ -1,14 +1,14 @@
 pub mod Parts
 pub mod Members
 pub mod Repeats
-mod Agreed
-mod Nested
-mod Meant
+pub mod Agreed
+pub mod Nested
+pub mod Meant
 mod Operands
-mod Formed
+pub mod Formed
 mod Executed
-mod Valued
-mod Shaped
+pub mod Valued
+pub mod Shaped
 mod Assigned
 mod Fitted
-mod Given
+pub mod Given

@@ -12,3 +12,5 @@ pub mod Loops
 pub mod Stacks
 pub mod Replies
 pub mod Passing
+pub mod Takes
+pub mod Depths

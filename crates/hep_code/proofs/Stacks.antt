@@ -1,14 +1,19 @@
 -- Processes in the code, as activations are added, begin and end: X3.9-1978, 15.6.2 and 15.8.
-use Rattle.std.proofs.Common.{◌≡◌, ℕ, zero, suc, ◌<◌, ◌≤◌, List, [], ◌∷◌, ◌++◌, length, length-append, refl, ap, sym, ◌∙◌, subst, arith, Option, Some}
+use Rattle.std.proofs.Common.{◌≡◌, ℕ, zero, suc, ◌+◌, ◌<◌, ◌≤◌, List, [], ◌∷◌, ◌++◌, length, length-append, refl, ap, sym, ◌∙◌, subst, arith, Option, Some}
 use Rattle.std.specs.Prelude.{slice_get}
 use Rattle.std.specs.Option.{unwrap_or}
+use Rattle.hep_source.specs.declared.value.Value.{Value}
 use Rattle.hep_source.specs.Units.{Units, unit_at, executable_from}
 use Rattle.hep_machine.specs.Binding.{Binding}
 use Rattle.hep_machine.specs.Control.{level_after_statement}
 use Rattle.hep_machine.specs.Defaults.{no_activation}
+use Rattle.hep_machine.specs.Evaluation.{Redex, plug_work}
 use Rattle.hep_machine.specs.Processes.{numbered, unit_of}
 use Rattle.hep_machine.specs.State.{Activation, Level, Process, State}
 use Rattle.hep_machine.specs.Step.{Top, entry_level, next_activation, with_activation, stack_after_return}
+use Rattle.hep_code.specs.declared.instruction.Operation.{Operation}
+use Rattle.hep_code.specs.Ahead.{IsRedex}
+use Rattle.hep_code.specs.Leads.{Moves}
 use Rattle.hep_code.specs.Stacks.{Addresses, addressed_unit, CodeLevel, IsOf, IsBelow, IsTop, AreBelow, AreLevels, NoLoops, entered, calling}
 use Rattle.hep_code.specs.Standing.{Counts, HoldsLoops, Stands}
 use Rattle.hep_code.proofs.Moves.{StandsAt, after_statement_stands, after_statement_keeps, entry_stands}
@@ -51,6 +56,18 @@ module _ (program : Units) (addresses : Addresses) (s t : State) (ys : List Acti
   still_levels (f ∷ fs) (level ∷ levels) h = (record { is_of = still_of f level h.0.is_of; at = h.0.at }, still_below fs levels h.1)
   still_levels [] (level ∷ levels) h = absurd h
   still_levels (f ∷ fs) [] h = absurd h
+
+-- ---- the top moves, or gets a value
+
+pub moved_levels : (program : Units) (addresses : Addresses) (s : State) (f : CodeLevel) (fs : List CodeLevel) (level after : Level) (levels : Process) (counts : Counts) (index : ℕ) → AreLevels program addresses s (f ∷ fs) (level ∷ levels) → Moves (addressed_unit program addresses f.unit) level after counts index → AreLevels program addresses s (record f { index = index; operands = []; counts = counts } ∷ fs) (after ∷ levels)
+moved_levels program addresses s f fs level after levels counts index h moves =
+    let of = h.0.is_of in
+    (record { is_of = record { activation = moves.activation ∙ of.activation; made = of.made; unit = of.unit }; at = moves.at }, h.1)
+
+pub filled_levels : (program : Units) (addresses : Addresses) (s : State) (f : CodeLevel) (fs : List CodeLevel) (level : Level) (levels : Process) (o : Operation) (r : Redex) (v : Value) → AreLevels program addresses s (f ∷ fs) (level ∷ levels) → (is : IsRedex (addressed_unit program addresses f.unit) level.statement level.work f.operands f.index r o) → AreLevels program addresses s (record f { index = f.index + 1; operands = is.before ++ v ∷ [] } ∷ fs) (record level { work = plug_work (unit_at program f.unit) level.work v } ∷ levels)
+filled_levels program addresses s f fs level levels o r v h is =
+    let of = h.0.is_of in
+    (record { is_of = record { activation = of.activation; made = of.made; unit = of.unit }; at = record { stands = is.filled v; loops = h.0.at.loops } }, h.1)
 
 -- ---- RETURN and END: the caller goes on
 

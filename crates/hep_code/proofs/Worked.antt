@@ -1,5 +1,9 @@
 -- Worked code: what the definitions give for small units.
-use Rattle.std.specs.Prelude.{◌≡◌, ℕ, ◌+◌, ◌*◌, pos, false, [], ◌∷◌, Option, Some, None, refl}
+use Rattle.std.specs.Prelude.{◌≡◌, ℕ, ◌+◌, ◌*◌, pos, true, false, [], ◌∷◌, Option, Some, None, refl}
+use Rattle.hep_source.specs.declared.declaration.Dimension.{Dimension}
+use Rattle.hep_source.specs.declared.declaration.UpperBound.TheVariants as bound
+use Rattle.hep_source.specs.declared.declaration.ValueType.TheVariants.{Integer}
+use Rattle.hep_source.specs.declared.function.StateFunction.TheVariants.{ValueOf}
 use Rattle.hep_source.specs.declared.name.Name.{Name}
 use Rattle.hep_source.specs.declared.name.Occurrence.{Occurrence}
 use Rattle.hep_source.specs.declared.operator.ArithmeticOperator.TheVariants.{Add, Multiply}
@@ -9,11 +13,11 @@ use Rattle.hep_source.specs.declared.statement.Form.TheVariants as form
 use Rattle.hep_source.specs.declared.statement.PrintItem.TheVariants as item
 use Rattle.hep_source.specs.declared.statement.Statement.{Statement}
 use Rattle.hep_source.specs.declared.value.Value.TheVariants.{Int}
-use Rattle.hep_source.specs.Tree.{Tree, constant, occurrence, binary}
+use Rattle.hep_source.specs.Tree.{Tree, constant, occurrence, with_list, binary, no_trees, trees}
 use Rattle.hep_source.specs.Units.{Units}
 use Rattle.hep_machine.specs.Declarations.{first_letter}
 use Rattle.hep_code.specs.declared.instruction.Argument.TheVariants.{Evaluated, Referred}
-use Rattle.hep_code.specs.declared.instruction.Evaluation.TheVariants.{Load, Combine}
+use Rattle.hep_code.specs.declared.instruction.Evaluation.TheVariants.{Load, Combine, Test}
 use Rattle.hep_code.specs.declared.instruction.Instruction.TheVariants.{Push, Step, To, Pass, Show}
 use Rattle.hep_code.specs.declared.instruction.Operation.TheVariants.{Evaluate, Store, Jump, Choose, Condition, Branch, EnterLoop, EndLoop, Call, Print, Return}
 use Rattle.hep_code.specs.declared.instruction.Printed.TheVariants.{Operand, Characters}
@@ -32,7 +36,7 @@ abbrev at : ℕ → Occurrence
 at c = record { name = named c; position = 0 }
 
 abbrev cell : ℕ → Variable
-cell c = Local false c 0
+cell c = Local false c
 
 abbrev name : ℕ → Tree
 name c = occurrence (at c)
@@ -141,3 +145,27 @@ code_of_call : code_of (addressed_unit call by_letter 0) ≡
     ∷ Step 3 Return ∷ Step 0 Return ∷ []
 unfolding code_of onward outward inward aside labelled
 code_of_call = refl
+
+-- ---- INTEGER M(2,2), K=M(I,2) and M(1,K)=VALUE($X): subscripts from left to right, and behind the value that is assigned
+
+abbrev up_to : ℕ → Dimension
+up_to n = record { lower = None; upper = bound.Expression (number n) }
+
+abbrev asynchronous_x : Occurrence
+asynchronous_x = record { name = record { asynchronous = true; letters = 88 ∷ 32 ∷ 32 ∷ 32 ∷ 32 ∷ 32 ∷ [] }; position = 0 }
+
+abbrev value : Occurrence
+value = record { name = record { asynchronous = false; letters = 86 ∷ 65 ∷ 76 ∷ 85 ∷ 69 ∷ 32 ∷ [] }; position = 0 }
+
+abbrev arrays : Units
+arrays =
+    (statement 1 None (form.Declare Integer (record { occurrence = at 77; dimensions = up_to 2 ∷ up_to 2 ∷ [] } ∷ [])) ∷ statement 2 None (assigned 75 (with_list (at 77) (trees (name 73) (trees (number 2) no_trees))))
+    ∷ statement 3 None (form.Assign (record { occurrence = at 77; subscripts = number 1 ∷ name 75 ∷ [] }) (with_list value (trees (occurrence asynchronous_x) no_trees)))
+    ∷ statement 4 None form.End ∷ []) ∷ []
+
+code_of_arrays : code_of (addressed_unit arrays by_letter 0) ≡
+    Step 1 (Jump 1) ∷ Step 2 (Evaluate (Load (cell 73) 0)) ∷ Push (Int (pos 2)) ∷ Step 2 (Evaluate (Load (cell 77) 2)) ∷ Step 2 (Store (cell 75) 0 5)
+    ∷ Step 3 (Evaluate (Test ValueOf (cell 88) 0)) ∷ Push (Int (pos 1)) ∷ Step 3 (Evaluate (Load (cell 75) 0)) ∷ Step 3 (Store (cell 77) 2 9)
+    ∷ Step 4 Return ∷ Step 0 Return ∷ []
+unfolding code_of onward outward inward aside labelled
+code_of_arrays = refl

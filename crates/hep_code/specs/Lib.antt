@@ -11,3 +11,5 @@ pub mod Passing
 pub mod Replies
 pub mod Leads
 pub mod Stacks
+pub mod Limits
+pub mod Depths

@@ -68,15 +68,16 @@ module _ (program : Units) (addresses : Addresses) (s : State) where
   AreLevels (f ∷ fs) (level ∷ levels) = IsTop f level × AreBelow fs levels
   AreLevels _ _ = ⊥
 
--- a new activation's level, at the first executable statement of its unit, with no DO begun
+-- what the cells of DOs hold none of which was begun
 abbrev pub NoLoops : List Statement → Counts → Type 0
 NoLoops unit counts = HoldsLoops unit counts []
 
+-- the level of a new activation, at the first executable statement of its unit
 abbrev pub entered : Units → Addresses → ℕ → ℕ → Counts → CodeLevel
 entered program addresses a u counts =
     record { activation = a; unit = u; index = entry_index (addressed_unit program addresses u); operands = []; counts = counts }
 
--- a level that has made its CALL
+-- the level of a caller, which goes on after its CALL
 abbrev pub calling : Units → Addresses → CodeLevel → Level → CodeLevel
 calling program addresses f level =
     record f { index = ((table_of (addressed_unit program addresses f.unit)).flows level.statement).next; operands = [] }

@@ -3,8 +3,9 @@
 //!
 //! Indexes of instructions are counted from the first one of the unit.
 
+use crate::boxed_text::BoxedText;
 use crate::variable::Variable;
-use hep_source::{Operator, PureFunction, Sign, StateFunction, Syntax, Text, Value};
+use hep_source::{Operator, PureFunction, Sign, StateFunction, Syntax, Value};
 use std::alloc::{AllocError, Global};
 
 /// An operation that puts a value in the place of its operands, which are the last ones of all.
@@ -128,7 +129,7 @@ pub enum Printed {
     /// The value of an expression, which is an operand.
     Operand,
     /// The characters of a character constant.
-    Characters(Text),
+    Characters(BoxedText),
 }
 
 /// What the code of a unit is made of.

@@ -1,6 +1,6 @@
-//! Laws of the code: what stands ahead of an activation, and how its levels stay in the code as activations
-//! begin and end.
-ghost use Rattle.std.specs.Prelude.{◌≡◌, ◌∷◌, ◌++◌, ℕ, Bool, true, List, Result, drop, length, map, []};
+//! Laws of the code: what stands ahead of an activation, how many operands it has, and how its levels stay in the
+//! code as activations begin and end.
+ghost use Rattle.std.specs.Prelude.{◌≡◌, ◌≤◌, ◌∷◌, ◌++◌, ◌+◌, ℕ, Bool, true, List, Result, drop, length, map, []};
 ghost use Rattle.std.specs.List.{flat_map};
 ghost use Rattle.hep_source.specs.declared.name.Name.{Name};
 ghost use Rattle.hep_source.specs.declared.statement.Statement.{Statement};
@@ -11,9 +11,9 @@ ghost use Rattle.hep_machine.specs.declared.event.Kind.{Kind};
 ghost use Rattle.hep_machine.specs.declared.record.Item.{Item};
 ghost use Rattle.hep_machine.specs.declared.slot.Slot.{Slot};
 ghost use Rattle.hep_machine.specs.Control.{level_after_statement};
-ghost use Rattle.hep_machine.specs.Evaluation.{Actual, Redex, Reference, does, entering_loop, ending_loop, next_of};
+ghost use Rattle.hep_machine.specs.Evaluation.{Actual, Redex, Reference, does, entering_loop, ending_loop, next_of, plug_work};
 ghost use Rattle.hep_machine.specs.Locations.{Scope, location_of_name};
-ghost use Rattle.hep_machine.specs.State.{Activation, Location, Process, State, Store, Work};
+ghost use Rattle.hep_machine.specs.State.{Activation, Level, Location, Process, State, Store, Work};
 ghost use Rattle.hep_machine.specs.Step.{Top, answer_of, entry_level, next_activation, result_after_assignment, result_after_write, stack_after_return, unit_on_top, with_activation};
 ghost use Rattle.hep_machine.specs.Variables.{is_do};
 ghost use Rattle.hep_code.specs.declared.instruction.Instruction.{Instruction};
@@ -21,10 +21,12 @@ ghost use Rattle.hep_code.specs.declared.instruction.Instruction.TheVariants.{Pa
 ghost use Rattle.hep_code.specs.declared.instruction.Operation.{Operation};
 ghost use Rattle.hep_code.specs.declared.variable.Variable.{Variable};
 ghost use Rattle.hep_code.specs.Actions.{argument_of_actual, evaluation_of, operands_of_actual, operands_of_item, operands_of_redex, printed_item, referred_argument};
-ghost use Rattle.hep_code.specs.Ahead.{IsNext, IsPastPushes};
+ghost use Rattle.hep_code.specs.Ahead.{IsNext, IsPastPushes, IsRedex, values_ahead};
+ghost use Rattle.hep_code.specs.Depths.{deepest};
+ghost use Rattle.hep_code.specs.Leads.{Moves};
 ghost use Rattle.hep_code.specs.Passing.{items_from, passed_actual, passed_from, passed_reference};
 ghost use Rattle.hep_code.specs.Replies.{Addressing, Answers, Finds, IsAddressed, IsAddressedIn, answer_to_store, reply_of, reply_to_store};
-ghost use Rattle.hep_code.specs.Stacks.{Addresses, AreBelow, AreLevels, CodeLevel, NoLoops, calling, entered};
+ghost use Rattle.hep_code.specs.Stacks.{Addresses, AreBelow, AreLevels, CodeLevel, NoLoops, addressed_unit, calling, entered};
 ghost use Rattle.hep_code.specs.Standing.{Counts, Fits, Stands};
 ghost use Rattle.hep_code.specs.UnitCode.{AddressedUnit, code_of};
 
@@ -58,12 +60,22 @@ pub fn entries_stand_for_lists()
     ensures printed { (items : List Item) (more : List Instruction) → items_from (length items) (map (λ i. Show (printed_item i)) items ++ more) (flat_map operands_of_item items) ≡ items }
 {}
 
-/// The levels of a process stay where they are as activations are added. A caller goes on where its CALL leads
+/// The levels of a process stay in the code as its top moves, or gets a value in the place of a redex, and as
+/// activations are added. A caller goes on where its CALL leads
 /// once the subroutine has returned, and a new activation begins at its unit's first statement, on top of its
 /// caller or as a process of its own.
 pub fn levels_stay_in_the_code()
+    ensures moved { (program : Units) (addresses : Addresses) (s : State) (f : CodeLevel) (fs : List CodeLevel) (level after : Level) (levels : Process) (counts : Counts) (index : ℕ) → AreLevels program addresses s (f ∷ fs) (level ∷ levels) → Moves (addressed_unit program addresses f.unit) level after counts index → AreLevels program addresses s (record f { index = index; operands = []; counts = counts } ∷ fs) (after ∷ levels) }
+    ensures filled { (program : Units) (addresses : Addresses) (s : State) (f : CodeLevel) (fs : List CodeLevel) (level : Level) (levels : Process) (operation : Operation) (r : Redex) (v : Value) → AreLevels program addresses s (f ∷ fs) (level ∷ levels) → (is : IsRedex (addressed_unit program addresses f.unit) level.statement level.work f.operands f.index r operation) → AreLevels program addresses s (record f { index = f.index + 1; operands = is.before ++ v ∷ [] } ∷ fs) (record level { work = plug_work (unit_at program f.unit) level.work v } ∷ levels) }
     ensures added { (program : Units) (addresses : Addresses) (s t : State) (added : List Activation) (fs : List CodeLevel) (levels : Process) → t.activations ≡ s.activations ++ added → AreLevels program addresses s fs levels → AreLevels program addresses t fs levels }
     ensures returned { (program : Units) (addresses : Addresses) (s : State) (fs : List CodeLevel) (levels : Process) → AreBelow program addresses s fs levels → AreLevels program addresses s fs (stack_after_return program s levels) }
     ensures called { (program : Units) (addresses : Addresses) (top : Top) (u : ℕ) (b : Binding) (counts : Counts) (f : CodeLevel) (fs : List CodeLevel) → NoLoops (unit_at program u) counts → AreLevels program addresses top.state (f ∷ fs) (top.level ∷ top.below) → AreLevels program addresses (with_activation top u b) (entered program addresses (next_activation top.state) u counts ∷ (calling program addresses f top.level ∷ fs)) (entry_level (unit_at program u) (next_activation top.state) ∷ (top.level ∷ top.below)) }
     ensures created { (program : Units) (addresses : Addresses) (top : Top) (u : ℕ) (b : Binding) (counts : Counts) → NoLoops (unit_at program u) counts → AreLevels program addresses (with_activation top u b) (entered program addresses (next_activation top.state) u counts ∷ []) (entry_level (unit_at program u) (next_activation top.state) ∷ []) }
+{}
+
+/// Wherever an activation stands in the code of a unit, its operands, with the values that stand ahead, are no more
+/// than the deepest stack of that code; so there is room for them in a vector of that capacity.
+pub fn operands_have_room()
+    ensures operands { (addressed : AddressedUnit) (k : ℕ) (work : Work) (operands : List Value) (index : ℕ) → Stands addressed k work operands index → length operands ≤ deepest (code_of addressed) }
+    ensures ahead { (addressed : AddressedUnit) (k : ℕ) (work : Work) (operands : List Value) (index : ℕ) → Stands addressed k work operands index → length operands + values_ahead (drop index (code_of addressed)) ≤ deepest (code_of addressed) }
 {}

@@ -4,11 +4,15 @@
 //! with a place in it. That both go the same way is said by the contracts of [`operands`], [`leading`] and [`laws`].
 #![tactic(auto)]
 
+pub mod boxed_text;
+pub mod depth;
 pub mod instruction;
 pub mod laws;
 pub mod leading;
 pub mod operands;
 pub mod variable;
 
+pub use boxed_text::BoxedText;
+pub use depth::{Depth, MOST_OPERANDS, depth_of};
 pub use instruction::{Argument, Evaluation, Instruction, Operation, Printed};
 pub use variable::Variable;

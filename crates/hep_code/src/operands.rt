@@ -1,17 +1,16 @@
 //! Operands: the values that stand ahead in the code, and how many an operation takes.
-ghost use Rattle.std.specs.Prelude.{◌≡◌, ◌<◌, ◌^◌, ℕ, length, OnOk};
+ghost use Rattle.std.specs.Prelude.{◌≡◌, ◌+◌, ◌<◌, ◌≤◌, ◌++◌, ◌∷◌, [], ℕ, drop, length, vec_len, vec_capacity};
 ghost use Rattle.hep_source.specs.declared.name.Name.{Name};
 ghost use Rattle.hep_machine.specs.Evaluation.{Redex};
 ghost use Rattle.hep_machine.specs.State.{Work};
 ghost use Rattle.hep_code.specs.Actions as actions;
-ghost use Rattle.hep_code.specs.Ahead.{IsPastPushes};
+ghost use Rattle.hep_code.specs.Ahead.{IsPastPushes, values_ahead};
 ghost use Rattle.hep_code.specs.Standing as standing;
 ghost use Rattle.hep_code.specs.UnitCode.{AddressedUnit, code_of};
 
 use crate::instruction::{Evaluation, Instruction};
 use crate::variable::Variable;
 use hep_source::Value;
-use std::alloc::AllocError;
 
 impl Evaluation {
     /// How many operands the operation takes: as many as the redex has whose operation it is.
@@ -28,23 +27,28 @@ impl Evaluation {
     }
 }
 
-/// Puts the values that stand ahead behind the operands, which is no step.
-///
-/// # Errors
-///
-/// Only where memory was refused; what is to be done is the same then.
-pub fn settle(
-    code: &[Instruction],
-    operands: &mut Vec<Value>,
-    index: &mut usize,
-) -> Result<(), AllocError>
+// Appends a value, for which there is room.
+fn push_within(operands: &mut Vec<Value>, value: Value)
+    requires { vec_len operands.old < vec_capacity operands.old }
+    ensures items { operands.new.items ≡ operands.old.items ++ value ∷ [] }
+    ensures length { vec_len operands.new ≡ vec_len operands.old + 1 }
+    ensures capacity { vec_capacity operands.old ≤ vec_capacity operands.new }
+{
+    let _ = operands.push(value);
+}
+
+/// Puts the values that stand ahead behind the operands, which is no step. There is room for them, so it takes no
+/// memory.
+pub fn settle(code: &[Instruction], operands: &mut Vec<Value>, index: &mut usize)
+    // Where an activation stands in a unit's code, the capacity can be its deepest stack: `laws::operands_have_room`.
+    requires room { vec_len operands.old + values_ahead (drop index.old code.now) ≤ vec_capacity operands.old }
     ensures same { standing.left_to_do operands.new.items index.new code.now ≡ standing.left_to_do operands.old.items index.old code.now }
-    ensures settled { OnOk result (IsPastPushes code.now index.new) }
+    ensures settled { IsPastPushes code.now index.new }
     ensures stands { (addressed : AddressedUnit) (k : ℕ) (work : Work) → code.now ≡ code_of addressed → standing.Stands addressed k work operands.old.items index.old → standing.Stands addressed k work operands.new.items index.new }
+    ensures capacity { vec_capacity operands.old ≤ vec_capacity operands.new }
 {
     while let Some(Instruction::Push(value)) = code.get(*index) {
-        operands.push(*value)?;
+        push_within(operands, *value);
         *index += 1;
     }
-    Ok(())
 }

@@ -4,29 +4,19 @@ use hep_source::Syntax;
 use std::alloc::{AllocError, Global};
 
 /// Where the storage units of a variable are (X3.9-1978, 2.13, 8.3.2 and 15.9.3), as every activation of its unit
-/// finds them; and the shape of an array (5.2), by its index in a table of shapes. A scalar has the shape
-/// without dimensions.
+/// finds them, and whether it is asynchronous.
 #[derive(Clone, Copy, Debug)]
 pub enum Variable {
-    /// A local variable, by its first cell, counted from that of the frame.
-    Local {
-        asynchronous: bool,
-        cell: u32,
-        shape: u32,
-    },
-    /// A variable in COMMON, by its first cell in the arena, which COMMON stands in front of.
-    Common {
-        asynchronous: bool,
-        cell: u32,
-        shape: u32,
-    },
-    /// A dummy argument, by the first of two cells, counted from that of the frame: they have the first storage
-    /// unit that it stands for, and how many there are from there.
-    Dummy {
-        asynchronous: bool,
-        cells: u32,
-        shape: u32,
-    },
+    /// A local scalar, by its cell, counted from the first one of the frame.
+    Local { asynchronous: bool, cell: u32 },
+    /// A scalar in COMMON, by its cell, counted from the first one of the arena, in front of which COMMON stands.
+    Common { asynchronous: bool, cell: u32 },
+    /// A scalar that is a dummy argument, by the first of two cells, counted from that of the frame: they have the
+    /// first storage unit that it stands for, and how many there are from there.
+    Dummy { asynchronous: bool, cells: u32 },
+    /// An array, by its index in a table that has for each one where its elements begin, in one of these ways, and
+    /// its shape (5.2).
+    Array { asynchronous: bool, array: u32 },
     /// A name that has no storage units and is stored into by no statement.
     Absent,
 }
@@ -42,38 +32,42 @@ impl Syntax for Variable {
                 Variable::Local {
                     asynchronous: a,
                     cell: c,
-                    shape: s,
                 },
                 Variable::Local {
                     asynchronous: b,
                     cell: d,
-                    shape: t,
                 },
-            ) => a == b && c == d && s == t,
+            ) => a == b && c == d,
             (
                 Variable::Common {
                     asynchronous: a,
                     cell: c,
-                    shape: s,
                 },
                 Variable::Common {
                     asynchronous: b,
                     cell: d,
-                    shape: t,
                 },
-            ) => a == b && c == d && s == t,
+            ) => a == b && c == d,
             (
                 Variable::Dummy {
                     asynchronous: a,
                     cells: c,
-                    shape: s,
                 },
                 Variable::Dummy {
                     asynchronous: b,
                     cells: d,
-                    shape: t,
                 },
-            ) => a == b && c == d && s == t,
+            ) => a == b && c == d,
+            (
+                Variable::Array {
+                    asynchronous: a,
+                    array: x,
+                },
+                Variable::Array {
+                    asynchronous: b,
+                    array: y,
+                },
+            ) => a == b && x == y,
             (Variable::Absent, Variable::Absent) => true,
             _ => false,
         }

@@ -27,7 +27,7 @@ pub block_row-cells : (unit : List Statement) (b : BlockName) → cells_in (bloc
 block_row-cells unit b = names-cells unit (names_in_block unit b)
 
 -- a block is as long as in any unit
-unit-cells : (program : Units) (u : ℕ) (unit : List Statement) (b : BlockName) → slice_get program u ≡ Some unit → cells_of_all unit (names_in_block unit b) ≤ block_cells program b
+pub unit-cells : (program : Units) (u : ℕ) (unit : List Statement) (b : BlockName) → slice_get program u ≡ Some unit → cells_of_all unit (names_in_block unit b) ≤ block_cells program b
 unit-cells [] u unit b e = absurd (none-some unit e)
 unit-cells (v ∷ vs) zero unit b e =
     subst (λ w. cells_of_all w (names_in_block w b) ≤ max (cells_of_all v (names_in_block v b)) (block_cells vs b)) (same_Some v unit e) (omega arith)

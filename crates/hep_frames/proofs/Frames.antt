@@ -178,7 +178,7 @@ single-without a (g ∷ gs) h = by_head (single-without a gs h.1) (nat_eq g.acti
   by_head rest true = h.1
   by_head rest false = (among-without a g.activation gs h.1 ∙ none (nat_eq a g.activation), rest)
 
-apart-lower : (cells low from : ℕ) (fs : Layout) → low ≤ from → StandApart cells from fs → StandApart cells low fs
+pub apart-lower : (cells low from : ℕ) (fs : Layout) → low ≤ from → StandApart cells from fs → StandApart cells low fs
 apart-lower cells low from [] le h = omega (arith, le, h)
 apart-lower cells low from (f ∷ fs) le h = (omega (arith, le, h.0), h.1, h.2)
 

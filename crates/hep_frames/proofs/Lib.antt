@@ -8,5 +8,16 @@ pub mod Descriptors
 pub mod Counts
 pub mod Tree
 pub mod TreeSteps
+pub mod Runs
+pub mod Storages
+pub mod Stacks
+pub mod HeldFrames
+pub mod Passed
+pub mod References
+pub mod Beginning
+pub mod StackChanges
+pub mod Resting
+pub mod Telling
+pub mod Wants
 pub mod Worked
 mod WorkedAddresses

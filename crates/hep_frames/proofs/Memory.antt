@@ -1,5 +1,5 @@
 -- The arena of a state: what a write, a new frame and a frame that leaves make of it.
-use Rattle.std.proofs.Common.{◌≡◌, ◌⊎◌, inl, inr, ℕ, zero, suc, ◌+◌, ◌<◌, ◌≤◌, Bool, true, false, List, [], ◌∷◌, ◌++◌, length, Option, Some, None, refl, sym, ap, ◌∙◌, subst, arith}
+use Rattle.std.proofs.Common.{◌≡◌, ◌⊎◌, inl, inr, ℕ, suc, ◌+◌, ◌<◌, ◌≤◌, Bool, true, false, List, [], ◌∷◌, ◌++◌, length, Option, Some, None, refl, sym, ap, ◌∙◌, subst, arith}
 use Rattle.std.specs.Option.{unwrap_or}
 use Rattle.std.specs.Prelude.{if◌then◌else◌, ◌&&◌, nat_eq, slice_get, slice_set}
 use Rattle.std.proofs.lemmas.Bool.{eqb-true, eqb-false, eq-eqb}
@@ -20,6 +20,7 @@ use Rattle.hep_machine.specs.Storage.{same_location, with_cell}
 use Rattle.hep_machine.specs.Variables.{frame_cells}
 use Rattle.hep_machine.specs.Views.{is_owned}
 use Rattle.hep_machine.proofs.Locations.{equal_locations}
+use Rattle.hep_machine.proofs.Others.{front_numbered}
 use Rattle.hep_arena.specs.Gaps.{frame_among, framed_cells, gaps, without}
 use Rattle.hep_arena.specs.Holes.{Hole, IsOut, first_fit, free_cells, given, taken}
 use Rattle.hep_arena.proofs.Gaps.{fit-gaps, gaps-cells, given-without, taken-gaps}
@@ -103,17 +104,17 @@ memory-written program s t layout contents holes l p c h at_l e f =
 
 -- ---- a new activation with its frame
 
-one-more : {A : Type 0} (xs : List A) (x : A) (a : ℕ) → a ≤ length xs → numbered (xs ++ x ∷ []) a ≡ numbered xs a
-one-more xs x zero le = refl
-one-more xs x (suc i) le = within x xs i (omega (arith, le)) where
-  within : {A : Type 0} (x : A) (xs : List A) (i : ℕ) → i < length xs → slice_get (xs ++ x ∷ []) i ≡ slice_get xs i
-  within x [] i h = absurd (omega (arith, h))
-  within x (y ∷ ys) zero h = refl
-  within x (y ∷ ys) (suc i) h = within x ys i (omega (arith, h))
+last-one : {A : Type 0} (xs : List A) (x : A) → slice_get (xs ++ x ∷ []) (length xs) ≡ Some x
+last-one [] x = refl
+last-one (y ∷ ys) x = last-one ys x
 
 pub activation-kept : (s t : State) (x : Activation) (a : ℕ) → t.activations ≡ s.activations ++ x ∷ [] → a ≤ length s.activations → activation_of t a ≡ activation_of s a
 activation-kept s t x a e le =
-    ap (λ (xs : List Activation). unwrap_or (numbered xs a) no_activation) e ∙ ap (λ (o : Option Activation). unwrap_or o no_activation) (one-more s.activations x a le)
+    ap (λ (xs : List Activation). unwrap_or (numbered xs a) no_activation) e ∙ ap (λ (o : Option Activation). unwrap_or o no_activation) (front_numbered s.activations (x ∷ []) a le)
+
+pub activation-last : (s t : State) (x : Activation) → t.activations ≡ s.activations ++ x ∷ [] → activation_of t (suc (length s.activations)) ≡ x
+activation-last s t x e =
+    ap (λ (xs : List Activation). unwrap_or (numbered xs (suc (length s.activations))) no_activation) e ∙ ap (λ (o : Option Activation). unwrap_or o no_activation) (last-one s.activations x)
 
 module _ (program : Units) (s t : State) (x : Activation) (layout : Layout) (first : ℕ) (more : t.activations ≡ s.activations ++ x ∷ []) where
   abbrev n : ℕ
@@ -125,7 +126,7 @@ module _ (program : Units) (s t : State) (x : Activation) (layout : Layout) (fir
   abbrev new_frame : Frame
   new_frame = frame_from program t n first
 
-  unmade : {cells : ℕ} → IsLaid program s cells layout → frame_among n layout ≡ None
+  pub unmade : {cells : ℕ} → IsLaid program s cells layout → frame_among n layout ≡ None
   unmade laid = by_frame (frame_among n layout) refl where
     by_frame : (o : Option Frame) → frame_among n layout ≡ o → o ≡ None
     by_frame None e = refl

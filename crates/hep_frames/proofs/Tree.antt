@@ -9,9 +9,9 @@ use Rattle.std.proofs.lemmas.Option.{same_Some, none-some}
 use Rattle.hep_source.specs.Units.{Units}
 use Rattle.hep_machine.specs.Laws.{IsOnStack, HasHeldChild}
 use Rattle.hep_machine.specs.Layout.{activations_on, is_held}
-use Rattle.hep_machine.specs.Processes.{is_number_among, parent_of}
+use Rattle.hep_machine.specs.Processes.{is_number_among, numbered, parent_of}
 use Rattle.hep_machine.specs.Run.{run}
-use Rattle.hep_machine.specs.State.{Process, State}
+use Rattle.hep_machine.specs.State.{Level, Process, State}
 use Rattle.hep_machine.proofs.Ages.{IsAged, aged, older_parent}
 use Rattle.hep_machine.proofs.Held.{held_is}
 use Rattle.hep_frames.specs.Tree.{activation_under, AreWantedBut, but, children_out, is_just, is_stacked, IsAtRest, IsNode, IsTree, IsWanted, Node, Nodes, with_one_less, without_node}
@@ -77,7 +77,7 @@ under-parts nodes (Some k) b e = by_node (nodes k) refl e where
   by_node None f e = absurd (none-some (Some b) e)
   by_node (Some n) f e = (k, n, refl, f, same_Some n.activation b (same_Some (Some n.activation) (Some b) e))
 
--- the parent of what is out is out
+-- with an activation its parent is out
 pub parent-out : (s : State) (on out : ℕ → Bool) (nodes : Nodes) (c b : ℕ) → IsTree s on out nodes → out c ≡ true → parent_of s c ≡ Some b → out b ≡ true
 parent-out s on out nodes c b tree e f =
     let found = tree.found c e in
@@ -87,7 +87,7 @@ parent-out s on out nodes c b tree e f =
 
 -- ---- stacks
 
-or-parts : (a b : Bool) → (a || b) ≡ true → (a ≡ true) ⊎ (b ≡ true)
+pub or-parts : (a b : Bool) → (a || b) ≡ true → (a ≡ true) ⊎ (b ≡ true)
 or-parts true b e = inl refl
 or-parts false b e = inr e
 
@@ -95,10 +95,10 @@ or-right : (a b : Bool) → b ≡ true → (a || b) ≡ true
 or-right true b e = refl
 or-right false b e = e
 
-among-append : (a : ℕ) (xs ys : List ℕ) → is_number_among a (xs ++ ys) ≡ (is_number_among a xs || is_number_among a ys)
+pub among-append : (a : ℕ) (xs ys : List ℕ) → is_number_among a (xs ++ ys) ≡ (is_number_among a xs || is_number_among a ys)
 among-append a xs ys = list_any-append (nat_eq a) xs ys
 
-on-some : (a : ℕ) (qs : List Process) → is_number_among a (flat_map activations_on qs) ≡ true → (i : ℕ) × (q : Process) × (slice_get qs i ≡ Some q) × (is_number_among a (activations_on q) ≡ true)
+pub on-some : (a : ℕ) (qs : List Process) → is_number_among a (flat_map activations_on qs) ≡ true → (i : ℕ) × (q : Process) × (slice_get qs i ≡ Some q) × (is_number_among a (activations_on q) ≡ true)
 on-some a [] h = absurd cc
 on-some a (q ∷ qs) h =
     elim (or-parts (is_number_among a (activations_on q)) (is_number_among a (flat_map activations_on qs)) (sym (among-append a (activations_on q) (flat_map activations_on qs)) ∙ h)) [
@@ -106,7 +106,7 @@ on-some a (q ∷ qs) h =
       | inr rest ↦ let found = on-some a qs rest in (suc found.0, found.1, found.2, found.3)
     ]
 
-some-on : (a : ℕ) (qs : List Process) (i : ℕ) (q : Process) → slice_get qs i ≡ Some q → is_number_among a (activations_on q) ≡ true → is_number_among a (flat_map activations_on qs) ≡ true
+pub some-on : (a : ℕ) (qs : List Process) (i : ℕ) (q : Process) → slice_get qs i ≡ Some q → is_number_among a (activations_on q) ≡ true → is_number_among a (flat_map activations_on qs) ≡ true
 some-on a [] i q e h = absurd (none-some q e)
 some-on a (r ∷ rs) zero q e h =
     let here : is_number_among a (activations_on r) ≡ true = subst (λ (z : Process). is_number_among a (activations_on z) ≡ true) (sym (same_Some r q e)) h in
@@ -114,12 +114,16 @@ some-on a (r ∷ rs) zero q e h =
 some-on a (r ∷ rs) (suc i) q e h =
     among-append a (activations_on r) (flat_map activations_on rs) ∙ or-right (is_number_among a (activations_on r)) (is_number_among a (flat_map activations_on rs)) (some-on a rs i q e h)
 
-stacked-on : (s : State) (a : ℕ) → is_stacked s a ≡ true → IsOnStack s a
+pub stacked-on : (s : State) (a : ℕ) → is_stacked s a ≡ true → IsOnStack s a
 stacked-on s a h = let found = on-some a s.processes h in (suc found.0, found.1, found.2, found.3)
 
-on-stacked : (s : State) (a : ℕ) → IsOnStack s a → is_stacked s a ≡ true
+pub on-stacked : (s : State) (a : ℕ) → IsOnStack s a → is_stacked s a ≡ true
 on-stacked s a (zero, q, e, h) = absurd (none-some q e)
 on-stacked s a (suc i, q, e, h) = some-on a s.processes i q e h
+
+-- the activation on top of a process is on a stack
+pub stacked-top : (s : State) (p : ℕ) (top : Level × Process) → numbered s.processes p ≡ Some (top.0 ∷ top.1) → IsOnStack s top.0.activation
+stacked-top s p top e = (p, top.0 ∷ top.1, e, ap (λ b. b || is_number_among top.0.activation (activations_on top.1)) (eq-eqb top.0.activation top.0.activation refl))
 
 -- ---- at rest
 
@@ -150,7 +154,7 @@ held-out s out nodes (suc m) a held old rest few h = by_reason (λ c. held-out s
       let later = older_parent s child.0 a old child.2 in
       parent-out s (is_stacked s) out nodes child.0 a rest.tree (more child.0 (omega (arith, few, later.1)) child.1) child.2
 
-both-ways : (a b : Bool) → (a ≡ true → b ≡ true) → (b ≡ true → a ≡ true) → a ≡ b
+pub both-ways : (a b : Bool) → (a ≡ true → b ≡ true) → (b ≡ true → a ≡ true) → a ≡ b
 both-ways true b f g = sym (f refl)
 both-ways false true f g = g refl
 both-ways false false f g = refl

@@ -1,21 +1,20 @@
 -- The tree of frames where an activation ends or begins, and the frames that its nodes have.
 use Rattle.std.proofs.Common.{◌≡◌, ◌⊎◌, inl, inr, ℕ, zero, suc, ◌+◌, ◌≤◌, Bool, true, false, List, [], ◌∷◌, ◌++◌, length, Option, Some, None, refl, sym, ap, ◌∙◌, subst, arith}
-use Rattle.std.specs.Prelude.{◌&&◌, if◌then◌else◌, not, nat_eq, slice_get}
+use Rattle.std.specs.Prelude.{◌&&◌, if◌then◌else◌, not, nat_eq}
 use Rattle.std.specs.List.{filter}
-use Rattle.std.specs.Option.{option_map, unwrap_or}
+use Rattle.std.specs.Option.{option_map}
 use Rattle.std.proofs.lemmas.Bool.{eqb-true, eqb-false, eq-eqb}
 use Rattle.std.proofs.lemmas.List.{length-append}
 use Rattle.std.proofs.lemmas.Option.{same_Some, none-some}
-use Rattle.hep_machine.specs.Defaults.{no_activation}
 use Rattle.hep_machine.specs.Layout.{Frame, Layout, with_frame}
-use Rattle.hep_machine.specs.Processes.{activation_of, numbered, parent_of}
+use Rattle.hep_machine.specs.Processes.{activation_of, parent_of}
 use Rattle.hep_machine.specs.State.{Activation, State}
 use Rattle.hep_arena.specs.Gaps.{frame_among, without}
 use Rattle.hep_frames.specs.Addresses.{AreSingle}
 use Rattle.hep_frames.specs.Tree.{activation_under, also, AreFramed, AreWantedBut, but, children_out, count_up_to, is_just, IsNode, IsTree, IsWanted, new_node, Node, Nodes, with_end, with_ended, with_node, with_one_less, with_one_more, without_node}
 use Rattle.hep_frames.proofs.Counts.{count-same}
 use Rattle.hep_frames.proofs.Frames.{among-with_frame, among-without, other-number}
-use Rattle.hep_frames.proofs.Memory.{activation-kept}
+use Rattle.hep_frames.proofs.Memory.{activation-kept, activation-last}
 use Rattle.hep_frames.proofs.Tree.{a-child, but-parts, but-there, kept-node, mapped, parent-out}
 
 -- ---- an activation ends
@@ -104,10 +103,6 @@ more-children : (b : Bool) (r : Node) → (if b then with_one_more r else r).chi
 more-children true r = refl
 more-children false r = omega arith
 
-last-one : {A : Type 0} (xs : List A) (x : A) → slice_get (xs ++ x ∷ []) (length xs) ≡ Some x
-last-one [] x = refl
-last-one (y ∷ ys) x = last-one ys x
-
 record IsBefore (nodes : Nodes) (v k l : ℕ) (m : Node) : Type 0 where
   was : Node
   there : nodes l ≡ Some was
@@ -125,8 +120,7 @@ module _ (s t : State) (x : Activation) (on out : ℕ → Bool) (nodes : Nodes) 
   old-parent a le = ap (λ (z : Activation). z.parent) (activation-kept s t x a more le)
 
   new-parent : parent_of t c ≡ Some p.activation
-  new-parent =
-      ap (λ (z : Activation). z.parent) (ap (activation_of t) long ∙ (ap (λ (xs : List Activation). unwrap_or (numbered xs (suc (length s.activations))) no_activation) more ∙ ap (λ (o : Option Activation). unwrap_or o no_activation) (last-one s.activations x))) ∙ owner
+  new-parent = ap (λ (z : Activation). z.parent) (ap (activation_of t) long ∙ activation-last s t x more) ∙ owner
 
   new-apart : (a : ℕ) → a ≤ length s.activations → nat_eq a c ≡ false
   new-apart a le = other-number a c (λ same. omega (arith, same, le, long))

@@ -1,4 +1,4 @@
--- Where the storage units of a state are in the arena: docs/MACHINE.md, "Layout".
+-- Addresses: in which cell of the arena a storage unit is kept. docs/MACHINE.md, "Layout".
 use Rattle.std.specs.Prelude.{◌≡◌, ℕ, zero, suc, ◌+◌, ◌≤◌, if◌then◌else◌, List, [], ◌∷◌, length, Option, Some, None, slice_get}
 use Rattle.hep_source.specs.declared.name.Name.{Name}
 use Rattle.hep_source.specs.Names.{index_among}

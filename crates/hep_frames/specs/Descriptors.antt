@@ -1,5 +1,5 @@
 -- What the cells of a frame hold that keep no storage unit: docs/MACHINE.md, "Variables and frames".
-use Rattle.std.specs.Prelude.{◌≡◌, ℕ, zero, suc, ◌+◌, ◌<◌, ℤ, pos, Bool, true, false, not, nat_eq, if◌then◌else◌, List, [], ◌∷◌, Option, Some, None, slice_get}
+use Rattle.std.specs.Prelude.{◌≡◌, ℕ, zero, suc, ℤ, pos, Bool, true, false, not, nat_eq, if◌then◌else◌, List, [], ◌∷◌, Option, Some, None, slice_get}
 use Rattle.std.specs.List.{find, flat_map}
 use Rattle.std.specs.Option.{option_map}
 use Rattle.hep_source.specs.declared.name.Name.{Name}
@@ -13,7 +13,6 @@ use Rattle.hep_machine.specs.Locations.{dummy_at}
 use Rattle.hep_machine.specs.Processes.{activation_of, unit_of}
 use Rattle.hep_machine.specs.Shapes.{Bounds, natural}
 use Rattle.hep_machine.specs.State.{Dummy, Level, Loop, Process, State}
-use Rattle.hep_machine.specs.Storage.{further}
 use Rattle.hep_machine.specs.Views.{is_owned}
 use Rattle.hep_frames.specs.Addresses.{address, frame_address}
 use Rattle.hep_frames.specs.Rows.{FramePart, header, argument, variable, iteration, bounds}
@@ -103,9 +102,3 @@ wanted_of program s layout a (argument x, i) =
     slot_by_dummy (λ d. slot_of_dummy program s layout a d i) (activation_of s a).dummies (index_among x (dummies_of (unit_at program (unit_of s a))))
 wanted_of program s layout a (bounds x, i) = slot_by_dummy (λ d. slot_of_bounds d.shape i) (activation_of s a).dummies (index_among x (dummies_of (unit_at program (unit_of s a))))
 wanted_of program s layout a (iteration d, i) = slot_on_level (level_of s a) d i
-
--- ---- references
-
--- the storage units that a dummy argument stands for are kept one after the other from a cell on
-abbrev pub RunsFrom : Units → State → Layout → Dummy → ℕ → Type 0
-RunsFrom program s layout d base = (k : ℕ) → k < d.rest → address program s layout (further d.start k) ≡ Some (base + k)

@@ -1,4 +1,7 @@
 pub mod Rows
 pub mod Addresses
+pub mod Runs
 pub mod Descriptors
 pub mod Tree
+pub mod Stacks
+pub mod References

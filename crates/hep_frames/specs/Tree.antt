@@ -90,6 +90,10 @@ pub record IsAtRest (s : State) (out : ℕ → Bool) (nodes : Nodes) : Type 0 wh
 
 -- ---- what changes
 
+-- at the opening: the frame of the main program's activation under key v
+abbrev pub first_nodes : ℕ → ℕ → ℕ → Nodes
+first_nodes v first cells k = if nat_eq k v then Some (record { activation = 1; first = first; cells = cells; parent = None; children = 0; finished = false }) else None
+
 -- one child less that is out
 abbrev pub with_one_less : Node → Node
 with_one_less n = record n { children = n.children - 1 }

@@ -1,28 +1,36 @@
 //! Laws of frames: what holds of the frames of every unit, of COMMON in every program, and of the arena in
 //! which the storage units of a state are kept.
-ghost use Rattle.std.specs.Prelude.{◌≡◌, ◌⊎◌, ◌↔◌, ◌<◌, ◌≤◌, ◌+◌, ◌*◌, ◌∷◌, ◌++◌, [], ℕ, nat_eq, nat_lt, pos, if◌then◌else◌, Bool, true, false, List, Some, None, length, take, slice_get, slice_set};
+ghost use Rattle.std.specs.Prelude.{◌≡◌, ◌⊎◌, ◌↔◌, ◌<◌, ◌≤◌, ◌+◌, ◌*◌, ◌∷◌, ◌++◌, [], ℕ, nat_eq, nat_lt, pos, if◌then◌else◌, Bool, true, false, List, Option, Some, None, is_some, Ok, ◌-◌, length, take, slice_get, slice_set};
 ghost use Rattle.std.specs.List.{filter};
 ghost use Rattle.hep_source.specs.declared.name.Name.{Name};
 ghost use Rattle.hep_source.specs.declared.statement.Statement.{Statement};
+ghost use Rattle.hep_source.specs.declared.value.Value.{Value};
 ghost use Rattle.hep_source.specs.Names.{same_name, is_among, index_among};
-ghost use Rattle.hep_source.specs.Units.{Units, dummies_of};
+ghost use Rattle.hep_source.specs.Units.{Units, dummies_of, unit_at};
 ghost use Rattle.hep_machine.specs.Constants.{adjustable_dimensions, cells_of, cells_of_all, cells_before};
-ghost use Rattle.hep_machine.specs.Declarations.{BlockName, same_block, names_in_block};
+ghost use Rattle.hep_machine.specs.Declarations.{BlockName, common_block, same_block, names_in_block};
 ghost use Rattle.hep_machine.specs.declared.slot.Slot.{Slot};
 ghost use Rattle.hep_machine.specs.Access.{unset_cell};
-ghost use Rattle.hep_machine.specs.Layout.{Frame, Layout, block_cells, common_cells, frame_of, is_held, lowest_gap, with_frame};
+ghost use Rattle.hep_machine.specs.Binding.{dummy_for, first_element};
+ghost use Rattle.hep_machine.specs.Evaluation.{Reference, referred};
+ghost use Rattle.hep_machine.specs.Locations.{Scope, dummy_at, element_of, location_of_name, storage_of};
+ghost use Rattle.hep_machine.specs.Layout.{Frame, Layout, activations_on, block_cells, common_cells, frame_of, is_held, layout_of, lowest_gap, opening_layout, used_cells, with_frame};
 ghost use Rattle.hep_machine.specs.Run.{run};
-ghost use Rattle.hep_machine.specs.State.{Activation, Level, Location, Loop, State, local};
-ghost use Rattle.hep_machine.specs.Processes.{parent_of, with_loop};
-ghost use Rattle.hep_machine.specs.Shapes.{natural};
+ghost use Rattle.hep_machine.specs.State.{Activation, Dummy, Level, Location, Loop, Process, State, local};
+ghost use Rattle.hep_machine.specs.Processes.{activation_of, is_number_among, living, parent_of, unit_of, with_loop, with_numbered};
+ghost use Rattle.hep_machine.specs.Shapes.{fits, natural};
+ghost use Rattle.hep_machine.specs.Step.{scope_of};
 ghost use Rattle.hep_machine.specs.Storage.{with_cell};
 ghost use Rattle.hep_machine.specs.Variables.{adjustable_dimensions_of_all, do_statements, frame_cells, is_do, locals_of};
 ghost use Rattle.hep_machine.specs.Views.{is_owned};
 ghost use Rattle.hep_arena.specs.Gaps.{frame_among, framed_cells, gaps, without};
 ghost use Rattle.hep_arena.specs.Holes.{Hole, IsOut, first_fit, free_cells, given, taken};
 ghost use Rattle.hep_frames.specs.Addresses.{AreSingle, IsLaid, IsMemory, address, frame_address, frame_from};
-ghost use Rattle.hep_frames.specs.Descriptors.{Describes, Wanted, is_descriptor, level_of, number, wanted_of};
-ghost use Rattle.hep_frames.specs.Tree.{AreFramed, AreWantedBut, IsAtRest, IsTree, IsWanted, Node, Nodes, activation_under, also, but, new_node, with_ended, with_node, without_node};
+ghost use Rattle.hep_frames.specs.Descriptors.{Describes, Wanted, is_descriptor, level_of, loop_among, number, slot_of_bounds, slot_of_loop, wanted_of};
+ghost use Rattle.hep_frames.specs.References.{IsMadeAt, IsOwnedAbove};
+ghost use Rattle.hep_frames.specs.Runs.{RunsFrom};
+ghost use Rattle.hep_frames.specs.Stacks.{times_on};
+ghost use Rattle.hep_frames.specs.Tree.{AreFramed, AreWantedBut, first_nodes, is_stacked, IsAtRest, IsTree, IsWanted, Node, Nodes, activation_under, also, but, new_node, with_ended, with_node, without_node};
 ghost use Rattle.hep_frames.specs.Rows.{FramePart, argument, block_row, bounds, cells_in, common_row, first_in, first_in_common, first_of_block, first_of_part, frame_row, iteration, owner_in, place_in, place_of_block, place_of_part, same_part, size_in, variable};
 
 /// The rows have just the cells that there are: of a frame, of COMMON, and of a block in a unit, which
@@ -79,6 +87,12 @@ pub fn writes_change_one_cell()
     ensures elsewhere { (program : Units) (s : State) (layout : Layout) (contents : List Slot) (l m : Location) (p q : ℕ) (cell : Slot) → IsLaid program s (length contents) layout → address program s layout l ≡ Some p → address program s layout m ≡ Some q → (l ≡ m → ⊥) → slice_get (slice_set contents p cell) q ≡ slice_get contents q }
 {}
 
+/// Cells that are all unset are the arena of the opening before DATA gives values, where COMMON and the frame
+/// of the main program are out.
+pub fn memory_begins()
+    ensures { (program : Units) (s : State) (layout : Layout) (contents : List Slot) → opening_layout program (length contents) ≡ Some layout → s.activations ≡ (run program []).activations → ((at : Location) → s.store at ≡ unset_cell) → ((p : ℕ) → p < length contents → slice_get contents p ≡ Some unset_cell) → IsMemory program s layout contents (gaps (length contents) (common_cells program) layout) }
+{}
+
 /// The frame of a new activation fits just where the layout has a gap. Where it enters, the block is taken
 /// and its cells are cleared, the arena is that of the state with the activation, in which nothing is
 /// stored yet; and what was kept somewhere is kept there still.
@@ -117,10 +131,43 @@ pub fn descriptors_are_written()
     ensures same { (program : Units) (s t : State) (layout : Layout) (old new : Wanted) (contents : List Slot) → Describes program s layout old contents → t.activations ≡ s.activations → ((a : ℕ) (c : FramePart × ℕ) (v : Slot) → new a c ≡ Some v → old a c ≡ Some v) → Describes program t layout new contents }
 {}
 
+/// What is wanted of the cells of an activation is the same where the frame of a new one enters, and where
+/// that of another one leaves which its dummy arguments don't stand for.
+pub fn what_is_wanted_stays()
+    ensures enters { (program : Units) (s t : State) (x : Activation) (layout : Layout) (first cells a : ℕ) (c : FramePart × ℕ) → IsLaid program s cells layout → t.activations ≡ s.activations ++ x ∷ [] → a ≤ length s.activations → ((k : ℕ) → IsMadeAt (length s.activations) (dummy_at (activation_of s a).dummies k).start) → level_of t a ≡ level_of s a → wanted_of program t (with_frame layout (frame_from program t (length t.activations) first)) a c ≡ wanted_of program s layout a c }
+    ensures leaves { (program : Units) (s : State) (a b cells : ℕ) (layout : Layout) (c : FramePart × ℕ) → IsLaid program s cells layout → ((k : ℕ) → is_owned b (dummy_at (activation_of s a).dummies k).start ≡ false) → wanted_of program s (without b layout) a c ≡ wanted_of program s layout a c }
+{}
+
+/// What is found in the cells of a dummy argument, of the bounds of an adjustable array and of a DO, so many
+/// cells behind the first one of its activation's frame.
+pub fn descriptors_tell()
+    ensures start { (program : Units) (s : State) (layout : Layout) (contents : List Slot) (a : ℕ) (f : Frame) (x : Name) (k base : ℕ) → Describes program s layout (wanted_of program s layout) contents → frame_among a layout ≡ Some f → index_among x (dummies_of (unit_at program (unit_of s a))) ≡ Some k → is_owned a (dummy_at (activation_of s a).dummies k).start ≡ false → address program s layout (dummy_at (activation_of s a).dummies k).start ≡ Some base → slice_get contents (f.first + first_of_part (unit_at program (unit_of s a)) (argument x) + 0) ≡ Some (number (pos base)) }
+    ensures rest { (program : Units) (s : State) (layout : Layout) (contents : List Slot) (a : ℕ) (f : Frame) (x : Name) (k : ℕ) → Describes program s layout (wanted_of program s layout) contents → frame_among a layout ≡ Some f → index_among x (dummies_of (unit_at program (unit_of s a))) ≡ Some k → is_owned a (dummy_at (activation_of s a).dummies k).start ≡ false → slice_get contents (f.first + first_of_part (unit_at program (unit_of s a)) (argument x) + 1) ≡ Some (number (pos (dummy_at (activation_of s a).dummies k).rest)) }
+    ensures value { (program : Units) (s : State) (layout : Layout) (contents : List Slot) (a : ℕ) (f : Frame) (x : Name) (k : ℕ) → Describes program s layout (wanted_of program s layout) contents → frame_among a layout ≡ Some f → index_among x (dummies_of (unit_at program (unit_of s a))) ≡ Some k → is_owned a (dummy_at (activation_of s a).dummies k).start ≡ true → slice_get contents (f.first + first_of_part (unit_at program (unit_of s a)) (argument x) + 1) ≡ Some unset_cell }
+    ensures bounds { (program : Units) (s : State) (layout : Layout) (contents : List Slot) (a : ℕ) (f : Frame) (x : Name) (k i : ℕ) (slot : Slot) → Describes program s layout (wanted_of program s layout) contents → frame_among a layout ≡ Some f → index_among x (dummies_of (unit_at program (unit_of s a))) ≡ Some k → i < 2 * adjustable_dimensions (unit_at program (unit_of s a)) x → slot_of_bounds (dummy_at (activation_of s a).dummies k).shape i ≡ Some slot → slice_get contents (f.first + first_of_part (unit_at program (unit_of s a)) (bounds x) + i) ≡ Some slot }
+    ensures iteration { (program : Units) (s : State) (layout : Layout) (contents : List Slot) (a : ℕ) (f : Frame) (d i : ℕ) (statement : Statement) (level : Level) (slot : Slot) → Describes program s layout (wanted_of program s layout) contents → frame_among a layout ≡ Some f → slice_get (unit_at program (unit_of s a)) d ≡ Some statement → is_do statement.form ≡ true → level_of s a ≡ Some level → i < 2 → slot_of_loop (loop_among d level.loops) i ≡ Some slot → slice_get contents (f.first + first_of_part (unit_at program (unit_of s a)) (iteration d) + i) ≡ Some slot }
+{}
+
 /// Where a frame enters or leaves, the descriptors of the others stay; those of a new frame have no values.
 pub fn descriptors_stay()
     ensures enters { (program : Units) (s t : State) (x : Activation) (layout : Layout) (first : ℕ) (wanted : Wanted) (old new : List Slot) → IsLaid program s (length old) layout → Describes program s layout wanted old → t.activations ≡ s.activations ++ x ∷ [] → lowest_gap (length old) (frame_of program t (length t.activations)) (common_cells program) layout ≡ Some first → ((c : FramePart × ℕ) (v : Slot) → wanted (length t.activations) c ≡ Some v → v ≡ unset_cell) → ((p : ℕ) → IsOut p (gaps (length old) (common_cells program) layout) → slice_get new p ≡ slice_get old p) → ((p : ℕ) → first ≤ p → p < first + frame_of program t (length t.activations) → slice_get new p ≡ Some unset_cell) → Describes program t (with_frame layout (frame_from program t (length t.activations) first)) wanted new }
     ensures leaves { (program : Units) (s : State) (a : ℕ) (layout : Layout) (wanted : Wanted) (old new : List Slot) → IsLaid program s (length old) layout → Describes program s layout wanted old → ((p : ℕ) → IsOut p (gaps (length old) (common_cells program) (without a layout)) → slice_get new p ≡ slice_get old p) → Describes program s (without a layout) wanted new }
+{}
+
+/// At the opening the main program's activation has the one node, and nothing is to be given back. A step
+/// that makes no activation leaves the tree, but for what is on stacks.
+pub fn trees_begin_and_stay()
+    ensures begins { (program : Units) (v first cells : ℕ) → IsAtRest (run program []) (λ a. nat_eq a 1) (first_nodes v first cells) }
+    ensures tree { (s t : State) (on out : ℕ → Bool) (nodes : Nodes) → t.activations ≡ s.activations → IsTree s on out nodes → IsTree t on out nodes }
+    ensures wanted { (s t : State) (on out : ℕ → Bool) (exception : Option ℕ) → t.activations ≡ s.activations → AreWantedBut exception s on out → AreWantedBut exception t on out }
+{}
+
+/// Where nothing is to be given back before a step, nothing is after one that leaves the same activations on
+/// stacks, or begins one. After one that ends the activation on top, that one alone may have to be given back.
+pub fn steps_lead_to_rest()
+    ensures same { (s t : State) (out : ℕ → Bool) (nodes : Nodes) → IsAtRest s out nodes → t.activations ≡ s.activations → ((a : ℕ) → is_stacked t a ≡ is_stacked s a) → IsAtRest t out nodes }
+    ensures begun { (s t : State) (x : Activation) (out : ℕ → Bool) (nodes : Nodes) (first cells v k : ℕ) (n : Node) → IsAtRest s out nodes → nodes v ≡ None → nodes k ≡ Some n → t.activations ≡ s.activations ++ x ∷ [] → x.parent ≡ Some n.activation → ((a : ℕ) → is_stacked t a ≡ also (length t.activations) (is_stacked s) a) → IsAtRest t (also (length t.activations) out) (with_node nodes v (new_node (length t.activations) first cells k) k) }
+    ensures ended { (s t : State) (out : ℕ → Bool) (nodes : Nodes) (k : ℕ) (n : Node) → IsAtRest s out nodes → nodes k ≡ Some n → t.activations ≡ s.activations → ((a : ℕ) → is_stacked t a ≡ but n.activation (is_stacked s) a) → IsTree t (is_stacked t) out (with_ended nodes k) × AreWantedBut (Some n.activation) t (is_stacked t) out }
 {}
 
 /// Where nothing is left to be given back, just the frames of held activations are out, and these have nodes.
@@ -164,4 +211,74 @@ pub fn nodes_have_frames()
     ensures ended { (layout : Layout) (nodes : Nodes) (k : ℕ) → AreFramed layout nodes → AreFramed layout (with_ended nodes k) }
     ensures given { (s : State) (on out : ℕ → Bool) (layout : Layout) (nodes : Nodes) (k : ℕ) (n : Node) → IsTree s on out nodes → nodes k ≡ Some n → AreSingle layout → AreFramed layout nodes → AreFramed (without n.activation layout) (without_node nodes k n) }
     ensures layout { (out : ℕ → Bool) (a : ℕ) (layout : Layout) → AreSingle layout → without a (filter (λ (f : Frame). out f.activation) layout) ≡ filter (λ (f : Frame). but a out f.activation) layout }
+{}
+
+/// What a name stands for is kept in consecutive cells: that of a local variable from its first cell in the
+/// frame, in COMMON from its first cell there, of a dummy argument from where what it stands for begins.
+pub fn variables_are_kept_in_runs()
+    ensures local { (program : Units) (s : State) (layout : Layout) (a : ℕ) (x : Name) (f : Frame) → frame_among a layout ≡ Some f → is_among x (locals_of (unit_at program (unit_of s a))) ≡ true → RunsFrom program s layout (storage_of (scope_of program s a) x).start (storage_of (scope_of program s a) x).rest (f.first + first_of_part (unit_at program (unit_of s a)) (variable x)) }
+    ensures common { (program : Units) (s : State) (layout : Layout) (a : ℕ) (x : Name) (b : BlockName) → slice_get program (unit_of s a) ≡ Some (unit_at program (unit_of s a)) → index_among x (dummies_of (unit_at program (unit_of s a))) ≡ None → common_block (unit_at program (unit_of s a)) x ≡ Some b → RunsFrom program s layout (storage_of (scope_of program s a) x).start (storage_of (scope_of program s a) x).rest (first_in_common program (unit_at program (unit_of s a)) b x) }
+    ensures dummy { (program : Units) (s : State) (layout : Layout) (a : ℕ) (x : Name) (i first : ℕ) → index_among x (dummies_of (unit_at program (unit_of s a))) ≡ Some i → fits (dummy_at (activation_of s a).dummies i).shape (dummy_at (activation_of s a).dummies i).rest ≡ true → RunsFrom program s layout (dummy_at (activation_of s a).dummies i).start (dummy_at (activation_of s a).dummies i).rest first → RunsFrom program s layout (storage_of (scope_of program s a) x).start (storage_of (scope_of program s a) x).rest first }
+    ensures value { (program : Units) (s : State) (layout : Layout) (a : ℕ) (x : Name) (i : ℕ) (f : Frame) → frame_among a layout ≡ Some f → index_among x (dummies_of (unit_at program (unit_of s a))) ≡ Some i → is_owned a (dummy_at (activation_of s a).dummies i).start ≡ true → RunsFrom program s layout (local a x 1) 1 (f.first + first_of_part (unit_at program (unit_of s a)) (argument x)) }
+{}
+
+/// A scalar or an element is kept so many cells behind the first one of its variable as elements are before
+/// it; and what an actual argument passes is kept from the cell of the element on that it begins with.
+pub fn elements_are_kept_in_order()
+    ensures element { (program : Units) (s : State) (layout : Layout) (scope : Scope) (x : Name) (subscripts : List Value) (first : ℕ) (at : Location) → RunsFrom program s layout (storage_of scope x).start (storage_of scope x).rest first → location_of_name scope x subscripts ≡ Ok at → (n : ℕ) × (element_of (storage_of scope x) subscripts ≡ Ok n) × (1 ≤ n) × (n ≤ (storage_of scope x).rest) × (address program s layout at ≡ Some (first + (n - 1))) }
+    ensures actual { (program : Units) (s : State) (layout : Layout) (scope : Scope) (a : ℕ) (x : Name) (r : Reference) (d : Dummy) (first : ℕ) → RunsFrom program s layout (storage_of scope r.0).start (storage_of scope r.0).rest first → dummy_for scope a x (referred r) ≡ Ok d → (n : ℕ) × (first_element scope r ≡ Ok n) × RunsFrom program s layout d.start d.rest (first + (n - 1)) }
+{}
+
+/// What is kept in consecutive cells stays there where a frame enters, and where the frame of another
+/// activation leaves.
+pub fn runs_stay()
+    ensures enters { (program : Units) (s t : State) (x : Activation) (layout : Layout) (entered cells : ℕ) (start : Location) (count first : ℕ) → IsLaid program s cells layout → t.activations ≡ s.activations ++ x ∷ [] → RunsFrom program s layout start count first → RunsFrom program t (with_frame layout (frame_from program t (length t.activations) entered)) start count first }
+    ensures leaves { (program : Units) (s : State) (a cells : ℕ) (layout : Layout) (start : Location) (count first : ℕ) → IsLaid program s cells layout → is_owned a start ≡ false → RunsFrom program s layout start count first → RunsFrom program s (without a layout) start count first }
+{}
+
+/// No activation is twice on stacks. So the level on top of a process is the one that is found by its
+/// activation, and another level there leaves those of the other activations.
+pub fn stacks_share_nothing()
+    ensures once { (program : Units) (processes : List ℕ) (a : ℕ) → times_on a (run program processes).processes ≤ 1 }
+    ensures found { (program : Units) (processes : List ℕ) (p : ℕ) (top : Level × Process) → living (run program processes) p ≡ Some top → level_of (run program processes) top.0.activation ≡ Some top.0 }
+    ensures others { (s t : State) (p : ℕ) (top : Level × Process) (after : Level) (b : ℕ) → living s p ≡ Some top → t.processes ≡ with_numbered s.processes p (after ∷ top.1) → after.activation ≡ top.0.activation → nat_eq top.0.activation b ≡ false → level_of t b ≡ level_of s b }
+{}
+
+/// What is on stacks where a process gets another stack: the same where its activations are the same, all but
+/// the one on top where that ends, all but those of the process where that ends, and one more where an
+/// activation begins on top or with a process of its own.
+pub fn stacks_change()
+    ensures same { (s t : State) (p a : ℕ) (top : Level × Process) (q : Process) → living s p ≡ Some top → t.processes ≡ with_numbered s.processes p q → activations_on q ≡ activations_on (top.0 ∷ top.1) → is_stacked t a ≡ is_stacked s a }
+    ensures ended { (s t : State) (p a : ℕ) (top : Level × Process) (q : Process) → living s p ≡ Some top → t.processes ≡ with_numbered s.processes p q → times_on a s.processes ≤ 1 → activations_on q ≡ activations_on top.1 → is_stacked t a ≡ but top.0.activation (is_stacked s) a }
+    ensures emptied { (s t : State) (p a : ℕ) (top : Level × Process) → living s p ≡ Some top → t.processes ≡ with_numbered s.processes p [] → times_on a s.processes ≤ 1 → is_stacked t a ≡ (if is_number_among a (activations_on (top.0 ∷ top.1)) then false else is_stacked s a) }
+    ensures begun { (s t : State) (p a c : ℕ) (top : Level × Process) (q : Process) → living s p ≡ Some top → t.processes ≡ with_numbered s.processes p q → activations_on q ≡ c ∷ activations_on (top.0 ∷ top.1) → is_stacked t a ≡ also c (is_stacked s) a }
+    ensures created { (s t : State) (a c : ℕ) (r : Process) → t.processes ≡ s.processes ++ r ∷ [] → activations_on r ≡ c ∷ [] → is_stacked t a ≡ also c (is_stacked s) a }
+{}
+
+/// What a dummy argument stands for is in COMMON or of its activation or one above it. So it was made, and
+/// with an activation all is held that its dummy arguments stand for.
+pub fn references_lead_upwards()
+    ensures above { (program : Units) (processes : List ℕ) (a k : ℕ) → IsOwnedAbove (run program processes) a (dummy_at (activation_of (run program processes) a).dummies k).start }
+    ensures made { (program : Units) (processes : List ℕ) (a k : ℕ) → a ≤ length (run program processes).activations → IsMadeAt (length (run program processes).activations) (dummy_at (activation_of (run program processes) a).dummies k).start }
+    ensures held { (program : Units) (processes : List ℕ) (a k above : ℕ) (x : Name) (i : ℕ) → is_held (run program processes) a ≡ true → (dummy_at (activation_of (run program processes) a).dummies k).start ≡ local above x i → is_held (run program processes) above ≡ true }
+{}
+
+/// Nothing is stored in a variable of an activation that wasn't made yet.
+pub fn nothing_is_stored_ahead()
+    ensures { (program : Units) (processes : List ℕ) (a : ℕ) (x : Name) (i : ℕ) → length (run program processes).activations < a → (run program processes).store (local a x i) ≡ unset_cell }
+{}
+
+/// What was made and isn't held is never held again, so a frame that was given back is never wanted.
+pub fn what_was_held_is_held_no_more()
+    ensures { (program : Units) (processes : List ℕ) (p a : ℕ) → a ≤ length (run program processes).activations → is_held (run program (processes ++ p ∷ [])) a ≡ true → is_held (run program processes) a ≡ true }
+{}
+
+/// Where frames are given back as soon as their activations aren't held, the frames of a run are those of
+/// just the held activations, each with the cells of its unit, and the cells in use are COMMON's and theirs:
+/// all that are in no hole.
+pub fn layouts_have_what_is_held()
+    ensures laid { (program : Units) (cells : ℕ) (processes : List ℕ) (layout : Layout) → layout_of program cells is_held processes ≡ Some layout → IsLaid program (run program processes) cells layout }
+    ensures held { (program : Units) (cells : ℕ) (processes : List ℕ) (layout : Layout) (a : ℕ) → layout_of program cells is_held processes ≡ Some layout → is_some (frame_among a layout) ≡ is_held (run program processes) a }
+    ensures used { (program : Units) (cells : ℕ) (processes : List ℕ) (layout : Layout) → layout_of program cells is_held processes ≡ Some layout → used_cells program is_held (run program processes) ≡ common_cells program + framed_cells layout }
+    ensures free { (program : Units) (processes : List ℕ) (layout : Layout) (contents : List Slot) (holes : List Hole) → layout_of program (length contents) is_held processes ≡ Some layout → IsMemory program (run program processes) layout contents holes → free_cells holes + used_cells program is_held (run program processes) ≡ length contents }
 {}

@@ -1,4 +1,6 @@
 mod Powers
+mod Arguments
+mod Remainders
 mod Worked
 pub mod Frames
 pub mod Replays

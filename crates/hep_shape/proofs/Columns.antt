@@ -23,10 +23,10 @@ counted_past m (Some n) h =
     rw past refl
 
 -- one subscript more, within its bounds or not
-before_within : (z : ℕ) (b : Bound) (bs : Bounds) (s : ℤ) (ss : List ℤ) → is_within b s ≡ true → before_element z (b ∷ bs) (s ∷ ss) ≡ sum (natural (s -ℤ b.lower) * z) (before_element (z * unwrap_or (extent b) 1) bs ss)
+pub before_within : (z : ℕ) (b : Bound) (bs : Bounds) (s : ℤ) (ss : List ℤ) → is_within b s ≡ true → before_element z (b ∷ bs) (s ∷ ss) ≡ sum (natural (s -ℤ b.lower) * z) (before_element (z * unwrap_or (extent b) 1) bs ss)
 before_within z b bs s ss h = rw h refl
 
-before_outside : (z : ℕ) (b : Bound) (bs : Bounds) (s : ℤ) (ss : List ℤ) → is_within b s ≡ false → before_element z (b ∷ bs) (s ∷ ss) ≡ None
+pub before_outside : (z : ℕ) (b : Bound) (bs : Bounds) (s : ℤ) (ss : List ℤ) → is_within b s ≡ false → before_element z (b ∷ bs) (s ∷ ss) ≡ None
 before_outside z b bs s ss h = rw h refl
 
 number_within : (m z : ℕ) (b : Bound) (bs : Bounds) (s : ℤ) (ss : List ℤ) → is_within b s ≡ true → sum m (before_element z (b ∷ bs) (s ∷ ss)) ≡ sum (m + natural (s -ℤ b.lower) * z) (before_element (z * unwrap_or (extent b) 1) bs ss)

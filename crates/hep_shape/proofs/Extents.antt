@@ -16,7 +16,7 @@ some_natural : (z : ℤ) → pos 1 ≤ℤ z → 1 ≤ natural z
 some_natural (pos n) h = omega (arith, ints)
 some_natural (negsuc n) h = absurd (omega (arith, ints))
 
-le_of_test : (x y : ℤ) → int_le x y ≡ true → x ≤ℤ y
+pub le_of_test : (x y : ℤ) → int_le x y ≡ true → x ≤ℤ y
 le_of_test x y h = grind (arith, ints)
 
 -- a dimension with a subscript in it has an element, and so has one whose upper bound is not below its lower one

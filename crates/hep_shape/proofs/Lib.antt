@@ -1,4 +1,5 @@
 pub mod Extents
 pub mod Columns
 pub mod Counts
+pub mod Numbers
 mod Worked

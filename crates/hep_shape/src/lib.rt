@@ -7,4 +7,4 @@
 pub mod shape;
 
 pub use hep_machine::Bound;
-pub use shape::Shape;
+pub use shape::{Shape, element_among, is_open};

@@ -1,10 +1,12 @@
 //! The shape of an array.
-ghost use Rattle.std.specs.Prelude.{◌≡◌, ◌≤◌, ◌^◌, ◌-ℤ◌, true, if◌then◌else◌, [], length, Some, None, IfSome};
+ghost use Rattle.std.specs.Prelude.{◌≡◌, ◌↔◌, ◌≤◌, ◌^◌, ◌-ℤ◌, true, if◌then◌else◌, [], length, Some, None, IfSome, IsTrue};
 ghost use Rattle.std.specs.Option.{is_none};
 ghost use Rattle.hep_machine.specs.Shapes.{is_shape, elements, counted_element, fits, are_dimensions, is_between, is_most, is_within, extent, natural};
 
 use arrayvec::ArrayVec;
 use hep_machine::Bound;
+use hep_source::Syntax;
+use std::alloc::{AllocError, Global};
 use std::marker::Model;
 
 // The most dimensions that an array may have (X3.9-1978, 5.1.1).
@@ -53,6 +55,14 @@ impl Shape {
         Some(Shape { bounds, elements })
     }
 
+    /// The bounds of its dimensions, the first one first.
+    pub fn bounds(&self) -> &[Bound]
+        ensures value { result.now ≡ self.now }
+        ensures shape { is_shape result.now ≡ true }
+    {
+        &self.bounds
+    }
+
     /// The number of the element that these subscripts name, counted from 1 by columns (X3.9-1978, 5.4.3).
     ///
     /// None where there is another number of subscripts than of dimensions, one is outside its bounds, or
@@ -60,11 +70,7 @@ impl Shape {
     pub fn element(&self, subscripts: &[i64]) -> Option<u32>
         ensures { result ≡ counted_element self.now subscripts.now }
     {
-        let bounds = self.bounds.as_slice();
-        if subscripts.len() != bounds.len() {
-            return None;
-        }
-        counted_element(bounds, subscripts)
+        element_among(&self.bounds, subscripts)
     }
 
     /// How many elements the array has, a cell each (X3.9-1978, 5.2.3); none where its last upper bound is open.
@@ -82,6 +88,65 @@ impl Shape {
     }
 }
 
+impl Syntax for Shape {
+    fn copy(&self, _alloc: Global) -> Result<Shape, AllocError> {
+        let (bounds, elements) = (copied(&self.bounds), self.cells());
+        Ok(Shape { bounds, elements })
+    }
+
+    fn same(&self, other: &Shape) -> bool {
+        are_same(&self.bounds, &other.bounds)
+    }
+}
+
+/// The number of the element that these subscripts name among such dimensions, counted from 1 by columns
+/// (X3.9-1978, 5.4.3). The bounds need not make a shape.
+///
+/// None where there is another number of subscripts than of dimensions, one is outside its bounds, or the number
+/// would be above 1,048,576.
+pub fn element_among(bounds: &[Bound], subscripts: &[i64]) -> Option<u32>
+    ensures { result ≡ counted_element bounds.now subscripts.now }
+{
+    if subscripts.len() != bounds.len() {
+        return None;
+    }
+    counted_element(bounds, subscripts)
+}
+
+/// Some upper bound is open, so that there is no number of elements.
+pub fn is_open(bounds: &[Bound]) -> bool
+    ensures { result ≡ is_none (elements bounds.now) }
+{
+    bounds.iter().any(|bound| bound.upper.is_none())
+}
+
+// The same bounds, of which there are seven at most.
+fn copied(bounds: &[Bound]) -> ArrayVec<Bound, MOST_DIMENSIONS>
+    requires { length bounds.now ≤ 7 }
+    ensures { result.items ≡ bounds.now }
+{
+    let mut copy = ArrayVec::new();
+    for bound in bounds {
+        copy.push(*bound);
+    }
+    copy
+}
+
+// Whether bounds in a row are the same.
+fn are_same(a: &[Bound], b: &[Bound]) -> bool
+    ensures { IsTrue result ↔ (a.now ≡ b.now) }
+{
+    if a.len() != b.len() {
+        return false;
+    }
+    for i in 0..a.len() {
+        if a[i] != b[i] {
+            return false;
+        }
+    }
+    true
+}
+
 // No upper bound is below its lower one, and only the last dimension is open.
 fn are_dimensions(bounds: &[Bound]) -> bool
     ensures { result ≡ are_dimensions bounds.now }
@@ -96,13 +161,6 @@ fn are_dimensions(bounds: &[Bound]) -> bool
         }
     }
     true
-}
-
-// Some upper bound is open, so that there is no number of elements.
-fn is_open(bounds: &[Bound]) -> bool
-    ensures { result ≡ is_none (elements bounds.now) }
-{
-    bounds.iter().any(|bound| bound.upper.is_none())
 }
 
 // How many elements there are; none where there is no number of them, or more than an array may have.

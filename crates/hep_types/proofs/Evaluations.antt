@@ -1,5 +1,5 @@
 -- What one walk over an expression tells of its parts.
-use Rattle.std.proofs.Common.{◌≡◌, ℤ, Bool, true, false, not, ◌&&◌, ◌||◌, Option, Some, None, List, [], ◌∷◌, ◌++◌, append_assoc, append-nil, is_some, refl, ap, sym, ◌∙◌, if◌then◌else◌}
+use Rattle.std.proofs.Common.{◌≡◌, Bool, true, false, not, ◌&&◌, ◌||◌, Option, Some, None, List, [], ◌∷◌, ◌++◌, append_assoc, append-nil, is_some, refl, ap, sym, ◌∙◌, if◌then◌else◌}
 use Rattle.std.specs.List.{list_all, list_any}
 use Rattle.std.proofs.lemmas.List.Folds.{list_any-append, list_all-append}
 use Rattle.hep_source.specs.Tree.{Tree, Trees, binary, with_list, trees}
@@ -17,7 +17,7 @@ use Rattle.hep_machine.specs.Variables.{occurrences_in, occurrences_in_all, arra
 use Rattle.hep_check.specs.Constants.{Parameters, is_open, has_value_or_is_open}
 use Rattle.hep_check.specs.Counts.{is_counted}
 use Rattle.hep_check.specs.Statements.{NameWithList, names_with_lists_in, names_with_lists_in_all, subexpressions_of, subexpressions_of_all}
-use Rattle.hep_types.specs.Evaluation.{parameters, with_last, integers_after, applied, is_any_open, are_parts_known, are_all_parts_known}
+use Rattle.hep_types.specs.Evaluation.{parameters, with_last, values_after, applied, is_any_open, are_parts_known, are_all_parts_known}
 
 -- ---- what is open
 
@@ -85,17 +85,17 @@ two-known unit k d o a b v w z p q x y hz hv hw hp hq hx hy =
 
 -- ---- values in a row
 
-pub one_more : (zs : Option (List ℤ)) (v : Option Value) (vs : Option (List Value)) → integers_after (with_last zs v) vs ≡ integers_after zs (both v vs)
+pub one_more : (ws : Option (List Value)) (v : Option Value) (vs : Option (List Value)) → values_after (with_last ws v) vs ≡ values_after ws (both v vs)
 one_more None v vs = refl
-one_more (Some zs) None vs = refl
-one_more (Some zs) (Some v) None = refl
-one_more (Some zs) (Some v) (Some vs) = ap Some (simp append_assoc)
+one_more (Some ws) None vs = refl
+one_more (Some ws) (Some v) None = refl
+one_more (Some ws) (Some v) (Some vs) = ap Some (simp append_assoc)
 
-pub no_more : (zs : Option (List ℤ)) → integers_after zs (Some []) ≡ zs
+pub no_more : (ws : Option (List Value)) → values_after ws (Some []) ≡ ws
 no_more None = refl
-no_more (Some zs) = ap Some (append-nil zs)
+no_more (Some ws) = ap Some (append-nil ws)
 
-pub applied_is : (m : Meaning) (vs : Option (List Value)) → applied m (integers_after (Some []) vs) ≡ by_meaning m vs
+pub applied_is : (m : Meaning) (vs : Option (List Value)) → applied m (values_after (Some []) vs) ≡ by_meaning m vs
 applied_is element vs = refl
 applied_is (pure f) None = refl
 applied_is (pure f) (Some vs) = refl

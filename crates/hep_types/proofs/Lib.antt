@@ -1,4 +1,3 @@
-pub mod Remainders
 pub mod Tables
 pub mod Evaluations
 pub mod Dimensions

@@ -1,5 +1,5 @@
 -- Values of expressions, as one walk over a tree tells them.
-use Rattle.std.specs.Prelude.{ℤ, Bool, not, ◌||◌, List, [], ◌∷◌, ◌++◌, Option, Some, None}
+use Rattle.std.specs.Prelude.{Bool, not, ◌||◌, List, [], ◌∷◌, ◌++◌, Option, Some, None}
 use Rattle.std.specs.List.{list_all, list_any}
 use Rattle.hep_source.specs.Tree.{Tree, Trees}
 use Rattle.hep_source.specs.declared.name.Name.{Name}
@@ -7,7 +7,7 @@ use Rattle.hep_source.specs.declared.name.Occurrence.{Occurrence}
 use Rattle.hep_source.specs.declared.statement.Statement.{Statement}
 use Rattle.hep_source.specs.declared.value.Value.{Value}
 use Rattle.hep_source.specs.Names.{is_among}
-use Rattle.hep_machine.specs.Arithmetic.{integer_of, integers_of, as_value, function_result}
+use Rattle.hep_machine.specs.Arithmetic.{function_value}
 use Rattle.hep_machine.specs.Constants.{Constants, without_fault}
 use Rattle.hep_machine.specs.Functions.{Meaning, pure}
 use Rattle.hep_machine.specs.Variables.{occurrences_in_all}
@@ -31,19 +31,19 @@ abbrev pub is_any_open : List Statement → Parameters → Trees → Bool
 is_any_open unit ps ts =
     list_any (λ (p : Occurrence). is_among p.name ps.doubtful) (occurrences_in_all unit ts) || not (list_all (is_counted unit) (names_with_lists_in_all ts))
 
--- integers, and after them the one that a value is
-abbrev pub with_last : Option (List ℤ) → Option Value → Option (List ℤ)
+-- values, and one more after them
+abbrev pub with_last : Option (List Value) → Option Value → Option (List Value)
 with_last None v = None
-with_last (Some zs) None = None
-with_last (Some zs) (Some v) = Some (zs ++ integer_of v ∷ [])
+with_last (Some vs) None = None
+with_last (Some vs) (Some v) = Some (vs ++ v ∷ [])
 
--- integers, and after them those that values are
-abbrev pub integers_after : Option (List ℤ) → Option (List Value) → Option (List ℤ)
-integers_after None vs = None
-integers_after (Some zs) None = None
-integers_after (Some zs) (Some vs) = Some (zs ++ integers_of vs)
+-- values, and others after them
+abbrev pub values_after : Option (List Value) → Option (List Value) → Option (List Value)
+values_after None ws = None
+values_after (Some vs) None = None
+values_after (Some vs) (Some ws) = Some (vs ++ ws)
 
--- the value of a name with a list by the integers that it is given
-abbrev pub applied : Meaning → Option (List ℤ) → Option Value
-applied (pure f) (Some zs) = without_fault (as_value (function_result f zs))
+-- the value of a name with a list by the values that it is given
+abbrev pub applied : Meaning → Option (List Value) → Option Value
+applied (pure f) (Some vs) = without_fault (function_value f vs)
 applied _ _ = None

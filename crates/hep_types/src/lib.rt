@@ -7,7 +7,6 @@ pub mod constants;
 pub mod declarators;
 pub mod evaluation;
 pub mod forms;
-pub mod intrinsics;
 pub mod parameters;
 pub mod shapes;
 pub mod types;

@@ -1,0 +1,167 @@
+//! How many operands a unit's code has at once.
+ghost use Rattle.std.specs.Prelude.{◌≡◌, ◌≤◌, ◌<◌, ◌+◌, ◌*◌, ◌∷◌, ℕ, List, nat_lt, if◌then◌else◌, drop, take, Some, None, length};
+ghost use Rattle.hep_source.specs.declared.value.Value.{Value};
+ghost use Rattle.hep_machine.specs.State.{Work};
+ghost use Rattle.hep_code.specs.Standing.{Stands};
+ghost use Rattle.hep_code.specs.UnitCode.{AddressedUnit, code_of};
+ghost use Rattle.hep_code.specs.Depths as spec;
+ghost use Rattle.hep_code.specs.Limits.{most_instructions, most_operands};
+
+use crate::instruction::{Argument, Instruction, Operation, Printed};
+
+/// How many operands there may be at once.
+pub const MOST_OPERANDS: usize = 256;
+
+/// The deepest stack of operands of a unit.
+#[derive(Clone, Copy, Debug, PartialEq, Eq)]
+pub struct Depth {
+    /// How many operands there are at most.
+    pub operands: usize,
+    /// The line of the first statement that has more than 256 of them.
+    pub too_deep: Option<u32>,
+}
+
+// The operands of an argument or an item.
+fn operands_of_entry(instruction: &Instruction) -> usize
+    ensures number { result ≡ spec.operands_of_entry instruction.now }
+    ensures bound { result ≤ 4294967295 }
+{
+    match instruction {
+        Instruction::Pass(argument) => match argument {
+            Argument::Evaluated => 1,
+            Argument::Referred { subscripts, .. } => *subscripts as usize,
+        },
+        Instruction::Show(printed) => match printed {
+            Printed::Operand => 1,
+            Printed::Characters(_) => 0,
+        },
+        _ => 0,
+    }
+}
+
+fn operands_of_entries(entries: &[Instruction]) -> usize
+    requires { length entries.now ≤ most_instructions }
+    ensures number { result ≡ spec.operands_of_entries entries.now }
+    ensures bound { result ≤ 4294967295 * length entries.now }
+{
+    let mut operands = 0;
+    for entry in entries {
+        operands += operands_of_entry(entry);
+    }
+    operands
+}
+
+fn first_of(list: &[Instruction], count: u32) -> &[Instruction]
+    ensures { result.now ≡ take count list.now }
+{
+    let count = count as usize;
+    if count < list.len() {
+        &list[..count]
+    } else {
+        list
+    }
+}
+
+// The operands of an operation, where there are so many in front of the instructions behind it.
+fn operands_by(operation: Operation, operands: usize, behind: &[Instruction]) -> usize
+    requires length { length behind.now ≤ most_instructions }
+    requires operands { operands ≤ 4294967296 * length behind.now }
+    ensures number { result ≡ spec.operands_by operation operands behind.now }
+    ensures bound { result ≤ 4294967296 * (length behind.now + 1) }
+{
+    match operation {
+        Operation::Evaluate(evaluation) => {
+            evaluation.arity() as usize + operands.saturating_sub(1)
+        }
+        Operation::Store { subscripts, .. } => 1 + subscripts as usize,
+        Operation::Choose { .. } => 1,
+        Operation::BySign { .. } => 1,
+        Operation::Condition { .. } => 1,
+        Operation::Branch { .. } => 1,
+        Operation::EnterLoop { .. } => 3,
+        Operation::Call { count, .. } => operands_of_entries(first_of(behind, count)),
+        Operation::Create { count, .. } => operands_of_entries(first_of(behind, count)),
+        Operation::Purge { count, .. } => operands_of_entries(first_of(behind, count)),
+        Operation::Print { count, .. } => operands_of_entries(first_of(behind, count)),
+        _ => 0,
+    }
+}
+
+// Those in front of an instruction, where there are so many in front of the ones behind it.
+fn operands_before(first: &Instruction, operands: usize, behind: &[Instruction]) -> usize
+    requires length { length behind.now ≤ most_instructions }
+    requires operands { operands ≤ 4294967296 * length behind.now }
+    ensures number { result ≡ spec.operands_before first.now operands behind.now }
+    ensures bound { result ≤ 4294967296 * (length behind.now + 1) }
+{
+    match first {
+        Instruction::Push(_) => operands.saturating_sub(1),
+        Instruction::Step { operation, .. } => operands_by(*operation, operands, behind),
+        _ => 0,
+    }
+}
+
+fn line_before(first: &Instruction, line: u32) -> u32
+    ensures { result ≡ spec.line_before first.now line }
+{
+    match first {
+        Instruction::Step { line, .. } => *line,
+        _ => line,
+    }
+}
+
+impl Depth {
+    // The depth with one more instruction, that has so many operands and this line.
+    fn with(self, operands: usize, line: u32) -> Depth
+        ensures operands { result.operands ≡ spec.deeper self.operands operands }
+        ensures too_deep { result.too_deep ≡ if nat_lt most_operands operands then Some line else self.too_deep }
+    {
+        Depth {
+            operands: if self.operands < operands {
+                operands
+            } else {
+                self.operands
+            },
+            too_deep: if MOST_OPERANDS < operands {
+                Some(line)
+            } else {
+                self.too_deep
+            },
+        }
+    }
+}
+
+// The instruction at an index, and those behind it.
+#[tactic(auto, using(crate::proofs::Depths::from_is))]
+fn from_index(code: &[Instruction], index: usize) -> (&Instruction, &[Instruction])
+    requires { index < length code.now }
+    ensures from { drop index code.now ≡ result.0.now ∷ result.1.now }
+    ensures length { length code.now ≡ index + 1 + length result.1.now }
+{
+    (&code[index], &code[index + 1..])
+}
+
+/// The deepest stack of operands of a unit, by one pass over its code from its end.
+pub fn depth_of(code: &[Instruction]) -> Depth
+    requires { length code.now ≤ most_instructions }
+    ensures operands { result.operands ≡ spec.deepest code.now }
+    ensures line { result.too_deep ≡ spec.line_too_deep code.now }
+    // Wherever an activation stands in the code of a unit, it has no more operands.
+    ensures stands { (addressed : AddressedUnit) (k : ℕ) (work : Work) (operands : List Value) (index : ℕ) → code.now ≡ code_of addressed → Stands addressed k work operands index → length operands ≤ result.operands }
+    // Where no statement has more than 256, the unit hasn't.
+    ensures few { result.too_deep ≡ None → result.operands ≤ most_operands }
+{
+    let mut operands = 0;
+    let mut line = 0;
+    let mut depth = Depth {
+        operands: 0,
+        too_deep: None,
+    };
+    for passed in 0..code.len() {
+        let (first, behind) = from_index(code, code.len() - 1 - passed);
+        operands = operands_before(first, operands, behind);
+        line = line_before(first, line);
+        depth = depth.with(operands, line);
+    }
+    depth
+}

@@ -1,0 +1,12 @@
+pub mod Named
+pub mod Elements
+pub mod Counted
+pub mod Found
+pub mod Own
+pub mod Held
+pub mod Dummies
+pub mod Within
+pub mod Extents
+pub mod Binds
+pub mod Activations
+pub mod Reached

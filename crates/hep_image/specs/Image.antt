@@ -1,0 +1,38 @@
+-- What an image has of a program: docs/ARCHITECTURE.md, "Forms".
+use Rattle.std.specs.Prelude.{◌≡◌, ℕ, ◌≤◌, List, None, map, length, slice_get, Some}
+use Rattle.hep_source.specs.Units.{Units, unit_at}
+use Rattle.hep_machine.specs.Layout.{common_cells}
+use Rattle.hep_machine.specs.Variables.{frame_cells}
+use Rattle.hep_check.specs.Conditions.{IsAccepted}
+use Rattle.hep_code.specs.Depths.{deepest}
+use Rattle.hep_code.specs.Limits.{most_operands}
+use Rattle.hep_code.specs.Stacks.{addressed_unit, entry_index}
+use Rattle.hep_code.specs.UnitCode.{code_of}
+use Rattle.hep_image.specs.Places.{addresses_of, arrays_of, array_of}
+use Rattle.hep_image.specs.Private.{private_cells}
+use Rattle.hep_image.specs.Supported.{first_unsupported}
+use Rattle.hep_image.specs.declared.unit.UnitCode.{UnitCode}
+
+-- the cells that a frame, and COMMON, may have at most: docs/LANGUAGE.md, "Limits"
+abbrev pub most_cells : ℕ
+most_cells = 16777216
+
+-- the code of unit u of a program, and what is known of it
+pub record IsUnitCode (program : Units) (u : ℕ) (unit : UnitCode) : Type 0 where
+  pub code : unit.code ≡ code_of (addressed_unit program (addresses_of program) u)
+  pub entry : unit.entry ≡ entry_index (addressed_unit program (addresses_of program) u)
+  pub arrays : unit.arrays ≡ map (array_of program (unit_at program u)) (arrays_of (unit_at program u))
+  pub operands : unit.operands ≡ deepest unit.code
+  pub few_operands : unit.operands ≤ most_operands
+  pub cells : unit.cells ≡ frame_cells (unit_at program u)
+  pub few_cells : unit.cells ≤ most_cells
+  pub private_are : unit.private ≡ private_cells (unit_at program u)
+
+-- an image of an accepted program that can be run has all of its units and the cells of COMMON
+pub record IsImage (program : Units) (units : List UnitCode) (common : ℕ) : Type 0 where
+  pub accepted : IsAccepted program
+  pub supported : first_unsupported program ≡ None
+  pub all : length units ≡ length program
+  pub units_are : (u : ℕ) (unit : UnitCode) → slice_get units u ≡ Some unit → IsUnitCode program u unit
+  pub common_is : common ≡ common_cells program
+  pub few_cells : common ≤ most_cells

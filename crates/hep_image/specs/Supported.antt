@@ -1,0 +1,31 @@
+-- Which accepted programs can be run so far: docs/MACHINE.md, "The program".
+use Rattle.std.specs.Prelude.{ℕ, Bool, true, false, ◌||◌, if◌then◌else◌, List, [], ◌∷◌, Option, Some, None}
+use Rattle.std.specs.List.{list_any}
+use Rattle.std.specs.Option.{option_or}
+use Rattle.hep_source.specs.declared.name.Occurrence.{Occurrence}
+use Rattle.hep_source.specs.declared.statement.Form.{Form}
+use Rattle.hep_source.specs.declared.statement.Form.TheVariants as form
+use Rattle.hep_source.specs.declared.statement.Statement.{Statement}
+use Rattle.hep_source.specs.Units.{Units, line_at}
+use Rattle.hep_machine.specs.Variables.{occurrences_in_statement}
+
+abbrev pub is_unsupported_form : Form → Bool
+is_unsupported_form (form.Call p ts) = true
+is_unsupported_form (form.Create p ts) = true
+is_unsupported_form (form.Purge targets) = true
+is_unsupported_form _ = false
+
+-- CALL, CREATE, PURGE, and each statement with an asynchronous name
+abbrev pub is_unsupported : List Statement → Statement → Bool
+is_unsupported unit s = is_unsupported_form s.form || list_any (λ (p : Occurrence). p.name.asynchronous) (occurrences_in_statement unit s)
+
+-- the line of the first of these statements that isn't supported
+abbrev pub first_unsupported_among : List Statement → List Statement → Option ℕ
+first_unsupported_among unit [] = None
+first_unsupported_among unit (s ∷ ss) = if is_unsupported unit s then Some s.line else first_unsupported_among unit ss
+
+-- in the order of the source; of a second unit its first statement
+abbrev pub first_unsupported : Units → Option ℕ
+first_unsupported [] = None
+first_unsupported (unit ∷ []) = first_unsupported_among unit unit
+first_unsupported (unit ∷ (second ∷ units)) = option_or (first_unsupported_among unit unit) (Some (line_at second 0))

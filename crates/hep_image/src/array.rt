@@ -1,0 +1,86 @@
+//! Arrays without their names.
+
+use hep_shape::Shape;
+use hep_source::Syntax;
+use std::alloc::{AllocError, Global};
+
+/// Where the storage units of a variable begin (X3.9-1978, 2.13, 8.3.2 and 15.9.3).
+#[derive(Clone, Copy, Debug, PartialEq, Eq)]
+pub enum Start {
+    /// A local variable, by its first cell, counted from that of the frame.
+    Local(u32),
+    /// A variable in COMMON, by its first cell, counted from that of the arena, in front of which COMMON stands.
+    Common(u32),
+    /// A dummy argument, by the first of two cells, counted from that of the frame. They have the first storage unit that
+    /// it stands for, and how many there are from there; where it stands for an expression, the first has its value and the
+    /// second has none.
+    Dummy(u32),
+}
+
+/// The bounds of an array (5.1 and 5.5).
+#[derive(Drop)]
+pub enum Extents {
+    /// All of them are constant, and the last one may be open.
+    Constant(Shape),
+    /// They are fixed at each call: two cells of the frame for each dimension, from this one on.
+    Adjustable { cells: u32, dimensions: u32 },
+}
+
+/// Where the elements of an array begin, and its bounds.
+#[derive(Drop)]
+pub struct Array {
+    pub start: Start,
+    pub extents: Extents,
+}
+
+impl Syntax for Start {
+    fn copy(&self, _alloc: Global) -> Result<Start, AllocError> {
+        Ok(*self)
+    }
+
+    fn same(&self, other: &Start) -> bool {
+        self == other
+    }
+}
+
+impl Syntax for Extents {
+    fn copy(&self, alloc: Global) -> Result<Extents, AllocError> {
+        match self {
+            Extents::Constant(shape) => Ok(Extents::Constant(shape.copy(alloc)?)),
+            Extents::Adjustable { cells, dimensions } => Ok(Extents::Adjustable {
+                cells: *cells,
+                dimensions: *dimensions,
+            }),
+        }
+    }
+
+    fn same(&self, other: &Extents) -> bool {
+        match (self, other) {
+            (Extents::Constant(a), Extents::Constant(b)) => a.same(b),
+            (
+                Extents::Adjustable {
+                    cells: c,
+                    dimensions: m,
+                },
+                Extents::Adjustable {
+                    cells: d,
+                    dimensions: n,
+                },
+            ) => c == d && m == n,
+            _ => false,
+        }
+    }
+}
+
+impl Syntax for Array {
+    fn copy(&self, alloc: Global) -> Result<Array, AllocError> {
+        Ok(Array {
+            start: self.start,
+            extents: self.extents.copy(alloc)?,
+        })
+    }
+
+    fn same(&self, other: &Array) -> bool {
+        self.start == other.start && self.extents.same(&other.extents)
+    }
+}

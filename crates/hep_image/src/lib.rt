@@ -1,0 +1,15 @@
+//! Images: a checked program as a core runs it, with its tree, the code of its units, and where their variables are.
+//!
+//! Where variables are stands in `specs/Places`, and how their storage units are found from the cells of the arena
+//! in `specs/Finding`.
+#![tactic(auto)]
+
+pub mod array;
+pub mod data;
+pub mod image;
+pub mod unit;
+
+pub use array::{Array, Extents, Start};
+pub use data::DataRow;
+pub use image::Image;
+pub use unit::UnitCode;

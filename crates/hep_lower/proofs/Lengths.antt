@@ -1,0 +1,44 @@
+-- How long the code of lists is.
+use Rattle.std.proofs.Common.{◌≡◌, ℕ, suc, ◌≤◌, List, [], ◌∷◌, ◌++◌, length, refl, ap, arith, length-append, Option, Some, None}
+use Rattle.hep_source.specs.Tree.{Tree, Trees, constant, occurrence, with_list, parenthesized, signed, negated, binary, no_trees, trees, trees_of}
+use Rattle.hep_source.specs.declared.name.Name.{Name}
+use Rattle.hep_source.specs.declared.value.Value.{Value}
+use Rattle.hep_machine.specs.Functions.{Meaning, element, pure, state, unknown}
+use Rattle.hep_code.specs.declared.instruction.Instruction.{Instruction}
+use Rattle.hep_code.specs.ExpressionCode.{count, name_code, listed_code, tree_code, trees_code, asked_code}
+use Rattle.hep_code.specs.Tables.{NameTable}
+
+pub count_length : (ts : List Tree) → count (trees_of ts) ≡ length ts
+count_length [] = refl
+count_length (t ∷ ts) = ap suc (count_length ts)
+
+last_long : (xs : List Instruction) (x : Instruction) → 1 ≤ length (xs ++ x ∷ [])
+last_long xs x = omega (arith, length-append xs (x ∷ []))
+
+module _ (names : NameTable) (line : ℕ) where
+  name_long : (o : Option Value) (x : Name) → 1 ≤ length (name_code names line o x)
+  name_long None x = omega arith
+  name_long (Some v) x = omega arith
+
+  listed_long : (m : Meaning) (x : Name) (ts : Trees) (list subscripts : List Instruction) → 1 ≤ length (listed_code names m line x ts list subscripts)
+  listed_long element x ts list subscripts = last_long list _
+  listed_long (pure f) x ts list subscripts = last_long list _
+  listed_long (state f) x ts list subscripts = last_long subscripts _
+  listed_long unknown x ts list subscripts = omega arith
+
+  -- no expression is without code
+  pub tree_long : (t : Tree) → 1 ≤ length (tree_code names line t)
+  tree_long (constant v) = omega arith
+  tree_long (occurrence p) = name_long (names.constants p.name) p.name
+  tree_long (with_list p ts) = listed_long (names.meanings p.name) p.name ts (trees_code names line ts) (asked_code names line ts)
+  tree_long (parenthesized t) = tree_long t
+  tree_long (signed s t) = last_long (tree_code names line t) _
+  tree_long (negated t) = last_long (tree_code names line t) _
+  tree_long (binary o a b) = last_long (tree_code names line a ++ tree_code names line b) _
+
+  pub count_long : (ts : Trees) → count ts ≤ length (trees_code names line ts)
+  count_long no_trees = omega arith
+  count_long (trees t ts) = omega (arith, tree_long t, count_long ts, length-append (tree_code names line t) (trees_code names line ts))
+
+  pub trees_long : (ts : List Tree) → length ts ≤ length (trees_code names line (trees_of ts))
+  trees_long ts = omega (arith, count_long (trees_of ts), count_length ts)

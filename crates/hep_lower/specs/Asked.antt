@@ -1,0 +1,12 @@
+-- The subscripts of what FULL, EMPTY, VALUE, SETE or WAITF is asked of: docs/LANGUAGE.md, 8.
+use Rattle.hep_source.specs.Tree.{Trees, with_list, no_trees, trees}
+use Rattle.hep_machine.specs.Functions.{Meaning, element}
+use Rattle.hep_code.specs.Tables.{NameTable}
+
+abbrev pub subscripts_asked_listed : Meaning → Trees → Trees
+subscripts_asked_listed element ts = ts
+subscripts_asked_listed _ ts = no_trees
+
+abbrev pub subscripts_asked : NameTable → Trees → Trees
+subscripts_asked names (trees (with_list p ts) no_trees) = subscripts_asked_listed (names.meanings p.name) ts
+subscripts_asked names _ = no_trees

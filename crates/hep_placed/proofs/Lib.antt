@@ -1,0 +1,11 @@
+mod Worked
+mod Coded
+mod Facts
+mod Starts
+mod Rights
+mod Placed
+mod Supported
+mod Values
+mod Shapes
+mod Arrays
+mod Calls

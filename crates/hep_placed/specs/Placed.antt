@@ -1,0 +1,53 @@
+-- The code of the units of a program, and where its variables are: docs/MACHINE.md, "Variables and frames".
+use Rattle.std.specs.Prelude.{◌≡◌, ◌≢◌, ◌<◌, ℕ, Bool, true, false, List, map, length, Some, slice_get}
+use Rattle.hep_source.specs.declared.declaration.NamedConstant.{NamedConstant}
+use Rattle.hep_source.specs.declared.name.Name.{Name}
+use Rattle.hep_source.specs.declared.statement.Statement.{Statement}
+use Rattle.hep_source.specs.Units.{Units, dummies_of, is_main, subroutine_name, unit_at}
+use Rattle.hep_machine.specs.Declarations.{is_array, named_constants}
+use Rattle.hep_code.specs.declared.instruction.Instruction.{Instruction}
+use Rattle.hep_code.specs.declared.variable.Variable.{Variable}
+use Rattle.hep_code.specs.declared.variable.Variable.TheVariants.{Absent}
+use Rattle.hep_code.specs.Replies.{is_asynchronous}
+use Rattle.hep_code.specs.Stacks.{addressed_unit}
+use Rattle.hep_code.specs.UnitCode.{code_of}
+use Rattle.hep_image.specs.declared.array.Start.{Start}
+use Rattle.hep_image.specs.Places.{addresses_of, array_of, arrays_of, start_of}
+
+-- the code of unit u
+abbrev pub code_in : Units → ℕ → List Instruction
+code_in program u = code_of (addressed_unit program (addresses_of program) u)
+
+-- a variable that has storage units
+abbrev pub IsPlaced : Variable → Type 0
+IsPlaced x = x ≢ Absent
+
+abbrev pub ArePlaced : List Variable → Type 0
+ArePlaced xs = (i : ℕ) (x : Variable) → slice_get xs i ≡ Some x → IsPlaced x
+
+-- variables without `$`
+abbrev pub ArePlain : List Variable → Type 0
+ArePlain xs = (i : ℕ) (x : Variable) → slice_get xs i ≡ Some x → is_asynchronous x ≡ false
+
+-- no named constant has a `$`: docs/LANGUAGE.md, 3
+abbrev pub AreConstantsPlain : List Statement → Type 0
+AreConstantsPlain unit = (i : ℕ) (c : NamedConstant) → slice_get (named_constants unit) i ≡ Some c → c.occurrence.name.asynchronous ≡ false
+
+-- ---- arrays
+
+-- an array of a unit, which begins somewhere, is the one of this index among all of them: docs/ARCHITECTURE.md, "Forms"
+abbrev pub IsArrayAt : Units → List Statement → Bool → ℕ → Type 0
+IsArrayAt program unit asynchronous i =
+    (x : Name) × (at : Start)
+    × (x.asynchronous ≡ asynchronous)
+    × (is_array unit x ≡ true)
+    × (slice_get (arrays_of unit) i ≡ Some x)
+    × (slice_get (map (array_of program unit) (arrays_of unit)) i ≡ Some (array_of program unit x))
+    × (start_of program unit x ≡ Some at)
+
+-- ---- calls
+
+-- a unit is a subroutine with so many dummy arguments: X3.9-1978, 15.6.1 and 15.6.2.3
+abbrev pub IsCalledWith : Units → ℕ → ℕ → Type 0
+IsCalledWith program u n =
+    (u < length program) × (is_main (subroutine_name (unit_at program u)) ≡ false) × (n ≡ length (dummies_of (unit_at program u)))

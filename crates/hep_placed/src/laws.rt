@@ -1,0 +1,69 @@
+//! Laws of the code of accepted programs: where the variables in it are, and what it calls.
+ghost use Rattle.std.specs.Prelude.{◌≡◌, ◌<◌, ℕ, Bool, true, List, Some, None, slice_get, length};
+ghost use Rattle.hep_source.specs.declared.name.Name.{Name};
+ghost use Rattle.hep_source.specs.declared.statement.Statement.{Statement};
+ghost use Rattle.hep_source.specs.Units.{Units, unit_at};
+ghost use Rattle.hep_machine.specs.Constants.{adjustable_dimensions, constant_shape};
+ghost use Rattle.hep_machine.specs.Declarations.{is_array};
+ghost use Rattle.hep_machine.specs.Shapes.{Bounds, is_shape};
+ghost use Rattle.hep_check.specs.Conditions.{IsAccepted};
+ghost use Rattle.hep_code.specs.declared.instruction.Instruction.{Instruction};
+ghost use Rattle.hep_code.specs.declared.instruction.Instruction.TheVariants.{Step};
+ghost use Rattle.hep_code.specs.declared.instruction.Operation.{Operation};
+ghost use Rattle.hep_code.specs.declared.instruction.Operation.TheVariants.{Call, Create};
+ghost use Rattle.hep_code.specs.declared.variable.Variable.TheVariants.{Array};
+ghost use Rattle.hep_image.specs.declared.array.Start.{Start};
+ghost use Rattle.hep_image.specs.Places.{arrays_of, start_of, variable_of};
+ghost use Rattle.hep_image.specs.Supported.{first_unsupported};
+ghost use Rattle.hep_placed.specs.Instructions.{IsOfOneActivation, variables_in, variables_in_operation};
+ghost use Rattle.hep_placed.specs.Placed.{AreConstantsPlain, ArePlaced, ArePlain, IsArrayAt, IsCalledWith, IsPlaced, code_in};
+
+use hep_check::laws;
+
+/// Each variable in the code has storage units, and so the name that it stands for begins somewhere. What is
+/// passed or purged has some where no named constant of the unit has a `$`, as none has that is read from a
+/// text (`docs/LANGUAGE.md`, 3): else PURGE could name one.
+pub fn variables_of_the_code_are_placed()
+    ensures operations { (program : Units) (u i line : ℕ) (o : Operation) → IsAccepted program → u < length program → slice_get (code_in program u) i ≡ Some (Step line o) → ArePlaced (variables_in_operation o) }
+    ensures all { (program : Units) (u i : ℕ) (x : Instruction) → IsAccepted program → u < length program → AreConstantsPlain (unit_at program u) → slice_get (code_in program u) i ≡ Some x → ArePlaced (variables_in x) }
+    ensures begun { (program : Units) (unit : List Statement) (x : Name) → IsPlaced (variable_of program unit x) → (at : Start) × (start_of program unit x ≡ Some at) }
+{
+    laws::constants_agree();
+}
+
+/// Where a program has nothing that isn't supported, it has one unit alone, in whose code no activation
+/// begins and nothing is purged or passed, and each variable has storage units and no `$`.
+pub fn supported_code()
+    ensures one { (program : Units) (u : ℕ) → first_unsupported program ≡ None → u < length program → (u ≡ 0) × (length program ≡ 1) }
+    ensures activation { (program : Units) (u i : ℕ) (x : Instruction) → IsAccepted program → first_unsupported program ≡ None → u < length program → slice_get (code_in program u) i ≡ Some x → IsOfOneActivation x }
+    ensures plain { (program : Units) (u i : ℕ) (x : Instruction) → IsAccepted program → first_unsupported program ≡ None → u < length program → slice_get (code_in program u) i ≡ Some x → ArePlain (variables_in x) }
+    ensures placed { (program : Units) (u i : ℕ) (x : Instruction) → IsAccepted program → first_unsupported program ≡ None → u < length program → slice_get (code_in program u) i ≡ Some x → ArePlaced (variables_in x) }
+{
+    laws::constants_agree();
+}
+
+/// Each array whose bounds are fixed by constants has a constant shape, dummy arguments too, where the last
+/// bound may be open.
+pub fn constant_shapes()
+    ensures { (program : Units) (u : ℕ) (x : Name) → IsAccepted program → u < length program → is_array (unit_at program u) x ≡ true → adjustable_dimensions (unit_at program u) x ≡ 0 → (bounds : Bounds) × (constant_shape (unit_at program u) x ≡ Some bounds) × (is_shape bounds ≡ true) }
+{
+    laws::constants_agree();
+}
+
+/// Each array of a unit begins somewhere, and each array in the code is the one of its index among those of
+/// the unit.
+pub fn arrays_are_there()
+    ensures unit { (program : Units) (u i : ℕ) (x : Name) → IsAccepted program → u < length program → slice_get (arrays_of (unit_at program u)) i ≡ Some x → (at : Start) × (is_array (unit_at program u) x ≡ true) × (start_of program (unit_at program u) x ≡ Some at) }
+    ensures code { (program : Units) (u i j n : ℕ) (asynchronous : Bool) (x : Instruction) → IsAccepted program → u < length program → slice_get (code_in program u) i ≡ Some x → slice_get (variables_in x) j ≡ Some (Array asynchronous n) → IsArrayAt program (unit_at program u) asynchronous n }
+{
+    laws::constants_agree();
+}
+
+/// A CALL or CREATE in the code is of a subroutine, and passes as many actual arguments as this has dummy
+/// arguments.
+pub fn calls_agree()
+    ensures call { (program : Units) (u i line v n next : ℕ) → IsAccepted program → u < length program → slice_get (code_in program u) i ≡ Some (Step line (Call v n next)) → IsCalledWith program v n }
+    ensures create { (program : Units) (u i line v n next : ℕ) → IsAccepted program → u < length program → slice_get (code_in program u) i ≡ Some (Step line (Create v n next)) → IsCalledWith program v n }
+{
+    laws::constants_agree();
+}

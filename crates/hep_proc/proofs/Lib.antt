@@ -1,0 +1,8 @@
+mod Slabs
+mod Begun
+mod Opened
+mod Openings
+mod Giving
+mod Several
+mod Stays
+mod Children

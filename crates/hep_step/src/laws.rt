@@ -1,0 +1,70 @@
+//! Laws of steps: what an operation does to the arena and to the operands is what the source machine does.
+ghost use Rattle.std.specs.Prelude.{ℕ, List};
+ghost use Rattle.hep_source.specs.declared.value.Value.{Value};
+ghost use Rattle.hep_source.specs.Units.{Units};
+ghost use Rattle.hep_machine.specs.declared.slot.Slot.{Slot};
+ghost use Rattle.hep_machine.specs.Layout.{Frame, Layout};
+ghost use Rattle.hep_machine.specs.Step.{Top};
+ghost use Rattle.hep_arena.specs.Holes.{Hole};
+ghost use Rattle.hep_code.specs.declared.instruction.Evaluation.{Evaluation};
+ghost use Rattle.hep_code.specs.declared.instruction.Operation.TheVariants.{Evaluate, Store, Jump, Choose, BySign, Condition, Branch, EnterLoop, EndLoop, Print, Return, Stop};
+ghost use Rattle.hep_code.specs.declared.variable.Variable.{Variable};
+ghost use Rattle.hep_code.specs.Ahead.{IsPastPushes};
+ghost use Rattle.hep_step.specs.Effects.{effect_at};
+ghost use Rattle.hep_step.specs.Simulation.{IsRunning, IsSimulated, Simulates, arrays_on_top, code_on_top};
+
+/// An operation that gives a value does what the source machine does with the redex that comes next: the value is
+/// in the place of the operands, a cell that was emptied is so in the arena, and a fault or what is waited for
+/// is the same.
+pub fn values_are_evaluated()
+    ensures { (e : Evaluation) → IsSimulated (Evaluate e) }
+{}
+
+/// An operation that stores a value does what the source machine does with the assignment: the value is in the
+/// cell, and the activation goes on with no operands where the next statement stands.
+pub fn values_are_stored()
+    ensures { (x : Variable) (n next : ℕ) → IsSimulated (Store x n next) }
+{}
+
+/// GO TO and each statement that only goes on, a computed GO TO, an arithmetic IF, the condition of a logical IF, and
+/// that of an IF THEN or ELSE IF (X3.9-1978, 11.1 to 11.11): the activation goes on where the source machine does,
+/// and the arena stays.
+pub fn jumps_are_made()
+    ensures jump { (next : ℕ) → IsSimulated (Jump next) }
+    ensures choose { (count next : ℕ) → IsSimulated (Choose count next) }
+    ensures by_sign { (negative equal positive : ℕ) → IsSimulated (BySign negative equal positive) }
+    ensures condition { (otherwise : ℕ) → IsSimulated (Condition otherwise) }
+    ensures branch { (inside otherwise : ℕ) → IsSimulated (Branch inside otherwise) }
+{}
+
+/// DO (11.10.3): its variable has the initial value, and its two cells have the iteration count and the increment;
+/// an overflow, or an increment of 0, is the same fault.
+pub fn loops_are_entered()
+    ensures { (x : Variable) (cells inside behind : ℕ) → IsSimulated (EnterLoop x cells inside behind) }
+{}
+
+/// The end of a DO (11.10.6 and 11.10.7): its variable is raised by the increment, and one iteration less is left.
+pub fn loops_are_ended()
+    ensures { (x : Variable) (cells inside behind : ℕ) → IsSimulated (EndLoop x cells inside behind) }
+{}
+
+/// PRINT (12.8): the record has the source machine's items.
+pub fn records_are_printed()
+    ensures { (count next : ℕ) → IsSimulated (Print count next) }
+{}
+
+/// RETURN, and END of a unit (15.8 and 11.14).
+pub fn activations_end()
+    ensures { IsSimulated Return }
+{}
+
+/// STOP (11.12).
+pub fn runs_stop()
+    ensures { IsSimulated Stop }
+{}
+
+/// Where no value stands ahead that is to be put behind the operands, whatever operation stands there does what
+/// the source machine does.
+pub fn operations_do_what_the_machine_does()
+    ensures { (program : Units) (t : Top) (layout : Layout) (f : Frame) (contents : List Slot) (holes : List Hole) (operands : List Value) (index : ℕ) → IsRunning program t layout f contents holes operands index → IsPastPushes (code_on_top program t) index → Simulates program t layout f holes contents (effect_at (code_on_top program t) (arrays_on_top program t) f.first contents operands index) }
+{}
