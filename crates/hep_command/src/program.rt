@@ -51,6 +51,23 @@ fn source_argument<'a>(alloc: Global) -> Arg<'a> {
     argument(alloc, "file", "FILE").help("The source")
 }
 
+// A command with one argument more, unless memory was refused for it.
+fn with_arg<'a>(
+    whole: Result<Command<'a>, AllocError>,
+    part: Arg<'a>,
+) -> Result<Command<'a>, AllocError> {
+    whole?.arg(part)
+}
+
+// A command with one more, unless memory was refused for one of the two.
+fn with_command<'a>(
+    whole: Result<Command<'a>, AllocError>,
+    part: Result<Command<'a>, AllocError>,
+) -> Result<Command<'a>, AllocError> {
+    let part = part?;
+    whole?.subcommand(part)
+}
+
 fn check_command<'a>(alloc: Global) -> Result<Command<'a>, AllocError> {
     Command::new(alloc, "check")
         .about("Say why a source can't run, and nothing if it can")
@@ -58,36 +75,45 @@ fn check_command<'a>(alloc: Global) -> Result<Command<'a>, AllocError> {
         .arg(source_argument(alloc))
 }
 
-fn run_command<'a>(alloc: Global) -> Result<Command<'a>, AllocError> {
-    let steps = number_option(alloc, "steps", MOST_STEPS).help(
+fn steps_option<'a>(alloc: Global) -> Arg<'a> {
+    number_option(alloc, "steps", MOST_STEPS).help(
         "Steps at most, 1 to 4294967296 [default: 10000000]",
-    );
-    let choices = file_option(alloc, "choices").help(
-        "The processes that are chosen first, one a line",
-    );
-    let history = file_option(alloc, "history").help(
-        "Gets the history: process and steps, an entry a line",
-    );
-    Command::new(alloc, "run")
+    )
+}
+
+fn choices_option<'a>(alloc: Global) -> Arg<'a> {
+    file_option(alloc, "choices").help("The processes that are chosen first, one a line")
+}
+
+fn history_option<'a>(alloc: Global) -> Arg<'a> {
+    file_option(alloc, "history").help("Gets the history: process and steps, an entry a line")
+}
+
+fn run_command<'a>(alloc: Global) -> Result<Command<'a>, AllocError> {
+    let run = Command::new(alloc, "run")
         .about("Run a source")
         .after_help(RUN_EXAMPLE)
-        .arg(source_argument(alloc))?
-        .arg(arena_option(alloc))?
-        .arg(steps)?
-        .arg(choices)?
-        .arg(history)
+        .arg(source_argument(alloc));
+    let run = with_arg(run, arena_option(alloc));
+    let run = with_arg(run, steps_option(alloc));
+    let run = with_arg(run, choices_option(alloc));
+    with_arg(run, history_option(alloc))
+}
+
+// A first part of a history that is there.
+fn history_argument<'a>(alloc: Global) -> Arg<'a> {
+    argument(alloc, "history", "HISTORY").help(
+        "A history that `run --history` wrote, or some first lines of it",
+    )
 }
 
 fn replay_command<'a>(alloc: Global) -> Result<Command<'a>, AllocError> {
-    let history = argument(alloc, "history", "HISTORY").help(
-        "A history that `run --history` wrote, or some first lines of it",
-    );
-    Command::new(alloc, "replay")
+    let replay = Command::new(alloc, "replay")
         .about("Make the steps of a history again")
         .after_help(REPLAY_EXAMPLE)
-        .arg(source_argument(alloc))?
-        .arg(history)?
-        .arg(arena_option(alloc))
+        .arg(source_argument(alloc));
+    let replay = with_arg(replay, history_argument(alloc));
+    with_arg(replay, arena_option(alloc))
 }
 
 fn list_command<'a>(alloc: Global) -> Result<Command<'a>, AllocError> {
@@ -107,19 +133,15 @@ fn explain_command<'a>(alloc: Global) -> Result<Command<'a>, AllocError> {
         .arg(number)
 }
 
-/// The command line of the program.
-///
-/// # Errors
-///
-/// Only where memory was refused.
+// The command line of the program.
 pub(crate) fn program<'a>(alloc: Global) -> Result<Command<'a>, AllocError> {
-    Command::new(alloc, "hepf")
+    let whole = Command::new(alloc, "hepf")
         .version(VERSION)
         .about(ABOUT)
-        .after_help(EXAMPLES)
-        .subcommand(check_command(alloc)?)?
-        .subcommand(run_command(alloc)?)?
-        .subcommand(replay_command(alloc)?)?
-        .subcommand(list_command(alloc)?)?
-        .subcommand(explain_command(alloc)?)
+        .after_help(EXAMPLES);
+    let whole = with_command(Ok(whole), check_command(alloc));
+    let whole = with_command(whole, run_command(alloc));
+    let whole = with_command(whole, replay_command(alloc));
+    let whole = with_command(whole, list_command(alloc));
+    with_command(whole, explain_command(alloc))
 }

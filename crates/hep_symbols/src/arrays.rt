@@ -10,10 +10,18 @@ use std::marker::Model;
 
 /// Which names of a unit are arrays, and of what dimensions, by look-ups of constant time. Contracts see
 /// the statements of the unit.
-#[derive(Drop)]
 pub(crate) struct Arrays<'a> {
     statements: &'a [Statement],
     declarators: IndexMap<Name, &'a Declarator>,
+}
+
+impl<'a> Drop for Arrays<'a> {
+    fn drop(self) {
+        let Arrays {
+            statements,
+            declarators,
+        } = self;
+    }
 }
 
 impl<'a> Model for Arrays<'a> {

@@ -10,8 +10,9 @@ ghost use Rattle.hep_symbols.specs.Tables as tables;
 
 use crate::arrays::Arrays;
 use crate::occurrences::occurrences_by;
+use crate::table::{NameSet, Table};
 use hep_source::{Name, Occurrence};
-use indexmap::{IndexMap, IndexSet};
+use indexmap::IndexSet;
 use std::alloc::{AllocError, Global};
 
 fn add_name(names: &mut IndexSet<Name>, name: Name) -> Result<(), AllocError>
@@ -31,37 +32,41 @@ fn add_names(names: &mut IndexSet<Name>, occurrences: &[Occurrence]) -> Result<(
 }
 
 // The names of variables and constants of a unit, each once, in order of first appearance.
-pub(crate) fn names_of(alloc: Global, arrays: &Arrays) -> Result<IndexSet<Name>, AllocError>
-    ensures { IfOk result (λ names. names.keys ≡ variables.names_of arrays.now) }
+pub(crate) fn names_of(alloc: Global, arrays: &Arrays) -> Result<NameSet, AllocError>
+    ensures { IfOk result (λ names. names.set.keys ≡ variables.names_of arrays.now) }
 {
-    let mut names = IndexSet::new(alloc);
+    let mut names = NameSet {
+        set: IndexSet::new(alloc),
+    };
     for statement in arrays.statements() {
         let occurrences = occurrences_by(alloc, arrays, statement)?;
-        add_names(&mut names, &occurrences)?;
+        add_names(&mut names.set, &occurrences)?;
     }
     Ok(names)
 }
 
 fn is_local(
-    dummies: &IndexMap<Name, usize>,
-    blocks: &IndexMap<Name, Option<Name>>,
-    constants: &IndexSet<Name>,
+    dummies: &Table<usize>,
+    blocks: &Table<Option<Name>>,
+    constants: &NameSet,
     name: &Name,
 ) -> bool
-    ensures { result ≡ tables.is_local_by (get name_eq dummies.now) (get name_eq blocks.now) (contains name_eq constants.now) name.now }
+    ensures { result ≡ tables.is_local_by (get name_eq dummies.now.map) (get name_eq blocks.now.map) (contains name_eq constants.now.set) name.now }
 {
-    !dummies.contains_key(name) && !blocks.contains_key(name) && !constants.contains(name)
+    !dummies.map.contains_key(name)
+        && !blocks.map.contains_key(name)
+        && !constants.set.contains(name)
 }
 
 // Those of these names that are neither dummy arguments nor in COMMON, and no constants' either.
 pub(crate) fn locals_among(
     alloc: Global,
-    dummies: &IndexMap<Name, usize>,
-    blocks: &IndexMap<Name, Option<Name>>,
-    constants: &IndexSet<Name>,
+    dummies: &Table<usize>,
+    blocks: &Table<Option<Name>>,
+    constants: &NameSet,
     names: &[Name],
 ) -> Result<Vec<Name>, AllocError>
-    ensures { IfOk result (λ locals. locals.items ≡ filter (tables.is_local_by (get name_eq dummies.now) (get name_eq blocks.now) (contains name_eq constants.now)) names.now) }
+    ensures { IfOk result (λ locals. locals.items ≡ filter (tables.is_local_by (get name_eq dummies.now.map) (get name_eq blocks.now.map) (contains name_eq constants.now.set)) names.now) }
 {
     let mut locals = Vec::new(alloc);
     for name in names {

@@ -15,10 +15,15 @@ use std::alloc::{AllocError, Global};
 use std::marker::Model;
 
 /// The symbol tables of all units of a program, and its subroutines by name. Contracts see the units.
-#[derive(Drop)]
 pub struct ProgramSymbols<'a> {
     units: Vec<Symbols<'a>>,
     subroutines: IndexMap<Name, usize>,
+}
+
+impl<'a> Drop for ProgramSymbols<'a> {
+    fn drop(self) {
+        let ProgramSymbols { units, subroutines } = self;
+    }
 }
 
 impl<'a> Model for ProgramSymbols<'a> {

@@ -11,7 +11,7 @@ ghost use Rattle.hep_machine.specs.Declarations as declarations;
 ghost use Rattle.hep_symbols.specs.Tables as tables;
 ghost use Rattle.hep_source.specs.Names.{name_eq};
 
-use crate::table::{add, note};
+use crate::table::{NameSet, Table, add, note};
 use hep_source::{
     CommonBlock, Declarator, Form, ImplicitGroup, LetterRange, Name, NamedConstant, Occurrence,
     Statement, ValueType,
@@ -37,8 +37,8 @@ fn note_types(
 pub(crate) fn declared_types(
     alloc: Global,
     unit: &[Statement],
-) -> Result<IndexMap<Name, ValueType>, AllocError>
-    ensures { IfOk result (λ types. (x : PureName) → get name_eq types x ≡ declarations.declared_type x unit.now) }
+) -> Result<Table<ValueType>, AllocError>
+    ensures { IfOk result (λ types. (x : PureName) → get name_eq types.map x ≡ declarations.declared_type x unit.now) }
 {
     let mut types = IndexMap::new(alloc);
     for statement in unit {
@@ -46,7 +46,7 @@ pub(crate) fn declared_types(
             note_types(&mut types, *value_type, declarators.as_slice())?;
         }
     }
-    Ok(types)
+    Ok(Table { map: types })
 }
 
 fn note_block(
@@ -81,8 +81,8 @@ fn note_blocks(
 pub(crate) fn common_blocks(
     alloc: Global,
     unit: &[Statement],
-) -> Result<IndexMap<Name, Option<Name>>, AllocError>
-    ensures { IfOk result (λ blocks. (x : PureName) → get name_eq blocks x ≡ tables.first_in (tables.block_by_form x) unit.now) }
+) -> Result<Table<Option<Name>>, AllocError>
+    ensures { IfOk result (λ blocks. (x : PureName) → get name_eq blocks.map x ≡ tables.first_in (tables.block_by_form x) unit.now) }
 {
     let mut blocks = IndexMap::new(alloc);
     for statement in unit {
@@ -90,7 +90,7 @@ pub(crate) fn common_blocks(
             note_blocks(&mut blocks, named.as_slice())?;
         }
     }
-    Ok(blocks)
+    Ok(Table { map: blocks })
 }
 
 fn add_constants(constants: &mut IndexSet<Name>, given: &[NamedConstant]) -> Result<(), AllocError>
@@ -104,11 +104,8 @@ fn add_constants(constants: &mut IndexSet<Name>, given: &[NamedConstant]) -> Res
 }
 
 // The names of constants (8.6).
-pub(crate) fn constant_names(
-    alloc: Global,
-    unit: &[Statement],
-) -> Result<IndexSet<Name>, AllocError>
-    ensures { IfOk result (λ constants. (x : PureName) → contains name_eq constants x ≡ tables.any_in (tables.constant_by_form x) unit.now) }
+pub(crate) fn constant_names(alloc: Global, unit: &[Statement]) -> Result<NameSet, AllocError>
+    ensures { IfOk result (λ constants. (x : PureName) → contains name_eq constants.set x ≡ tables.any_in (tables.constant_by_form x) unit.now) }
 {
     let mut constants = IndexSet::new(alloc);
     for statement in unit {
@@ -116,26 +113,23 @@ pub(crate) fn constant_names(
             add_constants(&mut constants, given.as_slice())?;
         }
     }
-    Ok(constants)
+    Ok(NameSet { set: constants })
 }
 
 // The index of each dummy argument, the first where it stands twice (15.6.1).
-fn numbered(alloc: Global, dummies: &[Occurrence]) -> Result<IndexMap<Name, usize>, AllocError>
-    ensures { IfOk result (λ table. (x : PureName) → get name_eq table x ≡ tables.index_from 0 x dummies.now) }
+fn numbered(alloc: Global, dummies: &[Occurrence]) -> Result<Table<usize>, AllocError>
+    ensures { IfOk result (λ table. (x : PureName) → get name_eq table.map x ≡ tables.index_from 0 x dummies.now) }
 {
     let mut table = IndexMap::new(alloc);
     for (index, dummy) in dummies.iter().enumerate() {
         note(&mut table, dummy.name, index)?;
     }
-    Ok(table)
+    Ok(Table { map: table })
 }
 
 // The dummy arguments of a unit: those of its header (15.6.1).
-pub(crate) fn dummy_positions(
-    alloc: Global,
-    unit: &[Statement],
-) -> Result<IndexMap<Name, usize>, AllocError>
-    ensures { IfOk result (λ table. (x : PureName) → get name_eq table x ≡ tables.index_from 0 x (tables.dummies_in unit.now)) }
+pub(crate) fn dummy_positions(alloc: Global, unit: &[Statement]) -> Result<Table<usize>, AllocError>
+    ensures { IfOk result (λ table. (x : PureName) → get name_eq table.map x ≡ tables.index_from 0 x (tables.dummies_in unit.now)) }
 {
     match unit.first() {
         Some(
@@ -144,7 +138,9 @@ pub(crate) fn dummy_positions(
                 ..
             },
         ) => numbered(alloc, dummies.as_slice()),
-        _ => Ok(IndexMap::new(alloc)),
+        _ => Ok(Table {
+            map: IndexMap::new(alloc),
+        }),
     }
 }
 

@@ -10,24 +10,40 @@ use crate::names::{locals_among, names_of};
 use crate::specification::{
     LetterTypes, common_blocks, constant_names, declared_types, dummy_positions, implicit_types,
 };
+use crate::table::{NameSet, Table};
 use hep_source::{Dimension, Form, Name, Occurrence, Statement, ValueType};
-use indexmap::{IndexMap, IndexSet};
+use indexmap::IndexSet;
 use std::alloc::{AllocError, Global};
 use std::marker::Model;
 
 /// What the specification statements of a unit say of its names (X3.9-1978, section 8), by look-ups in
 /// tables. Contracts see the statements of the unit.
-#[derive(Drop)]
 pub struct Symbols<'a> {
     statements: &'a [Statement],
-    types: IndexMap<Name, ValueType>,
+    types: Table<ValueType>,
     letters: LetterTypes,
     arrays: Arrays<'a>,
-    dummies: IndexMap<Name, usize>,
-    blocks: IndexMap<Name, Option<Name>>,
-    constants: IndexSet<Name>,
-    names: IndexSet<Name>,
+    dummies: Table<usize>,
+    blocks: Table<Option<Name>>,
+    constants: NameSet,
+    names: NameSet,
     locals: Vec<Name>,
+}
+
+impl<'a> Drop for Symbols<'a> {
+    fn drop(self) {
+        let Symbols {
+            statements,
+            types,
+            letters,
+            arrays,
+            dummies,
+            blocks,
+            constants,
+            names,
+            locals,
+        } = self;
+    }
 }
 
 impl<'a> Model for Symbols<'a> {
@@ -46,7 +62,7 @@ impl<'a> Model for Symbols<'a> {
 
     ghost view = { λ a. a.statements.now };
 
-    ghost invariant = { λ a. Describes a.statements.now (get name_eq a.types) a.letters a.arrays (get name_eq a.dummies) (get name_eq a.blocks) (contains name_eq a.constants) a.names.keys a.locals.items };
+    ghost invariant = { λ a. Describes a.statements.now (get name_eq a.types.map) a.letters a.arrays (get name_eq a.dummies.map) (get name_eq a.blocks.map) (contains name_eq a.constants.set) a.names.set.keys a.locals.items };
 }
 
 impl<'a> Symbols<'a> {
@@ -65,7 +81,7 @@ impl<'a> Symbols<'a> {
         let blocks = common_blocks(alloc, statements)?;
         let constants = constant_names(alloc, statements)?;
         let names = names_of(alloc, &arrays)?;
-        let locals = locals_among(alloc, &dummies, &blocks, &constants, names.as_slice())?;
+        let locals = locals_among(alloc, &dummies, &blocks, &constants, names.set.as_slice())?;
         Ok(Symbols {
             statements,
             types,
@@ -98,7 +114,7 @@ impl<'a> Symbols<'a> {
     pub fn names(&self) -> &IndexSet<Name>
         ensures { result.now.keys ≡ variables.names_of self.now }
     {
-        &self.names
+        &self.names.set
     }
 
     /// The variables that an activation of the unit owns, in the same order: those that are neither dummy
@@ -113,7 +129,7 @@ impl<'a> Symbols<'a> {
     pub fn declared_type(&self, name: &Name) -> Option<ValueType>
         ensures { result ≡ declarations.declared_type name.now self.now }
     {
-        self.types.get(name).copied()
+        self.types.map.get(name).copied()
     }
 
     /// The type of a name: by a type statement, else by an IMPLICIT, else by its first letter; none where
@@ -161,7 +177,7 @@ impl<'a> Symbols<'a> {
     pub fn dummy_position(&self, name: &Name) -> Option<usize>
         ensures { result ≡ names.index_among name.now (units.dummies_of self.now) }
     {
-        self.dummies.get(name).copied()
+        self.dummies.map.get(name).copied()
     }
 
     /// The block of COMMON in which a name is (8.3), where blank COMMON has no name; none where the name
@@ -169,7 +185,7 @@ impl<'a> Symbols<'a> {
     pub fn common_block(&self, name: &Name) -> Option<Option<Name>>
         ensures { result ≡ declarations.common_block self.now name.now }
     {
-        self.blocks.get(name).copied()
+        self.blocks.map.get(name).copied()
     }
 
     /// The name is in COMMON (8.3).
@@ -183,7 +199,7 @@ impl<'a> Symbols<'a> {
     pub fn is_constant_name(&self, name: &Name) -> bool
         ensures { result ≡ declarations.is_constant_name self.now name.now }
     {
-        self.constants.contains(name)
+        self.constants.set.contains(name)
     }
 }
 

@@ -12,6 +12,28 @@ use hep_source::Name;
 use indexmap::{IndexMap, IndexSet};
 use std::alloc::AllocError;
 
+// A table of names, whose drop is a call: a function that owns several checks in a tenth of the time.
+pub(crate) struct Table<V: Drop> {
+    pub(crate) map: IndexMap<Name, V>,
+}
+
+impl<V: Drop> Drop for Table<V> {
+    fn drop(self) {
+        let Table { map } = self;
+    }
+}
+
+// A set of names, as a table.
+pub(crate) struct NameSet {
+    pub(crate) set: IndexSet<Name>,
+}
+
+impl Drop for NameSet {
+    fn drop(self) {
+        let NameSet { set } = self;
+    }
+}
+
 // Gives a name a value, unless it has one.
 pub(crate) fn note<V: Drop>(
     table: &mut IndexMap<Name, V>,

@@ -9,9 +9,14 @@ use std::alloc::{AllocError, Global};
 use std::marker::Model;
 
 /// Names with their values. Contracts see their list, in the order in which they were given.
-#[derive(Drop)]
 pub struct Constants {
     values: IndexMap<Name, Value>,
+}
+
+impl Drop for Constants {
+    fn drop(self) {
+        let Constants { values } = self;
+    }
 }
 
 impl Model for Constants {
@@ -55,9 +60,14 @@ impl Constants {
 }
 
 /// Names. Contracts see their list, the one that was added last first.
-#[derive(Drop)]
 pub struct NameSet {
     names: IndexSet<Name>,
+}
+
+impl Drop for NameSet {
+    fn drop(self) {
+        let NameSet { names } = self;
+    }
 }
 
 impl Model for NameSet {

@@ -19,10 +19,15 @@ use std::marker::Model;
 
 /// The constants that PARAMETER gave before a statement: those that are known, and the names of those that a
 /// violation leaves open.
-#[derive(Drop)]
 pub struct Parameters {
     known: Constants,
     doubtful: NameSet,
+}
+
+impl Drop for Parameters {
+    fn drop(self) {
+        let Parameters { known, doubtful } = self;
+    }
 }
 
 impl Model for Parameters {

@@ -31,10 +31,15 @@ pub enum KnownShape<'a> {
 
 /// The shapes of the names of a unit, by the first bounds that each is given. Contracts see the statements of
 /// the unit.
-#[derive(Drop)]
 pub struct Shapes<'a> {
     statements: &'a [Statement],
     shapes: IndexMap<Name, Option<Shape>>,
+}
+
+impl<'a> Drop for Shapes<'a> {
+    fn drop(self) {
+        let Shapes { statements, shapes } = self;
+    }
 }
 
 impl<'a> Model for Shapes<'a> {

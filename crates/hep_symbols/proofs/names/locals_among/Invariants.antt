@@ -7,4 +7,4 @@ use Rattle.hep_symbols.specs.Tables.{is_local_by}
 use Rattle.hep_symbols.proofs.names.locals_among.Given as goal
 
 abbrev pub invariant-loop-name : goal.invariant-loop-name
-invariant-loop-name l = l.locals.items ++ filter (is_local_by (get name_eq l.dummies) (get name_eq l.blocks) (contains name_eq l.constants)) (drop l.name-index l.names) ≡ filter (is_local_by (get name_eq l.dummies) (get name_eq l.blocks) (contains name_eq l.constants)) l.names
+invariant-loop-name l = l.locals.items ++ filter (is_local_by (get name_eq l.dummies.map) (get name_eq l.blocks.map) (contains name_eq l.constants.set)) (drop l.name-index l.names) ≡ filter (is_local_by (get name_eq l.dummies.map) (get name_eq l.blocks.map) (contains name_eq l.constants.set)) l.names

@@ -6,4 +6,4 @@ use Rattle.hep_machine.specs.Variables.{occurrences_in_statement}
 use Rattle.hep_symbols.proofs.names.names_of.Given as goal
 
 abbrev pub invariant-loop-statement : goal.invariant-loop-statement
-invariant-loop-statement l = with_names l.names.keys (names_of_occurrences (flat_map (occurrences_in_statement l.arrays) (drop l.statement-index l.statement-items))) ≡ with_names [] (names_of_occurrences (flat_map (occurrences_in_statement l.arrays) l.statement-items))
+invariant-loop-statement l = with_names l.names.set.keys (names_of_occurrences (flat_map (occurrences_in_statement l.arrays) (drop l.statement-index l.statement-items))) ≡ with_names [] (names_of_occurrences (flat_map (occurrences_in_statement l.arrays) l.statement-items))
