@@ -1,5 +1,3 @@
 pub mod Gathering
 pub mod Sums
-pub mod Entries
-pub mod Tables
 mod Worked

@@ -1,4 +1,3 @@
 pub mod Found
 pub mod Faults
-pub mod Lengths
 pub mod Listing

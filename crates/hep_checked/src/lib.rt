@@ -5,7 +5,6 @@
 #![tactic(auto)]
 
 mod checked;
-mod common;
 mod frames;
 mod listing;
 mod program;

@@ -6,8 +6,8 @@ ghost use Rattle.std.specs.List.{flat_map};
 ghost use Rattle.hep_machine.specs.Declarations.{blocks_of};
 ghost use Rattle.hep_checked.specs.Listing as words;
 
-use crate::common::CommonBlocks;
 use hep_check::Checked;
+use hep_common::CommonBlocks;
 use hep_source::{Name, Text};
 use itoa::Buffer;
 use std::alloc::{AllocError, Global};

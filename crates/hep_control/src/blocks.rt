@@ -20,11 +20,20 @@ pub(crate) struct BlockIf {
 
 /// The block IFs of the statements that were read, and the statements that fit none. Contracts see
 /// those that were read last first.
-#[derive(Drop)]
 pub(crate) struct BlockIfs {
     unclosed: Vec<BlockIf>,
     closed: Vec<BlockIf>,
     stray: Vec<usize>,
+}
+
+impl Drop for BlockIfs {
+    fn drop(self) {
+        let BlockIfs {
+            unclosed,
+            closed,
+            stray,
+        } = self;
+    }
 }
 
 impl Model for BlockIfs {

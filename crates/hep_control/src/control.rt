@@ -11,11 +11,20 @@ use std::alloc::{AllocError, Global};
 use std::marker::Model;
 
 /// A unit with tables of where one goes in it. Contracts see the unit.
-#[derive(Drop)]
 pub struct Control<'a> {
     labels: Labels<'a>,
     successors: Vec<Successors>,
     loops: Loops,
+}
+
+impl<'a> Drop for Control<'a> {
+    fn drop(self) {
+        let Control {
+            labels,
+            successors,
+            loops,
+        } = self;
+    }
 }
 
 impl<'a> Model for Control<'a> {

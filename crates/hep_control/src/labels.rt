@@ -19,10 +19,15 @@ use std::alloc::{AllocError, Global};
 use std::marker::Model;
 
 /// A unit with a table of its labels. Contracts see the unit.
-#[derive(Drop)]
 pub struct Labels<'a> {
     unit: &'a [Statement],
     indices: IndexMap<u32, usize>,
+}
+
+impl<'a> Drop for Labels<'a> {
+    fn drop(self) {
+        let Labels { unit, indices } = self;
+    }
 }
 
 impl<'a> Model for Labels<'a> {
@@ -173,7 +178,8 @@ fn executable_label(statement: &Statement) -> Option<u32>
     }
 }
 
-pub(crate) fn is_executable(form: &Form) -> bool
+/// Whether a statement is executable (X3.9-1978, 7.1).
+pub fn is_executable(form: &Form) -> bool
     ensures { result ≡ units.is_executable form.now }
 {
     match form {

@@ -7,12 +7,17 @@ use hep_source::{Form, Statement};
 use std::alloc::{AllocError, Global};
 
 /// DOs by the statements at which they end.
-#[derive(Drop)]
 pub(crate) struct Loops {
     // The innermost DO that ends at each statement, and past the last one.
     pub innermost: Vec<Option<usize>>,
     // For each DO the one around it that ends at the same statement.
     pub outer: Vec<Option<usize>>,
+}
+
+impl Drop for Loops {
+    fn drop(self) {
+        let Loops { innermost, outer } = self;
+    }
 }
 
 /// The DOs of a unit.

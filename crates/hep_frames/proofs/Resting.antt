@@ -18,11 +18,11 @@ rest-same s t out nodes rest e stacks =
     }
 
 pub rest-begun : (s t : State) (x : Activation) (out : ℕ → Bool) (nodes : Nodes) (first cells v k : ℕ) (n : Node) → IsAtRest s out nodes → nodes v ≡ None → nodes k ≡ Some n → t.activations ≡ s.activations ++ x ∷ [] → x.parent ≡ Some n.activation
-    → ((a : ℕ) → is_stacked t a ≡ also (length t.activations) (is_stacked s) a) → IsAtRest t (also (length t.activations) out) (with_node nodes v (new_node (length t.activations) first cells k) k)
+    → ((a : ℕ) → is_stacked t a ≡ also (length t.activations) (is_stacked s) a) → IsAtRest t (also (length t.activations) out) (with_node nodes v (new_node (length t.activations) x.unit first cells k) k)
 rest-begun s t x out nodes first cells v k n rest free at more owner stacks =
     let on : also (length t.activations) (is_stacked s) ≡ is_stacked t = one-test (also (length t.activations) (is_stacked s)) (is_stacked t) (λ a. sym (stacks a)) in
     record {
-      tree = subst (λ p. IsTree t p (also (length t.activations) out) (with_node nodes v (new_node (length t.activations) first cells k) k)) on (tree-entered s t x (is_stacked s) out nodes first cells v k n rest.tree free at more owner);
+      tree = subst (λ p. IsTree t p (also (length t.activations) out) (with_node nodes v (new_node (length t.activations) x.unit first cells k) k)) on (tree-entered s t x (is_stacked s) out nodes first cells v k n rest.tree free at more owner);
       wanted = subst (λ p. AreWantedBut None t p (also (length t.activations) out)) on (wanted-entered s t x (is_stacked s) out nodes k n rest.tree at more owner rest.wanted);
     }
 

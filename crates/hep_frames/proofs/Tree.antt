@@ -269,6 +269,7 @@ module _ (s : State) (on out : ℕ → Bool) (nodes : Nodes) (k : ℕ) (n : Node
       by_parent true j children =
           record {
             out_is = but-there n.activation r.activation out (other-activation l r apart e) old.out_is;
+            unit_is = old.unit_is;
             parent_is = parent-kept alone r.activation r.parent old.out_is old.parent_is;
             children_are = children;
             finished_is = old.finished_is;
@@ -276,6 +277,7 @@ module _ (s : State) (on out : ℕ → Bool) (nodes : Nodes) (k : ℕ) (n : Node
       by_parent false j children =
           record {
             out_is = but-there n.activation r.activation out (other-activation l r apart e) old.out_is;
+            unit_is = old.unit_is;
             parent_is = parent-kept alone r.activation r.parent old.out_is old.parent_is;
             children_are = children;
             finished_is = old.finished_is;

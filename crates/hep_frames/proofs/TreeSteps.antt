@@ -53,11 +53,11 @@ module _ (s : State) (on out : ℕ → Bool) (nodes : Nodes) (k : ℕ) (n : Node
       let old = tree.shown l r e in
       let it : r ≡ n = same_Some r n (sym e ∙ (ap nodes (eqb-true l k same) ∙ at)) in
       let its : nat_eq r.activation n.activation ≡ true = eq-eqb r.activation n.activation (ap (λ (z : Node). z.activation) it) in
-      record { out_is = old.out_is; parent_is = under-ended nodes k r.parent ∙ old.parent_is; children_are = old.children_are; finished_is = rw its refl }
+      record { out_is = old.out_is; unit_is = old.unit_is; parent_is = under-ended nodes k r.parent ∙ old.parent_is; children_are = old.children_are; finished_is = rw its refl }
   ended-known l r e false apart =
       let old = tree.shown l r e in
       let other : nat_eq r.activation n.activation ≡ false = other-number r.activation n.activation (λ same. eqb-false l k apart (tree.single l k r n e at same)) in
-      record { out_is = old.out_is; parent_is = under-ended nodes k r.parent ∙ old.parent_is; children_are = old.children_are; finished_is = rw other old.finished_is }
+      record { out_is = old.out_is; unit_is = old.unit_is; parent_is = under-ended nodes k r.parent ∙ old.parent_is; children_are = old.children_are; finished_is = rw other old.finished_is }
 
   pub tree-ended : IsTree s (but n.activation on) out (with_ended nodes k)
   tree-ended =
@@ -122,6 +122,12 @@ module _ (s t : State) (x : Activation) (on out : ℕ → Bool) (nodes : Nodes) 
   new-parent : parent_of t c ≡ Some p.activation
   new-parent = ap (λ (z : Activation). z.parent) (ap (activation_of t) long ∙ activation-last s t x more) ∙ owner
 
+  old-unit : (a : ℕ) → a ≤ length s.activations → (activation_of t a).unit ≡ (activation_of s a).unit
+  old-unit a le = ap (λ (z : Activation). z.unit) (activation-kept s t x a more le)
+
+  new-unit : (activation_of t c).unit ≡ x.unit
+  new-unit = ap (λ (z : Activation). z.unit) (ap (activation_of t) long ∙ activation-last s t x more)
+
   new-apart : (a : ℕ) → a ≤ length s.activations → nat_eq a c ≡ false
   new-apart a le = other-number a c (λ same. omega (arith, same, le, long))
 
@@ -164,7 +170,7 @@ module _ (s t : State) (x : Activation) (on out : ℕ → Bool) (nodes : Nodes) 
 module _ (s t : State) (x : Activation) (on out : ℕ → Bool) (nodes : Nodes) (first cells v k : ℕ) (p : Node) (tree : IsTree s on out nodes) (free : nodes v ≡ None) (at : nodes k ≡ Some p) (more : t.activations ≡ s.activations ++ x ∷ [])
     (owner : x.parent ≡ Some p.activation) where
   abbrev next : Nodes
-  next = with_node nodes v (new_node (length t.activations) first cells k) k
+  next = with_node nodes v (new_node (length t.activations) x.unit first cells k) k
 
   key-apart : (l : ℕ) (r : Node) → nodes l ≡ Some r → nat_eq l v ≡ false
   key-apart l r e = other-number l v (λ same. none-some r (sym free ∙ (sym (ap nodes same) ∙ e)))
@@ -175,18 +181,18 @@ module _ (s t : State) (x : Activation) (on out : ℕ → Bool) (nodes : Nodes) 
     by_key true = ap (option_map with_one_more) e
     by_key false = e
 
-  new-there : next v ≡ Some (new_node (length t.activations) first cells k)
+  new-there : next v ≡ Some (new_node (length t.activations) x.unit first cells k)
   new-there = rw (eq-eqb v v refl) refl
 
-  node-before : (l : ℕ) (m : Node) → next l ≡ Some m → ((l ≡ v) × (new_node (length t.activations) first cells k ≡ m)) ⊎ IsBefore nodes v k l m
+  node-before : (l : ℕ) (m : Node) → next l ≡ Some m → ((l ≡ v) × (new_node (length t.activations) x.unit first cells k ≡ m)) ⊎ IsBefore nodes v k l m
   node-before l m e = by_new (nat_eq l v) refl e where
     by_key : (b : Bool) → nat_eq l k ≡ b → (if b then option_map with_one_more (nodes l) else nodes l) ≡ Some m → IsBefore nodes v k l m
     by_key true j e = let found = mapped with_one_more (nodes l) m e in record { was = found.0; there = found.1; now = rw j found.2 }
     by_key false j e = record { was = m; there = e; now = rw j refl }
 
-    by_new : (b : Bool) → nat_eq l v ≡ b → (if b then Some (new_node (length t.activations) first cells k) else (if nat_eq l k then option_map with_one_more (nodes l) else nodes l)) ≡ Some m
-        → ((l ≡ v) × (new_node (length t.activations) first cells k ≡ m)) ⊎ IsBefore nodes v k l m
-    by_new true j e = inl (eqb-true l v j, same_Some (new_node (length t.activations) first cells k) m e)
+    by_new : (b : Bool) → nat_eq l v ≡ b → (if b then Some (new_node (length t.activations) x.unit first cells k) else (if nat_eq l k then option_map with_one_more (nodes l) else nodes l)) ≡ Some m
+        → ((l ≡ v) × (new_node (length t.activations) x.unit first cells k ≡ m)) ⊎ IsBefore nodes v k l m
+    by_new true j e = inl (eqb-true l v j, same_Some (new_node (length t.activations) x.unit first cells k) m e)
     by_new false j e = inr (by_key (nat_eq l k) refl e)
 
   -- the keys of parents stay
@@ -223,16 +229,20 @@ module _ (s t : State) (x : Activation) (on out : ℕ → Bool) (nodes : Nodes) 
         let other : nat_eq p.activation r.activation ≡ false = other-number p.activation r.activation (λ same. eqb-false l k j (tree.single l k r p e at (sym same))) in
         ap (λ m. m + 0) old.children_are ∙ (ap (λ z. children_out s out r.activation + (if z then 1 else 0)) (sym other) ∙ sym ((children-more s t x on out nodes k p tree at more owner) r.activation))
 
+    unit : r.unit ≡ (activation_of t r.activation).unit
+    unit = old.unit_is ∙ sym ((old-unit s t x on out nodes k p tree at more owner) r.activation made)
+
     by_key : (b : Bool) → nat_eq l k ≡ b → IsNode t (also (length t.activations) on) (also (length t.activations) out) next (if b then with_one_more r else r)
-    by_key true j = record { out_is = also-other (length t.activations) r.activation out apart ∙ old.out_is; parent_is = parent; children_are = children true j; finished_is = ending }
+    by_key true j = record { out_is = also-other (length t.activations) r.activation out apart ∙ old.out_is; unit_is = unit; parent_is = parent; children_are = children true j; finished_is = ending }
     by_key false j =
         let none : r.children ≡ r.children + 0 = omega arith in
-        record { out_is = also-other (length t.activations) r.activation out apart ∙ old.out_is; parent_is = parent; children_are = none ∙ children false j; finished_is = ending }
+        record { out_is = also-other (length t.activations) r.activation out apart ∙ old.out_is; unit_is = unit; parent_is = parent; children_are = none ∙ children false j; finished_is = ending }
 
-  new-known : IsNode t (also (length t.activations) on) (also (length t.activations) out) next (new_node (length t.activations) first cells k)
+  new-known : IsNode t (also (length t.activations) on) (also (length t.activations) out) next (new_node (length t.activations) x.unit first cells k)
   new-known =
       record {
         out_is = also-itself (length t.activations) out;
+        unit_is = sym (new-unit s t x on out nodes k p tree at more owner);
         parent_is = ap (option_map (λ (m : Node). Some m.activation)) (node-there k p at) ∙ (ap (λ a. Some (Some a)) (more-activation (nat_eq k k) p) ∙ ap (λ o. Some o) (sym (new-parent s t x on out nodes k p tree at more owner)));
         children_are = sym (none-yet s t x on out nodes k p tree at more owner);
         finished_is = ap not (sym (also-itself (length t.activations) on));
@@ -248,7 +258,7 @@ module _ (s t : State) (x : Activation) (on out : ℕ → Bool) (nodes : Nodes) 
 
     found : (a : ℕ) → also (length t.activations) out a ≡ true → (l : ℕ) × (m : Node) × (next l ≡ Some m) × (m.activation ≡ a)
     found a e = elim (also-parts (length t.activations) a out e) [
-      | inl same ↦ (v, new_node (length t.activations) first cells k, new-there, sym same)
+      | inl same ↦ (v, new_node (length t.activations) x.unit first cells k, new-there, sym same)
       | inr there ↦
           let old = tree.found a there.1 in
           (old.0, (if nat_eq old.0 k then with_one_more old.1 else old.1), node-there old.0 old.1 old.2, more-activation (nat_eq old.0 k) old.1 ∙ old.3)
@@ -259,12 +269,12 @@ module _ (s t : State) (x : Activation) (on out : ℕ → Bool) (nodes : Nodes) 
         let same : b.was.activation ≡ m.activation = sym (more-activation (nat_eq l k) b.was) ∙ ap (λ (z : Node). z.activation) b.now in
         (same, subst (λ a. a ≤ length s.activations) same (tree.made b.was.activation (tree.shown l b.was b.there).out_is).1)
 
-    new-not_old : (m r : Node) → new_node (length t.activations) first cells k ≡ m → r.activation ≤ length s.activations → m.activation ≡ r.activation → ⊥
+    new-not_old : (m r : Node) → new_node (length t.activations) x.unit first cells k ≡ m → r.activation ≤ length s.activations → m.activation ≡ r.activation → ⊥
     new-not_old m r new le same =
         let number : length t.activations ≡ m.activation = ap (λ (z : Node). z.activation) new in
         omega (arith, number, same, le, (long s t x on out nodes k p tree at more owner))
 
-    by_kinds : (l q : ℕ) (m r : Node) → m.activation ≡ r.activation → ((l ≡ v) × (new_node (length t.activations) first cells k ≡ m)) ⊎ IsBefore nodes v k l m → ((q ≡ v) × (new_node (length t.activations) first cells k ≡ r)) ⊎ IsBefore nodes v k q r → l ≡ q
+    by_kinds : (l q : ℕ) (m r : Node) → m.activation ≡ r.activation → ((l ≡ v) × (new_node (length t.activations) x.unit first cells k ≡ m)) ⊎ IsBefore nodes v k l m → ((q ≡ v) × (new_node (length t.activations) x.unit first cells k ≡ r)) ⊎ IsBefore nodes v k q r → l ≡ q
     by_kinds l q m r same (inl one) (inl two) = one.0 ∙ sym two.0
     by_kinds l q m r same (inl one) (inr two) = absurd (new-not_old m r one.1 (was-old q r two).1 same)
     by_kinds l q m r same (inr one) (inl two) = absurd (new-not_old r m two.1 (was-old l m one).1 (sym same))

@@ -69,10 +69,10 @@ of_units = (refl, refl, refl)
 -- ---- the tree
 
 abbrev main_node : ℕ → Node
-main_node children = record { activation = 1; first = 5; cells = 1; parent = None; children = children; finished = false }
+main_node children = record { activation = 1; unit = 0; first = 5; cells = 1; parent = None; children = children; finished = false }
 
 abbrev called_node : Node
-called_node = record { activation = 2; first = 7; cells = 13; parent = Some 0; children = 0; finished = false }
+called_node = record { activation = 2; unit = 1; first = 7; cells = 13; parent = Some 0; children = 0; finished = false }
 
 abbrev two_nodes : Nodes
 two_nodes k = if nat_eq k 0 then Some (main_node 1) else (if nat_eq k 1 then Some called_node else None)

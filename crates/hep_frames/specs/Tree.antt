@@ -3,16 +3,17 @@ use Rattle.std.specs.Prelude.{◌≡◌, ◌⊎◌, ℕ, zero, suc, ◌+◌, ◌
 use Rattle.std.specs.List.{flat_map}
 use Rattle.std.specs.Option.{option_map}
 use Rattle.hep_machine.specs.Layout.{Layout, activations_on}
-use Rattle.hep_machine.specs.Processes.{is_number_among, parent_of}
+use Rattle.hep_machine.specs.Processes.{activation_of, is_number_among, parent_of}
 use Rattle.hep_machine.specs.State.{State}
 use Rattle.hep_arena.specs.Gaps.{frame_among}
 
 -- ---- nodes
 
--- a frame that is out: its activation, its first cell and how many it has, the key of its parent's node, how many activations
+-- a frame that is out: its activation and the unit that this runs, its first cell and how many it has, the key of its parent's node, how many activations
 -- that are out have it as their parent, and whether its activation has ended
 pub record Node : Type 0 where
   pub activation : ℕ
+  pub unit : ℕ
   pub first : ℕ
   pub cells : ℕ
   pub parent : Option ℕ
@@ -59,6 +60,7 @@ is_stacked s a = is_number_among a (flat_map activations_on s.processes)
 -- a node says how its activation stands
 pub record IsNode (s : State) (on out : ℕ → Bool) (nodes : Nodes) (n : Node) : Type 0 where
   pub out_is : out n.activation ≡ true
+  pub unit_is : n.unit ≡ (activation_of s n.activation).unit
   pub parent_is : activation_under nodes n.parent ≡ Some (parent_of s n.activation)
   pub children_are : n.children ≡ children_out s out n.activation
   pub finished_is : n.finished ≡ not (on n.activation)
@@ -91,8 +93,8 @@ pub record IsAtRest (s : State) (out : ℕ → Bool) (nodes : Nodes) : Type 0 wh
 -- ---- what changes
 
 -- at the opening: the frame of the main program's activation under key v
-abbrev pub first_nodes : ℕ → ℕ → ℕ → Nodes
-first_nodes v first cells k = if nat_eq k v then Some (record { activation = 1; first = first; cells = cells; parent = None; children = 0; finished = false }) else None
+abbrev pub first_nodes : ℕ → ℕ → ℕ → ℕ → Nodes
+first_nodes v unit first cells k = if nat_eq k v then Some (record { activation = 1; unit = unit; first = first; cells = cells; parent = None; children = 0; finished = false }) else None
 
 -- one child less that is out
 abbrev pub with_one_less : Node → Node
@@ -113,8 +115,8 @@ abbrev pub with_ended : Nodes → ℕ → Nodes
 with_ended nodes k l = if nat_eq l k then option_map with_end (nodes l) else nodes l
 
 -- the frame of a new activation, whose parent's node is under key k
-abbrev pub new_node : ℕ → ℕ → ℕ → ℕ → Node
-new_node a first cells k = record { activation = a; first = first; cells = cells; parent = Some k; children = 0; finished = false }
+abbrev pub new_node : ℕ → ℕ → ℕ → ℕ → ℕ → Node
+new_node a unit first cells k = record { activation = a; unit = unit; first = first; cells = cells; parent = Some k; children = 0; finished = false }
 
 -- the nodes with node n under key v, a child of that under key k
 abbrev pub with_node : Nodes → ℕ → Node → ℕ → Nodes

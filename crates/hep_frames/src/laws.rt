@@ -6,7 +6,7 @@ ghost use Rattle.hep_source.specs.declared.name.Name.{Name};
 ghost use Rattle.hep_source.specs.declared.statement.Statement.{Statement};
 ghost use Rattle.hep_source.specs.declared.value.Value.{Value};
 ghost use Rattle.hep_source.specs.Names.{same_name, is_among, index_among};
-ghost use Rattle.hep_source.specs.Units.{Units, dummies_of, unit_at};
+ghost use Rattle.hep_source.specs.Units.{Units, dummies_of, main_unit, unit_at};
 ghost use Rattle.hep_machine.specs.Constants.{adjustable_dimensions, cells_of, cells_of_all, cells_before};
 ghost use Rattle.hep_machine.specs.Declarations.{BlockName, common_block, same_block, names_in_block};
 ghost use Rattle.hep_machine.specs.declared.slot.Slot.{Slot};
@@ -157,7 +157,7 @@ pub fn descriptors_stay()
 /// At the opening the main program's activation has the one node, and nothing is to be given back. A step
 /// that makes no activation leaves the tree, but for what is on stacks.
 pub fn trees_begin_and_stay()
-    ensures begins { (program : Units) (v first cells : ℕ) → IsAtRest (run program []) (λ a. nat_eq a 1) (first_nodes v first cells) }
+    ensures begins { (program : Units) (v first cells : ℕ) → IsAtRest (run program []) (λ a. nat_eq a 1) (first_nodes v (main_unit program) first cells) }
     ensures tree { (s t : State) (on out : ℕ → Bool) (nodes : Nodes) → t.activations ≡ s.activations → IsTree s on out nodes → IsTree t on out nodes }
     ensures wanted { (s t : State) (on out : ℕ → Bool) (exception : Option ℕ) → t.activations ≡ s.activations → AreWantedBut exception s on out → AreWantedBut exception t on out }
 {}
@@ -166,7 +166,7 @@ pub fn trees_begin_and_stay()
 /// stacks, or begins one. After one that ends the activation on top, that one alone may have to be given back.
 pub fn steps_lead_to_rest()
     ensures same { (s t : State) (out : ℕ → Bool) (nodes : Nodes) → IsAtRest s out nodes → t.activations ≡ s.activations → ((a : ℕ) → is_stacked t a ≡ is_stacked s a) → IsAtRest t out nodes }
-    ensures begun { (s t : State) (x : Activation) (out : ℕ → Bool) (nodes : Nodes) (first cells v k : ℕ) (n : Node) → IsAtRest s out nodes → nodes v ≡ None → nodes k ≡ Some n → t.activations ≡ s.activations ++ x ∷ [] → x.parent ≡ Some n.activation → ((a : ℕ) → is_stacked t a ≡ also (length t.activations) (is_stacked s) a) → IsAtRest t (also (length t.activations) out) (with_node nodes v (new_node (length t.activations) first cells k) k) }
+    ensures begun { (s t : State) (x : Activation) (out : ℕ → Bool) (nodes : Nodes) (first cells v k : ℕ) (n : Node) → IsAtRest s out nodes → nodes v ≡ None → nodes k ≡ Some n → t.activations ≡ s.activations ++ x ∷ [] → x.parent ≡ Some n.activation → ((a : ℕ) → is_stacked t a ≡ also (length t.activations) (is_stacked s) a) → IsAtRest t (also (length t.activations) out) (with_node nodes v (new_node (length t.activations) x.unit first cells k) k) }
     ensures ended { (s t : State) (out : ℕ → Bool) (nodes : Nodes) (k : ℕ) (n : Node) → IsAtRest s out nodes → nodes k ≡ Some n → t.activations ≡ s.activations → ((a : ℕ) → is_stacked t a ≡ but n.activation (is_stacked s) a) → IsTree t (is_stacked t) out (with_ended nodes k) × AreWantedBut (Some n.activation) t (is_stacked t) out }
 {}
 
@@ -200,14 +200,14 @@ pub fn activations_end()
 
 /// A new activation is a child of the one that makes it.
 pub fn activations_begin()
-    ensures tree { (s t : State) (x : Activation) (on out : ℕ → Bool) (nodes : Nodes) (first cells v k : ℕ) (n : Node) → IsTree s on out nodes → nodes v ≡ None → nodes k ≡ Some n → t.activations ≡ s.activations ++ x ∷ [] → x.parent ≡ Some n.activation → IsTree t (also (length t.activations) on) (also (length t.activations) out) (with_node nodes v (new_node (length t.activations) first cells k) k) }
+    ensures tree { (s t : State) (x : Activation) (on out : ℕ → Bool) (nodes : Nodes) (first cells v k : ℕ) (n : Node) → IsTree s on out nodes → nodes v ≡ None → nodes k ≡ Some n → t.activations ≡ s.activations ++ x ∷ [] → x.parent ≡ Some n.activation → IsTree t (also (length t.activations) on) (also (length t.activations) out) (with_node nodes v (new_node (length t.activations) x.unit first cells k) k) }
     ensures wanted { (s t : State) (x : Activation) (on out : ℕ → Bool) (nodes : Nodes) (k : ℕ) (n : Node) → IsTree s on out nodes → nodes k ≡ Some n → t.activations ≡ s.activations ++ x ∷ [] → x.parent ≡ Some n.activation → AreWantedBut None s on out → AreWantedBut None t (also (length t.activations) on) (also (length t.activations) out) }
 {}
 
 /// The nodes have the frames of the layout, whatever begins, ends or is given back; and the frames of what
 /// is out, without that of one activation, are those of what is out but that one.
 pub fn nodes_have_frames()
-    ensures begun { (s t : State) (x : Activation) (on out : ℕ → Bool) (nodes : Nodes) (first cells v k : ℕ) (n : Node) (layout : Layout) → IsTree s on out nodes → nodes v ≡ None → nodes k ≡ Some n → t.activations ≡ s.activations ++ x ∷ [] → x.parent ≡ Some n.activation → frame_among (length t.activations) layout ≡ None → AreFramed layout nodes → AreFramed (with_frame layout (record { activation = length t.activations; first = first; cells = cells })) (with_node nodes v (new_node (length t.activations) first cells k) k) }
+    ensures begun { (s t : State) (x : Activation) (on out : ℕ → Bool) (nodes : Nodes) (first cells v k : ℕ) (n : Node) (layout : Layout) → IsTree s on out nodes → nodes v ≡ None → nodes k ≡ Some n → t.activations ≡ s.activations ++ x ∷ [] → x.parent ≡ Some n.activation → frame_among (length t.activations) layout ≡ None → AreFramed layout nodes → AreFramed (with_frame layout (record { activation = length t.activations; first = first; cells = cells })) (with_node nodes v (new_node (length t.activations) x.unit first cells k) k) }
     ensures ended { (layout : Layout) (nodes : Nodes) (k : ℕ) → AreFramed layout nodes → AreFramed layout (with_ended nodes k) }
     ensures given { (s : State) (on out : ℕ → Bool) (layout : Layout) (nodes : Nodes) (k : ℕ) (n : Node) → IsTree s on out nodes → nodes k ≡ Some n → AreSingle layout → AreFramed layout nodes → AreFramed (without n.activation layout) (without_node nodes k n) }
     ensures layout { (out : ℕ → Bool) (a : ℕ) (layout : Layout) → AreSingle layout → without a (filter (λ (f : Frame). out f.activation) layout) ≡ filter (λ (f : Frame). but a out f.activation) layout }

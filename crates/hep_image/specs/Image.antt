@@ -8,9 +8,12 @@ use Rattle.hep_code.specs.Depths.{deepest}
 use Rattle.hep_code.specs.Limits.{most_operands}
 use Rattle.hep_code.specs.Stacks.{addressed_unit, entry_index}
 use Rattle.hep_code.specs.UnitCode.{code_of}
+use Rattle.hep_image.specs.Data.{AreInitial}
+use Rattle.hep_image.specs.Names.{names_in_order}
 use Rattle.hep_image.specs.Places.{addresses_of, arrays_of, array_of}
 use Rattle.hep_image.specs.Private.{private_cells}
 use Rattle.hep_image.specs.Supported.{first_unsupported}
+use Rattle.hep_image.specs.declared.data.DataRow.{DataRow}
 use Rattle.hep_image.specs.declared.unit.UnitCode.{UnitCode}
 
 -- the cells that a frame, and COMMON, may have at most: docs/LANGUAGE.md, "Limits"
@@ -28,11 +31,14 @@ pub record IsUnitCode (program : Units) (u : ℕ) (unit : UnitCode) : Type 0 whe
   pub few_cells : unit.cells ≤ most_cells
   pub private_are : unit.private ≡ private_cells (unit_at program u)
 
--- an image of an accepted program that can be run has all of its units and the cells of COMMON
-pub record IsImage (program : Units) (units : List UnitCode) (common : ℕ) : Type 0 where
+-- an image of an accepted program that can be run has all of its units, the cells of COMMON, what DATA gives at the
+-- opening, and the names
+pub record IsImage (program : Units) (units : List UnitCode) (common : ℕ) (rows : List DataRow) (names : List (List ℕ)) : Type 0 where
   pub accepted : IsAccepted program
   pub supported : first_unsupported program ≡ None
   pub all : length units ≡ length program
   pub units_are : (u : ℕ) (unit : UnitCode) → slice_get units u ≡ Some unit → IsUnitCode program u unit
   pub common_is : common ≡ common_cells program
   pub few_cells : common ≤ most_cells
+  pub initial : AreInitial program rows
+  pub named : names ≡ names_in_order program

@@ -4,4 +4,5 @@ pub mod Finding
 pub mod Within
 pub mod Supported
 pub mod Data
+pub mod Names
 pub mod Image

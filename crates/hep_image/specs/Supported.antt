@@ -1,12 +1,12 @@
 -- Which accepted programs can be run so far: docs/MACHINE.md, "The program".
-use Rattle.std.specs.Prelude.{ℕ, Bool, true, false, ◌||◌, if◌then◌else◌, List, [], ◌∷◌, Option, Some, None}
+use Rattle.std.specs.Prelude.{ℕ, Bool, true, false, ◌||◌, if◌then◌else◌, List, [], ◌∷◌, Option, Some, None, is_some}
 use Rattle.std.specs.List.{list_any}
 use Rattle.std.specs.Option.{option_or}
 use Rattle.hep_source.specs.declared.name.Occurrence.{Occurrence}
 use Rattle.hep_source.specs.declared.statement.Form.{Form}
 use Rattle.hep_source.specs.declared.statement.Form.TheVariants as form
 use Rattle.hep_source.specs.declared.statement.Statement.{Statement}
-use Rattle.hep_source.specs.Units.{Units, line_at}
+use Rattle.hep_source.specs.Units.{Units, line_at, main_among, unit_at}
 use Rattle.hep_machine.specs.Variables.{occurrences_in_statement}
 
 abbrev pub is_unsupported_form : Form → Bool
@@ -25,7 +25,11 @@ first_unsupported_among unit [] = None
 first_unsupported_among unit (s ∷ ss) = if is_unsupported unit s then Some s.line else first_unsupported_among unit ss
 
 -- in the order of the source; of a second unit its first statement
+abbrev pub first_unsupported_in : Units → Option ℕ
+first_unsupported_in [] = None
+first_unsupported_in (unit ∷ []) = first_unsupported_among unit unit
+first_unsupported_in (unit ∷ (second ∷ units)) = option_or (first_unsupported_among unit unit) (Some (line_at second 0))
+
+-- a program without a main program can't be run at all: that is told of its first statement
 abbrev pub first_unsupported : Units → Option ℕ
-first_unsupported [] = None
-first_unsupported (unit ∷ []) = first_unsupported_among unit unit
-first_unsupported (unit ∷ (second ∷ units)) = option_or (first_unsupported_among unit unit) (Some (line_at second 0))
+first_unsupported program = if is_some (main_among program) then first_unsupported_in program else Some (line_at (unit_at program 0) 0)

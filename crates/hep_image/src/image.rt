@@ -1,13 +1,17 @@
 //! Images.
-ghost use Rattle.std.specs.Prelude.{◌≡◌, ◌↔◌, ◌≤◌, ◌<◌, length, IfOk, IsTrue};
+ghost use Rattle.std.specs.Prelude.{◌≡◌, ◌↔◌, ◌≤◌, ◌<◌, None, length, option_map, slice_get, IfOk, IsTrue};
 ghost use Rattle.hep_check.specs.Conditions.{IsAccepted};
 ghost use Rattle.hep_machine.specs.Layout.{common_cells};
+ghost use Rattle.hep_image.specs.Data.{AreInitial};
 ghost use Rattle.hep_image.specs.Image as spec;
 ghost use Rattle.hep_image.specs.Image.{IsImage, IsUnitCode};
+ghost use Rattle.hep_image.specs.Names.{names_in_order};
+ghost use Rattle.hep_image.specs.Supported.{first_unsupported};
 
+use crate::data::DataRow;
 use crate::unit::UnitCode;
 use hep_base::Sequence;
-use hep_source::{Program, Syntax};
+use hep_source::{Program, Syntax, Text};
 use std::alloc::{AllocError, Global};
 use std::marker::Model;
 
@@ -18,6 +22,10 @@ pub struct Image {
     units: Sequence<UnitCode>,
     /// How many cells COMMON has.
     common: u32,
+    /// What DATA gives the cells of COMMON and of the main program's frame, which is just behind it.
+    rows: Sequence<DataRow>,
+    /// The names of the units, the variables and the common blocks.
+    names: Sequence<Text>,
 }
 
 impl Model for Image {
@@ -33,19 +41,28 @@ impl Model for Image {
 
     ghost view = { λ a. a.program };
 
-    ghost invariant = { λ a. IsImage a.program a.units a.common };
+    ghost invariant = { λ a. IsImage a.program a.units a.common a.rows a.names };
 }
 
 impl Image {
-    /// A program, what a core runs of its units, and how many cells COMMON has. `hep_lower` finds out all of it.
-    pub fn new(program: Program, units: Sequence<UnitCode>, common: u32) -> Image
-        requires { IsImage program units common }
+    /// A program, what a core runs of its units, how many cells COMMON has, what DATA gives at the opening, and
+    /// the names. `hep_lower` finds out all of it.
+    pub fn new(
+        program: Program,
+        units: Sequence<UnitCode>,
+        common: u32,
+        rows: Sequence<DataRow>,
+        names: Sequence<Text>,
+    ) -> Image
+        requires { IsImage program units common rows names }
         ensures { result ≡ program }
     {
         Image {
             program,
             units,
             common,
+            rows,
+            names,
         }
     }
 
@@ -72,6 +89,34 @@ impl Image {
         self.common
     }
 
+    /// What DATA gives the cells of the arena at the opening, where COMMON stands at its front and the frame of
+    /// the main program just behind it; of two rows that have a cell the first one counts.
+    pub fn rows(&self) -> &[DataRow]
+        ensures { AreInitial self.now result.now }
+    {
+        self.rows.as_slice()
+    }
+
+    /// The name with this number, counted from 0, of a unit, a variable or a common block: first the units in
+    /// the order of the source, a main program without PROGRAM statement as `MAIN`; then the variables of each
+    /// unit, and then the common blocks, in order of first appearance, blank COMMON as an empty name. None
+    /// where there is no such number.
+    pub fn name(&self, number: u32) -> Option<&[u8]>
+        ensures { option_map (λ name. name.now) result
+            ≡ slice_get (names_in_order self.now) number }
+    {
+        let name = self.names.as_slice().get(number as usize)?;
+        Some(name.as_slice())
+    }
+
+    /// What is known of each image: its program is accepted, and all of it can be run.
+    pub fn is_runnable(&self)
+        ensures accepted { IsAccepted self.now }
+        ensures supported { first_unsupported self.now ≡ None }
+    {
+        let _ = &self.program;
+    }
+
     /// The same image, in memory of its own.
     ///
     /// # Errors
@@ -84,6 +129,8 @@ impl Image {
             program: self.program.copy(alloc)?,
             units: self.units.copy(alloc)?,
             common: self.common,
+            rows: self.rows.copy(alloc)?,
+            names: self.names.copy(alloc)?,
         })
     }
 

@@ -26,7 +26,7 @@ use Rattle.hep_code.specs.UnitCode.{AddressedUnit, names_of, table_by, unplaced,
 use Rattle.hep_lower.specs.declared.names.Names.{Names}
 use Rattle.hep_lower.specs.declared.tables.Starts.{Starts}
 use Rattle.hep_lower.specs.declared.tables.Tables.{Tables}
-use Rattle.hep_lower.specs.Places.{variable_in, cells_in}
+use Rattle.hep_places.specs.Places.{variable_in, cells_in}
 use Rattle.hep_lower.specs.Starts.{starts_from, end_from}
 use Rattle.hep_lower.specs.Tables.{names_in, greatest, number_called, start_in, index_in, table_in, addressed_in}
 
@@ -40,7 +40,7 @@ start-before table n k (suc j) (s ∷ ss) = omega (arith, start-before table (n 
 module _ (addressed : AddressedUnit) (starts : Starts)
     (begins : starts.statements.items ≡ starts_from (unplaced addressed) 0 0 addressed.unit)
     (ends : starts.end ≡ end_from (unplaced addressed) 0 0 addressed.unit) where
-  start-is : (k : ℕ) → start_in starts k ≡ instructions_before (unplaced addressed) 0 addressed.unit k
+  pub start-is : (k : ℕ) → start_in starts k ≡ instructions_before (unplaced addressed) 0 addressed.unit k
   start-is k = rw (begins, ends) (omega (arith, start-before (unplaced addressed) 0 0 k addressed.unit))
 
   pub index-is : (target : Target) → index_in starts target ≡ index_of addressed target

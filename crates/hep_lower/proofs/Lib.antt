@@ -4,3 +4,6 @@ pub mod Indexes
 pub mod Asked
 pub mod Refusals
 pub mod Forms
+pub mod Additions
+pub mod Placing
+pub mod Told

@@ -1,7 +1,8 @@
-pub mod Places
 pub mod Destinations
 pub mod Beginnings
 pub mod Tables
 pub mod Limits
 pub mod Starts
 pub mod Asked
+pub mod Refusals
+pub mod Units

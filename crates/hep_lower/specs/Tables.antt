@@ -12,10 +12,10 @@ use Rattle.hep_code.specs.Tables.{NameTable, Table}
 use Rattle.hep_code.specs.Targets.{Target, at, end_of, onward, outward, inward, aside, labelled}
 use Rattle.hep_code.specs.UnitCode.{AddressedUnit}
 use Rattle.hep_lower.specs.declared.names.Names.{Names}
-use Rattle.hep_lower.specs.declared.places.Places.{Places}
+use Rattle.hep_places.specs.declared.places.Places.{Places}
 use Rattle.hep_lower.specs.declared.tables.Starts.{Starts}
 use Rattle.hep_lower.specs.declared.tables.Tables.{Tables}
-use Rattle.hep_lower.specs.Places.{variable_in, cells_in}
+use Rattle.hep_places.specs.Places.{variable_in, cells_in}
 
 unfoldable pub names_in : Names → NameTable
 names_in n =

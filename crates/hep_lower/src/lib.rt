@@ -1,4 +1,4 @@
-//! Lowering: the statements of a program unit become its code.
+//! Lowering: checked programs become images, and the statements of each unit its code.
 #![tactic(auto)]
 
 mod actuals;
@@ -10,13 +10,15 @@ mod lists;
 mod lowered;
 mod names;
 mod operations;
-mod places;
+mod program;
+mod spellings;
 mod statements;
 mod tables;
 mod unit;
+mod units;
 
 pub use fault::EmitFault;
 pub use lowered::{Lowered, lower_unit};
 pub use names::Names;
-pub use places::Places;
-pub use unit::{MOST_INSTRUCTIONS, emit_unit};
+pub use program::{MOST_CELLS, lower};
+pub use unit::{EmittedUnit, MOST_INSTRUCTIONS, emit_unit};

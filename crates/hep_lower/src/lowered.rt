@@ -1,26 +1,28 @@
 //! A unit's code with what is known of it.
-ghost use Rattle.std.specs.Prelude.{◌≡◌, ◌≤◌, length, IfOk, IfErr};
+ghost use Rattle.std.specs.Prelude.{◌≡◌, ◌≤◌, None, length, IfOk, IfErr};
 ghost use Rattle.hep_code.specs.Depths.{deepest, line_too_deep};
-ghost use Rattle.hep_code.specs.Limits.{most_instructions};
+ghost use Rattle.hep_code.specs.Limits.{most_instructions, most_operands};
+ghost use Rattle.hep_code.specs.Stacks.{entry_index};
 ghost use Rattle.hep_code.specs.UnitCode.{code_of};
 ghost use Rattle.hep_lower.specs.Limits.{IsOverLimit};
 ghost use Rattle.hep_lower.specs.Tables.{greatest, addressed_by};
 
 use crate::fault::EmitFault;
 use crate::names::Names;
-use crate::places::Places;
-use crate::unit::emit_unit;
+use crate::unit::{EmittedUnit, emit_unit};
 use hep_code::{Depth, Instruction, depth_of};
 use hep_control::control::Control;
 use hep_control::labels::Labels;
+use hep_places::Places;
 use hep_storage::constants::constants;
 use hep_symbols::{ProgramSymbols, Symbols};
 use std::alloc::Global;
 
-/// The code of a unit, and its deepest stack of operands.
+/// The code of a unit, the index at which an activation of it begins, and its deepest stack of operands.
 #[derive(Drop)]
 pub struct Lowered {
     pub code: Vec<Instruction>,
+    pub entry: u32,
     pub depth: Depth,
 }
 
@@ -37,9 +39,11 @@ pub fn lower_unit(
 ) -> Result<Lowered, EmitFault>
     requires { length program.now ≤ greatest }
     ensures code { IfOk result (λ lowered. lowered.code.items ≡ code_of (addressed_by symbols.now places.now program.now)) }
+    ensures entry { IfOk result (λ lowered. lowered.entry ≡ entry_index (addressed_by symbols.now places.now program.now)) }
     ensures short { IfOk result (λ lowered. length lowered.code.items ≤ most_instructions) }
     ensures operands { IfOk result (λ lowered. lowered.depth.operands ≡ deepest lowered.code.items) }
     ensures too_deep { IfOk result (λ lowered. lowered.depth.too_deep ≡ line_too_deep lowered.code.items) }
+    ensures few { IfOk result (λ lowered. lowered.depth.too_deep ≡ None → lowered.depth.operands ≤ most_operands) }
     ensures refused { IfErr result (IsOverLimit (length (code_of (addressed_by symbols.now places.now program.now)))) }
 {
     let control = Control::new(alloc, Labels::new(alloc, symbols.statements())?)?;
@@ -49,7 +53,7 @@ pub fn lower_unit(
         constants: &constants,
         places,
     };
-    let code = emit_unit(alloc, &names, program, &control)?;
+    let EmittedUnit { code, entry } = emit_unit(alloc, &names, program, &control)?;
     let depth = depth_of(&code);
-    Ok(Lowered { code, depth })
+    Ok(Lowered { code, entry, depth })
 }

@@ -3,8 +3,8 @@ ghost use Rattle.std.specs.Prelude.{◌≡◌};
 ghost use Rattle.hep_symbols.specs.Meanings.{meaning};
 ghost use Rattle.hep_lower.specs.Tables.{names_in};
 
-use crate::places::Places;
 use hep_code::Variable;
+use hep_places::Places;
 use hep_source::{Name, Value};
 use hep_symbols::{Meaning, Symbols};
 use hep_types::Constants;

@@ -18,7 +18,6 @@ pub(crate) struct Starts {
 }
 
 /// The tables of a unit.
-#[derive(Drop)]
 pub(crate) struct Tables<'a> {
     pub names: Names<'a>,
     pub program: &'a ProgramSymbols<'a>,
@@ -26,9 +25,20 @@ pub(crate) struct Tables<'a> {
     pub starts: Starts,
 }
 
+impl<'a> Drop for Tables<'a> {
+    fn drop(self) {
+        let Tables {
+            names,
+            program,
+            control,
+            starts,
+        } = self;
+    }
+}
+
 impl Starts {
     // Where the code of a statement begins.
-    fn start(&self, index: usize) -> u32
+    pub(crate) fn start(&self, index: usize) -> u32
         ensures { result ≡ spec.start_in self.now index }
     {
         self.statements.get(index).copied().unwrap_or(self.end)

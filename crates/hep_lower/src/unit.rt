@@ -1,7 +1,9 @@
 //! The code of a unit.
 ghost use Rattle.std.specs.Prelude.{◌≡◌, ◌<◌, ◌≤◌, length, IfOk, IfErr};
 ghost use Rattle.hep_machine.specs.Constants.{value_among, constant_value};
+ghost use Rattle.hep_source.specs.Units as units;
 ghost use Rattle.hep_code.specs.Limits.{most_instructions};
+ghost use Rattle.hep_code.specs.Stacks.{entry_index};
 ghost use Rattle.hep_code.specs.StatementCode.{statements_code};
 ghost use Rattle.hep_code.specs.UnitCode.{code_of};
 ghost use Rattle.hep_lower.specs.Limits.{IsOverLimit};
@@ -15,11 +17,21 @@ use crate::statements::emit_statement;
 use crate::tables::{Starts, Tables};
 use hep_code::{Instruction, Operation};
 use hep_control::control::Control;
+use hep_control::labels::is_executable;
+use hep_source::Statement;
 use hep_symbols::ProgramSymbols;
 use std::alloc::Global;
 
 /// The most instructions that a unit may have.
 pub const MOST_INSTRUCTIONS: usize = 1_048_576;
+
+/// The code of a unit, and the index at which an activation of it begins.
+#[derive(Drop)]
+pub struct EmittedUnit {
+    pub code: Code,
+    /// That of the first executable statement (X3.9-1978, 3.6).
+    pub entry: u32,
+}
 
 // The code of a unit, and where that of each statement begins.
 #[derive(Drop)]
@@ -42,6 +54,18 @@ fn index_after(code: &[Instruction]) -> Result<u32, EmitFault>
         Ok(index) => Ok(index),
         Err(_) => Err(EmitFault::TooLong),
     }
+}
+
+// The index of the first executable statement, and past the last one where there is none.
+fn first_executable(statements: &[Statement]) -> usize
+    ensures { result ≡ units.executable_from statements.now 0 }
+{
+    for (index, statement) in statements.iter().enumerate() {
+        if is_executable(&statement.form) {
+            return index;
+        }
+    }
+    statements.len()
 }
 
 // The code of the statements of a unit by its tables.
@@ -75,12 +99,13 @@ pub fn emit_unit(
     names: &Names,
     program: &ProgramSymbols,
     control: &Control,
-) -> Result<Vec<Instruction>, EmitFault>
+) -> Result<EmittedUnit, EmitFault>
     requires unit { control.now ≡ names.now.symbols.now }
     requires constants { value_among names.now.constants.now ≡ constant_value names.now.symbols.now }
     requires few_units { length program.now ≤ greatest }
-    ensures code { IfOk result (λ code. code.items ≡ code_of (addressed_in names.now program.now)) }
-    ensures short { IfOk result (λ code. length code.items ≤ most_instructions) }
+    ensures code { IfOk result (λ unit. unit.code.items ≡ code_of (addressed_in names.now program.now)) }
+    ensures entry { IfOk result (λ unit. unit.entry ≡ entry_index (addressed_in names.now program.now)) }
+    ensures short { IfOk result (λ unit. length unit.code.items ≤ most_instructions) }
     ensures refused { IfErr result (IsOverLimit (length (code_of (addressed_in names.now program.now)))) }
 {
     let statements = Vec::new(alloc);
@@ -93,5 +118,7 @@ pub fn emit_unit(
     };
     tables.starts = emit_statements(alloc, &tables)?.starts;
     let emitted = emit_statements(alloc, &tables)?;
-    Ok(emitted.code)
+    let code = emitted.code;
+    let entry = tables.starts.start(first_executable(control.unit()));
+    Ok(EmittedUnit { code, entry })
 }

@@ -1,6 +1,6 @@
 -- The code of programs in which nothing is unsupported.
 use Rattle.std.proofs.Common.{◌≡◌, ◌<◌, ℕ, zero, suc, Bool, true, false, List, [], ◌∷◌, Option, Some, None, refl, sym, ap, ◌∙◌, subst, true≢false, arith}
-use Rattle.std.specs.Prelude.{slice_get, length, if◌then◌else◌}
+use Rattle.std.specs.Prelude.{slice_get, length, if◌then◌else◌, is_some}
 use Rattle.std.specs.List.{list_any}
 use Rattle.std.specs.Option.{option_or}
 use Rattle.std.proofs.lemmas.Bool.{or_parts}
@@ -11,7 +11,7 @@ use Rattle.hep_source.specs.declared.name.Occurrence.{Occurrence}
 use Rattle.hep_source.specs.declared.statement.Form.{Form}
 use Rattle.hep_source.specs.declared.statement.Form.TheVariants as form
 use Rattle.hep_source.specs.declared.statement.Statement.{Statement}
-use Rattle.hep_source.specs.Units.{Units, line_at, unit_at}
+use Rattle.hep_source.specs.Units.{Units, dummies_by_header, dummies_of, is_main, line_at, main_among, main_unit, subroutine_by_header, subroutine_name, unit_at}
 use Rattle.hep_machine.specs.Declarations.{is_array, is_constant_name}
 use Rattle.hep_machine.specs.Variables.{occurrences_in_statement, occurrences_of}
 use Rattle.hep_check.specs.Statements.{Calling, calls_in, targets_purged}
@@ -24,7 +24,7 @@ use Rattle.hep_code.specs.Replies.{is_asynchronous}
 use Rattle.hep_image.specs.declared.array.Start.{Start}
 use Rattle.hep_image.specs.declared.array.Start.TheVariants.{Local, Common, Dummy}
 use Rattle.hep_image.specs.Places.{scalar, start_of, variable_by, variable_of}
-use Rattle.hep_image.specs.Supported.{first_unsupported, first_unsupported_among, is_unsupported, is_unsupported_form}
+use Rattle.hep_image.specs.Supported.{first_unsupported, first_unsupported_among, first_unsupported_in, is_unsupported, is_unsupported_form}
 use Rattle.hep_accepted.proofs.Members.{Has, flat_has}
 use Rattle.hep_accepted.proofs.Parts.{any-each}
 use Rattle.hep_placed.specs.Instructions.{IsOfOneActivation, IsWithinActivation, variables_in}
@@ -52,16 +52,58 @@ first_number : (u : ℕ) → u < 1 → u ≡ 0
 first_number u h = omega arith
 
 -- there is one unit alone
+alone_in : (program : Units) (u : ℕ) → first_unsupported_in program ≡ None → u < length program → (u ≡ 0) × (length program ≡ 1)
+alone_in [] u e h = absurd (omega arith)
+alone_in (unit ∷ []) u e h = (first_number u h, refl)
+alone_in (unit ∷ second ∷ units) u e h = absurd (no_second (first_unsupported_among unit unit) (line_at second 0) e)
+
+supported_in : (program : Units) (u : ℕ) (s : Statement) → first_unsupported_in program ≡ None → u < length program → Has (unit_at program u) s → is_unsupported (unit_at program u) s ≡ false
+supported_in [] u s e h g = absurd (omega arith)
+supported_in (unit ∷ []) u s e h g =
+    subst (λ v. Has (unit_at (unit ∷ []) v) s → is_unsupported (unit_at (unit ∷ []) v) s ≡ false) (sym (first_number u h)) (among unit unit s e) g
+supported_in (unit ∷ second ∷ units) u s e h g = absurd (no_second (first_unsupported_among unit unit) (line_at second 0) e)
+
+-- and it is a main program
+with_main : (o : Option ℕ) (line : ℕ) (rest : Option ℕ) → (if is_some o then rest else Some line) ≡ None → (is_some o ≡ true) × (rest ≡ None)
+with_main (Some n) line rest e = (refl, e)
+with_main None line rest e = absurd (none-some line (sym e))
+
+has_main : (program : Units) → first_unsupported program ≡ None → is_some (main_among program) ≡ true
+has_main program e = (with_main (main_among program) (line_at (unit_at program 0) 0) (first_unsupported_in program) e).0
+
+within : (program : Units) → first_unsupported program ≡ None → first_unsupported_in program ≡ None
+within program e = (with_main (main_among program) (line_at (unit_at program 0) 0) (first_unsupported_in program) e).1
+
 pub alone : (program : Units) (u : ℕ) → first_unsupported program ≡ None → u < length program → (u ≡ 0) × (length program ≡ 1)
-alone [] u e h = absurd (omega arith)
-alone (unit ∷ []) u e h = (first_number u h, refl)
-alone (unit ∷ second ∷ units) u e h = absurd (no_second (first_unsupported_among unit unit) (line_at second 0) e)
+alone program u e h = alone_in program u (within program e) h
 
 supported : (program : Units) (u : ℕ) (s : Statement) → first_unsupported program ≡ None → u < length program → Has (unit_at program u) s → is_unsupported (unit_at program u) s ≡ false
-supported [] u s e h g = absurd (omega arith)
-supported (unit ∷ []) u s e h g =
-    subst (λ v. Has (unit_at (unit ∷ []) v) s → is_unsupported (unit_at (unit ∷ []) v) s ≡ false) (sym (first_number u h)) (among unit unit s e) g
-supported (unit ∷ second ∷ units) u s e h g = absurd (no_second (first_unsupported_among unit unit) (line_at second 0) e)
+supported program u s e h g = supported_in program u s (within program e) h g
+
+no_dummies_in : (f : Form) → is_main (subroutine_by_header f) ≡ true → dummies_by_header f ≡ []
+no_dummies_in (form.Subroutine p dummies) e = absurd (true≢false (sym e))
+no_dummies_in _ e = refl
+
+no_dummies : (unit : List Statement) → is_main (subroutine_name unit) ≡ true → dummies_of unit ≡ []
+no_dummies [] e = refl
+no_dummies (s ∷ ss) e = no_dummies_in s.form e
+
+-- which is a main program, and has no dummy arguments
+record IsMainAlone (program : Units) : Type 0 where
+  pub one : length program ≡ 1
+  pub first : main_unit program ≡ 0
+  pub none : dummies_of (unit_at program 0) ≡ []
+
+main_in : (program : Units) → first_unsupported_in program ≡ None → is_some (main_among program) ≡ true → IsMainAlone program
+main_in [] e h = absurd (true≢false (sym h))
+main_in (unit ∷ []) e h = by_main (is_main (subroutine_name unit)) refl h where
+  by_main : (b : Bool) → is_main (subroutine_name unit) ≡ b → is_some {T = ℕ} (if b then Some 0 else None) ≡ true → IsMainAlone (unit ∷ [])
+  by_main true f g = record { one = refl; first = rw f refl; none = no_dummies unit f }
+  by_main false f g = absurd (true≢false (sym g))
+main_in (unit ∷ second ∷ units) e h = absurd (no_second (first_unsupported_among unit unit) (line_at second 0) e)
+
+pub main_alone : (program : Units) → first_unsupported program ≡ None → (length program ≡ 1) × (main_unit program ≡ 0) × (dummies_of (unit_at program 0) ≡ [])
+main_alone program e = let m = main_in program (within program e) (has_main program e) in (m.one, m.first, m.none)
 
 no_call : (f : Form) (c : Calling) → is_unsupported_form f ≡ false → Has (calls_in f) c → ⊥
 no_call (form.Call p ts) c e h = true≢false e

@@ -1,8 +1,8 @@
 //! Laws of the code of accepted programs: where the variables in it are, and what it calls.
-ghost use Rattle.std.specs.Prelude.{◌≡◌, ◌<◌, ℕ, Bool, true, List, Some, None, slice_get, length};
+ghost use Rattle.std.specs.Prelude.{◌≡◌, ◌<◌, ℕ, Bool, true, List, [], Some, None, slice_get, length};
 ghost use Rattle.hep_source.specs.declared.name.Name.{Name};
 ghost use Rattle.hep_source.specs.declared.statement.Statement.{Statement};
-ghost use Rattle.hep_source.specs.Units.{Units, unit_at};
+ghost use Rattle.hep_source.specs.Units.{Units, dummies_of, main_unit, unit_at};
 ghost use Rattle.hep_machine.specs.Constants.{adjustable_dimensions, constant_shape};
 ghost use Rattle.hep_machine.specs.Declarations.{is_array};
 ghost use Rattle.hep_machine.specs.Shapes.{Bounds, is_shape};
@@ -31,10 +31,12 @@ pub fn variables_of_the_code_are_placed()
     laws::constants_agree();
 }
 
-/// Where a program has nothing that isn't supported, it has one unit alone, in whose code no activation
-/// begins and nothing is purged or passed, and each variable has storage units and no `$`.
+/// Where a program has nothing that isn't supported, it has one unit alone, a main program without dummy
+/// arguments, in whose code no activation begins and nothing is purged or passed, and each variable has
+/// storage units and no `$`.
 pub fn supported_code()
     ensures one { (program : Units) (u : ℕ) → first_unsupported program ≡ None → u < length program → (u ≡ 0) × (length program ≡ 1) }
+    ensures main { (program : Units) → first_unsupported program ≡ None → (length program ≡ 1) × (main_unit program ≡ 0) × (dummies_of (unit_at program 0) ≡ []) }
     ensures activation { (program : Units) (u i : ℕ) (x : Instruction) → IsAccepted program → first_unsupported program ≡ None → u < length program → slice_get (code_in program u) i ≡ Some x → IsOfOneActivation x }
     ensures plain { (program : Units) (u i : ℕ) (x : Instruction) → IsAccepted program → first_unsupported program ≡ None → u < length program → slice_get (code_in program u) i ≡ Some x → ArePlain (variables_in x) }
     ensures placed { (program : Units) (u i : ℕ) (x : Instruction) → IsAccepted program → first_unsupported program ≡ None → u < length program → slice_get (code_in program u) i ≡ Some x → ArePlaced (variables_in x) }

@@ -44,7 +44,7 @@ module _ (program : Units) (s t : State) (x : Activation) (on out : ℕ → Bool
     (kept : Keeps program s on out layout wanted before old) (at : old k ≡ Some n) (begun : IsBegun s t x) (owner : x.parent ≡ Some n.activation)
     (free : old v ≡ None) (fit : first_fit (frame_of program t (length t.activations)) before.holes ≡ Some first)
     (took : IsTaken (frame_of program t (length t.activations)) first before after)
-    (nodes : new ≡ with_node old v (new_node (length t.activations) first (frame_of program t (length t.activations)) k) k) where
+    (nodes : new ≡ with_node old v (new_node (length t.activations) x.unit first (frame_of program t (length t.activations)) k) k) where
   abbrev a : ℕ
   a = length t.activations
 

@@ -3,7 +3,7 @@ use Rattle.std.proofs.Common.{◌≡◌, ◌⊎◌, inl, inr, ℕ, Bool, true, f
 use Rattle.std.specs.Prelude.{if◌then◌else◌, nat_eq, nat_lt, slice_get, is_some}
 use Rattle.std.specs.Option.{option_map}
 use Rattle.std.proofs.lemmas.Option.{same_Some, none-some}
-use Rattle.hep_source.specs.Units.{Units}
+use Rattle.hep_source.specs.Units.{Units, main_unit}
 use Rattle.hep_machine.specs.declared.slot.Slot.{Slot}
 use Rattle.hep_machine.specs.Access.{unset_cell}
 use Rattle.hep_machine.specs.Layout.{Frame, common_cells, frame_of, layout_with_activation, lowest_gap, opening_layout, with_frame}
@@ -75,7 +75,7 @@ same-frame program s t a e = ap (λ (xs : List Activation). frame_of program (re
 
 module _ (program : Units) (s : State) (wanted : Wanted) (before after : Space) (old new : Nodes) (v first cells : ℕ)
     (unused : IsUnused (common_cells program) before old) (starts : IsOpening program s) (size : cells ≡ frame_of program s 1)
-    (fit : first_fit cells before.holes ≡ Some first) (took : IsTaken cells first before after) (nodes : new ≡ first_nodes v first cells)
+    (fit : first_fit cells before.holes ≡ Some first) (took : IsTaken cells first before after) (nodes : new ≡ first_nodes v (main_unit program) first cells)
     (blank : (c : FramePart × ℕ) (w : Slot) → wanted 1 c ≡ Some w → w ≡ unset_cell) where
   one : length s.activations ≡ 1
   one = ap (λ (xs : List Activation). length xs) starts.activations_are ∙ (ap (λ (u : State). length u.activations) (opening-is program) ∙ opening-length program)
@@ -130,16 +130,16 @@ module _ (program : Units) (s : State) (wanted : Wanted) (before after : Space) 
           let there = framed program bare_state (length before.contents) [] a c p bare-memory.laid e in
           absurd (none-some there.frame there.framed)
 
-  rest-now : IsAtRest s (λ a. nat_eq a 1) (first_nodes v first cells)
+  rest-now : IsAtRest s (λ a. nat_eq a 1) (first_nodes v (main_unit program) first cells)
   rest-now =
-      rest-same (run program []) s (λ a. nat_eq a 1) (first_nodes v first cells) (rest-first program v first cells) starts.activations_are
+      rest-same (run program []) s (λ a. nat_eq a 1) (first_nodes v (main_unit program) first cells) (rest-first program v first cells) starts.activations_are
       (λ a. ap (λ (qs : List Process). is_stacked (record s { processes = qs }) a) starts.processes_are)
 
-  framed-now : AreFramed (frame ∷ []) (first_nodes v first cells)
+  framed-now : AreFramed (frame ∷ []) (first_nodes v (main_unit program) first cells)
   framed-now k n e = by_key (nat_eq k v) e where
-    by_key : (b : Bool) → (if b then Some (record { activation = 1; first = first; cells = cells; parent = None; children = 0; finished = false }) else None) ≡ Some n
+    by_key : (b : Bool) → (if b then Some (record { activation = 1; unit = main_unit program; first = first; cells = cells; parent = None; children = 0; finished = false }) else None) ≡ Some n
         → frame_among n.activation (frame ∷ []) ≡ Some (record { activation = n.activation; first = n.first; cells = n.cells })
-    by_key true d = subst (λ (z : TreeNode). frame_among z.activation (frame ∷ []) ≡ Some (record { activation = z.activation; first = z.first; cells = z.cells })) (same_Some (record { activation = 1; first = first; cells = cells; parent = None; children = 0; finished = false }) n d) refl
+    by_key true d = subst (λ (z : TreeNode). frame_among z.activation (frame ∷ []) ≡ Some (record { activation = z.activation; first = z.first; cells = z.cells })) (same_Some (record { activation = 1; unit = main_unit program; first = first; cells = cells; parent = None; children = 0; finished = false }) n d) refl
     by_key false d = absurd (none-some n d)
 
   frames-now : (a : ℕ) → is_some (frame_among a (frame ∷ [])) ≡ nat_eq a 1

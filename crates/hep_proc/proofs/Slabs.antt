@@ -72,11 +72,11 @@ given-first old mid k r e u f n g l = by_key (nat_eq l k) refl where
 -- ---- a node is added
 
 -- the first one
-pub opened-nodes : (old new : Nodes) (v first cells : ℕ) → ((k : ℕ) → old k ≡ None)
-    → new v ≡ Some (record { activation = 1; first = first; cells = cells; parent = None; children = 0; finished = false }) → ((k : ℕ) → nat_eq k v ≡ false → new k ≡ old k)
-    → new ≡ first_nodes v first cells
-opened-nodes old new v first cells none there others = one-tree new (first_nodes v first cells) (λ k. by_key k (nat_eq k v) refl) where
-  by_key : (k : ℕ) (b : Bool) → nat_eq k v ≡ b → new k ≡ (if b then Some (record { activation = 1; first = first; cells = cells; parent = None; children = 0; finished = false }) else None)
+pub opened-nodes : (old new : Nodes) (v unit first cells : ℕ) → ((k : ℕ) → old k ≡ None)
+    → new v ≡ Some (record { activation = 1; unit = unit; first = first; cells = cells; parent = None; children = 0; finished = false }) → ((k : ℕ) → nat_eq k v ≡ false → new k ≡ old k)
+    → new ≡ first_nodes v unit first cells
+opened-nodes old new v unit first cells none there others = one-tree new (first_nodes v unit first cells) (λ k. by_key k (nat_eq k v) refl) where
+  by_key : (k : ℕ) (b : Bool) → nat_eq k v ≡ b → new k ≡ (if b then Some (record { activation = 1; unit = unit; first = first; cells = cells; parent = None; children = 0; finished = false }) else None)
   by_key k true e = ap new (eqb-true k v e) ∙ there
   by_key k false e = others k e ∙ none k
 

@@ -6,7 +6,7 @@ use Rattle.hep_frames.specs.Tree.{Node as TreeNode, Nodes, with_one_less, with_o
 use Rattle.hep_proc.specs.declared.nodes.Node.{Node}
 
 abbrev pub shown : Node → TreeNode
-shown n = record { activation = n.activation; first = n.block.at; cells = n.block.len; parent = n.parent; children = n.children; finished = n.finished }
+shown n = record { activation = n.activation; unit = n.unit; first = n.block.at; cells = n.block.len; parent = n.parent; children = n.children; finished = n.finished }
 
 abbrev pub nodes_of : Slab Node → Nodes
 nodes_of slab key = option_map shown (get slab key)

@@ -2,7 +2,7 @@
 ghost use Rattle.std.specs.Prelude.{◌≡◌, ◌+◌, ◌<◌, ◌≤◌, ◌++◌, ◌∷◌, [], ℕ, nat_eq, Bool, List, Some, None, IfOk, IsOk, IsSome, OnOk, length, slice_get, slice_set, true, false};
 ghost use Rattle.std.specs.Option.{is_some};
 ghost use Rattle.slab.specs.Slab.{ContainsKey, HasRoomFor, slab_len};
-ghost use Rattle.hep_source.specs.Units.{Units};
+ghost use Rattle.hep_source.specs.Units.{Units, main_unit};
 ghost use Rattle.hep_machine.specs.Access.{unset_cell};
 ghost use Rattle.hep_machine.specs.declared.slot.Slot.{Slot};
 ghost use Rattle.hep_machine.specs.Layout.{Layout, common_cells, frame_of, lowest_gap, opening_layout, with_frame};
@@ -28,7 +28,8 @@ use std::alloc::{AllocError, Global};
 #[derive(Drop)]
 pub struct Frames {
     nodes: Slab<Node>,
-    arena: Arena,
+    /// The cells. No call of it takes or gives back cells but those of the frames.
+    pub arena: Arena,
 }
 
 impl Frames {
@@ -83,24 +84,26 @@ impl Frames {
         self.nodes.reserve(1)
     }
 
-    /// The frame of the main program's activation enters. Answers the key of its node.
+    /// The frame of the main program's activation enters, which runs the unit of this index. Answers the key of
+    /// its node.
     ///
     /// No frame is out, there is room for a node, and a gap of so many cells, one at least.
-    pub fn open(&mut self, cells: u32) -> usize
+    pub fn open(&mut self, unit: u32, cells: u32) -> usize
         requires room { HasRoomFor self.old.nodes 1 }
         requires some { 1 ≤ cells }
         requires gap { IsSome (first_fit cells self.old.arena.holes) }
         ensures taken { (first : ℕ) → first_fit cells self.old.arena.holes ≡ Some first → IsTaken cells first self.old.arena self.new.arena }
-        ensures nodes { (first : ℕ) → first_fit cells self.old.arena.holes ≡ Some first → ((key : ℕ) → nodes_of self.old.nodes key ≡ None) → nodes_of self.new.nodes ≡ first_nodes result first cells }
-        ensures opened { (program : Units) (s : State) (wanted : Wanted) → IsUnused (common_cells program) self.old.arena (nodes_of self.old.nodes) → IsOpening program s → cells ≡ frame_of program s 1 → ((c : FramePart × ℕ) (v : Slot) → wanted 1 c ≡ Some v → v ≡ unset_cell) → (layout : Layout) × (opening_layout program (length self.old.arena.contents) ≡ Some layout) × Keeps program s (is_stacked s) (λ a. nat_eq a 1) layout wanted self.new.arena (nodes_of self.new.nodes) }
+        ensures nodes { (first : ℕ) → first_fit cells self.old.arena.holes ≡ Some first → ((key : ℕ) → nodes_of self.old.nodes key ≡ None) → nodes_of self.new.nodes ≡ first_nodes result unit first cells }
+        ensures opened { (program : Units) (s : State) (wanted : Wanted) → IsUnused (common_cells program) self.old.arena (nodes_of self.old.nodes) → IsOpening program s → unit ≡ main_unit program → cells ≡ frame_of program s 1 → ((c : FramePart × ℕ) (v : Slot) → wanted 1 c ≡ Some v → v ≡ unset_cell) → (layout : Layout) × (opening_layout program (length self.old.arena.contents) ≡ Some layout) × Keeps program s (is_stacked s) (λ a. nat_eq a 1) layout wanted self.new.arena (nodes_of self.new.nodes) }
     {
-        self.add(1, cells, None)
+        self.add(1, unit, cells, None)
     }
 
-    /// The frame of a new activation enters, whose parent's node is under a key. Answers the key of its node.
+    /// The frame of a new activation enters, which runs the unit of an index and whose parent's node is under a
+    /// key. Answers the key of its node.
     ///
     /// There is room for a node, and a gap of so many cells, one at least.
-    pub fn enter(&mut self, activation: u64, cells: u32, parent: usize) -> usize
+    pub fn enter(&mut self, activation: u64, unit: u32, cells: u32, parent: usize) -> usize
         requires room { HasRoomFor self.old.nodes 1 }
         requires some { 1 ≤ cells }
         requires gap { IsSome (first_fit cells self.old.arena.holes) }
@@ -108,27 +111,28 @@ impl Frames {
         requires few { CanCount (nodes_of self.old.nodes) parent }
         ensures vacant { nodes_of self.old.nodes result ≡ None }
         ensures taken { (first : ℕ) → first_fit cells self.old.arena.holes ≡ Some first → IsTaken cells first self.old.arena self.new.arena }
-        ensures nodes { (first : ℕ) → first_fit cells self.old.arena.holes ≡ Some first → nodes_of self.new.nodes ≡ with_node (nodes_of self.old.nodes) result (new_node activation first cells parent) parent }
-        ensures begun { (program : Units) (s t : State) (x : Activation) (on out : ℕ → Bool) (layout : Layout) (wanted : Wanted) (n : TreeNode) → Keeps program s on out layout wanted self.old.arena (nodes_of self.old.nodes) → nodes_of self.old.nodes parent ≡ Some n → IsBegun s t x → x.parent ≡ Some n.activation → activation ≡ length t.activations → cells ≡ frame_of program t (length t.activations) → (first : ℕ) × (lowest_gap (length self.old.arena.contents) cells (common_cells program) layout ≡ Some first) × Keeps program t (also (length t.activations) on) (also (length t.activations) out) (with_frame layout (frame_from program t (length t.activations) first)) (with_unset (length t.activations) wanted) self.new.arena (nodes_of self.new.nodes) }
+        ensures nodes { (first : ℕ) → first_fit cells self.old.arena.holes ≡ Some first → nodes_of self.new.nodes ≡ with_node (nodes_of self.old.nodes) result (new_node activation unit first cells parent) parent }
+        ensures begun { (program : Units) (s t : State) (x : Activation) (on out : ℕ → Bool) (layout : Layout) (wanted : Wanted) (n : TreeNode) → Keeps program s on out layout wanted self.old.arena (nodes_of self.old.nodes) → nodes_of self.old.nodes parent ≡ Some n → IsBegun s t x → x.parent ≡ Some n.activation → activation ≡ length t.activations → unit ≡ x.unit → cells ≡ frame_of program t (length t.activations) → (first : ℕ) × (lowest_gap (length self.old.arena.contents) cells (common_cells program) layout ≡ Some first) × Keeps program t (also (length t.activations) on) (also (length t.activations) out) (with_frame layout (frame_from program t (length t.activations) first)) (with_unset (length t.activations) wanted) self.new.arena (nodes_of self.new.nodes) }
     {
-        let key = self.add(activation, cells, Some(parent));
+        let key = self.add(activation, unit, cells, Some(parent));
         nodes::gain_child(&mut self.nodes, parent);
         key
     }
 
     // A node that has no children, and its block.
-    fn add(&mut self, activation: u64, cells: u32, parent: Option<usize>) -> usize
+    fn add(&mut self, activation: u64, unit: u32, cells: u32, parent: Option<usize>) -> usize
         requires room { HasRoomFor self.old.nodes 1 }
         requires some { 1 ≤ cells }
         requires gap { IsSome (first_fit cells self.old.arena.holes) }
         ensures vacant { nodes_of self.old.nodes result ≡ None }
-        ensures node { (first : ℕ) → first_fit cells self.old.arena.holes ≡ Some first → nodes_of self.new.nodes result ≡ Some (record { activation = activation; first = first; cells = cells; parent = parent; children = 0; finished = false }) }
+        ensures node { (first : ℕ) → first_fit cells self.old.arena.holes ≡ Some first → nodes_of self.new.nodes result ≡ Some (record { activation = activation; unit = unit; first = first; cells = cells; parent = parent; children = 0; finished = false }) }
         ensures others { (k : ℕ) → nat_eq k result ≡ false → nodes_of self.new.nodes k ≡ nodes_of self.old.nodes k }
         ensures taken { (first : ℕ) → first_fit cells self.old.arena.holes ≡ Some first → IsTaken cells first self.old.arena self.new.arena }
     {
         let block = self.arena.take(cells).unwrap();
         self.nodes.insert_reserved(Node {
             activation,
+            unit,
             block,
             parent,
             children: 0,
@@ -197,6 +201,30 @@ impl Frames {
         ensures { (n : TreeNode) → nodes_of self.now.nodes key ≡ Some n → result ≡ n.first }
     {
         self.nodes[key].block.at()
+    }
+
+    /// How many cells the frame under a key has.
+    pub fn cells(&self, key: usize) -> u32
+        requires { ContainsKey self.now.nodes key }
+        ensures { (n : TreeNode) → nodes_of self.now.nodes key ≡ Some n → result ≡ n.cells }
+    {
+        self.nodes[key].block.len()
+    }
+
+    /// Whose frame is under a key: the number of its activation.
+    pub fn activation(&self, key: usize) -> u64
+        requires { ContainsKey self.now.nodes key }
+        ensures { (n : TreeNode) → nodes_of self.now.nodes key ≡ Some n → result ≡ n.activation }
+    {
+        self.nodes[key].activation
+    }
+
+    /// The index of the unit that the activation runs whose frame is under a key.
+    pub fn unit(&self, key: usize) -> u32
+        requires { ContainsKey self.now.nodes key }
+        ensures { (n : TreeNode) → nodes_of self.now.nodes key ≡ Some n → result ≡ n.unit }
+    {
+        self.nodes[key].unit
     }
 
     /// The slot of a cell that is out.

@@ -7,11 +7,12 @@ ghost use Rattle.hep_proc.specs.Nodes.{CanCount, HasChildren, nodes_of, with_few
 use hep_arena::Block;
 use slab::Slab;
 
-/// A frame that is out: its activation, its cells, the key of its parent's node, how many children of it
+/// A frame that is out: its activation and the unit that this runs, its cells, the key of its parent's node, how many children of it
 /// are out, and whether its activation has ended.
 #[derive(Drop)]
 pub(crate) struct Node {
     pub(crate) activation: u64,
+    pub(crate) unit: u32,
     pub(crate) block: Block,
     pub(crate) parent: Option<usize>,
     pub(crate) children: u64,

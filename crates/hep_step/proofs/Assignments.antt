@@ -32,14 +32,14 @@ use Rattle.hep_step.specs.Simulation.{IsRunning, Simulates, found_in, unit_addre
 use Rattle.hep_step.proofs.Accesses.{after_answer, cells_found, replied, step_is}
 
 -- an operation that stores a value is that of an assignment
-record Assigns (addressed : AddressedUnit) (k : ℕ) (x : Variable) (next : ℕ) (a : Action) : Type 0 where
-  target : Reference
-  stored : Value
-  action : a ≡ assigning target stored
-  place : x ≡ addressed.variables target.0
-  leads : next ≡ ((table_of addressed).flows k).next
+pub record Assigns (addressed : AddressedUnit) (k : ℕ) (x : Variable) (next : ℕ) (a : Action) : Type 0 where
+  pub target : Reference
+  pub stored : Value
+  pub action : a ≡ assigning target stored
+  pub place : x ≡ addressed.variables target.0
+  pub leads : next ≡ ((table_of addressed).flows k).next
 
-assigns : (addressed : AddressedUnit) (k : ℕ) (x : Variable) (n next : ℕ) (a : Action) → Store x n next ≡ operation_of addressed k a → Assigns addressed k x next a
+pub assigns : (addressed : AddressedUnit) (k : ℕ) (x : Variable) (n next : ℕ) (a : Action) → Store x n next ≡ operation_of addressed k a → Assigns addressed k x next a
 assigns addressed k x n next (assigning r v) same = record { target = r; stored = v; action = refl; place = cc; leads = cc }
 assigns addressed k x n next _ same = absurd cc
 

@@ -32,7 +32,7 @@ use Rattle.hep_step.specs.Simulation.{IsRunning, Simulates, found_in, unit_addre
 use Rattle.hep_step.proofs.Accesses.{after_answer, cells_found, replied, step_is}
 
 -- an evaluation takes the operands of its redex
-arity_is : (variables : Name → Variable) (r : Redex) → arity (evaluation_of variables r) ≡ length (operands_of_redex r)
+pub arity_is : (variables : Name → Variable) (r : Redex) → arity (evaluation_of variables r) ≡ length (operands_of_redex r)
 arity_is variables (reading r) = refl
 arity_is variables (signing s v) = refl
 arity_is variables (negating v) = refl
@@ -41,12 +41,12 @@ arity_is variables (applying g vs) = refl
 arity_is variables (testing g r) = refl
 
 -- so many operands stand in front of them
-in_front : (e : Evaluation) (operands before vs : List Value) → arity e ≡ length vs → operands ≡ before ++ vs → length operands - arity e ≡ length before
+pub in_front : (e : Evaluation) (operands before vs : List Value) → arity e ≡ length vs → operands ≡ before ++ vs → length operands - arity e ≡ length before
 in_front e operands before vs taken same =
     let long : length operands ≡ length (before ++ vs) = ap length same in
     omega (arith, taken, long, length-append before vs)
 
-no_action : (addressed : AddressedUnit) (k : ℕ) (e : Evaluation) (a : Action) → Evaluate e ≡ operation_of addressed k a → ⊥
+pub no_action : (addressed : AddressedUnit) (k : ℕ) (e : Evaluation) (a : Action) → Evaluate e ≡ operation_of addressed k a → ⊥
 no_action addressed k e (assigning r v) same = cc
 no_action addressed k e (jumping l) same = cc
 no_action addressed k e (choosing labels v) same = cc

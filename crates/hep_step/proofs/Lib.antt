@@ -1,8 +1,12 @@
 pub mod Accesses
-pub mod Evaluations
 pub mod Assignments
-pub mod Running
-pub mod Jumps
+pub mod Counts
 pub mod Endings
+pub mod Evaluations
+pub mod Frames
+pub mod Items
+pub mod Jumps
 pub mod Loops
 pub mod Operations
+pub mod Ready
+pub mod Running

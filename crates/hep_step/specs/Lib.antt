@@ -1,2 +1,5 @@
 pub mod Effects
+pub mod Items
+pub mod Performed
+pub mod Ready
 pub mod Simulation

@@ -1,16 +1,20 @@
 //! Laws of steps: what an operation does to the arena and to the operands is what the source machine does.
-ghost use Rattle.std.specs.Prelude.{ℕ, List};
+ghost use Rattle.std.specs.Prelude.{◌≤◌, ℕ, List, length};
 ghost use Rattle.hep_source.specs.declared.value.Value.{Value};
 ghost use Rattle.hep_source.specs.Units.{Units};
 ghost use Rattle.hep_machine.specs.declared.slot.Slot.{Slot};
 ghost use Rattle.hep_machine.specs.Layout.{Frame, Layout};
-ghost use Rattle.hep_machine.specs.Step.{Top};
+ghost use Rattle.hep_machine.specs.Step.{Top, unit_on_top};
 ghost use Rattle.hep_arena.specs.Holes.{Hole};
 ghost use Rattle.hep_code.specs.declared.instruction.Evaluation.{Evaluation};
 ghost use Rattle.hep_code.specs.declared.instruction.Operation.TheVariants.{Evaluate, Store, Jump, Choose, BySign, Condition, Branch, EnterLoop, EndLoop, Print, Return, Stop};
 ghost use Rattle.hep_code.specs.declared.variable.Variable.{Variable};
 ghost use Rattle.hep_code.specs.Ahead.{IsPastPushes};
+ghost use Rattle.hep_code.specs.Depths.{deepest};
+ghost use Rattle.hep_image.specs.Image.{most_cells};
+ghost use Rattle.hep_finding.specs.Within.{ArePlacedArrays};
 ghost use Rattle.hep_step.specs.Effects.{effect_at};
+ghost use Rattle.hep_step.specs.Ready.{IsReady, frame_in_arena};
 ghost use Rattle.hep_step.specs.Simulation.{IsRunning, IsSimulated, Simulates, arrays_on_top, code_on_top};
 
 /// An operation that gives a value does what the source machine does with the redex that comes next: the value is
@@ -67,4 +71,10 @@ pub fn runs_stop()
 /// the source machine does.
 pub fn operations_do_what_the_machine_does()
     ensures { (program : Units) (t : Top) (layout : Layout) (f : Frame) (contents : List Slot) (holes : List Hole) (operands : List Value) (index : ℕ) → IsRunning program t layout f contents holes operands index → IsPastPushes (code_on_top program t) index → Simulates program t layout f holes contents (effect_at (code_on_top program t) (arrays_on_top program t) f.first contents operands index) }
+{}
+
+/// An activation that runs can do the operation ahead, where its unit's arrays begin somewhere and its operands
+/// have room for the unit's deepest stack.
+pub fn activations_are_ready()
+    ensures { (program : Units) (t : Top) (layout : Layout) (f : Frame) (contents : List Slot) (holes : List Hole) (operands : List Value) (index capacity : ℕ) → IsRunning program t layout f contents holes operands index → ArePlacedArrays program (unit_on_top program t) → length contents ≤ most_cells → deepest (code_on_top program t) ≤ capacity → IsReady (code_on_top program t) (arrays_on_top program t) (record { contents = contents; holes = holes }) (frame_in_arena f) operands capacity index }
 {}

@@ -4,4 +4,15 @@
 //! [`laws`].
 #![tactic(auto)]
 
+pub mod effect;
+mod granted;
+mod iterating;
 pub mod laws;
+mod moving;
+pub mod performing;
+mod printing;
+mod storage;
+mod values;
+
+pub use effect::Effect;
+pub use performing::perform;

@@ -51,10 +51,15 @@ impl Lengths {
 }
 
 // What the units before have in a block.
-#[derive(Drop)]
 struct Summary {
     shared: Shared,
     lengths: Lengths,
+}
+
+impl Drop for Summary {
+    fn drop(self) {
+        let Summary { shared, lengths } = self;
+    }
 }
 
 impl Summary {

@@ -33,7 +33,9 @@ fn count_by(value: Option<Value>) -> Option<u64>
     }
 }
 
-fn repeat_of(constants: &Constants, repeat: Option<Repeat>) -> Option<u64>
+/// How often a value of DATA is given, by these constants: once without a repeat count (9.1). None where a name has no
+/// value, or one that isn't an integer from 1.
+pub fn repeat_of(constants: &Constants, repeat: Option<Repeat>) -> Option<u64>
     ensures { result ≡ machine.repeat_of (value_among constants.now) repeat }
 {
     match repeat {
@@ -44,7 +46,8 @@ fn repeat_of(constants: &Constants, repeat: Option<Repeat>) -> Option<u64>
     }
 }
 
-fn value_of_constant(constants: &Constants, constant: DataConstant) -> Option<Value>
+/// The value of a constant in DATA, by these constants; none where it is a name that has no value.
+pub fn value_of_constant(constants: &Constants, constant: DataConstant) -> Option<Value>
     ensures { result ≡ machine.value_of_constant (value_among constants.now) constant }
 {
     match constant {

@@ -32,13 +32,22 @@ pub enum Stretch {
 }
 
 /// The elements that were given values so far.
-#[derive(Drop)]
 pub struct Given {
     // Of which an element was given a value.
     names: IndexSet<Name>,
     // Of which all elements were given values at once.
     arrays: IndexSet<Name>,
     elements: IndexSet<Element>,
+}
+
+impl Drop for Given {
+    fn drop(self) {
+        let Given {
+            names,
+            arrays,
+            elements,
+        } = self;
+    }
 }
 
 // Adds a name to a set.

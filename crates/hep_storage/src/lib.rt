@@ -15,4 +15,6 @@ mod violation;
 
 pub use agreement::common_violation;
 pub use cells::{adjustable_dimensions, cells_of};
+pub use data::{repeat_of, value_of_constant};
+pub use shapes::{bounds_of, integers};
 pub use violation::data_violation;

@@ -47,8 +47,12 @@ fn integer_of(value: Value) -> i64
     }
 }
 
-// The integers of expressions in a row; none where one has no value.
-fn integers(
+/// The integers of expressions in a row, by these constants; none where one has no value.
+///
+/// # Errors
+///
+/// Only where memory was refused.
+pub fn integers(
     alloc: Global,
     symbols: &Symbols,
     constants: &Constants,
@@ -136,8 +140,12 @@ fn bound_of(
     }
 }
 
-// The bounds of these dimensions; none where one has no value.
-pub(crate) fn bounds_of(
+/// The bounds of these dimensions; none where one has no value.
+///
+/// # Errors
+///
+/// Only where memory was refused.
+pub fn bounds_of(
     alloc: Global,
     symbols: &Symbols,
     constants: &Constants,
@@ -231,10 +239,15 @@ fn array(
 }
 
 /// The shapes of arrays by all constants of a unit, as far as they were asked for.
-#[derive(Drop)]
 pub struct ShapeTable {
     pub(crate) constants: Constants,
     pub(crate) shapes: IndexMap<Name, Option<ArrayShape>>,
+}
+
+impl Drop for ShapeTable {
+    fn drop(self) {
+        let ShapeTable { constants, shapes } = self;
+    }
 }
 
 impl ShapeTable {

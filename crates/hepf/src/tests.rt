@@ -2,6 +2,7 @@
 
 mod commands;
 mod conditions;
+mod lowering;
 mod parts;
 mod shapes;
 mod texts;

@@ -1,9 +1,12 @@
 use Rattle.hep_placed.proofs.Facts.{facts_of}
-use Rattle.hep_placed.proofs.Supported.{alone, one_activation, placed_in_supported, plain_in_supported}
+use Rattle.hep_placed.proofs.Supported.{alone, main_alone, one_activation, placed_in_supported, plain_in_supported}
 use Rattle.hep_placed.proofs.laws.supported_code.Goals as goal
 
 pub returns-clause-one : goal.returns-clause-one
 returns-clause-one c = alone
+
+pub returns-clause-main : goal.returns-clause-main
+returns-clause-main c = main_alone
 
 pub returns-clause-activation : goal.returns-clause-activation
 returns-clause-activation c = λ program u i x accepted none h e. one_activation program u (facts_of c.constants_agree.ensures program u accepted h) none h i x e

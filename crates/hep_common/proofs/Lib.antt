@@ -1,0 +1,5 @@
+pub mod Entries
+pub mod Tables
+pub mod Singles
+pub mod Totals
+pub mod Beginnings

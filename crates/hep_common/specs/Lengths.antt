@@ -1,0 +1,69 @@
+-- The lengths of common blocks, as one pass over the units finds them: X3.9-1978, 8.3.3.
+use Rattle.std.specs.Prelude.{◌≡◌, ℕ, ◌+◌, ◌≤◌, nat_eq, max, if◌then◌else◌, List, [], ◌∷◌, ◌++◌, map, Option, Some, None}
+use Rattle.std.specs.List.{flat_map}
+use Rattle.std.specs.Option.{option_map_or}
+use Rattle.hep_source.specs.declared.declaration.CommonBlock.{CommonBlock}
+use Rattle.hep_source.specs.declared.declaration.Declarator.{Declarator}
+use Rattle.hep_source.specs.declared.statement.Statement.{Statement}
+use Rattle.hep_source.specs.Units.{Units}
+use Rattle.hep_machine.specs.Constants.{cells_of}
+use Rattle.hep_machine.specs.Declarations.{BlockName, same_block, block_of, blocks_of_unit, is_block_among}
+use Rattle.hep_common.specs.declared.common.Entry.{Entry}
+use Rattle.hep_common.specs.declared.common.Length.{Length}
+
+-- ---- what the COMMON statements of a unit say, in order
+
+abbrev pub entry_of : BlockName → Declarator → Entry
+entry_of b d = record { block = b; name = Some d.occurrence.name }
+
+-- that a list of a block begins, and its names
+abbrev pub entries_in_list : CommonBlock → List Entry
+entries_in_list c = record { block = block_of c; name = None } ∷ map (entry_of (block_of c)) c.entries
+
+abbrev pub entries_in_lists : List CommonBlock → List Entry
+entries_in_lists cs = flat_map entries_in_list cs
+
+abbrev pub entries_of : List Statement → List Entry
+entries_of unit = entries_in_lists (blocks_of_unit unit)
+
+-- what those of all units say
+abbrev pub entries_of_program : Units → List Entry
+entries_of_program program = flat_map entries_of program
+
+abbrev pub cells_of_entry : List Statement → Entry → ℕ
+cells_of_entry unit e = option_map_or (cells_of unit) e.name 0
+
+-- the cells that entries add to a block
+abbrev pub cells_in_block : List Statement → BlockName → List Entry → ℕ
+cells_in_block unit b [] = 0
+cells_in_block unit b (e ∷ es) = (if same_block e.block b then cells_of_entry unit e else 0) + cells_in_block unit b es
+
+-- ---- blocks, in order of first appearance
+
+abbrev pub with_block : List BlockName → BlockName → List BlockName
+with_block bs b = if is_block_among b bs then bs else bs ++ b ∷ []
+
+abbrev pub with_blocks_of : List BlockName → List Entry → List BlockName
+with_blocks_of bs [] = bs
+with_blocks_of bs (e ∷ es) = with_blocks_of (with_block bs e.block) es
+
+-- ---- lengths
+
+-- the cells of a block in the unit of a number, as far as it was read
+abbrev pub cells_so_far : ℕ → Option Length → ℕ
+cells_so_far number None = 0
+cells_so_far number (Some l) = if nat_eq l.unit number then l.cells else 0
+
+-- the greatest length of a block in the units read so far
+abbrev pub greatest_length : Option Length → ℕ
+greatest_length None = 0
+greatest_length (Some l) = l.greatest
+
+-- the length of a block with so many cells more in a unit
+abbrev pub lengthened : Option Length → ℕ → ℕ → Length
+lengthened before number n =
+    record { greatest = max (greatest_length before) (cells_so_far number before + n); unit = number; cells = cells_so_far number before + n }
+
+-- nothing was read of this unit or a later one
+abbrev pub IsUnread : ℕ → (BlockName → Option Length) → Type 0
+IsUnread number lengths = (b : BlockName) (v : ℕ) → number ≤ v → cells_so_far v (lengths b) ≡ 0

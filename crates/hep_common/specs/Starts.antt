@@ -1,0 +1,23 @@
+-- Where common blocks begin: X3.9-1978, 8.3.3, and docs/MACHINE.md, "Layout".
+use Rattle.std.specs.Prelude.{◌≡◌, ℕ, true, nat_le, if◌then◌else◌, unwrap_or}
+use Rattle.std.specs.Option.{option_eq}
+use Rattle.indexmap.specs.IndexMap.{get}
+use Rattle.hep_source.specs.Names.{name_eq}
+use Rattle.hep_source.specs.Units.{Units}
+use Rattle.hep_machine.specs.Declarations.{BlockName, blocks_of, is_block_among}
+use Rattle.hep_machine.specs.Layout.{common_cells}
+use Rattle.hep_frames.specs.Rows.{first_of_block}
+use Rattle.hep_common.specs.declared.starts.CommonStarts.{CommonStarts}
+
+-- a number in 32 bits: the greatest of them where it has more
+abbrev pub narrowed : ℕ → ℕ
+narrowed n = if nat_le n 4294967295 then n else 4294967295
+
+-- the start that is kept for a block
+abbrev pub start_in : CommonStarts → BlockName → ℕ
+start_in c b = unwrap_or (get (option_eq name_eq) c.starts b) 0
+
+-- the starts of all blocks of a program, and the cells that they have together
+pub record AreStarts (program : Units) (c : CommonStarts) : Type 0 where
+  pub cells_are : c.cells ≡ common_cells program
+  pub starts_are : (b : BlockName) → is_block_among b (blocks_of program) ≡ true → start_in c b ≡ narrowed (first_of_block program b)

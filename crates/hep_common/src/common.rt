@@ -1,0 +1,278 @@
+//! The common blocks of a program and their greatest lengths (X3.9-1978, 8.3.3).
+ghost use Rattle.std.specs.Prelude.{◌≡◌, ◌+◌, ◌<◌, ◌≤◌, ◌^◌, ◌++◌, [], ℕ, Some, None, max, map, if◌then◌else◌, IfOk, OnOk};
+ghost use Rattle.std.specs.Option.{option_eq};
+ghost use Rattle.indexmap.specs.IndexMap.{get};
+ghost use Rattle.hep_source.specs.Names.{name_eq};
+ghost use Rattle.hep_machine.specs.Constants.{value_among, constant_value, cells_of_all};
+ghost use Rattle.hep_machine.specs.Declarations as declarations;
+ghost use Rattle.hep_machine.specs.Declarations.{BlockName, same_block};
+ghost use Rattle.hep_machine.specs.Layout.{block_cells, common_cells};
+ghost use Rattle.hep_common.specs.Lengths as reading;
+ghost use Rattle.hep_common.specs.Lengths.{IsUnread};
+
+use hep_source::{CommonBlock, Declarator, Form, Name, Statement, Unit};
+use hep_storage::cells_of;
+use hep_storage::constants::constants;
+use hep_symbols::Symbols;
+use hep_types::Constants;
+use indexmap::{IndexMap, IndexSet};
+use std::alloc::{AllocError, Global};
+
+// What a COMMON statement says, one thing at a time: a name in a block, or none where a list of the block begins.
+#[derive(Clone, Copy, Debug, PartialEq, Eq)]
+struct Entry {
+    block: Option<Name>,
+    name: Option<Name>,
+}
+
+// The length of a common block in the units that were read.
+#[derive(Clone, Copy, Debug, PartialEq, Eq)]
+struct Length {
+    greatest: u128,
+    // The last unit that has the block, and the cells that it has there as far as that was read.
+    unit: usize,
+    cells: u128,
+}
+
+type Lengths = IndexMap<Option<Name>, Length>;
+
+/// The common blocks of the units that were read.
+pub struct CommonBlocks {
+    // In order of first appearance; blank COMMON has no name.
+    blocks: IndexSet<Option<Name>>,
+    lengths: Lengths,
+}
+
+impl Drop for CommonBlocks {
+    fn drop(self) {
+        let CommonBlocks { blocks, lengths } = self;
+    }
+}
+
+fn add_names(
+    entries: &mut Vec<Entry>,
+    block: Option<Name>,
+    declarators: &[Declarator],
+) -> Result<(), AllocError>
+    ensures { OnOk result (entries.new.items ≡ entries.old.items ++ map (reading.entry_of block) declarators.now) }
+{
+    for declarator in declarators {
+        let name = Some(declarator.occurrence.name);
+        entries.push(Entry { block, name })?;
+    }
+    Ok(())
+}
+
+// The block that a list of COMMON names; none for blank COMMON.
+fn block_of(list: &CommonBlock) -> Option<Name>
+    ensures { result ≡ declarations.block_of list.now }
+{
+    list.block.map(|occurrence| occurrence.name)
+}
+
+fn add_list(entries: &mut Vec<Entry>, list: &CommonBlock) -> Result<(), AllocError>
+    ensures { OnOk result (entries.new.items ≡ entries.old.items ++ reading.entries_in_list list.now) }
+{
+    let block = block_of(list);
+    entries.push(Entry { block, name: None })?;
+    add_names(entries, block, list.entries.as_slice())?;
+    Ok(())
+}
+
+fn add_lists(entries: &mut Vec<Entry>, lists: &[CommonBlock]) -> Result<(), AllocError>
+    ensures { OnOk result (entries.new.items ≡ entries.old.items ++ reading.entries_in_lists lists.now) }
+{
+    for list in lists {
+        add_list(entries, list)?;
+    }
+    Ok(())
+}
+
+fn lists_in(form: &Form) -> &[CommonBlock]
+    ensures { result.now ≡ declarations.blocks_in form.now }
+{
+    match form {
+        Form::Common(lists) => lists.as_slice(),
+        _ => &[],
+    }
+}
+
+fn add_entries(entries: &mut Vec<Entry>, statements: &[Statement]) -> Result<(), AllocError>
+    ensures { OnOk result (entries.new.items ≡ entries.old.items ++ reading.entries_of statements.now) }
+{
+    for statement in statements {
+        add_lists(entries, lists_in(&statement.form))?;
+    }
+    Ok(())
+}
+
+fn cells_of_entry(
+    alloc: Global,
+    symbols: &Symbols,
+    constants: &Constants,
+    entry: &Entry,
+) -> Result<u32, AllocError>
+    requires { value_among constants.now ≡ constant_value symbols.now }
+    ensures { IfOk result (λ cells. cells ≡ reading.cells_of_entry symbols.now entry.now) }
+{
+    match &entry.name {
+        Some(name) => cells_of(alloc, symbols, constants, name),
+        None => Ok(0),
+    }
+}
+
+// The cells of a block in a unit, as far as that was read.
+fn cells_so_far(length: Option<Length>, unit: usize) -> u128
+    ensures { result ≡ reading.cells_so_far unit length }
+{
+    match length {
+        Some(length) => { if length.unit == unit { length.cells } else { 0 } }
+        None => 0,
+    }
+}
+
+fn greatest_length(length: Option<Length>) -> u128
+    ensures { result ≡ reading.greatest_length length }
+{
+    match length {
+        Some(length) => length.greatest,
+        None => 0,
+    }
+}
+
+// The length of a block with so many cells more in a unit.
+fn lengthened(length: Option<Length>, unit: usize, count: u32) -> Length
+    requires { reading.cells_so_far unit length < 2 ^ 96 }
+    ensures { result ≡ reading.lengthened length unit count }
+{
+    let cells = cells_so_far(length, unit) + u128::from(count);
+    Length {
+        greatest: greatest_length(length).max(cells),
+        unit,
+        cells,
+    }
+}
+
+fn add_block(blocks: &mut IndexSet<Option<Name>>, block: Option<Name>) -> Result<(), AllocError>
+    ensures { OnOk result (blocks.new.keys ≡ reading.with_block blocks.old.keys block) }
+{
+    blocks.insert(block)?;
+    Ok(())
+}
+
+fn length_of(lengths: &Lengths, block: Option<Name>) -> Option<Length>
+    ensures { result ≡ get (option_eq name_eq) lengths.now block }
+{
+    lengths.get(&block).copied()
+}
+
+fn set_length(lengths: &mut Lengths, block: Option<Name>, length: Length) -> Result<(), AllocError>
+    ensures { OnOk result ((b : BlockName) → get (option_eq name_eq) lengths.new b
+        ≡ (if same_block block b then Some length else get (option_eq name_eq) lengths.old b)) }
+{
+    lengths.insert(block, length)?;
+    Ok(())
+}
+
+impl CommonBlocks {
+    fn new(alloc: Global) -> CommonBlocks
+        ensures blocks { result.blocks.keys ≡ [] }
+        ensures lengths { (b : BlockName) → get (option_eq name_eq) result.lengths b ≡ None }
+    {
+        CommonBlocks {
+            blocks: IndexSet::new(alloc),
+            lengths: IndexMap::new(alloc),
+        }
+    }
+
+    // So many cells more of a block in a unit.
+    fn lengthen(&mut self, block: Option<Name>, unit: usize, count: u32) -> Result<(), AllocError>
+        requires { reading.cells_so_far unit (get (option_eq name_eq) self.old.lengths block) < 2 ^ 96 }
+        ensures blocks { OnOk result (self.new.blocks.keys ≡ reading.with_block self.old.blocks.keys block) }
+        ensures lengths { OnOk result ((b : BlockName) → get (option_eq name_eq) self.new.lengths b
+            ≡ (if same_block block b then Some (reading.lengthened (get (option_eq name_eq) self.old.lengths block) unit count) else get (option_eq name_eq) self.old.lengths b)) }
+    {
+        add_block(&mut self.blocks, block)?;
+        let length = lengthened(length_of(&self.lengths, block), unit, count);
+        set_length(&mut self.lengths, block, length)?;
+        Ok(())
+    }
+
+    // What the COMMON statements of the unit of this number say, of which nothing was read.
+    fn read_entries(
+        &mut self,
+        alloc: Global,
+        symbols: &Symbols,
+        unit: usize,
+        entries: &[Entry],
+    ) -> Result<(), AllocError>
+        requires { IsUnread unit (get (option_eq name_eq) self.old.lengths) }
+        ensures blocks { OnOk result (self.new.blocks.keys ≡ reading.with_blocks_of self.old.blocks.keys entries.now) }
+        ensures lengths { OnOk result ((b : BlockName) → reading.greatest_length (get (option_eq name_eq) self.new.lengths b)
+            ≡ max (reading.greatest_length (get (option_eq name_eq) self.old.lengths b)) (reading.cells_in_block symbols.now b entries.now)) }
+        ensures unread { OnOk result (IsUnread (unit + 1) (get (option_eq name_eq) self.new.lengths)) }
+    {
+        let constants = constants(alloc, symbols)?;
+        for entry in entries {
+            let count = cells_of_entry(alloc, symbols, &constants, entry)?;
+            self.lengthen(entry.block, unit, count)?;
+        }
+        Ok(())
+    }
+
+    // The COMMON statements of the unit of this number, of which the entries are all that they say.
+    fn read_unit(
+        &mut self,
+        alloc: Global,
+        unit: usize,
+        statements: &[Statement],
+        entries: &[Entry],
+    ) -> Result<(), AllocError>
+        requires unread { IsUnread unit (get (option_eq name_eq) self.old.lengths) }
+        requires entries { entries.now ≡ reading.entries_of statements.now }
+        ensures blocks { OnOk result (self.new.blocks.keys ≡ declarations.with_blocks self.old.blocks.keys (declarations.blocks_of_unit statements.now)) }
+        ensures lengths { OnOk result ((b : BlockName) → reading.greatest_length (get (option_eq name_eq) self.new.lengths b)
+            ≡ max (reading.greatest_length (get (option_eq name_eq) self.old.lengths b)) (cells_of_all statements.now (declarations.names_in_block statements.now b))) }
+        ensures unread { OnOk result (IsUnread (unit + 1) (get (option_eq name_eq) self.new.lengths)) }
+    {
+        let symbols = Symbols::new(alloc, statements)?;
+        self.read_entries(alloc, &symbols, unit, entries)?;
+        Ok(())
+    }
+
+    /// The common blocks of a program. Where memory held all that its COMMON statements say, their cells fit 96 bits.
+    ///
+    /// # Errors
+    ///
+    /// Only where memory was refused.
+    pub fn of_program(alloc: Global, program: &[Unit]) -> Result<CommonBlocks, AllocError>
+        ensures blocks { IfOk result (λ common. common.blocks.keys ≡ declarations.blocks_of program.now) }
+        ensures lengths { IfOk result (λ common. (b : BlockName) → reading.greatest_length (get (option_eq name_eq) common.lengths b) ≡ block_cells program.now b) }
+        ensures bounded { IfOk result (λ common. common_cells program.now < 2 ^ 96) }
+    {
+        let mut common = CommonBlocks::new(alloc);
+        // All units' entries stay in one row: each has at most 2^20 cells, so those of all blocks fit 128 bits.
+        let mut entries = Vec::new(alloc);
+        for (number, unit) in program.iter().enumerate() {
+            let statements = unit.as_slice();
+            let read = entries.len();
+            add_entries(&mut entries, statements)?;
+            common.read_unit(alloc, number, statements, &entries[read..])?;
+        }
+        Ok(common)
+    }
+
+    /// The blocks, in order of first appearance; blank COMMON has no name.
+    pub fn blocks(&self) -> &[Option<Name>]
+        ensures { result.now ≡ self.now.blocks.keys }
+    {
+        self.blocks.as_slice()
+    }
+
+    /// The cells of a block, at its greatest length.
+    pub fn cells(&self, block: Option<Name>) -> u128
+        ensures { result ≡ reading.greatest_length (get (option_eq name_eq) self.now.lengths block) }
+    {
+        greatest_length(length_of(&self.lengths, block))
+    }
+}

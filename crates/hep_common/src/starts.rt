@@ -1,0 +1,87 @@
+//! Where common blocks begin, one behind the other (docs/MACHINE.md, "Layout").
+ghost use Rattle.std.specs.Prelude.{◌≡◌, ◌+◌, ◌<◌, ◌^◌, if◌then◌else◌, IfOk, OnOk};
+ghost use Rattle.hep_source.specs.Units.{Units};
+ghost use Rattle.hep_machine.specs.Declarations.{BlockName, same_block};
+ghost use Rattle.hep_machine.specs.Layout.{common_cells};
+ghost use Rattle.hep_common.specs.Starts.{AreStarts, narrowed, start_in};
+
+use crate::common::CommonBlocks;
+use hep_source::{Name, Unit};
+use indexmap::IndexMap;
+use std::alloc::{AllocError, Global};
+
+/// Where each common block of a program begins, counted in cells from the arena's front: the blocks stand one behind
+/// the other, in order of first appearance, each at its greatest length (X3.9-1978, 8.3.3).
+pub struct CommonStarts {
+    // By the block's name; blank COMMON has none.
+    starts: IndexMap<Option<Name>, u32>,
+    // The cells of all blocks together.
+    cells: u128,
+}
+
+impl Drop for CommonStarts {
+    fn drop(self) {
+        let CommonStarts { starts, cells } = self;
+    }
+}
+
+// A number in 32 bits. No arena has so many cells that one would need more.
+fn in_32_bits(cells: u128) -> u32
+    ensures { result ≡ narrowed cells }
+{
+    u32::try_from(cells).unwrap_or(u32::MAX)
+}
+
+impl CommonStarts {
+    fn new(alloc: Global) -> CommonStarts
+        ensures cells { result.cells ≡ 0 }
+    {
+        CommonStarts {
+            starts: IndexMap::new(alloc),
+            cells: 0,
+        }
+    }
+
+    // One block more, behind the others.
+    fn add(&mut self, block: Option<Name>, cells: u128) -> Result<(), AllocError>
+        requires { self.old.cells + cells < 2 ^ 128 }
+        ensures cells { OnOk result (self.new.cells ≡ self.old.cells + cells) }
+        ensures starts { OnOk result ((b : BlockName) → start_in self.new b ≡ (if same_block block b then narrowed self.old.cells else start_in self.old b)) }
+    {
+        self.starts.insert(block, in_32_bits(self.cells))?;
+        self.cells += cells;
+        Ok(())
+    }
+
+    /// The starts of the common blocks of a program.
+    ///
+    /// # Errors
+    ///
+    /// Only where memory was refused.
+    pub fn of_program(alloc: Global, program: &[Unit]) -> Result<CommonStarts, AllocError>
+        ensures { IfOk result (AreStarts program.now) }
+    {
+        let common = CommonBlocks::of_program(alloc, program)?;
+        let mut starts = CommonStarts::new(alloc);
+        for block in common.blocks() {
+            starts.add(*block, common.cells(*block))?;
+        }
+        Ok(starts)
+    }
+
+    /// The first cell of a block, or the greatest number of 32 bits where it begins further on; 0 for a block that
+    /// the program doesn't have.
+    pub fn start(&self, block: Option<Name>) -> u32
+        ensures { result ≡ start_in self.now block }
+    {
+        self.starts.get(&block).copied().unwrap_or(0)
+    }
+
+    /// The cells of all blocks together: frames come behind them.
+    pub fn cells(&self) -> u128
+        ensures kept { result ≡ self.now.cells }
+        ensures common { (program : Units) → AreStarts program self.now → result ≡ common_cells program }
+    {
+        self.cells
+    }
+}

@@ -1,0 +1,4 @@
+pub mod Cells
+pub mod Given
+pub mod Left
+pub mod Frame

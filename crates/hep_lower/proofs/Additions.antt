@@ -1,0 +1,87 @@
+-- One unit more that was lowered.
+use Rattle.std.proofs.Common.{◌≡◌, ◌⊎◌, inl, inr, ℕ, zero, suc, ◌+◌, ◌<◌, ◌≤◌, List, [], ◌∷◌, ◌++◌, length, Option, Some, None, refl, sym, ap, ◌∙◌, subst, arith, length-append}
+use Rattle.std.specs.Prelude.{slice_get}
+use Rattle.std.specs.Option.{option_or}
+use Rattle.std.proofs.lemmas.Option.{same_Some, none-some}
+use Rattle.hep_source.specs.Units.{Units}
+use Rattle.hep_code.specs.Depths.{line_too_deep}
+use Rattle.hep_code.specs.Limits.{most_instructions}
+use Rattle.hep_image.specs.declared.unit.UnitCode.{UnitCode}
+use Rattle.hep_image.specs.Image.{IsUnitCode}
+use Rattle.hep_placed.specs.Placed.{code_in}
+use Rattle.hep_lower.specs.declared.units.LoweredUnit.TheVariants.{Runnable, TooDeep}
+use Rattle.hep_lower.specs.declared.units.LoweredUnits.{LoweredUnits}
+use Rattle.hep_lower.specs.Refusals.{IsFirstDeep}
+use Rattle.hep_lower.specs.Units.{AreUnits, IsUnit}
+
+-- a number below one more is below or the last one
+split : (u n : ℕ) → u < n + 1 → (u < n) ⊎ (u ≡ n)
+split u n h = by_order (order u n) where
+  order : (a b : ℕ) → (a < b) ⊎ (b ≤ a)
+  order zero zero = inr (omega arith)
+  order zero (suc b) = inl (omega arith)
+  order (suc a) zero = inr (omega arith)
+  order (suc a) (suc b) = elim (order a b) [
+    | inl less ↦ inl (omega (arith, less))
+    | inr more ↦ inr (omega (arith, more))
+  ]
+
+  by_order : (u < n) ⊎ (n ≤ u) → (u < n) ⊎ (u ≡ n)
+  by_order (inl less) = inl less
+  by_order (inr more) = inr (omega (arith, h, more))
+
+item-last : {A : Type 0} (xs : List A) (x y : A) → slice_get (xs ++ x ∷ []) (length xs) ≡ Some y → x ≡ y
+item-last [] x y e = same_Some x y e
+item-last (z ∷ zs) x y e = item-last zs x y e
+
+item-before : {A : Type 0} (xs : List A) (x y : A) (u : ℕ) → u < length xs → slice_get (xs ++ x ∷ []) u ≡ Some y → slice_get xs u ≡ Some y
+item-before [] x y u h e = absurd (omega (arith, h))
+item-before (z ∷ zs) x y zero h e = e
+item-before (z ∷ zs) x y (suc u) h e = item-before zs x y u (omega (arith, h)) e
+
+item-within : {A : Type 0} (xs : List A) (u : ℕ) (y : A) → slice_get xs u ≡ Some y → u < length xs
+item-within [] u y e = absurd (none-some y e)
+item-within (z ∷ zs) zero y e = omega arith
+item-within (z ∷ zs) (suc u) y e = omega (arith, item-within zs u y e)
+
+module _ (program : Units) (n : ℕ) (before after : LoweredUnits) (known : AreUnits program n before) where
+  short-more : length (code_in program n) ≤ most_instructions → (u : ℕ) → u + 1 ≤ n + 1 → length (code_in program u) ≤ most_instructions
+  short-more h u le = elim (split u n (omega (arith, le))) [
+    | inl less ↦ known.short u (omega (arith, less))
+    | inr same ↦ subst (λ v. length (code_in program v) ≤ most_instructions) (sym same) h
+  ]
+
+  pub added-runnable : (unit : UnitCode) → IsUnit program n (Runnable unit) → after.codes.items ≡ before.codes.items ++ unit ∷ [] → after.too_deep ≡ before.too_deep → AreUnits program (n + 1) after
+  added-runnable unit is more same = record { deep = subst (IsFirstDeep program (n + 1)) (sym same) (by_deep before.too_deep known.deep); short = short-more is.2; all = all; each = each } where
+    by_deep : (o : Option ℕ) → IsFirstDeep program n o → IsFirstDeep program (n + 1) o
+    by_deep None h = λ u le. elim (split u n le) [
+      | inl less ↦ h u less
+      | inr last ↦ ap (λ v. line_too_deep (code_in program v)) last ∙ is.1
+    ]
+    by_deep (Some line) h = (h.0, omega (arith, h.1), h.2, h.3)
+
+    all : after.too_deep ≡ None → length after.codes.items ≡ n + 1
+    all none = ap length more ∙ (length-append before.codes.items (unit ∷ []) ∙ omega (arith, known.all (sym same ∙ none)))
+
+    each : after.too_deep ≡ None → (u : ℕ) (x : UnitCode) → slice_get after.codes.items u ≡ Some x → IsUnitCode program u x
+    each none u x e =
+        let long = known.all (sym same ∙ none) in
+        let there = ap (λ (xs : List UnitCode). slice_get xs u) (sym more) ∙ e in
+        elim (split u n (omega (arith, item-within after.codes.items u x e, all none))) [
+          | inl less ↦ known.each (sym same ∙ none) u x (item-before before.codes.items unit x u (omega (arith, less, long)) there)
+          | inr last ↦
+              subst (λ v. IsUnitCode program v x) (sym last) (
+              subst (IsUnitCode program n) (item-last before.codes.items unit x (ap (slice_get (before.codes.items ++ unit ∷ [])) (long ∙ sym last) ∙ there)) is.0)
+        ]
+
+  pub added-deep : (line : ℕ) → IsUnit program n (TooDeep line) → after.too_deep ≡ option_or before.too_deep (Some line) → AreUnits program (n + 1) after
+  added-deep line is first = record { deep = subst (IsFirstDeep program (n + 1)) (sym first) (by_deep before.too_deep known.deep); short = short-more is.1; all = λ none. absurd (never none); each = λ none. absurd (never none) } where
+    by_deep : (o : Option ℕ) → IsFirstDeep program n o → IsFirstDeep program (n + 1) (option_or o (Some line))
+    by_deep None h = (n, omega arith, is.0, h)
+    by_deep (Some l) h = (h.0, omega (arith, h.1), h.2, h.3)
+
+    never : after.too_deep ≡ None → ⊥
+    never none = by_first before.too_deep (sym first ∙ none) where
+      by_first : (o : Option ℕ) → option_or o (Some line) ≡ None → ⊥
+      by_first None e = none-some line (sym e)
+      by_first (Some l) e = none-some l (sym e)

@@ -1,0 +1,68 @@
+-- The code of a unit, where its variables and DOs were found.
+use Rattle.std.proofs.Common.{◌≡◌, ◌∙◌, ℕ, ◌<◌, List, [], Option, Some, None, get_or, length, refl, sym, ap, subst}
+use Rattle.std.specs.Prelude.{◌≤◌, Result, Ok, Err, IfOk}
+use Rattle.std.proofs.lemmas.Option.{slice_get_read}
+use Rattle.indexmap.specs.IndexMap.{get}
+use Rattle.std.specs.Option.{unwrap_or}
+use Rattle.hep_source.specs.declared.name.Name.{Name}
+use Rattle.hep_source.specs.declared.statement.Statement.{Statement}
+use Rattle.hep_source.specs.Names.{name_eq}
+use Rattle.hep_source.specs.Units.{Units, main_unit, unit_at}
+use Rattle.hep_machine.specs.Layout.{common_cells}
+use Rattle.hep_machine.specs.Variables.{frame_cells}
+use Rattle.hep_machine.specs.Step.{unit_called}
+use Rattle.hep_code.specs.Limits.{most_instructions}
+use Rattle.hep_code.specs.Stacks.{addressed_unit}
+use Rattle.hep_code.specs.UnitCode.{code_of}
+use Rattle.hep_image.specs.declared.array.Array.{Array}
+use Rattle.hep_image.specs.Image.{most_cells}
+use Rattle.hep_image.specs.Places.{addresses_of, loop_cells, variable_of}
+use Rattle.hep_data.specs.Frame.{IsMainFrame}
+use Rattle.hep_places.specs.declared.unit.UnitPlaces.{UnitPlaces}
+use Rattle.hep_places.specs.Unit.{ArePlaces}
+use Rattle.hep_places.specs.declared.places.Places.{Places}
+use Rattle.hep_places.specs.Places.{cells_in, variable_in}
+use Rattle.hep_placed.specs.Placed.{code_in}
+use Rattle.hep_lower.specs.declared.fault.EmitFault.{EmitFault}
+use Rattle.hep_lower.specs.declared.fault.EmitFault.TheVariants as emit_fault
+use Rattle.hep_lower.specs.Limits.{IsOverLimit}
+use Rattle.hep_lower.specs.Refusals.{RefusesCode, fault_by}
+use Rattle.hep_lower.specs.Tables.{addressed_by}
+
+module _ (program : Units) (u : ℕ) (unit : List Statement) (places : Places) (same : unit ≡ unit_at program u)
+    (variables : (x : Name) → variable_in places x ≡ variable_of program (unit_at program u) x) (loops : (d : ℕ) → cells_in places d ≡ loop_cells (unit_at program u) d) where
+  pub addressed-is : addressed_by unit places program ≡ addressed_unit program (addresses_of program) u
+  addressed-is = λ i. record { unit = same i; variables = λ x. variables x i; cells = λ d. loops d i; subroutines = unit_called program }
+
+  pub code-there : code_of (addressed_by unit places program) ≡ code_in program u
+  code-there = ap code_of addressed-is
+
+  -- too much code is too much of the definitions' code
+  pub refused-code : (fault : EmitFault) → u < length program → IsOverLimit (length (code_of (addressed_by unit places program))) fault → RefusesCode program (fault_by fault)
+  refused-code emit_fault.NoMemory there over = tt
+  refused-code emit_fault.TooLong there over = (refl, refl, refl, (u, there, subst (λ code. most_instructions < length code) code-there (over refl)))
+
+pub none-there : {A : Type 0} (o : Option A) → ((x : A) → o ≡ Some x → ⊥) → o ≡ None
+none-there None h = refl
+none-there (Some x) h = absurd (h x refl)
+
+-- the unit of an index, as a loop finds it
+pub unit-item : (program items : Units) (u : ℕ) (unit : List Statement) → items ≡ program → u < length items → unit ≡ get_or items u unit → unit ≡ unit_at program u
+unit-item program items u unit same there is = sym (ap (λ (us : Units). unit_at us u) (sym same) ∙ ap (λ o. unwrap_or o []) (slice_get_read items (length items) u unit refl there is))
+
+pub ok-then : {A E : Type 0} (r : Result A E) (P Q : A → Type 0) → IfOk r P → ((x : A) → P x → Q x) → IfOk r Q
+ok-then (Ok x) P Q h f = f x h
+ok-then (Err e) P Q h f = tt
+
+-- the main program's places are those by which DATA finds its cells
+pub main-frame : (program : Units) (unit : List Statement) (places : UnitPlaces) (arrays : List Array) (cells : ℕ) → main_unit program ≡ 0 → unit ≡ unit_at program 0 → ArePlaces program (unit_at program 0) places → arrays ≡ places.arrays.items
+    → cells ≡ common_cells program → common_cells program ≤ most_cells → frame_cells (unit_at program 0) ≤ most_cells → IsMainFrame program unit (get name_eq places.places.variables) arrays cells
+main-frame program unit places arrays cells first same known listed shared few_shared few_own =
+    subst (λ u. IsMainFrame program u (get name_eq places.places.variables) arrays cells) (sym same) (record {
+      main = ap (unit_at program) (sym first);
+      placed = known.variables;
+      listed = listed ∙ known.arrays;
+      shared = shared;
+      few_shared = few_shared;
+      few_own = few_own;
+    })

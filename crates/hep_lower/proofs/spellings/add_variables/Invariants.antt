@@ -1,0 +1,7 @@
+use Rattle.std.proofs.Common.{◌≡◌, ◌++◌, drop}
+use Rattle.std.specs.List.{flat_map}
+use Rattle.hep_image.specs.Names.{spellings_of}
+use Rattle.hep_lower.proofs.spellings.add_variables.Given as goal
+
+abbrev pub invariant-loop-symbols : goal.invariant-loop-symbols
+invariant-loop-symbols l = l.names.items ++ flat_map spellings_of (drop l.symbols-index l.list) ≡ l.initial.names.items ++ flat_map spellings_of l.list

@@ -1,0 +1,129 @@
+//! The units of a program, lowered one after the other.
+ghost use Rattle.std.specs.Prelude.{◌≡◌, ◌<◌, ◌≤◌, ◌+◌, ℕ, length, IfOk, IfErr, OnOk};
+ghost use Rattle.hep_source.specs.Units.{Units, unit_at};
+ghost use Rattle.hep_machine.specs.Layout.{common_cells};
+ghost use Rattle.hep_machine.specs.Variables.{frame_cells};
+ghost use Rattle.hep_check.specs.Conditions.{IsAccepted};
+ghost use Rattle.hep_image.specs.Image.{most_cells};
+ghost use Rattle.hep_common.specs.Starts.{AreStarts};
+ghost use Rattle.hep_lower.specs.Refusals.{RefusesCode, fault_by};
+ghost use Rattle.hep_lower.specs.Tables.{greatest};
+ghost use Rattle.hep_lower.specs.Units.{AreUnits, IsUnit};
+
+use crate::fault::EmitFault;
+use crate::lowered::lower_unit;
+use hep_base::{Refusal as LowerFault, Sequence};
+use hep_common::CommonStarts;
+use hep_image::UnitCode;
+use hep_places::unit_places;
+use hep_symbols::{ProgramSymbols, Symbols};
+use std::alloc::{AllocError, Global};
+
+/// A unit, or the line of its first statement that has too many operands.
+#[derive(Drop)]
+pub(crate) enum LoweredUnit {
+    Runnable(UnitCode),
+    TooDeep(u32),
+}
+
+/// The units that were lowered so far.
+#[derive(Drop)]
+pub(crate) struct LoweredUnits {
+    /// All of them, as long as none has a statement that is too deep.
+    pub codes: Vec<UnitCode>,
+    /// The line of the first statement with too many operands.
+    pub too_deep: Option<u32>,
+}
+
+impl LoweredUnits {
+    fn new(alloc: Global) -> LoweredUnits
+        ensures { (program : Units) → AreUnits program 0 result }
+    {
+        LoweredUnits {
+            codes: Vec::new(alloc),
+            too_deep: None,
+        }
+    }
+
+    // One unit more.
+    fn add(&mut self, unit: LoweredUnit) -> Result<(), AllocError>
+        ensures { OnOk result ((program : Units) (n : ℕ) → AreUnits program n self.old → IsUnit program n unit → AreUnits program (n + 1) self.new) }
+    {
+        match unit {
+            LoweredUnit::Runnable(code) => self.codes.push(code)?,
+            LoweredUnit::TooDeep(line) => self.too_deep = self.too_deep.or(Some(line)),
+        }
+        Ok(())
+    }
+}
+
+// Why a unit has no code: it is told without a line.
+fn fault_of(alloc: Global, fault: EmitFault) -> LowerFault
+    ensures { result ≡ fault_by fault }
+{
+    match fault {
+        EmitFault::NoMemory => LowerFault::NoMemory,
+        EmitFault::TooLong => LowerFault::refused(alloc, 401, 0),
+    }
+}
+
+// The unit of this index.
+fn lower_numbered(
+    alloc: Global,
+    program: &ProgramSymbols,
+    common: &CommonStarts,
+    index: usize,
+    symbols: &Symbols,
+) -> Result<LoweredUnit, LowerFault>
+    requires accepted { IsAccepted program.now }
+    requires there { index < length program.now }
+    requires unit { symbols.now ≡ unit_at program.now index }
+    requires starts { AreStarts program.now common.now }
+    requires small_common { common_cells program.now ≤ most_cells }
+    requires small_frame { frame_cells (unit_at program.now index) ≤ most_cells }
+    requires few_units { length program.now ≤ greatest }
+    ensures lowered { IfOk result (IsUnit program.now index) }
+    ensures refused { IfErr result (RefusesCode program.now) }
+{
+    let places = unit_places(alloc, symbols, common)?;
+    let lowered = match lower_unit(alloc, program, symbols, &places.places) {
+        Ok(lowered) => lowered,
+        Err(fault) => return Err(fault_of(alloc, fault)),
+    };
+    if let Some(line) = lowered.depth.too_deep {
+        return Ok(LoweredUnit::TooDeep(line));
+    }
+    Ok(LoweredUnit::Runnable(UnitCode {
+        code: Sequence::from(lowered.code),
+        entry: lowered.entry,
+        arrays: Sequence::from(places.arrays),
+        operands: lowered.depth.operands as u32,
+        cells: places.cells,
+        private: Sequence::from(places.private),
+    }))
+}
+
+/// All units of a checked program, of which no frame has more than 16,777,216 cells, and COMMON hasn't.
+///
+/// # Errors
+///
+/// 401 where a unit would have more than 1,048,576 instructions, or that memory was refused.
+pub(crate) fn lower_units(
+    alloc: Global,
+    program: &ProgramSymbols,
+    common: &CommonStarts,
+) -> Result<LoweredUnits, LowerFault>
+    requires accepted { IsAccepted program.now }
+    requires starts { AreStarts program.now common.now }
+    requires small_common { common_cells program.now ≤ most_cells }
+    requires small_frames { (u : ℕ) → u < length program.now → frame_cells (unit_at program.now u) ≤ most_cells }
+    requires few_units { length program.now ≤ greatest }
+    ensures units { IfOk result (AreUnits program.now (length program.now)) }
+    ensures refused { IfErr result (RefusesCode program.now) }
+{
+    let mut units = LoweredUnits::new(alloc);
+    for (index, symbols) in program.units().iter().enumerate() {
+        units.add(lower_numbered(alloc, program, common, index, symbols)?)?;
+    }
+    Ok(units)
+}

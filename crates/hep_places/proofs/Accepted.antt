@@ -1,0 +1,25 @@
+-- What the laws of accepted programs say of the arrays of a unit.
+use Rattle.std.proofs.Common.{◌≡◌, ℕ, ◌<◌, Bool, true, false, List, [], length, Some, None, refl, ap, sym, ◌∙◌}
+use Rattle.std.specs.Prelude.{slice_get}
+use Rattle.std.proofs.lemmas.Option.{none-some, slice_get-get_or, unwrap_or-slice_get}
+use Rattle.hep_source.specs.declared.name.Name.{Name}
+use Rattle.hep_source.specs.declared.statement.Statement.{Statement}
+use Rattle.hep_source.specs.Names.{index_among, is_among}
+use Rattle.hep_source.specs.Units.{Units, dummies_of, unit_at}
+use Rattle.hep_machine.specs.Constants.{cells_of}
+use Rattle.hep_machine.specs.Declarations.{is_dummy}
+use Rattle.hep_accepted.specs.Typing.{HasShape}
+use Rattle.hep_places.proofs.Few.{some-cells}
+use Rattle.hep_places.proofs.Right.{index-there}
+
+pub unit_there : (program : Units) (u : ℕ) → u < length program → slice_get program u ≡ Some (unit_at program u)
+unit_there program u h = slice_get-get_or program u [] h ∙ ap (λ unit. Some unit) (sym (unwrap_or-slice_get program u []))
+
+pub no-dummy : (unit : List Statement) (x : Name) → index_among x (dummies_of unit) ≡ None → is_dummy unit x ≡ false
+no-dummy unit x i = by (is_among x (dummies_of unit)) refl where
+  by : (t : Bool) → is_among x (dummies_of unit) ≡ t → t ≡ false
+  by true e = let found = index-there x (dummies_of unit) e in absurd (none-some found.0 (sym i ∙ found.1))
+  by false e = refl
+
+pub sized-by : (unit : List Statement) (x : Name) → index_among x (dummies_of unit) ≡ None → (is_dummy unit x ≡ false → HasShape unit x) → 0 < cells_of unit x
+sized-by unit x i shape = let s = shape (no-dummy unit x i) in some-cells unit x s.0 s.3 s.1 s.2 s.4

@@ -1,0 +1,31 @@
+-- Names of actual arguments, as loops gather them.
+use Rattle.std.proofs.Common.{◌≡◌, Bool, true, false, List, [], ◌∷◌, ◌++◌, refl, ap, sym, ◌∙◌, if◌then◌else◌}
+use Rattle.std.specs.List.{flat_map}
+use Rattle.hep_source.specs.declared.name.Name.{Name}
+use Rattle.hep_source.specs.Names.{is_among, same_name}
+use Rattle.hep_symbols.specs.Tables.{either}
+
+among-append : (x : Name) (xs ys : List Name) → is_among x (xs ++ ys) ≡ either (is_among x xs) (is_among x ys)
+among-append x [] ys = refl
+among-append x (z ∷ zs) ys = by (same_name x z) (among-append x zs ys) where
+  by : (b : Bool) → is_among x (zs ++ ys) ≡ either (is_among x zs) (is_among x ys) → (if b then true else is_among x (zs ++ ys)) ≡ either (if b then true else is_among x zs) (is_among x ys)
+  by true h = refl
+  by false h = h
+
+either-assoc : (a b c : Bool) → either (either a b) c ≡ either a (either b c)
+either-assoc true b c = refl
+either-assoc false b c = refl
+
+pub among-next : {A : Type 0} (x : Name) (f : A → List Name) (a new whole : Bool) (y : A) (ys rest : List A)
+    → either a (is_among x (flat_map f ys)) ≡ whole → ys ≡ y ∷ rest → new ≡ either a (is_among x (f y)) → either new (is_among x (flat_map f rest)) ≡ whole
+among-next x f a new whole y ys rest h d e =
+    ap (λ b. either b (is_among x (flat_map f rest))) e
+    ∙ (either-assoc a (is_among x (f y)) (is_among x (flat_map f rest))
+    ∙ (ap (either a) (sym (among-append x (f y) (flat_map f rest)))
+    ∙ (ap (λ zs. either a (is_among x (flat_map f zs))) (sym d) ∙ h)))
+
+pub among-one : (x y : Name) → same_name x y ≡ is_among x (y ∷ [])
+among-one x y = by (same_name x y) where
+  by : (b : Bool) → b ≡ (if b then true else false)
+  by true = refl
+  by false = refl

@@ -1,0 +1,12 @@
+mod Narrowed
+mod Taken
+mod Gathered
+mod Lengths
+mod Extents
+mod InBlocks
+mod Begins
+mod Named
+mod Right
+mod Few
+mod Accepted
+mod Final

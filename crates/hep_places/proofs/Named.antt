@@ -1,0 +1,80 @@
+-- Each occurrence in a unit is one of a name of the unit, and each name of a unit is there once.
+use Rattle.std.proofs.Common.{◌≡◌, zero, suc, Bool, true, false, List, [], ◌∷◌, ◌++◌, refl, ap, ◌∙◌, subst, if◌then◌else◌}
+use Rattle.std.proofs.lemmas.Option.{none-some, same_Some}
+use Rattle.hep_source.proofs.NameTests.{same_name-self, same_name-turned}
+use Rattle.hep_source.specs.declared.name.Name.{Name}
+use Rattle.hep_source.specs.declared.name.Occurrence.{Occurrence}
+use Rattle.hep_source.specs.declared.statement.Statement.{Statement}
+use Rattle.hep_source.specs.Names.{is_among, same_name, with_name, with_names}
+use Rattle.hep_source.specs.Units.{names_of_occurrences}
+use Rattle.hep_machine.specs.Variables.{names_of, occurrences_of}
+use Rattle.hep_accepted.proofs.Members.{Has, among_has, has_behind, has_front, has_map}
+
+pub has_among : (xs : List Name) (x : Name) → Has xs x → is_among x xs ≡ true
+has_among [] x h = absurd (none-some x h.1)
+has_among (y ∷ ys) x (zero, g) = ap (λ b. if b then true else is_among x ys) (ap (same_name x) (same_Some y x g) ∙ same_name-self x)
+has_among (y ∷ ys) x (suc i, g) = behind (same_name x y) (has_among ys x (i, g)) where
+  behind : (b : Bool) → is_among x ys ≡ true → (if b then true else is_among x ys) ≡ true
+  behind true e = refl
+  behind false e = e
+
+-- ---- names that are added to others
+
+stays : (xs : List Name) (y x : Name) → Has xs x → Has (with_name xs y) x
+stays xs y x h = by (is_among y xs) where
+  by : (b : Bool) → Has (if b then xs else xs ++ y ∷ []) x
+  by true = h
+  by false = has_front xs (y ∷ []) x h
+
+all_stay : (xs ys : List Name) (x : Name) → Has xs x → Has (with_names xs ys) x
+all_stay xs [] x h = h
+all_stay xs (y ∷ ys) x h = all_stay (with_name xs y) ys x (stays xs y x h)
+
+is_there : (xs : List Name) (y : Name) → Has (with_name xs y) y
+is_there xs y = by (is_among y xs) refl where
+  by : (b : Bool) → is_among y xs ≡ b → Has (if b then xs else xs ++ y ∷ []) y
+  by true e = among_has y xs e
+  by false e = has_behind xs (y ∷ []) y (zero, refl)
+
+all_there : (xs ys : List Name) (x : Name) → Has ys x → Has (with_names xs ys) x
+all_there xs [] x h = absurd (none-some x h.1)
+all_there xs (y ∷ ys) x (zero, g) = all_stay (with_name xs y) ys x (subst (λ z. Has (with_name xs y) z) (same_Some y x g) (is_there xs y))
+all_there xs (y ∷ ys) x (suc i, g) = all_there (with_name xs y) ys x (i, g)
+
+pub name_of_unit : (unit : List Statement) (p : Occurrence) → Has (occurrences_of unit) p → Has (names_of unit) p.name
+name_of_unit unit p h = all_there [] (names_of_occurrences (occurrences_of unit)) p.name (has_map (λ (q : Occurrence). q.name) (occurrences_of unit) p h)
+
+-- ---- each name once
+
+abbrev pub AreDistinct : List Name → Type 0
+AreDistinct [] = Unit {0}
+AreDistinct (x ∷ xs) = (is_among x xs ≡ false) × AreDistinct xs
+
+parts : (a b : Bool) → (if a then true else b) ≡ false → (a ≡ false) × (b ≡ false)
+parts true b e = absurd cc
+parts false b e = (refl, e)
+
+not_last : (x y : Name) (xs : List Name) → is_among x xs ≡ false → same_name x y ≡ false → is_among x (xs ++ y ∷ []) ≡ false
+not_last x y [] e f = ap (λ b. if b then true else false) f
+not_last x y (z ∷ zs) e f =
+    let h = parts (same_name x z) (is_among x zs) e in
+    ap (λ b. if b then true else is_among x (zs ++ y ∷ [])) h.0 ∙ not_last x y zs h.1 f
+
+distinct_last : (xs : List Name) (y : Name) → is_among y xs ≡ false → AreDistinct xs → AreDistinct (xs ++ y ∷ [])
+distinct_last [] y e h = (refl, tt)
+distinct_last (x ∷ xs) y e h =
+    let g = parts (same_name y x) (is_among y xs) e in
+    (not_last x y xs h.0 (same_name-turned x y ∙ g.0), distinct_last xs y g.1 h.1)
+
+distinct_with : (xs : List Name) (y : Name) → AreDistinct xs → AreDistinct (with_name xs y)
+distinct_with xs y h = by (is_among y xs) refl where
+  by : (b : Bool) → is_among y xs ≡ b → AreDistinct (if b then xs else xs ++ y ∷ [])
+  by true e = h
+  by false e = distinct_last xs y e h
+
+distinct_all : (xs ys : List Name) → AreDistinct xs → AreDistinct (with_names xs ys)
+distinct_all xs [] h = h
+distinct_all xs (y ∷ ys) h = distinct_all (with_name xs y) ys (distinct_with xs y h)
+
+pub names_distinct : (unit : List Statement) → AreDistinct (names_of unit)
+names_distinct unit = distinct_all [] (names_of_occurrences (occurrences_of unit)) tt

@@ -1,0 +1,10 @@
+use Rattle.std.proofs.Common.{◌≡◌, drop}
+use Rattle.indexmap.specs.IndexSet.{contains}
+use Rattle.hep_source.specs.declared.name.Name.{Name}
+use Rattle.hep_source.specs.Names.{is_among, name_eq}
+use Rattle.hep_symbols.specs.Tables.{either}
+use Rattle.hep_image.specs.Private.{bare_actuals}
+use Rattle.hep_places.proofs.actuals.bare_actuals.Given as goal
+
+abbrev pub invariant-loop-statement : goal.invariant-loop-statement
+invariant-loop-statement l = (x : Name) → either (contains name_eq l.names x) (is_among x (bare_actuals (drop l.statement-index l.statements))) ≡ is_among x (bare_actuals l.statements)

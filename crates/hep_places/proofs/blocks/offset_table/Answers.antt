@@ -1,0 +1,31 @@
+use Rattle.std.proofs.Common.{◌+◌, ◌≤◌, ap, get_or, length, sym, ◌∙◌, drop, arith}
+use Rattle.std.proofs.lemmas.List.{drop_more, drop_all}
+use Rattle.std.specs.Option.{option_or}
+use Rattle.indexmap.specs.IndexMap.{get}
+use Rattle.hep_source.specs.Names.{name_eq}
+use Rattle.hep_symbols.proofs.Notes.{or-none}
+use Rattle.hep_places.specs.Found.{length_in, no_length, offset_among, entries_of}
+use Rattle.hep_places.proofs.Taken.{offset-first, offset-next, no_entry}
+use Rattle.hep_places.proofs.blocks.offset_table.Goals as goal
+
+pub loop-entry-init : goal.loop-entry-init
+loop-entry-init c = λ x.
+    offset-first c.args.symbols.now x (length_in c.new-offsets.result.lengths) c.deref-entry-items.result.now _ (c.new-offsets.ensures.table x) c.new-offsets.ensures.lengths
+
+pub loop-entry-preserved : goal.loop-entry-preserved
+loop-entry-preserved c = λ x.
+    let es = c.deref-entry-items.result.now in
+    let i = c.loop-entry.entry-index in
+    offset-next c.args.symbols.now x (get_or es i no_entry) (length_in c.loop-entry.offsets.lengths) (length_in c.add.new.self.lengths) (drop i es) (drop (i + 1) es) _ _ _
+    (c.loop-entry.invariant x) (drop_more es i no_entry c.loop-entry-test.true) (c.in_ok-add.ensures.table x) c.in_ok-add.ensures.lengths
+
+pub returns : goal.returns
+returns c = λ x.
+    let es = c.deref-entry-items.result.now in
+    let i = c.loop-entry.entry-index in
+    let k : length es ≤ i = omega arith in
+    let unit = c.args.symbols.now in
+    sym (or-none (get name_eq c.loop-entry.offsets.table x))
+    ∙ (ap (λ fs. option_or (get name_eq c.loop-entry.offsets.table x) (offset_among unit (length_in c.loop-entry.offsets.lengths) fs x)) (sym (drop_all i es k))
+    ∙ (c.loop-entry.invariant x
+    ∙ ap (λ fs. offset_among unit no_length fs x) (c.deref-entry-items.ensures.value ∙ (c.in_ok-entries.ensures ∙ ap entries_of c.statements.ensures))))

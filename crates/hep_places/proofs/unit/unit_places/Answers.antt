@@ -1,0 +1,47 @@
+use Rattle.std.proofs.Common.{◌≡◌, List, map, ap, subst, ◌∙◌}
+use Rattle.std.specs.List.{filter}
+use Rattle.std.specs.Option.{unwrap_or}
+use Rattle.indexmap.specs.IndexMap.{get}
+use Rattle.hep_source.specs.declared.name.Name.{Name}
+use Rattle.hep_source.specs.declared.statement.Statement.{Statement}
+use Rattle.hep_source.specs.Names.{name_eq}
+use Rattle.hep_source.specs.Units.{unit_at}
+use Rattle.hep_machine.specs.Declarations.{is_array}
+use Rattle.hep_machine.specs.Variables.{names_of}
+use Rattle.hep_image.specs.Private.{is_private}
+use Rattle.hep_places.specs.declared.unit.UnitPlaces.{UnitPlaces}
+use Rattle.hep_places.specs.Found.{array_found, variable_among}
+use Rattle.hep_places.proofs.Accepted.{no-dummy, unit_there}
+use Rattle.hep_places.proofs.Final.{IsFound, found_start, places-right}
+use Rattle.hep_places.proofs.Right.{constant-is-fixed}
+use Rattle.hep_places.proofs.unit.unit_places.Goals as goal
+
+pub returns : goal.returns
+returns c = λ program u accepted inside same starts few small.
+    let unit = unit_at program u in
+    let now = c.args.symbols.now in
+    let common = c.args.common.now in
+    let t = c.in_ok-tables.tables in
+    let p : UnitPlaces = record {
+      places = record { variables = c.in_ok-variables.variables; loop_cells = t.loop_cells };
+      arrays = c.in_ok-arrays.arrays;
+      cells = t.cells;
+      private = c.in_ok-private.private;
+    } in
+    let there = unit_there program u inside in
+    let names : c.as_slice-names.result.now ≡ names_of now = c.as_slice-names.ensures.keys ∙ c.names.ensures in
+    places-right program u unit common t p there
+    (record {
+      constant = λ x h e. let found = c.constant_shapes.ensures program u x accepted inside h e in (found.0, found.1);
+      adjusted = λ x h found. constant-is-fixed unit x h found;
+      own = λ x h i. let found = c.arrays_have_shapes.ensures.constant program u unit x accepted there h (no-dummy unit x i) in (found.0, found.1);
+    })
+    (c.arrays_are_few.ensures program u accepted inside small few) small few starts
+    (subst (λ (v : List Statement). IsFound v common t p) same (record {
+      tables = c.in_ok-tables.ensures;
+      variables = λ x. c.in_ok-variables.ensures x ∙ ap (λ xs. variable_among now (found_start now common t) 0 xs x) names;
+      loops = λ i. t.loop_cells.items;
+      arrays = c.in_ok-arrays.ensures ∙ ap (λ xs. map (array_found now (found_start now common t) (get name_eq t.bounds)) (filter (is_array now) xs)) names;
+      cells = λ i. t.cells;
+      private_are = c.in_ok-private.ensures ∙ ap (λ xs. map (λ (x : Name). unwrap_or (get name_eq t.locals x) 0) (filter (is_private now) xs)) c.locals.ensures;
+    }))

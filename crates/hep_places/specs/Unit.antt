@@ -1,0 +1,19 @@
+-- Where the variables of a unit, its arrays and its DOs are: docs/MACHINE.md, "Variables and frames" and "Layout".
+use Rattle.std.specs.Prelude.{◌≡◌, ℕ, List, map}
+use Rattle.hep_source.specs.declared.name.Name.{Name}
+use Rattle.hep_source.specs.declared.statement.Statement.{Statement}
+use Rattle.hep_source.specs.Units.{Units}
+use Rattle.hep_machine.specs.Variables.{frame_cells}
+use Rattle.hep_image.specs.Places.{array_of, arrays_of, loop_cells, variable_of}
+use Rattle.hep_image.specs.Private.{private_cells}
+use Rattle.hep_places.specs.declared.unit.UnitPlaces.{UnitPlaces}
+use Rattle.hep_places.specs.Places.{cells_in, variable_in}
+
+-- what is kept of a unit of a program is where its things are
+pub record ArePlaces (program : Units) (unit : List Statement) (p : UnitPlaces) : Type 0 where
+  -- of all names, also those that the unit doesn't have
+  pub variables : (x : Name) → variable_in p.places x ≡ variable_of program unit x
+  pub loops : (d : ℕ) → cells_in p.places d ≡ loop_cells unit d
+  pub arrays : p.arrays.items ≡ map (array_of program unit) (arrays_of unit)
+  pub cells : p.cells ≡ frame_cells unit
+  pub private_are : p.private.items ≡ private_cells unit

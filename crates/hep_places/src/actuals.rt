@@ -1,0 +1,54 @@
+//! Actual arguments that are names by themselves (X3.9-1978, 15.9.3).
+ghost use Rattle.std.specs.Prelude.{◌≡◌, ◌||◌, false, IfOk, OnOk};
+ghost use Rattle.std.specs.List.{flat_map};
+ghost use Rattle.indexmap.specs.IndexSet.{contains};
+ghost use Rattle.hep_source.specs.declared.name.Name.{Name as PureName};
+ghost use Rattle.hep_source.specs.Names.{is_among, name_eq};
+ghost use Rattle.hep_symbols.specs.Tables.{either};
+ghost use Rattle.hep_image.specs.Private as private;
+
+use hep_source::{Expr, Form, Name, Node, Statement};
+use indexmap::IndexSet;
+use std::alloc::{AllocError, Global};
+
+fn add_name(names: &mut IndexSet<Name>, actual: &Expr) -> Result<(), AllocError>
+    ensures { OnOk result ((x : PureName) → contains name_eq names.new x ≡ either (contains name_eq names.old x) (is_among x (private.bare_name actual.now))) }
+{
+    if let Node::Occurrence(occurrence) = &actual.node {
+        names.insert(occurrence.name)?;
+    }
+    Ok(())
+}
+
+fn add_names(names: &mut IndexSet<Name>, actuals: &[Expr]) -> Result<(), AllocError>
+    ensures { OnOk result ((x : PureName) → contains name_eq names.new x ≡ either (contains name_eq names.old x) (is_among x (flat_map private.bare_name actuals.now))) }
+{
+    for actual in actuals {
+        add_name(names, actual)?;
+    }
+    Ok(())
+}
+
+// The actual arguments of a CALL or CREATE.
+fn actuals_in(form: &Form) -> &[Expr]
+    ensures { flat_map private.bare_name result.now ≡ private.bare_actuals_in form.now }
+{
+    match form {
+        Form::Call(_, actuals) | Form::Create(_, actuals) => actuals.as_slice(),
+        _ => &[],
+    }
+}
+
+// The names of a unit that are somewhere an actual argument by themselves.
+pub(crate) fn bare_actuals(
+    alloc: Global,
+    statements: &[Statement],
+) -> Result<IndexSet<Name>, AllocError>
+    ensures { IfOk result (λ names. (x : PureName) → contains name_eq names x ≡ is_among x (private.bare_actuals statements.now)) }
+{
+    let mut names = IndexSet::new(alloc);
+    for statement in statements {
+        add_names(&mut names, actuals_in(&statement.form))?;
+    }
+    Ok(names)
+}

@@ -1,0 +1,155 @@
+//! How far names in COMMON are behind the first cells of their blocks (X3.9-1978, 8.3.3).
+ghost use Rattle.std.specs.Prelude.{◌≡◌, ◌++◌, None, map, IfOk, OnOk};
+ghost use Rattle.std.specs.Option.{option_or};
+ghost use Rattle.indexmap.specs.IndexMap.{get};
+ghost use Rattle.hep_source.specs.declared.name.Name.{Name as PureName};
+ghost use Rattle.hep_source.specs.Names.{name_eq};
+ghost use Rattle.hep_machine.specs.Constants as values;
+ghost use Rattle.hep_machine.specs.Constants.{value_among, constant_value};
+ghost use Rattle.hep_machine.specs.Declarations as declarations;
+ghost use Rattle.hep_machine.specs.Declarations.{BlockName};
+ghost use Rattle.hep_symbols.specs.Tables.{by_name};
+ghost use Rattle.hep_places.specs.Found as found;
+
+use crate::cells::further;
+use crate::notes::note;
+use hep_source::{CommonBlock, Declarator, Form, Name, Statement};
+use hep_storage::cells_of;
+use hep_symbols::Symbols;
+use hep_types::Constants;
+use indexmap::IndexMap;
+use std::alloc::{AllocError, Global};
+
+// A name in a common block; blank COMMON has no name.
+#[derive(Clone, Copy, Debug, PartialEq, Eq)]
+pub(crate) struct Entry {
+    pub(crate) block: Option<Name>,
+    pub(crate) name: Name,
+}
+
+fn add_names(
+    entries: &mut Vec<Entry>,
+    block: Option<Name>,
+    declarators: &[Declarator],
+) -> Result<(), AllocError>
+    ensures { OnOk result (entries.new.items ≡ entries.old.items ++ map (found.entry_of block) declarators.now) }
+{
+    for declarator in declarators {
+        let name = declarator.occurrence.name;
+        entries.push(Entry { block, name })?;
+    }
+    Ok(())
+}
+
+fn add_block(entries: &mut Vec<Entry>, block: &CommonBlock) -> Result<(), AllocError>
+    ensures { OnOk result (entries.new.items ≡ entries.old.items ++ map (found.entry_of (declarations.block_of block.now)) block.now.entries) }
+{
+    let name = block.block.map(|occurrence| occurrence.name);
+    add_names(entries, name, block.entries.as_slice())?;
+    Ok(())
+}
+
+fn add_blocks(entries: &mut Vec<Entry>, blocks: &[CommonBlock]) -> Result<(), AllocError>
+    ensures { OnOk result (entries.new.items ≡ entries.old.items ++ found.entries_in blocks.now) }
+{
+    for block in blocks {
+        add_block(entries, block)?;
+    }
+    Ok(())
+}
+
+fn blocks_in(form: &Form) -> &[CommonBlock]
+    ensures { result.now ≡ declarations.blocks_in form.now }
+{
+    match form {
+        Form::Common(blocks) => blocks.as_slice(),
+        _ => &[],
+    }
+}
+
+// The names in the common blocks of a unit, each with its block.
+fn entries_of(alloc: Global, statements: &[Statement]) -> Result<Vec<Entry>, AllocError>
+    ensures { IfOk result (λ entries. entries.items ≡ found.entries_of statements.now) }
+{
+    let mut entries = Vec::new(alloc);
+    for statement in statements {
+        add_blocks(&mut entries, blocks_in(&statement.form))?;
+    }
+    Ok(entries)
+}
+
+// How many cells of their blocks are before names, and how long the blocks are as far as they were read.
+#[derive(Drop)]
+struct Offsets {
+    table: IndexMap<Name, u32>,
+    lengths: IndexMap<Option<Name>, u32>,
+}
+
+fn length_of(lengths: &IndexMap<Option<Name>, u32>, block: Option<Name>) -> u32
+    ensures { result ≡ found.length_in lengths.now block }
+{
+    lengths.get(&block).copied().unwrap_or(0)
+}
+
+fn lengthen(
+    lengths: &mut IndexMap<Option<Name>, u32>,
+    block: Option<Name>,
+    cells: u32,
+) -> Result<(), AllocError>
+    ensures { OnOk result ((b : BlockName) → found.length_in lengths.new b ≡ found.lengthened (found.length_in lengths.old) block cells b) }
+{
+    let length = further(length_of(lengths, block), cells);
+    lengths.insert(block, length)?;
+    Ok(())
+}
+
+impl Offsets {
+    fn new(alloc: Global) -> Offsets
+        ensures table { (x : PureName) → get name_eq result.table x ≡ None }
+        ensures lengths { (b : BlockName) → found.length_in result.lengths b ≡ found.no_length b }
+    {
+        Offsets {
+            table: IndexMap::new(alloc),
+            lengths: IndexMap::new(alloc),
+        }
+    }
+
+    // A name behind the others of its block.
+    fn add(
+        &mut self,
+        alloc: Global,
+        symbols: &Symbols,
+        constants: &Constants,
+        entry: &Entry,
+    ) -> Result<(), AllocError>
+        requires { value_among constants.now ≡ constant_value symbols.now }
+        ensures table { OnOk result ((x : PureName) → get name_eq self.new.table x ≡ option_or (get name_eq self.old.table x) (by_name entry.now.name (found.length_in self.old.lengths entry.now.block) x)) }
+        ensures lengths { OnOk result ((b : BlockName) → found.length_in self.new.lengths b ≡ found.lengthened (found.length_in self.old.lengths) entry.now.block (values.cells_of symbols.now entry.now.name) b) }
+    {
+        let cells = cells_of(alloc, symbols, constants, &entry.name)?;
+        note(
+            &mut self.table,
+            entry.name,
+            length_of(&self.lengths, entry.block),
+        )?;
+        lengthen(&mut self.lengths, entry.block, cells)?;
+        Ok(())
+    }
+}
+
+// By its name how many cells of its block are before a name in COMMON. The constants are all those of the unit.
+pub(crate) fn offset_table(
+    alloc: Global,
+    symbols: &Symbols,
+    constants: &Constants,
+) -> Result<IndexMap<Name, u32>, AllocError>
+    requires { value_among constants.now ≡ constant_value symbols.now }
+    ensures { IfOk result (λ table. (x : PureName) → get name_eq table x ≡ found.offset_among symbols.now found.no_length (found.entries_of symbols.now) x) }
+{
+    let entries = entries_of(alloc, symbols.statements())?;
+    let mut offsets = Offsets::new(alloc);
+    for entry in &entries {
+        offsets.add(alloc, symbols, constants, entry)?;
+    }
+    Ok(offsets.table)
+}

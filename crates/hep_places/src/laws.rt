@@ -1,0 +1,19 @@
+//! Laws of the arrays of accepted programs.
+ghost use Rattle.std.specs.Prelude.{ℕ, length, ◌<◌, ◌≤◌};
+ghost use Rattle.hep_source.specs.Units.{Units, unit_at};
+ghost use Rattle.hep_machine.specs.Layout.{common_cells};
+ghost use Rattle.hep_machine.specs.Variables.{frame_cells};
+ghost use Rattle.hep_check.specs.Conditions.{IsAccepted};
+ghost use Rattle.hep_image.specs.Places.{arrays_of};
+
+use hep_accepted::values::arrays_have_shapes;
+use hep_placed::laws::arrays_are_there;
+
+/// A unit whose frame, and a program whose COMMON, have no more than 16,777,216 cells has no more than twice as many
+/// arrays: each one has cells of its own.
+pub fn arrays_are_few()
+    ensures { (program : Units) (u : ℕ) → IsAccepted program → u < length program → frame_cells (unit_at program u) ≤ 16777216 → common_cells program ≤ 16777216 → length (arrays_of (unit_at program u)) ≤ 33554432 }
+{
+    arrays_are_there();
+    arrays_have_shapes();
+}

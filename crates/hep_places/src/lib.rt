@@ -1,0 +1,18 @@
+//! Where the variables of a unit, its arrays and its DOs are (docs/MACHINE.md, "Variables and frames" and "Layout").
+#![tactic(auto)]
+
+mod actuals;
+mod arrays;
+mod blocks;
+mod cells;
+pub mod laws;
+mod loops;
+mod names;
+mod notes;
+pub mod places;
+mod tables;
+pub mod unit;
+mod variables;
+
+pub use places::Places;
+pub use unit::{UnitPlaces, unit_places};

@@ -1,0 +1,79 @@
+//! Where the storage units of the names of a unit begin (X3.9-1978, 2.13, 8.3.2 and 15.9.3).
+ghost use Rattle.std.specs.Prelude.{◌≡◌, ◌+◌, ◌*◌, IfOk};
+ghost use Rattle.std.specs.Prelude.{length};
+ghost use Rattle.indexmap.specs.IndexMap.{get};
+ghost use Rattle.hep_source.specs.declared.name.Name.{Name as PureName};
+ghost use Rattle.hep_source.specs.Names.{name_eq};
+ghost use Rattle.hep_source.specs.Units.{dummies_of};
+ghost use Rattle.hep_machine.specs.Constants.{value_among, constant_value};
+ghost use Rattle.hep_machine.specs.Variables.{locals_of};
+ghost use Rattle.hep_common.specs.Starts.{narrowed};
+ghost use Rattle.hep_places.specs.Found as found;
+
+use crate::blocks::offset_table;
+use crate::cells::{behind_pairs, further};
+use crate::loops::Loops;
+use crate::names::Starts;
+use hep_common::CommonStarts;
+use hep_image::Start;
+use hep_source::Name;
+use hep_symbols::Symbols;
+use hep_types::Constants;
+use indexmap::IndexMap;
+use std::alloc::{AllocError, Global};
+
+// What a unit's frame has, and where its names in COMMON are in their blocks.
+#[derive(Drop)]
+pub(crate) struct Tables {
+    pub(crate) offsets: IndexMap<Name, u32>,
+    pub(crate) locals: IndexMap<Name, u32>,
+    pub(crate) bounds: IndexMap<Name, u32>,
+    pub(crate) loop_cells: Vec<u32>,
+    // How many cells the frame has.
+    pub(crate) cells: u32,
+}
+
+// Dummy arguments come behind the header, two cells each, then local variables, DOs and bounds.
+pub(crate) fn tables_of(
+    alloc: Global,
+    symbols: &Symbols,
+    constants: &Constants,
+) -> Result<Tables, AllocError>
+    requires { value_among constants.now ≡ constant_value symbols.now }
+    ensures { IfOk result (found.AreTables symbols.now) }
+{
+    let offsets = offset_table(alloc, symbols, constants)?;
+    let mut locals = Starts::new(alloc, behind_pairs(1, symbols.dummies().len()));
+    locals.add_variables(alloc, symbols, constants, symbols.locals())?;
+    let mut loops = Loops::new(alloc, locals.next);
+    loops.add_statements(symbols.statements())?;
+    let mut bounds = Starts::new(alloc, loops.next);
+    bounds.add_bounds(alloc, symbols, constants, symbols.dummies())?;
+    Ok(Tables {
+        offsets,
+        locals: locals.table,
+        bounds: bounds.table,
+        loop_cells: loops.cells,
+        cells: bounds.next,
+    })
+}
+
+// Where the storage units of a name begin, if it has any.
+pub(crate) fn start_of(
+    symbols: &Symbols,
+    common: &CommonStarts,
+    tables: &Tables,
+    name: &Name,
+) -> Option<Start>
+    ensures { result ≡ found.start_found symbols.now common.now (get name_eq tables.now.offsets) (get name_eq tables.now.locals) name.now }
+{
+    if let Some(position) = symbols.dummy_position(name) {
+        return Some(Start::Dummy(behind_pairs(1, position)));
+    }
+    if let Some(block) = symbols.common_block(name) {
+        let offset = tables.offsets.get(name).copied().unwrap_or(0);
+        return Some(Start::Common(further(common.start(block), offset)));
+    }
+    let cell = tables.locals.get(name).copied()?;
+    Some(Start::Local(cell))
+}

@@ -1,0 +1,69 @@
+//! Where all of a unit is.
+ghost use Rattle.std.specs.Prelude.{◌≡◌, ◌≤◌, ◌<◌, ℕ, length, IfOk};
+ghost use Rattle.hep_source.specs.Units.{Units, unit_at};
+ghost use Rattle.hep_machine.specs.Layout.{common_cells};
+ghost use Rattle.hep_machine.specs.Variables as variables;
+ghost use Rattle.hep_check.specs.Conditions.{IsAccepted};
+ghost use Rattle.hep_common.specs.Starts.{AreStarts};
+ghost use Rattle.hep_places.specs.Unit.{ArePlaces};
+
+use crate::arrays::arrays_among;
+use crate::laws::arrays_are_few;
+use crate::places::Places;
+use crate::tables::tables_of;
+use crate::variables::{private_among, variables_among};
+use hep_accepted::values::arrays_have_shapes;
+use hep_common::CommonStarts;
+use hep_image::Array;
+use hep_placed::laws::constant_shapes;
+use hep_storage::constants::constants;
+use hep_symbols::Symbols;
+use std::alloc::{AllocError, Global};
+
+/// Where a unit's variables, arrays and DOs are.
+#[derive(Drop)]
+pub struct UnitPlaces {
+    pub places: Places,
+    /// Its arrays, in order of first appearance.
+    pub arrays: Vec<Array>,
+    /// How many cells its frame has.
+    pub cells: u32,
+    /// The cells of its frame, counted from the first one, that have a plain local scalar which is nowhere a bare
+    /// actual argument; in rising order.
+    pub private: Vec<u32>,
+}
+
+/// Where the variables, arrays and DOs of a unit of an accepted program are, by one pass over each row of its frame and
+/// over its common blocks (docs/MACHINE.md, "Variables and frames" and "Layout"). Neither its frame nor COMMON has more
+/// than 16,777,216 cells, as in every arena.
+///
+/// # Errors
+///
+/// Only where memory was refused.
+pub fn unit_places(
+    alloc: Global,
+    symbols: &Symbols,
+    common: &CommonStarts,
+) -> Result<UnitPlaces, AllocError>
+    ensures { IfOk result (λ places. (program : Units) (u : ℕ) → IsAccepted program → u < length program → symbols.now ≡ unit_at program u → AreStarts program common.now → common_cells program ≤ 16777216 → variables.frame_cells (unit_at program u) ≤ 16777216 → ArePlaces program (unit_at program u) places) }
+{
+    // What holds of the arrays of every accepted program.
+    arrays_are_few();
+    constant_shapes();
+    arrays_have_shapes();
+    let constants = constants(alloc, symbols)?;
+    let tables = tables_of(alloc, symbols, &constants)?;
+    let names = symbols.names().as_slice();
+    let arrays = arrays_among(alloc, symbols, common, &constants, &tables, names)?;
+    let variables = variables_among(alloc, symbols, common, &tables, names)?;
+    let private = private_among(alloc, symbols, &tables, symbols.locals())?;
+    Ok(UnitPlaces {
+        places: Places {
+            variables,
+            loop_cells: tables.loop_cells,
+        },
+        arrays,
+        cells: tables.cells,
+        private,
+    })
+}

@@ -1,0 +1,10 @@
+pub mod Levels
+pub mod Standing
+pub mod Runs
+pub mod Shown
+pub mod Moved
+pub mod Leaving
+pub mod Ended
+pub mod Tops
+pub mod Settled
+pub mod Opened

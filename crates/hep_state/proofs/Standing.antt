@@ -1,0 +1,197 @@
+-- Where the levels of a process stand in the code, whatever the cells of their DOs hold.
+use Rattle.std.proofs.Common.{◌≡◌, ℕ, ◌<◌, ◌≤◌, true, List, [], ◌∷◌, length, map, Some, None, refl, sym, ap, ◌∙◌, subst}
+use Rattle.std.specs.Option.{unwrap_or}
+use Rattle.hep_source.specs.declared.value.Value.{Value}
+use Rattle.hep_source.specs.Units.{Units, unit_at}
+use Rattle.hep_machine.specs.declared.slot.Slot.{Slot}
+use Rattle.hep_machine.specs.Control.{level_after_statement}
+use Rattle.hep_machine.specs.Layout.{Frame, Layout}
+use Rattle.hep_machine.specs.Processes.{activation_of, unit_of}
+use Rattle.hep_machine.specs.State.{Activation, Level as SourceLevel, Process, State}
+use Rattle.hep_machine.specs.Step.{stack_after_return}
+use Rattle.hep_arena.specs.Gaps.{frame_among}
+use Rattle.hep_code.specs.Stacks.{AreBelow, AreLevels, IsOf}
+use Rattle.hep_code.specs.Standing.{HoldsLoops, Stands}
+use Rattle.hep_code.specs.UnitCode.{table_of}
+use Rattle.hep_code.proofs.Moves.{StandsAt, after_statement_keeps, after_statement_stands}
+use Rattle.hep_frames.specs.Descriptors.{Describes, level_of, wanted_of}
+use Rattle.hep_frames.specs.Tree.{AreFramed, is_stacked, Node, Nodes}
+use Rattle.hep_finding.proofs.Counted.{counted}
+use Rattle.hep_image.specs.Places.{addresses_of}
+use Rattle.hep_step.specs.Simulation.{counts_in, unit_addressed}
+use Rattle.hep_state.specs.declared.machine.Level.{Level}
+use Rattle.hep_state.specs.Showing.{AreThere, IsStack, IsThere, code_level, code_levels, node_under}
+use Rattle.hep_state.specs.Snapshots.{Stack}
+use Rattle.hep_state.proofs.Levels.{AreOn}
+
+-- ---- levels
+
+-- the activation of a level is that of its node, was made, and runs the level's unit
+pub record IsHere (program : Units) (s : State) (nodes : Nodes) (l : Level) (a : ℕ) : Type 0 where
+  pub inside : l.unit < length program
+  pub node : Node
+  pub there : nodes l.key ≡ Some node
+  pub activation : a ≡ node.activation
+  pub made : (1 ≤ a) × (a ≤ length s.activations)
+  pub unit : unit_of s a ≡ l.unit
+
+pub record StandsBelow (program : Units) (s : State) (nodes : Nodes) (l : Level) (level : SourceLevel) : Type 0 where
+  pub here : IsHere program s nodes l level.activation
+  pub index : l.index ≡ ((table_of (unit_addressed program l.unit)).flows level.statement).next
+
+pub record StandsOnTop (program : Units) (s : State) (nodes : Nodes) (vs : List Value) (l : Level) (level : SourceLevel) : Type 0 where
+  pub here : IsHere program s nodes l level.activation
+  pub stands : Stands (unit_addressed program l.unit) level.statement level.work vs l.index
+
+module _ (program : Units) (s : State) (nodes : Nodes) where
+  abbrev pub AreStandingBelow : List Level → Process → Type 0
+  AreStandingBelow [] [] = Unit {0}
+  AreStandingBelow (l ∷ ls) (level ∷ levels) = StandsBelow program s nodes l level × AreStandingBelow ls levels
+  AreStandingBelow _ _ = ⊥
+
+  abbrev pub AreStanding : List Value → List Level → Process → Type 0
+  AreStanding vs [] [] = Unit {0}
+  AreStanding vs (l ∷ ls) (level ∷ levels) = StandsOnTop program s nodes vs l level × AreStandingBelow ls levels
+  AreStanding vs _ _ = ⊥
+
+  -- ---- of levels in the code
+
+  module _ (contents : List Slot) where
+    node-is : (l : Level) (n : Node) → nodes l.key ≡ Some n → node_under nodes l.key ≡ n
+    node-is l n e = ap (λ o. unwrap_or o (node_under (λ k. None) 0)) e
+
+    is-here : (vs : List Value) (l : Level) (level : SourceLevel) → IsThere program nodes l → IsOf program (addresses_of program) s (code_level program contents nodes vs l) level → IsHere program s nodes l level.activation
+    is-here vs l level there h =
+        record {
+          inside = there.0;
+          node = node_under nodes l.key;
+          there = there.1;
+          activation = h.activation;
+          made = subst (λ a. (1 ≤ a) × (a ≤ length s.activations)) (sym h.activation) h.made;
+          unit = ap (unit_of s) h.activation ∙ h.unit;
+        }
+
+    standing-below : (ls : List Level) (levels : Process) → AreThere program nodes ls → AreBelow program (addresses_of program) s (map (code_level program contents nodes []) ls) levels → AreStandingBelow ls levels
+    standing-below [] [] there h = tt
+    standing-below (l ∷ ls) (level ∷ levels) there h = (record { here = is-here [] l level there.0 h.0.is_of; index = h.0.index }, standing-below ls levels there.1 h.1)
+    standing-below [] (level ∷ levels) there h = absurd h
+    standing-below (l ∷ ls) [] there h = absurd h
+
+    pub standing : (vs : List Value) (ls : List Level) (levels : Process) → AreThere program nodes ls → AreLevels program (addresses_of program) s (code_levels program contents nodes vs ls) levels → AreStanding vs ls levels
+    standing vs [] [] there h = tt
+    standing vs (l ∷ ls) (level ∷ levels) there h = (record { here = is-here vs l level there.0 h.0.is_of; stands = h.0.at.stands }, standing-below ls levels there.1 h.1)
+    standing vs [] (level ∷ levels) there h = absurd h
+    standing vs (l ∷ ls) [] there h = absurd h
+
+    -- ---- and back, where the cells of DOs hold what is wanted
+
+    module _ (layout : Layout) (described : Describes program s layout (wanted_of program s layout) contents) (framed : AreFramed layout nodes) where
+      there-again : (l : Level) (a : ℕ) → IsHere program s nodes l a → IsThere program nodes l
+      there-again l a h = (h.inside, h.there ∙ ap (λ (n : Node). Some n) (sym (node-is l h.node h.there)))
+
+      of-again : (vs : List Value) (l : Level) (level : SourceLevel) → IsHere program s nodes l level.activation → IsOf program (addresses_of program) s (code_level program contents nodes vs l) level
+      of-again vs l level h =
+          let same : level.activation ≡ (node_under nodes l.key).activation = h.activation ∙ ap (λ (n : Node). n.activation) (sym (node-is l h.node h.there)) in
+          record {
+            activation = same;
+            made = subst (λ a. (1 ≤ a) × (a ≤ length s.activations)) same h.made;
+            unit = ap (unit_of s) (sym same) ∙ h.unit;
+          }
+
+      loops-again : (l : Level) (level : SourceLevel) → IsHere program s nodes l level.activation → level_of s level.activation ≡ Some level
+          → HoldsLoops (unit_at program l.unit) (counts_in (unit_at program l.unit) contents (node_under nodes l.key).first) level.loops
+      loops-again l level h on =
+          let n = h.node in
+          let frame : Frame = record { activation = n.activation; first = n.first; cells = n.cells } in
+          let found : frame_among level.activation layout ≡ Some frame = ap (λ a. frame_among a layout) h.activation ∙ framed l.key n h.there in
+          subst (λ u. HoldsLoops (unit_at program u) (counts_in (unit_at program u) contents (node_under nodes l.key).first) level.loops) h.unit (
+          subst (λ (m : Node). HoldsLoops (unit_at program (unit_of s level.activation)) (counts_in (unit_at program (unit_of s level.activation)) contents m.first) level.loops) (sym (node-is l n h.there)) (
+          counted program s layout contents level.activation frame level described found on))
+
+      below-again : (ls : List Level) (levels : Process) → AreStandingBelow ls levels → AreOn s levels → AreThere program nodes ls × AreBelow program (addresses_of program) s (map (code_level program contents nodes []) ls) levels
+      below-again [] [] h on = (tt, tt)
+      below-again (l ∷ ls) (level ∷ levels) h on =
+          let rest = below-again ls levels h.1 on.2 in (
+            (there-again l level.activation h.0.here, rest.0),
+            (record { is_of = of-again [] l level h.0.here; index = h.0.index; operands = refl; loops = loops-again l level h.0.here on.0 }, rest.1),
+          )
+      below-again [] (level ∷ levels) h on = absurd h
+      below-again (l ∷ ls) [] h on = absurd h
+
+      levels-again : (vs : List Value) (ls : List Level) (levels : Process) → AreStanding vs ls levels → AreOn s levels → AreThere program nodes ls × AreLevels program (addresses_of program) s (code_levels program contents nodes vs ls) levels
+      levels-again vs [] [] h on = (tt, tt)
+      levels-again vs (l ∷ ls) (level ∷ levels) h on =
+          let rest = below-again ls levels h.1 on.2 in (
+            (there-again l level.activation h.0.here, rest.0),
+            (record { is_of = of-again vs l level h.0.here; at = record { stands = h.0.stands; loops = loops-again l level h.0.here on.0 } }, rest.1),
+          )
+      levels-again vs [] (level ∷ levels) h on = absurd h
+      levels-again vs (l ∷ ls) [] h on = absurd h
+
+      pub stack-again : (k : Stack) (q : Process) → AreStanding k.operands k.levels q → AreOn s q → IsStack program s contents nodes k q
+      stack-again k q h on = let both = levels-again k.operands k.levels q h on in record { there = both.0; levels = both.1 }
+
+  pub stack-standing : (contents : List Slot) (k : Stack) (q : Process) → IsStack program s contents nodes k q → AreStanding k.operands k.levels q
+  stack-standing contents k q h = standing contents k.operands k.levels q h.there h.levels
+
+-- ---- another state with the same activations, where the nodes are under their keys still
+
+module _ (program : Units) (s t : State) (old new : Nodes) (same : t.activations ≡ s.activations)
+    (stay : (key : ℕ) (n : Node) → old key ≡ Some n → is_stacked t n.activation ≡ true → (m : Node) × (new key ≡ Some m) × (m.activation ≡ n.activation)) where
+  pub here-still : (l : Level) (a : ℕ) → IsHere program s old l a → is_stacked t a ≡ true → IsHere program t new l a
+  here-still l a h on =
+      let kept = stay l.key h.node h.there (sym (ap (is_stacked t) h.activation) ∙ on) in
+      let one : activation_of t a ≡ activation_of s a = ap (λ (xs : List Activation). activation_of (record s { activations = xs }) a) same in
+      record {
+        inside = h.inside;
+        node = kept.0;
+        there = kept.1;
+        activation = h.activation ∙ sym kept.2;
+        made = subst (λ (xs : List Activation). (1 ≤ a) × (a ≤ length xs)) (sym same) h.made;
+        unit = ap (λ (x : Activation). x.unit) one ∙ h.unit;
+      }
+
+  pub below-still : (ls : List Level) (levels : Process) → AreStandingBelow program s old ls levels → AreOn t levels → AreStandingBelow program t new ls levels
+  below-still [] [] h on = tt
+  below-still (l ∷ ls) (level ∷ levels) h on = (record { here = here-still l level.activation h.0.here on.1; index = h.0.index }, below-still ls levels h.1 on.2)
+  below-still [] (level ∷ levels) h on = absurd h
+  below-still (l ∷ ls) [] h on = absurd h
+
+  pub standing-still : (vs : List Value) (ls : List Level) (levels : Process) → AreStanding program s old vs ls levels → AreOn t levels → AreStanding program t new vs ls levels
+  standing-still vs [] [] h on = tt
+  standing-still vs (l ∷ ls) (level ∷ levels) h on = (record { here = here-still l level.activation h.0.here on.1; stands = h.0.stands }, below-still ls levels h.1 on.2)
+  standing-still vs [] (level ∷ levels) h on = absurd h
+  standing-still vs (l ∷ ls) [] h on = absurd h
+
+-- ---- the top
+
+module _ (program : Units) (s : State) (nodes : Nodes) where
+  -- another level of its activation, where that stands
+  pub top-stands : (vs new : List Value) (l : Level) (ls : List Level) (level after : SourceLevel) (levels : Process) (index : ℕ) → AreStanding program s nodes vs (l ∷ ls) (level ∷ levels)
+      → after.activation ≡ level.activation → Stands (unit_addressed program l.unit) after.statement after.work new index → AreStanding program s nodes new (record l { index = index } ∷ ls) (after ∷ levels)
+  top-stands vs new l ls level after levels index h same stands =
+      let here = h.0.here in (
+        record {
+          here = record { inside = here.inside; node = here.node; there = here.there; activation = same ∙ here.activation; made = subst (λ a. (1 ≤ a) × (a ≤ length s.activations)) (sym same) here.made; unit = ap (unit_of s) same ∙ here.unit };
+          stands = stands;
+        },
+        h.1,
+      )
+
+  -- once it has ended its caller goes on
+  pub caller-stands : (ls : List Level) (levels : Process) → AreStandingBelow program s nodes ls levels → AreStanding program s nodes [] ls (stack_after_return program s levels)
+  caller-stands [] [] h = tt
+  caller-stands (l ∷ ls) (level ∷ levels) h =
+      let addressed = unit_addressed program l.unit in
+      let after = level_after_statement addressed.unit level in
+      let here = h.0.here in
+      let same = (after_statement_keeps addressed level).1 in
+      subst (λ u. AreStanding program s nodes [] (l ∷ ls) (level_after_statement (unit_at program u) level ∷ levels)) (sym here.unit) (
+        record {
+          here = record { inside = here.inside; node = here.node; there = here.there; activation = same ∙ here.activation; made = subst (λ a. (1 ≤ a) × (a ≤ length s.activations)) (sym same) here.made; unit = ap (unit_of s) same ∙ here.unit };
+          stands = subst (StandsAt addressed after) (sym h.0.index) (after_statement_stands addressed level);
+        },
+        h.1,
+      )
+  caller-stands [] (level ∷ levels) h = absurd h
+  caller-stands (l ∷ ls) [] h = absurd h

@@ -1,0 +1,191 @@
+-- The top activation of a process whose turn it is runs as the laws of steps ask.
+use Rattle.std.proofs.Common.{◌≡◌, Bool, ◌≢◌, inl, ℕ, zero, suc, ◌<◌, ◌≤◌, true, false, List, [], ◌∷◌, drop, length, Some, None, refl, sym, ap, ◌∙◌, subst, arith}
+use Rattle.std.specs.Prelude.{if◌then◌else◌, slice_get}
+use Rattle.std.proofs.lemmas.Option.{same_Some, none-some}
+use Rattle.hep_source.specs.declared.name.Name.{Name}
+use Rattle.hep_source.specs.declared.statement.Statement.{Statement}
+use Rattle.hep_source.specs.declared.value.Value.{Value}
+use Rattle.hep_source.specs.Names.{index_among, is_among, same_name}
+use Rattle.hep_source.proofs.NameTests.{equal_names}
+use Rattle.hep_machine.specs.Declarations.{is_array}
+use Rattle.hep_source.specs.Units.{Units, dummies_of, unit_at}
+use Rattle.hep_machine.specs.declared.slot.Slot.{Slot}
+use Rattle.hep_machine.specs.Layout.{Layout, activations_on}
+use Rattle.hep_machine.specs.Processes.{numbered, unit_of, with_numbered}
+use Rattle.hep_machine.specs.Run.{run}
+use Rattle.hep_machine.specs.State.{Activation, Level as SourceLevel, Process, State}
+use Rattle.hep_machine.specs.Step.{Top, scope_of, state_with_level, unit_on_top}
+use Rattle.hep_arena.specs.Gaps.{frame_among}
+use Rattle.hep_code.specs.declared.instruction.Instruction.{Instruction}
+use Rattle.hep_code.specs.declared.instruction.Instruction.TheVariants.{Step}
+use Rattle.hep_code.specs.declared.instruction.Evaluation.TheVariants.{Load, Test}
+use Rattle.hep_code.specs.declared.instruction.Operation.{Operation}
+use Rattle.hep_code.specs.declared.instruction.Operation.TheVariants.{Evaluate, Store, EnterLoop, EndLoop, Call, Create, Purge}
+use Rattle.hep_code.specs.declared.variable.Variable.TheVariants.{Absent}
+use Rattle.hep_code.specs.Replies.{IsAddressed}
+use Rattle.hep_code.specs.Standing.{HoldsLoops, Stands}
+use Rattle.hep_frames.specs.Addresses.{address}
+use Rattle.hep_frames.specs.Descriptors.{Describes, level_of, wanted_of}
+use Rattle.hep_frames.specs.Stacks.{times}
+use Rattle.hep_frames.proofs.Stacks.{level-found, levels-stay, once, times_on-numbered}
+use Rattle.hep_finding.specs.Constant.{HasConstantShape}
+use Rattle.hep_finding.proofs.Counted.{counted, loop-at}
+use Rattle.hep_finding.proofs.Named.{array-listed, constant-shape}
+use Rattle.hep_finding.proofs.Own.{own-addressed}
+use Rattle.hep_finding.specs.Within.{ArePlacedArrays}
+use Rattle.hep_image.specs.Finding.{cells_in}
+use Rattle.hep_image.specs.Places.{arrays_of, start_of, variable_by, variable_of}
+use Rattle.hep_image.specs.declared.array.Start.{Start}
+use Rattle.hep_placed.specs.Instructions.{IsOfOneActivation, variables_in}
+use Rattle.hep_placed.specs.Placed.{ArePlaced, code_in}
+use Rattle.hep_step.specs.Simulation.{IsRunning, counts_in, found_in, is_left_out, unit_addressed, unit_code, variable_in}
+use Rattle.hep_state.specs.declared.machine.Level.{Level}
+use Rattle.hep_state.specs.Snapshots.{Snapshot}
+use Rattle.hep_state.specs.Tops.{IsTurning, frame_under, top_after}
+use Rattle.hep_state.proofs.Ended.{top-node}
+use Rattle.hep_state.proofs.Levels.{all_levels, among-all, found, times-all}
+use Rattle.hep_state.proofs.Moved.{standing-before, there}
+use Rattle.hep_state.proofs.Shown.{numbered-set}
+
+-- what is known of each unit of a program that can be run
+pub record IsPlain (program : Units) : Type 0 where
+  pub none : (u : ℕ) → u < length program → dummies_of (unit_at program u) ≡ []
+  pub activation : (u i : ℕ) (x : Instruction) → u < length program → slice_get (code_in program u) i ≡ Some x → IsOfOneActivation x
+  pub placed : (u i : ℕ) (x : Instruction) → u < length program → slice_get (code_in program u) i ≡ Some x → ArePlaced (variables_in x)
+  pub shaped : (u : ℕ) (x : Name) → u < length program → HasConstantShape (unit_at program u) x
+  pub begun : (u i : ℕ) (x : Name) → u < length program → slice_get (arrays_of (unit_at program u)) i ≡ Some x → (at : Start) × (is_array (unit_at program u) x ≡ true) × (start_of program (unit_at program u) x ≡ Some at)
+
+pub plain-program : (program : Units) (u : ℕ) → u ≡ 0 → dummies_of (unit_at program 0) ≡ [] → dummies_of (unit_at program u) ≡ []
+plain-program program u first none = ap (λ n. dummies_of (unit_at program n)) first ∙ none
+
+-- ---- lists
+
+pub dropped-first : {A : Type 0} (xs : List A) (i : ℕ) (x : A) (behind : List A) → drop i xs ≡ x ∷ behind → slice_get xs i ≡ Some x
+dropped-first [] zero x behind e = absurd cc
+dropped-first [] (suc i) x behind e = absurd cc
+dropped-first (y ∷ ys) zero x behind e = cc
+dropped-first (y ∷ ys) (suc i) x behind e = dropped-first ys i x behind e
+
+pub unit-there : (program : Units) (u : ℕ) → u < length program → slice_get program u ≡ Some (unit_at program u)
+unit-there [] u h = absurd (omega (arith, h))
+unit-there (unit ∷ units) zero h = refl
+unit-there (unit ∷ units) (suc u) h = unit-there units u (omega (arith, h))
+
+-- ---- operations
+
+none_left_out : (line : ℕ) (o : Operation) → IsOfOneActivation (Step line o) → is_left_out o ≡ false
+none_left_out line (Call u count next) h = absurd h
+none_left_out line (Create u count next) h = absurd h
+none_left_out line (Purge count next) h = absurd h
+none_left_out line _ h = refl
+
+none_absent : (line : ℕ) (o : Operation) → ArePlaced (variables_in (Step line o)) → variable_in o ≢ Some Absent
+none_absent line (Evaluate (Load x n)) h e = h 0 x refl (same_Some x Absent e)
+none_absent line (Evaluate (Test g x n)) h e = h 0 x refl (same_Some x Absent e)
+none_absent line (Store x n next) h e = h 0 x refl (same_Some x Absent e)
+none_absent line (EnterLoop x cells inside behind) h e = h 0 x refl (same_Some x Absent e)
+none_absent line (EndLoop x cells inside behind) h e = h 0 x refl (same_Some x Absent e)
+none_absent line _ h e = absurd cc
+
+-- what isn't absent begins somewhere
+begins : (program : Units) (unit : List Statement) (x : Name) → variable_of program unit x ≢ Absent → start_of program unit x ≢ None
+unfolding variable_of
+begins program unit x there none = there (ap (variable_by unit x) none)
+
+module _ (program : Units) (plain : IsPlain program) (cells : ℕ) (choices : List ℕ) (m : Snapshot) (p : ℕ) (l : Level) (ls : List Level) (vs : List Value) (top : SourceLevel × Process) (h : IsTurning program cells choices m p l ls vs top) where
+  abbrev old : State
+  old = run program choices
+
+  abbrev t : Top
+  t = top_after program choices p top
+
+  abbrev layout : Layout
+  layout = h.after.layout
+
+  abbrev number : ℕ
+  number = unit_of old top.0.activation
+
+  unit-is : number ≡ l.unit
+  unit-is = (standing-before program cells choices m p l ls vs top h).0.here.unit
+
+  inside : number < length program
+  inside = subst (λ u. u < length program) (sym unit-is) (standing-before program cells choices m p l ls vs top h).0.here.inside
+
+  framed : frame_among top.0.activation layout ≡ Some (frame_under m.nodes l.key)
+  framed =
+      let here = (standing-before program cells choices m p l ls vs top h).0.here in
+      let node = top-node program cells choices m p l ls vs top h in
+      let same = same_Some here.node _ (sym here.there ∙ node) in
+      ap (λ a. frame_among a layout) (here.activation ∙ ap (λ n. n.activation) same) ∙ h.after.shows.keeps.framed l.key _ node
+
+  -- another level of the activation is found by it
+  itself : (after : SourceLevel) → after.activation ≡ top.0.activation → level_of (state_with_level t after) top.0.activation ≡ Some after
+  itself after same = by_number p (there program cells choices m p l ls vs top h) refl where
+    few : times top.0.activation (activations_on (all_levels (with_numbered old.processes p (after ∷ top.1)))) ≤ 1
+    few =
+        let qs = with_numbered old.processes p (after ∷ top.1) in
+        let a = top.0.activation in
+        let alike : times a (activations_on (after ∷ top.1)) ≡ times a (activations_on (top.0 ∷ top.1)) = ap (λ b. times a (b ∷ activations_on top.1)) same in
+        omega (arith, times-all a qs, times_on-numbered a old.processes p (top.0 ∷ top.1) (after ∷ top.1) (there program cells choices m p l ls vs top h), alike, (once program choices a).0)
+
+    by_number : (n : ℕ) → numbered old.processes n ≡ Some (top.0 ∷ top.1) → n ≡ p → level_of (state_with_level t after) top.0.activation ≡ Some after
+    by_number zero e same_number = absurd (none-some (top.0 ∷ top.1) e)
+    by_number (suc i) e same_number =
+        let set : numbered (with_numbered old.processes p (after ∷ top.1)) (suc i) ≡ Some (after ∷ top.1) = subst (λ n. numbered (with_numbered old.processes n (after ∷ top.1)) (suc i) ≡ Some (after ∷ top.1)) same_number (numbered-set old.processes (suc i) (top.0 ∷ top.1) (after ∷ top.1) e) in
+        found top.0.activation (all_levels (with_numbered old.processes p (after ∷ top.1))) after few (among-all after (with_numbered old.processes p (after ∷ top.1)) i (after ∷ top.1) set (inl refl)) same
+
+  addressed : (x : Name) (ss : List Value) → variable_of program (unit_on_top program t) x ≢ Absent
+      → IsAddressed (address program old layout) (scope_of program old top.0.activation) (found_in program number m.arena.contents (frame_under m.nodes l.key).first) (variable_of program (unit_on_top program t)) x ss
+  addressed x ss placed =
+      own-addressed program old layout (cells_in m.arena.contents) top.0.activation (frame_under m.nodes l.key) framed x ss (unit-there program number inside)
+      (ap (index_among x) (plain.none number inside)) (begins program (unit_on_top program t) x placed) (plain.shaped number x inside)
+
+  counts : (s : State) (after : SourceLevel) (slots : List Slot) → s.activations ≡ old.activations → Describes program s layout (wanted_of program s layout) slots → level_of s top.0.activation ≡ Some after
+      → HoldsLoops (unit_on_top program t) (counts_in (unit_on_top program t) slots (frame_under m.nodes l.key).first) after.loops
+  counts s after slots same described on =
+      let one : unit_of s top.0.activation ≡ number = ap (λ (xs : List Activation). unit_of (record old { activations = xs }) top.0.activation) same in
+      subst (λ u. HoldsLoops (unit_at program u) (counts_in (unit_at program u) slots (frame_under m.nodes l.key).first) after.loops) one (
+      counted program s layout slots top.0.activation (frame_under m.nodes l.key) after described framed on)
+
+  pub top-runs : IsRunning program t layout (frame_under m.nodes l.key) m.arena.contents m.arena.holes vs l.index
+  top-runs =
+      let k = h.after.shows.keeps in
+      let s0 = standing-before program cells choices m p l ls vs top h in
+      record {
+        running = h.running;
+        lives = h.lives;
+        level = level-found program choices p top h.lives;
+        others = λ after b same other. levels-stay old (state_with_level t after) p top after b h.lives refl same other;
+        itself = itself;
+        memory = k.memory;
+        described = k.described;
+        framed = framed;
+        stands = subst (λ u. Stands (unit_addressed program u) top.0.statement top.0.work vs l.index) (sym unit-is) s0.0.stands;
+        supported = λ i line o behind ahead. none_left_out line o (plain.activation number i (Step line o) inside (dropped-first (unit_code program number) i (Step line o) behind ahead));
+        placed = λ i line o behind ahead. none_absent line o (plain.placed number i (Step line o) inside (dropped-first (unit_code program number) i (Step line o) behind ahead));
+        addressed = addressed;
+        looped = λ d i is less. loop-at program old layout top.0.activation d i (frame_under m.nodes l.key) framed is less;
+        counted = counts;
+      }
+
+-- ---- arrays
+
+among-at : (x : Name) (xs : List Name) → is_among x xs ≡ true → (i : ℕ) × (slice_get xs i ≡ Some x)
+among-at x [] h = absurd cc
+among-at x (y ∷ ys) h = by_test (among-at x ys) (same_name x y) refl h where
+  by_test : (is_among x ys ≡ true → (i : ℕ) × (slice_get ys i ≡ Some x)) → (b : Bool) → same_name x y ≡ b → (if b then true else is_among x ys) ≡ true → (i : ℕ) × (slice_get (y ∷ ys) i ≡ Some x)
+  by_test rest true t h = (0, ap (λ (z : Name). Some z) (sym (equal_names x y t)))
+  by_test rest false t h = let found = rest h in (suc found.0, found.1)
+
+pub arrays-placed : (program : Units) → IsPlain program → (u : ℕ) → u < length program → ArePlacedArrays program (unit_at program u)
+arrays-placed program plain u inside x array =
+    let unit = unit_at program u in
+    let listed = among-at x (arrays_of unit) (array-listed x unit array) in
+    let begun = plain.begun u listed.0 x inside listed.1 in
+    let shape = plain.shaped u x inside array in
+    let fixed = (constant-shape unit x shape.0 array shape.1).1 in
+    record {
+      begins = λ none. none-some begun.0 (sym none ∙ begun.2);
+      dimensions = omega (arith, fixed);
+      own = λ e. plain.shaped u x inside;
+    }

@@ -1,0 +1,6 @@
+pub mod Snapshots
+pub mod Showing
+pub mod Turns
+pub mod Tops
+pub mod Openings
+pub mod Rooms

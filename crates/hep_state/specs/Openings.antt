@@ -1,0 +1,56 @@
+-- What a core keeps before the first step: docs/MACHINE.md, "The opening and runs".
+use Rattle.std.specs.Prelude.{◌≡◌, ℕ, false, List, [], ◌∷◌, length, nat_eq, slice_get, Some}
+use Rattle.std.specs.Option.{option_map}
+use Rattle.hep_source.specs.declared.value.Value.{Value}
+use Rattle.hep_source.specs.Units.{Units, main_unit}
+use Rattle.hep_machine.specs.Access.{unset_cell}
+use Rattle.hep_machine.specs.Layout.{Layout, opening_layout}
+use Rattle.hep_machine.specs.Opening.{cell_given, opening}
+use Rattle.hep_machine.specs.Run.{run}
+use Rattle.hep_machine.specs.State.{Location, State}
+use Rattle.hep_arena.specs.Space.{Space}
+use Rattle.hep_frames.specs.Addresses.{address}
+use Rattle.hep_frames.specs.Descriptors.{wanted_of}
+use Rattle.hep_frames.specs.Tree.{Node, Nodes, is_stacked}
+use Rattle.hep_image.specs.declared.data.DataRow.{DataRow}
+use Rattle.hep_image.specs.Data.{first_frames, value_in_rows}
+use Rattle.hep_proc.specs.Keeping.{Keeps}
+use Rattle.hep_state.specs.Snapshots.{Snapshot}
+
+-- each cell to which rows give a value keeps a storage unit, so no cell of a DO has one
+abbrev pub AreOfUnits : Units → List DataRow → Type 0
+AreOfUnits program rows =
+    (p : ℕ) (v : Value) → value_in_rows rows p ≡ Some v → (at : Location) × (address program (opening program) (first_frames program) at ≡ Some p)
+
+-- the opening before DATA gives values
+abbrev pub unset_opening : Units → State
+unset_opening program = record (run program []) { store = λ at. unset_cell }
+
+-- an arena with the values of rows
+pub record IsGiven (rows : List DataRow) (before after : Space) : Type 0 where
+  pub holes_are : after.holes ≡ before.holes
+  pub size : length after.contents ≡ length before.contents
+  pub given : (p : ℕ) → slice_get after.contents p ≡ option_map (cell_given (value_in_rows rows p)) (slice_get before.contents p)
+
+-- the frame of the main program's activation has entered, with its node under a key
+pub record IsEntered (program : Units) (cells key : ℕ) (arena : Space) (nodes : Nodes) : Type 0 where
+  pub layout : Layout
+  pub laid : opening_layout program cells ≡ Some layout
+  pub size : length arena.contents ≡ cells
+  pub keeps : Keeps program (unset_opening program) (is_stacked (unset_opening program)) (λ a. nat_eq a 1) layout (wanted_of program (unset_opening program) layout) arena nodes
+  pub node : Node
+  pub there : nodes key ≡ Some node
+  pub first : node.activation ≡ 1
+
+-- process 1 stands at an index of the main program
+abbrev pub snapshot_opened : Units → ℕ → ℕ → Space → Nodes → Snapshot
+snapshot_opened program key entry arena nodes =
+    record {
+      arena = arena;
+      nodes = nodes;
+      processes = record { levels = record { key = key; unit = main_unit program; index = entry } ∷ []; operands = [] } ∷ [];
+      activations = 1;
+      records = [];
+      faults = [];
+      halted = false;
+    }

@@ -1,0 +1,19 @@
+-- Room for operands in what a core keeps: docs/ARCHITECTURE.md, "Forms".
+use Rattle.std.specs.Prelude.{◌≡◌, ◌≤◌, ℕ, List, Some, slice_get, vec_capacity}
+use Rattle.hep_source.specs.Units.{Units}
+use Rattle.hep_code.specs.Depths.{deepest}
+use Rattle.hep_step.specs.Simulation.{unit_code}
+use Rattle.hep_state.specs.declared.machine.Level.{Level}
+use Rattle.hep_state.specs.declared.machine.Machine.{Machine}
+use Rattle.hep_state.specs.declared.machine.Process.{Process}
+use Rattle.hep_state.specs.Snapshots.{snapshot_of}
+use Rattle.hep_state.specs.Turns.{IsAfter}
+
+-- the operands of a process have room for the deepest stack of each unit that it runs, so no step takes memory for them
+abbrev pub HasRoom : Units → Process → Type 0
+HasRoom program q = (i : ℕ) (l : Level) → slice_get q.levels.items i ≡ Some l → deepest (unit_code program l.unit) ≤ vec_capacity q.operands
+
+-- a machine keeps the state after turns of these processes, with that room
+pub record IsMachineAfter (program : Units) (cells : ℕ) (choices : List ℕ) (m : Machine) : Type 0 where
+  pub after : IsAfter program cells choices (snapshot_of m)
+  pub room : (i : ℕ) (q : Process) → slice_get m.processes.items i ≡ Some q → HasRoom program q

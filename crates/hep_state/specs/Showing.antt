@@ -1,0 +1,72 @@
+-- That a core keeps a state of the source machine: docs/MACHINE.md, "Activations and processes" and "Layout".
+use Rattle.std.specs.Prelude.{◌≡◌, ◌<◌, ℕ, true, List, [], ◌∷◌, length, map, Some, None}
+use Rattle.std.specs.Option.{unwrap_or}
+use Rattle.hep_source.specs.declared.value.Value.{Value}
+use Rattle.hep_source.specs.Units.{Units, unit_at}
+use Rattle.hep_machine.specs.declared.slot.Slot.{Slot}
+use Rattle.hep_machine.specs.Layout.{Layout, is_held}
+use Rattle.hep_machine.specs.Processes.{numbered}
+use Rattle.hep_machine.specs.State.{Process, State}
+use Rattle.hep_code.specs.Stacks.{AreLevels, CodeLevel}
+use Rattle.hep_frames.specs.Descriptors.{wanted_of}
+use Rattle.hep_frames.specs.Tree.{is_stacked, Node, Nodes}
+use Rattle.hep_image.specs.Places.{addresses_of}
+use Rattle.hep_proc.specs.Keeping.{Keeps}
+use Rattle.hep_step.specs.Simulation.{counts_in}
+use Rattle.hep_state.specs.declared.machine.Level.{Level}
+use Rattle.hep_state.specs.Snapshots.{Snapshot, Stack}
+
+-- ---- levels
+
+-- the node under a key; where there is none, one of no activation
+abbrev pub no_node : Node
+no_node = record { activation = 0; unit = 0; first = 0; cells = 0; parent = None; children = 0; finished = true }
+
+abbrev pub node_under : Nodes → ℕ → Node
+node_under nodes key = unwrap_or (nodes key) no_node
+
+module _ (program : Units) (contents : List Slot) (nodes : Nodes) where
+  -- a level in the code, with these operands: its activation is that of the node under its key, and the counts of its DOs are in
+  -- the cells of that activation's frame
+  abbrev pub code_level : List Value → Level → CodeLevel
+  code_level operands l =
+      record {
+        activation = (node_under nodes l.key).activation;
+        unit = l.unit;
+        index = l.index;
+        operands = operands;
+        counts = counts_in (unit_at program l.unit) contents (node_under nodes l.key).first;
+      }
+
+  -- those of a process: the top one alone has operands
+  abbrev pub code_levels : List Value → List Level → List CodeLevel
+  code_levels operands [] = []
+  code_levels operands (l ∷ ls) = code_level operands l ∷ map (code_level []) ls
+
+-- a level's node is under its key, and its unit is one of the program's
+abbrev pub IsThere : Units → Nodes → Level → Type 0
+IsThere program nodes l = (l.unit < length program) × (nodes l.key ≡ Some (node_under nodes l.key))
+
+abbrev pub AreThere : Units → Nodes → List Level → Type 0
+AreThere program nodes [] = Unit {0}
+AreThere program nodes (l ∷ ls) = IsThere program nodes l × AreThere program nodes ls
+
+-- ---- processes
+
+-- what a core keeps of a process is that process of a state, in the code
+pub record IsStack (program : Units) (s : State) (contents : List Slot) (nodes : Nodes) (k : Stack) (q : Process) : Type 0 where
+  pub there : AreThere program nodes k.levels
+  pub levels : AreLevels program (addresses_of program) s (code_levels program contents nodes k.operands k.levels) q
+
+-- ---- states
+
+-- what a core keeps is a state whose held activations have the frames of a layout: their storage units and their nodes, where
+-- each process stands, ended ones too, and what was written
+pub record Shows (program : Units) (s : State) (layout : Layout) (m : Snapshot) : Type 0 where
+  pub keeps : Keeps program s (is_stacked s) (is_held s) layout (wanted_of program s layout) m.arena m.nodes
+  pub processes : length m.processes ≡ length s.processes
+  pub stacks : (p : ℕ) (k : Stack) (q : Process) → numbered m.processes p ≡ Some k → numbered s.processes p ≡ Some q → IsStack program s m.arena.contents m.nodes k q
+  pub activations : m.activations ≡ length s.activations
+  pub records : m.records ≡ s.records
+  pub faults : m.faults ≡ s.faults
+  pub halted : m.halted ≡ s.halted

@@ -1,0 +1,38 @@
+-- What a turn of a process makes of what a core keeps: docs/MACHINE.md, "Steps" and "The opening and runs".
+use Rattle.std.specs.Prelude.{◌≡◌, ◌≢◌, ◌⊎◌, ℕ, Bool, true, false, List, [], ◌∷◌, ◌++◌, length, Some, None}
+use Rattle.hep_source.specs.Units.{Units}
+use Rattle.hep_machine.specs.Layout.{Layout, is_held, layout_of}
+use Rattle.hep_machine.specs.Processes.{living}
+use Rattle.hep_machine.specs.Run.{run}
+use Rattle.hep_machine.specs.Step.{Wanted, step, wanted_by}
+use Rattle.hep_frames.specs.Addresses.{address}
+use Rattle.hep_state.specs.Showing.{Shows}
+use Rattle.hep_state.specs.Snapshots.{Snapshot}
+
+-- what a core with an arena of so many cells keeps after turns of these processes, each frame of which had a gap
+pub record IsAfter (program : Units) (cells : ℕ) (choices : List ℕ) (m : Snapshot) : Type 0 where
+  pub layout : Layout
+  pub laid : layout_of program cells is_held choices ≡ Some layout
+  pub size : length m.arena.contents ≡ cells
+  pub shows : Shows program (run program choices) layout m
+
+-- ---- what a turn of process p comes to, after those turns
+
+-- a step was made
+pub record HasStepped (program : Units) (cells : ℕ) (choices : List ℕ) (p : ℕ) (new : Snapshot) : Type 0 where
+  pub stepped : step program p (run program choices) ≢ None
+  pub after : IsAfter program cells (choices ++ p ∷ []) new
+
+-- p waits for the storage unit that is kept in a cell, to be full or to be empty
+pub record HasWaited (program : Units) (cells : ℕ) (choices : List ℕ) (p cell : ℕ) (full : Bool) (new : Snapshot) : Type 0 where
+  pub running : (run program choices).halted ≡ false
+  pub wanted : Wanted
+  pub waits : wanted_by program p (run program choices) ≡ Some wanted
+  pub after : IsAfter program cells choices new
+  pub found : address program (run program choices) after.layout wanted.at ≡ Some cell
+  pub state : wanted.full ≡ full
+
+-- p doesn't live, or all processes were stopped
+pub record IsAbsent (program : Units) (cells : ℕ) (choices : List ℕ) (p : ℕ) (new : Snapshot) : Type 0 where
+  pub none : ((run program choices).halted ≡ true) ⊎ (living (run program choices) p ≡ None)
+  pub after : IsAfter program cells choices new

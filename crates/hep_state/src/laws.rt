@@ -1,0 +1,104 @@
+//! Laws of what a core keeps: what a turn changes in it is what the source machine's step changes in the state.
+ghost use Rattle.std.specs.Prelude.{◌≡◌, ◌<◌, ◌∷◌, ℕ, Bool, true, false, List, Some, None, [], length, nat_eq};
+ghost use Rattle.hep_source.specs.declared.value.Value.{Value};
+ghost use Rattle.hep_source.specs.Units.{Units, main_unit, unit_at};
+ghost use Rattle.hep_machine.specs.declared.event.Kind.{Kind};
+ghost use Rattle.hep_machine.specs.declared.record.Item.{Item};
+ghost use Rattle.hep_machine.specs.declared.slot.Slot.{Slot};
+ghost use Rattle.hep_machine.specs.Layout.{Layout, activations_on, is_held, opening_layout};
+ghost use Rattle.hep_machine.specs.Processes.{numbered};
+ghost use Rattle.hep_machine.specs.Run.{run};
+ghost use Rattle.hep_machine.specs.State.{Level as SourceLevel, Process as SourceProcess, State, Work};
+ghost use Rattle.hep_check.specs.Conditions.{IsAccepted};
+ghost use Rattle.hep_arena.specs.Space.{Space};
+ghost use Rattle.hep_code.specs.Stacks.{entry_index};
+ghost use Rattle.hep_code.specs.Standing.{Stands};
+ghost use Rattle.hep_frames.specs.Descriptors.{wanted_of};
+ghost use Rattle.hep_frames.specs.Tree.{Node, Nodes, but, is_stacked};
+ghost use Rattle.hep_finding.specs.Within.{ArePlacedArrays};
+ghost use Rattle.hep_image.specs.declared.data.DataRow.{DataRow};
+ghost use Rattle.hep_image.specs.Data.{AreInitial, first_frames};
+ghost use Rattle.hep_image.specs.Supported.{first_unsupported};
+ghost use Rattle.hep_proc.specs.Keeping.{AreKept, CanAllLeave, CanLeave, HasLeft, IsEnded, IsOpening, Keeps, LeadUpwards, all_but};
+ghost use Rattle.hep_step.specs.Effects.{fails, moves, prints, returns, stops, waits};
+ghost use Rattle.hep_step.specs.Simulation.{IsRunning, Simulates, unit_addressed};
+ghost use Rattle.hep_state.specs.declared.machine.Level.{Level};
+ghost use Rattle.hep_state.specs.Openings.{AreOfUnits, IsEntered, IsGiven, snapshot_opened, unset_opening};
+ghost use Rattle.hep_state.specs.Showing.{node_under};
+ghost use Rattle.hep_state.specs.Snapshots.{Snapshot};
+ghost use Rattle.hep_state.specs.Tops.{IsTurning, frame_under, keys_of, snapshot_failed, snapshot_moved, snapshot_printed, snapshot_returned, snapshot_stopped, state_failed, state_returned, top_after, with_stack};
+ghost use Rattle.hep_state.specs.Turns.{HasStepped, HasWaited, IsAbsent, IsAfter};
+
+/// A process that has levels lives, and it is its turn where the processes weren't stopped; one that has none, or that isn't
+/// there, doesn't live.
+pub fn turns_are_taken()
+    ensures turning { (program : Units) (cells : ℕ) (choices : List ℕ) (m : Snapshot) (p : ℕ) (l : Level) (ls : List Level) (operands : List Value) → IsAfter program cells choices m → m.halted ≡ false → numbered m.processes p ≡ Some (record { levels = l ∷ ls; operands = operands }) → (top : SourceLevel × SourceProcess) × IsTurning program cells choices m p l ls operands top }
+    ensures halted { (program : Units) (cells : ℕ) (choices : List ℕ) (m : Snapshot) (p : ℕ) → IsAfter program cells choices m → m.halted ≡ true → IsAbsent program cells choices p m }
+    ensures ended { (program : Units) (cells : ℕ) (choices : List ℕ) (m : Snapshot) (p : ℕ) (operands : List Value) → IsAfter program cells choices m → numbered m.processes p ≡ Some (record { levels = []; operands = operands }) → IsAbsent program cells choices p m }
+    ensures none { (program : Units) (cells : ℕ) (choices : List ℕ) (m : Snapshot) (p : ℕ) → IsAfter program cells choices m → numbered m.processes p ≡ None → IsAbsent program cells choices p m }
+{}
+
+/// The top activation of a process whose turn it is runs as the laws of steps ask, and each array of its unit begins
+/// somewhere, in each program that can be run so far.
+pub fn tops_are_running()
+    ensures running { (program : Units) (cells : ℕ) (choices : List ℕ) (m : Snapshot) (p : ℕ) (l : Level) (ls : List Level) (operands : List Value) (top : SourceLevel × SourceProcess) → IsAccepted program → first_unsupported program ≡ None → (turning : IsTurning program cells choices m p l ls operands top) → IsRunning program (top_after program choices p top) turning.after.layout (frame_under m.nodes l.key) m.arena.contents m.arena.holes operands l.index }
+    ensures arrays { (program : Units) (u : ℕ) → IsAccepted program → first_unsupported program ≡ None → u < length program → ArePlacedArrays program (unit_at program u) }
+{
+    hep_placed::laws::supported_code();
+    hep_accepted::values::arrays_have_shapes();
+    hep_placed::laws::arrays_are_there();
+}
+
+/// Where the values that stand ahead are put behind the operands, the same state is shown.
+pub fn settled_machines_show_the_same()
+    ensures { (program : Units) (cells : ℕ) (choices : List ℕ) (m : Snapshot) (p : ℕ) (l : Level) (ls : List Level) (operands new : List Value) (index : ℕ) (top : SourceLevel × SourceProcess) → IsTurning program cells choices m p l ls operands top → ((k : ℕ) (work : Work) → Stands (unit_addressed program l.unit) k work operands l.index → Stands (unit_addressed program l.unit) k work new index) → IsTurning program cells choices (with_stack m p (record l { index = index } ∷ ls) new) p (record l { index = index }) ls new top }
+{}
+
+/// Where an operation moves the top activation, the state after the turn is shown once the cells are changed, with
+/// the activation at its index and its operands.
+pub fn moves_are_shown()
+    ensures { (program : Units) (cells : ℕ) (choices : List ℕ) (m : Snapshot) (p : ℕ) (l : Level) (ls : List Level) (operands : List Value) (top : SourceLevel × SourceProcess) (contents : List Slot) (new : List Value) (index : ℕ) → (turning : IsTurning program cells choices m p l ls operands top) → length contents ≡ length m.arena.contents → Simulates program (top_after program choices p top) turning.after.layout (frame_under m.nodes l.key) m.arena.holes m.arena.contents (moves contents new index) → HasStepped program cells choices p (snapshot_moved m p l ls contents new index) }
+{}
+
+/// Where it prints, the record stands behind the others.
+pub fn records_are_shown()
+    ensures { (program : Units) (cells : ℕ) (choices : List ℕ) (m : Snapshot) (p : ℕ) (l : Level) (ls : List Level) (operands : List Value) (top : SourceLevel × SourceProcess) (items : List Item) (index : ℕ) → (turning : IsTurning program cells choices m p l ls operands top) → Simulates program (top_after program choices p top) turning.after.layout (frame_under m.nodes l.key) m.arena.holes m.arena.contents (prints items index) → HasStepped program cells choices p (snapshot_printed m p l ls items index) }
+{}
+
+/// Where it stops all processes, the machine is halted.
+pub fn stops_are_shown()
+    ensures { (program : Units) (cells : ℕ) (choices : List ℕ) (m : Snapshot) (p : ℕ) (l : Level) (ls : List Level) (operands : List Value) (top : SourceLevel × SourceProcess) → (turning : IsTurning program cells choices m p l ls operands top) → Simulates program (top_after program choices p top) turning.after.layout (frame_under m.nodes l.key) m.arena.holes m.arena.contents stops → HasStepped program cells choices p (snapshot_stopped m) }
+{}
+
+/// Where it waits, nothing has changed.
+pub fn waiting_is_shown()
+    ensures { (program : Units) (cells : ℕ) (choices : List ℕ) (m : Snapshot) (p : ℕ) (l : Level) (ls : List Level) (operands : List Value) (top : SourceLevel × SourceProcess) (cell : ℕ) (full : Bool) → (turning : IsTurning program cells choices m p l ls operands top) → Simulates program (top_after program choices p top) turning.after.layout (frame_under m.nodes l.key) m.arena.holes m.arena.contents (waits cell full) → HasWaited program cells choices p cell full m }
+{}
+
+/// The frames of the top activation, or of all activations of a process, can leave.
+pub fn frames_can_leave()
+    ensures kept { (program : Units) (cells : ℕ) (choices : List ℕ) (m : Snapshot) (p : ℕ) (l : Level) (ls : List Level) (operands : List Value) (top : SourceLevel × SourceProcess) → IsTurning program cells choices m p l ls operands top → AreKept m.arena m.nodes }
+    ensures there { (program : Units) (cells : ℕ) (choices : List ℕ) (m : Snapshot) (p : ℕ) (l : Level) (ls : List Level) (operands : List Value) (top : SourceLevel × SourceProcess) → IsTurning program cells choices m p l ls operands top → m.nodes l.key ≡ Some (node_under m.nodes l.key) }
+    ensures returned { (program : Units) (cells : ℕ) (choices : List ℕ) (m : Snapshot) (p : ℕ) (l : Level) (ls : List Level) (operands : List Value) (top : SourceLevel × SourceProcess) → (turning : IsTurning program cells choices m p l ls operands top) → IsEnded program turning.after.layout (but (node_under m.nodes l.key).activation (is_stacked (run program choices))) (run program choices) (state_returned program choices p top) × LeadUpwards (state_returned program choices p top) }
+    ensures all { (program : Units) (cells : ℕ) (choices : List ℕ) (m : Snapshot) (p : ℕ) (l : Level) (ls : List Level) (operands : List Value) (top : SourceLevel × SourceProcess) → IsTurning program cells choices m p l ls operands top → CanAllLeave m.arena m.nodes (keys_of (l ∷ ls)) × CanLeave m.nodes (is_stacked (run program choices)) (keys_of (l ∷ ls)) (activations_on (top.0 ∷ top.1)) }
+    ensures failed { (program : Units) (cells : ℕ) (choices : List ℕ) (m : Snapshot) (p : ℕ) (l : Level) (ls : List Level) (operands : List Value) (top : SourceLevel × SourceProcess) (kind : Kind) → (turning : IsTurning program cells choices m p l ls operands top) → IsEnded program turning.after.layout (all_but (activations_on (top.0 ∷ top.1)) (is_stacked (run program choices))) (run program choices) (state_failed program choices p top kind) × LeadUpwards (state_failed program choices p top kind) }
+{}
+
+/// Where the top activation has ended and its frame has left, its caller goes on, or the process has ended.
+pub fn ends_are_shown()
+    ensures { (program : Units) (cells : ℕ) (choices : List ℕ) (m : Snapshot) (p : ℕ) (l : Level) (ls : List Level) (operands : List Value) (top : SourceLevel × SourceProcess) (arena : Space) (nodes : Nodes) → (turning : IsTurning program cells choices m p l ls operands top) → HasLeft program (state_returned program choices p top) (is_stacked (state_returned program choices p top)) (is_held (run program choices)) turning.after.layout m.arena arena m.nodes nodes → length arena.contents ≡ length m.arena.contents → Simulates program (top_after program choices p top) turning.after.layout (frame_under m.nodes l.key) m.arena.holes m.arena.contents returns → HasStepped program cells choices p (snapshot_returned m p ls arena nodes) }
+{}
+
+/// Where a fault has ended the process and the frames of all its activations have left, the fault stands behind the
+/// others.
+pub fn faults_are_shown()
+    ensures { (program : Units) (cells : ℕ) (choices : List ℕ) (m : Snapshot) (p : ℕ) (l : Level) (ls : List Level) (operands : List Value) (top : SourceLevel × SourceProcess) (arena : Space) (nodes : Nodes) (line : ℕ) (kind : Kind) → (turning : IsTurning program cells choices m p l ls operands top) → HasLeft program (state_failed program choices p top kind) (is_stacked (state_failed program choices p top kind)) (is_held (run program choices)) turning.after.layout m.arena arena m.nodes nodes → length arena.contents ≡ length m.arena.contents → Simulates program (top_after program choices p top) turning.after.layout (frame_under m.nodes l.key) m.arena.holes m.arena.contents (fails line kind) → HasStepped program cells choices p (snapshot_failed m p (record { process = p; unit = l.unit; line = line; kind = kind }) arena nodes) }
+{}
+
+/// Where the frame of the main program has entered and DATA has given the cells their values, the opening is shown, with process
+/// 1 at the main program's first executable statement.
+pub fn openings_are_shown()
+    ensures opening { (program : Units) → IsOpening program (unset_opening program) }
+    ensures entered { (program : Units) (cells key : ℕ) (layout : Layout) (arena : Space) (nodes : Nodes) (node : Node) → opening_layout program cells ≡ Some layout → length arena.contents ≡ cells → Keeps program (unset_opening program) (is_stacked (unset_opening program)) (λ a. nat_eq a 1) layout (wanted_of program (unset_opening program) (first_frames program)) arena nodes → nodes key ≡ Some node → node.activation ≡ 1 → IsEntered program cells key arena nodes }
+    ensures shown { (program : Units) (cells key entry : ℕ) (rows : List DataRow) (before after : Space) (nodes : Nodes) → IsEntered program cells key before nodes → IsGiven rows before after → AreInitial program rows → AreOfUnits program rows → main_unit program < length program → entry ≡ entry_index (unit_addressed program (main_unit program)) → IsAfter program cells [] (snapshot_opened program key entry after nodes) }
+{}

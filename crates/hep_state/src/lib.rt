@@ -1,0 +1,10 @@
+//! A machine's state as a core keeps it: the frames, where each process stands in the code, and what was written.
+//!
+//! That it is a state of the source machine is said in `specs/Showing`, and after each turn by the contracts of
+//! [`laws`].
+#![tactic(auto)]
+
+pub mod laws;
+mod machine;
+
+pub use machine::{Level, Machine, Process};

@@ -1,0 +1,32 @@
+//! What a core keeps of a state.
+use hep_machine::{Fault, Record};
+use hep_proc::Frames;
+use hep_source::Value;
+
+/// An activation on a stack: the key of its node, the index of its unit in the program, and where it is in the
+/// unit's code, both counted from 0.
+#[derive(Clone, Copy, Debug)]
+pub struct Level {
+    pub key: usize,
+    pub unit: u32,
+    pub index: usize,
+}
+
+/// A process: its activations, the top last, and the operands of the top one. It has ended where there are none.
+#[derive(Drop)]
+pub struct Process {
+    pub levels: Vec<Level>,
+    pub operands: Vec<Value>,
+}
+
+/// A state: the frames, the processes by number, counted from 1, how many activations were made, and what was written.
+#[derive(Drop)]
+pub struct Machine {
+    pub frames: Frames,
+    pub processes: Vec<Process>,
+    pub activations: u64,
+    pub records: Vec<Record>,
+    pub faults: Vec<Fault>,
+    /// All processes were ended by a STOP.
+    pub halted: bool,
+}

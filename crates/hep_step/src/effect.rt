@@ -1,0 +1,23 @@
+//! What an operation comes to.
+
+use hep_cells::CellState;
+use hep_machine::{Kind, Record};
+
+/// What the operation ahead of an activation came to.
+#[derive(Debug, Drop)]
+pub enum Effect {
+    /// It is done, and the activation has gone on.
+    Moved,
+    /// PRINT is done, and the activation has gone on; this is its record (X3.9-1978, 12.8).
+    Printed(Record),
+    /// A fault in the statement with this initial line. Nothing has changed.
+    Failed { line: u32, kind: Kind },
+    /// The process waits until the cell at this address is so (`docs/LANGUAGE.md`). Nothing has changed.
+    Waits { at: u32, state: CellState },
+    /// The activation ends, by RETURN or END of its unit (15.8 and 11.14).
+    Returned,
+    /// All processes end, by STOP (11.12).
+    Stopped,
+    /// What isn't supported, or no operation at all. Nothing has changed.
+    Unsupported,
+}

@@ -1,0 +1,101 @@
+//! PRINT (X3.9-1978, 12.8).
+ghost use Rattle.std.specs.Prelude.{◌≡◌, ◌≤◌, [], IfOk, OnOk, OnErr, option_map, take, vec_capacity};
+ghost use Rattle.hep_machine.specs.Evaluation as evaluation;
+ghost use Rattle.hep_code.specs.Passing.{items_from};
+ghost use Rattle.hep_step.specs.declared.effect.Effect.TheVariants.{Printed as PrintedEffect};
+ghost use Rattle.hep_step.specs.Items.{item_ahead as item_read, items_in};
+
+use crate::effect::Effect;
+use crate::moving::go_on;
+use hep_code::{Instruction, Printed};
+use hep_machine::{Item, Record};
+use hep_source::{Syntax, Value};
+use std::alloc::{AllocError, Global};
+
+// The item that a value is.
+fn item_of(value: Value) -> Item
+    ensures { result ≡ evaluation.item_of value }
+{
+    match value {
+        Value::Int(integer) => Item::Int(integer),
+        Value::Truth(truth) => Item::Truth(truth),
+    }
+}
+
+// The item that an entry tells of, if it tells of one, and the operands behind its own.
+fn item_ahead<'a>(
+    alloc: Global,
+    entry: &Instruction,
+    operands: &'a [Value],
+) -> Result<Option<(Item, &'a [Value])>, AllocError>
+    ensures { IfOk result (λ ahead. option_map (λ pair. (pair.0, pair.1.now)) ahead ≡ item_read entry.now operands.now) }
+{
+    match entry {
+        Instruction::Show(Printed::Operand) => match operands {
+            [value, behind @ ..] => Ok(Some((item_of(*value), behind))),
+            [] => Ok(None),
+        },
+        Instruction::Show(Printed::Characters(text)) => {
+            Ok(Some((Item::Text(text.as_text().copy(alloc)?), operands)))
+        }
+        _ => Ok(None),
+    }
+}
+
+// The first so many entries.
+fn first_of(entries: &[Instruction], count: u32) -> &[Instruction]
+    ensures { result.now ≡ take count entries.now }
+{
+    let count = count as usize;
+    if count < entries.len() {
+        &entries[..count]
+    } else {
+        entries
+    }
+}
+
+// The items that these entries tell of.
+fn items_of(
+    alloc: Global,
+    entries: &[Instruction],
+    operands: &[Value],
+) -> Result<Record, AllocError>
+    ensures { IfOk result (λ items. items ≡ items_in entries.now operands.now) }
+{
+    let mut items = Vec::new(alloc);
+    let mut rest = operands;
+    for entry in entries {
+        let Some((item, behind)) = item_ahead(alloc, entry, rest)? else {
+            break;
+        };
+        items.push(item)?;
+        rest = behind;
+    }
+    Ok(Record::from(items))
+}
+
+/// Does a PRINT, with so many entries behind it that tell of its items: the activation goes on at this index.
+///
+/// # Errors
+///
+/// Only where memory was refused; nothing has changed then.
+#[tactic(auto, using(crate::proofs::Items::items_taken))]
+pub(crate) fn print(
+    alloc: Global,
+    count: u32,
+    next: u32,
+    entries: &[Instruction],
+    operands: &mut Vec<Value>,
+    index: &mut usize,
+) -> Result<Effect, AllocError>
+    ensures record_is { IfOk result (λ effect. effect ≡ PrintedEffect (items_from count entries.now operands.old.items)) }
+    ensures operands { OnOk result (operands.new.items ≡ []) }
+    ensures index { OnOk result (index.new ≡ next) }
+    ensures operands_stay { OnErr result (operands.new.items ≡ operands.old.items) }
+    ensures index_stays { OnErr result (index.new ≡ index.old) }
+    ensures capacity { vec_capacity operands.old ≤ vec_capacity operands.new }
+{
+    let items = items_of(alloc, first_of(entries, count), operands)?;
+    go_on(operands, index, next as usize);
+    Ok(Effect::Printed(items))
+}

@@ -1,0 +1,11 @@
+//! Where an activation's variables are.
+
+use hep_image::Array;
+use hep_reply::Frame;
+
+/// By what the code of an activation finds its variables, beside the cells themselves.
+#[derive(Clone, Copy)]
+pub(crate) struct Storage<'a> {
+    pub(crate) arrays: &'a [Array],
+    pub(crate) frame: Frame,
+}

@@ -1,0 +1,99 @@
+//! Operations that give values, and that store them (X3.9-1978, sections 6 and 10).
+ghost use Rattle.std.specs.Prelude.{◌≡◌, ◌+◌, ◌<◌, ◌≤◌, ◌^◌, ◌++◌, ◌∷◌, [], length, take, vec_len, vec_capacity};
+ghost use Rattle.hep_code.specs.declared.instruction.Operation.TheVariants.{Store};
+ghost use Rattle.hep_code.specs.Moves.{first_operand};
+ghost use Rattle.hep_reply.specs.Cells.{HasFrame};
+ghost use Rattle.hep_step.specs.Effects.{effect_of, effect_of_evaluation, subscripts_in};
+ghost use Rattle.hep_step.specs.Performed.{IsPerformed, snapshot};
+ghost use Rattle.hep_step.specs.Ready.{IsEvaluationReady, IsVariableReady};
+
+use crate::effect::Effect;
+use crate::granted::granted;
+use crate::storage::Storage;
+use hep_arena::Arena;
+use hep_code::{Evaluation, Variable};
+use hep_reply::{reply_of, reply_to_store};
+use hep_source::Value;
+
+// Puts a value in the place of all operands but so many, for which there is room.
+fn replace(operands: &mut Vec<Value>, kept: usize, value: Value)
+    requires kept { kept ≤ vec_len operands.old }
+    requires room { kept < vec_capacity operands.old }
+    ensures items { operands.new.items ≡ take kept operands.old.items ++ value ∷ [] }
+    ensures capacity { vec_capacity operands.old ≤ vec_capacity operands.new }
+{
+    operands.truncate(kept);
+    let _ = operands.push(value);
+}
+
+/// Does an operation that gives a value: the value is in the place of its operands then.
+pub(crate) fn evaluate(
+    storage: &Storage<'_>,
+    arena: &mut Arena,
+    line: u32,
+    evaluation: Evaluation,
+    operands: &mut Vec<Value>,
+    index: &mut usize,
+) -> Effect
+    requires frame { HasFrame arena.old storage.now.frame }
+    requires ready { IsEvaluationReady arena.old storage.now.arrays.now storage.now.frame (vec_capacity operands.old) operands.old.items evaluation }
+    requires index { index.old + 1 < 2 ^ 64 }
+    // What stands elsewhere in the code doesn't count.
+    ensures performed { IsPerformed (effect_of_evaluation [] storage.now.arrays.now storage.now.frame.first line evaluation arena.old.contents operands.old.items index.old) (snapshot arena.old.contents operands.old.items index.old) result (snapshot arena.new.contents operands.new.items index.new) }
+    ensures holes { arena.new.holes ≡ arena.old.holes }
+    ensures cells { length arena.new.contents ≡ length arena.old.contents }
+    ensures capacity { vec_capacity operands.old ≤ vec_capacity operands.new }
+{
+    let kept = operands.len().saturating_sub(evaluation.arity() as usize);
+    let Storage { arrays, frame } = *storage;
+    let reply = reply_of(arena, frame, arrays, evaluation, &operands[kept..]);
+    match granted(arena, reply) {
+        Ok(value) => {
+            replace(operands, kept, value);
+            *index += 1;
+            Effect::Moved
+        }
+        Err(obstacle) => obstacle.effect(line),
+    }
+}
+
+// The value to be stored, and the subscripts of the element that gets it.
+fn value_and_subscripts(operands: &[Value]) -> (Value, &[Value])
+    ensures value { result.0 ≡ first_operand operands.now }
+    ensures subscripts { result.1.now ≡ subscripts_in operands.now }
+{
+    match operands {
+        [] => (Value::Truth(false), &[]),
+        [value, subscripts @ ..] => (*value, subscripts),
+    }
+}
+
+/// Does an assignment: its value is in the cell, and the activation goes on at this index (10.1 and 10.2).
+pub(crate) fn store(
+    storage: &Storage<'_>,
+    arena: &mut Arena,
+    line: u32,
+    variable: Variable,
+    next: u32,
+    operands: &mut Vec<Value>,
+    index: &mut usize,
+) -> Effect
+    requires frame { HasFrame arena.old storage.now.frame }
+    requires ready { IsVariableReady arena.old storage.now.arrays.now storage.now.frame (subscripts_in operands.old.items) variable }
+    ensures performed { IsPerformed (effect_of [] storage.now.arrays.now storage.now.frame.first line (Store variable 0 next) [] arena.old.contents operands.old.items index.old) (snapshot arena.old.contents operands.old.items index.old) result (snapshot arena.new.contents operands.new.items index.new) }
+    ensures holes { arena.new.holes ≡ arena.old.holes }
+    ensures cells { length arena.new.contents ≡ length arena.old.contents }
+    ensures capacity { vec_capacity operands.old ≤ vec_capacity operands.new }
+{
+    let Storage { arrays, frame } = *storage;
+    let (value, subscripts) = value_and_subscripts(operands);
+    let reply = reply_to_store(arena, frame, arrays, variable, value, subscripts);
+    match granted(arena, reply) {
+        Ok(_) => {
+            operands.clear();
+            *index = next as usize;
+            Effect::Moved
+        }
+        Err(obstacle) => obstacle.effect(line),
+    }
+}

@@ -1,0 +1,9 @@
+//! Which accepted programs can be run so far (docs/MACHINE.md, "The program").
+#![tactic(auto)]
+
+mod arrays;
+mod asynchronous;
+mod statements;
+pub mod supported;
+
+pub use supported::first_unsupported;

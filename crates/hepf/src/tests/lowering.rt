@@ -1,0 +1,119 @@
+//! Images: what is lowered of a program, and what refuses it.
+
+use super::program_of;
+use hep_base::Refusal;
+use hep_checked::check;
+use hep_image::{DataRow, Image, UnitCode};
+use hep_lower::lower;
+use hep_source::Value;
+use std::alloc::Global;
+use std::test::Fail;
+
+fn image_of(alloc: Global, source: &[u8]) -> Result<Result<Image, Refusal>, Fail> {
+    Ok(lower(alloc, &check(alloc, program_of(alloc, source)?)?))
+}
+
+fn first_unit(image: &Image) -> Option<&UnitCode> {
+    if image.program().as_slice().is_empty() {
+        return None;
+    }
+    Some(image.unit(0))
+}
+
+const SUM: &[u8] = b"      PROGRAM P
+      INTEGER A(3)
+      COMMON /C/ K
+      DATA A/2*7,8/,N/5/
+      N=N+A(2)
+      PRINT *,N
+      END
+";
+
+fn row(first: u32, count: u32, value: i64) -> DataRow {
+    DataRow {
+        first,
+        count,
+        value: Value::Int(value),
+    }
+}
+
+#[test]
+fn image(rt: HostRuntime) -> Result<(), Fail> {
+    let image = image_of(rt.alloc(), SUM)??;
+    assert_eq!(rt; image.common(), 1);
+    // The frame stands behind COMMON: a header, A and N.
+    let rows = [row(5, 1, 5), row(2, 2, 7), row(4, 1, 8)];
+    assert_eq!(rt; image.rows(), rows.as_slice());
+    let Some(unit) = first_unit(&image) else {
+        assert!(rt; false);
+        return Ok(());
+    };
+    assert_eq!(rt; unit.cells, 5);
+    assert_eq!(rt; unit.private.as_slice(), [4].as_slice());
+    assert_eq!(rt; unit.arrays.as_slice().len(), 1);
+    assert_eq!(rt; unit.operands, 2);
+    let copy = image.copy(rt.alloc())?;
+    assert!(rt; copy.same(&image));
+    Ok(())
+}
+
+#[test]
+fn names(rt: HostRuntime) -> Result<(), Fail> {
+    let image = image_of(rt.alloc(), SUM)??;
+    let names = [b"P".as_slice(), b"A".as_slice(), b"K".as_slice(), b"N".as_slice(), b"C".as_slice()];
+    for (number, name) in names.iter().enumerate() {
+        assert_eq!(rt; image.name(number as u32), Some(*name));
+    }
+    assert_eq!(rt; image.name(5), None);
+    Ok(())
+}
+
+fn refusal_of(alloc: Global, source: &[u8]) -> Result<Option<(u16, u32)>, Fail> {
+    match image_of(alloc, source)? {
+        Err(Refusal::Refused { number, line, .. }) => Ok(Some((number, line))),
+        _ => Ok(None),
+    }
+}
+
+// So many arrays of 1,048,576 elements, and nothing else.
+fn arrays(alloc: Global, count: u8) -> Result<Vec<u8>, Fail> {
+    let mut source = Vec::new(alloc);
+    for number in 0..count {
+        source.extend_from_slice(b"      INTEGER A")?;
+        source.push(b'A' + number)?;
+        source.extend_from_slice(b"(1048576)\n")?;
+    }
+    source.extend_from_slice(b"      END\n")?;
+    Ok(source)
+}
+
+// Sums, each one in the last place of that around it, in lines of a statement.
+fn sums(alloc: Global, depth: usize) -> Result<Vec<u8>, Fail> {
+    let mut source = Vec::new(alloc);
+    source.extend_from_slice(b"      J=1\n      I=1")?;
+    for number in 0..depth {
+        if number % 20 == 0 {
+            source.extend_from_slice(b"\n     +")?;
+        }
+        source.extend_from_slice(b"+(1")?;
+    }
+    for number in 0..depth {
+        if number % 60 == 0 {
+            source.extend_from_slice(b"\n     +")?;
+        }
+        source.push(b')')?;
+    }
+    source.extend_from_slice(b"\n      END\n")?;
+    Ok(source)
+}
+
+#[test]
+fn limits(rt: HostRuntime) -> Result<(), Fail> {
+    let alloc = rt.alloc();
+    assert_eq!(rt; refusal_of(alloc, b"      END\n      SUBROUTINE S\n      END\n")?, Some((403, 2)));
+    assert_eq!(rt; refusal_of(alloc, &arrays(alloc, 15)?)?, None);
+    assert_eq!(rt; refusal_of(alloc, &arrays(alloc, 16)?)?, Some((401, 0)));
+    assert_eq!(rt; refusal_of(alloc, &sums(alloc, 255)?)?, None);
+    assert_eq!(rt; refusal_of(alloc, &sums(alloc, 256)?)?, Some((402, 2)));
+    Ok(())
+}
