@@ -1,7 +1,8 @@
--- What is stored at the opening is what the rows of DATA have.
-use Rattle.std.proofs.Common.{◌≡◌, ℕ, ◌+◌, ◌-◌, ◌≤◌, true, List, [], ◌∷◌, ◌++◌, Option, Some, None, refl, sym, ap, ◌∙◌, subst}
-use Rattle.std.specs.Prelude.{map, option_and_then, option_to_list}
-use Rattle.std.specs.Option.{option_or}
+-- What is stored at the opening is what the rows of DATA have, and these give values to storage units alone.
+use Rattle.std.proofs.Common.{◌≡◌, ℕ, ◌+◌, ◌-◌, ◌≤◌, Bool, true, false, List, [], ◌∷◌, ◌++◌, Option, Some, None, refl, sym, ap, ◌∙◌, subst}
+use Rattle.std.specs.Prelude.{if◌then◌else◌, map, option_and_then, option_to_list}
+use Rattle.std.specs.Option.{option_map, option_or}
+use Rattle.std.proofs.lemmas.Option.{none-some}
 use Rattle.hep_source.specs.declared.declaration.DataGroup.{DataGroup}
 use Rattle.hep_source.specs.declared.declaration.Target.{Target}
 use Rattle.hep_source.specs.declared.name.Name.{Name}
@@ -24,11 +25,11 @@ use Rattle.hep_frames.specs.Rows.{first_of_part, variable}
 use Rattle.hep_accepted.proofs.Members.{Has, has_more}
 use Rattle.hep_image.specs.declared.array.Array.{Array}
 use Rattle.hep_image.specs.declared.data.DataRow.{DataRow}
-use Rattle.hep_image.specs.Data.{AreInitial, first_frames, value_in_rows}
+use Rattle.hep_image.specs.Data.{AreInitial, AreOfUnits, first_frames, value_in_rows}
 use Rattle.hep_data.specs.declared.cells.Cells.{Cells}
-use Rattle.hep_data.specs.Cells.{index_of_cell}
+use Rattle.hep_data.specs.Cells.{index_of_cell, is_among_cells}
 use Rattle.hep_data.specs.Given.{all_cells_named, all_values, cells_named, value_by_group, value_by_groups}
-use Rattle.hep_data.proofs.Located.{rest_is, runs, scope, unit_index}
+use Rattle.hep_data.proofs.Located.{KeepsUnit, rest_is, runs, scope, unit_in, unit_index}
 
 -- ---- values of cells
 
@@ -84,3 +85,46 @@ module _ (program : Units) (table : Name → Option Variable) (arrays : List Arr
   unfolding opening
   initial rows each same at p here =
       groups_stored at p here (data_groups unit) (λ location. unset_cell) each ∙ ap (λ o. cell_given o unset_cell) (sym (same p))
+
+  -- ---- cells that get values
+
+  -- a cell of a stretch, or else one of those behind it
+  stretch_unit : (e : Stretch) → is_among e.name (locals_of unit) ≡ true → (e.first - 1) + e.count ≤ cells_of unit e.name → (cs : List Cells) (p i : ℕ) → index_of_cell (cells_of_stretch e ∷ cs) p ≡ Some i
+      → ((k : ℕ) → index_of_cell cs p ≡ Some k → KeepsUnit program p) → KeepsUnit program p
+  stretch_unit e own room cs p i at behind = by_test (is_among_cells (cells_of_stretch e) p) refl at where
+    here : is_among_cells (cells_of_stretch e) p ≡ true → KeepsUnit program p
+    here = unit_in program (storage_of (scope program) e.name).start (storage_of (scope program) e.name).rest (common_cells program + first_of_part unit (variable e.name)) (e.first - 1) e.count
+        (runs program e.name own) (subst (λ n. (e.first - 1) + e.count ≤ n) (sym (rest_is program e.name own)) room) p
+
+    by_index : (o : Option ℕ) → index_of_cell cs p ≡ o → option_map (λ n. e.count + n) o ≡ Some i → KeepsUnit program p
+    by_index None g h = absurd (none-some i h)
+    by_index (Some k) g h = behind k g
+
+    by_test : (b : Bool) → is_among_cells (cells_of_stretch e) p ≡ b → (if b then Some (p - (cells_of_stretch e).first) else option_map (λ n. e.count + n) (index_of_cell cs p)) ≡ Some i → KeepsUnit program p
+    by_test true g h = here g
+    by_test false g h = by_index (index_of_cell cs p) refl h
+
+  targets_unit : (ts : List Target) → ((t : Target) → Has ts t → IsFound t) → (p i : ℕ) → index_of_cell (all_cells_named unit table arrays common ts) p ≡ Some i → KeepsUnit program p
+  targets_unit [] each p i e = absurd (none-some i e)
+  targets_unit (t ∷ ts) each p i e =
+      let f = each t (0, refl) in
+      let cs = all_cells_named unit table arrays common ts in
+      stretch_unit f.stretch f.own f.room cs p i (sym (ap (λ o. index_of_cell (option_to_list o ++ cs) p) f.cells) ∙ e) (targets_unit ts (λ u h. each u (has_more t ts u h)) p)
+
+  group_unit : (g : DataGroup) → ((t : Target) → Has g.targets t → IsFound t) → (p : ℕ) (v : Value) → value_by_group unit table arrays common g p ≡ Some v → KeepsUnit program p
+  group_unit g each p v e = by_index (index_of_cell (all_cells_named unit table arrays common g.targets) p) refl e where
+    by_index : (o : Option ℕ) → index_of_cell (all_cells_named unit table arrays common g.targets) p ≡ o → option_and_then (item_at (all_values (constant_value unit) g.values)) o ≡ Some v → KeepsUnit program p
+    by_index None f h = absurd (none-some v h)
+    by_index (Some i) f h = targets_unit g.targets each p i f
+
+  groups_unit : (gs : List DataGroup) → ((g : DataGroup) → Has gs g → (t : Target) → Has g.targets t → IsFound t) → (p : ℕ) (v : Value) → value_by_groups unit table arrays common gs p ≡ Some v → KeepsUnit program p
+  groups_unit [] each p v e = absurd (none-some v e)
+  groups_unit (g ∷ gs) each p v e = by_value (value_by_groups unit table arrays common gs p) refl e (groups_unit gs (λ h i. each h (has_more g gs h i)) p) where
+    by_value : (o : Option Value) → value_by_groups unit table arrays common gs p ≡ o → option_or o (value_by_group unit table arrays common g p) ≡ Some v
+        → ((w : Value) → value_by_groups unit table arrays common gs p ≡ Some w → KeepsUnit program p) → KeepsUnit program p
+    by_value None f h more = group_unit g (each g (0, refl)) p v h
+    by_value (Some w) f h more = more w f
+
+  pub of_units : (rows : List DataRow) → ((g : DataGroup) → Has (data_groups unit) g → (t : Target) → Has g.targets t → IsFound t)
+      → ((p : ℕ) → value_in_rows rows p ≡ value_by_groups unit table arrays common (data_groups unit) p) → AreOfUnits program rows
+  of_units rows each same p v e = groups_unit (data_groups unit) each p v (sym (same p) ∙ e)

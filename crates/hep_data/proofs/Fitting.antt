@@ -41,11 +41,11 @@ use Rattle.hep_image.specs.declared.array.Array.{Array}
 use Rattle.hep_image.specs.declared.array.Extents.TheVariants.{Constant, Adjustable}
 use Rattle.hep_image.specs.declared.array.Start.TheVariants.{Local}
 use Rattle.hep_image.specs.declared.data.DataRow.{DataRow}
-use Rattle.hep_image.specs.Data.{AreInitial, value_in_rows}
+use Rattle.hep_image.specs.Data.{AreInitial, AreOfUnits, value_in_rows}
 use Rattle.hep_image.specs.Places.{array_of, arrays_of, extents_of, scalar, start_by, start_of, variable_by, variable_of}
 use Rattle.hep_data.specs.Frame.{IsMainFrame}
 use Rattle.hep_data.specs.Given.{cell_of_element, cells_by_array, cells_by_start, cells_by_variable, cells_from, cells_named, cells_of_all_elements, cells_of_array, number_by, value_by_groups}
-use Rattle.hep_data.proofs.Beginning.{IsFound, initial}
+use Rattle.hep_data.proofs.Beginning.{IsFound, initial, of_units}
 use Rattle.hep_data.proofs.Owning.{at_index, local_among, named}
 
 -- ---- an array of constant shape is not adjustable
@@ -292,4 +292,11 @@ pub rows_are_initial : ConstantsAgree → AreLocal → AreThere → (us : List S
     → (program : Units) → IsAccepted program → IsMainFrame program us table arrays common → AreInitial program rows
 rows_are_initial agrees are_local are_there us table arrays common rows same program accepted frame =
     initial program table arrays common rows (found agrees are_local are_there program accepted table arrays common (subst (λ (u : List Statement). IsMainFrame program u table arrays common) frame.main frame))
+    (subst (λ (u : List Statement). (p : ℕ) → value_in_rows rows p ≡ value_by_groups u table arrays common (data_groups u) p) frame.main same)
+
+pub rows_are_of_units : ConstantsAgree → AreLocal → AreThere → (us : List Statement) (table : Name → Option Variable) (arrays : List Array) (common : ℕ) (rows : List DataRow)
+    → ((p : ℕ) → value_in_rows rows p ≡ value_by_groups us table arrays common (data_groups us) p)
+    → (program : Units) → IsAccepted program → IsMainFrame program us table arrays common → AreOfUnits program rows
+rows_are_of_units agrees are_local are_there us table arrays common rows same program accepted frame =
+    of_units program table arrays common rows (found agrees are_local are_there program accepted table arrays common (subst (λ (u : List Statement). IsMainFrame program u table arrays common) frame.main frame))
     (subst (λ (u : List Statement). (p : ℕ) → value_in_rows rows p ≡ value_by_groups u table arrays common (data_groups u) p) frame.main same)

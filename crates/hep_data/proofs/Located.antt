@@ -111,6 +111,22 @@ module _ (program : Units) where
   pub rest_is : (x : Name) → is_among x (locals_of (unit_at program (main_unit program))) ≡ true → (storage_of scope x).rest ≡ cells_of (unit_at program (main_unit program)) x
   rest_is x h = ap (λ (o : Option ℕ). (storage_by_dummy scope x o).rest) (local-index (unit_at program (main_unit program)) x h)
 
+  -- a cell of the arena in which a storage unit is kept
+  abbrev pub KeepsUnit : ℕ → Type 0
+  KeepsUnit p = (at : Location) × (address program (opening program) (first_frames program) at ≡ Some p)
+
+  -- each cell of a stretch is one
+  pub unit_in : (start : Location) (rest first before count : ℕ) → RunsFrom program (opening program) (first_frames program) start rest first → before + count ≤ rest
+      → (p : ℕ) → is_among_cells (record { first = first + before; count = count }) p ≡ true → KeepsUnit p
+  unit_in start rest first before count kept room p t =
+      (further start (before + (p - (first + before))), kept (before + (p - (first + before))) less ∙ ap (λ n. Some n) sums)
+    where
+      less : before + (p - (first + before)) < rest
+      less = grind (arith, nat_tests)
+
+      sums : first + (before + (p - (first + before))) ≡ p
+      sums = grind (arith, nat_tests)
+
   -- a storage unit is so far in a stretch as its cell is in the cells of the stretch
   module _ (start : Location) (rest first before count : ℕ) (kept : RunsFrom program (opening program) (first_frames program) start rest first) (room : before + count ≤ rest)
       (at : Location) (p : ℕ) (here : address program (opening program) (first_frames program) at ≡ Some p) where

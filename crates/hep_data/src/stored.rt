@@ -5,7 +5,7 @@ ghost use Rattle.hep_source.specs.Names.{name_eq};
 ghost use Rattle.hep_source.specs.Units.{Units};
 ghost use Rattle.hep_machine.specs.Data.{data_groups};
 ghost use Rattle.hep_check.specs.Conditions.{IsAccepted};
-ghost use Rattle.hep_image.specs.Data.{AreInitial, value_in_rows};
+ghost use Rattle.hep_image.specs.Data.{AreInitial, AreOfUnits, value_in_rows};
 ghost use Rattle.hep_data.specs.Frame.{IsMainFrame};
 ghost use Rattle.hep_data.specs.Given as given;
 
@@ -41,9 +41,14 @@ fn rows_of(alloc: Global, frame: &MainFrame) -> Result<Vec<DataRow>, AllocError>
 ///
 /// Only where memory was refused.
 pub fn data_rows(alloc: Global, frame: &MainFrame) -> Result<Vec<DataRow>, AllocError>
-    ensures { IfOk result (λ rows. (program : Units) → IsAccepted program
+    // What they give is what is stored before the first step.
+    ensures initial { IfOk result (λ rows. (program : Units) → IsAccepted program
         → IsMainFrame program frame.now.symbols.now (get name_eq frame.now.variables.now) frame.now.arrays.now frame.now.common
         → AreInitial program rows.items) }
+    // They give values to storage units alone.
+    ensures units { IfOk result (λ rows. (program : Units) → IsAccepted program
+        → IsMainFrame program frame.now.symbols.now (get name_eq frame.now.variables.now) frame.now.arrays.now frame.now.common
+        → AreOfUnits program rows.items) }
 {
     laws::constants_agree();
     places_are_local();

@@ -24,3 +24,8 @@ value_in_rows (r ∷ rs) p = if nat_le r.first p && nat_lt p (r.first + r.count)
 abbrev pub AreInitial : Units → List DataRow → Type 0
 AreInitial program rows =
     (at : Location) (p : ℕ) → address program (opening program) (first_frames program) at ≡ Some p → (opening program).store at ≡ cell_given (value_in_rows rows p) unset_cell
+
+-- each cell to which rows give a value keeps a storage unit, so no cell of a DO has one
+abbrev pub AreOfUnits : Units → List DataRow → Type 0
+AreOfUnits program rows =
+    (p : ℕ) (v : Value) → value_in_rows rows p ≡ Some v → (at : Location) × (address program (opening program) (first_frames program) at ≡ Some p)

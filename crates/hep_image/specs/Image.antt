@@ -8,7 +8,7 @@ use Rattle.hep_code.specs.Depths.{deepest}
 use Rattle.hep_code.specs.Limits.{most_operands}
 use Rattle.hep_code.specs.Stacks.{addressed_unit, entry_index}
 use Rattle.hep_code.specs.UnitCode.{code_of}
-use Rattle.hep_image.specs.Data.{AreInitial}
+use Rattle.hep_image.specs.Data.{AreInitial, AreOfUnits}
 use Rattle.hep_image.specs.Names.{names_in_order}
 use Rattle.hep_image.specs.Places.{addresses_of, arrays_of, array_of}
 use Rattle.hep_image.specs.Private.{private_cells}
@@ -41,4 +41,5 @@ pub record IsImage (program : Units) (units : List UnitCode) (common : ℕ) (row
   pub common_is : common ≡ common_cells program
   pub few_cells : common ≤ most_cells
   pub initial : AreInitial program rows
+  pub of_units : AreOfUnits program rows
   pub named : names ≡ names_in_order program

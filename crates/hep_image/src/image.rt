@@ -2,7 +2,7 @@
 ghost use Rattle.std.specs.Prelude.{◌≡◌, ◌↔◌, ◌≤◌, ◌<◌, None, length, option_map, slice_get, IfOk, IsTrue};
 ghost use Rattle.hep_check.specs.Conditions.{IsAccepted};
 ghost use Rattle.hep_machine.specs.Layout.{common_cells};
-ghost use Rattle.hep_image.specs.Data.{AreInitial};
+ghost use Rattle.hep_image.specs.Data.{AreInitial, AreOfUnits};
 ghost use Rattle.hep_image.specs.Image as spec;
 ghost use Rattle.hep_image.specs.Image.{IsImage, IsUnitCode};
 ghost use Rattle.hep_image.specs.Names.{names_in_order};
@@ -92,7 +92,8 @@ impl Image {
     /// What DATA gives the cells of the arena at the opening, where COMMON stands at its front and the frame of
     /// the main program just behind it; of two rows that have a cell the first one counts.
     pub fn rows(&self) -> &[DataRow]
-        ensures { AreInitial self.now result.now }
+        ensures initial { AreInitial self.now result.now }
+        ensures units { AreOfUnits self.now result.now }
     {
         self.rows.as_slice()
     }

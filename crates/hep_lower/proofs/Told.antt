@@ -10,7 +10,7 @@ use Rattle.hep_machine.specs.Variables.{frame_cells}
 use Rattle.hep_check.specs.Conditions.{IsAccepted}
 use Rattle.hep_image.specs.declared.data.DataRow.{DataRow}
 use Rattle.hep_image.specs.declared.unit.UnitCode.{UnitCode}
-use Rattle.hep_image.specs.Data.{AreInitial}
+use Rattle.hep_image.specs.Data.{AreInitial, AreOfUnits}
 use Rattle.hep_image.specs.Image.{IsImage, IsUnitCode, most_cells}
 use Rattle.hep_image.specs.Names.{names_in_order}
 use Rattle.hep_image.specs.Supported.{first_unsupported}
@@ -45,8 +45,8 @@ module _ (program : Units) (units : LoweredUnits) (known : AreUnits program (len
   lowered-is none shallow = record { supported = none; within = within-limits; shallow = subst (IsFirstDeep program (length program)) shallow known.deep }
 
   pub image-is : IsAccepted program → first_unsupported program ≡ None → units.too_deep ≡ None → (codes : List UnitCode) (cells : ℕ) (rows : List DataRow) (names : List (List ℕ))
-      → codes ≡ units.codes.items → cells ≡ common_cells program → AreInitial program rows → names ≡ names_in_order program → IsImage program codes cells rows names
-  image-is accepted none shallow codes cells rows names same size initial named =
+      → codes ≡ units.codes.items → cells ≡ common_cells program → AreInitial program rows → AreOfUnits program rows → names ≡ names_in_order program → IsImage program codes cells rows names
+  image-is accepted none shallow codes cells rows names same size initial of_units named =
       subst (λ us. IsImage program us cells rows names) (sym same) (record {
         accepted = accepted;
         supported = none;
@@ -55,5 +55,6 @@ module _ (program : Units) (units : LoweredUnits) (known : AreUnits program (len
         common_is = size;
         few_cells = subst (λ n. n ≤ most_cells) (sym size) common;
         initial = initial;
+        of_units = of_units;
         named = named;
       })

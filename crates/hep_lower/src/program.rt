@@ -5,7 +5,7 @@ ghost use Rattle.hep_machine.specs.Layout.{common_cells};
 ghost use Rattle.hep_machine.specs.Variables.{frame_cells};
 ghost use Rattle.hep_check.specs.Conditions.{IsAccepted};
 ghost use Rattle.hep_common.specs.Starts.{AreStarts};
-ghost use Rattle.hep_image.specs.Data.{AreInitial};
+ghost use Rattle.hep_image.specs.Data.{AreInitial, AreOfUnits};
 ghost use Rattle.hep_image.specs.Image.{most_cells};
 ghost use Rattle.hep_image.specs.Supported as supported;
 ghost use Rattle.hep_lower.specs.Refusals.{AreCellsBeyond, IsLowered, Refuses};
@@ -58,7 +58,8 @@ fn initial_rows(
     requires starts { AreStarts checked.now common.now }
     requires small_common { common_cells checked.now ≤ most_cells }
     requires small_frames { (u : ℕ) → u < length checked.now → frame_cells (unit_at checked.now u) ≤ most_cells }
-    ensures { IfOk result (λ rows. AreInitial checked.now rows.items) }
+    ensures initial { IfOk result (λ rows. AreInitial checked.now rows.items) }
+    ensures units { IfOk result (λ rows. AreOfUnits checked.now rows.items) }
 {
     checked.is_accepted();
     let symbols = &program.units()[0];

@@ -26,12 +26,12 @@ use Rattle.hep_frames.proofs.HeldFrames.{opening-is}
 use Rattle.hep_frames.proofs.Memory.{address-same, laid-same}
 use Rattle.hep_frames.proofs.Tree.{rest-held}
 use Rattle.hep_image.specs.declared.data.DataRow.{DataRow}
-use Rattle.hep_image.specs.Data.{AreInitial, first_frames, value_in_rows}
+use Rattle.hep_image.specs.Data.{AreOfUnits, AreInitial, first_frames, value_in_rows}
 use Rattle.hep_proc.specs.Keeping.{IsOpening, Keeps}
 use Rattle.hep_step.specs.Simulation.{unit_addressed}
 use Rattle.hep_arena.specs.Space.{Space}
 use Rattle.hep_frames.specs.Tree.{Node, Nodes}
-use Rattle.hep_state.specs.Openings.{AreOfUnits, IsEntered, IsGiven, snapshot_opened, unset_opening}
+use Rattle.hep_state.specs.Openings.{IsEntered, IsGiven, snapshot_opened, unset_opening}
 use Rattle.hep_state.specs.Showing.{IsStack}
 use Rattle.hep_state.specs.Snapshots.{Stack}
 use Rattle.hep_state.specs.Turns.{IsAfter}

@@ -1,7 +1,6 @@
 -- What a core keeps before the first step: docs/MACHINE.md, "The opening and runs".
 use Rattle.std.specs.Prelude.{◌≡◌, ℕ, false, List, [], ◌∷◌, length, nat_eq, slice_get, Some}
 use Rattle.std.specs.Option.{option_map}
-use Rattle.hep_source.specs.declared.value.Value.{Value}
 use Rattle.hep_source.specs.Units.{Units, main_unit}
 use Rattle.hep_machine.specs.Access.{unset_cell}
 use Rattle.hep_machine.specs.Layout.{Layout, opening_layout}
@@ -9,18 +8,12 @@ use Rattle.hep_machine.specs.Opening.{cell_given, opening}
 use Rattle.hep_machine.specs.Run.{run}
 use Rattle.hep_machine.specs.State.{Location, State}
 use Rattle.hep_arena.specs.Space.{Space}
-use Rattle.hep_frames.specs.Addresses.{address}
 use Rattle.hep_frames.specs.Descriptors.{wanted_of}
 use Rattle.hep_frames.specs.Tree.{Node, Nodes, is_stacked}
 use Rattle.hep_image.specs.declared.data.DataRow.{DataRow}
 use Rattle.hep_image.specs.Data.{first_frames, value_in_rows}
 use Rattle.hep_proc.specs.Keeping.{Keeps}
 use Rattle.hep_state.specs.Snapshots.{Snapshot}
-
--- each cell to which rows give a value keeps a storage unit, so no cell of a DO has one
-abbrev pub AreOfUnits : Units → List DataRow → Type 0
-AreOfUnits program rows =
-    (p : ℕ) (v : Value) → value_in_rows rows p ≡ Some v → (at : Location) × (address program (opening program) (first_frames program) at ≡ Some p)
 
 -- the opening before DATA gives values
 abbrev pub unset_opening : Units → State
