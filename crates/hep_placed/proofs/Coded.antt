@@ -45,16 +45,18 @@ use Rattle.hep_source.specs.declared.declaration.NamedConstant.{NamedConstant}
 
 -- ---- what is asked of instructions
 
--- what is asked of the variables of operations, of a unit called with a number of arguments, of PURGE, and of arguments
+-- what is asked of the variables of operations, of those that FULL, EMPTY, VALUE, SETE or WAITF is asked of, of a unit called with a number of
+-- arguments, of PURGE, and of arguments
 pub record Wish : Type 1 where
   pub variable : Variable → Type 0
+  pub tested : Variable → Type 0
   pub call : ℕ → ℕ → Type 0
   pub purge : Type 0
   pub argument : Argument → Type 0
 
 abbrev pub MeetsEvaluation : Wish → Evaluation → Type 0
 MeetsEvaluation w (Load x n) = w.variable x
-MeetsEvaluation w (Test f x n) = w.variable x
+MeetsEvaluation w (Test f x n) = w.variable x × w.tested x
 MeetsEvaluation w _ = Unit {0}
 
 abbrev pub MeetsOperation : Wish → Operation → Type 0
@@ -137,6 +139,7 @@ module _ (addressed : AddressedUnit) (w : Wish) where
   pub record IsResolved : Type 0 where
     pub valued : (x : Name) → constant_value addressed.unit x ≡ None → is_constant_name addressed.unit x ≡ false
     pub scalar : (x : Name) → is_array addressed.unit x ≡ true → is_constant_name addressed.unit x ≡ false
+    pub asked : (x : Name) → x.asynchronous ≡ true → w.variable (addressed.variables x) → w.tested (addressed.variables x)
 
   abbrev pub IsNamed : Name → Type 0
   IsNamed x = is_constant_name addressed.unit x ≡ false → w.variable (addressed.variables x)
@@ -195,6 +198,28 @@ module _ (addressed : AddressedUnit) (w : Wish) where
     one_asked (negated t) a n = absurd (true≢false (sym a))
     one_asked (binary o x y) a n = absurd (true≢false (sym a))
 
+    -- and asynchronous
+    one_asynchronous : (t : Tree) → is_asynchronous_scalar (actual_class addressed.unit t) ≡ true → (asked (names_of addressed) (trees t no_trees)).0.asynchronous ≡ true
+    one_asynchronous (constant v) a = absurd (true≢false (sym a))
+    one_asynchronous (occurrence p) a = by_tests (is_constant_name addressed.unit p.name) (is_array addressed.unit p.name) a where
+      by_tests : (b d : Bool) → is_asynchronous_scalar (if b then value (Some (type_of addressed.unit p.name)) else (if d then whole_array p.name.asynchronous (type_of addressed.unit p.name) else variable p.name.asynchronous false (type_of addressed.unit p.name))) ≡ true → p.name.asynchronous ≡ true
+      by_tests true d f = absurd (true≢false (sym f))
+      by_tests false true f = absurd (true≢false (sym f))
+      by_tests false false f = f
+    one_asynchronous (with_list p us) a = by_meaning (listed_meaning addressed.unit p.name) a where
+      by_meaning : (m : Meaning) → is_asynchronous_scalar (given_with_list addressed.unit m p.name (type_of_tree addressed.unit (with_list p us))) ≡ true → (asked_listed m p.name (count us)).0.asynchronous ≡ true
+      by_meaning element f = f
+      by_meaning (pure g) f = absurd (true≢false (sym f))
+      by_meaning (state g) f = absurd (true≢false (sym f))
+      by_meaning unknown f = absurd (true≢false (sym f))
+    one_asynchronous (parenthesized t) a = absurd (true≢false (sym a))
+    one_asynchronous (signed s t) a = absurd (true≢false (sym a))
+    one_asynchronous (negated t) a = absurd (true≢false (sym a))
+    one_asynchronous (binary o x y) a = absurd (true≢false (sym a))
+
+    asked_asynchronous : (ts : Trees) → IsOneAsynchronousScalar addressed.unit ts → (asked (names_of addressed) ts).0.asynchronous ≡ true
+    asked_asynchronous ts one = subst (λ us. (asked (names_of addressed) us).0.asynchronous ≡ true) (sym one.1) (one_asynchronous one.0 one.2)
+
     asked_named : (ts : Trees) → IsOneAsynchronousScalar addressed.unit ts → AreNamed (occurrences_in_all addressed.unit ts) → w.variable (addressed.variables (asked (names_of addressed) ts).0)
     asked_named ts one n =
         subst (λ us. w.variable (addressed.variables (asked (names_of addressed) us).0)) (sym one.1) (
@@ -208,8 +233,9 @@ module _ (addressed : AddressedUnit) (w : Wish) where
     listed_meets line p ts (pure f) e n one list subscripts =
         behind_one w (trees_code (names_of addressed) line ts) (Step line (Evaluate (Apply f (count ts)))) list tt
     listed_meets line p ts (state f) e n one list subscripts =
+        let named = asked_named ts (one f refl) (λ q h. n q (has_behind (array_occurrence addressed.unit p) (occurrences_in_all addressed.unit ts) q h)) in
         behind_one w (asked_code (names_of addressed) line ts) (Step line (Evaluate (Test f (addressed.variables (asked (names_of addressed) ts).0) (asked (names_of addressed) ts).1))) subscripts (
-        asked_named ts (one f refl) (λ q h. n q (has_behind (array_occurrence addressed.unit p) (occurrences_in_all addressed.unit ts) q h)))
+        (named, known.asked (asked (names_of addressed) ts).0 (asked_asynchronous ts (one f refl)) named))
     listed_meets line p ts unknown e n one list subscripts = one_meets w (Push no_value) tt
 
     subscripts_meet : (m : Meaning) (code : List Instruction) → AllMeet w code → AllMeet w (asked_listed_code m code)

@@ -4,7 +4,7 @@ mod Facts
 mod Starts
 mod Rights
 mod Placed
-mod Supported
+pub mod Supported
 mod Values
 mod Shapes
 mod Arrays

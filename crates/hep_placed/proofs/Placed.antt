@@ -1,15 +1,17 @@
 -- What holds of each name of a unit that is no constant holds of each variable in its code; so these have storage units.
-use Rattle.std.proofs.Common.{◌≡◌, ℕ, zero, false, List, [], ◌∷◌, Option, Some, None, refl, subst}
-use Rattle.std.specs.Prelude.{slice_get}
+use Rattle.std.proofs.Common.{◌≡◌, ℕ, zero, Bool, true, false, List, [], ◌∷◌, Option, Some, None, refl, subst}
+use Rattle.std.specs.Prelude.{slice_get, if◌then◌else◌}
 use Rattle.std.proofs.lemmas.Option.{none-some}
 use Rattle.hep_source.specs.Tree.{Tree, constant, occurrence, with_list, parenthesized, signed, negated, binary}
 use Rattle.hep_source.specs.declared.declaration.Target.{Target}
+use Rattle.hep_source.specs.declared.function.StateFunction.{StateFunction}
+use Rattle.hep_source.specs.declared.name.Name.{Name}
 use Rattle.hep_source.specs.declared.name.Occurrence.{Occurrence}
 use Rattle.hep_source.specs.declared.statement.Statement.{Statement}
 use Rattle.hep_source.specs.declared.value.Value.{Value}
 use Rattle.hep_source.specs.Units.{Units, unit_at}
 use Rattle.hep_machine.specs.Constants.{constant_value}
-use Rattle.hep_machine.specs.Declarations.{is_constant_name}
+use Rattle.hep_machine.specs.Declarations.{is_array, is_constant_name}
 use Rattle.hep_machine.specs.Functions.{Meaning, element, pure, state, unknown, listed_meaning}
 use Rattle.hep_machine.specs.Variables.{occurrences_in, occurrences_in_all, occurrences_of}
 use Rattle.hep_check.specs.Statements.{targets_purged}
@@ -22,10 +24,14 @@ use Rattle.hep_code.specs.declared.instruction.Instruction.TheVariants.{Step, Pa
 use Rattle.hep_code.specs.declared.instruction.Operation.{Operation}
 use Rattle.hep_code.specs.declared.instruction.Operation.TheVariants.{Evaluate, Store, EnterLoop, EndLoop}
 use Rattle.hep_code.specs.declared.variable.Variable.{Variable}
+use Rattle.hep_code.specs.declared.variable.Variable.TheVariants as variables
+use Rattle.hep_code.specs.Replies.{is_asynchronous}
 use Rattle.hep_code.specs.ExpressionCode.{argument_of, argument_of_listed, argument_of_name, count}
 use Rattle.hep_code.specs.Stacks.{addressed_unit}
 use Rattle.hep_code.specs.UnitCode.{AddressedUnit, code_of, names_of}
-use Rattle.hep_image.specs.Places.{addresses_of, variable_of}
+use Rattle.hep_image.specs.declared.array.Start.{Start}
+use Rattle.hep_image.specs.declared.array.Start.TheVariants as start
+use Rattle.hep_image.specs.Places.{addresses_of, scalar, start_of, variable_by, variable_of}
 use Rattle.hep_accepted.proofs.Members.{Has, has_one}
 use Rattle.hep_placed.specs.Instructions.{variables_in, variables_in_argument, variables_in_evaluation, variables_in_operation}
 use Rattle.hep_placed.specs.Placed.{AreConstantsPlain, ArePlaced, IsPlaced, code_in}
@@ -42,7 +48,7 @@ OfArgument P (Referred x n) = P x
 
 -- of each variable, in an argument too, and nothing else
 abbrev pub wishing : (Variable → Type 0) → Wish
-wishing P = record { variable = P; call = λ u n. Unit {0}; purge = Unit {0}; argument = OfArgument P }
+wishing P = record { variable = P; tested = λ x. Unit {0}; call = λ u n. Unit {0}; purge = Unit {0}; argument = OfArgument P }
 
 abbrev pub Each : (Variable → Type 0) → List Variable → Type 0
 Each P xs = (i : ℕ) (x : Variable) → slice_get xs i ≡ Some x → P x
@@ -56,7 +62,7 @@ one_each P x h i y e = subst P (has_one x y (i, e)) h
 module _ (w : Wish) where
   of_evaluation : (e : Evaluation) → MeetsEvaluation w e → Each w.variable (variables_in_evaluation e)
   of_evaluation (Load x n) h = one_each w.variable x h
-  of_evaluation (Test f x n) h = one_each w.variable x h
+  of_evaluation (Test f x n) h = one_each w.variable x h.0
   of_evaluation _ h = none_each w.variable
 
   pub of_operation : (o : Operation) → MeetsOperation w o → Each w.variable (variables_in_operation o)
@@ -87,7 +93,7 @@ module _ (addressed : AddressedUnit) (facts : Facts addressed.unit) (P : Variabl
   argument_right (with_list p ts) inside = by_meaning (listed_meaning addressed.unit p.name) refl where
     by_meaning : (m : Meaning) → listed_meaning addressed.unit p.name ≡ m → OfArgument P (argument_of_listed (names_of addressed) m p.name (count ts))
     by_meaning element e =
-        array_named addressed (wishing P) (resolved addressed facts (wishing P)) p (occurrences_in_all addressed.unit ts) (λ q h. named q (inside q h)) (element_is_array addressed.unit p.name e)
+        array_named addressed (wishing P) (resolved addressed facts (wishing P) (λ x a v. tt)) p (occurrences_in_all addressed.unit ts) (λ q h. named q (inside q h)) (element_is_array addressed.unit p.name e)
     by_meaning (pure f) e = tt
     by_meaning (state f) e = tt
     by_meaning unknown e = tt
@@ -99,7 +105,7 @@ module _ (addressed : AddressedUnit) (facts : Facts addressed.unit) (P : Variabl
 
   pub all_right : ((s : Statement) (t : Target) → Has addressed.unit s → Has (targets_purged s.form) t → Has (occurrences_of addressed.unit) t.occurrence → P (addressed.variables t.occurrence.name)) → AllMeet (wishing P) (code_of addressed)
   all_right purged =
-      code_meets addressed (wishing P) (resolved addressed facts (wishing P)) (
+      code_meets addressed (wishing P) (resolved addressed facts (wishing P) (λ x a v. tt)) (
       right addressed facts (wishing P) named (record {
         called = λ s c h g. tt;
         passed = λ s c t h g i. argument_right t (λ p j. actual_in_unit addressed facts (wishing P) s c t p h g i j);
@@ -112,9 +118,26 @@ module _ (addressed : AddressedUnit) (facts : Facts addressed.unit) (P : Variabl
 abbrev pub unit_of_program : Units → ℕ → AddressedUnit
 unit_of_program program u = addressed_unit program (addresses_of program) u
 
--- storage units of operations' variables alone
+-- storage units of operations' variables alone, and `$` of those that are tested
 abbrev placing : Wish
-placing = record { variable = IsPlaced; call = λ u n. Unit {0}; purge = Unit {0}; argument = λ a. Unit {0} }
+placing = record { variable = IsPlaced; tested = λ x. is_asynchronous x ≡ true; call = λ u n. Unit {0}; purge = Unit {0}; argument = λ a. Unit {0} }
+
+-- the variable of an asynchronous name that has storage units is asynchronous
+asynchronous_scalar : (a : Bool) (at : Start) → a ≡ true → is_asynchronous (scalar a at) ≡ true
+asynchronous_scalar a (start.Local c) e = e
+asynchronous_scalar a (start.Common c) e = e
+asynchronous_scalar a (start.Dummy c) e = e
+
+asynchronous_by : (unit : List Statement) (x : Name) (o : Option Start) → x.asynchronous ≡ true → IsPlaced (variable_by unit x o) → is_asynchronous (variable_by unit x o) ≡ true
+asynchronous_by unit x None e there = absurd (there refl)
+asynchronous_by unit x (Some at) e there = by_test (is_array unit x) _ where
+  by_test : (b : Bool) (i : ℕ) → is_asynchronous (if b then variables.Array x.asynchronous i else scalar x.asynchronous at) ≡ true
+  by_test true i = e
+  by_test false i = asynchronous_scalar x.asynchronous at e
+
+asynchronous_variable : (program : Units) (unit : List Statement) (x : Name) → x.asynchronous ≡ true → IsPlaced (variable_of program unit x) → is_asynchronous (variable_of program unit x) ≡ true
+unfolding variable_of
+asynchronous_variable program unit x e there = asynchronous_by unit x (start_of program unit x) e there
 
 module _ (program : Units) (u : ℕ) (facts : Facts (unit_at program u)) where
   -- a name of the unit that is no constant
@@ -125,7 +148,7 @@ module _ (program : Units) (u : ℕ) (facts : Facts (unit_at program u)) where
 
   operations_placed : AllMeet placing (code_in program u)
   operations_placed =
-      code_meets (unit_of_program program u) placing (resolved (unit_of_program program u) facts placing) (
+      code_meets (unit_of_program program u) placing (resolved (unit_of_program program u) facts placing (asynchronous_variable program (unit_at program u))) (
       right (unit_of_program program u) facts placing placed (record {
         called = λ s c h g. tt;
         passed = λ s c t h g i. tt;
@@ -140,6 +163,9 @@ module _ (program : Units) (u : ℕ) (facts : Facts (unit_at program u)) where
 
   pub variables_of_operations : (i line : ℕ) (o : Operation) → slice_get (code_in program u) i ≡ Some (Step line o) → ArePlaced (variables_in_operation o)
   variables_of_operations i line o e = of_operation placing o (operations_placed (Step line o) (i, e))
+
+  pub tested_variables : (i line n : ℕ) (f : StateFunction) (x : Variable) → slice_get (code_in program u) i ≡ Some (Step line (Evaluate (Test f x n))) → is_asynchronous x ≡ true
+  tested_variables i line n f x e = (operations_placed (Step line (Evaluate (Test f x n))) (i, e)).1
 
   pub variables_of_all : (i : ℕ) (x : Instruction) → AreConstantsPlain (unit_at program u) → slice_get (code_in program u) i ≡ Some x → ArePlaced (variables_in x)
   variables_of_all i x plain e = of_instruction IsPlaced x (all_placed plain x (i, e))

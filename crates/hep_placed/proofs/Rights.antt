@@ -5,6 +5,7 @@ use Rattle.std.specs.List.{flat_map}
 use Rattle.std.proofs.lemmas.Option.{none-some}
 use Rattle.hep_source.specs.Tree.{Tree}
 use Rattle.hep_source.specs.declared.declaration.Target.{Target}
+use Rattle.hep_source.specs.declared.name.Name.{Name}
 use Rattle.hep_source.specs.declared.name.Occurrence.{Occurrence}
 use Rattle.hep_source.specs.declared.statement.Form.{Form}
 use Rattle.hep_source.specs.declared.statement.Form.TheVariants as form
@@ -44,8 +45,8 @@ actual_tree (form.Create p ts) c t h g = subst (λ (d : Calling). Has d.actuals 
 actual_tree _ c t h g = absurd (none-some c h.1)
 
 module _ (addressed : AddressedUnit) (facts : Facts addressed.unit) (w : Wish) where
-  pub resolved : IsResolved addressed w
-  resolved = record { valued = without_value addressed.unit facts; scalar = array_no_constant addressed.unit facts }
+  pub resolved : ((x : Name) → x.asynchronous ≡ true → w.variable (addressed.variables x) → w.tested (addressed.variables x)) → IsResolved addressed w
+  resolved asked = record { valued = without_value addressed.unit facts; scalar = array_no_constant addressed.unit facts; asked = asked }
 
   -- an occurrence in the form of a statement is one in the unit
   occurs : (s : Statement) (p : Occurrence) → Has addressed.unit s → Has (occurrences_in_form addressed.unit s.form) p → Has (occurrences_of addressed.unit) p

@@ -135,7 +135,7 @@ plain_variable program unit x e = plain_by unit x (start_of program unit x) e
 -- ---- the code
 
 abbrev staying : Wish
-staying = record { variable = λ x. IsPlaced x × (is_asynchronous x ≡ false); call = λ u n. ⊥; purge = ⊥; argument = λ a. ⊥ }
+staying = record { variable = λ x. IsPlaced x × (is_asynchronous x ≡ false); tested = λ x. Unit {0}; call = λ u n. ⊥; purge = ⊥; argument = λ a. ⊥ }
 
 module _ (program : Units) (u : ℕ) (facts : Facts (unit_at program u)) (none : first_unsupported program ≡ None) (there : u < length program) where
   parts : (s : Statement) → Has (unit_at program u) s → (is_unsupported_form s.form ≡ false) × (list_any (λ (p : Occurrence). p.name.asynchronous) (occurrences_in_statement (unit_at program u) s) ≡ false)
@@ -150,7 +150,7 @@ module _ (program : Units) (u : ℕ) (facts : Facts (unit_at program u)) (none :
 
   all_stay : AllMeet staying (code_in program u)
   all_stay =
-      code_meets (unit_of_program program u) staying (resolved (unit_of_program program u) facts staying) (
+      code_meets (unit_of_program program u) staying (resolved (unit_of_program program u) facts staying (λ x a v. tt)) (
       right (unit_of_program program u) facts staying named (record {
         called = λ s c h g. no_call s.form c (parts s h).0 g;
         passed = λ s c t h g i. no_call s.form c (parts s h).0 g;

@@ -1,5 +1,6 @@
 //! Laws of the code of accepted programs: where the variables in it are, and what it calls.
 ghost use Rattle.std.specs.Prelude.{◌≡◌, ◌<◌, ℕ, Bool, true, List, [], Some, None, slice_get, length};
+ghost use Rattle.hep_source.specs.declared.function.StateFunction.{StateFunction};
 ghost use Rattle.hep_source.specs.declared.name.Name.{Name};
 ghost use Rattle.hep_source.specs.declared.statement.Statement.{Statement};
 ghost use Rattle.hep_source.specs.Units.{Units, dummies_of, main_unit, unit_at};
@@ -7,11 +8,14 @@ ghost use Rattle.hep_machine.specs.Constants.{adjustable_dimensions, constant_sh
 ghost use Rattle.hep_machine.specs.Declarations.{is_array};
 ghost use Rattle.hep_machine.specs.Shapes.{Bounds, is_shape};
 ghost use Rattle.hep_check.specs.Conditions.{IsAccepted};
+ghost use Rattle.hep_code.specs.declared.instruction.Evaluation.TheVariants.{Test};
 ghost use Rattle.hep_code.specs.declared.instruction.Instruction.{Instruction};
 ghost use Rattle.hep_code.specs.declared.instruction.Instruction.TheVariants.{Step};
 ghost use Rattle.hep_code.specs.declared.instruction.Operation.{Operation};
-ghost use Rattle.hep_code.specs.declared.instruction.Operation.TheVariants.{Call, Create};
+ghost use Rattle.hep_code.specs.declared.instruction.Operation.TheVariants.{Call, Create, Evaluate};
+ghost use Rattle.hep_code.specs.declared.variable.Variable.{Variable};
 ghost use Rattle.hep_code.specs.declared.variable.Variable.TheVariants.{Array};
+ghost use Rattle.hep_code.specs.Replies.{is_asynchronous};
 ghost use Rattle.hep_image.specs.declared.array.Start.{Start};
 ghost use Rattle.hep_image.specs.Places.{arrays_of, start_of, variable_of};
 ghost use Rattle.hep_image.specs.Supported.{first_unsupported};
@@ -40,6 +44,13 @@ pub fn supported_code()
     ensures activation { (program : Units) (u i : ℕ) (x : Instruction) → IsAccepted program → first_unsupported program ≡ None → u < length program → slice_get (code_in program u) i ≡ Some x → IsOfOneActivation x }
     ensures plain { (program : Units) (u i : ℕ) (x : Instruction) → IsAccepted program → first_unsupported program ≡ None → u < length program → slice_get (code_in program u) i ≡ Some x → ArePlain (variables_in x) }
     ensures placed { (program : Units) (u i : ℕ) (x : Instruction) → IsAccepted program → first_unsupported program ≡ None → u < length program → slice_get (code_in program u) i ≡ Some x → ArePlaced (variables_in x) }
+{
+    laws::constants_agree();
+}
+
+/// What FULL, EMPTY, VALUE, SETE or WAITF is asked of in the code is asynchronous.
+pub fn tested_variables_are_asynchronous()
+    ensures { (program : Units) (u i line n : ℕ) (f : StateFunction) (x : Variable) → IsAccepted program → u < length program → slice_get (code_in program u) i ≡ Some (Step line (Evaluate (Test f x n))) → is_asynchronous x ≡ true }
 {
     laws::constants_agree();
 }

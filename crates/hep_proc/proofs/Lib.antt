@@ -1,8 +1,8 @@
-mod Slabs
+pub mod Slabs
 mod Begun
 mod Opened
 mod Openings
 mod Giving
-mod Several
-mod Stays
+pub mod Several
+pub mod Stays
 mod Children

@@ -8,3 +8,8 @@ pub mod Ended
 pub mod Tops
 pub mod Settled
 pub mod Opened
+pub mod Stacked
+pub mod Advanced
+pub mod Processes
+pub mod Waiting
+pub mod Taken

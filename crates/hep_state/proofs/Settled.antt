@@ -1,6 +1,6 @@
 -- What stays the same: the values that stand ahead are put behind the operands, or no step is made.
 use Rattle.std.proofs.Common.{◌≡◌, inl, inr, ℕ, zero, suc, ◌-◌, true, false, List, [], ◌∷◌, length, Option, Some, None, refl, sym, ap, ◌∙◌, arith}
-use Rattle.std.specs.Prelude.{slice_get, slice_set}
+use Rattle.std.specs.Prelude.{Bool, is_some, slice_get, slice_set}
 use Rattle.std.proofs.lemmas.List.{length-set}
 use Rattle.std.proofs.lemmas.Option.{same_Some, none-some}
 use Rattle.hep_source.specs.declared.value.Value.{Value}
@@ -75,6 +75,11 @@ numbered-there {A} {B} xs ys (suc i) x e there = at xs ys i e there where
   at (z ∷ zs) (y ∷ ys) zero e there = (y, refl)
   at (z ∷ zs) (y ∷ ys) (suc i) e there = at zs ys i (omega (arith, e)) there
 
+-- a process has levels
+abbrev pub has-levels : List Level → Bool
+has-levels [] = false
+has-levels (l ∷ ls) = true
+
 module _ (program : Units) (cells : ℕ) (choices : List ℕ) (m : Snapshot) (p : ℕ) (h : IsAfter program cells choices m) where
   abbrev old : State
   old = run program choices
@@ -105,8 +110,23 @@ module _ (program : Units) (cells : ℕ) (choices : List ℕ) (m : Snapshot) (p 
       by_process [] on-it standing = ap top_of on-it
       by_process (level ∷ levels) on-it standing = absurd standing
 
-  pub absent-none : numbered m.processes p ≡ None → IsAbsent program cells choices p m
-  absent-none none = record { none = inr (by_process (numbered old.processes p) refl); after = h } where
+  pub none-lives : numbered m.processes p ≡ None → living old p ≡ None
+  none-lives none = by_process (numbered old.processes p) refl where
     by_process : (o : Option Process) → numbered old.processes p ≡ o → living old p ≡ None
     by_process None e = ap top_of e
     by_process (Some q) e = let k = numbered-there old.processes m.processes p q (sym h.shows.processes) e in absurd (none-some k.0 (sym none ∙ k.1))
+
+  pub absent-none : numbered m.processes p ≡ None → IsAbsent program cells choices p m
+  absent-none none = record { none = inr (none-lives none); after = h }
+
+  -- it lives just where it has levels
+  pub lives-by : (k : Stack) → numbered m.processes p ≡ Some k → is_some (living old p) ≡ has-levels k.levels
+  lives-by k kept =
+      let q = numbered-there m.processes old.processes p k h.shows.processes kept in
+      by_levels k.levels q.0 q.1 (standing-of k q.0 kept q.1)
+    where
+      by_levels : (ls : List Level) (q : Process) → numbered old.processes p ≡ Some q → AreStanding program old m.nodes k.operands ls q → is_some (living old p) ≡ has-levels ls
+      by_levels [] [] on-it standing = ap (λ o. is_some (top_of o)) on-it
+      by_levels (l ∷ ls) (level ∷ levels) on-it standing = ap (λ o. is_some (top_of o)) on-it
+      by_levels [] (level ∷ levels) on-it standing = absurd standing
+      by_levels (l ∷ ls) [] on-it standing = absurd standing

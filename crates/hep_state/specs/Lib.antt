@@ -4,3 +4,4 @@ pub mod Turns
 pub mod Tops
 pub mod Openings
 pub mod Rooms
+pub mod Taking

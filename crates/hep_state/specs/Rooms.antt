@@ -2,6 +2,7 @@
 use Rattle.std.specs.Prelude.{◌≡◌, ◌≤◌, ℕ, List, Some, slice_get, vec_capacity}
 use Rattle.hep_source.specs.Units.{Units}
 use Rattle.hep_code.specs.Depths.{deepest}
+use Rattle.hep_image.specs.Image.{most_cells}
 use Rattle.hep_step.specs.Simulation.{unit_code}
 use Rattle.hep_state.specs.declared.machine.Level.{Level}
 use Rattle.hep_state.specs.declared.machine.Machine.{Machine}
@@ -13,7 +14,13 @@ use Rattle.hep_state.specs.Turns.{IsAfter}
 abbrev pub HasRoom : Units → Process → Type 0
 HasRoom program q = (i : ℕ) (l : Level) → slice_get q.levels.items i ≡ Some l → deepest (unit_code program l.unit) ≤ vec_capacity q.operands
 
+-- each process has that room, and the arena has no more cells than it may have
+pub record HaveRoom (program : Units) (cells : ℕ) (m : Machine) : Type 0 where
+  pub few : cells ≤ most_cells
+  pub room : (i : ℕ) (q : Process) → slice_get m.processes.items i ≡ Some q → HasRoom program q
+
 -- a machine keeps the state after turns of these processes, with that room
 pub record IsMachineAfter (program : Units) (cells : ℕ) (choices : List ℕ) (m : Machine) : Type 0 where
   pub after : IsAfter program cells choices (snapshot_of m)
+  pub few : cells ≤ most_cells
   pub room : (i : ℕ) (q : Process) → slice_get m.processes.items i ≡ Some q → HasRoom program q

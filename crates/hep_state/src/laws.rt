@@ -20,12 +20,13 @@ ghost use Rattle.hep_image.specs.declared.data.DataRow.{DataRow};
 ghost use Rattle.hep_image.specs.Data.{AreInitial, AreOfUnits, first_frames};
 ghost use Rattle.hep_image.specs.Supported.{first_unsupported};
 ghost use Rattle.hep_proc.specs.Keeping.{AreKept, CanAllLeave, CanLeave, HasLeft, IsEnded, IsOpening, Keeps, LeadUpwards, all_but};
-ghost use Rattle.hep_step.specs.Effects.{fails, moves, prints, returns, stops, waits};
-ghost use Rattle.hep_step.specs.Simulation.{IsRunning, Simulates, unit_addressed};
+ghost use Rattle.hep_step.specs.Effects.{effect_at, fails, moves, prints, returns, stops, waits};
+ghost use Rattle.hep_step.specs.Simulation.{IsRunning, Simulates, unit_addressed, unit_arrays, unit_code};
 ghost use Rattle.hep_state.specs.declared.machine.Level.{Level};
 ghost use Rattle.hep_state.specs.Openings.{IsEntered, IsGiven, snapshot_opened, unset_opening};
 ghost use Rattle.hep_state.specs.Showing.{node_under};
 ghost use Rattle.hep_state.specs.Snapshots.{Snapshot};
+ghost use Rattle.hep_state.specs.Taking.{IsNoWait};
 ghost use Rattle.hep_state.specs.Tops.{IsTurning, frame_under, keys_of, snapshot_failed, snapshot_moved, snapshot_printed, snapshot_returned, snapshot_stopped, state_failed, state_returned, top_after, with_stack};
 ghost use Rattle.hep_state.specs.Turns.{HasStepped, HasWaited, IsAbsent, IsAfter};
 
@@ -47,6 +48,14 @@ pub fn tops_are_running()
     hep_placed::laws::supported_code();
     hep_accepted::values::arrays_have_shapes();
     hep_placed::laws::arrays_are_there();
+}
+
+/// An operation in the code of a program that can be run so far never waits: its variables are plain.
+pub fn supported_programs_never_wait()
+    ensures { (program : Units) (u first : ℕ) (contents : List Slot) (operands : List Value) (index : ℕ) → IsAccepted program → first_unsupported program ≡ None → u < length program → IsNoWait (effect_at (unit_code program u) (unit_arrays program u) first contents operands index) }
+{
+    hep_placed::laws::supported_code();
+    hep_placed::laws::tested_variables_are_asynchronous();
 }
 
 /// Where the values that stand ahead are put behind the operands, the same state is shown.

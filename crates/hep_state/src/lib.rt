@@ -1,10 +1,13 @@
 //! A machine's state as a core keeps it: the frames, where each process stands in the code, and what was written.
 //!
 //! That it is a state of the source machine is said in `specs/Showing`, and after each turn by the contracts of
-//! [`laws`].
+//! [`laws`] and of [`Machine::turn`].
 #![tactic(auto)]
 
+mod advancing;
+mod ending;
 pub mod laws;
 mod machine;
+mod turn;
 
 pub use machine::{Level, Machine, Process};

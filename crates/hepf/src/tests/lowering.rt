@@ -60,7 +60,13 @@ fn image(rt: HostRuntime) -> Result<(), Fail> {
 #[test]
 fn names(rt: HostRuntime) -> Result<(), Fail> {
     let image = image_of(rt.alloc(), SUM)??;
-    let names = [b"P".as_slice(), b"A".as_slice(), b"K".as_slice(), b"N".as_slice(), b"C".as_slice()];
+    let names = [
+        b"P".as_slice(),
+        b"A".as_slice(),
+        b"K".as_slice(),
+        b"N".as_slice(),
+        b"C".as_slice(),
+    ];
     for (number, name) in names.iter().enumerate() {
         assert_eq!(rt; image.name(number as u32), Some(*name));
     }
@@ -75,12 +81,12 @@ fn refusal_of(alloc: Global, source: &[u8]) -> Result<Option<(u16, u32)>, Fail> 
     }
 }
 
-// So many arrays of 1,048,576 elements, and nothing else.
-fn arrays(alloc: Global, count: u8) -> Result<Vec<u8>, Fail> {
+// An array of 1,048,576 elements for each of these letters, and nothing else.
+fn arrays(alloc: Global, letters: &[u8]) -> Result<Vec<u8>, Fail> {
     let mut source = Vec::new(alloc);
-    for number in 0..count {
+    for letter in letters {
         source.extend_from_slice(b"      INTEGER A")?;
-        source.push(b'A' + number)?;
+        source.push(*letter)?;
         source.extend_from_slice(b"(1048576)\n")?;
     }
     source.extend_from_slice(b"      END\n")?;
@@ -110,9 +116,18 @@ fn sums(alloc: Global, depth: usize) -> Result<Vec<u8>, Fail> {
 #[test]
 fn limits(rt: HostRuntime) -> Result<(), Fail> {
     let alloc = rt.alloc();
-    assert_eq!(rt; refusal_of(alloc, b"      END\n      SUBROUTINE S\n      END\n")?, Some((403, 2)));
-    assert_eq!(rt; refusal_of(alloc, &arrays(alloc, 15)?)?, None);
-    assert_eq!(rt; refusal_of(alloc, &arrays(alloc, 16)?)?, Some((401, 0)));
+    assert_eq!(rt;
+        refusal_of(alloc, b"      END\n      SUBROUTINE S\n      END\n")?,
+        Some((403, 2))
+    );
+    assert_eq!(rt;
+        refusal_of(alloc, &arrays(alloc, b"ABCDEFGHIJKLMNO")?)?,
+        None
+    );
+    assert_eq!(rt;
+        refusal_of(alloc, &arrays(alloc, b"ABCDEFGHIJKLMNOP")?)?,
+        Some((401, 0))
+    );
     assert_eq!(rt; refusal_of(alloc, &sums(alloc, 255)?)?, None);
     assert_eq!(rt; refusal_of(alloc, &sums(alloc, 256)?)?, Some((402, 2)));
     Ok(())

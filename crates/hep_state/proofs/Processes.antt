@@ -1,0 +1,112 @@
+-- A process of a machine has another stack: what the machine shows then, and that there is still room for operands.
+use Rattle.std.proofs.Common.{◌≡◌, ℕ, zero, suc, ◌-◌, ◌<◌, ◌≤◌, true, false, not, nat_eq, List, [], ◌∷◌, ◌++◌, length, map, get_or, reverse, Some, None, refl, sym, ap, ◌∙◌, subst, arith}
+use Rattle.std.specs.Prelude.{slice_get, slice_set, vec_capacity}
+use Rattle.std.proofs.lemmas.Bool.Decides.{nat_tests}
+use Rattle.std.proofs.lemmas.List.{length-map, map-append, map-set, reverse-append}
+use Rattle.std.proofs.lemmas.Option.{same_Some, none-some, slice_get-get_or, slice_get-map, slice_get_past, slice_get_within}
+use Rattle.std.specs.Option.{option_map}
+use Rattle.hep_source.specs.declared.value.Value.{Value}
+use Rattle.hep_source.specs.Units.{Units}
+use Rattle.hep_machine.specs.Processes.{numbered, with_numbered}
+use Rattle.hep_accepted.proofs.Members.{front_at, image_at, map_at}
+use Rattle.hep_code.specs.Depths.{deepest}
+use Rattle.hep_step.specs.Simulation.{unit_code}
+use Rattle.hep_state.specs.declared.machine.Level.{Level}
+use Rattle.hep_state.specs.declared.machine.Process.{Process}
+use Rattle.hep_state.specs.Rooms.{HasRoom}
+use Rattle.hep_state.specs.Snapshots.{Stack, stack_of}
+use Rattle.hep_state.specs.Taking.{stack_with}
+use Rattle.hep_state.proofs.Settled.{has-levels}
+use Rattle.hep_state.proofs.Stacked.{levels-are}
+
+-- ---- numbered processes
+
+numbered-one : {A : Type 0} (xs : List A) (p : ℕ) (x : A) → numbered xs p ≡ Some x → (1 ≤ p) × (slice_get xs (p - 1) ≡ Some x)
+numbered-one xs zero x e = absurd (none-some x e)
+numbered-one xs (suc i) x e = let same : suc i - 1 ≡ i = omega arith in (omega arith, ap (slice_get xs) same ∙ e)
+
+-- a process that has a stack is the one at the index below its number
+pub record IsAt (qs : List Process) (p : ℕ) (k : Stack) (q : Process) : Type 0 where
+  pub one : 1 ≤ p
+  pub inside : p - 1 < length qs
+  pub there : slice_get qs (p - 1) ≡ Some q
+  pub stack : stack_of q ≡ k
+
+pub inside-at : (qs : List Process) (p : ℕ) (k : Stack) → numbered (map stack_of qs) p ≡ Some k → (1 ≤ p) × (p - 1 < length qs)
+inside-at qs p k kept =
+    let it = numbered-one (map stack_of qs) p k kept in
+    (it.0, omega (arith, slice_get_within (map stack_of qs) (p - 1) k it.1, length-map {A = Process} qs stack_of))
+
+pub process-at : (qs : List Process) (p : ℕ) (k : Stack) (q : Process) → numbered (map stack_of qs) p ≡ Some k → q ≡ get_or qs (p - 1) q → IsAt qs p k q
+process-at qs p k q kept is =
+    let inside = inside-at qs p k kept in
+    let there : slice_get qs (p - 1) ≡ Some q = slice_get-get_or qs (p - 1) q inside.1 ∙ ap (λ z. Some z) (sym is) in
+    record {
+      one = inside.0;
+      inside = inside.1;
+      there = there;
+      stack = same_Some (stack_of q) k (sym (slice_get-map stack_of qs (p - 1) ∙ ap (option_map stack_of) there) ∙ (numbered-one (map stack_of qs) p k kept).1);
+    }
+
+pub stacks-set : (qs : List Process) (p : ℕ) (r : Process) (k : Stack) → stack_of r ≡ k → map stack_of (slice_set qs (p - 1) r) ≡ with_numbered (map stack_of qs) p k
+stacks-set qs p r k is = map-set stack_of qs (p - 1) r ∙ ap (λ z. with_numbered (map stack_of qs) p z) is
+
+-- ---- which processes have levels
+
+pub numbered-at : (qs : List Process) (p : ℕ) (q : Process) → (p ≡ 0 → ⊥) → slice_get qs (p - 1) ≡ Some q → numbered (map stack_of qs) p ≡ Some (stack_of q)
+numbered-at qs zero q one e = absurd (one refl)
+numbered-at qs (suc i) q one e = let same : suc i - 1 ≡ i = omega arith in slice_get-map stack_of qs i ∙ ap (option_map stack_of) (sym (ap (slice_get qs) same) ∙ e)
+
+pub numbered-past : (qs : List Process) (p : ℕ) → (p ≡ 0 → ⊥) → length qs ≤ p - 1 → numbered (map stack_of qs) p ≡ None
+numbered-past qs zero one le = absurd (one refl)
+numbered-past qs (suc i) one le = slice_get_past (map stack_of qs) i (omega (arith, le, length-map {A = Process} qs stack_of))
+
+levels-append : (xs : List Level) (l : Level) → has-levels (xs ++ l ∷ []) ≡ true
+levels-append [] l = refl
+levels-append (x ∷ xs) l = refl
+
+pub levels-by : (xs : List Level) (n : ℕ) → n ≡ length xs → has-levels (reverse xs) ≡ not (nat_eq n 0)
+levels-by [] n e = ap (λ k. not (nat_eq k 0)) (sym e)
+levels-by (x ∷ xs) n e =
+    let some : nat_eq n 0 ≡ false = grind (arith, nat_tests, e) in
+    ap has-levels (reverse-append (x ∷ []) xs) ∙ (levels-append (reverse xs) x ∙ ap not (sym some))
+
+pub some-levels-of : (qs : List Process) (p : ℕ) (q : Process) → numbered (map stack_of qs) p ≡ Some (stack_of q) → has-levels (reverse q.levels.items) ≡ true
+    → (l : Level) × (ls : List Level) × (operands : List Value) × (numbered (map stack_of qs) p ≡ Some (stack_with l ls operands))
+some-levels-of qs p q there some = by_levels (reverse q.levels.items) refl some where
+  by_levels : (ks : List Level) → reverse q.levels.items ≡ ks → has-levels ks ≡ true → (l : Level) × (ls : List Level) × (operands : List Value) × (numbered (map stack_of qs) p ≡ Some (stack_with l ls operands))
+  by_levels [] e h = absurd cc
+  by_levels (l ∷ ls) e h = (l, ls, q.operands.items, there ∙ (λ i. Some (record { levels = e i; operands = q.operands.items })))
+
+-- ---- room for operands
+
+-- what holds of all processes holds of all once one has another in its place, of which it holds too
+pub all-set : (P : Process → Type 0) (qs : List Process) (j : ℕ) (r : Process) → ((i : ℕ) (q : Process) → slice_get qs i ≡ Some q → P q) → P r → (i : ℕ) (q : Process) → slice_get (slice_set qs j r) i ≡ Some q → P q
+all-set P [] j r each here i q e = absurd (none-some q e)
+all-set P (x ∷ xs) zero r each here zero q e = subst P (same_Some r q e) here
+all-set P (x ∷ xs) zero r each here (suc i) q e = each (suc i) q e
+all-set P (x ∷ xs) (suc j) r each here zero q e = each zero q e
+all-set P (x ∷ xs) (suc j) r each here (suc i) q e = all-set P xs j r (λ k z d. each (suc k) z d) here i q e
+
+-- a process with fewer levels
+pub room-fewer : (program : Units) (q r : Process) (l : Level) → q.levels.items ≡ r.levels.items ++ l ∷ [] → vec_capacity q.operands ≤ vec_capacity r.operands → HasRoom program q → HasRoom program r
+room-fewer program q r l fewer more room i m e =
+    let here = room i m (subst (λ (xs : List Level). slice_get xs i ≡ Some m) (sym fewer) (front_at r.levels.items (l ∷ []) i m e)) in
+    omega (arith, here, more)
+
+pub room-none : (program : Units) (r : Process) → r.levels.items ≡ [] → HasRoom program r
+room-none program r none i m e = absurd (none-some m (subst (λ (xs : List Level). slice_get xs i ≡ Some m) none e))
+
+-- a process whose top level is at another index
+pub room-moved : (program : Units) (q r : Process) (l : Level) (next : ℕ) (ls : List Level) (was left : List Value) → stack_of q ≡ stack_with l ls was → stack_of r ≡ stack_with (record l { index = next }) ls left → vec_capacity q.operands ≤ vec_capacity r.operands
+    → HasRoom program q → HasRoom program r
+room-moved program q r l next ls was left before after more room i m e =
+    let units : (k : Level) → map unit_of (reverse ls ++ k ∷ []) ≡ map unit_of (reverse ls) ++ k.unit ∷ [] = λ k. map-append unit_of (reverse ls) (k ∷ []) in
+    let same : map unit_of r.levels.items ≡ map unit_of q.levels.items =
+    ap (map unit_of) (levels-are r (record l { index = next }) ls left after) ∙ (units (record l { index = next }) ∙ (sym (units l) ∙ sym (ap (map unit_of) (levels-are q l ls was before)))) in
+    let old = map_at unit_of q.levels.items i m.unit (sym (ap (λ us. slice_get us i) same) ∙ image_at unit_of r.levels.items i m e) in
+    let here = room i old.0 old.1 in
+    omega (arith, here, more, ap (λ u. deepest (unit_code program u)) old.2)
+  where
+    unit_of : Level → ℕ
+    unit_of k = k.unit

@@ -1,0 +1,113 @@
+-- The operation ahead of a process whose turn it is can be done, and what is left of the turn then.
+use Rattle.std.proofs.Common.{◌≡◌, ℕ, zero, suc, ◌-◌, ◌+◌, ◌<◌, ◌≤◌, List, [], ◌∷◌, ◌++◌, drop, length, refl, sym, ap, subst, arith}
+use Rattle.std.specs.Prelude.{slice_set}
+use Rattle.hep_source.specs.declared.value.Value.{Value}
+use Rattle.hep_source.specs.Units.{Units, unit_at}
+use Rattle.hep_machine.specs.Processes.{unit_of, with_numbered}
+use Rattle.hep_machine.specs.Run.{run}
+use Rattle.hep_machine.specs.State.{Level as SourceLevel, Process as SourceProcess}
+use Rattle.hep_machine.specs.Step.{Top}
+use Rattle.hep_code.specs.Ahead.{IsPastPushes, values_ahead}
+use Rattle.hep_code.specs.Depths.{deepest}
+use Rattle.hep_code.proofs.Depths.{room_for}
+use Rattle.hep_finding.specs.Within.{ArePlacedArrays}
+use Rattle.hep_image.specs.Image.{most_cells}
+use Rattle.hep_step.specs.declared.effect.Effect.{Effect}
+use Rattle.hep_step.specs.Effects as effects
+use Rattle.hep_step.specs.Effects.{effect_at, fails, moves, prints, returns, stops, unsupported, waits}
+use Rattle.hep_step.specs.Performed as performed
+use Rattle.hep_step.specs.Performed.{performed as done, snapshot}
+use Rattle.hep_step.specs.Ready.{IsReady, frame_in_arena}
+use Rattle.hep_step.specs.Simulation.{IsRunning, Simulates, unit_addressed, unit_arrays, unit_code}
+use Rattle.hep_step.proofs.Operations.{operation_simulated}
+use Rattle.hep_step.proofs.Ready.{is_ready}
+use Rattle.hep_state.specs.declared.machine.Level.{Level}
+use Rattle.hep_state.specs.Showing.{node_under}
+use Rattle.hep_state.specs.Snapshots.{Snapshot, Stack}
+use Rattle.hep_state.specs.Taking.{IsLeft, IsNoWait, IsSettled, stack_with}
+use Rattle.hep_state.specs.Tops.{IsTurning, frame_under, top_after, with_contents, with_stack}
+use Rattle.hep_state.specs.Turns.{HasStepped}
+use Rattle.hep_state.proofs.Moved.{moved-shown, printed-shown, standing-before, stopped-shown, unit-is}
+use Rattle.hep_state.proofs.Settled.{settled}
+
+-- what is in a place twice is there as it was put last
+set-twice : {A : Type 0} (xs : List A) (i : ℕ) (x y : A) → slice_set (slice_set xs i x) i y ≡ slice_set xs i y
+set-twice [] i x y = refl
+set-twice (z ∷ zs) zero x y = refl
+set-twice (z ∷ zs) (suc i) x y = ap (λ ws. z ∷ ws) (set-twice zs i x y)
+
+module _ (program : Units) (cells : ℕ) (choices : List ℕ) (m : Snapshot) (p : ℕ) (l : Level) (ls : List Level) (vs : List Value) (top : SourceLevel × SourceProcess) (turning : IsTurning program cells choices m p l ls vs top) where
+  abbrev t : Top
+  t = top_after program choices p top
+
+  abbrev number : ℕ
+  number = unit_of (run program choices) top.0.activation
+
+  unit-here : number ≡ l.unit
+  unit-here = unit-is program cells choices m p l ls vs top turning
+
+  pub inside : l.unit < length program
+  inside = (standing-before program cells choices m p l ls vs top turning).0.here.inside
+
+  -- there is room for the values that stand ahead
+  pub room-ahead : length vs + values_ahead (drop l.index (unit_code program l.unit)) ≤ deepest (unit_code program l.unit)
+  room-ahead = room_for (unit_addressed program l.unit) top.0.statement top.0.work vs l.index (standing-before program cells choices m p l ls vs top turning).0.stands
+
+  -- ---- once these are operands
+
+  module _ (operands : List Value) (index : ℕ) (settles : IsSettled program l.unit vs l.index operands index) where
+    abbrev later : Level
+    later = record l { index = index }
+
+    abbrev pub settled-now : Snapshot
+    settled-now = with_stack m p (later ∷ ls) operands
+
+    pub again : IsTurning program cells choices settled-now p later ls operands top
+    again = settled program cells choices m p l ls vs top turning operands index settles.stands
+
+    module _ (runs : IsRunning program t again.after.layout (frame_under m.nodes l.key) m.arena.contents m.arena.holes operands index) where
+      pub ready : (capacity : ℕ) → ArePlacedArrays program (unit_at program l.unit) → cells ≤ most_cells → deepest (unit_code program l.unit) ≤ capacity
+          → IsReady (unit_code program l.unit) (unit_arrays program l.unit) m.arena (frame_in_arena (frame_under m.nodes l.key)) operands capacity index
+      ready capacity placed few room =
+          subst (λ u. IsReady (unit_code program u) (unit_arrays program u) m.arena (frame_in_arena (frame_under m.nodes l.key)) operands capacity index) unit-here (
+          is_ready program t again.after.layout (frame_under m.nodes l.key) m.arena.contents m.arena.holes operands index runs
+          (subst (λ u. ArePlacedArrays program (unit_at program u)) (sym unit-here) placed) capacity
+          (subst (λ u. deepest (unit_code program u) ≤ capacity) (sym unit-here) room) (omega (arith, few, turning.after.size)))
+
+      pub ahead-simulated : Simulates program t again.after.layout (frame_under m.nodes l.key) m.arena.holes m.arena.contents (effect_at (unit_code program l.unit) (unit_arrays program l.unit) (node_under m.nodes l.key).first m.arena.contents operands index)
+      ahead-simulated =
+          subst (λ u. Simulates program t again.after.layout (frame_under m.nodes l.key) m.arena.holes m.arena.contents (effect_at (unit_code program u) (unit_arrays program u) (node_under m.nodes l.key).first m.arena.contents operands index)) unit-here (
+          operation_simulated program t again.after.layout (frame_under m.nodes l.key) m.arena.contents m.arena.holes operands index runs (subst (λ u. IsPastPushes (unit_code program u) index) (sym unit-here) settles.past))
+
+    -- ---- and the operation was performed
+
+    -- the process stands elsewhere, and cells have changed
+    abbrev pub with_performed : performed.Snapshot → Snapshot
+    with_performed x = with_stack (with_contents m x.contents) p (record l { index = x.index } ∷ ls) x.operands
+
+    abbrev IsDone : Effect × performed.Snapshot → Type 0
+    IsDone x = IsLeft program cells choices p (with_performed x.1) x.0
+
+    abbrev before : performed.Snapshot
+    before = snapshot m.arena.contents operands index
+
+    twice : (k : Stack) → with_numbered settled-now.processes p k ≡ with_numbered m.processes p k
+    twice k = set-twice m.processes (p - 1) (stack_with later ls operands) k
+
+    done-by : (e : effects.Effect) → Simulates program t again.after.layout (frame_under m.nodes l.key) m.arena.holes m.arena.contents e → IsNoWait e → length (done e before).1.contents ≡ length m.arena.contents → IsDone (done e before)
+    done-by (moves contents new next) sim quiet size =
+        subst (HasStepped program cells choices p) (λ i. record (with_performed (snapshot contents new next)) { processes = twice (stack_with (record l { index = next }) ls new) i }) (
+        moved-shown program cells choices settled-now p later ls operands top again contents new next size sim)
+    done-by (prints items next) sim quiet size =
+        subst (HasStepped program cells choices p) (λ i. record (with_performed (snapshot m.arena.contents [] next)) { processes = twice (stack_with (record l { index = next }) ls []) i; records = m.records ++ items ∷ [] }) (
+        printed-shown program cells choices settled-now p later ls operands top again items next sim)
+    done-by (fails line kind) sim quiet size = record { l = later; ls = ls; operands = operands; top = top; turning = again; simulated = sim }
+    done-by (waits at full) sim quiet size = absurd quiet
+    done-by returns sim quiet size = record { l = later; ls = ls; operands = operands; top = top; turning = again; simulated = sim }
+    done-by stops sim quiet size = stopped-shown program cells choices settled-now p later ls operands top again sim
+    done-by unsupported sim quiet size = absurd sim
+
+    pub left-over : (e : effects.Effect) (effect : Effect) (after : performed.Snapshot) → Simulates program t again.after.layout (frame_under m.nodes l.key) m.arena.holes m.arena.contents e → IsNoWait e → length after.contents ≡ length m.arena.contents
+        → (effect, after) ≡ done e before → IsLeft program cells choices p (with_performed after) effect
+    left-over e effect after sim quiet size is =
+        subst IsDone (sym is) (done-by e sim quiet (subst (λ (x : Effect × performed.Snapshot). length x.1.contents ≡ length m.arena.contents) is size))

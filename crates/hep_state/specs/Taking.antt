@@ -1,0 +1,101 @@
+-- One turn of a process in what a core keeps, in its parts: docs/MACHINE.md, "Steps".
+use Rattle.std.specs.Prelude.{◌≡◌, ◌<◌, ◌≤◌, ◌+◌, ℕ, List, [], ◌∷◌, ◌++◌, drop, length, Some, OnErr, IfOk, Result}
+use Rattle.hep_source.specs.declared.value.Value.{Value}
+use Rattle.hep_source.specs.Units.{Units}
+use Rattle.hep_machine.specs.Processes.{numbered}
+use Rattle.hep_machine.specs.State.{Level as SourceLevel, Process as SourceProcess, Work}
+use Rattle.hep_arena.specs.Space.{Space}
+use Rattle.hep_code.specs.Ahead.{IsPastPushes, values_ahead}
+use Rattle.hep_code.specs.Standing.{Stands}
+use Rattle.hep_frames.specs.Tree.{Nodes}
+use Rattle.hep_step.specs.declared.effect.Effect.{Effect}
+use Rattle.hep_step.specs.declared.effect.Effect.TheVariants.{Moved, Printed, Failed, Waits, Returned, Stopped, Unsupported}
+use Rattle.hep_step.specs.Effects as effects
+use Rattle.hep_step.specs.Performed.{IsPerformed, snapshot}
+use Rattle.hep_step.specs.Ready.{IsReady, frame_in_arena}
+use Rattle.hep_step.specs.Simulation.{Simulates, unit_addressed, unit_arrays, unit_code}
+use Rattle.hep_state.specs.declared.machine.Level.{Level}
+use Rattle.hep_state.specs.Showing.{node_under}
+use Rattle.hep_state.specs.Snapshots.{Snapshot, Stack}
+use Rattle.hep_state.specs.Tops.{IsTurning, frame_under, snapshot_stopped, top_after}
+use Rattle.hep_state.specs.Turns.{HasStepped}
+
+-- ---- stacks
+
+-- one with a top level
+abbrev pub stack_with : Level → List Level → List Value → Stack
+stack_with l ls operands = record { levels = l ∷ ls; operands = operands }
+
+-- process p has activations
+abbrev pub HasLevels : Snapshot → ℕ → Type 0
+HasLevels m p = (l : Level) × (ls : List Level) × (operands : List Value) × (numbered m.processes p ≡ Some (stack_with l ls operands))
+
+-- ---- the operation ahead is performed
+
+-- the values that stood ahead were put behind the operands
+pub record IsSettled (program : Units) (unit : ℕ) (operands : List Value) (index : ℕ) (new : List Value) (after : ℕ) : Type 0 where
+  pub past : IsPastPushes (unit_code program unit) after
+  pub stands : (k : ℕ) (work : Work) → Stands (unit_addressed program unit) k work operands index → Stands (unit_addressed program unit) k work new after
+
+-- a process has a top level, whose unit and frame are there, with room for the values that stand ahead; and once these are operands, what is
+-- ahead of it can be done
+pub record CanAdvance (program : Units) (k : Stack) (capacity : ℕ) (arena : Space) (nodes : Nodes) : Type 0 where
+  pub l : Level
+  pub ls : List Level
+  pub operands : List Value
+  pub stack : k ≡ stack_with l ls operands
+  pub inside : l.unit < length program
+  pub there : nodes l.key ≡ Some (node_under nodes l.key)
+  pub room : length operands + values_ahead (drop l.index (unit_code program l.unit)) ≤ capacity
+  pub ready :
+      (settled : List Value) (index more : ℕ)
+      → IsSettled program l.unit operands l.index settled index
+      → capacity ≤ more
+      → IsReady (unit_code program l.unit) (unit_arrays program l.unit) arena (frame_in_arena (frame_under nodes l.key)) settled more index
+
+-- then the operation ahead was performed, which changed the cells and the stack; or memory was refused, which changed nothing more
+pub record IsAdvanced {E : Type 0} (program : Units) (nodes : Nodes) (l : Level) (ls : List Level) (operands : List Value) (before after : Space) (result : Result Effect E) (k : Stack) : Type 0 where
+  pub settled : List Value
+  pub index : ℕ
+  pub settles : IsSettled program l.unit operands l.index settled index
+  pub next : ℕ
+  pub left : List Value
+  pub stack : k ≡ stack_with (record l { index = next }) ls left
+  pub performed : IfOk result (λ effect. IsPerformed (effects.effect_at (unit_code program l.unit) (unit_arrays program l.unit) (node_under nodes l.key).first before.contents settled index) (snapshot before.contents settled index) effect (snapshot after.contents left next))
+  pub refused : OnErr result (snapshot after.contents left next ≡ snapshot before.contents settled index)
+
+-- ---- what is left of a turn then
+
+-- the top activation of process p ends with this effect, which is that of the source machine's step
+pub record IsEnding (program : Units) (cells : ℕ) (choices : List ℕ) (p : ℕ) (m : Snapshot) (effect : effects.Effect) : Type 0 where
+  pub l : Level
+  pub ls : List Level
+  pub operands : List Value
+  pub top : SourceLevel × SourceProcess
+  pub turning : IsTurning program cells choices m p l ls operands top
+  pub simulated : Simulates program (top_after program choices p top) turning.after.layout (frame_under m.nodes l.key) m.arena.holes m.arena.contents effect
+
+-- once the operation was performed: the state after the turn is shown, with the record or the stop; or an activation is to end
+abbrev pub IsLeft : Units → ℕ → List ℕ → ℕ → Snapshot → Effect → Type 0
+IsLeft program cells choices p m Moved = HasStepped program cells choices p m
+IsLeft program cells choices p m (Printed items) = HasStepped program cells choices p (record m { records = m.records ++ items ∷ [] })
+IsLeft program cells choices p m (Failed line kind) = IsEnding program cells choices p m (effects.fails line kind)
+IsLeft program cells choices p m (Waits at state) = ⊥
+IsLeft program cells choices p m Returned = IsEnding program cells choices p m effects.returns
+IsLeft program cells choices p m Stopped = HasStepped program cells choices p (snapshot_stopped m)
+IsLeft program cells choices p m Unsupported = ⊥
+
+-- an effect that isn't to wait
+abbrev pub IsNoWait : effects.Effect → Type 0
+IsNoWait (effects.waits at full) = ⊥
+IsNoWait _ = Unit {0}
+
+-- what is seen of two machines is the same, but for where processes stand
+pub record IsSeenSame (old new : Snapshot) : Type 0 where
+  pub arena : new.arena ≡ old.arena
+  pub nodes : new.nodes ≡ old.nodes
+  pub processes : length new.processes ≡ length old.processes
+  pub activations : new.activations ≡ old.activations
+  pub records : new.records ≡ old.records
+  pub faults : new.faults ≡ old.faults
+  pub halted : new.halted ≡ old.halted

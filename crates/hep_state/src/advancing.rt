@@ -1,0 +1,78 @@
+//! The operation ahead of a process: the values that stand in front of it are put behind the operands, and it is
+//! performed.
+ghost use Rattle.std.specs.Prelude.{◌≡◌, ◌≤◌, ◌<◌, List, length, vec_len, vec_capacity};
+ghost use Rattle.hep_source.specs.declared.value.Value.{Value as OperandValue};
+ghost use Rattle.hep_proc.specs.Nodes.{nodes_of};
+ghost use Rattle.hep_state.specs.declared.machine.Level.{Level as ALevel};
+ghost use Rattle.hep_state.specs.Snapshots.{stack_of};
+ghost use Rattle.hep_state.specs.Taking.{CanAdvance, IsAdvanced, stack_with};
+
+use crate::machine::{Level, Process};
+use hep_code::operands::settle;
+use hep_image::Image;
+use hep_proc::Frames;
+use hep_reply::Frame;
+use hep_step::{Effect, perform};
+use std::alloc::{AllocError, Global};
+
+impl Process {
+    // The level of its top activation.
+    pub(crate) fn top(&self) -> Level
+        requires { 0 < vec_len self.now.levels }
+        ensures { (l : ALevel) (ls : List ALevel) (operands : List OperandValue) → stack_of self.now ≡ stack_with l ls operands → result ≡ l }
+    {
+        self.levels[self.levels.len() - 1]
+    }
+
+    // Its top activation is at an index.
+    fn stand_at(&mut self, index: usize)
+        requires { 0 < vec_len self.old.levels }
+        ensures stack { (l : ALevel) (ls : List ALevel) (operands : List OperandValue) → stack_of self.old ≡ stack_with l ls operands → stack_of self.new ≡ stack_with (record l { index = index }) ls operands }
+        ensures operands { self.new.operands ≡ self.old.operands }
+    {
+        let top = self.levels.len() - 1;
+        self.levels[top].index = index;
+    }
+}
+
+// Performs the operation ahead of a process, once the values in front of it are operands.
+//
+// Fails only where memory was refused for a record; nothing is changed then but that values are operands.
+pub(crate) fn advance(
+    process: &mut Process,
+    frames: &mut Frames,
+    alloc: Global,
+    image: &Image,
+) -> Result<Effect, AllocError>
+    requires { CanAdvance image.now (stack_of process.old) (vec_capacity process.old.operands) frames.old.arena (nodes_of frames.old.nodes) }
+    ensures advanced { (l : ALevel) (ls : List ALevel) (operands : List OperandValue) → stack_of process.old ≡ stack_with l ls operands → IsAdvanced image.now (nodes_of frames.old.nodes) l ls operands frames.old.arena frames.new.arena result (stack_of process.new) }
+    ensures nodes { frames.new.nodes ≡ frames.old.nodes }
+    ensures holes { frames.new.arena.holes ≡ frames.old.arena.holes }
+    ensures cells { length frames.new.arena.contents ≡ length frames.old.arena.contents }
+    ensures capacity { vec_capacity process.old.operands ≤ vec_capacity process.new.operands }
+{
+    let Level {
+        key,
+        unit,
+        mut index,
+    } = process.top();
+    let unit = image.unit(unit as usize);
+    let code = unit.code.as_slice();
+    let arrays = unit.arrays.as_slice();
+    let frame = Frame {
+        first: frames.first(key),
+        cells: frames.cells(key),
+    };
+    settle(code, &mut process.operands, &mut index);
+    let performed = perform(
+        alloc,
+        code,
+        arrays,
+        &mut frames.arena,
+        frame,
+        &mut process.operands,
+        &mut index,
+    );
+    process.stand_at(index);
+    performed
+}

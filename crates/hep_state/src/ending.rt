@@ -1,0 +1,118 @@
+//! What a turn comes to once its operation was performed: a record, a fault, the end of an activation, or a stop.
+ghost use Rattle.std.specs.Prelude.{◌≡◌, ◌<◌, ◌++◌, ◌∷◌, ℕ, Bool, List, [], Some, length, reverse, vec_len, vec_capacity};
+ghost use Rattle.hep_source.specs.declared.value.Value.{Value as OperandValue};
+ghost use Rattle.hep_source.specs.Units.{Units};
+ghost use Rattle.hep_machine.specs.Layout.{Layout};
+ghost use Rattle.hep_machine.specs.State.{State};
+ghost use Rattle.hep_frames.specs.Descriptors.{wanted_of};
+ghost use Rattle.hep_frames.specs.Tree.{is_stacked};
+ghost use Rattle.hep_proc.specs.Keeping.{CanAllLeave, CanLeave, HasLeft, IsEnded, Keeps, LeadUpwards, all_but};
+ghost use Rattle.hep_proc.specs.Nodes.{nodes_of};
+ghost use Rattle.hep_step.specs.Effects.{fails, returns};
+ghost use Rattle.hep_state.specs.declared.machine.Level.{Level as ALevel};
+ghost use Rattle.hep_state.specs.Rooms.{HaveRoom};
+ghost use Rattle.hep_state.specs.Snapshots.{snapshot_of, stack_of};
+ghost use Rattle.hep_state.specs.Taking.{IsEnding, IsLeft, stack_with};
+ghost use Rattle.hep_state.specs.Tops.{keys_of};
+ghost use Rattle.hep_state.specs.Turns.{HasStepped};
+
+use crate::machine::{Level, Machine, Process};
+use hep_machine::{Fault, Kind, Record};
+use hep_proc::Frames;
+use hep_step::Effect;
+
+// Appends a record, for which there is room.
+fn add_record(records: &mut Vec<Record>, added: Record)
+    requires { vec_len records.old < vec_capacity records.old }
+    ensures { records.new.items ≡ records.old.items ++ added ∷ [] }
+{
+    let _ = records.push(added);
+}
+
+// Appends a fault, for which there is room.
+fn add_fault(faults: &mut Vec<Fault>, added: Fault)
+    requires { vec_len faults.old < vec_capacity faults.old }
+    ensures { faults.new.items ≡ faults.old.items ++ added ∷ [] }
+{
+    let _ = faults.push(added);
+}
+
+// Several activations have ended, the last one first: their frames leave, and no levels are left.
+fn leave_all(frames: &mut Frames, levels: &mut Vec<Level>)
+    requires { CanAllLeave frames.old.arena (nodes_of frames.old.nodes) (keys_of (reverse levels.old.items)) }
+    ensures ended { (program : Units) (s t : State) (out : ℕ → Bool) (layout : Layout) (ends : List ℕ) → Keeps program s (is_stacked s) out layout (wanted_of program s layout) frames.old.arena (nodes_of frames.old.nodes) → CanLeave (nodes_of frames.old.nodes) (is_stacked s) (keys_of (reverse levels.old.items)) ends → IsEnded program layout (all_but ends (is_stacked s)) s t → LeadUpwards t → HasLeft program t (is_stacked t) out layout frames.old.arena frames.new.arena (nodes_of frames.old.nodes) (nodes_of frames.new.nodes) }
+    ensures cells { length frames.new.arena.contents ≡ length frames.old.arena.contents }
+    ensures none { levels.new.items ≡ [] }
+{
+    while let Some(level) = levels.pop() {
+        frames.leave(level.key);
+    }
+}
+
+impl Process {
+    // Its top activation has ended: the level is taken off, and there are no operands.
+    fn end_top(&mut self) -> Level
+        requires { 0 < vec_len self.old.levels }
+        ensures level { (l : ALevel) (ls : List ALevel) (operands : List OperandValue) → stack_of self.old ≡ stack_with l ls operands → result ≡ l }
+        ensures stack { (l : ALevel) (ls : List ALevel) (operands : List OperandValue) → stack_of self.old ≡ stack_with l ls operands → stack_of self.new ≡ record { levels = ls; operands = [] } }
+        ensures fewer { self.old.levels.items ≡ self.new.levels.items ++ result ∷ [] }
+        ensures capacity { vec_capacity self.new.operands ≡ vec_capacity self.old.operands }
+    {
+        self.operands.clear();
+        self.levels.pop().unwrap()
+    }
+}
+
+impl Machine {
+    // The top activation of process p has ended, by RETURN or END of its unit.
+    fn finish(&mut self, p: u64)
+        requires { (program : Units) × (cells : ℕ) × (choices : List ℕ) × IsEnding program cells choices p (snapshot_of self.old) returns }
+        ensures stepped { (program : Units) (cells : ℕ) (choices : List ℕ) → IsEnding program cells choices p (snapshot_of self.old) returns → HasStepped program cells choices p (snapshot_of self.new) }
+        ensures rooms { (program : Units) (cells : ℕ) → HaveRoom program cells self.old → HaveRoom program cells self.new }
+        ensures processes { length self.new.processes.items ≡ length self.old.processes.items }
+    {
+        let ended = self.processes[(p - 1) as usize].end_top();
+        self.frames.leave(ended.key);
+    }
+
+    // A fault has ended process p, in the statement with this initial line.
+    fn fail(&mut self, p: u64, line: u32, kind: Kind)
+        requires ending { (program : Units) × (cells : ℕ) × (choices : List ℕ) × IsEnding program cells choices p (snapshot_of self.old) (fails line kind) }
+        requires room { vec_len self.old.faults < vec_capacity self.old.faults }
+        ensures stepped { (program : Units) (cells : ℕ) (choices : List ℕ) → IsEnding program cells choices p (snapshot_of self.old) (fails line kind) → HasStepped program cells choices p (snapshot_of self.new) }
+        ensures rooms { (program : Units) (cells : ℕ) → HaveRoom program cells self.old → HaveRoom program cells self.new }
+        ensures processes { length self.new.processes.items ≡ length self.old.processes.items }
+    {
+        let process = &mut self.processes[(p - 1) as usize];
+        let unit = process.top().unit;
+        process.operands.clear();
+        leave_all(&mut self.frames, &mut process.levels);
+        let fault = Fault {
+            process: p,
+            unit,
+            line,
+            kind,
+        };
+        add_fault(&mut self.faults, fault);
+    }
+
+    // Ends a turn of process p, whose operation came to this.
+    pub(crate) fn end_turn(&mut self, p: u64, effect: Effect)
+        requires left { (program : Units) × (cells : ℕ) × (choices : List ℕ) × IsLeft program cells choices p (snapshot_of self.old) effect }
+        requires records { vec_len self.old.records < vec_capacity self.old.records }
+        requires faults { vec_len self.old.faults < vec_capacity self.old.faults }
+        ensures stepped { (program : Units) (cells : ℕ) (choices : List ℕ) → IsLeft program cells choices p (snapshot_of self.old) effect → HasStepped program cells choices p (snapshot_of self.new) }
+        ensures rooms { (program : Units) (cells : ℕ) → HaveRoom program cells self.old → HaveRoom program cells self.new }
+        ensures processes { length self.new.processes.items ≡ length self.old.processes.items }
+    {
+        match effect {
+            Effect::Moved => {}
+            Effect::Printed(record) => add_record(&mut self.records, record),
+            Effect::Failed { line, kind } => self.fail(p, line, kind),
+            Effect::Returned => self.finish(p),
+            Effect::Stopped => self.halted = true,
+            // Nothing that runs waits, or isn't supported: `laws::supported_programs_never_wait`.
+            Effect::Waits { .. } | Effect::Unsupported => unreachable!(),
+        }
+    }
+}
