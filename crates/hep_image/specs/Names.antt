@@ -1,5 +1,5 @@
 -- The names of a program, by which units, variables and common blocks are told: docs/MACHINE.md, "Names and units".
-use Rattle.std.specs.Prelude.{ℕ, List, [], ◌++◌, map, Option, Some, None}
+use Rattle.std.specs.Prelude.{ℕ, List, [], ◌++◌, map, Some, None}
 use Rattle.std.specs.List.{flat_map}
 use Rattle.hep_source.specs.declared.statement.Statement.{Statement}
 use Rattle.hep_source.specs.Names.{spelling}

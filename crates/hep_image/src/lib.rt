@@ -7,6 +7,7 @@
 pub mod array;
 pub mod data;
 pub mod image;
+pub mod laws;
 pub mod unit;
 
 pub use array::{Array, Extents, Start};

@@ -13,3 +13,5 @@ pub mod Advanced
 pub mod Processes
 pub mod Waiting
 pub mod Taken
+pub mod Givings
+pub mod MachineOpened

@@ -5,3 +5,4 @@ pub mod Tops
 pub mod Openings
 pub mod Rooms
 pub mod Taking
+pub mod Givings

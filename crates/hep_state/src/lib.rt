@@ -8,6 +8,8 @@ mod advancing;
 mod ending;
 pub mod laws;
 mod machine;
+mod opening;
 mod turn;
 
 pub use machine::{Level, Machine, Process};
+pub use opening::fits;

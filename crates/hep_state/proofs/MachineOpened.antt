@@ -1,0 +1,63 @@
+-- A machine with one process at the main program, and room for its operands.
+use Rattle.std.proofs.Common.{◌≡◌, ◌≤◌, ℕ, zero, suc, false, List, [], ◌∷◌, map, reverse, Some, sym, ap, ◌∙◌, subst}
+use Rattle.std.specs.Prelude.{slice_get, vec_capacity}
+use Rattle.std.proofs.lemmas.Option.{none-some, same_Some}
+use Rattle.hep_source.specs.Units.{Units, main_unit}
+use Rattle.hep_code.specs.Depths.{deepest}
+use Rattle.hep_proc.specs.Nodes.{nodes_of}
+use Rattle.hep_image.specs.Image.{most_cells}
+use Rattle.hep_step.specs.Simulation.{unit_code}
+use Rattle.hep_state.specs.declared.machine.Level.{Level}
+use Rattle.hep_state.specs.declared.machine.Machine.{Machine}
+use Rattle.hep_state.specs.declared.machine.Process.{Process}
+use Rattle.hep_state.specs.Openings.{snapshot_opened}
+use Rattle.hep_state.specs.Rooms.{HasRoom, IsMachineAfter}
+use Rattle.hep_state.specs.Snapshots.{snapshot_of, stack_of}
+use Rattle.hep_state.specs.Turns.{IsAfter}
+
+the-only : {A : Type 0} (x y : A) (i : ℕ) → slice_get (x ∷ []) i ≡ Some y → x ≡ y
+the-only x y zero e = same_Some x y e
+the-only x y (suc i) e = absurd (none-some y e)
+
+-- the machine's one process, with one level and no operands
+pub record IsBegun (key entry : ℕ) (m : Machine) (q : Process) : Type 0 where
+  pub alone : m.processes.items ≡ q ∷ []
+  pub levels : q.levels.items ≡ record { key = key; unit = 0; index = entry } ∷ []
+  pub operands : q.operands.items ≡ []
+  pub activations : m.activations ≡ 1
+  pub records : m.records.items ≡ []
+  pub faults : m.faults.items ≡ []
+  pub running : m.halted ≡ false
+
+module _ (program : Units) (cells key entry : ℕ) (m : Machine) (q : Process) (main : main_unit program ≡ 0) (begun : IsBegun key entry m q) where
+  abbrev level : Level
+  level = record { key = key; unit = 0; index = entry }
+
+  stacks : map stack_of m.processes.items ≡ record { levels = record { key = key; unit = main_unit program; index = entry } ∷ []; operands = [] } ∷ []
+  stacks =
+      ap (λ (qs : List Process). map stack_of qs) begun.alone
+      ∙ ((λ i. record { levels = reverse (begun.levels i); operands = begun.operands i } ∷ []) ∙ ap (λ (u : ℕ). record { levels = record { key = key; unit = u; index = entry } ∷ []; operands = [] } ∷ []) (sym main))
+
+  snapshot-is : snapshot_of m ≡ snapshot_opened program key entry m.frames.arena (nodes_of m.frames.nodes)
+  snapshot-is i =
+      record {
+        arena = m.frames.arena;
+        nodes = nodes_of m.frames.nodes;
+        processes = stacks i;
+        activations = begun.activations i;
+        records = begun.records i;
+        faults = begun.faults i;
+        halted = begun.running i;
+      }
+
+  module _ (enough : deepest (unit_code program 0) ≤ vec_capacity q.operands) where
+    has-room : HasRoom program q
+    has-room i l e =
+        let one : level ≡ l = the-only level l i (ap (λ (ls : List Level). slice_get ls i) (sym begun.levels) ∙ e) in
+        subst (λ (x : Level). deepest (unit_code program x.unit) ≤ vec_capacity q.operands) one enough
+
+    all-room : (i : ℕ) (r : Process) → slice_get m.processes.items i ≡ Some r → HasRoom program r
+    all-room i r e = subst (HasRoom program) (the-only q r i (ap (λ (qs : List Process). slice_get qs i) (sym begun.alone) ∙ e)) has-room
+
+    pub machine-opened : cells ≤ most_cells → IsAfter program cells [] (snapshot_opened program key entry m.frames.arena (nodes_of m.frames.nodes)) → IsMachineAfter program cells [] m
+    machine-opened few after = record { after = subst (IsAfter program cells []) (sym snapshot-is) after; few = few; room = all-room }

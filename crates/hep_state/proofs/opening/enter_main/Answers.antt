@@ -1,0 +1,33 @@
+use Rattle.std.proofs.Common.{◌≡◌, [], length, Some, refl, sym, ap, ◌∙◌, subst}
+use Rattle.hep_source.specs.Units.{dummies_of, main_unit, unit_at}
+use Rattle.hep_machine.specs.Layout.{common_cells, frame_of}
+use Rattle.hep_machine.specs.Variables.{frame_cells}
+use Rattle.hep_arena.specs.Holes.{first_fit}
+use Rattle.hep_frames.specs.Descriptors.{wanted_of}
+use Rattle.hep_frames.specs.Tree.{Nodes}
+use Rattle.hep_image.specs.Data.{first_frames}
+use Rattle.hep_proc.specs.Nodes.{nodes_of}
+use Rattle.hep_state.specs.Openings.{unset_opening}
+use Rattle.hep_state.proofs.Givings.{first-fit, first_node, node-there}
+use Rattle.hep_state.proofs.opening.enter_main.Goals as goal
+
+pub returns : goal.returns
+returns c =
+    let program = c.args.image.now in
+    let s = unset_opening program in
+    let old = c.args.frames.now in
+    let new = c.open.new.self in
+    let main = c.main_program.ensures in
+    let cells = c.main_program.result.now.cells in
+    let common = common_cells program in
+    let starts = c.openings_are_shown.ensures.opening program in
+    let own : cells ≡ frame_cells (unit_at program (main_unit program)) = main.code.cells ∙ ap (λ u. frame_cells (unit_at program u)) (sym main.first) in
+    let size : cells ≡ frame_of program s 1 = own ∙ sym (c.openings_fit_by_numbers.ensures.frame program) in
+    let plain : dummies_of (unit_at program (main_unit program)) ≡ [] = ap (λ u. dummies_of (unit_at program u)) main.first ∙ main.alone in
+    let opened = c.open.ensures.opened program s (wanted_of program s (first_frames program)) c.requires.unused starts (sym main.first) size (
+    λ part v. c.openings_want_unset_cells.ensures program s (first_frames program) part v starts plain) in
+    let fit : first_fit cells old.arena.holes ≡ Some common =
+    subst (λ n. first_fit n old.arena.holes ≡ Some common) (sym own) (first-fit program old.arena (nodes_of old.nodes) c.requires.unused (c.openings_fit_by_numbers.ensures.layout program) c.requires.fits) in
+    let there : nodes_of new.nodes c.open.result ≡ Some (first_node 0 common cells) =
+    ap (λ (nodes : Nodes). nodes c.open.result) (c.open.ensures.nodes common fit c.requires.unused.none) ∙ node-there c.open.result 0 common cells in
+    c.openings_are_shown.ensures.entered program (length old.arena.contents) c.open.result opened.0 new.arena (nodes_of new.nodes) (first_node 0 common cells) opened.1 (c.open.ensures.taken common fit).size opened.2 there refl

@@ -1,0 +1,144 @@
+//! A machine before its first turn: process 1 at the main program, whose frame is just behind COMMON, with what DATA
+//! gives (X3.9-1978, section 9).
+ghost use Rattle.std.specs.Prelude.{◌≡◌, ◌+◌, ◌<◌, ◌≤◌, ◌∷◌, [], false, IfOk, IsSome, length, vec_capacity};
+ghost use Rattle.std.specs.Option.{is_some};
+ghost use Rattle.slab.specs.Slab.{HasRoomFor};
+ghost use Rattle.hep_source.specs.Units.{dummies_of, main_unit, unit_at};
+ghost use Rattle.hep_machine.specs.Layout.{common_cells, opening_layout};
+ghost use Rattle.hep_arena.specs.Holes.{IsOut};
+ghost use Rattle.hep_image.specs.Image.{IsUnitCode};
+ghost use Rattle.hep_proc.specs.Keeping.{IsUnused};
+ghost use Rattle.hep_proc.specs.Nodes.{nodes_of};
+ghost use Rattle.hep_state.specs.Givings.{AreOut};
+ghost use Rattle.hep_state.specs.Openings.{IsEntered, IsGiven};
+ghost use Rattle.hep_state.specs.Rooms.{IsMachineAfter};
+
+use crate::laws;
+use crate::machine::{Level, Machine, Process};
+use hep_image::{DataRow, Image, UnitCode};
+use hep_machine::Slot;
+use hep_proc::Frames;
+use hep_source::Value;
+use std::alloc::{AllocError, Global};
+
+// What a core runs of the main program, which is the first unit and has no dummy arguments.
+fn main_program(image: &Image) -> &UnitCode
+    ensures code { IsUnitCode image.now 0 result.now }
+    ensures first { main_unit image.now ≡ 0 }
+    ensures inside { 0 < length image.now }
+    ensures alone { dummies_of (unit_at image.now 0) ≡ [] }
+{
+    hep_placed::laws::supported_code();
+    image.is_runnable();
+    image.unit(0)
+}
+
+/// COMMON and the frame of the main program have no more cells than the arena, so that a machine can be opened.
+pub fn fits(image: &Image, cells: u32) -> bool
+    ensures { result ≡ is_some (opening_layout image.now cells) }
+{
+    hep_image::laws::openings_fit_by_numbers();
+    image.common() + main_program(image).cells <= cells
+}
+
+// The frame of the main program enters where no frame is out. Answers the key of its node.
+fn enter_main(frames: &mut Frames, image: &Image) -> usize
+    requires unused { IsUnused (common_cells image.now) frames.old.arena (nodes_of frames.old.nodes) }
+    requires room { HasRoomFor frames.old.nodes 1 }
+    requires fits { IsSome (opening_layout image.now (length frames.old.arena.contents)) }
+    ensures { IsEntered image.now (length frames.old.arena.contents) result frames.new.arena (nodes_of frames.new.nodes) }
+{
+    hep_image::laws::openings_fit_by_numbers();
+    hep_proc::laws::openings_want_unset_cells();
+    laws::openings_are_shown();
+    frames.open(0, main_program(image).cells)
+}
+
+// Gives a cell a value. It is full or empty as before.
+fn give_value(frames: &mut Frames, at: u32, value: Value)
+    requires inside { at < length frames.old.arena.contents }
+    requires out { IsOut at frames.old.arena.holes }
+    ensures given { IsGiven (record { first = at; count = 1; value = value } ∷ []) frames.old.arena frames.new.arena }
+    ensures nodes { nodes_of frames.new.nodes ≡ nodes_of frames.old.nodes }
+{
+    let full = frames.get(at).full;
+    let value = Some(value);
+    frames.set(at, Slot { value, full });
+}
+
+// Gives the cells of a row its value.
+fn give_row(frames: &mut Frames, row: DataRow)
+    requires few { length frames.old.arena.contents ≤ 16777216 }
+    requires out { AreOut (row ∷ []) frames.old.arena }
+    ensures given { IsGiven (row ∷ []) frames.old.arena frames.new.arena }
+    ensures nodes { nodes_of frames.new.nodes ≡ nodes_of frames.old.nodes }
+{
+    for at in row.first..row.first + row.count {
+        give_value(frames, at, row.value);
+    }
+}
+
+// Gives the cells of rows their values: of two rows that have a cell the first one counts, and so comes last.
+fn give_rows(frames: &mut Frames, rows: &[DataRow])
+    requires few { length frames.old.arena.contents ≤ 16777216 }
+    requires out { AreOut rows.now frames.old.arena }
+    ensures given { IsGiven rows.now frames.old.arena frames.new.arena }
+    ensures nodes { nodes_of frames.new.nodes ≡ nodes_of frames.old.nodes }
+{
+    for row in rows.iter().rev() {
+        give_row(frames, *row);
+    }
+}
+
+// A process with one activation, and room for so many operands.
+fn begun(alloc: Global, level: Level, operands: u32) -> Result<Process, AllocError>
+    ensures levels { IfOk result (λ process. process.levels.items ≡ level ∷ []) }
+    ensures operands { IfOk result (λ process. process.operands.items ≡ []) }
+    ensures room { IfOk result (λ process. vec_capacity process.operands ≡ operands) }
+{
+    Ok(Process {
+        levels: vec![in alloc; level]?,
+        operands: Vec::with_capacity(alloc, operands as usize)?,
+    })
+}
+
+impl Machine {
+    /// The machine of a program before its first turn, with an arena of so many cells.
+    ///
+    /// There is one cell at least, and no more than 16,777,216, and the program [`fits`].
+    ///
+    /// # Errors
+    ///
+    /// Only where memory was refused.
+    pub fn open(alloc: Global, image: &Image, cells: u32) -> Result<Machine, AllocError>
+        requires some { 1 ≤ cells }
+        requires few { cells ≤ 16777216 }
+        requires fits { IsSome (opening_layout image.now cells) }
+        ensures opened { IfOk result (λ machine. IsMachineAfter image.now cells [] machine) }
+        ensures alone { IfOk result (λ machine. length machine.processes.items ≡ 1) }
+        ensures running { IfOk result (λ machine. machine.halted ≡ false) }
+        ensures unwritten { IfOk result (λ machine. (machine.records.items ≡ []) × (machine.faults.items ≡ [])) }
+    {
+        hep_image::laws::openings_fit_by_numbers();
+        laws::openings_are_shown();
+        let main = main_program(image);
+        let mut frames = Frames::new(alloc, cells, image.common())?;
+        frames.reserve()?;
+        let key = enter_main(&mut frames, image);
+        give_rows(&mut frames, image.rows());
+        let level = Level {
+            key,
+            unit: 0,
+            index: main.entry as usize,
+        };
+        let process = begun(alloc, level, main.operands)?;
+        Ok(Machine {
+            frames,
+            processes: vec![in alloc; process]?,
+            activations: 1,
+            records: Vec::new(alloc),
+            faults: Vec::new(alloc),
+            halted: false,
+        })
+    }
+}
