@@ -36,9 +36,9 @@ Make it shorter; bytes after column 72 and comments count too.
 Look at its spelling, its parentheses and commas, and that names have at most
 six characters. A decimal point makes a constant real; there are integers only.
 ",
-        202 =>
-            "The statement begins with a word that the language leaves out; the line has the word.
-There are integers and logicals only, no files, and no input. Leave it out.
+        202 => "The statement begins with a word that the language leaves out; the line has the
+word. There are integers and logicals only, no files, and no input.
+Leave it out.
 ",
         203 => "An integer constant is above 9223372036854775807, also behind a minus sign.
 Write a smaller one; the least integer is (-9223372036854775807-1).
@@ -46,13 +46,12 @@ Write a smaller one; the least integer is (-9223372036854775807-1).
         204 => "There is no main program. The line is 0.
 Write one: statements and END, with a PROGRAM statement before them or without.
 ",
-        205 =>
-            "The statement stands where none of its kind may stand: a declaration after an executable
-statement, a second main program; or the last statement of the source isn't END.
-Move it, or end the unit with END.
+        205 => "The statement stands where none of its kind may stand: a declaration after an
+executable statement, a second main program; or the last statement of the source
+isn't END. Move it, or end the unit with END.
 ",
-        301 => "A name has no type: it begins with no letter from I to N, and no INTEGER, LOGICAL
-or IMPLICIT gives it one; the line has the name.
+        301 => "A name has no type: it begins with no letter from I to N, and no INTEGER,
+LOGICAL or IMPLICIT gives it one; the line has the name.
 Declare it, or take a name that begins with I to N.
 ",
         302 => "The statement has a value of the wrong type, or an array where a scalar must
@@ -68,43 +67,51 @@ plain. FULL, EMPTY, VALUE, SETE, WAITF and PURGE want names that begin with $.
         305 => "The unit has a common block of another length, or with other types, than a unit
 before it. Give the block the same length and the same types in each unit.
 ",
-        306 => "A label that the statement uses is on no executable statement of the unit, or the
-statement has a label that another one has too.
+        306 => "A label that the statement uses is on no executable statement of the unit, or
+the statement has a label that another one has too.
 Put each label on one executable statement.
 ",
         307 => "A DO or a block IF isn't closed, or isn't nested as it must be; or a logical IF
 or the end of a DO is a statement that can't stand there.
 Close each DO and each IF within the one around it.
 ",
-        308 => "The statement jumps into a DO or into a block of an IF, or to an ELSE or ELSE IF.
-Jump to its DO or its IF, or to a statement around it.
+        308 => "The statement jumps into a DO or into a block of an IF, or to an ELSE or ELSE
+IF. Jump to its DO or its IF, or to a statement around it.
 ",
         309 => "A name stands for two things, or is given its type, bounds or value twice; or
 IMPLICIT names a letter twice. The line is the later one of the two.
 Take another name, or take one of the two out.
 ",
-        310 => "A name is no subroutine, array or function, but is used so; the line has the name.
-Write the subroutine, or declare the array.
+        310 => "A name is no subroutine, array or function, but is used so; the line has the
+name. Write the subroutine, or declare the array.
 ",
         311 => "DATA stands where there may be none, or has too few or too many values, a wrong
 value, or one for what has a value already.
 Give each element of the main program's own variables one value of its type.
 ",
-        403 => "The program breaks no rule, but this statement of it doesn't run yet.
-What runs is one main program of assignments and PRINT statements over integers.
+        401 => "The program is too large: COMMON or the variables of a unit take more than
+16,777,216 cells, or the code of a unit has more than 1,048,576 instructions.
+Declare shorter arrays, or cut the unit in two.
+",
+        402 => "The statement needs more than 256 operands at once, each a name, a constant or
+the value of an expression that waits for another one.
+Assign a part of it to a variable first.
+",
+        403 => "The program breaks no rule, but this statement of it doesn't run yet: one of a
+second unit, CALL, CREATE, PURGE, or one with a name that begins with `$`.
+What runs is one main program without them.
 ",
         501 => "This line of the file of choices names no living process.
 Take it and the lines after it out: a run goes on by itself after its choices.
 ",
-        601 =>
-            "This line of the history isn't a process, one blank and a number of steps up to 1024.
-Numbers have no zero in front and each line ends with a line feed, the last one too. At
-line 0 the file has more than 150,000,000 bytes. Take what `run --history` wrote.
+        601 => "This line of the history isn't a process, one blank and a number of steps up to
+1024. Numbers have no zero in front and each line ends with a line feed, the
+last one too. At line 0 the file has more than 150,000,000 bytes.
+Take what `run --history` wrote.
 ",
-        602 =>
-            "This line of the file of choices isn't a process: a number from 1 without a zero in front.
-Each line ends with a line feed, the last one too. At line 0 the file has more than
-150,000,000 bytes.
+        602 => "This line of the file of choices isn't a process: a number from 1 without a zero
+in front. Each line ends with a line feed, the last one too. At line 0 the file
+has more than 150,000,000 bytes.
 ",
         603 => "This entry of the history isn't possible after those before it.
 The history is of another source, or was changed. Take the one that

@@ -1,13 +1,14 @@
 //! The lines of faults.
 ghost use Rattle.std.specs.Prelude.{◌≡◌, ◌++◌, IfOk, OnOk, slice_get};
-ghost use Rattle.hep_core.specs.Names.{names_of};
-ghost use Rattle.hep_core.specs.Value.{state_of};
+ghost use Rattle.hep_image.specs.Names.{names_in_order};
+ghost use Rattle.hep_scheduler.specs.Value.{state_of};
 ghost use Rattle.hep_dump.specs.Faults as words;
 ghost use Rattle.hep_dump.specs.Names.{name_found};
 
 use crate::number::append_number;
-use hep_core::{Core, Image};
+use hep_image::Image;
 use hep_machine::{Fault, Kind};
+use hep_scheduler::Core;
 use hep_source::MAIN_NAME;
 use std::alloc::{AllocError, Global};
 
@@ -55,7 +56,7 @@ pub fn append_fault(text: &mut Vec<u8>, unit: &[u8], fault: &Fault) -> Result<()
 
 // The name of a unit, by its number.
 pub(crate) fn unit_name(image: &Image, number: u32) -> &[u8]
-    ensures { result.now ≡ name_found (slice_get (names_of image.now) number) }
+    ensures { result.now ≡ name_found (slice_get (names_in_order image.now) number) }
 {
     match image.name(number) {
         Some(name) => name,
@@ -70,7 +71,7 @@ pub(crate) fn unit_name(image: &Image, number: u32) -> &[u8]
 /// Only where memory was refused.
 pub fn append_faults(text: &mut Vec<u8>, image: &Image, faults: &[Fault]) -> Result<(), AllocError>
     ensures { OnOk result (text.new.items
-        ≡ text.old.items ++ words.faults_text (names_of image.now) faults.now) }
+        ≡ text.old.items ++ words.faults_text (names_in_order image.now) faults.now) }
 {
     for fault in faults {
         append_fault(text, unit_name(image, fault.unit), fault)?;
@@ -85,7 +86,7 @@ pub fn append_faults(text: &mut Vec<u8>, image: &Image, faults: &[Fault]) -> Res
 /// Only where memory was refused.
 pub fn fault_text(alloc: Global, core: &Core) -> Result<Vec<u8>, AllocError>
     ensures { IfOk result (λ text. text.items
-        ≡ words.faults_text (names_of core.now.program) (state_of core.now).faults) }
+        ≡ words.faults_text (names_in_order core.now.program) (state_of core.now).faults) }
 {
     let mut text = Vec::new(alloc);
     append_faults(&mut text, core.image(), core.faults())?;

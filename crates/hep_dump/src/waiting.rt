@@ -1,11 +1,11 @@
 //! The lines of processes that wait.
 ghost use Rattle.std.specs.Prelude.{◌≡◌, ◌++◌, IfOk, OnOk, slice_get};
-ghost use Rattle.hep_core.specs.Names.{names_of};
+ghost use Rattle.hep_image.specs.Names.{names_in_order};
 ghost use Rattle.hep_dump.specs.Waiting as words;
 
 use crate::faults::unit_name;
 use crate::number::append_number;
-use hep_core::Image;
+use hep_image::Image;
 use std::alloc::{AllocError, Global};
 
 /// A process that waits, where, and for what.
@@ -30,7 +30,7 @@ pub struct Listed {
 
 // The name with this number, and no characters where there is none.
 fn name_of(image: &Image, number: u32) -> &[u8]
-    ensures { result.now ≡ words.name_or_none (slice_get (names_of image.now) number) }
+    ensures { result.now ≡ words.name_or_none (slice_get (names_in_order image.now) number) }
 {
     image.name(number).unwrap_or(b"")
 }
@@ -88,7 +88,7 @@ fn state_text(full: bool) -> &'static [u8]
 // What a process waits for: ` FOR FULL location`, or ` FOR EMPTY`.
 fn append_wish(text: &mut Vec<u8>, image: &Image, listed: &Listed) -> Result<(), AllocError>
     ensures { OnOk result (text.new.items
-        ≡ text.old.items ++ words.wish_text (names_of image.now) listed.now) }
+        ≡ text.old.items ++ words.wish_text (names_in_order image.now) listed.now) }
 {
     text.extend_from_slice(b" FOR ")?;
     text.extend_from_slice(state_text(listed.full))?;
@@ -106,7 +106,7 @@ fn append_wish(text: &mut Vec<u8>, image: &Image, listed: &Listed) -> Result<(),
 /// Only where memory was refused.
 pub fn append_waiting(text: &mut Vec<u8>, image: &Image, listed: &Listed) -> Result<(), AllocError>
     ensures { OnOk result (text.new.items
-        ≡ text.old.items ++ words.listed_text (names_of image.now) listed.now) }
+        ≡ text.old.items ++ words.listed_text (names_in_order image.now) listed.now) }
 {
     text.extend_from_slice(b"WAITING ")?;
     append_number(text, listed.process)?;
@@ -125,7 +125,7 @@ pub fn append_waiting(text: &mut Vec<u8>, image: &Image, listed: &Listed) -> Res
 /// Only where memory was refused.
 pub fn waiting_text(alloc: Global, image: &Image, waiting: &[Listed]) -> Result<Vec<u8>, AllocError>
     ensures { IfOk result (λ text. text.items
-        ≡ words.waiting_text (names_of image.now) waiting.now) }
+        ≡ words.waiting_text (names_in_order image.now) waiting.now) }
 {
     let mut text = Vec::new(alloc);
     for listed in waiting {

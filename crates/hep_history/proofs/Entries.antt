@@ -8,7 +8,7 @@ use Rattle.hep_machine.specs.declared.event.Entry.{Entry}
 use Rattle.hep_machine.specs.Opening.{opening}
 use Rattle.hep_machine.specs.Run.{run, run_from, schedule_of, state_after}
 use Rattle.hep_source.specs.Units.{Units}
-use Rattle.hep_core.specs.Value.{CoreValue}
+use Rattle.hep_scheduler.specs.Value.{CoreValue}
 use Rattle.hep_history.specs.declared.fault.ReplayFault.{ReplayFault}
 use Rattle.hep_history.specs.Progress.{TurnMade, StepsMade, EntryMade}
 use Rattle.hep_history.specs.Replays.{ArePossible, IsPossible, IsThere, most_entries, replayed, single_entries, single_steps, standing}

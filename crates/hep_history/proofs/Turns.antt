@@ -5,7 +5,7 @@ use Rattle.std.proofs.lemmas.List.{length-replicate, replicate-append-replicate}
 use Rattle.std.specs.Prelude.{if◌then◌else◌, is_some}
 use Rattle.std.specs.Option.{unwrap_or}
 use Rattle.hep_machine.specs.declared.event.Entry.{Entry}
-use Rattle.hep_machine.specs.Layout.{has_frame}
+use Rattle.hep_machine.specs.Layout.{is_held}
 use Rattle.hep_machine.specs.Opening.{opening}
 use Rattle.hep_machine.specs.Processes.{living}
 use Rattle.hep_machine.specs.Run.{run, run_from, state_after_turn, AreSteps, schedule_of, state_after}
@@ -13,11 +13,11 @@ use Rattle.hep_machine.specs.State.{State}
 use Rattle.hep_machine.specs.Step.{StepResult, stepped, waiting, absent, step_result_of, step_result_of_top, state_made, step, wanted_of, is_waiting}
 use Rattle.hep_source.specs.Units.{Units}
 use Rattle.hep_machine.specs.Views.{view_of}
-use Rattle.hep_core.specs.declared.fault.ChooseFault.TheVariants as refused
-use Rattle.hep_core.specs.declared.stop.Stop.{Stop}
-use Rattle.hep_core.specs.declared.stop.Stop.TheVariants.{Halted}
-use Rattle.hep_core.specs.declared.stop.Turn.{Turn as CoreTurn}
-use Rattle.hep_core.specs.Value.{CoreValue, state_of, core_after_choice, stop_after, HasNoStop, IsTurn, IsChoice}
+use Rattle.hep_scheduler.specs.declared.fault.ChooseFault.TheVariants as refused
+use Rattle.hep_scheduler.specs.declared.stop.Stop.{Stop}
+use Rattle.hep_scheduler.specs.declared.stop.Stop.TheVariants.{Halted}
+use Rattle.hep_scheduler.specs.declared.stop.Turn.{Turn as CoreTurn}
+use Rattle.hep_scheduler.specs.Value.{CoreValue, state_of, core_after_choice, stop_after, HasNoStop, IsTurn, IsChoice}
 use Rattle.hep_history.specs.Progress.{IsStanding, longer, HasTurn, turn_entry, TurnMade}
 use Rattle.hep_history.specs.Replays.{most_entries, standing}
 
@@ -91,7 +91,7 @@ some_is_not_none s o e n = cc
 
 -- a core with this history and state
 with_state : Units → ℕ → ℕ → List Entry → State → CoreValue
-with_state program cells limit history s = record { program = program; cells = cells; limit = limit; history = history; stop = stop_after s; view = view_of program has_frame s }
+with_state program cells limit history s = record { program = program; cells = cells; limit = limit; history = history; stop = stop_after s; view = view_of program is_held s }
 
 -- a choice that was made leaves the core with one entry more
 grown_is : (old : CoreValue) (p n : ℕ) (s : State) → old.limit ≡ most_entries → state_after old.program (old.history ++ record { process = p; steps = n } ∷ []) ≡ s → core_after_choice old p n s ≡ longer old (record { process = p; steps = n } ∷ [])

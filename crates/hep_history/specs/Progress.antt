@@ -5,7 +5,7 @@ use Rattle.hep_machine.specs.Run.{AreSteps}
 use Rattle.hep_machine.specs.State.{State}
 use Rattle.hep_machine.specs.Step.{step, is_waiting}
 use Rattle.hep_source.specs.Units.{Units}
-use Rattle.hep_core.specs.Value.{CoreValue, state_of}
+use Rattle.hep_scheduler.specs.Value.{CoreValue, state_of}
 use Rattle.hep_history.specs.declared.fault.ReplayFault.{ReplayFault}
 use Rattle.hep_history.specs.declared.fault.ReplayFault.TheVariants.{NoMemory}
 use Rattle.hep_history.specs.Replays.{IsThere, most_entries, single_steps, standing}

@@ -2,15 +2,15 @@
 use Rattle.std.specs.Prelude.{◌≡◌, ℕ, zero, suc, ◌+◌, ◌^◌, ◌<◌, ◌≤◌, true, false, List, [], ◌∷◌, length, replicate, take, slice_get, Some, None, IsSome}
 use Rattle.std.specs.List.{flat_map}
 use Rattle.hep_machine.specs.declared.event.Entry.{Entry}
-use Rattle.hep_machine.specs.Layout.{has_frame, opening_layout}
+use Rattle.hep_machine.specs.Layout.{is_held, opening_layout}
 use Rattle.hep_machine.specs.Run.{AreSteps, state_after}
 use Rattle.hep_machine.specs.State.{State}
 use Rattle.hep_machine.specs.Step.{is_waiting}
 use Rattle.hep_source.specs.Units.{Units}
 use Rattle.hep_machine.specs.Views.{view_of}
-use Rattle.hep_core.specs.declared.fault.NewFault.{NewFault}
-use Rattle.hep_core.specs.declared.fault.NewFault.TheVariants as new
-use Rattle.hep_core.specs.Value.{CoreValue, stop_after}
+use Rattle.hep_scheduler.specs.declared.fault.NewFault.{NewFault}
+use Rattle.hep_scheduler.specs.declared.fault.NewFault.TheVariants as new
+use Rattle.hep_scheduler.specs.Value.{CoreValue, stop_after}
 use Rattle.hep_history.specs.declared.fault.ReplayFault.{ReplayFault}
 use Rattle.hep_history.specs.declared.fault.ReplayFault.TheVariants.{NoMemory, ArenaFull, Refused}
 
@@ -66,7 +66,7 @@ standing program cells history =
       limit = most_entries;
       history = history;
       stop = stop_after (state_after program history);
-      view = view_of program has_frame (state_after program history);
+      view = view_of program is_held (state_after program history);
     }
 
 abbrev pub replayed : Units → ℕ → List Entry → CoreValue

@@ -6,8 +6,9 @@ ghost use Rattle.hep_history.specs.Replays.{most_entries, replayed, ArePossible,
 ghost use Rattle.hep_history.specs.Progress.{IsStanding, TurnMade, StepsMade, EntryMade};
 
 use crate::fault::ReplayFault;
-use hep_core::{ChooseFault, Core, Image};
+use hep_image::Image;
 use hep_machine::Entry;
+use hep_scheduler::{ChooseFault, Core};
 use std::alloc::Global;
 
 /// The longest history of the core on which a history is made again.
@@ -54,8 +55,8 @@ fn make_entry(core: &mut Core, entry: Entry) -> Result<bool, ReplayFault>
     }
 }
 
-/// The core of an image and an arena of so many cells that has made these entries, one step at a
-/// time: its history has an entry of one step for each step, and the entries of none.
+/// The core of an image and an arena of so many cells, 1 to 16,777,216, that has made these entries, one step at
+/// a time: its history has an entry of one step for each step, and the entries of none.
 ///
 /// # Errors
 ///
@@ -67,6 +68,8 @@ pub fn replay(
     cells: u32,
     entries: &[Entry],
 ) -> Result<Core, ReplayFault>
+    requires some { 1 ≤ cells }
+    requires few { cells ≤ 16777216 }
     ensures made { IfOk result (λ core. core ≡ replayed image cells entries.now) }
     ensures expanded { IfOk result (λ core. schedule_of core.history ≡ schedule_of entries.now) }
     ensures fits { OnOk result (IsSome (opening_layout image cells)) }

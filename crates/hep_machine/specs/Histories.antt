@@ -1,7 +1,7 @@
 -- Histories that a core may have: docs/MACHINE.md, "Histories".
 use Rattle.std.specs.Prelude.{◌≡◌, ◌⊎◌, ℕ, ◌^◌, ◌≤◌, true, List, [], ◌∷◌, length, IsSome}
 use Rattle.hep_machine.specs.declared.event.Entry.{Entry}
-use Rattle.hep_machine.specs.Layout.{layout_of, has_frame}
+use Rattle.hep_machine.specs.Layout.{is_held, layout_of}
 use Rattle.hep_machine.specs.Opening.{opening}
 use Rattle.hep_machine.specs.Run.{AreSteps, run_from, schedule_of_entry, schedule_of}
 use Rattle.hep_machine.specs.State.{State}
@@ -24,5 +24,5 @@ AreEntries program s (e ∷ es) = IsEntry program s e × AreEntries program (run
 pub record IsLegal (program : Units) (cells limit : ℕ) (history : List Entry) : Type 0 where
   pub within : length history ≤ limit
   -- each frame has a gap when it is made
-  pub room : IsSome (layout_of program cells has_frame (schedule_of history))
+  pub room : IsSome (layout_of program cells is_held (schedule_of history))
   pub entries : AreEntries program (opening program) history

@@ -57,10 +57,6 @@ is_held s a = is_number_among a (held_activations s)
 abbrev pub is_made : State → ℕ → Bool
 is_made s a = true
 
--- which activations have their frames in the arena: all that were made, since frames aren't given back yet
-abbrev pub has_frame : State → ℕ → Bool
-has_frame s a = is_made s a
-
 -- ---- where frames are: "Layout"
 
 -- a frame: the activation, its first cell and how many there are

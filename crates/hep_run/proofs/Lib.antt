@@ -3,3 +3,4 @@ mod Messages
 mod Fronts
 mod Accepted
 mod Outcomes
+mod Lowered

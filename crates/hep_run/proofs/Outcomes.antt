@@ -3,10 +3,10 @@ use Rattle.std.proofs.Common.{◌≡◌, ℕ, Option, Some, None, Result, Ok, Er
 use Rattle.std.specs.Prelude.{IfOk}
 use Rattle.hep_machine.specs.Histories.{IsLegal}
 use Rattle.hep_source.specs.Units.{Units}
-use Rattle.hep_core.specs.declared.stop.Stop.{Stop}
-use Rattle.hep_core.specs.declared.stop.Stop.TheVariants.{Halted, ArenaFull, StepLimit}
-use Rattle.hep_core.specs.Value as core
-use Rattle.hep_core.specs.Value.{CoreValue}
+use Rattle.hep_scheduler.specs.declared.stop.Stop.{Stop}
+use Rattle.hep_scheduler.specs.declared.stop.Stop.TheVariants.{Halted, ArenaFull, StepLimit}
+use Rattle.hep_scheduler.specs.Value as core
+use Rattle.hep_scheduler.specs.Value.{CoreValue}
 use Rattle.hep_run.specs.declared.options.Options.{Options}
 use Rattle.hep_run.specs.declared.run.Halt.TheVariants.{NoSuchProcess}
 use Rattle.hep_run.specs.Outcome.{Outcome, IsHistory, IsOver, IsRunOutcome, next_process, outcome_of_refused_choice, outcome_of_end}

@@ -2,9 +2,9 @@
 use Rattle.std.proofs.Common.{◌≡◌, ℕ, zero, suc, ◌+◌, ◌<◌, ◌≤◌, Bool, true, false, List, [], ◌∷◌, ◌++◌, length, take, Option, Some, None, refl, sym, ap, ◌∙◌, subst, arith, inl, inr, Ok, Err, length-append}
 use Rattle.std.specs.Prelude.{◌≢◌, slice_get, nat_lt, not, replicate, cond, if◌then◌else◌}
 use Rattle.std.specs.List.{filter}
-use Rattle.hep_core.specs.declared.stop.Stop.{Stop}
-use Rattle.hep_core.specs.declared.stop.Stop.TheVariants.{Halted, StepLimit}
-use Rattle.hep_core.specs.declared.fault.ChooseFault.TheVariants.{Stopped}
+use Rattle.hep_scheduler.specs.declared.stop.Stop.{Stop}
+use Rattle.hep_scheduler.specs.declared.stop.Stop.TheVariants.{Halted, StepLimit}
+use Rattle.hep_scheduler.specs.declared.fault.ChooseFault.TheVariants.{Stopped}
 use Rattle.std.proofs.lemmas.Bool.{cases_lt}
 use Rattle.std.proofs.lemmas.List.{take-append-le}
 use Rattle.std.proofs.Math.Seq.{take-append_seam}
@@ -16,8 +16,8 @@ use Rattle.hep_machine.specs.Opening.{opening}
 use Rattle.hep_machine.specs.Run.{run, run_from, schedule_of, state_after, state_after_turn}
 use Rattle.hep_machine.specs.Schedules.{Progress, progress_after_step, progress_after_steps, progress_after_entry, progress_from, progress_after, living_from, ready_in, last_process, first_above, next_ready}
 use Rattle.hep_machine.specs.Processes.{living, top_of, is_number_among}
-use Rattle.hep_core.specs.declared.stop.Turn.{Turn}
-use Rattle.hep_core.specs.Value.{CoreValue, state_of, core_after_choice, stop_after, HasNoStop, IsTurn, IsChoice}
+use Rattle.hep_scheduler.specs.declared.stop.Turn.{Turn}
+use Rattle.hep_scheduler.specs.Value.{CoreValue, state_of, core_after_choice, stop_after, HasNoStop, IsTurn, IsChoice}
 use Rattle.hep_run.specs.declared.options.Options.{Options}
 use Rattle.hep_run.specs.Outcome.{first_choice, next_process, IsNextEntry, IsScheduled}
 use Rattle.hep_run.specs.Progress.{IsStopOfRun, IsRunning}

@@ -8,9 +8,9 @@ use Rattle.hep_machine.specs.Schedules.{next_ready}
 use Rattle.hep_machine.specs.Run.{state_after}
 use Rattle.hep_machine.specs.Histories.{IsLegal}
 use Rattle.hep_machine.specs.Processes.{living}
-use Rattle.hep_core.specs.declared.stop.Stop.{Stop}
-use Rattle.hep_core.specs.declared.stop.Stop.TheVariants.{Halted, ArenaFull, StepLimit}
-use Rattle.hep_core.specs.Names.{names_of}
+use Rattle.hep_scheduler.specs.declared.stop.Stop.{Stop}
+use Rattle.hep_scheduler.specs.declared.stop.Stop.TheVariants.{Halted, ArenaFull, StepLimit}
+use Rattle.hep_image.specs.Names.{names_in_order}
 use Rattle.hep_run.specs.declared.options.Options.{Options}
 use Rattle.hep_run.specs.declared.status.Status.{Status}
 use Rattle.hep_run.specs.declared.status.Status.TheVariants as statuses
@@ -96,7 +96,7 @@ abbrev pub outcome_of_end : Units → List Entry → Option Stop → Outcome
 outcome_of_end program history stop =
     record {
       output = records_text (state_after program history).records;
-      messages = faults_text (names_of program) (state_after program history).faults ++ stop_text stop;
+      messages = faults_text (names_in_order program) (state_after program history).faults ++ stop_text stop;
       status = status_of stop (state_after program history).faults;
       history = history;
     }

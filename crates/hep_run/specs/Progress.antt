@@ -2,9 +2,9 @@
 use Rattle.std.specs.Prelude.{◌≡◌, ℕ, ◌+◌, List, length, Option, Some, None, IsSome}
 use Rattle.hep_source.specs.Units.{Units}
 use Rattle.hep_machine.specs.Layout.{opening_layout}
-use Rattle.hep_core.specs.declared.stop.Stop.{Stop}
-use Rattle.hep_core.specs.declared.stop.Stop.TheVariants.{Halted, ArenaFull, StepLimit}
-use Rattle.hep_core.specs.Value.{CoreValue, opening_of}
+use Rattle.hep_scheduler.specs.declared.stop.Stop.{Stop}
+use Rattle.hep_scheduler.specs.declared.stop.Stop.TheVariants.{Halted, ArenaFull, StepLimit}
+use Rattle.hep_scheduler.specs.Value.{CoreValue, opening_of}
 use Rattle.hep_run.specs.declared.options.Options.{Options}
 use Rattle.hep_run.specs.declared.run.Halt.{Halt}
 use Rattle.hep_run.specs.declared.run.Halt.TheVariants.{NoMemory, NoSuchProcess}

@@ -3,10 +3,10 @@ use Rattle.std.specs.Prelude.{◌≡◌, ◌⊎◌, ℕ, List, [], ◌++◌, cod
 use Rattle.hep_machine.specs.declared.event.Entry.{Entry}
 use Rattle.hep_source.specs.Units.{Units}
 use Rattle.hep_machine.specs.Layout.{opening_layout}
-use Rattle.hep_core.specs.declared.stop.Verdict.{Verdict}
-use Rattle.hep_core.specs.declared.stop.Verdict.TheVariants.{Running}
-use Rattle.hep_core.specs.Names.{names_of}
-use Rattle.hep_core.specs.Value.{CoreValue, state_of, verdict_of}
+use Rattle.hep_scheduler.specs.declared.stop.Verdict.{Verdict}
+use Rattle.hep_scheduler.specs.declared.stop.Verdict.TheVariants.{Running}
+use Rattle.hep_image.specs.Names.{names_in_order}
+use Rattle.hep_scheduler.specs.Value.{CoreValue, state_of, verdict_of}
 use Rattle.hep_output.specs.Records.{records_text}
 use Rattle.hep_dump.specs.Faults.{faults_text}
 use Rattle.hep_history.specs.Lines.{AreLines, IsRefusedText}
@@ -33,7 +33,7 @@ abbrev pub outcome_of_core : CoreValue → Outcome
 outcome_of_core core =
     record {
       output = records_text (state_of core).records;
-      messages = faults_text (names_of core.program) (state_of core).faults ++ stop_text core.stop ++ running_text (verdict_of core);
+      messages = faults_text (names_in_order core.program) (state_of core).faults ++ stop_text core.stop ++ running_text (verdict_of core);
       status = status_of core.stop (state_of core).faults;
       history = core.history;
     }

@@ -7,7 +7,7 @@ use Rattle.hep_parse.specs.Program.{IsProgram, IsFirstFault}
 use Rattle.hep_source.specs.Units.{Units}
 use Rattle.hep_check.specs.Conditions.{IsAccepted}
 use Rattle.hep_checked.specs.Faults.{Refuses}
-use Rattle.hep_core.specs.Refusals.{IsRunnable, IsUnsupported}
+use Rattle.hep_lower.specs.Refusals.{IsLowered, IsUnlowered}
 
 -- ---- why there is no program to go on with: a number, a line and a name
 
@@ -15,9 +15,13 @@ use Rattle.hep_core.specs.Refusals.{IsRunnable, IsUnsupported}
 abbrev pub IsViolatingProgram : Units → ℕ → ℕ → List ℕ → Type 0
 IsViolatingProgram program number line name = Refuses program (refusals.Refused number line name)
 
--- it does, or it violates no condition and isn't supported
+-- it violates no condition, but a statement isn't supported, or a limit is passed
+abbrev pub IsUnrunnableProgram : Units → ℕ → ℕ → List ℕ → Type 0
+IsUnrunnableProgram program number line name = IsAccepted program × IsUnlowered program number line × (name ≡ [])
+
+-- one or the other
 abbrev pub IsRefusedProgram : Units → ℕ → ℕ → List ℕ → Type 0
-IsRefusedProgram program number line name = IsViolatingProgram program number line name ⊎ IsUnsupported program number line name
+IsRefusedProgram program number line name = IsViolatingProgram program number line name ⊎ IsUnrunnableProgram program number line name
 
 -- the text of the source is refused so, or its statements are, or its program is
 abbrev pub IsRefusedFor : (Units → ℕ → ℕ → List ℕ → Type 0) → List ℕ → ℕ → ℕ → List ℕ → Type 0
@@ -30,7 +34,7 @@ IsRefusedFor Is source number line name =
 abbrev pub IsUnacceptedSource : List ℕ → ℕ → ℕ → List ℕ → Type 0
 IsUnacceptedSource source number line name = IsRefusedFor IsViolatingProgram source number line name
 
--- the source isn't run: it isn't accepted, or not supported
+-- the source isn't run: it isn't accepted, not supported, or passes a limit
 abbrev pub IsRefusedSource : List ℕ → ℕ → ℕ → List ℕ → Type 0
 IsRefusedSource source number line name = IsRefusedFor IsRefusedProgram source number line name
 
@@ -41,7 +45,11 @@ abbrev pub IsAcceptedSource : List ℕ → Units → Type 0
 IsAcceptedSource source program =
     (statements : List Stmt) × (statements_of source ≡ Ok statements) × IsProgram statements program × IsAccepted program
 
--- the source is this program, which is accepted and supported
+-- a core runs the program: it is accepted and supported, and within the limits
+abbrev pub IsRunnable : Units → Type 0
+IsRunnable program = IsAccepted program × IsLowered program
+
+-- the source is this program, which a core runs
 abbrev pub IsRunnableSource : List ℕ → Units → Type 0
 IsRunnableSource source program =
     (statements : List Stmt) × (statements_of source ≡ Ok statements) × IsProgram statements program × IsRunnable program

@@ -5,7 +5,8 @@ ghost use Rattle.hep_run.specs.Refusals.{IsCheckRefusal, IsSourceRefusal};
 
 use hep_base::Refusal;
 use hep_checked::{Checked, check};
-use hep_core::{Image, image_of};
+use hep_image::Image;
+use hep_lower::lower;
 use hep_parse::parse;
 use hep_text::statements;
 use std::alloc::Global;
@@ -25,16 +26,16 @@ pub fn checked_source(alloc: Global, source: &[u8]) -> Result<Checked, Refusal>
     check(alloc, program)
 }
 
-/// The image of a source that is accepted and supported.
+/// The image of a source that is accepted and supported, and within the limits.
 ///
 /// # Errors
 ///
-/// The first refusal of the source, as `checked_source` has it, or else of a statement that isn't supported; or
-/// `NoMemory`.
+/// The first refusal of the source, as `checked_source` has it; or else of a statement that isn't supported, or of
+/// a limit that is passed; or `NoMemory`.
 pub fn image_of_source(alloc: Global, source: &[u8]) -> Result<Image, Refusal>
     ensures made { IfOk result (IsRunnableSource source.now) }
     ensures refused { IfErr result (IsSourceRefusal source.now) }
 {
     let checked = checked_source(alloc, source)?;
-    image_of(alloc, checked)
+    lower(alloc, &checked)
 }

@@ -1,5 +1,5 @@
 //! What a run is asked to do, and what it leaves.
-ghost use Rattle.std.specs.Prelude.{◌≡◌, []};
+ghost use Rattle.std.specs.Prelude.{◌≡◌, ◌≤◌, []};
 ghost use Rattle.hep_run.specs.Statuses.{status_code};
 
 use crate::status::Status;
@@ -9,14 +9,15 @@ use std::alloc::Global;
 /// How a source is run.
 #[derive(Drop)]
 pub struct Options {
-    /// The arena's size in cells. A caller is to hand in 1 to 16,777,216; of any other number the
-    /// calls promise the same, so that no frame fits an arena of none.
+    /// The arena's size in cells, 1 to 16,777,216.
     pub arena: u32,
     /// How many entries the history may have. A caller is to hand in 1 to 2^40; of any other number
     /// the calls promise the same, so that a history of none is full before the first step.
     pub steps: u64,
     /// The choices that the scheduler makes first.
     pub choices: Choices,
+    ghost some: { 1 ≤ arena },
+    ghost few: { arena ≤ 16777216 },
 }
 
 impl Options {

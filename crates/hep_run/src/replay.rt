@@ -1,5 +1,5 @@
 //! The bytes of a source and of a history to what a replay writes.
-ghost use Rattle.std.specs.Prelude.{IfOk};
+ghost use Rattle.std.specs.Prelude.{◌≤◌, IfOk};
 ghost use Rattle.hep_run.specs.Replay.{IsReplayOutcome, IsTextOutcome};
 ghost use Rattle.hep_run.specs.Transcripts.{outcome_of};
 
@@ -8,8 +8,8 @@ use crate::transcript::{
     Transcript, core_transcript, full_transcript, history_transcript, refused_transcript,
 };
 use hep_base::Refusal;
-use hep_core::Image;
 use hep_history::{ReplayFault, read_text, replay};
+use hep_image::Image;
 use std::alloc::{AllocError, Global};
 
 // What the replay of an accepted program writes.
@@ -19,6 +19,8 @@ fn image_transcript(
     history: &[u8],
     cells: u32,
 ) -> Result<Transcript, AllocError>
+    requires some { 1 ≤ cells }
+    requires few { cells ≤ 16777216 }
     ensures { IfOk result (λ r. IsTextOutcome history.now cells image (outcome_of r)) }
 {
     let entries = match read_text(alloc, history) {
@@ -47,6 +49,8 @@ pub fn replay_transcript(
     history: &[u8],
     cells: u32,
 ) -> Result<Transcript, AllocError>
+    requires some { 1 ≤ cells }
+    requires few { cells ≤ 16777216 }
     ensures { IfOk result (λ r. IsReplayOutcome history.now cells source.now (outcome_of r)) }
 {
     match image_of_source(alloc, source) {

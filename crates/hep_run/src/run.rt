@@ -1,6 +1,6 @@
 //! From a source's bytes to what its run writes.
 ghost use Rattle.std.specs.Prelude.{◌≡◌, ◌≤◌, [], None, IfOk, IfErr, OnOk, length};
-ghost use Rattle.hep_core.specs.Value.{opening_of};
+ghost use Rattle.hep_scheduler.specs.Value.{opening_of};
 ghost use Rattle.hep_run.specs.Outcome.{IsOutcome, IsRunOutcome, next_process};
 ghost use Rattle.hep_run.specs.Refusals.{IsOpeningFault};
 ghost use Rattle.hep_run.specs.Transcripts.{outcome_of};
@@ -13,7 +13,7 @@ use crate::transcript::{
     Transcript, choice_transcript, ended_transcript, full_transcript, refused_transcript,
 };
 use hep_base::Refusal;
-use hep_core::{ChooseFault, Core};
+use hep_scheduler::{ChooseFault, Core};
 use std::alloc::{AllocError, Global};
 
 /// Why the choices weren't all made.

@@ -1,4 +1,5 @@
 //! The program's work on one source, from its reader to its two writers: a check, its lines, a run, or a replay.
+ghost use Rattle.std.specs.Prelude.{◌≤◌};
 ghost use Rattle.hep_run.specs.Delivery.{LeavesOneOf, LeavesOfSource, status_alone};
 ghost use Rattle.hep_run.specs.Checks.{IsCheckOutcome, IsListOutcome};
 ghost use Rattle.hep_run.specs.Outcome.{IsOutcome};
@@ -144,8 +145,8 @@ pub fn run_source<R: Read, W: Write, E: Write>(
     }
 }
 
-/// Makes the steps of a history of a source again, both as bytes, in an arena of so many cells, and
-/// then writes as `run_bytes` does, and `STILL RUNNING` to `messages` where the run could go on.
+/// Makes the steps of a history of a source again, both as bytes, in an arena of so many cells, 1 to
+/// 16,777,216, and then writes as `run_bytes` does, and `STILL RUNNING` to `messages` where the run could go on.
 ///
 /// The run's status is the code of a `Status`, and its history has an entry for each step.
 pub fn replay_bytes<W: Write, E: Write>(
@@ -156,6 +157,8 @@ pub fn replay_bytes<W: Write, E: Write>(
     output: &mut W,
     messages: &mut E,
 ) -> Run
+    requires some { 1 ≤ cells }
+    requires few { cells ≤ 16777216 }
     ensures { LeavesOneOf (IsReplayOutcome history.now cells source.now) result
         (W.contents output.old) (W.contents output.new)
         (E.contents messages.old) (E.contents messages.new) }
@@ -179,6 +182,8 @@ pub fn replay_source<R: Read, W: Write, E: Write>(
     output: &mut W,
     messages: &mut E,
 ) -> Run
+    requires some { 1 ≤ cells }
+    requires few { cells ≤ 16777216 }
     ensures { LeavesOfSource (IsReplayOutcome history.now cells)
         (R.remaining source.old) (R.remaining source.new)
         result (W.contents output.old) (W.contents output.new)

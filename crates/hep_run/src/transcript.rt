@@ -10,10 +10,10 @@ ghost use Rattle.hep_run.specs.Transcripts.{outcome_of};
 
 use crate::status::Status;
 use crate::texts::put_refusal;
-use hep_core::{Core, Fault, Stop, Verdict};
 use hep_dump::append_faults;
 use hep_history::History;
 use hep_output::append_records;
+use hep_scheduler::{Core, Fault, Stop, Verdict};
 use hep_source::Text;
 use std::alloc::{AllocError, Global};
 

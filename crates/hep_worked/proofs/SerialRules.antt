@@ -8,7 +8,7 @@ use Rattle.std.proofs.lemmas.List.{length-reverse}
 use Rattle.hep_machine.specs.declared.event.Entry.{Entry}
 use Rattle.hep_machine.specs.Histories.{IsEntry, AreEntries, IsLegal}
 use Rattle.hep_machine.specs.Laws.{state_replayed}
-use Rattle.hep_machine.specs.Layout.{Layout, Placing, has_frame, layout_after_step, opening_layout, placing_turn, placing_from}
+use Rattle.hep_machine.specs.Layout.{Layout, Placing, is_held, layout_after_step, opening_layout, placing_turn, placing_from}
 use Rattle.hep_machine.specs.Opening.{opening}
 use Rattle.hep_machine.specs.Run.{state_after_turn, run_from, schedule_of_entry, schedule_of}
 use Rattle.hep_machine.specs.Schedules.{Progress, progress_after_step, progress_after_entry, progress_from, progress_after, ready_in, last_process, next_of_ready, next_ready}
@@ -193,11 +193,11 @@ first_holds program cells has layout e = record {
   frames = ap (λ (o : Option Layout). record { state = opening program; layout = o }) e;
 }
 
-legal_in : (program : Units) (cells limit : ℕ) (choices : List ℕ) (layout : Layout) → opening_layout program cells ≡ Some layout → IsLegal program cells limit (reverse (course_in program cells has_frame limit choices (Some layout)).0.history)
+legal_in : (program : Units) (cells limit : ℕ) (choices : List ℕ) (layout : Layout) → opening_layout program cells ≡ Some layout → IsLegal program cells limit (reverse (course_in program cells is_held limit choices (Some layout)).0.history)
 legal_in program cells limit choices layout e =
-    let c = (course_from program cells has_frame limit choices (first_course program layout)).0 in
-    let h = course_holds program cells has_frame limit choices (first_course program layout) (first_holds program cells has_frame layout e) in
-    let w : length c.history ≤ limit = course_within program cells has_frame limit limit choices (first_course program layout) (omega arith) in
+    let c = (course_from program cells is_held limit choices (first_course program layout)).0 in
+    let h = course_holds program cells is_held limit choices (first_course program layout) (first_holds program cells is_held layout e) in
+    let w : length c.history ≤ limit = course_within program cells is_held limit limit choices (first_course program layout) (omega arith) in
     record {
       within = subst (λ n. n ≤ limit) (sym (length-reverse c.history)) w;
       room = ap (λ (x : Placing). is_some x.layout) h.frames;
@@ -205,7 +205,7 @@ legal_in program cells limit choices layout e =
     }
 
 -- the history of a run whose first frame has a gap is legal for its arena and its limit
-pub course_is_legal : (program : Units) (cells limit : ℕ) (choices : List ℕ) (layout : Layout) → opening_layout program cells ≡ Some layout → IsLegal program cells limit (reverse (course program cells has_frame limit choices).0.history)
+pub course_is_legal : (program : Units) (cells limit : ℕ) (choices : List ℕ) (layout : Layout) → opening_layout program cells ≡ Some layout → IsLegal program cells limit (reverse (course program cells is_held limit choices).0.history)
 unfolding course
 course_is_legal program cells limit choices layout e =
-    subst (λ (o : Option Layout). IsLegal program cells limit (reverse (course_in program cells has_frame limit choices o).0.history)) (sym e) (legal_in program cells limit choices layout e)
+    subst (λ (o : Option Layout). IsLegal program cells limit (reverse (course_in program cells is_held limit choices o).0.history)) (sym e) (legal_in program cells limit choices layout e)

@@ -7,6 +7,9 @@
 #[cfg(test)]
 mod tests;
 
+ghost use Rattle.std.specs.Prelude.{◌≤◌};
+ghost use Rattle.hep_command.specs.Jobs.{IsInRange};
+
 use hep_command::{Job, explain, read_words};
 use hep_history::Choices;
 use hep_run::{
@@ -101,7 +104,10 @@ fn run_file(rt: &HostRuntime, file: &str, options: &Options, history: Option<&st
     }
 }
 
-fn replay_file(rt: &HostRuntime, file: &str, history: &[u8], arena: u32) -> u8 {
+fn replay_file(rt: &HostRuntime, file: &str, history: &[u8], arena: u32) -> u8
+    requires some { 1 ≤ arena }
+    requires few { arena ≤ 16777216 }
+{
     let mut messages = rt.stderr();
     match File::open(rt, file) {
         Ok(mut source) => {
@@ -120,7 +126,9 @@ fn replay_file(rt: &HostRuntime, file: &str, history: &[u8], arena: u32) -> u8 {
     }
 }
 
-fn done(rt: &HostRuntime, job: Job<'_>) -> Result<u8, u8> {
+fn done(rt: &HostRuntime, job: Job<'_>) -> Result<u8, u8>
+    requires { IsInRange job }
+{
     let status = match job {
         Job::Standard => run_standard(rt),
         Job::Check { file } => check_file(rt, file),

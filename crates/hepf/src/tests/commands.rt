@@ -1,22 +1,10 @@
-//! The words of the command line, and what stands beside a source: choices, histories, files.
+//! The words of the command line as jobs, and histories that are written and made again.
 
 use hep_command::job::{ARENA, STEPS};
-use hep_command::{Job, explanation, read_words};
-use hep_run::{
-    Options, Run, answer, check_source, choices_of, history_text, list_source, put_text,
-    replay_bytes, run_bytes,
-};
+use hep_command::{Job, read_words};
+use hep_run::{Options, Run, answer, history_text, put_text, replay_bytes, run_bytes};
 use std::alloc::Global;
-use std::process::Abort;
 use std::test::Fail;
-
-// What is said of these words, and the status.
-fn usage(alloc: Global, words: &[&str]) -> Result<(u8, Vec<u8>), Fail> {
-    match read_words(alloc, words) {
-        Ok(_) => Err(Fail::from("the words are a job")),
-        Err(usage) => Ok((usage.status, usage.text)),
-    }
-}
 
 fn job<'a>(alloc: Global, words: &'a [&'a str]) -> Result<Job<'a>, Fail> {
     read_words(alloc, words).map_err(|_| Fail::from("the words are no job"))
@@ -73,16 +61,6 @@ fn words(rt: HostRuntime) -> Result<(), Fail> {
     Ok(())
 }
 
-#[test]
-fn usages(rt: HostRuntime) -> Result<(), Fail> {
-    let alloc = rt.alloc();
-    let (status, help) = usage(alloc, &["hepf", "--help"])?;
-    assert!(rt; status == 0 && help.starts_with(b"Compiles and runs HEP FORTRAN"));
-    let (status, text) = usage(alloc, &["hepf", "run", "a.f", "--steps", "0"])?;
-    assert!(rt; status == 2 && text.starts_with(b"error: invalid value '0'"));
-    Ok(())
-}
-
 const ONE: &[u8] = b"      PRINT *,1+2\n      END\n";
 
 // What a call wrote to both outputs, and its status.
@@ -93,9 +71,10 @@ struct Written {
     run: Run,
 }
 
-fn replayed(alloc: Global, source: &[u8], history: &[u8], arena: u32) -> Written {
+// In an arena of ten cells.
+fn replayed(alloc: Global, source: &[u8], history: &[u8]) -> Written {
     let (mut output, mut messages) = (Vec::new(alloc), Vec::new(alloc));
-    let run = replay_bytes(alloc, source, history, arena, &mut output, &mut messages);
+    let run = replay_bytes(alloc, source, history, 10, &mut output, &mut messages);
     Written {
         output,
         messages,
@@ -103,139 +82,7 @@ fn replayed(alloc: Global, source: &[u8], history: &[u8], arena: u32) -> Written
     }
 }
 
-fn judge_replay(
-    rt: &impl Abort,
-    alloc: Global,
-    history: &[u8],
-    status: u8,
-    output: &[u8],
-    messages: &[u8],
-) {
-    let written = replayed(alloc, ONE, history, 10);
-    assert!(rt; written.run.status == status);
-    assert!(rt; written.output.as_slice() == output);
-    assert!(rt; written.messages.as_slice() == messages);
-}
-
-#[test]
-fn replays(rt: HostRuntime) -> Result<(), Fail> {
-    let alloc = rt.alloc();
-    judge_replay(&rt, alloc, b"", 0, b"", b"STILL RUNNING\n");
-    judge_replay(&rt, alloc, b"1 2\n", 0, b" 3\n", b"STILL RUNNING\n");
-    judge_replay(&rt, alloc, b"1 3\n", 0, b" 3\n", b"");
-    judge_replay(&rt, alloc, b"1 4\n", 2, b"", b"REFUSED 603 LINE 1\n");
-    judge_replay(&rt, alloc, b"1 1\n2 1\n", 2, b"", b"REFUSED 603 LINE 2\n");
-    judge_replay(&rt, alloc, b"1 0\n", 2, b"", b"REFUSED 603 LINE 1\n");
-    for bad in [
-        b"01 1\n".as_slice(),
-        b"1  1\n",
-        b"0 1\n",
-        b"1 1025\n",
-        b"1 1",
-    ] {
-        judge_replay(&rt, alloc, bad, 2, b"", b"REFUSED 601 LINE 1\n");
-    }
-    // A refused source comes before a bad history, and that before a frame without room.
-    let refused = replayed(alloc, b"      X=1\n      END\n", b"x", 10);
-    assert!(rt; refused.messages.as_slice() == b"REFUSED 301 LINE 1 NAME X\n".as_slice());
-    let bad = replayed(alloc, b"      I=1\n      END\n", b"x", 1);
-    assert!(rt; bad.messages.as_slice() == b"REFUSED 601 LINE 1\n".as_slice());
-    let full = replayed(alloc, b"      I=1\n      END\n", b"2 1\n", 1);
-    assert!(rt; full.run.status == 5);
-    assert!(rt; full.messages.as_slice() == b"STOPPED ARENA FULL\n".as_slice());
-    Ok(())
-}
-
-// A source, and what a command writes of it to both outputs; its status is 1 where the second gets something.
-type Said = (&'static [u8], &'static [u8], &'static [u8]);
-
-const CHECKED: [Said; 4] = [
-    (b"      PRINT *,1\n      END\n", b"", b""),
-    (
-        b"      I=1\n      CONTINUE\n      END\n",
-        b"",
-        b"REFUSED 403 LINE 2\n",
-    ),
-    (
-        b"      X=1\n      END\n",
-        b"",
-        b"REFUSED 301 LINE 1 NAME X\n",
-    ),
-    (b"      I=1\n", b"", b"REFUSED 205 LINE 1\n"),
-];
-
-// What isn't supported is listed too.
-const LISTED: [Said; 6] = [
-    (b"      PRINT *,1\n      END\n", b"UNIT MAIN CELLS 1\n", b""),
-    (
-        b"      PROGRAM P\n      INTEGER $X,$D\n      $X=0\n      CREATE ADD($X,$D)\n      CREATE ADD($X,$D)\n      I=$D\n      I=$D\n      PRINT *,$X\n      END\n      SUBROUTINE ADD($A,$B)\n      INTEGER $A,$B\n      $A=$A+1\n      $B=1\n      END\n",
-        b"UNIT P CELLS 4\nUNIT ADD CELLS 5\n",
-        b"",
-    ),
-    (
-        b"      PROGRAM P\n      CREATE S\n      CREATE S\n      END\n      SUBROUTINE S\n      COMMON N\n      DO 10 I=1,1000\n10    N=I\n      END\n",
-        b"UNIT P CELLS 1\nUNIT S CELLS 4\nBLOCK // CELLS 1\n",
-        b"",
-    ),
-    (
-        b"      COMMON /B/ I,J(3)\n      COMMON /A/ K\n      END\n",
-        b"UNIT MAIN CELLS 1\nBLOCK /B/ CELLS 4\nBLOCK /A/ CELLS 1\n",
-        b"",
-    ),
-    (
-        b"      X=1\n      END\n",
-        b"",
-        b"REFUSED 301 LINE 1 NAME X\n",
-    ),
-    (b"      I=1\n", b"", b"REFUSED 205 LINE 1\n"),
-];
-
-#[test]
-fn checks(rt: HostRuntime) {
-    let alloc = rt.alloc();
-    for (source, text, said) in CHECKED {
-        let (mut reader, mut output, mut messages) = (source, Vec::new(alloc), Vec::new(alloc));
-        let status = check_source(alloc, &mut reader, &mut output, &mut messages);
-        assert!(rt; output.as_slice() == text && messages.as_slice() == said);
-        assert!(rt; (status == 0) == said.is_empty() && status <= 1);
-    }
-}
-
-#[test]
-fn lists(rt: HostRuntime) {
-    let alloc = rt.alloc();
-    for (source, text, said) in LISTED {
-        let (mut reader, mut output, mut messages) = (source, Vec::new(alloc), Vec::new(alloc));
-        let status = list_source(alloc, &mut reader, &mut output, &mut messages);
-        assert!(rt; output.as_slice() == text && messages.as_slice() == said);
-        assert!(rt; (status == 0) == said.is_empty() && status <= 1);
-    }
-}
-
-#[test]
-fn choices(rt: HostRuntime) -> Result<(), Fail> {
-    let alloc = rt.alloc();
-    let mut messages = Vec::new(alloc);
-    let Err(status) = choices_of(alloc, b"1\nx\n", &mut messages) else {
-        return Err(Fail::from("the choices were read"));
-    };
-    assert!(rt; status == 2 && messages.as_slice() == b"REFUSED 602 LINE 2\n".as_slice());
-    let mut silent = Vec::new(alloc);
-    let Ok(choices) = choices_of(alloc, b"1\n7\n", &mut silent) else {
-        return Err(Fail::from("the choices were refused"));
-    };
-    let options = Options {
-        choices,
-        ..Options::defaults(alloc)
-    };
-    let mut output = Vec::new(alloc);
-    let run = run_bytes(alloc, ONE, &options, &mut output, &mut silent);
-    assert!(rt; run.status == 2 && output.is_empty());
-    assert!(rt; silent.as_slice() == b"REFUSED 501 LINE 2\n".as_slice());
-    Ok(())
-}
-
-// A history is written and made again; at status 2 it isn't written.
+// A history is written and made again; of a run at status 2 there is none.
 #[test]
 fn histories(rt: HostRuntime) -> Result<(), Fail> {
     let alloc = rt.alloc();
@@ -245,20 +92,24 @@ fn histories(rt: HostRuntime) -> Result<(), Fail> {
     let Ok(text) = history_text(alloc, &run, &mut messages) else {
         return Err(Fail::from("the history wasn't written"));
     };
-    assert!(rt; text.as_slice() == b"1 1\n1 1\n1 1\n".as_slice());
-    let again = replayed(alloc, ONE, &text, options.arena);
+    let again = replayed(alloc, ONE, &text);
     assert!(rt; again.output.as_slice() == output.as_slice());
+    assert!(rt; again.messages.is_empty() && again.run.status == 0);
     let mut file = Vec::new(alloc);
     assert!(rt; put_text(&text, run.status, &mut file, &mut messages) == 0);
-    let refused = replayed(alloc, ONE, b"x", options.arena);
+    assert!(rt; file.as_slice() == text.as_slice());
+    let refused = replayed(alloc, ONE, b"x");
+    assert!(rt; refused.run.status == 2);
     assert!(rt; history_text(alloc, &refused.run, &mut messages).is_err());
-    assert!(rt; answer(7, b"", &mut output, &mut messages) == 7);
-    assert!(rt; messages.as_slice() == b"NO MEMORY\n".as_slice());
     Ok(())
 }
 
+// What is said of the status at which memory was refused.
 #[test]
-fn explanations(rt: HostRuntime) -> Result<(), Fail> {
-    assert!(rt; explanation(403).is_some() && explanation(100).is_none());
-    Ok(())
+fn no_memory(rt: HostRuntime) {
+    let alloc = rt.alloc();
+    let (mut output, mut messages) = (Vec::new(alloc), Vec::new(alloc));
+    assert!(rt; answer(7, b"", &mut output, &mut messages) == 7);
+    assert!(rt; output.is_empty());
+    assert!(rt; messages.as_slice() == b"NO MEMORY\n".as_slice());
 }

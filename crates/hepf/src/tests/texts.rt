@@ -1,11 +1,11 @@
 //! Texts of records, histories, choices and processes that wait, each public call once.
 
 use super::image_from;
-use hep_core::{Core, Entry};
 use hep_dump::{Listed, fault_text, waiting_text};
 use hep_history::{read_choices, read_text, replay, write_text};
 use hep_machine::{Item, Record};
 use hep_output::{output_text, put_all, record_text};
+use hep_scheduler::{Core, Entry};
 use std::alloc::Global;
 use std::test::Fail;
 

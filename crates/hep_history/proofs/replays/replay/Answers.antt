@@ -4,7 +4,7 @@ use Rattle.std.proofs.lemmas.List.{take_all}
 use Rattle.std.proofs.lemmas.Option.{slice_get-get_or}
 use Rattle.hep_machine.specs.declared.event.Entry.{Entry}
 use Rattle.hep_machine.specs.Run.{schedule_of}
-use Rattle.hep_core.specs.Value.{CoreValue}
+use Rattle.hep_scheduler.specs.Value.{CoreValue}
 use Rattle.hep_history.specs.Progress.{EntryMade}
 use Rattle.hep_history.proofs.Entries.{entry_next, entry_refused, expand_singles, possible_more}
 use Rattle.hep_history.proofs.replays.replay.Goals as goal

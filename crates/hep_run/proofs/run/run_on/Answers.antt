@@ -1,7 +1,7 @@
 use Rattle.std.proofs.Common.{◌≡◌, ◌≤◌, ◌∙◌, sym, subst, length, Some, Err, arith}
-use Rattle.hep_core.specs.declared.fault.ChooseFault.{ChooseFault}
-use Rattle.hep_core.specs.declared.fault.ChooseFault.TheVariants.{Stopped, NoSuchProcess}
-use Rattle.hep_core.specs.Value.{IsChoice}
+use Rattle.hep_scheduler.specs.declared.fault.ChooseFault.{ChooseFault}
+use Rattle.hep_scheduler.specs.declared.fault.ChooseFault.TheVariants.{Stopped, NoSuchProcess}
+use Rattle.hep_scheduler.specs.Value.{IsChoice}
 use Rattle.hep_run.specs.Outcome.{next_process}
 use Rattle.hep_run.proofs.Schedules.{chosen, stopped, next_is_ready, none_is_next, ready_lives, is_none}
 use Rattle.hep_run.proofs.run.run_on.Goals as goal

@@ -1,0 +1,97 @@
+-- A history with one entry more.
+use Rattle.std.proofs.Common.{◌≡◌, ◌≢◌, inr, ℕ, ◌<◌, List, [], ◌∷◌, ◌++◌, length, length-append, refl, sym, ap, ◌∙◌, subst, append_assoc, arith, Option, Some, None, replicate}
+use Rattle.std.specs.Prelude.{IsSome}
+use Rattle.std.specs.Option.{unwrap_or}
+use Rattle.hep_machine.specs.declared.event.Entry.{Entry}
+use Rattle.hep_source.specs.Units.{Units}
+use Rattle.hep_machine.specs.Histories.{IsEntry, AreEntries, IsLegal}
+use Rattle.hep_machine.specs.Layout.{is_held, layout_of}
+use Rattle.hep_machine.specs.Opening.{opening}
+use Rattle.hep_machine.specs.Run.{run, run_from, schedule_of_entry, schedule_of, state_after, state_after_turn}
+use Rattle.hep_machine.specs.Schedules.{Progress, progress_after_entry, progress_from, progress_after}
+use Rattle.hep_machine.specs.State.{State}
+use Rattle.hep_machine.specs.Step.{step}
+
+-- ---- the state
+
+pub schedule-none : schedule_of [] ≡ []
+unfolding schedule_of
+schedule-none = refl
+
+schedule-last : (es : List Entry) (e : Entry) → schedule_of (es ++ e ∷ []) ≡ schedule_of es ++ (replicate e.steps e.process ++ [])
+unfolding schedule_of
+schedule-last [] e = refl
+schedule-last (x ∷ es) e = ap (λ r. replicate x.steps x.process ++ r) (schedule-last es e) ∙ sym (append_assoc (replicate x.steps x.process) (schedule_of es) (replicate e.steps e.process ++ []))
+
+-- an entry of one step is a turn
+pub schedule-stepped : (es : List Entry) (p : ℕ) → schedule_of (es ++ record { process = p; steps = 1 } ∷ []) ≡ schedule_of es ++ p ∷ []
+schedule-stepped es p = schedule-last es (record { process = p; steps = 1 })
+
+pub state-is : (program : Units) (es : List Entry) → state_after program es ≡ run program (schedule_of es)
+unfolding state_after
+state-is program es = refl
+
+run_from-append : (program : Units) (s : State) (ps qs : List ℕ) → run_from program s (ps ++ qs) ≡ run_from program (run_from program s ps) qs
+unfolding run_from
+run_from-append program s [] qs = refl
+run_from-append program s (p ∷ ps) qs = run_from-append program (state_after_turn program p s) ps qs
+
+turned : (program : Units) (es : List Entry) (p : ℕ) → state_after program (es ++ record { process = p; steps = 1 } ∷ []) ≡ state_after_turn program p (state_after program es)
+unfolding state_after run run_from
+turned program es p = ap (run_from program (opening program)) (schedule-stepped es p) ∙ run_from-append program (opening program) (schedule_of es) (p ∷ [])
+
+-- an entry of one step leads to the step's state
+pub state-stepped : (program : Units) (es : List Entry) (p : ℕ) (s : State) → step program p (state_after program es) ≡ Some s → state_after program (es ++ record { process = p; steps = 1 } ∷ []) ≡ s
+state-stepped program es p s e = turned program es p ∙ ap (λ o. unwrap_or o (state_after program es)) e
+
+-- ---- the listed processes
+
+progress_from-append : (program : Units) (x : Progress) (es fs : List Entry) → progress_from program x (es ++ fs) ≡ progress_from program (progress_from program x es) fs
+unfolding progress_from
+progress_from-append program x [] fs = refl
+progress_from-append program x (e ∷ es) fs = progress_from-append program (progress_after_entry program x e e.steps) es fs
+
+unlisted : State → Progress
+unlisted s = record { state = s; listed = [] }
+
+opening-is : (program : Units) → state_after program [] ≡ opening program
+unfolding state_after run run_from schedule_of
+opening-is program = refl
+
+pub unlisted-none : (program : Units) → progress_after program [] ≡ record { state = state_after program []; listed = [] }
+unfolding progress_from unlisted
+unlisted-none program = ap unlisted (sym (opening-is program))
+
+-- where none is listed, none is after a step
+pub unlisted-stepped : (program : Units) (es : List Entry) (p : ℕ) (s : State) → progress_after program es ≡ record { state = state_after program es; listed = [] } → step program p (state_after program es) ≡ Some s → progress_after program (es ++ record { process = p; steps = 1 } ∷ []) ≡ record { state = state_after program (es ++ record { process = p; steps = 1 } ∷ []); listed = [] }
+unfolding progress_from unlisted
+unlisted-stepped program es p s h e =
+    let entry : Entry = record { process = p; steps = 1 } in
+    progress_from-append program (unlisted (opening program)) es (entry ∷ [])
+    ∙ ap (λ x. progress_after_entry program x entry 1) h
+    ∙ ap (λ o. unlisted (unwrap_or o (state_after program es))) e
+    ∙ ap unlisted (sym (state-stepped program es p s e))
+
+-- ---- legal histories
+
+entries-last : (program : Units) (es : List Entry) (e : Entry) (s : State) → AreEntries program s es → IsEntry program (run_from program s (schedule_of es)) e → AreEntries program s (es ++ e ∷ [])
+unfolding run_from schedule_of
+entries-last program [] e s h g = (g, tt)
+entries-last program (x ∷ es) e s h g =
+    let state = run_from-append program s (schedule_of_entry x) (schedule_of es) in
+    (h.0, entries-last program es e (run_from program s (schedule_of_entry x)) h.1 (subst (λ t. IsEntry program t e) state g))
+
+some-step : (o : Option State) (s : State) → o ≡ Some s → o ≢ None
+some-step o s e f = cc
+
+pub legal-none : (program : Units) (cells limit : ℕ) → IsSome (layout_of program cells is_held (schedule_of [])) → IsLegal program cells limit []
+legal-none program cells limit room = record { within = omega arith; room = room; entries = tt }
+
+pub legal-stepped : (program : Units) (cells limit : ℕ) (es : List Entry) (p : ℕ) (s : State) → IsLegal program cells limit es → length es < limit → IsSome (layout_of program cells is_held (schedule_of (es ++ record { process = p; steps = 1 } ∷ []))) → step program p (state_after program es) ≡ Some s → IsLegal program cells limit (es ++ record { process = p; steps = 1 } ∷ [])
+unfolding state_after run
+legal-stepped program cells limit es p s h lt room e = record {
+  within = omega (arith, length-append es (record { process = p; steps = 1 } ∷ []));
+  room = room;
+  entries = entries-last program es (record { process = p; steps = 1 }) (opening program) h.entries
+      (inr (omega arith, omega arith, (some-step (step program p (run_from program (opening program) (schedule_of es))) s e, tt)));
+}

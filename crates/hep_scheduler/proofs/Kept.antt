@@ -1,0 +1,159 @@
+-- What follows from what a machine keeps of the state after a history.
+use Rattle.std.proofs.Common.{◌≡◌, ◌≢◌, ℕ, Bool, true, false, ◌<◌, List, [], ◌∷◌, ◌++◌, length, refl, sym, ap, ◌∙◌, subst, Option, Some, None}
+use Rattle.std.specs.Prelude.{IsSome, if◌then◌else◌, is_some}
+use Rattle.hep_source.specs.Units.{Units, dummies_of, main_unit, unit_at}
+use Rattle.hep_machine.specs.declared.event.Entry.{Entry}
+use Rattle.hep_machine.specs.Histories.{IsLegal}
+use Rattle.hep_machine.specs.Layout.{is_held, layout_of}
+use Rattle.hep_machine.specs.Opening.{opening}
+use Rattle.hep_machine.specs.Processes.{living}
+use Rattle.hep_machine.specs.Run.{run, run_from, schedule_of, state_after}
+use Rattle.hep_machine.specs.Schedules.{last_process, living_from, next_of_ready, next_ready, progress_after, ready_in}
+use Rattle.hep_machine.specs.State.{State}
+use Rattle.hep_machine.specs.Step.{step, wanted_by}
+use Rattle.hep_machine.specs.Views.{view_of}
+use Rattle.hep_image.specs.Supported.{first_unsupported}
+use Rattle.hep_state.specs.declared.machine.Machine.{Machine}
+use Rattle.hep_state.specs.Rooms.{IsMachineAfter}
+use Rattle.hep_state.specs.Snapshots.{Snapshot, snapshot_of}
+use Rattle.hep_state.specs.Turns.{IsAfter}
+use Rattle.hep_scheduler.specs.Invariant.{first_activation}
+use Rattle.hep_scheduler.specs.Seen.{machine_view}
+use Rattle.hep_scheduler.specs.Value.{verdict_by}
+use Rattle.hep_scheduler.specs.declared.stop.Verdict.TheVariants.{Done, Running}
+use Rattle.hep_scheduler.proofs.Alone.{next-is, verdict-is}
+use Rattle.hep_scheduler.proofs.Histories.{legal-stepped, schedule-stepped, state-is, state-stepped, unlisted-stepped}
+use Rattle.hep_scheduler.specs.Quiet.{AreQuiet, IsQuiet}
+use Rattle.hep_scheduler.proofs.Viewed.{machine-viewed}
+use Rattle.hep_scheduler.proofs.Wants.{wanted-halted}
+use Rattle.hep_placed.proofs.Supported.{main_alone}
+
+pub none-of : {A : Type 0} (o : Option A) → is_some o ≡ false → o ≡ None
+none-of None e = refl
+none-of (Some x) e = absurd cc
+
+pub some-of : {A : Type 0} (o : Option A) → is_some o ≡ true → o ≢ None
+some-of None e f = absurd cc
+some-of (Some x) e f = absurd cc
+
+pub there-is : (o : Option State) → o ≢ None → (s : State) × (o ≡ Some s)
+there-is None h = absurd (h refl)
+there-is (Some s) h = (s, refl)
+
+pub is-some : {A : Type 0} (o : Option A) (x : A) → o ≡ Some x → IsSome o
+is-some o x e = subst IsSome (sym e) refl
+
+module _ (program : Units) (cells : ℕ) (history : List Entry) (m : Snapshot) (after : IsAfter program cells (schedule_of history) m) where
+  pub halted-is : m.halted ≡ (state_after program history).halted
+  halted-is = after.shows.halted ∙ ap (λ (s : State). s.halted) (sym (state-is program history))
+
+  pub records-are : m.records ≡ (state_after program history).records
+  records-are = after.shows.records ∙ ap (λ (s : State). s.records) (sym (state-is program history))
+
+  pub faults-are : m.faults ≡ (state_after program history).faults
+  faults-are = after.shows.faults ∙ ap (λ (s : State). s.faults) (sym (state-is program history))
+
+  pub alone-there : length m.processes ≡ 1 → length (state_after program history).processes ≡ 1
+  alone-there one = ap (λ (s : State). length s.processes) (state-is program history) ∙ sym after.shows.processes ∙ one
+
+  pub laid-out : IsSome (layout_of program cells is_held (schedule_of history))
+  laid-out = is-some (layout_of program cells is_held (schedule_of history)) after.layout after.laid
+
+  pub view-is : first_unsupported program ≡ None → length m.processes ≡ 1 → (state_after program history).activations ≡ first_activation program ∷ [] → ((p : ℕ) → wanted_by program p (state_after program history) ≡ None)
+      → machine_view program m ≡ view_of program is_held (state_after program history)
+  view-is supported alone first quiet =
+      let same = state-is program history in
+      let main = main_alone program supported in
+      let none : dummies_of (unit_at program (main_unit program)) ≡ [] = ap (λ u. dummies_of (unit_at program u)) main.1 ∙ main.2 in
+      machine-viewed program cells (schedule_of history) m after none alone (ap (λ (s : State). s.activations) (sym same) ∙ first) (λ p. ap (wanted_by program p) (sym same) ∙ quiet p)
+      ∙ ap (view_of program is_held) (sym same)
+
+-- ---- one turn more
+
+module _ (program : Units) (cells : ℕ) (h : List Entry) (p : ℕ) (h' : List Entry) (is : h' ≡ h ++ record { process = p; steps = 1 } ∷ []) (made : step program p (run program (schedule_of h)) ≢ None) where
+  made-there : step program p (state_after program h) ≢ None
+  made-there = subst (λ (s : State). step program p s ≢ None) (sym (state-is program h)) made
+
+  pub next : State
+  next = (there-is (step program p (state_after program h)) made-there).0
+
+  pub steps-on : step program p (state_after program h) ≡ Some next
+  unfolding next
+  steps-on = (there-is (step program p (state_after program h)) made-there).1
+
+  pub state-next : state_after program h' ≡ next
+  state-next = ap (state_after program) is ∙ state-stepped program h p next steps-on
+
+  schedule-next : schedule_of h' ≡ schedule_of h ++ p ∷ []
+  schedule-next = ap schedule_of is ∙ schedule-stepped h p
+
+  pub unlisted-next : progress_after program h ≡ record { state = state_after program h; listed = [] } → progress_after program h' ≡ record { state = state_after program h'; listed = [] }
+  unlisted-next none = subst (λ es. progress_after program es ≡ record { state = state_after program es; listed = [] }) (sym is) (unlisted-stepped program h p next none steps-on)
+
+  module _ (m : Machine) (after : IsMachineAfter program cells (schedule_of h ++ p ∷ []) m) where
+    pub after-next : IsMachineAfter program cells (schedule_of h') m
+    after-next = subst (λ ps. IsMachineAfter program cells ps m) (sym schedule-next) after
+
+    pub halted-next : m.halted ≡ next.halted
+    halted-next = halted-is program cells h' (snapshot_of m) after-next.after ∙ ap (λ (s : State). s.halted) state-next
+
+    pub legal-next : (limit : ℕ) → IsLegal program cells limit h → length h < limit → IsLegal program cells limit h'
+    legal-next limit legal lt =
+        let room = subst (λ es. IsSome (layout_of program cells is_held (schedule_of es))) is (laid-out program cells h' (snapshot_of m) after-next.after) in
+        subst (IsLegal program cells limit) (sym is) (legal-stepped program cells limit h p next legal lt room steps-on)
+
+    -- what is known of steps: `laws::living_processes_are_quiet`
+    module _ (law : AreQuiet program cells)
+        (old : Snapshot) (before : IsAfter program cells (schedule_of h) old) (running : old.halted ≡ false)
+        (first : (state_after program h).activations ≡ first_activation program ∷ []) (quiet : (q : ℕ) → wanted_by program q (state_after program h) ≡ None) where
+      was-quiet : IsQuiet program (state_after program h) p
+      was-quiet = subst (λ (s : State). IsQuiet program s p) (sym (state-is program h)) (law (schedule_of h) old p before running)
+
+      pub first-next : (state_after program h').activations ≡ first_activation program ∷ []
+      first-next = ap (λ (s : State). s.activations) state-next ∙ (was-quiet.stays next steps-on).0 ∙ first
+
+      pub quiet-next : (q : ℕ) → wanted_by program q (state_after program h') ≡ None
+      quiet-next q = by_halt next.halted refl where
+        by_halt : (b : Bool) → next.halted ≡ b → wanted_by program q (state_after program h') ≡ None
+        by_halt true halted =
+            ap (wanted_by program q) (state-next ∙ (was-quiet.stays next steps-on).1 halted) ∙ wanted-halted program (state_after program h) true q ∙ quiet q
+        by_halt false halted =
+            ap (wanted_by program q) (state-is program h') ∙ (law (schedule_of h') (snapshot_of m) q after-next.after (halted-next ∙ halted)).unwaited
+
+      pub view-next : first_unsupported program ≡ None → length (snapshot_of m).processes ≡ 1 → machine_view program (snapshot_of m) ≡ view_of program is_held next
+      view-next supported alone = view-is program cells h' (snapshot_of m) after-next.after supported alone first-next quiet-next ∙ ap (view_of program is_held) state-next
+
+-- ---- the opening
+
+pub opening-first : (program : Units) → (state_after program []).activations ≡ first_activation program ∷ []
+unfolding state_after run run_from schedule_of opening
+opening-first program = refl
+
+-- nothing has stopped
+pub opening-goes : (program : Units) → (state_after program []).halted ≡ false
+unfolding state_after run run_from schedule_of opening
+opening-goes program = refl
+
+-- ---- one process
+
+module _ (program : Units) (cells limit : ℕ) (h : List Entry) (m : Snapshot) (after : IsAfter program cells (schedule_of h) m) (one : length m.processes ≡ 1)
+    (unlisted : progress_after program h ≡ record { state = state_after program h; listed = [] }) (lives : Bool) (known : lives ≡ is_some (living (run program (schedule_of h)) 1)) where
+  lives-there : is_some (living (state_after program h) 1) ≡ lives
+  lives-there = ap (λ (s : State). is_some (living s 1)) (state-is program h) ∙ sym known
+
+  pub ready-is : next_ready program h ≡ (if lives then Some 1 else None)
+  ready-is =
+      ap (λ x. next_of_ready (last_process h) (ready_in x)) unlisted
+      ∙ next-is (state_after program h) (last_process h) (alone-there program cells h m after one)
+      ∙ ap (λ b. if b then Some 1 else None) lives-there
+
+  pub verdict-there : verdict_by None (living_from 1 (state_after program h).processes) (ready_in (progress_after program h)) ≡ (if lives then Running else Done)
+  verdict-there =
+      ap (λ x. verdict_by None (living_from 1 (state_after program h).processes) (ready_in x)) unlisted
+      ∙ verdict-is (state_after program h) (alone-there program cells h m after one)
+      ∙ ap (λ b. if b then Running else Done) lives-there
+
+pub opening-quiet : (program : Units) (cells : ℕ) → AreQuiet program cells → (m : Snapshot) → IsAfter program cells (schedule_of []) m
+    → (q : ℕ) → wanted_by program q (state_after program []) ≡ None
+opening-quiet program cells law m after q =
+    ap (wanted_by program q) (state-is program []) ∙ (law (schedule_of []) m q after (halted-is program cells [] m after ∙ opening-goes program)).unwaited

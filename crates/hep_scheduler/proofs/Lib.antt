@@ -1,0 +1,6 @@
+mod Histories
+mod Alone
+mod Quiet
+mod Wants
+mod Viewed
+mod Kept

@@ -1,0 +1,189 @@
+use Rattle.std.proofs.Common.{◌≡◌, ℕ, ◌<◌, ◌++◌, ◌∷◌, [], ◌∙◌, inr, sym, ap, subst, rules, false, true, None, Some, length, arith, refl}
+use Rattle.std.specs.Prelude.{is_some}
+use Rattle.std.proofs.lemmas.List.{length-map}
+use Rattle.std.proofs.lemmas.Result.{err_from_is_err_and}
+use Rattle.hep_machine.specs.declared.event.Entry.{Entry}
+use Rattle.hep_machine.specs.Histories.{IsLegal}
+use Rattle.hep_machine.specs.Processes.{living}
+use Rattle.hep_machine.specs.Run.{schedule_of, state_after}
+use Rattle.hep_machine.specs.Schedules.{progress_after}
+use Rattle.hep_machine.specs.State.{State}
+use Rattle.hep_state.specs.Rooms.{IsMachineAfter}
+use Rattle.hep_machine.specs.Step.{wanted_by}
+use Rattle.hep_state.specs.Snapshots.{snapshot_of, stack_of}
+use Rattle.hep_scheduler.specs.Invariant.{core_value, first_activation}
+use Rattle.hep_scheduler.specs.Quiet.{AreQuiet}
+use Rattle.hep_scheduler.specs.Seen.{machine_view}
+use Rattle.hep_scheduler.specs.Value.{IsStop, stop_after}
+use Rattle.hep_scheduler.specs.declared.stop.Stop.TheVariants.{Halted}
+use Rattle.hep_scheduler.proofs.Histories.{state-is}
+use Rattle.hep_scheduler.proofs.Kept.{after-next, first-next, halted-is, halted-next, legal-next, next, none-of, quiet-next, some-of, state-next, steps-on, unlisted-next, view-is, view-next}
+use Rattle.hep_scheduler.proofs.scheduler.Core.choose.Goals as goal
+
+pub returns-then-not-lives : goal.returns-then-not-lives
+returns-then-not-lives c =
+    let i = c.self.inside in
+    let h = i.history.items in
+    let none : i.stop ≡ None = search rules in
+    let going = subst (IsStop i.image i.limit h) none c.self.invariant.named in
+    let dead : c.lives.result ≡ false = search rules in
+    let ended = none-of (living (state_after i.image h) c.args.p) (ap (λ (s : State). is_some (living s c.args.p)) (state-is i.image h) ∙ sym (c.lives.ensures.lives i.image i.cells (schedule_of h) c.self.invariant.after.after) ∙ dead) in
+    rw (← c.self.view_is) ((none, going), ended, refl)
+
+pub returns-then-self-len : goal.returns-then-self-len
+returns-then-self-len c =
+    let i = c.self.inside in
+    let h = i.history.items in
+    let none : i.stop ≡ None = search rules in
+    let going = subst (IsStop i.image i.limit h) none c.self.invariant.named in
+    let lives : c.lives.result ≡ true = search rules in
+    let alive = some-of (living (state_after i.image h) c.args.p) (ap (λ (s : State). is_some (living s c.args.p)) (state-is i.image h) ∙ sym (c.lives.ensures.lives i.image i.cells (schedule_of h) c.self.invariant.after.after) ∙ lives) in
+    let full : length h ≡ i.limit = omega (arith, c.len.ensures, c.if-self-len.true, c.self.invariant.legal.within) in
+    rw (← c.self.view_is) (inr ((none, going), alive, full, refl, refl))
+
+pub returns-in_err-reserve : goal.returns-in_err-reserve
+returns-in_err-reserve c =
+    let i = c.self.inside in
+    let h = i.history.items in
+    let none : i.stop ≡ None = search rules in
+    let going = subst (IsStop i.image i.limit h) none c.self.invariant.named in
+    let lives : c.lives.result ≡ true = search rules in
+    let alive = some-of (living (state_after i.image h) c.args.p) (ap (λ (s : State). is_some (living s c.args.p)) (state-is i.image h) ∙ sym (c.lives.ensures.lives i.image i.cells (schedule_of h) c.self.invariant.after.after) ∙ lives) in
+    let lt : length h < i.limit = omega (arith, c.len.ensures) in
+    let value : record (core_value i) { history = c.reserve.new.self.items } ≡ core_value i = λ j. record (core_value i) { history = c.reserve.ensures.items j } in
+    let told = err_from_is_err_and c.from_residual.result c.from_residual.ensures.1 in
+    rw (told.1, told.2, ← c.self.view_is) ((none, going), alive, lt, value)
+
+pub turn-requires-clause-running : goal.turn-requires-clause-running
+turn-requires-clause-running c =
+    let i = c.self.inside in
+    let h = i.history.items in
+    let none : i.stop ≡ None = search rules in
+    halted-is i.image i.cells h (snapshot_of i.machine) c.self.invariant.after.after ∙ subst (IsStop i.image i.limit h) none c.self.invariant.named
+
+pub invariant_of-self-in_err-turn : goal.invariant_of-self-in_err-turn
+invariant_of-self-in_err-turn c =
+    let i = c.self.inside in
+    let h = i.history.items in
+    let same = sym c.reserve.ensures.items in
+    let after = c.in_err-turn.ensures.refused i.cells (schedule_of h) c.self.invariant.after in
+    record {
+      after = subst (λ es. IsMachineAfter i.image i.cells (schedule_of es) c.turn.new.self) same after;
+      alone = c.turn.ensures.processes ∙ c.self.invariant.alone;
+      first = subst (λ es. (state_after i.image es).activations ≡ first_activation i.image ∷ []) same c.self.invariant.first;
+      quiet = subst (λ es. (q : ℕ) → wanted_by i.image q (state_after i.image es) ≡ None) same c.self.invariant.quiet;
+      unlisted = subst (λ es. progress_after i.image es ≡ record { state = state_after i.image es; listed = [] }) same c.self.invariant.unlisted;
+      legal = subst (IsLegal i.image i.cells i.limit) same c.self.invariant.legal;
+      named = subst (λ es. IsStop i.image i.limit es i.stop) same c.self.invariant.named;
+    }
+
+pub returns-in_err-turn : goal.returns-in_err-turn
+returns-in_err-turn c =
+    let i = c.self.inside in
+    let h = i.history.items in
+    let none : i.stop ≡ None = search rules in
+    let going = subst (IsStop i.image i.limit h) none c.self.invariant.named in
+    let lives : c.lives.result ≡ true = search rules in
+    let alive = some-of (living (state_after i.image h) c.args.p) (ap (λ (s : State). is_some (living s c.args.p)) (state-is i.image h) ∙ sym (c.lives.ensures.lives i.image i.cells (schedule_of h) c.self.invariant.after.after) ∙ lives) in
+    let lt : length h < i.limit = omega (arith, c.len.ensures) in
+    let supported = c.is_runnable.ensures.supported in
+    let after = c.in_err-turn.ensures.refused i.cells (schedule_of h) c.self.invariant.after in
+    let k = c.self.invariant in
+    let old_alone = length-map i.machine.processes.items stack_of ∙ k.alone in
+    let new_alone = length-map c.turn.new.self.processes.items stack_of ∙ c.turn.ensures.processes ∙ k.alone in
+    let view = view-is i.image i.cells h (snapshot_of c.turn.new.self) after.after supported new_alone k.first k.quiet ∙ sym (view-is i.image i.cells h (snapshot_of i.machine) k.after.after supported old_alone k.first k.quiet) in
+    let value : record (core_value i) { history = c.reserve.new.self.items; view = machine_view i.image (snapshot_of c.turn.new.self) } ≡ core_value i = λ j. record (core_value i) { history = c.reserve.ensures.items j; view = view j } in
+    let told = err_from_is_err_and c.from_residual-in_err-turn.result c.from_residual-in_err-turn.ensures.1 in
+    rw (told.1, told.2, ← c.self.view_is) ((none, going), alive, lt, value)
+
+pub invariant_of-self-then-self : goal.invariant_of-self-then-self
+invariant_of-self-then-self c =
+    let i = c.self.inside in
+    let h = i.history.items in
+    let p = c.args.p in
+    let e : Entry = record { process = p; steps = 1 } in
+    let h' = c.note.new.history.items in
+    let is : h' ≡ h ++ e ∷ [] = c.note.ensures ∙ ap (λ es. es ++ e ∷ []) c.reserve.ensures.items in
+    let done = c.in_ok-turn.ensures.stepped i.cells (schedule_of h) c.self.invariant.after in
+    let lt : length h < i.limit = omega (arith, c.len.ensures) in
+    let m = c.turn.new.self in
+    let none : i.stop ≡ None = search rules in
+    let law : AreQuiet i.image i.cells = λ choices n q h going. c.living_processes_are_quiet.ensures i.image i.cells choices n q c.is_runnable.ensures.accepted c.is_runnable.ensures.supported h going in
+    let was = halted-is i.image i.cells h (snapshot_of i.machine) c.self.invariant.after.after ∙ subst (IsStop i.image i.limit h) none c.self.invariant.named in
+    record {
+      after = after-next i.image i.cells h p h' is done.0 m done.1;
+      alone = c.turn.ensures.processes ∙ c.self.invariant.alone;
+      first = first-next i.image i.cells h p h' is done.0 m done.1 law (snapshot_of i.machine) c.self.invariant.after.after was c.self.invariant.first c.self.invariant.quiet;
+      quiet = quiet-next i.image i.cells h p h' is done.0 m done.1 law (snapshot_of i.machine) c.self.invariant.after.after was c.self.invariant.first c.self.invariant.quiet;
+      unlisted = unlisted-next i.image i.cells h p h' is done.0 c.self.invariant.unlisted;
+      legal = legal-next i.image i.cells h p h' is done.0 m done.1 i.limit c.self.invariant.legal lt;
+      named = ap (λ (s : State). s.halted) (state-next i.image i.cells h p h' is done.0) ∙ sym (halted-next i.image i.cells h p h' is done.0 m done.1) ∙ c.if-self.true;
+    }
+
+pub invariant_of-self-else-self : goal.invariant_of-self-else-self
+invariant_of-self-else-self c =
+    let i = c.self.inside in
+    let h = i.history.items in
+    let p = c.args.p in
+    let e : Entry = record { process = p; steps = 1 } in
+    let h' = c.note.new.history.items in
+    let is : h' ≡ h ++ e ∷ [] = c.note.ensures ∙ ap (λ es. es ++ e ∷ []) c.reserve.ensures.items in
+    let done = c.in_ok-turn.ensures.stepped i.cells (schedule_of h) c.self.invariant.after in
+    let lt : length h < i.limit = omega (arith, c.len.ensures) in
+    let m = c.turn.new.self in
+    let none : i.stop ≡ None = search rules in
+    let law : AreQuiet i.image i.cells = λ choices n q h going. c.living_processes_are_quiet.ensures i.image i.cells choices n q c.is_runnable.ensures.accepted c.is_runnable.ensures.supported h going in
+    let was = halted-is i.image i.cells h (snapshot_of i.machine) c.self.invariant.after.after ∙ subst (IsStop i.image i.limit h) none c.self.invariant.named in
+    record {
+      after = after-next i.image i.cells h p h' is done.0 m done.1;
+      alone = c.turn.ensures.processes ∙ c.self.invariant.alone;
+      first = first-next i.image i.cells h p h' is done.0 m done.1 law (snapshot_of i.machine) c.self.invariant.after.after was c.self.invariant.first c.self.invariant.quiet;
+      quiet = quiet-next i.image i.cells h p h' is done.0 m done.1 law (snapshot_of i.machine) c.self.invariant.after.after was c.self.invariant.first c.self.invariant.quiet;
+      unlisted = unlisted-next i.image i.cells h p h' is done.0 c.self.invariant.unlisted;
+      legal = legal-next i.image i.cells h p h' is done.0 m done.1 i.limit c.self.invariant.legal lt;
+      named = subst (IsStop i.image i.limit h') (sym none) (ap (λ (s : State). s.halted) (state-next i.image i.cells h p h' is done.0) ∙ sym (halted-next i.image i.cells h p h' is done.0 m done.1) ∙ c.if-self.false);
+    }
+
+pub returns-then-self : goal.returns-then-self
+returns-then-self c =
+    let i = c.self.inside in
+    let h = i.history.items in
+    let p = c.args.p in
+    let e : Entry = record { process = p; steps = 1 } in
+    let h' = c.note.new.history.items in
+    let is : h' ≡ h ++ e ∷ [] = c.note.ensures ∙ ap (λ es. es ++ e ∷ []) c.reserve.ensures.items in
+    let done = c.in_ok-turn.ensures.stepped i.cells (schedule_of h) c.self.invariant.after in
+    let lt : length h < i.limit = omega (arith, c.len.ensures) in
+    let m = c.turn.new.self in
+    let none : i.stop ≡ None = search rules in
+    let going = subst (IsStop i.image i.limit h) none c.self.invariant.named in
+    let s = next i.image i.cells h p h' is done.0 in
+    let halted : s.halted ≡ true = sym (halted-next i.image i.cells h p h' is done.0 m done.1) ∙ c.if-self.true in
+    let stop : Some Halted ≡ stop_after s = rw halted refl in
+    let law : AreQuiet i.image i.cells = λ choices n q h going. c.living_processes_are_quiet.ensures i.image i.cells choices n q c.is_runnable.ensures.accepted c.is_runnable.ensures.supported h going in
+    let was = halted-is i.image i.cells h (snapshot_of i.machine) c.self.invariant.after.after ∙ subst (IsStop i.image i.limit h) none c.self.invariant.named in
+    let alone = length-map m.processes.items stack_of ∙ c.turn.ensures.processes ∙ c.self.invariant.alone in
+    let view = view-next i.image i.cells h p h' is done.0 m done.1 law (snapshot_of i.machine) c.self.invariant.after.after was c.self.invariant.first c.self.invariant.quiet c.is_runnable.ensures.supported alone in
+    rw (← c.self.view_is) ((none, going), lt, (s, steps-on i.image i.cells h p h' is done.0, λ j. record (core_value i) { history = is j; stop = stop j; view = view j }))
+
+pub returns-else-self : goal.returns-else-self
+returns-else-self c =
+    let i = c.self.inside in
+    let h = i.history.items in
+    let p = c.args.p in
+    let e : Entry = record { process = p; steps = 1 } in
+    let h' = c.note.new.history.items in
+    let is : h' ≡ h ++ e ∷ [] = c.note.ensures ∙ ap (λ es. es ++ e ∷ []) c.reserve.ensures.items in
+    let done = c.in_ok-turn.ensures.stepped i.cells (schedule_of h) c.self.invariant.after in
+    let lt : length h < i.limit = omega (arith, c.len.ensures) in
+    let m = c.turn.new.self in
+    let none : i.stop ≡ None = search rules in
+    let going = subst (IsStop i.image i.limit h) none c.self.invariant.named in
+    let s = next i.image i.cells h p h' is done.0 in
+    let halted : s.halted ≡ false = sym (halted-next i.image i.cells h p h' is done.0 m done.1) ∙ c.if-self.false in
+    let stop : i.stop ≡ stop_after s = none ∙ rw halted refl in
+    let law : AreQuiet i.image i.cells = λ choices n q h going. c.living_processes_are_quiet.ensures i.image i.cells choices n q c.is_runnable.ensures.accepted c.is_runnable.ensures.supported h going in
+    let was = halted-is i.image i.cells h (snapshot_of i.machine) c.self.invariant.after.after ∙ subst (IsStop i.image i.limit h) none c.self.invariant.named in
+    let alone = length-map m.processes.items stack_of ∙ c.turn.ensures.processes ∙ c.self.invariant.alone in
+    let view = view-next i.image i.cells h p h' is done.0 m done.1 law (snapshot_of i.machine) c.self.invariant.after.after was c.self.invariant.first c.self.invariant.quiet c.is_runnable.ensures.supported alone in
+    rw (← c.self.view_is) ((none, going), lt, (s, steps-on i.image i.cells h p h' is done.0, λ j. record (core_value i) { history = is j; stop = stop j; view = view j }))

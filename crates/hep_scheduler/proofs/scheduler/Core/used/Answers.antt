@@ -1,0 +1,18 @@
+use Rattle.std.proofs.Common.{◌∙◌, ap, sym}
+use Rattle.hep_machine.specs.Layout.{is_held, used_cells}
+use Rattle.hep_machine.specs.Run.{run, schedule_of}
+use Rattle.hep_frames.specs.Descriptors.{wanted_of}
+use Rattle.hep_frames.specs.Tree.{is_stacked}
+use Rattle.hep_scheduler.proofs.Histories.{state-is}
+use Rattle.hep_scheduler.proofs.scheduler.Core.used.Goals as goal
+
+pub returns : goal.returns
+returns c =
+    let i = c.self.inside in
+    let choices = schedule_of i.history.items in
+    let s = run i.image choices in
+    let after = c.self.invariant.after.after in
+    rw (← c.self.view_is) (
+    c.used.ensures.used i.image s (is_stacked s) (is_held s) after.layout (wanted_of i.image s after.layout) after.shows.keeps
+    ∙ sym (c.layouts_have_what_is_held.ensures.used i.image i.cells choices after.layout after.laid)
+    ∙ ap (used_cells i.image is_held) (sym (state-is i.image i.history.items)))

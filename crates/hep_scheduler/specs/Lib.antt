@@ -1,0 +1,4 @@
+pub mod Value
+pub mod Seen
+pub mod Quiet
+pub mod Invariant

@@ -1,0 +1,98 @@
+-- What a core is to its callers, and what a choice makes of it: docs/MACHINE.md, "Histories" and "Which process comes next".
+use Rattle.std.specs.Prelude.{◌≡◌, ◌≢◌, ◌⊎◌, ℕ, zero, suc, ◌<◌, Bool, true, false, if◌then◌else◌, List, [], ◌∷◌, ◌++◌, Option, Some, None, IsSome, Result, Ok, Err, length}
+use Rattle.hep_machine.specs.declared.event.Entry.{Entry}
+use Rattle.hep_source.specs.Units.{Units}
+use Rattle.hep_machine.specs.State.{State}
+use Rattle.hep_machine.specs.Step.{step, is_waiting}
+use Rattle.hep_machine.specs.Run.{state_after}
+use Rattle.hep_machine.specs.Layout.{is_held, opening_layout}
+use Rattle.hep_machine.specs.Schedules.{living_from, next_ready, progress_after, ready_in}
+use Rattle.hep_machine.specs.Views.{View, view_of}
+use Rattle.hep_machine.specs.Processes.{living}
+use Rattle.hep_scheduler.specs.declared.stop.Stop.{Stop}
+use Rattle.hep_scheduler.specs.declared.stop.Stop.TheVariants.{Halted, ArenaFull, StepLimit}
+use Rattle.hep_scheduler.specs.declared.stop.Turn.{Turn}
+use Rattle.hep_scheduler.specs.declared.stop.Verdict.{Verdict}
+use Rattle.hep_scheduler.specs.declared.stop.Verdict.TheVariants.{Stopped, Done, Waiting, Running}
+use Rattle.hep_scheduler.specs.declared.fault.ChooseFault.{ChooseFault}
+use Rattle.hep_scheduler.specs.declared.fault.ChooseFault.TheVariants as refused
+use Rattle.hep_scheduler.specs.declared.fault.NewFault.{NewFault}
+use Rattle.hep_scheduler.specs.declared.fault.NewFault.TheVariants as unmade
+
+-- the program, the cells of the arena, the longest history, the history, the stop, and what is seen of the state
+pub record CoreValue : Type 0 where
+  pub program : Units
+  pub cells : ℕ
+  pub limit : ℕ
+  pub history : List Entry
+  pub stop : Option Stop
+  pub view : View
+
+-- the source machine's state after the history
+abbrev pub state_of : CoreValue → State
+state_of core = state_after core.program core.history
+
+-- a core that has made no step
+abbrev pub opening_of : Units → ℕ → ℕ → CoreValue
+opening_of program cells limit =
+    record { program = program; cells = cells; limit = limit; history = []; stop = None; view = view_of program is_held (state_after program []) }
+
+-- there is no core where the main program's frame has no gap in the arena, and memory is asked for only where it has
+abbrev pub IsNewFault : NewFault → Units → ℕ → Type 0
+IsNewFault unmade.NoMemory program cells = IsSome (opening_layout program cells)
+IsNewFault unmade.ArenaFull program cells = opening_layout program cells ≡ None
+
+-- ---- choices
+
+abbrev pub stop_after : State → Option Stop
+stop_after s = if s.halted then Some Halted else None
+
+-- the core with one entry more, and in the state s
+abbrev pub core_after_choice : CoreValue → ℕ → ℕ → State → CoreValue
+core_after_choice old p n s =
+    record old { history = old.history ++ record { process = p; steps = n } ∷ []; stop = stop_after s; view = view_of old.program is_held s }
+
+-- p made a step, or was found waiting
+abbrev pub IsTurn : CoreValue → ℕ → ℕ → Bool → CoreValue → Type 0
+IsTurn old p (suc zero) false new = (s : State) × (step old.program p (state_of old) ≡ Some s) × (new ≡ core_after_choice old p 1 s)
+IsTurn old p zero true new =
+    (is_waiting old.program (state_of old) p ≡ true) × (new ≡ core_after_choice old p 0 (state_of old))
+IsTurn old p _ _ new = ⊥
+
+-- the core has no stop
+abbrev pub HasNoStop : CoreValue → Type 0
+HasNoStop core = (core.stop ≡ None) × ((state_of core).halted ≡ false)
+
+-- what came of a choice of p: a stop is reported first, then that p doesn't live, then that the history is full, and want of memory last
+abbrev pub IsChoice : CoreValue → ℕ → Result Turn ChooseFault → CoreValue → Type 0
+IsChoice old p (Ok turn) new = HasNoStop old × (length old.history < old.limit) × IsTurn old p turn.steps turn.blocked new
+IsChoice old p (Err (refused.Stopped stop)) new =
+    ((old.stop ≡ Some stop) × (new ≡ old))
+    ⊎ (HasNoStop old × (living (state_of old) p ≢ None) × (length old.history ≡ old.limit) × (stop ≡ StepLimit) × (new ≡ record old { stop = Some StepLimit }))
+IsChoice old p (Err refused.NoSuchProcess) new = HasNoStop old × (living (state_of old) p ≡ None) × (new ≡ old)
+IsChoice old p (Err refused.NoMemory) new = HasNoStop old × (living (state_of old) p ≢ None) × (length old.history < old.limit) × (new ≡ old)
+
+-- ---- stops
+
+-- a stop by its name, and none: the core is Halted just where the machine is; no step of a supported program makes a frame
+abbrev pub IsStop : Units → ℕ → List Entry → Option Stop → Type 0
+IsStop program limit history None = (state_after program history).halted ≡ false
+IsStop program limit history (Some Halted) = (state_after program history).halted ≡ true
+IsStop program limit history (Some StepLimit) = ((state_after program history).halted ≡ false) × (length history ≡ limit)
+IsStop program limit history (Some ArenaFull) = ⊥
+
+-- nothing lives, or all that lives is listed as waiting, or something is ready
+abbrev pub verdict_by : Option Stop → List ℕ → List ℕ → Verdict
+verdict_by (Some stop) alive ready = Stopped stop
+verdict_by None [] ready = Done
+verdict_by None (p ∷ ps) [] = Waiting
+verdict_by None (p ∷ ps) (q ∷ qs) = Running
+
+abbrev pub verdict_of : CoreValue → Verdict
+verdict_of core =
+    verdict_by core.stop (living_from 1 (state_of core).processes) (ready_in (progress_after core.program core.history))
+
+-- ---- the process that comes next by itself
+
+abbrev pub next_ready_of : CoreValue → Option ℕ
+next_ready_of core = next_ready core.program core.history

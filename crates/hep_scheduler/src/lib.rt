@@ -1,0 +1,12 @@
+//! The scheduler core: the run of an image by single steps, choice by choice, with its history.
+#![tactic(auto)]
+
+pub mod fault;
+pub mod laws;
+pub mod scheduler;
+pub mod stop;
+
+pub use fault::{ChooseFault, NewFault};
+pub use hep_machine::{Entry, Fault};
+pub use scheduler::Core;
+pub use stop::{Stop, Turn, Verdict};

@@ -1,0 +1,192 @@
+//! The core: a run of an image, one choice at a time, with its history.
+ghost use Rattle.std.specs.Prelude.{◌≡◌, ◌≤◌, ◌<◌, ◌++◌, ◌∷◌, [], None, Some, IsSome, IfOk, OnOk, IfErr, vec_len, vec_capacity};
+ghost use Rattle.hep_machine.specs.Histories.{IsLegal};
+ghost use Rattle.hep_machine.specs.Layout.{is_held, opening_layout, used_cells};
+ghost use Rattle.hep_machine.specs.Views.{view_of};
+ghost use Rattle.hep_scheduler.specs.Value.{state_of, opening_of, IsNewFault, IsChoice, IsStop, verdict_of, next_ready_of};
+
+use crate::fault::{ChooseFault, NewFault};
+use crate::laws::living_processes_are_quiet;
+use crate::stop::{Stop, Turn, Verdict};
+use hep_frames::laws::layouts_have_what_is_held;
+use hep_image::Image;
+use hep_machine::{Entry, Fault, Record};
+use hep_state::{Machine, fits};
+use std::alloc::Global;
+use std::marker::Model;
+
+// The main program's.
+const FIRST_PROCESS: u64 = 1;
+
+/// A run of an image. Contracts see the program, the cells of the arena, the longest history, the
+/// history, the stop, and what is seen of the state.
+#[derive(Drop)]
+pub struct Core {
+    alloc: Global,
+    image: Image,
+    cells: u32,
+    limit: u64,
+    history: Vec<Entry>,
+    stop: Option<Stop>,
+    machine: Machine,
+}
+
+impl Model for Core {
+    ghost use Rattle.hep_scheduler.specs.Value.{CoreValue};
+    ghost use Rattle.hep_source.specs.contracts.expression.Expr as expression;
+    ghost use Rattle.std.specs.Coded.{codes};
+
+    ghost Value = { CoreValue };
+
+    ghost coded = { Prim.hlevel (codes, expression.the_row.coded) };
+
+    ghost use Rattle.hep_scheduler.specs.Invariant.{core_value, CoreInvariant};
+
+    ghost view = { core_value };
+
+    ghost invariant = { CoreInvariant };
+}
+
+impl Core {
+    /// A core at the program's opening: an arena of so many cells, 1 to 16,777,216, and so many entries of the
+    /// history at most.
+    ///
+    /// # Errors
+    ///
+    /// `ArenaFull` where COMMON and the main program's frame don't fit the arena, which is found before memory is
+    /// asked for; `NoMemory`.
+    pub fn new(alloc: Global, image: Image, cells: u32, steps: u64) -> Result<Core, NewFault>
+        requires some { 1 ≤ cells }
+        requires few { cells ≤ 16777216 }
+        ensures fits { OnOk result (IsSome (opening_layout image cells)) }
+        ensures made { IfOk result (λ core. core ≡ opening_of image cells steps) }
+        ensures unmade { IfErr result (λ e. IsNewFault e image cells) }
+    {
+        image.is_runnable();
+        living_processes_are_quiet();
+        if !fits(&image, cells) {
+            return Err(NewFault::ArenaFull);
+        }
+        let machine = Machine::open(alloc, &image, cells)?;
+        Ok(Core {
+            alloc,
+            image,
+            cells,
+            limit: steps,
+            history: Vec::new(alloc),
+            stop: None,
+            machine,
+        })
+    }
+
+    /// A turn of process p: one step, or none where it waits, and one entry of the history.
+    ///
+    /// # Errors
+    ///
+    /// `Stopped` at a stop, or where the history has as many entries as it may have, which sets
+    /// the stop; `NoSuchProcess` where p was never made or has ended; `NoMemory`.
+    pub fn choose(&mut self, p: u64) -> Result<Turn, ChooseFault>
+        ensures { IsChoice self.old p result self.new }
+    {
+        if let Some(stop) = self.stop {
+            return Err(ChooseFault::Stopped(stop));
+        }
+        if !self.machine.lives(p) {
+            return Err(ChooseFault::NoSuchProcess);
+        }
+        if self.limit <= self.history.len() as u64 {
+            self.stop = Some(Stop::StepLimit);
+            return Err(ChooseFault::Stopped(Stop::StepLimit));
+        }
+        self.image.is_runnable();
+        living_processes_are_quiet();
+        self.history.reserve(1)?;
+        self.machine.turn(self.alloc, &self.image, p)?;
+        note(&mut self.history, p);
+        if self.machine.halted {
+            self.stop = Some(Stop::Halted);
+        }
+        Ok(Turn {
+            steps: 1,
+            blocked: false,
+        })
+    }
+
+    /// Does nothing: its clauses say what every core is. What is seen of a core is what is seen of
+    /// the source machine after the core's own history, the history is one that a core may have,
+    /// and a stop is what its name says.
+    pub fn headline(&self)
+        ensures view { self.now.view ≡ view_of self.now.program is_held (state_of self.now) }
+        ensures legal { IsLegal self.now.program self.now.cells self.now.limit self.now.history }
+        ensures named { IsStop self.now.program self.now.limit self.now.history self.now.stop }
+    {
+        self.image.is_runnable();
+    }
+
+    /// The process that comes next by itself: of those that live and don't wait the least above
+    /// that of the last entry, else the least.
+    pub fn next_ready(&self) -> Option<u64>
+        ensures { result ≡ next_ready_of self.now }
+    {
+        // CREATE isn't supported yet, so no process is made but the first.
+        self.machine.lives(FIRST_PROCESS).then_some(FIRST_PROCESS)
+    }
+
+    /// Whether the run goes on.
+    pub fn verdict(&self) -> Verdict
+        ensures { result ≡ verdict_of self.now }
+    {
+        match self.stop {
+            Some(stop) => Verdict::Stopped(stop),
+            None if self.machine.lives(FIRST_PROCESS) => Verdict::Running,
+            None => Verdict::Done,
+        }
+    }
+
+    /// How many cells of the arena are taken.
+    pub fn used(&self) -> u32
+        ensures { result ≡ used_cells self.now.program is_held (state_of self.now) }
+    {
+        layouts_have_what_is_held();
+        self.machine.frames.used()
+    }
+
+    /// The records so far.
+    pub fn output(&self) -> &[Record]
+        ensures { result.now ≡ (state_of self.now).records }
+    {
+        &self.machine.records
+    }
+
+    /// The faults so far.
+    pub fn faults(&self) -> &[Fault]
+        ensures { result.now ≡ (state_of self.now).faults }
+    {
+        &self.machine.faults
+    }
+
+    /// The history.
+    pub fn history(&self) -> &[Entry]
+        ensures { result.now ≡ self.now.history }
+    {
+        &self.history
+    }
+
+    /// The image that runs.
+    pub fn image(&self) -> &Image
+        ensures { result.now ≡ self.now.program }
+    {
+        &self.image
+    }
+}
+
+// An entry of one step of process p, for which there is room.
+fn note(history: &mut Vec<Entry>, p: u64)
+    requires { vec_len history.old < vec_capacity history.old }
+    ensures { history.new.items ≡ history.old.items ++ record { process = p; steps = 1 } ∷ [] }
+{
+    let _ = history.push(Entry {
+        process: p,
+        steps: 1,
+    });
+}

@@ -1,0 +1,36 @@
+//! What a core answers.
+
+/// Why a core is at a stop, at which every further choice is refused (docs/MACHINE.md, "Which
+/// process comes next").
+#[derive(Clone, Copy, Debug, PartialEq, Eq)]
+pub enum Stop {
+    /// A STOP ran.
+    Halted,
+    /// A frame had no gap in the arena. No core has this stop yet: only the main program has a
+    /// frame, and without a gap for it no core is made (`NewFault::ArenaFull`).
+    ArenaFull,
+    /// The history has as many entries as it may have, and a living process was chosen.
+    StepLimit,
+}
+
+/// A turn, which is what came of a choice: one step, or none because the process waits.
+#[derive(Clone, Copy, Debug, PartialEq, Eq)]
+pub struct Turn {
+    /// How many steps the process made: 1, or 0 where it waits.
+    pub steps: u32,
+    /// Whether the process waits. So far none ever does.
+    pub blocked: bool,
+}
+
+/// Whether a run goes on, and why not.
+#[derive(Clone, Copy, Debug, PartialEq, Eq)]
+pub enum Verdict {
+    /// The run is over, by this stop.
+    Stopped(Stop),
+    /// The run is over: no process lives.
+    Done,
+    /// The run is over: all living processes wait. So far none ever does.
+    Waiting,
+    /// A process can be chosen.
+    Running,
+}
