@@ -62,14 +62,17 @@ own-sized unit x has = by_kind (is_array unit x) refl where
       let one : cells_of_shape (constant_shape unit x) ≡ 1 = ap (λ b. cells_of_shape (if b then shape_by unit (constant_value unit) x else Some [])) is in
       (omega (arith, one), omega (arith, one))
 
+-- a dummy array's bounds are a shape
+pub dummy-shape : (unit : List Statement) (a : ℕ) (x : Name) (d : Dummy) → IsBoundTo unit a x d → is_array unit x ≡ true → is_shape d.shape ≡ true
+dummy-shape unit a x d h is = by_test (nat_eq (adjustable_dimensions unit x) 0) refl where
+  by_test : (b : Bool) → nat_eq (adjustable_dimensions unit x) 0 ≡ b → is_shape d.shape ≡ true
+  by_test true t = (constant-shape unit x d.shape is (h.constant is (eqb-true (adjustable_dimensions unit x) 0 t))).0
+  by_test false t = (h.adjustable is (eqb-false (adjustable_dimensions unit x) 0 t)).1
+
 dummy-sized : (unit : List Statement) (a : ℕ) (x : Name) (d : Dummy) → IsBoundTo unit a x d → IsSize (unwrap_or (elements d.shape) d.rest)
 dummy-sized unit a x d h = (by_kind (is_array unit x) refl, omega (arith, fits-within d.shape d.rest h.fitting, h.few)) where
-  array-shape : is_array unit x ≡ true → (b : Bool) → nat_eq (adjustable_dimensions unit x) 0 ≡ b → is_shape d.shape ≡ true
-  array-shape is true t = (constant-shape unit x d.shape is (h.constant is (eqb-true (adjustable_dimensions unit x) 0 t))).0
-  array-shape is false t = (h.adjustable is (eqb-false (adjustable_dimensions unit x) 0 t)).1
-
   by_kind : (b : Bool) → is_array unit x ≡ b → 1 ≤ unwrap_or (elements d.shape) d.rest
-  by_kind true is = shape-some d.shape d.rest (array-shape is (nat_eq (adjustable_dimensions unit x) 0) refl) h.some
+  by_kind true is = shape-some d.shape d.rest (dummy-shape unit a x d h is) h.some
   by_kind false is = subst (λ (bs : Bounds). 1 ≤ unwrap_or (elements bs) d.rest) (sym (h.scalar is)) (omega arith)
 
 unit-closed : (program : Units) (u : ℕ) (x : Name) → AreClosed program → index_among x (dummies_of (unit_at program u)) ≡ None → is_array (unit_at program u) x ≡ true → HasElements (unit_at program u) x
@@ -78,7 +81,7 @@ unit-closed program u x closed = by_unit (slice_get program u) refl where
   by_unit None e none is = absurd cc
   by_unit (Some unit) e none is = closed u unit x e is none
 
-scope-sized : (program : Units) (s : State) (a : ℕ) → AreClosed program → IsBound program s a → AreSized (scope_of program s a)
+pub scope-sized : (program : Units) (s : State) (a : ℕ) → AreClosed program → IsBound program s a → AreSized (scope_of program s a)
 scope-sized program s a closed bound x = by_index (index_among x (dummies_of (scope_of program s a).unit)) refl where
   by_index : (o : Option ℕ) → index_among x (dummies_of (scope_of program s a).unit) ≡ o → IsSize (storage_by_dummy (scope_of program s a) x o).rest
   by_index None e = own-sized (scope_of program s a).unit x (unit-closed program (activation_of s a).unit x closed e)

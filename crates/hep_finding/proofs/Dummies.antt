@@ -106,7 +106,7 @@ module _ (program : Units) (s : State) (layout : Layout) (contents : List Slot) 
   abbrev IsKept : Type 0
   IsKept = RunsFrom program s layout dummy.start dummy.rest (base_at cells f.first at) × (rest_at cells f.first at ≡ dummy.rest)
 
-  kept-value : is_owned a dummy.start ≡ true → (dummy.start ≡ local a x 1) × (dummy.rest ≡ 1) → IsKept
+  pub kept-value : is_owned a dummy.start ≡ true → (dummy.start ≡ local a x 1) × (dummy.rest ≡ 1) → IsKept
   kept-value own is =
       let none = second unset_cell (tells-value program s layout contents a f describes framed x k e own) in
       let base : base_at cells f.first at ≡ f.first + first_of_part unit (argument x) = ap (λ (slot : Slot). base_of_dummy cells f.first (first_of_part unit (argument x)) slot.value) none in
@@ -117,7 +117,7 @@ module _ (program : Units) (s : State) (layout : Layout) (contents : List Slot) 
         rest ∙ sym is.1,
       )
 
-  kept-reference : (base : ℕ) → is_owned a dummy.start ≡ false → RunsFrom program s layout dummy.start dummy.rest base → IsKept
+  pub kept-reference : (base : ℕ) → is_owned a dummy.start ≡ false → RunsFrom program s layout dummy.start dummy.rest base → IsKept
   kept-reference base other runs = (by_rest dummy.rest refl, ap (λ (slot : Slot). rest_of_dummy cells f.first slot.value) some) where
     some : cells (f.first + suc (first_of_part unit (argument x))) ≡ number (pos dummy.rest)
     some = second (number (pos dummy.rest)) (tells-rest program s layout contents a f describes framed x k e other)
@@ -144,7 +144,7 @@ module _ (program : Units) (s : State) (layout : Layout) (contents : List Slot) 
         ∙ bounds-read cells f.first (first_of_part unit (bounds x)) dummy.shape (λ i slot less wants. ap (λ o. unwrap_or o unset_cell) (
         tells-bounds program s layout contents a f describes framed x k i slot e (subst (λ n. i < 2 * n) known.0 less) wants)))
 
-  dummy-found : IsBoundTo unit a x dummy → IsKept → IsFound program s layout cells a f x at
+  pub dummy-found : IsBoundTo unit a x dummy → IsKept → IsFound program s layout cells a f x at
   dummy-found bound kept =
       let storage : storage_of (scope_of program s a) x ≡ storage_of_dummy dummy = ap (storage_by_dummy (scope_of program s a) x) e in
       let rest : (storage_of (scope_of program s a) x).rest ≡ unwrap_or (elements dummy.shape) dummy.rest = ap (λ (z : StorageSequence). z.rest) storage in
@@ -158,7 +158,7 @@ module _ (program : Units) (s : State) (layout : Layout) (contents : List Slot) 
         counted = λ is. ap (λ (bs : Bounds). unwrap_or (elements bs) (rest_at cells f.first at)) (shaped bound is) ∙ (ap (unwrap_or (elements dummy.shape)) kept.1 ∙ sym rest);
       }
 
-  bound-dummy : IsBound program s a → IsBoundTo unit a x dummy
+  pub bound-dummy : IsBound program s a → IsBoundTo unit a x dummy
   bound-dummy bound =
       let there = bound x k e in
       subst (IsBoundTo unit a x) (sym (ap (λ o. unwrap_or o no_dummy) there.1)) there.2

@@ -105,7 +105,7 @@ module _ (program : Units) (s : State) (layout : Layout) (cells : ℕ → Slot) 
         subst (λ z. RunsFrom program s layout (storage x).start (storage x).rest (base_at cells f.first z) × (rest_at cells f.first z ≡ 0)) (same_Some (Local (first_of_part unit (variable x))) at e) (storage-local program s layout a x f framed h, refl)
     by_block None false g h e = absurd (none-some at e)
 
-  own-found : (x : Name) (at : Start) → slice_get program (unit_of s a) ≡ Some unit → index_among x (dummies_of unit) ≡ None → start_of program unit x ≡ Some at → HasConstantShape unit x → IsFound program s layout cells a f x at
+  pub own-found : (x : Name) (at : Start) → slice_get program (unit_of s a) ≡ Some unit → index_among x (dummies_of unit) ≡ None → start_of program unit x ≡ Some at → HasConstantShape unit x → IsFound program s layout cells a f x at
   own-found x at there none e has =
       let is = shaped-constant unit x has in
       let kept = runs x at there none e in

@@ -23,13 +23,16 @@ use Rattle.hep_frames.specs.Descriptors.{Describes, wanted_of}
 use Rattle.hep_frames.proofs.Addresses.{address-out}
 use Rattle.hep_frames.proofs.Frames.{among}
 use Rattle.hep_frames.proofs.Memory.{frame-is-out}
+use Rattle.hep_frames.specs.Rows.{argument, first_of_part}
+use Rattle.hep_image.specs.declared.array.Start.{Start}
+use Rattle.hep_image.specs.declared.array.Start.TheVariants.{Dummy}
 use Rattle.hep_image.specs.Places.{start_of, variable_by, variable_of}
-use Rattle.hep_finding.specs.Bound.{AreKept, IsBound}
+use Rattle.hep_finding.specs.Bound.{AreKept, IsBound, IsBoundTo}
 use Rattle.hep_image.specs.Finding.{cells_in}
 use Rattle.hep_finding.specs.Constant.{HasConstantShape}
-use Rattle.hep_finding.proofs.Dummies.{dummy-addressed}
-use Rattle.hep_finding.proofs.Found.{IsAddressedBy}
-use Rattle.hep_finding.proofs.Own.{own-addressed}
+use Rattle.hep_finding.proofs.Dummies.{bound-dummy, dummy-found, kept-reference, kept-value}
+use Rattle.hep_finding.proofs.Found.{IsAddressedBy, IsFound, addressed}
+use Rattle.hep_finding.proofs.Own.{own-found}
 
 -- the address of a location
 same-at : (program : Units) (s : State) (layout : Layout) (found : Result ℕ Kind) (there : Result Location Kind) (p : ℕ) → IsSame (address program s layout) found there → found ≡ Ok p → (at : Location) × (address program s layout at ≡ Some p)
@@ -54,14 +57,32 @@ begins : (program : Units) (unit : List Statement) (x : Name) → variable_of pr
 unfolding variable_of
 begins program unit x there none = there (ap (variable_by unit x) none)
 
+-- where any variable of an activation's unit begins, it is found
+pub any-found : (program : Units) (s : State) (layout : Layout) (contents : List Slot) (a : ℕ) (f : Frame) (x : Name)
+    → Describes program s layout (wanted_of program s layout) contents → frame_among a layout ≡ Some f → slice_get program (unit_of s a) ≡ Some (unit_at program (unit_of s a)) → IsBound program s a → AreKept program s layout a
+    → (index_among x (dummies_of (unit_at program (unit_of s a))) ≡ None → HasConstantShape (unit_at program (unit_of s a)) x) → variable_of program (unit_at program (unit_of s a)) x ≢ Absent
+    → (at : Start) × IsFound program s layout (cells_in contents) a f x at
+any-found program s layout contents a f x describes framed unit bound kept own there = by_index (index_among x (dummies_of (unit_at program (unit_of s a)))) refl where
+  by_start : index_among x (dummies_of (unit_at program (unit_of s a))) ≡ None → (o : Option Start) → start_of program (unit_at program (unit_of s a)) x ≡ o → (at : Start) × IsFound program s layout (cells_in contents) a f x at
+  by_start e None b = absurd (begins program (unit_at program (unit_of s a)) x there b)
+  by_start e (Some at) b = (at, own-found program s layout (cells_in contents) a f framed x at unit e b (own e))
+
+  by_index : (o : Option ℕ) → index_among x (dummies_of (unit_at program (unit_of s a))) ≡ o → (at : Start) × IsFound program s layout (cells_in contents) a f x at
+  by_index None e = by_start e (start_of program (unit_at program (unit_of s a)) x) refl
+  by_index (Some k) e = by_owner (is_owned a (dummy_at (activation_of s a).dummies k).start) refl where
+    is_bound : IsBoundTo (unit_at program (unit_of s a)) a x (dummy_at (activation_of s a).dummies k)
+    is_bound = bound-dummy program s layout contents a f describes framed x k e bound
+
+    by_owner : (b : Bool) → is_owned a (dummy_at (activation_of s a).dummies k).start ≡ b → (at : Start) × IsFound program s layout (cells_in contents) a f x at
+    by_owner true o = (Dummy (first_of_part (unit_at program (unit_of s a)) (argument x)), dummy-found program s layout contents a f describes framed x k e is_bound (kept-value program s layout contents a f describes framed x k e o (is_bound.value o)))
+    by_owner false o =
+        let runs = kept k o in
+        (Dummy (first_of_part (unit_at program (unit_of s a)) (argument x)), dummy-found program s layout contents a f describes framed x k e is_bound (kept-reference program s layout contents a f describes framed x k e runs.0 o runs.1))
+
 pub any-addressed : (program : Units) (s : State) (layout : Layout) (contents : List Slot) (a : ℕ) (f : Frame) (x : Name) (subscripts : List Value)
     → Describes program s layout (wanted_of program s layout) contents → frame_among a layout ≡ Some f → slice_get program (unit_of s a) ≡ Some (unit_at program (unit_of s a)) → IsBound program s a → AreKept program s layout a
     → (index_among x (dummies_of (unit_at program (unit_of s a))) ≡ None → HasConstantShape (unit_at program (unit_of s a)) x) → variable_of program (unit_at program (unit_of s a)) x ≢ Absent
     → IsAddressedBy program s layout (cells_in contents) a f x subscripts (variable_of program (unit_at program (unit_of s a)) x)
-any-addressed program s layout contents a f x subscripts describes framed unit bound kept own there = by_index (index_among x (dummies_of (unit_at program (unit_of s a)))) refl where
-  by_index : (o : Option ℕ) → index_among x (dummies_of (unit_at program (unit_of s a))) ≡ o → IsAddressedBy program s layout (cells_in contents) a f x subscripts (variable_of program (unit_at program (unit_of s a)) x)
-  by_index None e = own-addressed program s layout (cells_in contents) a f framed x subscripts unit e (begins program (unit_at program (unit_of s a)) x there) (own e)
-  by_index (Some k) e = by_owner (is_owned a (dummy_at (activation_of s a).dummies k).start) refl where
-    by_owner : (b : Bool) → is_owned a (dummy_at (activation_of s a).dummies k).start ≡ b → IsAddressedBy program s layout (cells_in contents) a f x subscripts (variable_of program (unit_at program (unit_of s a)) x)
-    by_owner true o = dummy-addressed program s layout contents a f describes framed x k e 0 subscripts bound (λ other. absurd (let both : true ≡ false = sym o ∙ other in cc))
-    by_owner false o = let runs = kept k o in dummy-addressed program s layout contents a f describes framed x k e runs.0 subscripts bound (λ other. runs.1)
+any-addressed program s layout contents a f x subscripts describes framed unit bound kept own there =
+    let found = any-found program s layout contents a f x describes framed unit bound kept own there in
+    addressed program s layout (cells_in contents) a f x found.0 subscripts found.1

@@ -21,7 +21,7 @@ use Rattle.hep_placed.proofs.Placed.{unit_of_program}
 use Rattle.hep_placed.proofs.Rights.{resolved, right}
 
 -- what has a name by which it is called is no main program
-named_subroutine : (o : Option Name) (x : Name) → is_named o x ≡ true → is_main o ≡ false
+pub named_subroutine : (o : Option Name) (x : Name) → is_named o x ≡ true → is_main o ≡ false
 named_subroutine None x e = absurd (true≢false (sym e))
 named_subroutine (Some y) x e = refl
 

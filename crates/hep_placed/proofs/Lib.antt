@@ -1,11 +1,11 @@
 mod Worked
 mod Coded
-mod Facts
-mod Starts
+pub mod Facts
+pub mod Starts
 mod Rights
-mod Placed
+pub mod Placed
 pub mod Supported
-mod Values
+pub mod Values
 mod Shapes
 mod Arrays
-mod Calls
+pub mod Calls

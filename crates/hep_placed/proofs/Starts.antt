@@ -28,7 +28,7 @@ has_among (y ∷ ys) x (suc i, g) = by_test (same_name x y) (has_among ys x (i, 
   by_test true e = refl
   by_test false e = e
 
-index_some : (x : Name) (xs : List Name) → index_among x xs ≡ None → is_among x xs ≡ false
+pub index_some : (x : Name) (xs : List Name) → index_among x xs ≡ None → is_among x xs ≡ false
 index_some x [] e = refl
 index_some x (y ∷ ys) e = by_test (same_name x y) e (index_some x ys) where
   none_behind : (o : Option ℕ) → option_map suc o ≡ None → o ≡ None

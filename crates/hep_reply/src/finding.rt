@@ -21,11 +21,11 @@ use hep_source::Value;
 // The most subscripts that an element has (X3.9-1978, 5.4.2).
 const MOST_SUBSCRIPTS: usize = 7;
 
-// An element of an array by its number, counted from 1, if there is one, and whether the array's last bound is open.
+/// An element of an array by its number, counted from 1, if there is one, and whether the array's last bound is open.
 #[derive(Clone, Copy)]
-struct Numbered {
-    number: Option<u32>,
-    is_open: bool,
+pub struct Numbered {
+    pub number: Option<u32>,
+    pub is_open: bool,
 }
 
 /// The cell of a variable, or of its element with these subscripts, in a unit with these arrays.
@@ -91,8 +91,8 @@ fn of_element(
     Ok((base(arena, frame, array.start) + (number - 1)) as usize)
 }
 
-// The element that these subscripts name.
-fn number_in(arena: &Arena, frame: Frame, extents: &Extents, subscripts: &[Value]) -> Numbered
+/// The element that these subscripts name (X3.9-1978, 5.4), in an array with such bounds.
+pub fn number_in(arena: &Arena, frame: Frame, extents: &Extents, subscripts: &[Value]) -> Numbered
     requires frame { HasFrame arena.now frame }
     requires extents { AreExtentsIn frame.cells extents.now }
     ensures number { result.number ≡ counted_element (bounds_at (cells_in arena.now.contents) frame.first extents.now) (integers_of subscripts.now) }

@@ -1,0 +1,5 @@
+pub mod References
+pub mod Actuals
+pub mod Entries
+pub mod Ready
+mod Worked

@@ -1,0 +1,162 @@
+-- What a variable, an array or an element passes is what the source machine's dummy argument stands for.
+use Rattle.std.proofs.Common.{◌≡◌, ◌≢◌, ℕ, ◌+◌, ◌-◌, ◌<◌, ◌≤◌, Bool, true, false, List, [], ◌∷◌, Option, Some, None, Result, Ok, Err, refl, sym, ap, ◌∙◌, subst, arith}
+use Rattle.std.specs.Prelude.{ℤ, if◌then◌else◌, nat_le, not, ◌&&◌}
+use Rattle.std.specs.Option.{unwrap_or}
+use Rattle.std.proofs.lemmas.Bool.Decides.{nat_tests}
+use Rattle.hep_source.specs.declared.name.Name.{Name}
+use Rattle.hep_source.specs.declared.statement.Statement.{Statement}
+use Rattle.hep_source.specs.declared.value.Value.{Value}
+use Rattle.hep_source.specs.Names.{index_among}
+use Rattle.hep_source.specs.Units.{Units, dummies_of, unit_at}
+use Rattle.hep_machine.specs.declared.event.Kind.{Kind}
+use Rattle.hep_machine.specs.declared.event.Kind.TheVariants.{Range}
+use Rattle.hep_machine.specs.declared.slot.Slot.{Slot}
+use Rattle.hep_machine.specs.Arithmetic.{integers_of}
+use Rattle.hep_machine.specs.Binding.{dummy_for, first_element, from_element}
+use Rattle.hep_machine.specs.Declarations.{is_array, is_nonempty}
+use Rattle.hep_machine.specs.Evaluation.{referred}
+use Rattle.hep_machine.specs.Layout.{Frame, Layout}
+use Rattle.hep_machine.specs.Locations.{Scope, StorageSequence, element_in, element_of, storage_of}
+use Rattle.hep_machine.specs.Processes.{unit_of}
+use Rattle.hep_machine.specs.Shapes.{Bounds, counted_element, element_number, elements, is_most, most_elements}
+use Rattle.hep_machine.specs.State.{State}
+use Rattle.hep_machine.specs.Step.{scope_of}
+use Rattle.hep_machine.specs.Storage.{further}
+use Rattle.hep_code.specs.declared.variable.Variable.TheVariants.{Absent}
+use Rattle.hep_code.specs.declared.variable.Variable.TheVariants as variables
+use Rattle.hep_frames.specs.Runs.{RunsFrom}
+use Rattle.hep_frames.proofs.Storages.{dummy-runs, element-counted}
+use Rattle.hep_image.specs.declared.array.Start.{Start}
+use Rattle.hep_image.specs.declared.array.Start.TheVariants.{Local, Common, Dummy}
+use Rattle.hep_image.specs.Finding.{base_at, bounds_at, cells_in, rest_at}
+use Rattle.hep_image.specs.Places.{array_of, arrays_of, extents_of, scalar, variable_by, variable_of}
+use Rattle.hep_finding.specs.Constant.{HasConstantShape}
+use Rattle.hep_finding.proofs.Activations.{scope-sized}
+use Rattle.hep_finding.proofs.Found.{IsFound}
+use Rattle.hep_finding.proofs.Named.{array-listed, at-index}
+use Rattle.hep_finding.proofs.Reached.{any-found}
+use Rattle.hep_passing.specs.Agreement.{IsCaller, IsPassedAs, arrays_at}
+use Rattle.hep_passing.specs.Passing.{count_of, passed_at, passed_from_element, passed_of_array, passed_of_scalar}
+
+-- ---- elements by their numbers
+
+-- a sequence of so many storage units in a row, from the element of a number on
+abbrev from_first : ℕ → ℕ → Result ℕ Kind → Result (ℕ × ℕ) Kind
+from_first base count (Err k) = Err k
+from_first base count (Ok n) = Ok (base + (n - 1), (count + 1) - n)
+
+-- no element's number is above the most that an array may have, so that it may be counted or not
+numbers-same : (e : StorageSequence) (base : ℕ) (ss : List ℤ) → e.rest ≤ most_elements → passed_from_element base e.rest (counted_element e.shape ss) ≡ from_first base e.rest (element_in e (element_number e.shape ss))
+numbers-same e base ss few = by_number (element_number e.shape ss) where
+  by_tests : (n : ℕ) (most there : Bool) → nat_le n most_elements ≡ most → nat_le n e.rest ≡ there → passed_from_element base e.rest (if most then Some n else None) ≡ from_first base e.rest (if there then Ok n else Err Range)
+  by_tests n true true m t = rw t refl
+  by_tests n true false m t = rw t refl
+  by_tests n false true m t =
+      let within : n ≤ e.rest = grind (arith, nat_tests) in
+      let past : most_elements < n = grind (arith, nat_tests) in
+      absurd (omega (arith, within, past, few))
+  by_tests n false false m t = refl
+
+  by_number : (o : Option ℕ) → passed_from_element base e.rest (if is_most o then o else None) ≡ from_first base e.rest (element_in e o)
+  by_number None = refl
+  by_number (Some n) = by_tests n (nat_le n most_elements) (nat_le n e.rest) refl refl
+
+-- ---- variables that are found
+
+module _ (program : Units) (s : State) (layout : Layout) (cells : ℕ → Slot) (a : ℕ) (f : Frame) (x : Name) (at : Start) (found : IsFound program s layout cells a f x at) where
+  abbrev unit : List Statement
+  unit = unit_at program (unit_of s a)
+
+  abbrev scope : Scope
+  scope = scope_of program s a
+
+  abbrev e : StorageSequence
+  e = storage_of scope x
+
+  abbrev base : ℕ
+  base = base_at cells f.first at
+
+  -- what x passes by the source machine
+  abbrev Same : Result (ℕ × ℕ) Kind → List Value → Type 0
+  Same r vs = r ≡ from_first base e.rest (first_element scope (x, vs))
+
+  element-first : (vs : List Value) (b : Bool) → is_array unit x ≡ b → first_element scope (x, vs) ≡ (if b && not (is_nonempty vs) then Ok 1 else element_of e vs)
+  element-first vs b is = ap (λ c. if c && not (is_nonempty vs) then Ok 1 else element_of e vs) is
+
+  -- a scalar's one element
+  one-element : (vs : List Value) (rest : ℕ) (shape : Bounds) → shape ≡ [] → rest ≡ 1 → passed_of_scalar base vs ≡ from_first base rest (element_of (record { start = e.start; rest = rest; shape = shape }) vs)
+  one-element vs rest shape none one = by_values vs ∙ sym (λ i. from_first base (one i) (element_of (record { start = e.start; rest = one i; shape = none i }) vs)) where
+    by_values : (vs : List Value) → passed_of_scalar base vs ≡ from_first base 1 (element_of (record { start = e.start; rest = 1; shape = [] }) vs)
+    by_values [] = let there : base ≡ base + (1 - 1) = omega arith in ap (λ n. Ok (n, 1)) there
+    by_values (v ∷ vs) = refl
+
+  scalar-same : (vs : List Value) → is_array unit x ≡ false → Same (passed_of_scalar base vs) vs
+  scalar-same vs is = let one = found.scalar is in one-element vs e.rest e.shape one.0 one.1 ∙ ap (from_first base e.rest) (sym (element-first vs false is))
+
+  array-same : (vs : List Value) → is_array unit x ≡ true → Same (passed_of_array cells f.first (Some (array_of program unit x)) vs) vs
+  array-same vs is = by_values vs where
+    starts : (array_of program unit x).start ≡ at
+    starts = ap (λ o. unwrap_or o (Local 0)) found.starts
+
+    count : count_of cells f.first (array_of program unit x) ≡ e.rest
+    count = ap (λ (z : Start). unwrap_or (elements (bounds_at cells f.first (extents_of unit x))) (rest_at cells f.first z)) starts ∙ found.counted is
+
+    whole : ◌≡◌ {A = Result (ℕ × ℕ) Kind} (Ok (base, e.rest)) (Ok (base + (1 - 1), (e.rest + 1) - 1))
+    whole =
+        let there : base ≡ base + (1 - 1) = omega arith in
+        let all : e.rest ≡ (e.rest + 1) - 1 = omega arith in
+        (λ i. Ok (there i, all i))
+
+    by_values : (vs : List Value) → Same (passed_of_array cells f.first (Some (array_of program unit x)) vs) vs
+    by_values [] = (λ i. Ok (base_at cells f.first (starts i), count i)) ∙ (whole ∙ ap (from_first base e.rest) (sym (element-first [] true is)))
+    by_values (v ∷ vs) =
+        (λ i. passed_from_element (base_at cells f.first (starts i)) (count i) (counted_element (found.shaped is i) (integers_of (v ∷ vs))))
+        ∙ (numbers-same e base (integers_of (v ∷ vs)) found.few ∙ ap (from_first base e.rest) (sym (element-first (v ∷ vs) true is)))
+
+  passed-same : (vs : List Value) → Same (passed_at cells f.first (arrays_at program s a) (variable_of program unit x) vs) vs
+  unfolding variable_of
+  passed-same vs = subst (λ o. Same (passed_at cells f.first (arrays_at program s a) (variable_by unit x o) vs) vs) (sym found.starts) (by_kind (is_array unit x) refl) where
+    of_scalar : (b : Bool) (z : Start) → passed_at cells f.first (arrays_at program s a) (scalar b z) vs ≡ passed_of_scalar (base_at cells f.first z) vs
+    of_scalar b (Local c) = refl
+    of_scalar b (Common c) = refl
+    of_scalar b (Dummy c) = refl
+
+    by_kind : (b : Bool) → is_array unit x ≡ b → Same (passed_at cells f.first (arrays_at program s a) (if b then variables.Array x.asynchronous (unwrap_or (index_among x (arrays_of unit)) 0) else scalar x.asynchronous at) vs) vs
+    by_kind true is = ap (λ o. passed_of_array cells f.first o vs) (at-index x (array_of program unit) (arrays_of unit) (array-listed x unit is)) ∙ array-same vs is
+    by_kind false is = of_scalar x.asynchronous at ∙ scalar-same vs is
+
+  -- the first element is there
+  first-there : (vs : List Value) (n : ℕ) → 1 ≤ e.rest → first_element scope (x, vs) ≡ Ok n → n ≤ e.rest
+  first-there vs n some h = by_test (is_array unit x && not (is_nonempty vs)) h where
+    by_test : (b : Bool) → (if b then Ok 1 else element_of e vs) ≡ Ok n → n ≤ e.rest
+    by_test true h = let one : 1 ≡ n = cc in omega (arith, one, some)
+    by_test false h = (element-counted e vs n h).1
+
+  found-passed : (vs : List Value) (b : ℕ) (y : Name) → 1 ≤ e.rest → IsPassedAs program s layout (passed_at cells f.first (arrays_at program s a) (variable_of program unit x) vs) (dummy_for scope b y (referred (x, vs)))
+  found-passed vs b y some = subst (λ r. IsPassedAs program s layout r (from_element e (first_element scope (x, vs)))) (sym (passed-same vs)) (by_first (first_element scope (x, vs)) refl) where
+    by_first : (r : Result ℕ Kind) → first_element scope (x, vs) ≡ r → IsPassedAs program s layout (from_first base e.rest r) (from_element e r)
+    by_first (Err k) h = refl
+    by_first (Ok n) h =
+        let runs = dummy-runs program s layout scope b y (x, vs) (record { start = further e.start (n - 1); rest = (e.rest + 1) - n; shape = [] }) base found.runs (ap (from_element e) h) in
+        let same : runs.0 ≡ n = cc in
+        record {
+          some = omega (arith, first-there vs n some h);
+          rest = refl;
+          shape = refl;
+          run = subst (λ m. RunsFrom program s layout (further e.start (n - 1)) ((e.rest + 1) - n) (base + (m - 1))) same runs.2;
+        }
+
+-- ---- variables of a caller
+
+module _ (program : Units) (s : State) (layout : Layout) (contents : List Slot) (a : ℕ) (f : Frame) (calls : IsCaller program s layout contents a f) where
+  own-shape : (x : Name) → index_among x (dummies_of (unit_at program (unit_of s a))) ≡ None → HasConstantShape (unit_at program (unit_of s a)) x
+  own-shape x none = λ is. let known = calls.closed (unit_of s a) (unit_at program (unit_of s a)) x calls.unit is none in (known.0, known.1)
+
+  pub caller-found : (x : Name) → variable_of program (unit_at program (unit_of s a)) x ≢ Absent → (at : Start) × IsFound program s layout (cells_in contents) a f x at
+  caller-found x there = any-found program s layout contents a f x calls.described calls.framed calls.unit calls.bound calls.kept (own-shape x) there
+
+  pub reference-passed : (x : Name) (vs : List Value) (b : ℕ) (y : Name) → variable_of program (unit_at program (unit_of s a)) x ≢ Absent
+      → IsPassedAs program s layout (passed_at (cells_in contents) f.first (arrays_at program s a) (variable_of program (unit_at program (unit_of s a)) x) vs) (dummy_for (scope_of program s a) b y (referred (x, vs)))
+  reference-passed x vs b y there =
+      let found = caller-found x there in
+      found-passed program s layout (cells_in contents) a f x found.0 found.1 vs b y (scope-sized program s a calls.closed calls.bound x).0

@@ -1,0 +1,4 @@
+pub mod Passing
+pub mod Agreement
+pub mod Entries
+pub mod Ready
