@@ -1,5 +1,6 @@
 -- What a command line may ask for: docs/MACHINE.md, "The program".
-use Rattle.std.specs.Prelude.{◌≡◌, ◌⊎◌, ℕ, ◌≤◌}
+use Rattle.std.specs.Prelude.{◌≡◌, ◌≢◌, ◌⊎◌, ℕ, ◌≤◌, List as ListOf, Option, Some, None}
+use Rattle.std.specs.Borrow.{Bor}
 use Rattle.hep_command.specs.declared.job.Job.{Job}
 use Rattle.hep_command.specs.declared.job.Job.TheVariants.{Standard, Check, Run, Replay, List, Explain}
 
@@ -17,6 +18,15 @@ IsInRange (Run file arena steps choices history) = IsArena arena × IsSteps step
 IsInRange (Replay file history arena) = IsArena arena
 IsInRange (List file) = Unit {0}
 IsInRange (Explain number) = Unit {0}
+
+-- the history isn't written to a file that is read
+abbrev pub IsNoPath : Option (Bor (ListOf ℕ)) → Bor (ListOf ℕ) → Type 0
+IsNoPath None other = Unit {0}
+IsNoPath (Some path) other = path.now ≢ other.now
+
+abbrev pub IsWrittenApart : Job → Type 0
+IsWrittenApart (Run file arena steps choices (Some history)) = (file.now ≢ history.now) × IsNoPath choices history
+IsWrittenApart _ = Unit {0}
 
 -- a text was asked for, the words are wrong, or memory was refused
 abbrev pub IsUsageStatus : ℕ → Type 0

@@ -77,7 +77,7 @@ fn check_command<'a>(alloc: Global) -> Result<Command<'a>, AllocError> {
 
 fn steps_option<'a>(alloc: Global) -> Arg<'a> {
     number_option(alloc, "steps", MOST_STEPS).help(
-        "Steps at most, 1 to 4294967296 [default: 10000000]",
+        "Entries at most, 1 to 4294967296 [default: 10000000]",
     )
 }
 

@@ -90,8 +90,8 @@ value, or one for what has a value already.
 Give each element of the main program's own variables one value of its type.
 ",
         401 => "The program is too large: COMMON or the variables of a unit take more than
-16,777,216 cells, or the code of a unit has more than 1,048,576 instructions.
-Declare shorter arrays, or cut the unit in two.
+16,777,216 cells, or its code has more than 1,048,576 instructions.
+Declare shorter arrays, or write a shorter program.
 ",
         402 => "The statement needs more than 256 operands at once, each a name, a constant or
 the value of an expression that waits for another one.

@@ -1,6 +1,6 @@
 //! The words of a command line.
-ghost use Rattle.std.specs.Prelude.{◌≤◌, IfOk, IfErr, IfSome};
-ghost use Rattle.hep_command.specs.Jobs.{IsInRange, IsUsageStatus};
+ghost use Rattle.std.specs.Prelude.{◌≡◌, ◌≤◌, false, IfOk, IfErr, IfSome};
+ghost use Rattle.hep_command.specs.Jobs.{IsInRange, IsNoPath, IsUsageStatus, IsWrittenApart};
 
 use crate::job::{ARENA, Job, MOST_ARENA, MOST_STEPS, STEPS, Usage};
 use crate::program::program;
@@ -12,6 +12,9 @@ use std::convert::AsStr;
 // What is said of words that `clap` took and that have no meaning here. None are known: `clap` has
 // checked what a command needs, but promises it of a program without commands only.
 const MISTAKE: &str = "error: these words have no meaning\n";
+
+// What is said where the history would be written to a file that is read.
+const SAME_FILE: &str = "error: --history names a file that is read\n";
 
 // The number of an option, `other` where it isn't given.
 fn number_of(found: &ArgMatches<'_>, id: &str, most: u64, other: u64) -> Option<u64>
@@ -105,6 +108,30 @@ fn job_of<'a>(matches: &ArgMatches<'a>) -> Option<Job<'a>>
     None
 }
 
+fn is_path(path: Option<&str>, other: &str) -> bool
+    ensures { result ≡ false → IsNoPath path.entry other.entry }
+{
+    match path {
+        Some(path) => path == other,
+        None => false,
+    }
+}
+
+// Whether the history would be written to a file that is read.
+fn is_overwriting(job: &Job<'_>) -> bool
+    ensures { result ≡ false → IsWrittenApart job.now }
+{
+    match job {
+        Job::Run {
+            file,
+            choices,
+            history: Some(history),
+            ..
+        } => is_path(Some(*file), history) || is_path(*choices, history),
+        _ => false,
+    }
+}
+
 // What is said where `clap` gave no matches: its own text.
 fn usage_of(alloc: Global, error: &Error) -> Usage
     ensures { IsUsageStatus result.status }
@@ -125,10 +152,11 @@ fn usage_of(alloc: Global, error: &Error) -> Usage
 /// # Errors
 ///
 /// What is to be written in the place of a job: help, the version, or what is wrong with the words,
-/// all in the words of `clap`. The status is 0 for help and the version, 2 for words that are wrong,
+/// in the words of `clap`, or that the history would be written to a file that is read. The status is 0 for help and the version, 2 for words that are wrong,
 /// and 7 where memory was refused.
 pub fn read_words<'a, S: AsStr>(alloc: Global, words: &'a [S]) -> Result<Job<'a>, Usage>
     ensures job { IfOk result IsInRange }
+    ensures apart { IfOk result IsWrittenApart }
     ensures usage { IfErr result (λ usage. IsUsageStatus usage.status) }
 {
     let program = match program(alloc) {
@@ -137,6 +165,7 @@ pub fn read_words<'a, S: AsStr>(alloc: Global, words: &'a [S]) -> Result<Job<'a>
     };
     match program.try_get_matches_from(words) {
         Ok(matches) => match job_of(&matches) {
+            Some(job) if is_overwriting(&job) => Err(Usage::of_text(alloc, 2, SAME_FILE)),
             Some(job) => Ok(job),
             None => Err(Usage::of_text(alloc, 2, MISTAKE)),
         },

@@ -5,17 +5,16 @@ use Rattle.std.specs.Option.{option_or}
 use Rattle.std.proofs.lemmas.Option.{same_Some, none-some}
 use Rattle.hep_source.specs.Units.{Units}
 use Rattle.hep_code.specs.Depths.{line_too_deep}
-use Rattle.hep_code.specs.Limits.{most_instructions}
 use Rattle.hep_image.specs.declared.unit.UnitCode.{UnitCode}
 use Rattle.hep_image.specs.Image.{IsUnitCode}
 use Rattle.hep_placed.specs.Placed.{code_in}
 use Rattle.hep_lower.specs.declared.units.LoweredUnit.TheVariants.{Runnable, TooDeep}
 use Rattle.hep_lower.specs.declared.units.LoweredUnits.{LoweredUnits}
-use Rattle.hep_lower.specs.Refusals.{IsFirstDeep}
+use Rattle.hep_lower.specs.Refusals.{IsFirstDeep, instructions_in}
 use Rattle.hep_lower.specs.Units.{AreUnits, IsUnit}
 
 -- a number below one more is below or the last one
-split : (u n : ℕ) → u < n + 1 → (u < n) ⊎ (u ≡ n)
+pub split : (u n : ℕ) → u < n + 1 → (u < n) ⊎ (u ≡ n)
 split u n h = by_order (order u n) where
   order : (a b : ℕ) → (a < b) ⊎ (b ≤ a)
   order zero zero = inr (omega arith)
@@ -44,15 +43,18 @@ item-within [] u y e = absurd (none-some y e)
 item-within (z ∷ zs) zero y e = omega arith
 item-within (z ∷ zs) (suc u) y e = omega (arith, item-within zs u y e)
 
-module _ (program : Units) (n : ℕ) (before after : LoweredUnits) (known : AreUnits program n before) where
-  short-more : length (code_in program n) ≤ most_instructions → (u : ℕ) → u + 1 ≤ n + 1 → length (code_in program u) ≤ most_instructions
-  short-more h u le = elim (split u n (omega (arith, le))) [
-    | inl less ↦ known.short u (omega (arith, less))
-    | inr same ↦ subst (λ v. length (code_in program v) ≤ most_instructions) (sym same) h
-  ]
+suc-is : (n : ℕ) → n + 1 ≡ suc n
+suc-is n = omega arith
 
-  pub added-runnable : (unit : UnitCode) → IsUnit program n (Runnable unit) → after.codes.items ≡ before.codes.items ++ unit ∷ [] → after.too_deep ≡ before.too_deep → AreUnits program (n + 1) after
-  added-runnable unit is more same = record { deep = subst (IsFirstDeep program (n + 1)) (sym same) (by_deep before.too_deep known.deep); short = short-more is.2; all = all; each = each } where
+module _ (program : Units) (n : ℕ) (before after : LoweredUnits) (known : AreUnits program n before) where
+  more-counted : {k : ℕ} → after.instructions ≡ before.instructions + k → k ≡ length (code_in program n) → after.instructions ≡ instructions_in program (n + 1)
+  more-counted {k = k} total is = omega (arith, total, is, known.counted, ap (instructions_in program) (suc-is n))
+
+  pub added-runnable : (unit : UnitCode) → IsUnit program n (Runnable unit) → after.codes.items ≡ before.codes.items ++ unit ∷ [] → after.too_deep ≡ before.too_deep → after.instructions ≡ before.instructions + length unit.code → AreUnits program (n + 1) after
+  added-runnable unit is more same total = record { deep = subst (IsFirstDeep program (n + 1)) (sym same) (by_deep before.too_deep known.deep); counted = counted; all = all; each = each } where
+    counted : after.instructions ≡ instructions_in program (n + 1)
+    counted = more-counted total (ap length is.0.code)
+
     by_deep : (o : Option ℕ) → IsFirstDeep program n o → IsFirstDeep program (n + 1) o
     by_deep None h = λ u le. elim (split u n le) [
       | inl less ↦ h u less
@@ -74,8 +76,10 @@ module _ (program : Units) (n : ℕ) (before after : LoweredUnits) (known : AreU
               subst (IsUnitCode program n) (item-last before.codes.items unit x (ap (slice_get (before.codes.items ++ unit ∷ [])) (long ∙ sym last) ∙ there)) is.0)
         ]
 
-  pub added-deep : (line : ℕ) → IsUnit program n (TooDeep line) → after.too_deep ≡ option_or before.too_deep (Some line) → AreUnits program (n + 1) after
-  added-deep line is first = record { deep = subst (IsFirstDeep program (n + 1)) (sym first) (by_deep before.too_deep known.deep); short = short-more is.1; all = λ none. absurd (never none); each = λ none. absurd (never none) } where
+  pub added-deep :
+      (line instructions : ℕ)
+      → IsUnit program n (TooDeep line instructions) → after.too_deep ≡ option_or before.too_deep (Some line) → after.instructions ≡ before.instructions + instructions → AreUnits program (n + 1) after
+  added-deep line instructions is first total = record { deep = subst (IsFirstDeep program (n + 1)) (sym first) (by_deep before.too_deep known.deep); counted = more-counted total is.1; all = λ none. absurd (never none); each = λ none. absurd (never none) } where
     by_deep : (o : Option ℕ) → IsFirstDeep program n o → IsFirstDeep program (n + 1) (option_or o (Some line))
     by_deep None h = (n, omega arith, is.0, h)
     by_deep (Some l) h = (h.0, omega (arith, h.1), h.2, h.3)

@@ -5,5 +5,6 @@ pub mod Asked
 pub mod Refusals
 pub mod Forms
 pub mod Additions
+pub mod Counts
 pub mod Placing
 pub mod Told

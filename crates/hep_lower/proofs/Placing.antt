@@ -1,5 +1,5 @@
 -- The code of a unit, where its variables and DOs were found.
-use Rattle.std.proofs.Common.{◌≡◌, ◌∙◌, ℕ, ◌<◌, List, [], Option, Some, None, get_or, length, refl, sym, ap, subst}
+use Rattle.std.proofs.Common.{◌≡◌, ◌∙◌, ℕ, ◌<◌, List, [], Option, Some, None, get_or, length, refl, sym, ap, subst, arith}
 use Rattle.std.specs.Prelude.{◌≤◌, Result, Ok, Err, IfOk}
 use Rattle.std.proofs.lemmas.Option.{slice_get_read}
 use Rattle.indexmap.specs.IndexMap.{get}
@@ -28,6 +28,7 @@ use Rattle.hep_lower.specs.declared.fault.EmitFault.TheVariants as emit_fault
 use Rattle.hep_lower.specs.Limits.{IsOverLimit}
 use Rattle.hep_lower.specs.Refusals.{RefusesCode, fault_by}
 use Rattle.hep_lower.specs.Tables.{addressed_by}
+use Rattle.hep_lower.proofs.Counts.{as-many}
 
 module _ (program : Units) (u : ℕ) (unit : List Statement) (places : Places) (same : unit ≡ unit_at program u)
     (variables : (x : Name) → variable_in places x ≡ variable_of program (unit_at program u) x) (loops : (d : ℕ) → cells_in places d ≡ loop_cells (unit_at program u) d) where
@@ -40,7 +41,8 @@ module _ (program : Units) (u : ℕ) (unit : List Statement) (places : Places) (
   -- too much code is too much of the definitions' code
   pub refused-code : (fault : EmitFault) → u < length program → IsOverLimit (length (code_of (addressed_by unit places program))) fault → RefusesCode program (fault_by fault)
   refused-code emit_fault.NoMemory there over = tt
-  refused-code emit_fault.TooLong there over = (refl, refl, refl, (u, there, subst (λ code. most_instructions < length code) code-there (over refl)))
+  refused-code emit_fault.TooLong there over =
+      (refl, refl, refl, omega (arith, as-many program u (length program) there, subst (λ code. most_instructions < length code) code-there (over refl)))
 
 pub none-there : {A : Type 0} (o : Option A) → ((x : A) → o ≡ Some x → ⊥) → o ≡ None
 none-there None h = refl

@@ -1,8 +1,8 @@
 -- Which accepted programs have an image, and why the others have none: docs/LANGUAGE.md, "What is supported" and "Limits".
-use Rattle.std.specs.Prelude.{◌≡◌, ◌⊎◌, ℕ, ◌<◌, ◌≤◌, List, [], length, Option, Some, None}
+use Rattle.std.specs.Prelude.{◌≡◌, ◌≢◌, ◌⊎◌, ℕ, zero, suc, ◌+◌, ◌<◌, ◌≤◌, List, [], length, Option, Some, None}
 use Rattle.hep_base.specs.declared.refusal.Refusal.{Refusal as LowerFault}
 use Rattle.hep_base.specs.declared.refusal.Refusal.TheVariants.{NoMemory, Refused}
-use Rattle.hep_source.specs.Units.{Units, unit_at}
+use Rattle.hep_source.specs.Units.{Units, main_among, unit_at}
 use Rattle.hep_machine.specs.Layout.{common_cells}
 use Rattle.hep_machine.specs.Variables.{frame_cells}
 use Rattle.hep_code.specs.Depths.{line_too_deep}
@@ -13,20 +13,25 @@ use Rattle.hep_placed.specs.Placed.{code_in}
 use Rattle.hep_lower.specs.declared.fault.EmitFault.{EmitFault}
 use Rattle.hep_lower.specs.declared.fault.EmitFault.TheVariants as emit_fault
 
--- ---- 401: COMMON and frames of at most 16,777,216 cells, and units of at most 1,048,576 instructions
+-- ---- 401: COMMON and frames of at most 16,777,216 cells, and at most 1,048,576 instructions in all units together
+
+-- how many instructions the first n units have
+abbrev pub instructions_in : Units → ℕ → ℕ
+instructions_in program zero = 0
+instructions_in program (suc n) = instructions_in program n + length (code_in program n)
 
 pub record IsWithinLimits (program : Units) : Type 0 where
   pub common : common_cells program ≤ most_cells
   pub frames : (u : ℕ) → u < length program → frame_cells (unit_at program u) ≤ most_cells
-  pub code : (u : ℕ) → u < length program → length (code_in program u) ≤ most_instructions
+  pub code : instructions_in program (length program) ≤ most_instructions
 
 -- COMMON, or the frame of some unit, has more cells
 abbrev pub AreCellsBeyond : Units → Type 0
 AreCellsBeyond program = (most_cells < common_cells program) ⊎ ((u : ℕ) × (u < length program) × (most_cells < frame_cells (unit_at program u)))
 
--- some unit has more instructions
+-- there are more instructions
 abbrev pub IsCodeBeyond : Units → Type 0
-IsCodeBeyond program = (u : ℕ) × (u < length program) × (most_instructions < length (code_in program u))
+IsCodeBeyond program = most_instructions < instructions_in program (length program)
 
 -- ---- 402: statements of at most 256 operands at once
 
@@ -39,23 +44,26 @@ IsFirstDeep program n (Some line) = (u : ℕ) × (u < n) × (line_too_deep (code
 
 -- the program has an image
 pub record IsLowered (program : Units) : Type 0 where
-  pub supported : first_unsupported program ≡ None
+  pub main : main_among program ≢ None
   pub within : IsWithinLimits program
   pub shallow : IsFirstDeep program (length program) None
+  pub supported : first_unsupported program ≡ None
 
--- it is refused: 403 at its first statement that isn't supported, else 401 without a line, else 402 at its first line that is too deep
+-- it is refused: 204 without a line where it has no main program, as no program that was read from a text is; else 401 without a
+-- line; else 402 at its first line that is too deep; else 403 at its first statement that isn't supported
 abbrev pub IsUnlowered : Units → ℕ → ℕ → Type 0
 IsUnlowered program number line =
-    ((number ≡ 403) × (first_unsupported program ≡ Some line))
-    ⊎ (((number ≡ 401) × (line ≡ 0) × (first_unsupported program ≡ None) × (AreCellsBeyond program ⊎ IsCodeBeyond program))
-    ⊎ ((number ≡ 402) × (first_unsupported program ≡ None) × IsWithinLimits program × IsFirstDeep program (length program) (Some line)))
+    ((number ≡ 204) × (line ≡ 0) × (main_among program ≡ None))
+    ⊎ (((number ≡ 401) × (line ≡ 0) × (main_among program ≢ None) × (AreCellsBeyond program ⊎ IsCodeBeyond program))
+    ⊎ (((number ≡ 402) × (main_among program ≢ None) × IsWithinLimits program × IsFirstDeep program (length program) (Some line))
+    ⊎ ((number ≡ 403) × (main_among program ≢ None) × IsWithinLimits program × IsFirstDeep program (length program) None × (first_unsupported program ≡ Some line))))
 
--- the fault says why; memory is asked for only where every statement is supported
+-- the fault says why; memory is asked for only where there is a main program
 abbrev pub Refuses : Units → LowerFault → Type 0
-Refuses program NoMemory = first_unsupported program ≡ None
+Refuses program NoMemory = main_among program ≢ None
 Refuses program (Refused number line name) = IsUnlowered program number line × (name ≡ [])
 
--- the fault is that some unit has too many instructions, or want of memory
+-- the fault is that there are too many instructions, or want of memory
 abbrev pub RefusesCode : Units → LowerFault → Type 0
 RefusesCode program NoMemory = Unit {0}
 RefusesCode program (Refused number line name) = (number ≡ 401) × (line ≡ 0) × (name ≡ []) × IsCodeBeyond program

@@ -9,16 +9,17 @@ use Rattle.hep_placed.specs.Placed.{code_in}
 use Rattle.hep_lower.specs.declared.units.LoweredUnit.{LoweredUnit}
 use Rattle.hep_lower.specs.declared.units.LoweredUnit.TheVariants.{Runnable, TooDeep}
 use Rattle.hep_lower.specs.declared.units.LoweredUnits.{LoweredUnits}
-use Rattle.hep_lower.specs.Refusals.{IsFirstDeep}
+use Rattle.hep_lower.specs.Refusals.{IsFirstDeep, instructions_in}
 
 -- what was made of unit u
 abbrev pub IsUnit : Units → ℕ → LoweredUnit → Type 0
 IsUnit program u (Runnable unit) = IsUnitCode program u unit × (line_too_deep (code_in program u) ≡ None) × (length (code_in program u) ≤ most_instructions)
-IsUnit program u (TooDeep line) = (line_too_deep (code_in program u) ≡ Some line) × (length (code_in program u) ≤ most_instructions)
+IsUnit program u (TooDeep line instructions) =
+    (line_too_deep (code_in program u) ≡ Some line) × (instructions ≡ length (code_in program u)) × (length (code_in program u) ≤ most_instructions)
 
 -- what was made of the first n units; all of them are there as long as none is too deep
 pub record AreUnits (program : Units) (n : ℕ) (units : LoweredUnits) : Type 0 where
   pub deep : IsFirstDeep program n units.too_deep
-  pub short : (u : ℕ) → u + 1 ≤ n → length (code_in program u) ≤ most_instructions
+  pub counted : units.instructions ≡ instructions_in program n
   pub all : units.too_deep ≡ None → length units.codes.items ≡ n
   pub each : units.too_deep ≡ None → (u : ℕ) (unit : UnitCode) → slice_get units.codes.items u ≡ Some unit → IsUnitCode program u unit

@@ -1,6 +1,6 @@
 //! Checked programs become images.
-ghost use Rattle.std.specs.Prelude.{◌≡◌, ◌≤◌, ◌<◌, ℕ, None, IfOk, IfErr, OnOk, IsTrue, true, false, length};
-ghost use Rattle.hep_source.specs.Units.{Units, main_unit, unit_at};
+ghost use Rattle.std.specs.Prelude.{◌≡◌, ◌≢◌, ◌≤◌, ◌<◌, ℕ, None, IfOk, IfErr, OnOk, IsTrue, true, false, length};
+ghost use Rattle.hep_source.specs.Units.{Units, main_among, main_unit, unit_at};
 ghost use Rattle.hep_machine.specs.Layout.{common_cells};
 ghost use Rattle.hep_machine.specs.Variables.{frame_cells};
 ghost use Rattle.hep_check.specs.Conditions.{IsAccepted};
@@ -12,6 +12,7 @@ ghost use Rattle.hep_lower.specs.Refusals.{AreCellsBeyond, IsLowered, Refuses};
 ghost use Rattle.hep_lower.specs.Units.{AreUnits};
 
 use crate::spellings::names_in_order;
+use crate::unit::MOST_INSTRUCTIONS;
 use crate::units::{LoweredUnits, lower_units};
 use hep_base::{Refusal as LowerFault, Sequence};
 use hep_check::Checked;
@@ -20,7 +21,7 @@ use hep_data::{MainFrame, data_rows};
 use hep_image::{DataRow, Image};
 use hep_placed::laws;
 use hep_places::unit_places;
-use hep_supported::first_unsupported;
+use hep_supported::{first_unsupported, has_main};
 use hep_symbols::ProgramSymbols;
 use std::alloc::{AllocError, Global};
 
@@ -104,16 +105,19 @@ fn image_of(
     ))
 }
 
-// The image of a program in which nothing is unsupported.
-fn lower_supported(alloc: Global, checked: &Checked) -> Result<Image, LowerFault>
-    requires { supported.first_unsupported checked.now ≡ None }
+// The image of a program that has a main program.
+fn lower_program(alloc: Global, checked: &Checked) -> Result<Image, LowerFault>
+    requires { main_among checked.now ≢ None }
     ensures same { IfOk result (λ image. image ≡ checked.now) }
     ensures lowered { OnOk result (IsLowered checked.now) }
     ensures refused { IfErr result (Refuses checked.now) }
 {
-    laws::supported_code();
     checked.is_accepted();
     let source = checked.program().as_slice();
+    // Each unit has an instruction at least.
+    if MOST_INSTRUCTIONS < source.len() {
+        return Err(LowerFault::refused(alloc, 401, 0));
+    }
     let program = ProgramSymbols::new(alloc, source)?;
     let common = CommonStarts::of_program(alloc, source)?;
     if exceeds_cells(checked, &common) {
@@ -123,6 +127,9 @@ fn lower_supported(alloc: Global, checked: &Checked) -> Result<Image, LowerFault
     if let Some(line) = units.too_deep {
         return Err(LowerFault::refused(alloc, 402, line));
     }
+    if let Some(line) = first_unsupported(source) {
+        return Err(LowerFault::refused(alloc, 403, line));
+    }
     Ok(image_of(alloc, checked, &program, &common, units)?)
 }
 
@@ -131,11 +138,12 @@ fn lower_supported(alloc: Global, checked: &Checked) -> Result<Image, LowerFault
 ///
 /// # Errors
 ///
-/// 403 with the line of the first statement that isn't supported (docs/LANGUAGE.md, 11). Else 401, without a
-/// line, where COMMON or the frame of a unit would have more than 16,777,216 cells or a unit more than
-/// 1,048,576 instructions. Else 402 with the line of the first statement that would have more than 256
-/// operands at once (docs/LANGUAGE.md, 12). Or that memory was refused, which is asked for only where every
-/// statement is supported.
+/// 204 without a line where there is no main program, as in no program that was read from a text. Else 401, without a
+/// line, where COMMON or the frame of a unit would have more than 16,777,216 cells, or there would be more than
+/// 1,048,576 instructions in all units together. Else 402 with the line of the first statement that would have more
+/// than 256 operands at once (docs/LANGUAGE.md, 12). Else 403 with the line of the first statement that isn't
+/// supported (docs/LANGUAGE.md, 11). Or that memory was refused, which is asked for only where there is a main
+/// program.
 pub fn lower(alloc: Global, checked: &Checked) -> Result<Image, LowerFault>
     // What is lowered is the program.
     ensures same { IfOk result (λ image. image ≡ checked.now) }
@@ -144,8 +152,8 @@ pub fn lower(alloc: Global, checked: &Checked) -> Result<Image, LowerFault>
     // Else the number and the line say why there is none.
     ensures refused { IfErr result (Refuses checked.now) }
 {
-    if let Some(line) = first_unsupported(checked.program().as_slice()) {
-        return Err(LowerFault::refused(alloc, 403, line));
+    if !has_main(checked.program().as_slice()) {
+        return Err(LowerFault::refused(alloc, 204, 0));
     }
-    lower_supported(alloc, checked)
+    lower_program(alloc, checked)
 }

@@ -4,6 +4,7 @@ ghost use Rattle.hep_source.specs.Units.{Units, unit_at};
 ghost use Rattle.hep_machine.specs.Layout.{common_cells};
 ghost use Rattle.hep_machine.specs.Variables.{frame_cells};
 ghost use Rattle.hep_check.specs.Conditions.{IsAccepted};
+ghost use Rattle.hep_code.specs.Limits.{most_instructions};
 ghost use Rattle.hep_image.specs.Image.{most_cells};
 ghost use Rattle.hep_common.specs.Starts.{AreStarts};
 ghost use Rattle.hep_lower.specs.Refusals.{RefusesCode, fault_by};
@@ -12,7 +13,9 @@ ghost use Rattle.hep_lower.specs.Units.{AreUnits, IsUnit};
 
 use crate::fault::EmitFault;
 use crate::lowered::lower_unit;
+use crate::unit::MOST_INSTRUCTIONS;
 use hep_base::{Refusal as LowerFault, Sequence};
+use hep_code::Instruction;
 use hep_common::CommonStarts;
 use hep_image::UnitCode;
 use hep_places::unit_places;
@@ -23,7 +26,8 @@ use std::alloc::{AllocError, Global};
 #[derive(Drop)]
 pub(crate) enum LoweredUnit {
     Runnable(UnitCode),
-    TooDeep(u32),
+    /// With how many instructions it has.
+    TooDeep { line: u32, instructions: usize },
 }
 
 /// The units that were lowered so far.
@@ -33,6 +37,8 @@ pub(crate) struct LoweredUnits {
     pub codes: Vec<UnitCode>,
     /// The line of the first statement with too many operands.
     pub too_deep: Option<u32>,
+    /// How many instructions they have together.
+    pub instructions: usize,
 }
 
 impl LoweredUnits {
@@ -42,19 +48,35 @@ impl LoweredUnits {
         LoweredUnits {
             codes: Vec::new(alloc),
             too_deep: None,
+            instructions: 0,
         }
     }
 
     // One unit more.
     fn add(&mut self, unit: LoweredUnit) -> Result<(), AllocError>
+        requires few { self.old.instructions ≤ most_instructions }
+        requires short { (program : Units) × (n : ℕ) × IsUnit program n unit }
         ensures { OnOk result ((program : Units) (n : ℕ) → AreUnits program n self.old → IsUnit program n unit → AreUnits program (n + 1) self.new) }
     {
         match unit {
-            LoweredUnit::Runnable(code) => self.codes.push(code)?,
-            LoweredUnit::TooDeep(line) => self.too_deep = self.too_deep.or(Some(line)),
+            LoweredUnit::Runnable(unit) => {
+                self.instructions += count(unit.code.as_slice());
+                self.codes.push(unit)?;
+            }
+            LoweredUnit::TooDeep { line, instructions } => {
+                self.instructions += instructions;
+                self.too_deep = self.too_deep.or(Some(line));
+            }
         }
         Ok(())
     }
+}
+
+// How many instructions there are.
+fn count(code: &[Instruction]) -> usize
+    ensures { result ≡ length code.now }
+{
+    code.len()
 }
 
 // Why a unit has no code: it is told without a line.
@@ -91,7 +113,10 @@ fn lower_numbered(
         Err(fault) => return Err(fault_of(alloc, fault)),
     };
     if let Some(line) = lowered.depth.too_deep {
-        return Ok(LoweredUnit::TooDeep(line));
+        return Ok(LoweredUnit::TooDeep {
+            line,
+            instructions: count(&lowered.code),
+        });
     }
     Ok(LoweredUnit::Runnable(UnitCode {
         code: Sequence::from(lowered.code),
@@ -107,7 +132,7 @@ fn lower_numbered(
 ///
 /// # Errors
 ///
-/// 401 where a unit would have more than 1,048,576 instructions, or that memory was refused.
+/// 401 where there would be more than 1,048,576 instructions, or that memory was refused.
 pub(crate) fn lower_units(
     alloc: Global,
     program: &ProgramSymbols,
@@ -119,11 +144,15 @@ pub(crate) fn lower_units(
     requires small_frames { (u : ℕ) → u < length program.now → frame_cells (unit_at program.now u) ≤ most_cells }
     requires few_units { length program.now ≤ greatest }
     ensures units { IfOk result (AreUnits program.now (length program.now)) }
+    ensures few { IfOk result (λ units. units.instructions ≤ most_instructions) }
     ensures refused { IfErr result (RefusesCode program.now) }
 {
     let mut units = LoweredUnits::new(alloc);
     for (index, symbols) in program.units().iter().enumerate() {
         units.add(lower_numbered(alloc, program, common, index, symbols)?)?;
+        if MOST_INSTRUCTIONS < units.instructions {
+            return Err(LowerFault::refused(alloc, 401, 0));
+        }
     }
     Ok(units)
 }

@@ -20,7 +20,8 @@ fn is_main(unit: &Unit) -> bool
     }
 }
 
-fn has_main(program: &[Unit]) -> bool
+/// Whether a program has a main program.
+pub fn has_main(program: &[Unit]) -> bool
     ensures { result ≡ is_some (units.main_among program.now) }
 {
     for unit in program {

@@ -1,4 +1,4 @@
-use Rattle.std.proofs.Common.{refl, subst}
+use Rattle.std.proofs.Common.{ℕ, ◌+◌, ◌∙◌, ap, length, refl, subst}
 use Rattle.hep_lower.specs.Units.{IsUnit}
 use Rattle.hep_lower.proofs.Additions.{added-deep, added-runnable}
 use Rattle.hep_lower.proofs.units.LoweredUnits.add.Goals as goal
@@ -6,3 +6,4 @@ use Rattle.hep_lower.proofs.units.LoweredUnits.add.Goals as goal
 pub returns-in_ok-push-in-Runnable : goal.returns-in_ok-push-in-Runnable
 returns-in_ok-push-in-Runnable c program n known is =
     added-runnable program n c.args.self.now _ known _ (subst (IsUnit program n) c.in-Runnable.is is) c.in_ok-push-in-Runnable.ensures.items refl
+    (ap (λ (k : ℕ). c.args.self.now.instructions + k) (c.count.ensures ∙ ap length c.as_slice.ensures))
