@@ -18,7 +18,7 @@ use Rattle.hep_code.specs.Standing.{Stands}
 use Rattle.hep_code.specs.UnitCode.{AddressedUnit, code_of}
 use Rattle.hep_code.proofs.Ahead.{drop_one_more, pushed}
 use Rattle.hep_step.specs.Effects.{Effect, effect_at, fails, moves, prints, returns, stops, unsupported, waits}
-use Rattle.hep_step.specs.Simulation.{IsRunning, Simulates, state_with_record, unit_addressed, unit_arrays, unit_code}
+use Rattle.hep_step.specs.Simulation.{IsNotLeftOut, IsRunning, Simulates, state_with_record, unit_addressed, unit_arrays, unit_code}
 use Rattle.hep_state.specs.declared.machine.Level.{Level}
 use Rattle.hep_state.specs.Snapshots.{Snapshot, Stack}
 use Rattle.hep_state.specs.Taking.{IsNoWait}
@@ -104,7 +104,6 @@ runs-at program t layout f contents holes vs ws i j r stands =
       described = r.described;
       framed = r.framed;
       stands = stands;
-      supported = r.supported;
       placed = r.placed;
       addressed = r.addressed;
       looped = r.looped;
@@ -117,9 +116,10 @@ module _ (program : Units) (cells : ℕ) (choices : List ℕ) (m : Snapshot) (p 
     (turns : (l : Level) (ls : List Level) (operands : List Value) → numbered m.processes p ≡ Some (record { levels = l ∷ ls; operands = operands }) → (top : SourceLevel × Process) × IsTurning program cells choices m p l ls operands top)
     (runs : (l : Level) (ls : List Level) (operands : List Value) (top : SourceLevel × Process) (h : IsTurning program cells choices m p l ls operands top) → IsRunning program (top_after program choices p top) h.after.layout (frame_under m.nodes l.key) m.arena.contents m.arena.holes operands l.index)
     (does : (l : Level) (ls : List Level) (top : SourceLevel × Process) (operands ws : List Value) (h : IsTurning program cells choices m p l ls operands top) (j : ℕ) → IsRunning program (top_after program choices p top) h.after.layout (frame_under m.nodes l.key) m.arena.contents m.arena.holes ws j
-    → IsPastPushes (unit_code program (unit_of (run program choices) top.0.activation)) j
+    → IsPastPushes (unit_code program (unit_of (run program choices) top.0.activation)) j → IsNotLeftOut (unit_code program (unit_of (run program choices) top.0.activation)) j
     → Simulates program (top_after program choices p top) h.after.layout (frame_under m.nodes l.key) m.arena.holes m.arena.contents (effect_at (unit_code program (unit_of (run program choices) top.0.activation)) (unit_arrays program (unit_of (run program choices) top.0.activation)) (frame_under m.nodes l.key).first m.arena.contents ws j))
-    (never : (u first : ℕ) (ws : List Value) (j : ℕ) → u < length program → IsNoWait (effect_at (unit_code program u) (unit_arrays program u) first m.arena.contents ws j)) where
+    (never : (u first : ℕ) (ws : List Value) (j : ℕ) → u < length program → IsNoWait (effect_at (unit_code program u) (unit_arrays program u) first m.arena.contents ws j))
+    (others : (u j : ℕ) → u < length program → IsNotLeftOut (unit_code program u) j) where
   abbrev s : State
   s = run program choices
 
@@ -142,7 +142,7 @@ module _ (program : Units) (cells : ℕ) (choices : List ℕ) (m : Snapshot) (p 
       let here = (standing-before program cells choices m p l ls operands top h).0.here in
       let inside : u < length program = subst (λ n. n < length program) (sym here.unit) here.inside in
       let waitless = never u f.first settled.operands settled.index inside in
-      quiet-by program (top_after program choices p top) h.after.layout f m.arena.holes m.arena.contents going _ (λ cell full e. subst IsNoWait e waitless) (does l ls top operands settled.operands h settled.index at settled.past)
+      quiet-by program (top_after program choices p top) h.after.layout f m.arena.holes m.arena.contents going _ (λ cell full e. subst IsNoWait e waitless) (does l ls top operands settled.operands h settled.index at settled.past (others u settled.index inside))
 
   quiet-at : (o : Option Stack) → numbered m.processes p ≡ o → IsQuiet program s p
   quiet-at None e = of-absent (absent-none e)

@@ -19,5 +19,6 @@ pub fn living_processes_are_quiet()
     laws::turns_are_taken();
     laws::tops_are_running();
     laws::supported_programs_never_wait();
+    laws::supported_programs_leave_nothing_out();
     operations_do_what_the_machine_does();
 }

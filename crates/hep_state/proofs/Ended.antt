@@ -23,6 +23,7 @@ use Rattle.hep_frames.proofs.References.{references}
 use Rattle.hep_frames.proofs.StackChanges.{stacks-emptied, stacks-ended}
 use Rattle.hep_frames.proofs.Stacks.{once, times_on-numbered}
 use Rattle.hep_frames.proofs.Tree.{on-stacked}
+use Rattle.hep_finding.specs.Bound.{AreKept as kept_of}
 use Rattle.hep_proc.specs.Keeping.{AreKept, CanAllLeave, CanLeave, HasLeft, IsEnded, Keeps, LeadUpwards, all_but, frames_of}
 use Rattle.hep_step.specs.Effects.{fails, returns}
 use Rattle.hep_step.specs.Simulation.{Simulates}
@@ -31,12 +32,13 @@ use Rattle.hep_state.specs.Showing.{no_node, node_under}
 use Rattle.hep_state.specs.Snapshots.{Snapshot, Stack}
 use Rattle.hep_state.specs.Tops.{IsTurning, frame_under, keys_of, snapshot_failed, snapshot_returned, state_failed, state_returned, top_after}
 use Rattle.hep_state.specs.Turns.{HasStepped}
+use Rattle.hep_state.proofs.Kept.{all-fewer, but-fewer, kept-left, still-above}
 use Rattle.hep_state.proofs.Leaving.{all_but-is, caller-numbers, caller-of, no-more, none-of}
 use Rattle.hep_state.proofs.Levels.{AreOn}
 use Rattle.hep_state.proofs.Moved.{standing-before, there, unit-is}
 use Rattle.hep_state.proofs.Runs.{layout-left, step-is, turned}
-use Rattle.hep_state.proofs.Shown.{remaining-after, shows-after, standing-changed, stepped-after}
-use Rattle.hep_state.proofs.Standing.{AreStanding, AreStandingBelow, IsHere, caller-stands, standing-still}
+use Rattle.hep_state.proofs.Shown.{held-after, remaining-after, shows-after, standing-changed, stepped-after}
+use Rattle.hep_state.proofs.Standing.{AreStanding, AreStandingBelow, IsHere, caller-stands, made-same, standing-still}
 
 -- what dummy arguments of a run stand for leads upwards, in a state with the same activations too
 owned-same : (s t : State) (a : ℕ) (at : Location) → t.activations ≡ s.activations → IsOwnedAbove s a at → IsOwnedAbove t a at
@@ -122,9 +124,14 @@ module _ (program : Units) (cells : ℕ) (choices : List ℕ) (m : Snapshot) (p 
           layout-left program cells choices p layout t h.after.laid (step-is program p old t h.running made) same
           ∙ ap (λ (fs : Layout). Some fs) (sym (remaining-after program cells choices p t next (frames_of left.still layout) left.still arena nodes left.keeps layout))
 
+      kept : ((a : ℕ) → is_stacked t a ≡ true → is_stacked old a ≡ true) → (a : ℕ) → is_stacked t a ≡ true → kept_of program t (frames_of left.still layout) a
+      kept fewer a on =
+          let above = still-above program (choices ++ p ∷ []) t left.still next (held-after program cells choices p t next (frames_of left.still layout) left.still arena nodes left.keeps) in
+          kept-left program old t layout same left.still above a (left.keeps.tree.stacked a on) (h.after.shows.kept a (fewer a on))
+
       pub ended-shown : (new : Snapshot) (k : Stack) → new.arena ≡ arena → new.nodes ≡ nodes → new.processes ≡ with_numbered m.processes p k → length arena.contents ≡ length m.arena.contents
-          → (AreOn t q → AreStanding program t nodes k.operands k.levels q) → new.activations ≡ m.activations → new.records ≡ t.records → new.faults ≡ t.faults → new.halted ≡ t.halted → HasStepped program cells choices p new
-      ended-shown new k arena_is nodes_are changed size standing activations records faults halted =
+          → ((a : ℕ) → is_stacked t a ≡ true → is_stacked old a ≡ true) → (AreOn t q → AreStanding program t nodes k.operands k.levels q) → new.activations ≡ m.activations → new.records ≡ t.records → new.faults ≡ t.faults → new.halted ≡ t.halted → HasStepped program cells choices p new
+      ended-shown new k arena_is nodes_are changed size fewer standing activations records faults halted =
           let s = h.after.shows in
           let before : Stack = record { levels = l ∷ ls; operands = vs } in
           let there_is = there program cells choices m p l ls vs top h in
@@ -134,8 +141,8 @@ module _ (program : Units) (cells : ℕ) (choices : List ℕ) (m : Snapshot) (p 
           subst (λ z. Keeps program t (is_stacked t) left.still remains (wanted_of program t remains) new.arena z) (sym nodes_are) (
           subst (λ z. Keeps program t (is_stacked t) left.still remains (wanted_of program t remains) z nodes) (sym arena_is) left.keeps) in
           stepped-after program cells choices p t next new remains (step-is program p old t h.running made) laid (ap (λ (a : Space). length a.contents) arena_is ∙ (size ∙ h.after.size)) (
-          shows-after program cells choices p t next new remains left.still keeps count
-          (standing-changed program old t layout m new s p before k (top.0 ∷ top.1) q h.kept there_is changed set same
+          shows-after program cells choices p t next new remains left.still keeps (kept fewer) count
+          (standing-changed program old t layout m new s p before k (top.0 ∷ top.1) q h.kept there_is changed set (made-same old t same)
           (λ key n e on. let kept = stay key n e on in (kept.0, ap (λ (z : Nodes). z key) nodes_are ∙ kept.1, kept.2))
           (λ on. subst (λ z. AreStanding program t z k.operands k.levels q) (sym nodes_are) (standing on)))
           (activations ∙ (s.activations ∙ sym (ap length same))) records faults halted)
@@ -167,21 +174,9 @@ module _ (program : Units) (cells : ℕ) (choices : List ℕ) (m : Snapshot) (p 
       let s = h.after.shows in
       let below : AreStanding program old m.nodes [] ls q = caller-stands program old m.nodes ls top.1 (standing-before program cells choices m p l ls vs top h).1 in
       ended-shown t q refl refl made arena nodes left (snapshot_returned m p ls arena nodes) (record { levels = ls; operands = [] }) refl refl refl size
-      (λ on. standing-still program old t m.nodes nodes refl (stay t q refl refl made arena nodes left) [] ls q below on) refl s.records s.faults s.halted
+      (λ a on. but-fewer (node_under m.nodes l.key).activation a (is_stacked old) (sym ((returned-ended).stacks_are a) ∙ on)) (λ on. standing-still program old t m.nodes nodes (made-same old t refl) (stay t q refl refl made arena nodes left) [] ls q below on) refl s.records s.faults s.halted
 
   -- ---- a fault
-
-  pub failed-shown : (arena : Space) (nodes : Nodes) (line : ℕ) (k : Kind) → HasLeft program (state_failed program choices p top k) (is_stacked (state_failed program choices p top k)) (is_held old) layout m.arena arena m.nodes nodes → length arena.contents ≡ length m.arena.contents
-      → Simulates program (top_after program choices p top) layout (frame_under m.nodes l.key) m.arena.holes m.arena.contents (fails line k)
-      → HasStepped program cells choices p (snapshot_failed m p (record { process = p; unit = l.unit; line = line; kind = k }) arena nodes)
-  failed-shown arena nodes line k left size made =
-      let t = (state_failed program choices p top k) in
-      let s = h.after.shows in
-      let fault : Fault = record { process = p; unit = l.unit; line = line; kind = k } in
-      let unit = unit-is program cells choices m p l ls vs top h in
-      let same : fault_of program (top_after program choices p top) k ≡ fault = λ i. record { process = p; unit = unit i; line = made.1 i; kind = k } in
-      ended-shown t [] refl refl made.0 arena nodes left (snapshot_failed m p fault arena nodes) (record { levels = []; operands = [] }) refl refl refl size
-      (λ on. tt) refl s.records (λ i. s.faults i ++ sym same i ∷ []) s.halted
 
   pub failed-ended : (k : Kind) → IsEnded program layout (all_but (activations_on (top.0 ∷ top.1)) (is_stacked old)) old (state_failed program choices p top k)
   failed-ended k =
@@ -194,6 +189,18 @@ module _ (program : Units) (cells : ℕ) (choices : List ℕ) (m : Snapshot) (p 
             ∙ sym (all_but-is (activations_on (top.0 ∷ top.1)) (is_stacked old) a);
         no_more = no-more program choices t layout p (top.0 ∷ top.1) [] (there program cells choices m p l ls vs top h) refl refl (none-of (top.0 ∷ top.1));
       }
+
+  pub failed-shown : (arena : Space) (nodes : Nodes) (line : ℕ) (k : Kind) → HasLeft program (state_failed program choices p top k) (is_stacked (state_failed program choices p top k)) (is_held old) layout m.arena arena m.nodes nodes → length arena.contents ≡ length m.arena.contents
+      → Simulates program (top_after program choices p top) layout (frame_under m.nodes l.key) m.arena.holes m.arena.contents (fails line k)
+      → HasStepped program cells choices p (snapshot_failed m p (record { process = p; unit = l.unit; line = line; kind = k }) arena nodes)
+  failed-shown arena nodes line k left size made =
+      let t = (state_failed program choices p top k) in
+      let s = h.after.shows in
+      let fault : Fault = record { process = p; unit = l.unit; line = line; kind = k } in
+      let unit = unit-is program cells choices m p l ls vs top h in
+      let same : fault_of program (top_after program choices p top) k ≡ fault = λ i. record { process = p; unit = unit i; line = made.1 i; kind = k } in
+      ended-shown t [] refl refl made.0 arena nodes left (snapshot_failed m p fault arena nodes) (record { levels = []; operands = [] }) refl refl refl size
+      (λ a on. all-fewer (activations_on (top.0 ∷ top.1)) a (is_stacked old) (sym ((failed-ended k).stacks_are a) ∙ on)) (λ on. tt) refl s.records (λ i. s.faults i ++ sym same i ∷ []) s.halted
 
   -- ---- the levels of a process can leave one after the other
 

@@ -4,7 +4,9 @@ pub mod Runs
 pub mod Shown
 pub mod Moved
 pub mod Leaving
+pub mod Kept
 pub mod Ended
+pub mod Called
 pub mod Tops
 pub mod Settled
 pub mod Opened

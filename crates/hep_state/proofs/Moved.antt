@@ -26,9 +26,10 @@ use Rattle.hep_state.specs.declared.machine.Level.{Level}
 use Rattle.hep_state.specs.Snapshots.{Snapshot, Stack}
 use Rattle.hep_state.specs.Tops.{IsTurning, frame_under, snapshot_moved, snapshot_printed, snapshot_stopped, top_after}
 use Rattle.hep_state.specs.Turns.{HasStepped, HasWaited}
+use Rattle.hep_state.proofs.Kept.{kept-same}
 use Rattle.hep_state.proofs.Runs.{frames-all, layout-left, step-is, turned}
 use Rattle.hep_state.proofs.Shown.{remaining-after, shows-after, standing-changed, stepped-after}
-use Rattle.hep_state.proofs.Standing.{AreStanding, stack-standing, standing-still, top-stands}
+use Rattle.hep_state.proofs.Standing.{AreStanding, made-same, stack-standing, standing-still, top-stands}
 
 module _ (program : Units) (cells : ℕ) (choices : List ℕ) (m : Snapshot) (p : ℕ) (l : Level) (ls : List Level) (vs : List Value) (top : SourceLevel × Process) (h : IsTurning program cells choices m p l ls vs top) where
   abbrev pub old : State
@@ -85,8 +86,8 @@ module _ (program : Units) (cells : ℕ) (choices : List ℕ) (m : Snapshot) (p 
         let stands : Stands (unit_addressed program l.unit) after.statement after.work operands index = subst (λ u. Stands (unit_addressed program u) after.statement after.work operands index) unit-is r.stands in
         let moved = top-stands program old m.nodes vs operands l ls top.0 after top.1 index standing-before r.activation stands in
         stepped-after program cells choices p t next n h.after.layout (step-is program p old t h.running made) laid (size ∙ h.after.size) (
-        shows-after program cells choices p t next n h.after.layout (is_held old) keeps count
-        (standing-changed program old t h.after.layout m n s p before k (top.0 ∷ top.1) q h.kept there refl set same (λ key x e on. (x, e, refl)) (λ on. standing-still program old t m.nodes m.nodes same (λ key x e on. (x, e, refl)) operands (record l { index = index } ∷ ls) q moved on))
+        shows-after program cells choices p t next n h.after.layout (is_held old) keeps (λ a on. kept-same program old t h.after.layout same a (s.kept a (ap (λ (test : ℕ → Bool). test a) on-same ∙ on))) count
+        (standing-changed program old t h.after.layout m n s p before k (top.0 ∷ top.1) q h.kept there refl set (made-same old t same) (λ key x e on. (x, e, refl)) (λ on. standing-still program old t m.nodes m.nodes (made-same old t same) (λ key x e on. (x, e, refl)) operands (record l { index = index } ∷ ls) q moved on))
         (s.activations ∙ sym (ap length same)) printed (s.faults ∙ sym faults) (s.halted ∙ sym halted))
 
   pub moved-shown : (new : List Slot) (operands : List Value) (index : ℕ) → length new ≡ length m.arena.contents
@@ -131,8 +132,8 @@ module _ (program : Units) (cells : ℕ) (choices : List ℕ) (m : Snapshot) (p 
         layout-left program cells choices p layout t h.after.laid (step-is program p old t h.running made) refl
         ∙ ap (λ (fs : Layout). Some fs) (sym (remaining-after program cells choices p t next layout out m.arena m.nodes keeps layout) ∙ frames-all out layout k.frames_are) in
         stepped-after program cells choices p t next n layout (step-is program p old t h.running made) laid h.after.size (
-        shows-after program cells choices p t next n layout out keeps s.processes
-        (λ i j q here on-it on. standing-still program old t m.nodes m.nodes refl (λ key x e on. (x, e, refl)) j.operands j.levels q (stack-standing program old m.nodes m.arena.contents j q (s.stacks i j q here on-it)) on)
+        shows-after program cells choices p t next n layout out keeps (λ a is. kept-same program old t layout refl a (s.kept a is)) s.processes
+        (λ i j q here on-it on. standing-still program old t m.nodes m.nodes (made-same old t refl) (λ key x e on. (x, e, refl)) j.operands j.levels q (stack-standing program old m.nodes m.arena.contents j q (s.stacks i j q here on-it)) on)
         s.activations s.records s.faults refl)
 
   -- ---- it waits

@@ -8,7 +8,7 @@ use Rattle.hep_source.specs.Units.{Units, executable_from, main_unit, unit_at}
 use Rattle.hep_machine.specs.declared.slot.Slot.{Slot}
 use Rattle.hep_machine.specs.Layout.{Frame, Layout, common_cells, is_held, layout_of, lowest_gap, opening_layout, placing_from}
 use Rattle.hep_machine.specs.Opening.{cell_given, opening}
-use Rattle.hep_machine.specs.Processes.{numbered, unit_of}
+use Rattle.hep_machine.specs.Processes.{activation_of, numbered, unit_of}
 use Rattle.hep_machine.specs.Run.{run, run_from}
 use Rattle.hep_machine.specs.State.{Location, Process, State}
 use Rattle.hep_machine.specs.Step.{entry_level}
@@ -35,6 +35,7 @@ use Rattle.hep_state.specs.Openings.{IsEntered, IsGiven, snapshot_opened, unset_
 use Rattle.hep_state.specs.Showing.{IsStack}
 use Rattle.hep_state.specs.Snapshots.{Stack}
 use Rattle.hep_state.specs.Turns.{IsAfter}
+use Rattle.hep_state.proofs.Kept.{none-kept}
 use Rattle.hep_state.proofs.Levels.{are-on}
 use Rattle.hep_state.proofs.Standing.{AreStanding, stack-again}
 
@@ -66,6 +67,12 @@ opened-unit program = refl
 opened-activations : (program : Units) → length (run program []).activations ≡ 1
 unfolding run run_from opening
 opened-activations program = refl
+
+opened-dummies : (program : Units) (a : ℕ) → (activation_of (run program []) a).dummies ≡ []
+unfolding run run_from opening
+opened-dummies program zero = refl
+opened-dummies program (suc zero) = refl
+opened-dummies program (suc (suc i)) = refl
 
 opened-processes : (program : Units) → (run program []).processes ≡ (entry_level (unit_at program (main_unit program)) 1 ∷ []) ∷ []
 unfolding run run_from opening
@@ -177,6 +184,7 @@ module _ (program : Units) (cells key entry : ℕ) (rows : List DataRow) (before
           size = given.size ∙ h.size;
           shows = record {
             keeps = keeps-held;
+            kept = λ a on. none-kept program t h.layout a (opened-dummies program a);
             processes = sym (ap length (opened-processes program));
             stacks = stacks;
             activations = sym (opened-activations program);

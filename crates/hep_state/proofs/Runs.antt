@@ -1,12 +1,12 @@
 -- One turn more of a run: the state and the layout after it.
-use Rattle.std.proofs.Common.{◌≡◌, ℕ, Bool, true, false, List, [], ◌∷◌, ◌++◌, length, Option, Some, None, refl, sym, ap, ◌∙◌, arith}
+use Rattle.std.proofs.Common.{◌≡◌, ℕ, suc, Bool, true, false, List, [], ◌∷◌, ◌++◌, length, Option, Some, None, refl, sym, ap, ◌∙◌, arith}
 use Rattle.std.specs.Prelude.{if◌then◌else◌, is_some, nat_eq, nat_lt}
 use Rattle.std.specs.List.{filter}
-use Rattle.std.specs.Option.{unwrap_or}
+use Rattle.std.specs.Option.{option_map, unwrap_or}
 use Rattle.std.proofs.lemmas.Bool.{eq-eqb}
 use Rattle.std.proofs.lemmas.Bool.Decides.{nat_tests}
 use Rattle.hep_source.specs.Units.{Units}
-use Rattle.hep_machine.specs.Layout.{Frame, Layout, Placing, is_held, layout_after_step, layout_after_turn, layout_of, opening_layout, placing_from, placing_turn, remaining_layout}
+use Rattle.hep_machine.specs.Layout.{Frame, Layout, Placing, frame_of, is_held, layout_after_step, layout_after_turn, layout_of, layout_with_activation, opening_layout, placing_from, placing_turn, remaining_layout}
 use Rattle.hep_machine.specs.Opening.{opening}
 use Rattle.hep_machine.specs.Run.{run, run_from, state_after_turn}
 use Rattle.hep_machine.specs.State.{State}
@@ -69,6 +69,15 @@ layout-left program cells choices p layout t e made same =
     let long : length t.activations ≡ length s.activations = ap length same in
     let none : nat_lt (length s.activations) (length t.activations) ≡ false = grind (arith, nat_tests) in
     layout-last program cells choices p layout e ∙ (ap (λ o. layout_after_step program cells is_held s (unwrap_or o s) layout) made ∙ rw none refl)
+
+-- where one is, it is what is left of the layout with its frame
+pub layout-begun : (program : Units) (cells : ℕ) (choices : List ℕ) (p : ℕ) (layout new : Layout) (t : State) → layout_of program cells is_held choices ≡ Some layout → step program p (run program choices) ≡ Some t
+    → length t.activations ≡ suc (length (run program choices).activations) → layout_with_activation program cells layout (length t.activations) (frame_of program t (length t.activations)) ≡ Some new
+    → layout_of program cells is_held (choices ++ p ∷ []) ≡ Some (remaining_layout is_held t new)
+layout-begun program cells choices p layout new t e made long entered =
+    let s = run program choices in
+    let one : nat_lt (length s.activations) (length t.activations) ≡ true = grind (arith, nat_tests) in
+    layout-last program cells choices p layout e ∙ (ap (λ o. layout_after_step program cells is_held s (unwrap_or o s) layout) made ∙ rw one (ap (option_map (remaining_layout is_held t)) entered))
 
 -- ---- a layout all frames of which are kept
 

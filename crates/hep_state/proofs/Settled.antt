@@ -18,7 +18,7 @@ use Rattle.hep_state.specs.Turns.{IsAbsent, IsAfter}
 use Rattle.hep_state.proofs.Levels.{are-on}
 use Rattle.hep_state.proofs.Moved.{standing-before, there}
 use Rattle.hep_state.proofs.Shown.{numbered-set, standing-changed}
-use Rattle.hep_state.proofs.Standing.{AreStanding, stack-again, stack-standing, top-stands}
+use Rattle.hep_state.proofs.Standing.{AreStanding, made-same, stack-again, stack-standing, top-stands}
 
 -- an element in its own place
 set-same : {A : Type 0} (xs : List A) (p : ℕ) (x : A) → numbered xs p ≡ Some x → xs ≡ with_numbered xs p x
@@ -47,11 +47,12 @@ module _ (program : Units) (cells : ℕ) (choices : List ℕ) (m : Snapshot) (p 
       let shown : Shows program old layout new =
       record {
         keeps = s.keeps;
+        kept = s.kept;
         processes = length-set m.processes _ k ∙ s.processes;
         stacks = λ i j r here on-it.
             let on = are-on program choices i r on-it in
             stack-again program old m.nodes m.arena.contents layout s.keeps.described s.keeps.framed j r (
-            standing-changed program old old layout m new s p before k q q h.kept there_is refl (set-same old.processes p q there_is) refl (λ key x e on. (x, e, refl)) (λ on. moved) i j r here on-it on) on;
+            standing-changed program old old layout m new s p before k q q h.kept there_is refl (set-same old.processes p q there_is) (made-same old old refl) (λ key x e on. (x, e, refl)) (λ on. moved) i j r here on-it on) on;
         activations = s.activations;
         records = s.records;
         faults = s.faults;

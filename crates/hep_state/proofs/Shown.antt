@@ -14,13 +14,14 @@ use Rattle.hep_machine.proofs.Others.{other_numbered}
 use Rattle.hep_arena.specs.Space.{Space}
 use Rattle.hep_frames.specs.Descriptors.{wanted_of}
 use Rattle.hep_frames.specs.Tree.{IsAtRest, is_stacked, Node, Nodes}
+use Rattle.hep_finding.specs.Bound.{AreKept}
 use Rattle.hep_proc.specs.Keeping.{Keeps, frames_of}
 use Rattle.hep_frames.proofs.Tree.{rest-held}
 use Rattle.hep_state.specs.Showing.{IsStack, Shows}
 use Rattle.hep_state.specs.Snapshots.{Snapshot, Stack}
 use Rattle.hep_state.specs.Turns.{HasStepped}
 use Rattle.hep_state.proofs.Levels.{AreOn, are-on}
-use Rattle.hep_state.proofs.Standing.{AreStanding, stack-again, stack-standing, standing-still}
+use Rattle.hep_state.proofs.Standing.{AreMade, AreStanding, stack-again, stack-standing, standing-still}
 
 -- ---- numbered elements
 
@@ -56,7 +57,7 @@ module _ (program : Units) (cells : ℕ) (choices : List ℕ) (p : ℕ) (t : Sta
   -- ---- the state is shown
 
   module _ (new : Snapshot) (layout : Layout) (out : ℕ → Bool) (keeps : Keeps program t (is_stacked t) out layout (wanted_of program t layout) new.arena new.nodes)
-      (count : length new.processes ≡ length t.processes)
+      (kept : (a : ℕ) → is_stacked t a ≡ true → AreKept program t layout a) (count : length new.processes ≡ length t.processes)
       (standing : (n : ℕ) (k : Stack) (q : Process) → numbered new.processes n ≡ Some k → numbered t.processes n ≡ Some q → AreOn t q → AreStanding program t new.nodes k.operands k.levels q) where
     stacks : (n : ℕ) (k : Stack) (q : Process) → numbered new.processes n ≡ Some k → numbered t.processes n ≡ Some q → IsStack program t new.arena.contents new.nodes k q
     stacks n k q there here =
@@ -67,6 +68,7 @@ module _ (program : Units) (cells : ℕ) (choices : List ℕ) (p : ℕ) (t : Sta
     shows-after activations records faults halted =
         record {
           keeps = keeps-after layout out new.arena new.nodes keeps;
+          kept = kept;
           processes = count;
           stacks = stacks;
           activations = activations;
@@ -89,7 +91,7 @@ module _ (program : Units) (cells : ℕ) (choices : List ℕ) (p : ℕ) (t : Sta
 
 module _ (program : Units) (s t : State) (layout : Layout) (m new : Snapshot) (shows : Shows program s layout m) (p : ℕ) (old k : Stack) (before q : Process)
     (kept : numbered m.processes p ≡ Some old) (there : numbered s.processes p ≡ Some before) (changed : new.processes ≡ with_numbered m.processes p k) (set : t.processes ≡ with_numbered s.processes p q)
-    (same : t.activations ≡ s.activations)
+    (made : AreMade s t)
     (stay : (key : ℕ) (n : Node) → m.nodes key ≡ Some n → is_stacked t n.activation ≡ true → (l : Node) × (new.nodes key ≡ Some l) × (l.activation ≡ n.activation))
     (top : AreOn t q → AreStanding program t new.nodes k.operands k.levels q) where
   pub standing-changed : (n : ℕ) (j : Stack) (r : Process) → numbered new.processes n ≡ Some j → numbered t.processes n ≡ Some r → AreOn t r → AreStanding program t new.nodes j.operands j.levels r
@@ -111,4 +113,4 @@ module _ (program : Units) (s t : State) (layout : Layout) (m new : Snapshot) (s
         let one = from-one s.processes p before there in
         let kept-here = sym (other_numbered m.processes p n k one other) ∙ here-set in
         let kept-there = sym (other_numbered s.processes p n q one other) ∙ there-set in
-        standing-still program s t m.nodes new.nodes same stay j.operands j.levels r (stack-standing program s m.nodes m.arena.contents j r (shows.stacks n j r kept-here kept-there)) on
+        standing-still program s t m.nodes new.nodes made stay j.operands j.levels r (stack-standing program s m.nodes m.arena.contents j r (shows.stacks n j r kept-here kept-there)) on

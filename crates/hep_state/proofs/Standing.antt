@@ -1,12 +1,13 @@
 -- Where the levels of a process stand in the code, whatever the cells of their DOs hold.
-use Rattle.std.proofs.Common.{◌≡◌, ℕ, ◌<◌, ◌≤◌, true, List, [], ◌∷◌, length, map, Some, None, refl, sym, ap, ◌∙◌, subst}
+use Rattle.std.proofs.Common.{◌≡◌, ℕ, ◌+◌, ◌<◌, ◌≤◌, true, List, [], ◌∷◌, ◌++◌, length, map, Some, None, refl, sym, ap, ◌∙◌, subst, arith}
 use Rattle.std.specs.Option.{unwrap_or}
+use Rattle.std.proofs.lemmas.List.{length-append}
 use Rattle.hep_source.specs.declared.value.Value.{Value}
 use Rattle.hep_source.specs.Units.{Units, unit_at}
 use Rattle.hep_machine.specs.declared.slot.Slot.{Slot}
 use Rattle.hep_machine.specs.Control.{level_after_statement}
 use Rattle.hep_machine.specs.Layout.{Frame, Layout}
-use Rattle.hep_machine.specs.Processes.{activation_of, unit_of}
+use Rattle.hep_machine.specs.Processes.{unit_of}
 use Rattle.hep_machine.specs.State.{Activation, Level as SourceLevel, Process, State}
 use Rattle.hep_machine.specs.Step.{stack_after_return}
 use Rattle.hep_arena.specs.Gaps.{frame_among}
@@ -16,6 +17,7 @@ use Rattle.hep_code.specs.UnitCode.{table_of}
 use Rattle.hep_code.proofs.Moves.{StandsAt, after_statement_keeps, after_statement_stands}
 use Rattle.hep_frames.specs.Descriptors.{Describes, level_of, wanted_of}
 use Rattle.hep_frames.specs.Tree.{AreFramed, is_stacked, Node, Nodes}
+use Rattle.hep_frames.proofs.Memory.{activation-kept}
 use Rattle.hep_finding.proofs.Counted.{counted}
 use Rattle.hep_image.specs.Places.{addresses_of}
 use Rattle.hep_step.specs.Simulation.{counts_in, unit_addressed}
@@ -134,21 +136,34 @@ module _ (program : Units) (s : State) (nodes : Nodes) where
   pub stack-standing : (contents : List Slot) (k : Stack) (q : Process) → IsStack program s contents nodes k q → AreStanding k.operands k.levels q
   stack-standing contents k q h = standing contents k.operands k.levels q h.there h.levels
 
--- ---- another state with the same activations, where the nodes are under their keys still
+-- ---- another state that has the activations, where the nodes are under their keys still
 
-module _ (program : Units) (s t : State) (old new : Nodes) (same : t.activations ≡ s.activations)
+-- what was made is so still, with its unit
+abbrev pub AreMade : State → State → Type 0
+AreMade s t = (a : ℕ) → a ≤ length s.activations → (a ≤ length t.activations) × (unit_of t a ≡ unit_of s a)
+
+pub made-same : (s t : State) → t.activations ≡ s.activations → AreMade s t
+made-same s t same a le =
+    (subst (λ (xs : List Activation). a ≤ length xs) (sym same) le, ap (λ (xs : List Activation). unit_of (record s { activations = xs }) a) same)
+
+pub made-more : (s t : State) (x : Activation) → t.activations ≡ s.activations ++ x ∷ [] → AreMade s t
+made-more s t x more a le =
+    let long : length t.activations ≡ length s.activations + 1 = ap (λ (xs : List Activation). length xs) more ∙ length-append s.activations (x ∷ []) in
+    (omega (arith, long, le), ap (λ (z : Activation). z.unit) (activation-kept s t x a more le))
+
+module _ (program : Units) (s t : State) (old new : Nodes) (made : AreMade s t)
     (stay : (key : ℕ) (n : Node) → old key ≡ Some n → is_stacked t n.activation ≡ true → (m : Node) × (new key ≡ Some m) × (m.activation ≡ n.activation)) where
   pub here-still : (l : Level) (a : ℕ) → IsHere program s old l a → is_stacked t a ≡ true → IsHere program t new l a
   here-still l a h on =
       let kept = stay l.key h.node h.there (sym (ap (is_stacked t) h.activation) ∙ on) in
-      let one : activation_of t a ≡ activation_of s a = ap (λ (xs : List Activation). activation_of (record s { activations = xs }) a) same in
+      let still = made a h.made.1 in
       record {
         inside = h.inside;
         node = kept.0;
         there = kept.1;
         activation = h.activation ∙ sym kept.2;
-        made = subst (λ (xs : List Activation). (1 ≤ a) × (a ≤ length xs)) (sym same) h.made;
-        unit = ap (λ (x : Activation). x.unit) one ∙ h.unit;
+        made = (h.made.0, still.0);
+        unit = still.1 ∙ h.unit;
       }
 
   pub below-still : (ls : List Level) (levels : Process) → AreStandingBelow program s old ls levels → AreOn t levels → AreStandingBelow program t new ls levels

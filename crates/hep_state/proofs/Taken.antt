@@ -18,7 +18,7 @@ use Rattle.hep_step.specs.Effects.{effect_at, fails, moves, prints, returns, sto
 use Rattle.hep_step.specs.Performed as performed
 use Rattle.hep_step.specs.Performed.{performed as done, snapshot}
 use Rattle.hep_step.specs.Ready.{IsReady, frame_in_arena}
-use Rattle.hep_step.specs.Simulation.{IsRunning, Simulates, unit_addressed, unit_arrays, unit_code}
+use Rattle.hep_step.specs.Simulation.{IsNotLeftOut, IsRunning, Simulates, unit_addressed, unit_arrays, unit_code}
 use Rattle.hep_step.proofs.Operations.{operation_simulated}
 use Rattle.hep_step.proofs.Ready.{is_ready}
 use Rattle.hep_state.specs.declared.machine.Level.{Level}
@@ -74,10 +74,10 @@ module _ (program : Units) (cells : ℕ) (choices : List ℕ) (m : Snapshot) (p 
           (subst (λ u. ArePlacedArrays program (unit_at program u)) (sym unit-here) placed) capacity
           (subst (λ u. deepest (unit_code program u) ≤ capacity) (sym unit-here) room) (omega (arith, few, turning.after.size)))
 
-      pub ahead-simulated : Simulates program t again.after.layout (frame_under m.nodes l.key) m.arena.holes m.arena.contents (effect_at (unit_code program l.unit) (unit_arrays program l.unit) (node_under m.nodes l.key).first m.arena.contents operands index)
-      ahead-simulated =
+      pub ahead-simulated : IsNotLeftOut (unit_code program l.unit) index → Simulates program t again.after.layout (frame_under m.nodes l.key) m.arena.holes m.arena.contents (effect_at (unit_code program l.unit) (unit_arrays program l.unit) (node_under m.nodes l.key).first m.arena.contents operands index)
+      ahead-simulated others =
           subst (λ u. Simulates program t again.after.layout (frame_under m.nodes l.key) m.arena.holes m.arena.contents (effect_at (unit_code program u) (unit_arrays program u) (node_under m.nodes l.key).first m.arena.contents operands index)) unit-here (
-          operation_simulated program t again.after.layout (frame_under m.nodes l.key) m.arena.contents m.arena.holes operands index runs (subst (λ u. IsPastPushes (unit_code program u) index) (sym unit-here) settles.past))
+          operation_simulated program t again.after.layout (frame_under m.nodes l.key) m.arena.contents m.arena.holes operands index runs (subst (λ u. IsNotLeftOut (unit_code program u) index) (sym unit-here) others) (subst (λ u. IsPastPushes (unit_code program u) index) (sym unit-here) settles.past))
 
     -- ---- and the operation was performed
 

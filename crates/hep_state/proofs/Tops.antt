@@ -1,22 +1,21 @@
 -- The top activation of a process whose turn it is runs as the laws of steps ask.
 use Rattle.std.proofs.Common.{◌≡◌, Bool, ◌≢◌, inl, ℕ, zero, suc, ◌<◌, ◌≤◌, true, false, List, [], ◌∷◌, drop, length, Some, None, refl, sym, ap, ◌∙◌, subst, arith}
-use Rattle.std.specs.Prelude.{if◌then◌else◌, slice_get}
+use Rattle.std.specs.Prelude.{◌||◌, if◌then◌else◌, is_some, slice_get}
+use Rattle.std.proofs.lemmas.Bool.{eq-eqb}
 use Rattle.std.proofs.lemmas.Option.{same_Some, none-some}
 use Rattle.hep_source.specs.declared.name.Name.{Name}
-use Rattle.hep_source.specs.declared.statement.Statement.{Statement}
 use Rattle.hep_source.specs.declared.value.Value.{Value}
 use Rattle.hep_source.specs.Names.{index_among, is_among, same_name}
 use Rattle.hep_source.proofs.NameTests.{equal_names}
 use Rattle.hep_machine.specs.Declarations.{is_array}
-use Rattle.hep_source.specs.Units.{Units, dummies_of, unit_at}
+use Rattle.hep_source.specs.Units.{Units, dummies_of, line_at, main_among, unit_at}
 use Rattle.hep_machine.specs.declared.slot.Slot.{Slot}
 use Rattle.hep_machine.specs.Layout.{Layout, activations_on}
-use Rattle.hep_machine.specs.Processes.{numbered, unit_of, with_numbered}
+use Rattle.hep_machine.specs.Processes.{is_number_among, numbered, unit_of, with_numbered}
 use Rattle.hep_machine.specs.Run.{run}
 use Rattle.hep_machine.specs.State.{Activation, Level as SourceLevel, Process, State}
 use Rattle.hep_machine.specs.Step.{Top, scope_of, state_with_level, unit_on_top}
 use Rattle.hep_arena.specs.Gaps.{frame_among}
-use Rattle.hep_code.specs.declared.instruction.Instruction.{Instruction}
 use Rattle.hep_code.specs.declared.instruction.Instruction.TheVariants.{Step}
 use Rattle.hep_code.specs.declared.instruction.Evaluation.TheVariants.{Load, Test}
 use Rattle.hep_code.specs.declared.instruction.Operation.{Operation}
@@ -27,16 +26,20 @@ use Rattle.hep_code.specs.Standing.{HoldsLoops, Stands}
 use Rattle.hep_frames.specs.Addresses.{address}
 use Rattle.hep_frames.specs.Descriptors.{Describes, level_of, wanted_of}
 use Rattle.hep_frames.specs.Stacks.{times}
+use Rattle.hep_frames.specs.Tree.{is_stacked}
 use Rattle.hep_frames.proofs.Stacks.{level-found, levels-stay, once, times_on-numbered}
+use Rattle.hep_frames.proofs.Tree.{on-stacked}
+use Rattle.hep_finding.specs.Bound.{AreClosed, IsBound}
 use Rattle.hep_finding.specs.Constant.{HasConstantShape}
 use Rattle.hep_finding.proofs.Counted.{counted, loop-at}
-use Rattle.hep_finding.proofs.Named.{array-listed, constant-shape}
-use Rattle.hep_finding.proofs.Own.{own-addressed}
+use Rattle.hep_finding.proofs.Named.{array-listed}
+use Rattle.hep_finding.proofs.Reached.{any-addressed}
+use Rattle.hep_finding.proofs.Within.{few-dimensions}
 use Rattle.hep_finding.specs.Within.{ArePlacedArrays}
-use Rattle.hep_image.specs.Finding.{cells_in}
-use Rattle.hep_image.specs.Places.{arrays_of, start_of, variable_by, variable_of}
+use Rattle.hep_image.specs.Places.{arrays_of, start_of, variable_of}
+use Rattle.hep_image.specs.Supported.{first_unsupported, first_unsupported_in}
 use Rattle.hep_image.specs.declared.array.Start.{Start}
-use Rattle.hep_placed.specs.Instructions.{IsOfOneActivation, variables_in}
+use Rattle.hep_placed.specs.Instructions.{IsOfOneActivation, variables_in_operation}
 use Rattle.hep_placed.specs.Placed.{ArePlaced, code_in}
 use Rattle.hep_step.specs.Simulation.{IsRunning, counts_in, found_in, is_left_out, unit_addressed, unit_code, variable_in}
 use Rattle.hep_state.specs.declared.machine.Level.{Level}
@@ -47,16 +50,19 @@ use Rattle.hep_state.proofs.Levels.{all_levels, among-all, found, times-all}
 use Rattle.hep_state.proofs.Moved.{standing-before, there}
 use Rattle.hep_state.proofs.Shown.{numbered-set}
 
--- what is known of each unit of a program that can be run
-pub record IsPlain (program : Units) : Type 0 where
-  pub none : (u : ℕ) → u < length program → dummies_of (unit_at program u) ≡ []
-  pub activation : (u i : ℕ) (x : Instruction) → u < length program → slice_get (code_in program u) i ≡ Some x → IsOfOneActivation x
-  pub placed : (u i : ℕ) (x : Instruction) → u < length program → slice_get (code_in program u) i ≡ Some x → ArePlaced (variables_in x)
-  pub shaped : (u : ℕ) (x : Name) → u < length program → HasConstantShape (unit_at program u) x
+-- what is known of each unit of an accepted program that has a main program, and of the activations in its runs
+pub record IsKnown (program : Units) : Type 0 where
+  pub placed : (u i line : ℕ) (o : Operation) → u < length program → slice_get (code_in program u) i ≡ Some (Step line o) → ArePlaced (variables_in_operation o)
   pub begun : (u i : ℕ) (x : Name) → u < length program → slice_get (arrays_of (unit_at program u)) i ≡ Some x → (at : Start) × (is_array (unit_at program u) x ≡ true) × (start_of program (unit_at program u) x ≡ Some at)
+  pub closed : AreClosed program
+  pub bound : (choices : List ℕ) (a : ℕ) → 1 ≤ a → a ≤ length (run program choices).activations → IsBound program (run program choices) a
 
-pub plain-program : (program : Units) (u : ℕ) → u ≡ 0 → dummies_of (unit_at program 0) ≡ [] → dummies_of (unit_at program u) ≡ []
-plain-program program u first none = ap (λ n. dummies_of (unit_at program n)) first ∙ none
+-- a program in which nothing is unsupported has a main program
+pub has-main : (program : Units) → first_unsupported program ≡ None → is_some (main_among program) ≡ true
+has-main program = by_main (is_some (main_among program)) where
+  by_main : (b : Bool) → (if b then first_unsupported_in program else Some (line_at (unit_at program 0) 0)) ≡ None → b ≡ true
+  by_main true e = refl
+  by_main false e = absurd (none-some (line_at (unit_at program 0) 0) (sym e))
 
 -- ---- lists
 
@@ -73,13 +79,13 @@ unit-there (unit ∷ units) (suc u) h = unit-there units u (omega (arith, h))
 
 -- ---- operations
 
-none_left_out : (line : ℕ) (o : Operation) → IsOfOneActivation (Step line o) → is_left_out o ≡ false
+pub none_left_out : (line : ℕ) (o : Operation) → IsOfOneActivation (Step line o) → is_left_out o ≡ false
 none_left_out line (Call u count next) h = absurd h
 none_left_out line (Create u count next) h = absurd h
 none_left_out line (Purge count next) h = absurd h
 none_left_out line _ h = refl
 
-none_absent : (line : ℕ) (o : Operation) → ArePlaced (variables_in (Step line o)) → variable_in o ≢ Some Absent
+none_absent : (line : ℕ) (o : Operation) → ArePlaced (variables_in_operation o) → variable_in o ≢ Some Absent
 none_absent line (Evaluate (Load x n)) h e = h 0 x refl (same_Some x Absent e)
 none_absent line (Evaluate (Test g x n)) h e = h 0 x refl (same_Some x Absent e)
 none_absent line (Store x n next) h e = h 0 x refl (same_Some x Absent e)
@@ -87,12 +93,22 @@ none_absent line (EnterLoop x cells inside behind) h e = h 0 x refl (same_Some x
 none_absent line (EndLoop x cells inside behind) h e = h 0 x refl (same_Some x Absent e)
 none_absent line _ h e = absurd cc
 
--- what isn't absent begins somewhere
-begins : (program : Units) (unit : List Statement) (x : Name) → variable_of program unit x ≢ Absent → start_of program unit x ≢ None
-unfolding variable_of
-begins program unit x there none = there (ap (variable_by unit x) none)
+-- ---- arrays
 
-module _ (program : Units) (plain : IsPlain program) (cells : ℕ) (choices : List ℕ) (m : Snapshot) (p : ℕ) (l : Level) (ls : List Level) (vs : List Value) (top : SourceLevel × Process) (h : IsTurning program cells choices m p l ls vs top) where
+among-at : (x : Name) (xs : List Name) → is_among x xs ≡ true → (i : ℕ) × (slice_get xs i ≡ Some x)
+among-at x [] h = absurd cc
+among-at x (y ∷ ys) h = by_test (among-at x ys) (same_name x y) refl h where
+  by_test : (is_among x ys ≡ true → (i : ℕ) × (slice_get ys i ≡ Some x)) → (b : Bool) → same_name x y ≡ b → (if b then true else is_among x ys) ≡ true → (i : ℕ) × (slice_get (y ∷ ys) i ≡ Some x)
+  by_test rest true t h = (0, ap (λ (z : Name). Some z) (sym (equal_names x y t)))
+  by_test rest false t h = let found = rest h in (suc found.0, found.1)
+
+-- one that is no dummy argument has a constant shape
+own-shaped : (program : Units) → AreClosed program → (u : ℕ) → u < length program → (x : Name) → index_among x (dummies_of (unit_at program u)) ≡ None → HasConstantShape (unit_at program u) x
+own-shaped program closed u inside x none array = let shape = closed u (unit_at program u) x (unit-there program u inside) array none in (shape.0, shape.1)
+
+-- ---- the top activation
+
+module _ (program : Units) (known : IsKnown program) (cells : ℕ) (choices : List ℕ) (m : Snapshot) (p : ℕ) (l : Level) (ls : List Level) (vs : List Value) (top : SourceLevel × Process) (h : IsTurning program cells choices m p l ls vs top) where
   abbrev old : State
   old = run program choices
 
@@ -134,11 +150,19 @@ module _ (program : Units) (plain : IsPlain program) (cells : ℕ) (choices : Li
         let set : numbered (with_numbered old.processes p (after ∷ top.1)) (suc i) ≡ Some (after ∷ top.1) = subst (λ n. numbered (with_numbered old.processes n (after ∷ top.1)) (suc i) ≡ Some (after ∷ top.1)) same_number (numbered-set old.processes (suc i) (top.0 ∷ top.1) (after ∷ top.1) e) in
         found top.0.activation (all_levels (with_numbered old.processes p (after ∷ top.1))) after few (among-all after (with_numbered old.processes p (after ∷ top.1)) i (after ∷ top.1) set (inl refl)) same
 
+  bound : IsBound program old top.0.activation
+  bound = let here = (standing-before program cells choices m p l ls vs top h).0.here in known.bound choices top.0.activation here.made.0 here.made.1
+
+  on-top : is_stacked old top.0.activation ≡ true
+  on-top =
+      let a = top.0.activation in
+      on-stacked old a (p, top.0 ∷ top.1, there program cells choices m p l ls vs top h, ap (λ b. b || is_number_among a (activations_on top.1)) (eq-eqb a a refl))
+
   addressed : (x : Name) (ss : List Value) → variable_of program (unit_on_top program t) x ≢ Absent
       → IsAddressed (address program old layout) (scope_of program old top.0.activation) (found_in program number m.arena.contents (frame_under m.nodes l.key).first) (variable_of program (unit_on_top program t)) x ss
-  addressed x ss placed =
-      own-addressed program old layout (cells_in m.arena.contents) top.0.activation (frame_under m.nodes l.key) framed x ss (unit-there program number inside)
-      (ap (index_among x) (plain.none number inside)) (begins program (unit_on_top program t) x placed) (plain.shaped number x inside)
+  addressed x ss =
+      any-addressed program old layout m.arena.contents top.0.activation (frame_under m.nodes l.key) x ss h.after.shows.keeps.described framed (unit-there program number inside) bound
+      (h.after.shows.kept top.0.activation on-top) (own-shaped program known.closed number inside x)
 
   counts : (s : State) (after : SourceLevel) (slots : List Slot) → s.activations ≡ old.activations → Describes program s layout (wanted_of program s layout) slots → level_of s top.0.activation ≡ Some after
       → HoldsLoops (unit_on_top program t) (counts_in (unit_on_top program t) slots (frame_under m.nodes l.key).first) after.loops
@@ -161,31 +185,19 @@ module _ (program : Units) (plain : IsPlain program) (cells : ℕ) (choices : Li
         described = k.described;
         framed = framed;
         stands = subst (λ u. Stands (unit_addressed program u) top.0.statement top.0.work vs l.index) (sym unit-is) s0.0.stands;
-        supported = λ i line o behind ahead. none_left_out line o (plain.activation number i (Step line o) inside (dropped-first (unit_code program number) i (Step line o) behind ahead));
-        placed = λ i line o behind ahead. none_absent line o (plain.placed number i (Step line o) inside (dropped-first (unit_code program number) i (Step line o) behind ahead));
+        placed = λ i line o behind ahead. none_absent line o (known.placed number i line o inside (dropped-first (unit_code program number) i (Step line o) behind ahead));
         addressed = addressed;
         looped = λ d i is less. loop-at program old layout top.0.activation d i (frame_under m.nodes l.key) framed is less;
         counted = counts;
       }
 
--- ---- arrays
-
-among-at : (x : Name) (xs : List Name) → is_among x xs ≡ true → (i : ℕ) × (slice_get xs i ≡ Some x)
-among-at x [] h = absurd cc
-among-at x (y ∷ ys) h = by_test (among-at x ys) (same_name x y) refl h where
-  by_test : (is_among x ys ≡ true → (i : ℕ) × (slice_get ys i ≡ Some x)) → (b : Bool) → same_name x y ≡ b → (if b then true else is_among x ys) ≡ true → (i : ℕ) × (slice_get (y ∷ ys) i ≡ Some x)
-  by_test rest true t h = (0, ap (λ (z : Name). Some z) (sym (equal_names x y t)))
-  by_test rest false t h = let found = rest h in (suc found.0, found.1)
-
-pub arrays-placed : (program : Units) → IsPlain program → (u : ℕ) → u < length program → ArePlacedArrays program (unit_at program u)
-arrays-placed program plain u inside x array =
-    let unit = unit_at program u in
-    let listed = among-at x (arrays_of unit) (array-listed x unit array) in
-    let begun = plain.begun u listed.0 x inside listed.1 in
-    let shape = plain.shaped u x inside array in
-    let fixed = (constant-shape unit x shape.0 array shape.1).1 in
-    record {
-      begins = λ none. none-some begun.0 (sym none ∙ begun.2);
-      dimensions = omega (arith, fixed);
-      own = λ e. plain.shaped u x inside;
-    }
+  pub arrays-placed : ArePlacedArrays program (unit_at program l.unit)
+  arrays-placed =
+      subst (λ u. ArePlacedArrays program (unit_at program u)) unit-is (λ x array.
+      let listed = among-at x (arrays_of (unit_at program number)) (array-listed x (unit_at program number) array) in
+      let begun = known.begun number listed.0 x inside listed.1 in
+      record {
+        begins = λ none. none-some begun.0 (sym none ∙ begun.2);
+        dimensions = few-dimensions program old top.0.activation x bound array (own-shaped program known.closed number inside x);
+        own = own-shaped program known.closed number inside x;
+      })

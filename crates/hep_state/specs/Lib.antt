@@ -2,6 +2,7 @@ pub mod Snapshots
 pub mod Showing
 pub mod Turns
 pub mod Tops
+pub mod Calls
 pub mod Openings
 pub mod Rooms
 pub mod Taking

@@ -11,6 +11,7 @@ use Rattle.hep_code.specs.Stacks.{AreLevels, CodeLevel}
 use Rattle.hep_frames.specs.Descriptors.{wanted_of}
 use Rattle.hep_frames.specs.Tree.{is_stacked, Node, Nodes}
 use Rattle.hep_image.specs.Places.{addresses_of}
+use Rattle.hep_finding.specs.Bound.{AreKept}
 use Rattle.hep_proc.specs.Keeping.{Keeps}
 use Rattle.hep_step.specs.Simulation.{counts_in}
 use Rattle.hep_state.specs.declared.machine.Level.{Level}
@@ -61,9 +62,10 @@ pub record IsStack (program : Units) (s : State) (contents : List Slot) (nodes :
 -- ---- states
 
 -- what a core keeps is a state whose held activations have the frames of a layout: their storage units and their nodes, where
--- each process stands, ended ones too, and what was written
+-- each process stands, ended ones too, and what was written; and what dummy arguments on stacks stand for is in consecutive cells
 pub record Shows (program : Units) (s : State) (layout : Layout) (m : Snapshot) : Type 0 where
   pub keeps : Keeps program s (is_stacked s) (is_held s) layout (wanted_of program s layout) m.arena m.nodes
+  pub kept : (a : ℕ) → is_stacked s a ≡ true → AreKept program s layout a
   pub processes : length m.processes ≡ length s.processes
   pub stacks : (p : ℕ) (k : Stack) (q : Process) → numbered m.processes p ≡ Some k → numbered s.processes p ≡ Some q → IsStack program s m.arena.contents m.nodes k q
   pub activations : m.activations ≡ length s.activations

@@ -1,10 +1,11 @@
 //! Laws of what a core keeps: what a turn changes in it is what the source machine's step changes in the state.
-ghost use Rattle.std.specs.Prelude.{◌≡◌, ◌<◌, ◌∷◌, ℕ, Bool, true, false, List, Some, None, [], length, nat_eq};
+ghost use Rattle.std.specs.Prelude.{◌≡◌, ◌<◌, ◌∷◌, ℕ, Bool, true, false, List, Some, None, [], is_some, length, nat_eq};
 ghost use Rattle.hep_source.specs.declared.value.Value.{Value};
-ghost use Rattle.hep_source.specs.Units.{Units, main_unit, unit_at};
+ghost use Rattle.hep_source.specs.Units.{Units, main_among, main_unit, unit_at};
 ghost use Rattle.hep_machine.specs.declared.event.Kind.{Kind};
 ghost use Rattle.hep_machine.specs.declared.record.Item.{Item};
 ghost use Rattle.hep_machine.specs.declared.slot.Slot.{Slot};
+ghost use Rattle.hep_machine.specs.Binding.{Binding};
 ghost use Rattle.hep_machine.specs.Layout.{Layout, activations_on, is_held, opening_layout};
 ghost use Rattle.hep_machine.specs.Processes.{numbered};
 ghost use Rattle.hep_machine.specs.Run.{run};
@@ -21,8 +22,9 @@ ghost use Rattle.hep_image.specs.Data.{AreInitial, AreOfUnits, first_frames};
 ghost use Rattle.hep_image.specs.Supported.{first_unsupported};
 ghost use Rattle.hep_proc.specs.Keeping.{AreKept, CanAllLeave, CanLeave, HasLeft, IsEnded, IsOpening, Keeps, LeadUpwards, all_but};
 ghost use Rattle.hep_step.specs.Effects.{effect_at, fails, moves, prints, returns, stops, waits};
-ghost use Rattle.hep_step.specs.Simulation.{IsRunning, Simulates, unit_addressed, unit_arrays, unit_code};
+ghost use Rattle.hep_step.specs.Simulation.{IsNotLeftOut, IsRunning, Simulates, unit_addressed, unit_arrays, unit_code};
 ghost use Rattle.hep_state.specs.declared.machine.Level.{Level};
+ghost use Rattle.hep_state.specs.Calls.{HasEntered, IsCalling, snapshot_called, state_called};
 ghost use Rattle.hep_state.specs.Openings.{IsEntered, IsGiven, snapshot_opened, unset_opening};
 ghost use Rattle.hep_state.specs.Showing.{node_under};
 ghost use Rattle.hep_state.specs.Snapshots.{Snapshot};
@@ -40,14 +42,15 @@ pub fn turns_are_taken()
 {}
 
 /// The top activation of a process whose turn it is runs as the laws of steps ask, and each array of its unit begins
-/// somewhere, in each program that can be run so far.
+/// somewhere, in each accepted program with a main program.
 pub fn tops_are_running()
-    ensures running { (program : Units) (cells : ℕ) (choices : List ℕ) (m : Snapshot) (p : ℕ) (l : Level) (ls : List Level) (operands : List Value) (top : SourceLevel × SourceProcess) → IsAccepted program → first_unsupported program ≡ None → (turning : IsTurning program cells choices m p l ls operands top) → IsRunning program (top_after program choices p top) turning.after.layout (frame_under m.nodes l.key) m.arena.contents m.arena.holes operands l.index }
-    ensures arrays { (program : Units) (u : ℕ) → IsAccepted program → first_unsupported program ≡ None → u < length program → ArePlacedArrays program (unit_at program u) }
+    ensures running { (program : Units) (cells : ℕ) (choices : List ℕ) (m : Snapshot) (p : ℕ) (l : Level) (ls : List Level) (operands : List Value) (top : SourceLevel × SourceProcess) → IsAccepted program → is_some (main_among program) ≡ true → (turning : IsTurning program cells choices m p l ls operands top) → IsRunning program (top_after program choices p top) turning.after.layout (frame_under m.nodes l.key) m.arena.contents m.arena.holes operands l.index }
+    ensures arrays { (program : Units) (cells : ℕ) (choices : List ℕ) (m : Snapshot) (p : ℕ) (l : Level) (ls : List Level) (operands : List Value) (top : SourceLevel × SourceProcess) → IsAccepted program → is_some (main_among program) ≡ true → IsTurning program cells choices m p l ls operands top → ArePlacedArrays program (unit_at program l.unit) }
 {
-    hep_placed::laws::supported_code();
-    hep_accepted::values::arrays_have_shapes();
+    hep_placed::laws::variables_of_the_code_are_placed();
     hep_placed::laws::arrays_are_there();
+    hep_works::laws::programs_are_closed();
+    hep_works::laws::activations_are_bound_in_runs();
 }
 
 /// An operation in the code of a program that can be run so far never waits: its variables are plain.
@@ -56,6 +59,13 @@ pub fn supported_programs_never_wait()
 {
     hep_placed::laws::supported_code();
     hep_placed::laws::tested_variables_are_asynchronous();
+}
+
+/// Nor does it call, create or purge.
+pub fn supported_programs_leave_nothing_out()
+    ensures { (program : Units) (u index : ℕ) → IsAccepted program → first_unsupported program ≡ None → u < length program → IsNotLeftOut (unit_code program u) index }
+{
+    hep_placed::laws::supported_code();
 }
 
 /// Where the values that stand ahead are put behind the operands, the same state is shown.
@@ -102,6 +112,12 @@ pub fn ends_are_shown()
 /// others.
 pub fn faults_are_shown()
     ensures { (program : Units) (cells : ℕ) (choices : List ℕ) (m : Snapshot) (p : ℕ) (l : Level) (ls : List Level) (operands : List Value) (top : SourceLevel × SourceProcess) (arena : Space) (nodes : Nodes) (line : ℕ) (kind : Kind) → (turning : IsTurning program cells choices m p l ls operands top) → HasLeft program (state_failed program choices p top kind) (is_stacked (state_failed program choices p top kind)) (is_held (run program choices)) turning.after.layout m.arena arena m.nodes nodes → length arena.contents ≡ length m.arena.contents → Simulates program (top_after program choices p top) turning.after.layout (frame_under m.nodes l.key) m.arena.holes m.arena.contents (fails line kind) → HasStepped program cells choices p (snapshot_failed m p (record { process = p; unit = l.unit; line = line; kind = kind }) arena nodes) }
+{}
+
+/// CALL: where the frame of the new activation has entered, with its dummy arguments bound, the activation runs on top of its
+/// caller, which goes on behind the CALL then.
+pub fn calls_are_shown()
+    ensures { (program : Units) (cells : ℕ) (choices : List ℕ) (m : Snapshot) (p : ℕ) (l : Level) (ls : List Level) (operands : List Value) (top : SourceLevel × SourceProcess) (u next key : ℕ) (b : Binding) (arena : Space) (nodes : Nodes) → (turning : IsTurning program cells choices m p l ls operands top) → IsCalling program (top_after program choices p top) u next b → u < length program → HasEntered program (state_called program choices p top u b) turning.after.layout key m.arena arena m.nodes nodes → HasStepped program cells choices p (snapshot_called program m p l ls u next key arena nodes) }
 {}
 
 /// Where the frame of the main program has entered and DATA has given the cells their values, the opening is shown, with process

@@ -48,6 +48,7 @@ impl Machine {
         image.is_runnable();
         laws::tops_are_running();
         laws::supported_programs_never_wait();
+        laws::supported_programs_leave_nothing_out();
         let process = &mut self.processes[(p - 1) as usize];
         advance(process, &mut self.frames, alloc, image)
     }

@@ -15,7 +15,7 @@ use Rattle.hep_code.specs.declared.variable.Variable.{Variable}
 use Rattle.hep_code.specs.Ahead.{IsPastPushes}
 use Rattle.hep_code.proofs.Ahead.{step_is_ahead}
 use Rattle.hep_step.specs.Effects.{effect_ahead, effect_at, effect_of}
-use Rattle.hep_step.specs.Simulation.{IsRunning, IsSimulated, Simulates, addressed_on_top, arrays_on_top, code_on_top}
+use Rattle.hep_step.specs.Simulation.{IsNotLeftOut, IsRunning, IsSimulated, Simulates, addressed_on_top, arrays_on_top, code_on_top}
 use Rattle.hep_step.proofs.Evaluations.{evaluated}
 use Rattle.hep_step.proofs.Assignments.{value_stored}
 use Rattle.hep_step.proofs.Jumps.{jump_is_made}
@@ -74,7 +74,7 @@ stop_simulated program t layout f contents holes operands index line behind runn
 
 -- ---- all of them
 
-module _ (program : Units) (t : Top) (layout : Layout) (f : Frame) (contents : List Slot) (holes : List Hole) (operands : List Value) (index : ℕ) (running : IsRunning program t layout f contents holes operands index) where
+module _ (program : Units) (t : Top) (layout : Layout) (f : Frame) (contents : List Slot) (holes : List Hole) (operands : List Value) (index : ℕ) (running : IsRunning program t layout f contents holes operands index) (done : IsNotLeftOut (code_on_top program t) index) where
   by_operation : (o : Operation) (line : ℕ) (behind : List Instruction) → drop index (code_on_top program t) ≡ Step line o ∷ behind
       → Simulates program t layout f holes contents (effect_of (code_on_top program t) (arrays_on_top program t) f.first line o behind contents operands index)
   by_operation (Evaluate e) line behind ahead = evaluation_simulated e program t layout f contents holes operands index line behind running ahead
@@ -86,9 +86,9 @@ module _ (program : Units) (t : Top) (layout : Layout) (f : Frame) (contents : L
   by_operation (Branch inside otherwise) line behind ahead = branch_simulated inside otherwise program t layout f contents holes operands index line behind running ahead
   by_operation (EnterLoop x cells inside outside) line behind ahead = enter_simulated x cells inside outside program t layout f contents holes operands index line behind running ahead
   by_operation (EndLoop x cells inside outside) line behind ahead = end_simulated x cells inside outside program t layout f contents holes operands index line behind running ahead
-  by_operation (Call u count next) line behind ahead = absurd (let e : true ≡ false = running.supported index line (Call u count next) behind ahead in cc)
-  by_operation (Create u count next) line behind ahead = absurd (let e : true ≡ false = running.supported index line (Create u count next) behind ahead in cc)
-  by_operation (Purge count next) line behind ahead = absurd (let e : true ≡ false = running.supported index line (Purge count next) behind ahead in cc)
+  by_operation (Call u count next) line behind ahead = absurd (let e : true ≡ false = done line (Call u count next) behind ahead in cc)
+  by_operation (Create u count next) line behind ahead = absurd (let e : true ≡ false = done line (Create u count next) behind ahead in cc)
+  by_operation (Purge count next) line behind ahead = absurd (let e : true ≡ false = done line (Purge count next) behind ahead in cc)
   by_operation (Print count next) line behind ahead = print_simulated count next program t layout f contents holes operands index line behind running ahead
   by_operation Return line behind ahead = return_simulated program t layout f contents holes operands index line behind running ahead
   by_operation Stop line behind ahead = stop_simulated program t layout f contents holes operands index line behind running ahead

@@ -15,7 +15,7 @@ ghost use Rattle.hep_image.specs.Image.{most_cells};
 ghost use Rattle.hep_finding.specs.Within.{ArePlacedArrays};
 ghost use Rattle.hep_step.specs.Effects.{effect_at};
 ghost use Rattle.hep_step.specs.Ready.{IsReady, frame_in_arena};
-ghost use Rattle.hep_step.specs.Simulation.{IsRunning, IsSimulated, Simulates, arrays_on_top, code_on_top};
+ghost use Rattle.hep_step.specs.Simulation.{IsNotLeftOut, IsRunning, IsSimulated, Simulates, arrays_on_top, code_on_top};
 
 /// An operation that gives a value does what the source machine does with the redex that comes next: the value is
 /// in the place of the operands, a cell that was emptied is so in the arena, and a fault or what is waited for
@@ -68,9 +68,9 @@ pub fn runs_stop()
 {}
 
 /// Where no value stands ahead that is to be put behind the operands, whatever operation stands there does what
-/// the source machine does.
+/// the source machine does, if it isn't CALL, CREATE or PURGE.
 pub fn operations_do_what_the_machine_does()
-    ensures { (program : Units) (t : Top) (layout : Layout) (f : Frame) (contents : List Slot) (holes : List Hole) (operands : List Value) (index : ℕ) → IsRunning program t layout f contents holes operands index → IsPastPushes (code_on_top program t) index → Simulates program t layout f holes contents (effect_at (code_on_top program t) (arrays_on_top program t) f.first contents operands index) }
+    ensures { (program : Units) (t : Top) (layout : Layout) (f : Frame) (contents : List Slot) (holes : List Hole) (operands : List Value) (index : ℕ) → IsRunning program t layout f contents holes operands index → IsPastPushes (code_on_top program t) index → IsNotLeftOut (code_on_top program t) index → Simulates program t layout f holes contents (effect_at (code_on_top program t) (arrays_on_top program t) f.first contents operands index) }
 {}
 
 /// An activation that runs can do the operation ahead, where its unit's arrays begin somewhere and its operands

@@ -1,27 +1,22 @@
-use Rattle.std.proofs.Common.{◌≡◌, None, ap}
-use Rattle.hep_source.specs.Names.{is_among}
-use Rattle.hep_source.specs.Units.{Units, unit_at}
+use Rattle.std.proofs.Common.{◌≡◌, true}
+use Rattle.std.specs.Prelude.{is_some}
+use Rattle.hep_source.specs.Units.{Units, main_among}
 use Rattle.hep_check.specs.Conditions.{IsAccepted}
-use Rattle.hep_image.specs.Supported.{first_unsupported}
-use Rattle.hep_state.proofs.Tops.{IsPlain, arrays-placed, plain-program, top-runs, unit-there}
+use Rattle.hep_state.proofs.Tops.{IsKnown, arrays-placed, top-runs}
 use Rattle.hep_state.proofs.laws.tops_are_running.Goals as goal
 
--- what the laws called say of a program that can be run
-plain : goal.After-arrays_are_there → (program : Units) → IsAccepted program → first_unsupported program ≡ None → IsPlain program
-plain c program accepted none =
+-- what the laws called say of a program
+known : goal.After-activations_are_bound_in_runs → (program : Units) → IsAccepted program → is_some (main_among program) ≡ true → IsKnown program
+known c program accepted main =
     record {
-      none = λ u inside. plain-program program u (c.supported_code.ensures.one program u none inside).0 (c.supported_code.ensures.main program none).2;
-      activation = λ u i x inside e. c.supported_code.ensures.activation program u i x accepted none inside e;
-      placed = λ u i x inside e. c.supported_code.ensures.placed program u i x accepted none inside e;
-      shaped = λ u x inside array.
-          let nothing = plain-program program u (c.supported_code.ensures.one program u none inside).0 (c.supported_code.ensures.main program none).2 in
-          let shape = c.arrays_have_shapes.ensures.constant program u (unit_at program u) x accepted (unit-there program u inside) array (ap (is_among x) nothing) in
-          (shape.0, shape.1);
+      placed = λ u i line o inside e. c.variables_of_the_code_are_placed.ensures.operations program u i line o accepted inside e;
       begun = λ u i x inside e. c.arrays_are_there.ensures.unit program u i x accepted inside e;
+      closed = c.programs_are_closed.ensures.closed program accepted;
+      bound = λ choices a one made. c.activations_are_bound_in_runs.ensures program choices a accepted main one made;
     }
 
 pub returns-clause-running : goal.returns-clause-running
-returns-clause-running c program cells choices m p l ls operands top accepted none turning = top-runs program (plain c program accepted none) cells choices m p l ls operands top turning
+returns-clause-running c program cells choices m p l ls operands top accepted main turning = top-runs program (known c program accepted main) cells choices m p l ls operands top turning
 
 pub returns-clause-arrays : goal.returns-clause-arrays
-returns-clause-arrays c program u accepted none inside = arrays-placed program (plain c program accepted none) u inside
+returns-clause-arrays c program cells choices m p l ls operands top accepted main turning = arrays-placed program (known c program accepted main) cells choices m p l ls operands top turning

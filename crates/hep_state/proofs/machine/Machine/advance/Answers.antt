@@ -23,6 +23,7 @@ use Rattle.hep_state.proofs.Processes.{all-set, process-at, room-moved, stacks-s
 use Rattle.hep_state.proofs.Settled.{turning}
 use Rattle.hep_state.proofs.Stacked.{last-there}
 use Rattle.hep_state.proofs.Taken.{again, ahead-simulated, inside, left-over, ready, room-ahead, settled-now, with_performed}
+use Rattle.hep_state.proofs.Tops.{has-main}
 use Rattle.hep_state.proofs.machine.Machine.advance.Goals as goal
 
 of-ok : {A E : Type 0} (r : Result A E) {P Q : A → Type 0} → IfOk r P → ((x : A) → P x → Q x) → IfOk r Q
@@ -62,8 +63,8 @@ advance-requires c =
       room = omega (arith, room, room-ahead program cells choices m p l ls vs turn.0 turn.1);
       ready = λ settled index more settles wide.
           let next = again program cells choices m p l ls vs turn.0 turn.1 settled index settles in
-          let runs = c.tops_are_running.ensures.running program cells choices (settled-now program cells choices m p l ls vs turn.0 turn.1 settled index settles) p (record l { index = index }) ls settled turn.0 accepted supported next in
-          ready program cells choices m p l ls vs turn.0 turn.1 settled index settles runs more (c.tops_are_running.ensures.arrays program l.unit accepted supported here) h.few (omega (arith, room, wide));
+          let runs = c.tops_are_running.ensures.running program cells choices (settled-now program cells choices m p l ls vs turn.0 turn.1 settled index settles) p (record l { index = index }) ls settled turn.0 accepted (has-main program supported) next in
+          ready program cells choices m p l ls vs turn.0 turn.1 settled index settles runs more (c.tops_are_running.ensures.arrays program cells choices m p l ls vs turn.0 accepted (has-main program supported) turn.1) h.few (omega (arith, room, wide));
     }
 
 -- what the machine shows, where a process has another stack and cells of the arena have changed
@@ -99,8 +100,9 @@ returns-clause-left c =
     let turn = turning program cells choices m p h.after l ls vs c.requires.running e.3 in
     let here = inside program cells choices m p l ls vs turn.0 turn.1 in
     let next = again program cells choices m p l ls vs turn.0 turn.1 a.settled a.index a.settles in
-    let runs = c.tops_are_running.ensures.running program cells choices (settled-now program cells choices m p l ls vs turn.0 turn.1 a.settled a.index a.settles) p (record l { index = a.index }) ls a.settled turn.0 accepted supported next in
-    let simulated = ahead-simulated program cells choices m p l ls vs turn.0 turn.1 a.settled a.index a.settles runs in
+    let runs = c.tops_are_running.ensures.running program cells choices (settled-now program cells choices m p l ls vs turn.0 turn.1 a.settled a.index a.settles) p (record l { index = a.index }) ls a.settled turn.0 accepted (has-main program supported) next in
+    let others = c.supported_programs_leave_nothing_out.ensures program l.unit a.index accepted supported here in
+    let simulated = ahead-simulated program cells choices m p l ls vs turn.0 turn.1 a.settled a.index a.settles runs others in
     let quiet = c.supported_programs_never_wait.ensures program l.unit (node_under m.nodes l.key).first m.arena.contents a.settled a.index accepted supported here in
     subst (λ (n : Snapshot). IsLeft program cells choices p n effect) (sym shown) (
     left-over program cells choices m p l ls vs turn.0 turn.1 a.settled a.index a.settles ahead effect after simulated quiet c.advance.ensures.cells is))

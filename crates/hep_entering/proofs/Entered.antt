@@ -1,0 +1,103 @@
+-- Once the cells of a new frame are written, the frames of the state with its activation are kept.
+use Rattle.std.proofs.Common.{◌≡◌, ◌⊎◌, inl, inr, ℕ, suc, ◌<◌, ◌≤◌, Bool, true, false, List, [], ◌∷◌, ◌++◌, length, Option, Some, None, refl, sym, ap, ◌∙◌, subst, arith}
+use Rattle.std.specs.Prelude.{if◌then◌else◌, nat_eq}
+use Rattle.std.proofs.lemmas.Bool.{eqb-true, eq-eqb}
+use Rattle.std.proofs.lemmas.List.{length-append}
+use Rattle.std.proofs.lemmas.Option.{none-some}
+use Rattle.hep_source.specs.declared.statement.Statement.{Statement}
+use Rattle.hep_source.specs.Units.{Units, unit_at}
+use Rattle.hep_machine.specs.Access.{unset_cell}
+use Rattle.hep_machine.specs.declared.slot.Slot.{Slot}
+use Rattle.hep_machine.specs.Layout.{Frame, Layout}
+use Rattle.hep_machine.specs.Locations.{dummy_at}
+use Rattle.hep_machine.specs.Processes.{activation_of, unit_of}
+use Rattle.hep_machine.specs.State.{Activation, Level, State}
+use Rattle.hep_machine.specs.Variables.{frame_cells}
+use Rattle.hep_arena.specs.Gaps.{frame_among}
+use Rattle.hep_arena.specs.Space.{Space}
+use Rattle.hep_frames.specs.Addresses.{IsLaid, cell_in, frame_address, frame_from}
+use Rattle.hep_frames.specs.Descriptors.{Describes, level_of, loop_among, slot_of_loop, slot_on_level, wanted_of}
+use Rattle.hep_frames.specs.References.{IsMadeAt}
+use Rattle.hep_frames.specs.Rows.{FramePart, header, argument, variable, iteration, bounds, frame_row, place_of_part, same_part}
+use Rattle.hep_frames.specs.Tree.{AreWantedBut, is_stacked, IsTree, Nodes}
+use Rattle.hep_frames.proofs.Addresses.{IsFramed, framed}
+use Rattle.hep_frames.proofs.FrameRows.{equal_parts, frame_row-cells}
+use Rattle.hep_frames.proofs.Memory.{one-of}
+use Rattle.hep_frames.proofs.Rows.{owned-by}
+use Rattle.hep_frames.proofs.Wants.{wanted-entered}
+use Rattle.hep_proc.specs.Keeping.{Keeps}
+use Rattle.hep_entering.specs.Calling.{layout_with}
+use Rattle.hep_entering.specs.Writing.{is_before, wanted_up_to}
+use Rattle.hep_entering.proofs.Cells.{less-before}
+use Rattle.hep_entering.proofs.Others.{WereLoops}
+
+module _ (program : Units) (s t : State) (x : Activation) (layout : Layout) (first cells : ℕ) (laid : IsLaid program s cells layout) (more : t.activations ≡ s.activations ++ x ∷ [])
+    (made : (a k : ℕ) → a ≤ length s.activations → IsMadeAt (length s.activations) (dummy_at (activation_of s a).dummies k).start)
+    (loops : (a : ℕ) → nat_eq a (length t.activations) ≡ false → (y : Level) → level_of t a ≡ Some y → WereLoops s a y) where
+  abbrev n : ℕ
+  n = length t.activations
+
+  abbrev after : Layout
+  after = layout_with program t layout first
+
+  long : length t.activations ≡ suc (length s.activations)
+  long = ap (λ (xs : List Activation). length xs) more ∙ length-append s.activations (x ∷ []) ∙ omega arith
+
+  -- what is wanted of the others was wanted
+  was-wanted : (a : ℕ) (c : FramePart × ℕ) (v : Slot) → nat_eq a n ≡ false → a ≤ length s.activations → wanted_of program t after a c ≡ Some v → wanted_of program s layout a c ≡ Some v
+  was-wanted a (header, i) v other le w = w
+  was-wanted a (variable y, i) v other le w = w
+  was-wanted a (argument y, i) v other le w =
+      sym (wanted-entered program s (record t { processes = s.processes }) x layout first cells a (argument y, i) laid more le (λ k. made a k le) refl) ∙ w
+  was-wanted a (bounds y, i) v other le w =
+      sym (wanted-entered program s (record t { processes = s.processes }) x layout first cells a (bounds y, i) laid more le (λ k. made a k le) refl) ∙ w
+  was-wanted a (iteration d, i) v other le w = by_level (level_of t a) refl w where
+    by_level : (o : Option Level) → level_of t a ≡ o → slot_on_level o d i ≡ Some v → slot_on_level (level_of s a) d i ≡ Some v
+    by_level None e w = absurd (none-some v w)
+    by_level (Some y) e w = let was = loops a other y e in ap (λ o. slot_on_level o d i) was.1 ∙ (ap (λ ls. slot_of_loop (loop_among d ls) i) was.2 ∙ w)
+
+  -- each cell of the new frame is among those that were written
+  all-before : (c : FramePart × ℕ) (p : ℕ) → frame_address program t after n c ≡ Some p → is_before (frame_cells (unit_at program (unit_of t n))) (place_of_part (unit_at program (unit_of t n)) c.0 c.1) ≡ true
+  all-before c p k = by_place (place_of_part unit c.0 c.1) refl k where
+    unit : List Statement
+    unit = unit_at program (unit_of t n)
+
+    no-cell : (o : Option Frame) → cell_in o None ≡ Some p → ⊥
+    no-cell None e = none-some p e
+    no-cell (Some f) e = none-some p e
+
+    by_place : (o : Option ℕ) → place_of_part unit c.0 c.1 ≡ o → cell_in (frame_among n after) o ≡ Some p → is_before (frame_cells unit) o ≡ true
+    by_place None e k = absurd (no-cell (frame_among n after) k)
+    by_place (Some m) e k = less-before m (frame_cells unit) (subst (λ z. m < z) (frame_row-cells unit) (owned-by (same_part c.0) c.0 c.1 (frame_row unit) m (equal_parts c.0) e).1)
+
+  module _ (on out : ℕ → Bool) (arena : Space) (nodes : Nodes) (h : Keeps program t on out after (wanted_up_to program t after n (frame_cells (unit_at program (unit_of t n))) (wanted_of program s layout)) arena nodes)
+      (stacks : (a : ℕ) → is_stacked t a ≡ on a) where
+    described : Describes program t after (wanted_of program t after) arena.contents
+    described a c p v is k w = h.described a c p v is k (by_number (nat_eq a n) refl) where
+      unit : List Statement
+      unit = unit_at program (unit_of t n)
+
+      frame : IsFramed program t (length arena.contents) after a c p
+      frame = framed program t (length arena.contents) after a c p h.memory.laid k
+
+      by_number : (b : Bool) → nat_eq a n ≡ b → (if b then (if is_before (frame_cells unit) (place_of_part unit c.0 c.1) then wanted_of program t after n c else Some unset_cell) else wanted_of program s layout a c) ≡ Some v
+      by_number true e =
+          let same = eqb-true a n e in
+          let before = all-before c p (ap (λ z. frame_address program t after z c) (sym same) ∙ k) in
+          ap (λ z. if z then wanted_of program t after n c else Some unset_cell) before ∙ (ap (λ z. wanted_of program t after z c) (sym same) ∙ w)
+      by_number false e = was-wanted a c v e (by_frame (one-of program s t x layout first more a frame.frame laid frame.framed)) w where
+        by_frame : ((n ≡ a) × (frame_from program t n first ≡ frame.frame)) ⊎ (frame_among a layout ≡ Some frame.frame) → a ≤ length s.activations
+        by_frame (inl same) = let both : true ≡ false = sym (eq-eqb a n (sym same.0)) ∙ e in absurd cc
+        by_frame (inr there) = (laid.made a frame.frame there).1
+
+    pub keeps-entered : Keeps program t (is_stacked t) out (layout_with program t layout first) (wanted_of program t (layout_with program t layout first)) arena nodes
+    keeps-entered =
+        let same : on ≡ is_stacked t = λ i a. sym (stacks a) i in
+        record {
+          memory = h.memory;
+          tree = subst (λ test. IsTree t test out nodes) same h.tree;
+          rest = subst (λ test. AreWantedBut None t test out) same h.rest;
+          framed = h.framed;
+          frames_are = h.frames_are;
+          described = described;
+        }

@@ -1,0 +1,18 @@
+mod Cells
+mod Names
+mod Dummies
+mod Bound
+mod Passing
+mod Begun
+pub mod Found
+mod Others
+mod Entered
+mod Kept
+pub mod Calls
+mod Leading
+mod Places
+mod Rest
+mod Shaped
+mod Blocks
+pub mod Nodes
+mod Levels

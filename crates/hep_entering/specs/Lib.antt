@@ -1,0 +1,5 @@
+pub mod Giving
+pub mod Writing
+pub mod Calling
+pub mod Shapes
+pub mod Levels

@@ -1,0 +1,44 @@
+-- The bounds of adjustable arrays in a frame: X3.9-1978, 5.5, and docs/MACHINE.md, "Variables and frames".
+use Rattle.std.specs.Prelude.{◌≡◌, ℕ, ◌+◌, ◌*◌, List, length, ℤ, take, Option, Some, None, slice_get}
+use Rattle.hep_source.specs.declared.name.Name.{Name}
+use Rattle.hep_source.specs.declared.statement.Statement.{Statement}
+use Rattle.hep_source.specs.Units.{Units, dummies_of, unit_at}
+use Rattle.hep_machine.specs.Constants.{adjustable_dimensions, cells_of_all}
+use Rattle.hep_machine.specs.Layout.{Frame, Layout}
+use Rattle.hep_machine.specs.Locations.{dummy_at}
+use Rattle.hep_machine.specs.Processes.{activation_of, unit_of}
+use Rattle.hep_machine.specs.Shapes.{Bounds}
+use Rattle.hep_machine.specs.State.{State}
+use Rattle.hep_machine.specs.Variables.{adjustable_dimensions_of_all, do_statements, locals_of}
+use Rattle.hep_arena.specs.Gaps.{frame_among}
+use Rattle.hep_arena.specs.Space.{Space}
+use Rattle.hep_frames.specs.Descriptors.{number}
+use Rattle.hep_entering.specs.Giving.{AreDistinct}
+use Rattle.hep_entering.specs.Writing.{IsSet}
+
+-- the cells of a unit's frame behind its header that are for dummy arguments, and all up to the bounds
+abbrev pub cells_to_locals : List Statement → ℕ
+cells_to_locals unit = 1 + 2 * length (dummies_of unit)
+
+abbrev pub cells_to_bounds : List Statement → ℕ
+cells_to_bounds unit = 1 + (2 * length (dummies_of unit) + (cells_of_all unit (locals_of unit) + 2 * do_statements unit))
+
+-- and all up to the bounds of dummy argument k, counted from 0, or to the end
+abbrev pub cells_to_bounds_of : List Statement → ℕ → ℕ
+cells_to_bounds_of unit k = cells_to_bounds unit + 2 * adjustable_dimensions_of_all unit (take k (dummies_of unit))
+
+-- the frame of activation a has the bounds of dummy argument k from a cell on, as many as its array has, which is adjustable
+pub record IsShaping (program : Units) (s : State) (layout : Layout) (a k at : ℕ) (shape : Bounds) : Type 0 where
+  pub frame : Frame
+  pub framed : frame_among a layout ≡ Some frame
+  pub begins : at ≡ frame.first + cells_to_bounds_of (unit_at program (unit_of s a)) k
+  pub distinct : AreDistinct (dummies_of (unit_at program (unit_of s a)))
+  pub name : Name
+  pub named : slice_get (dummies_of (unit_at program (unit_of s a))) k ≡ Some name
+  pub dimensions : length shape ≡ adjustable_dimensions (unit_at program (unit_of s a)) name
+  pub shape_is : (dummy_at (activation_of s a).dummies k).shape ≡ shape
+
+-- the bounds of a dimension are written to two cells, from a cell on: an open one leaves the second one as it is
+abbrev pub IsBoundPut : ℕ → ℤ → Option ℤ → Space → Space → Type 0
+IsBoundPut p lower None before after = IsSet p (number lower) before after
+IsBoundPut p lower (Some upper) before after = (between : Space) × IsSet p (number lower) before between × IsSet (p + 1) (number upper) between after

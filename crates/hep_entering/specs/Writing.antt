@@ -1,0 +1,48 @@
+-- The frame of a new activation while its cells are written: docs/MACHINE.md, "Variables and frames".
+use Rattle.std.specs.Prelude.{◌≡◌, ℕ, ◌+◌, Bool, false, nat_eq, nat_lt, pos, if◌then◌else◌, List, Option, Some, None, slice_set}
+use Rattle.hep_source.specs.Units.{Units, dummies_of, unit_at}
+use Rattle.hep_machine.specs.Access.{unset_cell}
+use Rattle.hep_machine.specs.declared.slot.Slot.{Slot}
+use Rattle.hep_machine.specs.Layout.{Frame, Layout}
+use Rattle.hep_machine.specs.Processes.{activation_of, unit_of}
+use Rattle.hep_machine.specs.State.{State, Store}
+use Rattle.hep_arena.specs.Gaps.{frame_among}
+use Rattle.hep_arena.specs.Space.{Space}
+use Rattle.hep_frames.specs.Descriptors.{Wanted, number, wanted_of}
+use Rattle.hep_frames.specs.Rows.{place_of_part}
+use Rattle.hep_passing.specs.declared.given.Given.{Given}
+use Rattle.hep_passing.specs.declared.given.Given.TheVariants as given
+use Rattle.hep_entering.specs.Giving.{AreDistinct, AreGiven}
+
+-- a cell that has so many in front of it, if it is there, is one of the first m
+abbrev pub is_before : ℕ → Option ℕ → Bool
+is_before m None = false
+is_before m (Some n) = nat_lt n m
+
+-- of the first m cells of activation a's frame it is wanted what a state wants, the others are unset; and of other frames it is wanted
+-- what was wanted
+abbrev pub wanted_up_to : Units → State → Layout → ℕ → ℕ → Wanted → Wanted
+wanted_up_to program s layout a m wanted b c =
+    if nat_eq b a then (if is_before m (place_of_part (unit_at program (unit_of s a)) c.0 c.1) then wanted_of program s layout a c else Some unset_cell) else wanted b c
+
+-- a state with another store
+abbrev pub with_stored : State → Store → State
+with_stored s store = record s { store = store }
+
+-- one cell is written
+pub record IsSet (p : ℕ) (slot : Slot) (before after : Space) : Type 0 where
+  pub contents_are : after.contents ≡ slice_set before.contents p slot
+  pub holes_are : after.holes ≡ before.holes
+
+-- the frame of activation a begins at a cell, and its dummy arguments, whose names are distinct, stand for what is given
+pub record IsBinding (program : Units) (s : State) (layout : Layout) (a first : ℕ) (given : List Given) : Type 0 where
+  pub frame : Frame
+  pub framed : frame_among a layout ≡ Some frame
+  pub begins : frame.first ≡ first
+  pub distinct : AreDistinct (dummies_of (unit_at program (unit_of s a)))
+  pub given_are : AreGiven program s layout a (dummies_of (unit_at program (unit_of s a))) (activation_of s a).dummies given
+
+-- what is given is written to the two cells of a dummy argument, from a cell on: a value leaves the second one as it is
+abbrev pub IsPut : ℕ → Given → Space → Space → Type 0
+IsPut p (given.Value v) before after = IsSet p (record { value = Some v; full = false }) before after
+IsPut p (given.Units first count) before after = (between : Space) × IsSet p (number (pos first)) before between × IsSet (p + 1) (number (pos count)) between after

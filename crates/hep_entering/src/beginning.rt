@@ -1,0 +1,51 @@
+//! The frame of a new activation enters, and its dummy arguments are written.
+ghost use Rattle.std.specs.Prelude.{◌≡◌, ◌+◌, ◌*◌, ◌≤◌, ℕ, Bool, List, Some, None, IsSome, length};
+ghost use Rattle.slab.specs.Slab.{ContainsKey, HasRoomFor};
+ghost use Rattle.hep_source.specs.Units.{Units};
+ghost use Rattle.hep_machine.specs.Binding.{Binding};
+ghost use Rattle.hep_machine.specs.Evaluation.{Actual};
+ghost use Rattle.hep_machine.specs.Layout.{Layout, common_cells, frame_of, lowest_gap};
+ghost use Rattle.hep_machine.specs.Run.{run};
+ghost use Rattle.hep_machine.specs.State.{Level, Process, State};
+ghost use Rattle.hep_machine.specs.Step.{scope_of};
+ghost use Rattle.hep_arena.specs.Holes.{first_fit};
+ghost use Rattle.hep_frames.specs.Descriptors.{wanted_of};
+ghost use Rattle.hep_frames.specs.Tree.{Node as TreeNode, is_stacked, new_node, with_node};
+ghost use Rattle.hep_proc.specs.Keeping.{AreKept, Keeps};
+ghost use Rattle.hep_proc.specs.Nodes.{CanCount, nodes_of};
+ghost use Rattle.hep_entering.specs.Calling.{ArePassed, IsPassing, IsWritten, state_begun, unit_begun};
+ghost use Rattle.hep_entering.specs.Shapes.{cells_to_locals};
+
+use crate::binding::bind;
+use hep_passing::Given;
+use hep_proc::Frames;
+
+/// The frame of a new activation enters, which runs the unit of an index and whose parent's node is under a key, and what is given is
+/// written to the cells of its dummy arguments. Answers the key of its node.
+///
+/// There is room for a node, and a gap of so many cells, in which a header and the dummy arguments fit.
+pub fn begin(
+    frames: &mut Frames,
+    activation: u64,
+    unit: u32,
+    cells: u32,
+    parent: usize,
+    given: &[Given],
+) -> usize
+    requires room { HasRoomFor frames.old.nodes 1 }
+    requires few { length frames.old.arena.contents ≤ 16777216 }
+    requires many { 1 + 2 * length given.now ≤ cells }
+    requires gap { IsSome (first_fit cells frames.old.arena.holes) }
+    requires there { ContainsKey frames.old.nodes parent }
+    requires kept { AreKept frames.old.arena (nodes_of frames.old.nodes) }
+    requires children { CanCount (nodes_of frames.old.nodes) parent }
+    ensures vacant { nodes_of frames.old.nodes result ≡ None }
+    ensures nodes { (first : ℕ) → first_fit cells frames.old.arena.holes ≡ Some first → nodes_of frames.new.nodes ≡ with_node (nodes_of frames.old.nodes) result (new_node activation unit first cells parent) parent }
+    ensures cells { length frames.new.arena.contents ≡ length frames.old.arena.contents }
+    ensures written { (program : Units) (choices : List ℕ) (p : ℕ) (top : Level × Process) (u : ℕ) (actuals : List Actual) (b : Binding) (t : State) (layout : Layout) (out : ℕ → Bool) (n : TreeNode) → Keeps program (run program choices) (is_stacked (run program choices)) out layout (wanted_of program (run program choices) layout) frames.old.arena (nodes_of frames.old.nodes) → nodes_of frames.old.nodes parent ≡ Some n → n.activation ≡ top.0.activation → IsPassing program choices p top u actuals b → ArePassed program (run program choices) layout (scope_of program (run program choices) top.0.activation) actuals given.now → t.activations ≡ (state_begun program choices top u b).activations → t.store ≡ b.store → activation ≡ length t.activations → unit ≡ u → cells ≡ frame_of program t (length t.activations) → (first : ℕ) × (first_fit cells frames.old.arena.holes ≡ Some first) × (lowest_gap (length frames.old.arena.contents) cells (common_cells program) layout ≡ Some first) × IsWritten program (run program choices) t layout first (cells_to_locals (unit_begun program t)) out frames.new.arena (nodes_of frames.new.nodes) }
+{
+    let key = frames.enter(activation, unit, cells, parent);
+    let first = frames.first(key);
+    bind(frames, first, given);
+    key
+}
