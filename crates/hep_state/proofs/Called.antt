@@ -1,5 +1,5 @@
 -- A CALL: what shows the state with the new activation.
-use Rattle.std.proofs.Common.{◌≡◌, ℕ, suc, ◌+◌, ◌<◌, Bool, true, false, List, [], ◌∷◌, ◌++◌, length, Some, refl, sym, ap, ◌∙◌, subst, arith}
+use Rattle.std.proofs.Common.{◌≡◌, ℕ, suc, ◌+◌, ◌<◌, Bool, true, false, List, [], ◌∷◌, ◌++◌, length, Some, Ok, refl, sym, ap, ◌∙◌, subst, arith}
 use Rattle.std.specs.Prelude.{if◌then◌else◌, nat_eq}
 use Rattle.std.specs.Option.{option_map}
 use Rattle.std.proofs.lemmas.Bool.{eqb-true}
@@ -13,6 +13,7 @@ use Rattle.hep_machine.specs.Run.{run}
 use Rattle.hep_machine.specs.State.{Activation, Level as SourceLevel, Process, State}
 use Rattle.hep_machine.specs.Step.{binding_of, entry_level, next_activation, result_after_call, result_after_next, step_result_of, step_result_of_top, stepped}
 use Rattle.hep_arena.specs.Space.{Space}
+use Rattle.hep_code.specs.declared.instruction.Instruction.{Instruction}
 use Rattle.hep_code.specs.Stacks.{entry_index}
 use Rattle.hep_code.specs.UnitCode.{table_of}
 use Rattle.hep_code.proofs.Moves.{entry_stands}
@@ -21,9 +22,10 @@ use Rattle.hep_frames.specs.Addresses.{frame_from}
 use Rattle.hep_frames.specs.Tree.{Node, Nodes, is_stacked}
 use Rattle.hep_frames.proofs.Memory.{activation-last}
 use Rattle.hep_frames.proofs.StackChanges.{stacks-begun}
+use Rattle.hep_step.specs.Calls.{IsCallAhead}
 use Rattle.hep_step.specs.Simulation.{unit_addressed}
 use Rattle.hep_state.specs.declared.machine.Level.{Level}
-use Rattle.hep_state.specs.Calls.{HasEntered, IsCalling, layout_entered, snapshot_called, state_called}
+use Rattle.hep_state.specs.Calls.{HasEntered, layout_entered, snapshot_called, state_called}
 use Rattle.hep_state.specs.Snapshots.{Snapshot, Stack}
 use Rattle.hep_state.specs.Tops.{IsTurning, top_after}
 use Rattle.hep_state.specs.Turns.{HasStepped}
@@ -35,7 +37,7 @@ use Rattle.hep_state.proofs.Shown.{remaining-after, shows-after, standing-change
 use Rattle.hep_state.proofs.Standing.{AreStanding, AreStandingBelow, below-still, made-more}
 
 module _ (program : Units) (cells : ℕ) (choices : List ℕ) (m : Snapshot) (p : ℕ) (l : Level) (ls : List Level) (vs : List Value) (top : SourceLevel × Process) (h : IsTurning program cells choices m p l ls vs top)
-    (u next key : ℕ) (b : Binding) (calls : IsCalling program (top_after program choices p top) u next b) (inside : u < length program) where
+    (u count next key : ℕ) (behind : List Instruction) (b : Binding) (calls : IsCallAhead program (top_after program choices p top) vs u count next behind) (bound : binding_of program (top_after program choices p top) u calls.actuals ≡ Ok b) (inside : u < length program) where
   abbrev old : State
   old = run program choices
 
@@ -57,7 +59,7 @@ module _ (program : Units) (cells : ℕ) (choices : List ℕ) (m : Snapshot) (p 
       let t0 = top_after program choices p top in
       ap (step_result_of_top program old p) h.lives ∙ (
       ap (result_after_next program t0) calls.does_so ∙ (
-      ap (λ v. result_after_call program t0 v (binding_of program t0 v calls.actuals)) calls.unit ∙ ap (result_after_call program t0 u) calls.bound))
+      ap (λ v. result_after_call program t0 v (binding_of program t0 v calls.actuals)) (sym calls.unit) ∙ ap (result_after_call program t0 u) bound))
 
   state-next : run program (choices ++ p ∷ []) ≡ t
   state-next = turned program choices p t (step-is program p old t h.running call-made)

@@ -1,17 +1,14 @@
 -- CALL: X3.9-1978, 15.6.2, and docs/MACHINE.md, "Steps" and "Layout".
-use Rattle.std.specs.Prelude.{◌≡◌, ℕ, ◌+◌, Bool, List, [], ◌∷◌, length, Ok, Some}
-use Rattle.hep_source.specs.declared.name.Name.{Name}
+use Rattle.std.specs.Prelude.{◌≡◌, ℕ, ◌+◌, Bool, List, [], ◌∷◌, length, Some}
 use Rattle.hep_source.specs.Units.{Units, unit_at}
 use Rattle.hep_machine.specs.Binding.{Binding}
-use Rattle.hep_machine.specs.Evaluation.{Actual, calling, does, next_of}
 use Rattle.hep_machine.specs.Layout.{Layout, common_cells, frame_of, lowest_gap, with_frame}
-use Rattle.hep_machine.specs.Processes.{unit_of, with_process}
+use Rattle.hep_machine.specs.Processes.{with_process}
 use Rattle.hep_machine.specs.Run.{run}
 use Rattle.hep_machine.specs.State.{Level as SourceLevel, Process, State}
-use Rattle.hep_machine.specs.Step.{Top, binding_of, entry_level, next_activation, unit_called, unit_on_top, with_activation}
+use Rattle.hep_machine.specs.Step.{entry_level, next_activation, with_activation}
 use Rattle.hep_arena.specs.Space.{Space}
 use Rattle.hep_code.specs.Stacks.{entry_index}
-use Rattle.hep_code.specs.UnitCode.{table_of}
 use Rattle.hep_finding.specs.Bound.{AreKept}
 use Rattle.hep_frames.specs.Addresses.{frame_from}
 use Rattle.hep_frames.specs.Descriptors.{wanted_of}
@@ -22,16 +19,7 @@ use Rattle.hep_state.specs.declared.machine.Level.{Level}
 use Rattle.hep_state.specs.Snapshots.{Snapshot}
 use Rattle.hep_state.specs.Tops.{top_after, with_stack}
 
--- the top activation calls unit u with dummy arguments bound so, and goes on at an index of its unit's code then
-pub record IsCalling (program : Units) (t : Top) (u next : ℕ) (b : Binding) : Type 0 where
-  pub name : Name
-  pub actuals : List Actual
-  pub does_so : next_of (unit_on_top program t) t.level.work ≡ does (calling name actuals)
-  pub unit : unit_called program name ≡ u
-  pub onward : next ≡ ((table_of (unit_addressed program (unit_of t.state t.level.activation))).flows t.level.statement).next
-  pub bound : binding_of program t u actuals ≡ Ok b
-
--- the state once it has called
+-- the state once the top activation has called unit u, with its dummy arguments bound so
 abbrev pub state_called : Units → List ℕ → ℕ → SourceLevel × Process → ℕ → Binding → State
 state_called program choices p top u b =
     with_process (with_activation (top_after program choices p top) u b) p (entry_level (unit_at program u) (next_activation (run program choices)) ∷ (top.0 ∷ top.1))

@@ -1,5 +1,5 @@
 //! Laws of what a core keeps: what a turn changes in it is what the source machine's step changes in the state.
-ghost use Rattle.std.specs.Prelude.{◌≡◌, ◌<◌, ◌∷◌, ℕ, Bool, true, false, List, Some, None, [], is_some, length, nat_eq};
+ghost use Rattle.std.specs.Prelude.{◌≡◌, ◌<◌, ◌∷◌, ℕ, Bool, true, false, List, Some, None, Ok, [], is_some, length, nat_eq};
 ghost use Rattle.hep_source.specs.declared.value.Value.{Value};
 ghost use Rattle.hep_source.specs.Units.{Units, main_among, main_unit, unit_at};
 ghost use Rattle.hep_machine.specs.declared.event.Kind.{Kind};
@@ -10,8 +10,10 @@ ghost use Rattle.hep_machine.specs.Layout.{Layout, activations_on, is_held, open
 ghost use Rattle.hep_machine.specs.Processes.{numbered};
 ghost use Rattle.hep_machine.specs.Run.{run};
 ghost use Rattle.hep_machine.specs.State.{Level as SourceLevel, Process as SourceProcess, State, Work};
+ghost use Rattle.hep_machine.specs.Step.{binding_of};
 ghost use Rattle.hep_check.specs.Conditions.{IsAccepted};
 ghost use Rattle.hep_arena.specs.Space.{Space};
+ghost use Rattle.hep_code.specs.declared.instruction.Instruction.{Instruction};
 ghost use Rattle.hep_code.specs.Stacks.{entry_index};
 ghost use Rattle.hep_code.specs.Standing.{Stands};
 ghost use Rattle.hep_frames.specs.Descriptors.{wanted_of};
@@ -21,10 +23,11 @@ ghost use Rattle.hep_image.specs.declared.data.DataRow.{DataRow};
 ghost use Rattle.hep_image.specs.Data.{AreInitial, AreOfUnits, first_frames};
 ghost use Rattle.hep_image.specs.Supported.{first_unsupported};
 ghost use Rattle.hep_proc.specs.Keeping.{AreKept, CanAllLeave, CanLeave, HasLeft, IsEnded, IsOpening, Keeps, LeadUpwards, all_but};
+ghost use Rattle.hep_step.specs.Calls.{IsCallAhead};
 ghost use Rattle.hep_step.specs.Effects.{effect_at, fails, moves, prints, returns, stops, waits};
 ghost use Rattle.hep_step.specs.Simulation.{IsNotLeftOut, IsRunning, Simulates, unit_addressed, unit_arrays, unit_code};
 ghost use Rattle.hep_state.specs.declared.machine.Level.{Level};
-ghost use Rattle.hep_state.specs.Calls.{HasEntered, IsCalling, snapshot_called, state_called};
+ghost use Rattle.hep_state.specs.Calls.{HasEntered, snapshot_called, state_called};
 ghost use Rattle.hep_state.specs.Openings.{IsEntered, IsGiven, snapshot_opened, unset_opening};
 ghost use Rattle.hep_state.specs.Showing.{node_under};
 ghost use Rattle.hep_state.specs.Snapshots.{Snapshot};
@@ -117,7 +120,7 @@ pub fn faults_are_shown()
 /// CALL: where the frame of the new activation has entered, with its dummy arguments bound, the activation runs on top of its
 /// caller, which goes on behind the CALL then.
 pub fn calls_are_shown()
-    ensures { (program : Units) (cells : ℕ) (choices : List ℕ) (m : Snapshot) (p : ℕ) (l : Level) (ls : List Level) (operands : List Value) (top : SourceLevel × SourceProcess) (u next key : ℕ) (b : Binding) (arena : Space) (nodes : Nodes) → (turning : IsTurning program cells choices m p l ls operands top) → IsCalling program (top_after program choices p top) u next b → u < length program → HasEntered program (state_called program choices p top u b) turning.after.layout key m.arena arena m.nodes nodes → HasStepped program cells choices p (snapshot_called program m p l ls u next key arena nodes) }
+    ensures { (program : Units) (cells : ℕ) (choices : List ℕ) (m : Snapshot) (p : ℕ) (l : Level) (ls : List Level) (operands : List Value) (top : SourceLevel × SourceProcess) (u count next key : ℕ) (behind : List Instruction) (b : Binding) (arena : Space) (nodes : Nodes) → (turning : IsTurning program cells choices m p l ls operands top) → (calls : IsCallAhead program (top_after program choices p top) operands u count next behind) → binding_of program (top_after program choices p top) u calls.actuals ≡ Ok b → u < length program → HasEntered program (state_called program choices p top u b) turning.after.layout key m.arena arena m.nodes nodes → HasStepped program cells choices p (snapshot_called program m p l ls u next key arena nodes) }
 {}
 
 /// Where the frame of the main program has entered and DATA has given the cells their values, the opening is shown, with process

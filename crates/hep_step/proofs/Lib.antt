@@ -1,5 +1,6 @@
 pub mod Accesses
 pub mod Assignments
+pub mod Calls
 pub mod Counts
 pub mod Endings
 pub mod Evaluations

@@ -3,3 +3,4 @@ pub mod Items
 pub mod Performed
 pub mod Ready
 pub mod Simulation
+pub mod Calls

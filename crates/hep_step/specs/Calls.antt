@@ -1,0 +1,27 @@
+-- What a CALL that stands ahead calls: X3.9-1978, 15.6.2, and docs/MACHINE.md, "Steps".
+use Rattle.std.specs.Prelude.{◌≡◌, ℕ, List, ◌++◌, length, map}
+use Rattle.std.specs.List.{flat_map}
+use Rattle.hep_source.specs.declared.name.Name.{Name}
+use Rattle.hep_source.specs.declared.value.Value.{Value}
+use Rattle.hep_source.specs.Units.{Units}
+use Rattle.hep_machine.specs.Evaluation.{Actual, calling, does, next_of}
+use Rattle.hep_machine.specs.Step.{Top, unit_called, unit_on_top}
+use Rattle.hep_code.specs.declared.instruction.Instruction.{Instruction}
+use Rattle.hep_code.specs.declared.instruction.Instruction.TheVariants.{Pass}
+use Rattle.hep_code.specs.Actions.{argument_of_actual, operands_of_actual}
+use Rattle.hep_code.specs.UnitCode.{table_of}
+use Rattle.hep_image.specs.Places.{variable_of}
+use Rattle.hep_step.specs.Simulation.{addressed_on_top}
+
+-- the source machine calls unit u with so many actual arguments, which the operands and the entries behind the operation pass, and
+-- the activation goes on at an index then
+pub record IsCallAhead (program : Units) (t : Top) (operands : List Value) (u count next : ℕ) (behind : List Instruction) : Type 0 where
+  pub name : Name
+  pub actuals : List Actual
+  pub does_so : next_of (unit_on_top program t) t.level.work ≡ does (calling name actuals)
+  pub unit : u ≡ unit_called program name
+  pub counted : count ≡ length actuals
+  pub onward : next ≡ ((table_of (addressed_on_top program t)).flows t.level.statement).next
+  pub operands_are : operands ≡ flat_map operands_of_actual actuals
+  pub more : List Instruction
+  pub entries : behind ≡ map (λ a. Pass (argument_of_actual (variable_of program (unit_on_top program t)) a)) actuals ++ more
