@@ -1,6 +1,6 @@
 -- What an image has of a program: docs/ARCHITECTURE.md, "Forms".
 use Rattle.std.specs.Prelude.{◌≡◌, ℕ, ◌≤◌, List, None, map, length, slice_get, Some}
-use Rattle.hep_source.specs.Units.{Units, unit_at}
+use Rattle.hep_source.specs.Units.{Units, main_among, unit_at}
 use Rattle.hep_machine.specs.Layout.{common_cells}
 use Rattle.hep_machine.specs.Variables.{frame_cells}
 use Rattle.hep_check.specs.Conditions.{IsAccepted}
@@ -31,13 +31,14 @@ pub record IsUnitCode (program : Units) (u : ℕ) (unit : UnitCode) : Type 0 whe
   pub few_cells : unit.cells ≤ most_cells
   pub private_are : unit.private ≡ private_cells (unit_at program u)
 
--- an image of an accepted program that can be run has all of its units, the cells of COMMON, what DATA gives at the
--- opening, and the names
-pub record IsImage (program : Units) (units : List UnitCode) (common : ℕ) (rows : List DataRow) (names : List (List ℕ)) : Type 0 where
+-- an image of an accepted program that can be run has all of its units, the index of the main program, the cells of COMMON, what
+-- DATA gives at the opening, and the names
+pub record IsImage (program : Units) (units : List UnitCode) (main common : ℕ) (rows : List DataRow) (names : List (List ℕ)) : Type 0 where
   pub accepted : IsAccepted program
   pub supported : first_unsupported program ≡ None
   pub all : length units ≡ length program
   pub units_are : (u : ℕ) (unit : UnitCode) → slice_get units u ≡ Some unit → IsUnitCode program u unit
+  pub main_is : main_among program ≡ Some main
   pub common_is : common ≡ common_cells program
   pub few_cells : common ≤ most_cells
   pub initial : AreInitial program rows

@@ -1,7 +1,8 @@
 //! Images.
-ghost use Rattle.std.specs.Prelude.{◌≡◌, ◌↔◌, ◌≤◌, ◌<◌, None, length, option_map, slice_get, IfOk, IsTrue};
+ghost use Rattle.std.specs.Prelude.{◌≡◌, ◌↔◌, ◌≤◌, ◌<◌, None, Some, length, option_map, slice_get, IfOk, IsTrue};
 ghost use Rattle.hep_check.specs.Conditions.{IsAccepted};
 ghost use Rattle.hep_machine.specs.Layout.{common_cells};
+ghost use Rattle.hep_source.specs.Units.{main_among};
 ghost use Rattle.hep_image.specs.Data.{AreInitial, AreOfUnits};
 ghost use Rattle.hep_image.specs.Image as spec;
 ghost use Rattle.hep_image.specs.Image.{IsImage, IsUnitCode};
@@ -20,6 +21,8 @@ use std::marker::Model;
 pub struct Image {
     program: Program,
     units: Sequence<UnitCode>,
+    /// The index of the main program.
+    main: u32,
     /// How many cells COMMON has.
     common: u32,
     /// What DATA gives the cells of COMMON and of the main program's frame, which is just behind it.
@@ -41,25 +44,27 @@ impl Model for Image {
 
     ghost view = { λ a. a.program };
 
-    ghost invariant = { λ a. IsImage a.program a.units a.common a.rows a.names };
+    ghost invariant = { λ a. IsImage a.program a.units a.main a.common a.rows a.names };
 }
 
 impl Image {
-    /// A program, what a core runs of its units, how many cells COMMON has, what DATA gives at the opening, and
-    /// the names. `hep_lower` finds out all of it.
+    /// A program, what a core runs of its units, the index of its main program, how many cells COMMON has, what DATA
+    /// gives at the opening, and the names. `hep_lower` finds out all of it.
     pub fn new(
         program: Program,
         units: Sequence<UnitCode>,
+        main: u32,
         common: u32,
         rows: Sequence<DataRow>,
         names: Sequence<Text>,
     ) -> Image
-        requires { IsImage program units common rows names }
+        requires { IsImage program units main common rows names }
         ensures { result ≡ program }
     {
         Image {
             program,
             units,
+            main,
             common,
             rows,
             names,
@@ -79,6 +84,14 @@ impl Image {
         ensures { IsUnitCode self.now index result.now }
     {
         &self.units.as_slice()[index]
+    }
+
+    /// The index in the source of the main program, counted from 0.
+    pub fn main(&self) -> u32
+        ensures main { main_among self.now ≡ Some result }
+        ensures inside { result < length self.now }
+    {
+        self.main
     }
 
     /// How many cells COMMON has.
@@ -129,6 +142,7 @@ impl Image {
         Ok(Image {
             program: self.program.copy(alloc)?,
             units: self.units.copy(alloc)?,
+            main: self.main,
             common: self.common,
             rows: self.rows.copy(alloc)?,
             names: self.names.copy(alloc)?,

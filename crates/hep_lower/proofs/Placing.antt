@@ -57,9 +57,9 @@ ok-then (Ok x) P Q h f = f x h
 ok-then (Err e) P Q h f = tt
 
 -- the main program's places are those by which DATA finds its cells
-pub main-frame : (program : Units) (unit : List Statement) (places : UnitPlaces) (arrays : List Array) (cells : ℕ) → main_unit program ≡ 0 → unit ≡ unit_at program 0 → ArePlaces program (unit_at program 0) places → arrays ≡ places.arrays.items
-    → cells ≡ common_cells program → common_cells program ≤ most_cells → frame_cells (unit_at program 0) ≤ most_cells → IsMainFrame program unit (get name_eq places.places.variables) arrays cells
-main-frame program unit places arrays cells first same known listed shared few_shared few_own =
+pub main-frame : (program : Units) (unit : List Statement) (places : UnitPlaces) (arrays : List Array) (main cells : ℕ) → main_unit program ≡ main → unit ≡ unit_at program main → ArePlaces program (unit_at program main) places → arrays ≡ places.arrays.items
+    → cells ≡ common_cells program → common_cells program ≤ most_cells → frame_cells (unit_at program main) ≤ most_cells → IsMainFrame program unit (get name_eq places.places.variables) arrays cells
+main-frame program unit places arrays main cells first same known listed shared few_shared few_own =
     subst (λ u. IsMainFrame program u (get name_eq places.places.variables) arrays cells) (sym same) (record {
       main = ap (unit_at program) (sym first);
       placed = known.variables;

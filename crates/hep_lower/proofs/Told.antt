@@ -2,6 +2,7 @@
 use Rattle.std.proofs.Common.{◌≡◌, ◌≢◌, inl, inr, ℕ, ◌<◌, ◌≤◌, ◌+◌, List, [], Some, None, length, refl, sym, ap, ◌∙◌, subst, arith}
 use Rattle.std.specs.Prelude.{Result, Ok, Err, IfErr}
 use Rattle.std.specs.Result.{IsErr, IsErrAnd}
+use Rattle.std.proofs.lemmas.Option.{none-some}
 use Rattle.hep_base.specs.declared.refusal.Refusal.{Refusal as LowerFault}
 use Rattle.hep_base.specs.declared.refusal.Refusal.TheVariants.{NoMemory, Refused}
 use Rattle.hep_source.specs.Units.{Units, main_among, unit_at}
@@ -18,6 +19,9 @@ use Rattle.hep_image.specs.Supported.{first_unsupported}
 use Rattle.hep_lower.specs.declared.units.LoweredUnits.{LoweredUnits}
 use Rattle.hep_lower.specs.Refusals.{AreCellsBeyond, IsCodeBeyond, IsFirstDeep, IsLowered, IsWithinLimits, Refuses, RefusesCode}
 use Rattle.hep_lower.specs.Units.{AreUnits}
+
+pub some-main : (program : Units) (main : ℕ) → main_among program ≡ Some main → main_among program ≢ None
+some-main program main e none = none-some main (sym none ∙ e)
 
 module _ (program : Units) (main : main_among program ≢ None) where
   pub told-cells : (fault : LowerFault) → fault ≡ Refused 401 0 [] → AreCellsBeyond program → Refuses program fault
@@ -54,14 +58,15 @@ module _ (program : Units) (units : LoweredUnits) (known : AreUnits program (len
   lowered-is few main none shallow =
       record { main = main; within = within-limits few; shallow = subst (IsFirstDeep program (length program)) shallow known.deep; supported = none }
 
-  pub image-is : IsAccepted program → first_unsupported program ≡ None → units.too_deep ≡ None → (codes : List UnitCode) (cells : ℕ) (rows : List DataRow) (names : List (List ℕ))
-      → codes ≡ units.codes.items → cells ≡ common_cells program → AreInitial program rows → AreOfUnits program rows → names ≡ names_in_order program → IsImage program codes cells rows names
-  image-is accepted none shallow codes cells rows names same size initial of_units named =
-      subst (λ us. IsImage program us cells rows names) (sym same) (record {
+  pub image-is : IsAccepted program → first_unsupported program ≡ None → units.too_deep ≡ None → (codes : List UnitCode) (main cells : ℕ) (rows : List DataRow) (names : List (List ℕ))
+      → codes ≡ units.codes.items → main_among program ≡ Some main → cells ≡ common_cells program → AreInitial program rows → AreOfUnits program rows → names ≡ names_in_order program → IsImage program codes main cells rows names
+  image-is accepted none shallow codes main cells rows names same main_is size initial of_units named =
+      subst (λ us. IsImage program us main cells rows names) (sym same) (record {
         accepted = accepted;
         supported = none;
         all = known.all shallow;
         units_are = known.each shallow;
+        main_is = main_is;
         common_is = size;
         few_cells = subst (λ n. n ≤ most_cells) (sym size) common;
         initial = initial;

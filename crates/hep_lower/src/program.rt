@@ -1,11 +1,12 @@
 //! Checked programs become images.
-ghost use Rattle.std.specs.Prelude.{◌≡◌, ◌≢◌, ◌≤◌, ◌<◌, ℕ, None, IfOk, IfErr, OnOk, IsTrue, true, false, length};
+ghost use Rattle.std.specs.Prelude.{◌≡◌, ◌≤◌, ◌<◌, ℕ, Some, None, IfOk, IfErr, OnOk, IsTrue, true, false, length};
 ghost use Rattle.hep_source.specs.Units.{Units, main_among, main_unit, unit_at};
 ghost use Rattle.hep_machine.specs.Layout.{common_cells};
 ghost use Rattle.hep_machine.specs.Variables.{frame_cells};
 ghost use Rattle.hep_check.specs.Conditions.{IsAccepted};
 ghost use Rattle.hep_common.specs.Starts.{AreStarts};
 ghost use Rattle.hep_image.specs.Data.{AreInitial, AreOfUnits};
+ghost use Rattle.hep_code.specs.Limits.{most_instructions};
 ghost use Rattle.hep_image.specs.Image.{most_cells};
 ghost use Rattle.hep_image.specs.Supported as supported;
 ghost use Rattle.hep_lower.specs.Refusals.{AreCellsBeyond, IsLowered, Refuses};
@@ -19,9 +20,8 @@ use hep_check::Checked;
 use hep_common::CommonStarts;
 use hep_data::{MainFrame, data_rows};
 use hep_image::{DataRow, Image};
-use hep_placed::laws;
 use hep_places::unit_places;
-use hep_supported::{first_unsupported, has_main};
+use hep_supported::{first_unsupported, main_index};
 use hep_symbols::ProgramSymbols;
 use std::alloc::{AllocError, Global};
 
@@ -46,16 +46,17 @@ fn exceeds_cells(checked: &Checked, common: &CommonStarts) -> bool
     false
 }
 
-// What DATA gives at the opening of a program whose main program is its first unit.
+// What DATA gives at the opening of a program whose main program has this index.
 fn initial_rows(
     alloc: Global,
     checked: &Checked,
+    main: usize,
     program: &ProgramSymbols,
     common: &CommonStarts,
 ) -> Result<Vec<DataRow>, AllocError>
     requires program { program.now ≡ checked.now }
-    requires main { main_unit checked.now ≡ 0 }
-    requires some { 1 ≤ length checked.now }
+    requires main { main_unit checked.now ≡ main }
+    requires inside { main < length checked.now }
     requires starts { AreStarts checked.now common.now }
     requires small_common { common_cells checked.now ≤ most_cells }
     requires small_frames { (u : ℕ) → u < length checked.now → frame_cells (unit_at checked.now u) ≤ most_cells }
@@ -63,7 +64,7 @@ fn initial_rows(
     ensures units { IfOk result (λ rows. AreOfUnits checked.now rows.items) }
 {
     checked.is_accepted();
-    let symbols = &program.units()[0];
+    let symbols = &program.units()[main];
     let places = unit_places(alloc, symbols, common)?;
     let frame = MainFrame {
         symbols,
@@ -78,10 +79,13 @@ fn initial_rows(
 fn image_of(
     alloc: Global,
     checked: &Checked,
+    main: usize,
     program: &ProgramSymbols,
     common: &CommonStarts,
     units: LoweredUnits,
 ) -> Result<Image, AllocError>
+    requires main { main_among checked.now ≡ Some main }
+    requires few { length checked.now ≤ most_instructions }
     requires supported { supported.first_unsupported checked.now ≡ None }
     requires program { program.now ≡ checked.now }
     requires starts { AreStarts checked.now common.now }
@@ -91,23 +95,23 @@ fn image_of(
     requires shallow { units.too_deep ≡ None }
     ensures { IfOk result (λ image. image ≡ checked.now) }
 {
-    laws::supported_code();
     checked.is_accepted();
-    let rows = initial_rows(alloc, checked, program, common)?;
+    let rows = initial_rows(alloc, checked, main, program, common)?;
     let names = names_in_order(alloc, checked.program().as_slice(), program)?;
     let copy = checked.program().copy(alloc)?;
     Ok(Image::new(
         copy,
         Sequence::from(units.codes),
+        main as u32,
         common.cells() as u32,
         Sequence::from(rows),
         Sequence::from(names),
     ))
 }
 
-// The image of a program that has a main program.
-fn lower_program(alloc: Global, checked: &Checked) -> Result<Image, LowerFault>
-    requires { main_among checked.now ≢ None }
+// The image of a program whose main program has this index.
+fn lower_program(alloc: Global, checked: &Checked, main: usize) -> Result<Image, LowerFault>
+    requires { main_among checked.now ≡ Some main }
     ensures same { IfOk result (λ image. image ≡ checked.now) }
     ensures lowered { OnOk result (IsLowered checked.now) }
     ensures refused { IfErr result (Refuses checked.now) }
@@ -130,7 +134,7 @@ fn lower_program(alloc: Global, checked: &Checked) -> Result<Image, LowerFault>
     if let Some(line) = first_unsupported(source) {
         return Err(LowerFault::refused(alloc, 403, line));
     }
-    Ok(image_of(alloc, checked, &program, &common, units)?)
+    Ok(image_of(alloc, checked, main, &program, &common, units)?)
 }
 
 /// The image of a checked program: the code of its units, where their variables are, what DATA gives at the
@@ -152,8 +156,8 @@ pub fn lower(alloc: Global, checked: &Checked) -> Result<Image, LowerFault>
     // Else the number and the line say why there is none.
     ensures refused { IfErr result (Refuses checked.now) }
 {
-    if !has_main(checked.program().as_slice()) {
+    let Some(main) = main_index(checked.program().as_slice()) else {
         return Err(LowerFault::refused(alloc, 204, 0));
-    }
-    lower_program(alloc, checked)
+    };
+    lower_program(alloc, checked, main)
 }

@@ -1,7 +1,7 @@
 -- What follows from what a machine keeps of the state after a history.
 use Rattle.std.proofs.Common.{◌≡◌, ◌≢◌, ℕ, Bool, true, false, ◌<◌, List, [], ◌∷◌, ◌++◌, length, refl, sym, ap, ◌∙◌, subst, Option, Some, None}
 use Rattle.std.specs.Prelude.{IsSome, if◌then◌else◌, is_some}
-use Rattle.hep_source.specs.Units.{Units, dummies_of, main_unit, unit_at}
+use Rattle.hep_source.specs.Units.{Units}
 use Rattle.hep_machine.specs.declared.event.Entry.{Entry}
 use Rattle.hep_machine.specs.Histories.{IsLegal}
 use Rattle.hep_machine.specs.Layout.{is_held, layout_of}
@@ -12,21 +12,22 @@ use Rattle.hep_machine.specs.Schedules.{last_process, living_from, next_of_ready
 use Rattle.hep_machine.specs.State.{State}
 use Rattle.hep_machine.specs.Step.{step, wanted_by}
 use Rattle.hep_machine.specs.Views.{view_of}
-use Rattle.hep_image.specs.Supported.{first_unsupported}
 use Rattle.hep_state.specs.declared.machine.Machine.{Machine}
 use Rattle.hep_state.specs.Rooms.{IsMachineAfter}
 use Rattle.hep_state.specs.Snapshots.{Snapshot, snapshot_of}
 use Rattle.hep_state.specs.Turns.{IsAfter}
-use Rattle.hep_scheduler.specs.Invariant.{first_activation}
 use Rattle.hep_scheduler.specs.Seen.{machine_view}
 use Rattle.hep_scheduler.specs.Value.{verdict_by}
 use Rattle.hep_scheduler.specs.declared.stop.Verdict.TheVariants.{Done, Running}
 use Rattle.hep_scheduler.proofs.Alone.{next-is, verdict-is}
 use Rattle.hep_scheduler.proofs.Histories.{legal-stepped, schedule-stepped, state-is, state-stepped, unlisted-stepped}
 use Rattle.hep_scheduler.specs.Quiet.{AreQuiet, IsQuiet}
-use Rattle.hep_scheduler.proofs.Viewed.{machine-viewed}
 use Rattle.hep_scheduler.proofs.Wants.{wanted-halted}
-use Rattle.hep_placed.proofs.Supported.{main_alone}
+
+-- what is seen of machines, as long as nobody waits: `laws::views_are_of_states`
+abbrev pub AreSeen : Units → ℕ → Type 0
+AreSeen program cells =
+    (choices : List ℕ) (m : Snapshot) → IsAfter program cells choices m → ((p : ℕ) → wanted_by program p (run program choices) ≡ None) → machine_view program m ≡ view_of program is_held (run program choices)
 
 pub none-of : {A : Type 0} (o : Option A) → is_some o ≡ false → o ≡ None
 none-of None e = refl
@@ -59,14 +60,10 @@ module _ (program : Units) (cells : ℕ) (history : List Entry) (m : Snapshot) (
   pub laid-out : IsSome (layout_of program cells is_held (schedule_of history))
   laid-out = is-some (layout_of program cells is_held (schedule_of history)) after.layout after.laid
 
-  pub view-is : first_unsupported program ≡ None → length m.processes ≡ 1 → (state_after program history).activations ≡ first_activation program ∷ [] → ((p : ℕ) → wanted_by program p (state_after program history) ≡ None)
-      → machine_view program m ≡ view_of program is_held (state_after program history)
-  view-is supported alone first quiet =
+  pub view-is : AreSeen program cells → ((p : ℕ) → wanted_by program p (state_after program history) ≡ None) → machine_view program m ≡ view_of program is_held (state_after program history)
+  view-is seen quiet =
       let same = state-is program history in
-      let main = main_alone program supported in
-      let none : dummies_of (unit_at program (main_unit program)) ≡ [] = ap (λ u. dummies_of (unit_at program u)) main.1 ∙ main.2 in
-      machine-viewed program cells (schedule_of history) m after none alone (ap (λ (s : State). s.activations) (sym same) ∙ first) (λ p. ap (wanted_by program p) (sym same) ∙ quiet p)
-      ∙ ap (view_of program is_held) (sym same)
+      seen (schedule_of history) m after (λ p. ap (wanted_by program p) (sym same) ∙ quiet p) ∙ ap (view_of program is_held) (sym same)
 
 -- ---- one turn more
 
@@ -105,29 +102,22 @@ module _ (program : Units) (cells : ℕ) (h : List Entry) (p : ℕ) (h' : List E
     -- what is known of steps: `laws::living_processes_are_quiet`
     module _ (law : AreQuiet program cells)
         (old : Snapshot) (before : IsAfter program cells (schedule_of h) old) (running : old.halted ≡ false)
-        (first : (state_after program h).activations ≡ first_activation program ∷ []) (quiet : (q : ℕ) → wanted_by program q (state_after program h) ≡ None) where
+        (quiet : (q : ℕ) → wanted_by program q (state_after program h) ≡ None) where
       was-quiet : IsQuiet program (state_after program h) p
       was-quiet = subst (λ (s : State). IsQuiet program s p) (sym (state-is program h)) (law (schedule_of h) old p before running)
-
-      pub first-next : (state_after program h').activations ≡ first_activation program ∷ []
-      first-next = ap (λ (s : State). s.activations) state-next ∙ (was-quiet.stays next steps-on).0 ∙ first
 
       pub quiet-next : (q : ℕ) → wanted_by program q (state_after program h') ≡ None
       quiet-next q = by_halt next.halted refl where
         by_halt : (b : Bool) → next.halted ≡ b → wanted_by program q (state_after program h') ≡ None
         by_halt true halted =
-            ap (wanted_by program q) (state-next ∙ (was-quiet.stays next steps-on).1 halted) ∙ wanted-halted program (state_after program h) true q ∙ quiet q
+            ap (wanted_by program q) (state-next ∙ was-quiet.stays next steps-on halted) ∙ wanted-halted program (state_after program h) true q ∙ quiet q
         by_halt false halted =
             ap (wanted_by program q) (state-is program h') ∙ (law (schedule_of h') (snapshot_of m) q after-next.after (halted-next ∙ halted)).unwaited
 
-      pub view-next : first_unsupported program ≡ None → length (snapshot_of m).processes ≡ 1 → machine_view program (snapshot_of m) ≡ view_of program is_held next
-      view-next supported alone = view-is program cells h' (snapshot_of m) after-next.after supported alone first-next quiet-next ∙ ap (view_of program is_held) state-next
+      pub view-next : AreSeen program cells → machine_view program (snapshot_of m) ≡ view_of program is_held next
+      view-next seen = view-is program cells h' (snapshot_of m) after-next.after seen quiet-next ∙ ap (view_of program is_held) state-next
 
 -- ---- the opening
-
-pub opening-first : (program : Units) → (state_after program []).activations ≡ first_activation program ∷ []
-unfolding state_after run run_from schedule_of opening
-opening-first program = refl
 
 -- nothing has stopped
 pub opening-goes : (program : Units) → (state_after program []).halted ≡ false

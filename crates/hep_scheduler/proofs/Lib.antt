@@ -2,5 +2,7 @@ mod Histories
 mod Alone
 mod Quiet
 mod Wants
-mod Viewed
+mod Dummies
+mod Found
+mod Views
 mod Kept

@@ -1,4 +1,4 @@
--- Nothing that can be run so far waits, makes an activation, or stops with more changed than that.
+-- Nothing that can be run so far waits, or stops with more changed than that.
 use Rattle.std.proofs.Common.{◌≡◌, ◌⊎◌, ℕ, zero, suc, ◌+◌, ◌<◌, Bool, true, false, List, [], ◌∷◌, ◌++◌, drop, length, refl, sym, ap, ◌∙◌, subst, true≢false, inl, inr, Option, Some, None}
 use Rattle.std.specs.Prelude.{if◌then◌else◌, slice_get}
 use Rattle.std.proofs.lemmas.Option.{same_Some, none-some}
@@ -27,14 +27,14 @@ use Rattle.hep_state.specs.Turns.{IsAbsent, IsAfter}
 use Rattle.hep_state.proofs.Moved.{standing-before}
 use Rattle.hep_scheduler.specs.Quiet.{IsQuiet}
 
-quiet-stepped : (program : Units) (s u : State) (p : ℕ) → s.halted ≡ false → step_result_of program p s ≡ stepped u → u.activations ≡ s.activations → (u.halted ≡ true → u ≡ record s { halted = true }) → IsQuiet program s p
-quiet-stepped program s u p running is same halt =
+quiet-stepped : (program : Units) (s u : State) (p : ℕ) → s.halted ≡ false → step_result_of program p s ≡ stepped u → (u.halted ≡ true → u ≡ record s { halted = true }) → IsQuiet program s p
+quiet-stepped program s u p running is halt =
     let made : step program p s ≡ Some u = ap (λ b. if b then None else state_made (step_result_of program p s)) running ∙ ap state_made is in
     record {
       unwaited = ap wanted_of is;
       stays = λ t e.
           let there : u ≡ t = same_Some u t (sym made ∙ e) in
-          (ap (λ (x : State). x.activations) (sym there) ∙ same, λ h. sym there ∙ halt (ap (λ (x : State). x.halted) there ∙ h));
+          λ h. sym there ∙ halt (ap (λ (x : State). x.halted) there ∙ h);
     }
 
 module _ (program : Units) (t : Top) (layout : Layout) (f : Frame) (holes : List Hole) (contents : List Slot) (running : t.state.halted ≡ false) where
@@ -42,12 +42,12 @@ module _ (program : Units) (t : Top) (layout : Layout) (f : Frame) (holes : List
   goes-on u same h = absurd (true≢false (sym h ∙ same ∙ running))
 
   pub quiet-by : (e : Effect) → ((cell : ℕ) (full : Bool) → e ≡ waits cell full → ⊥) → Simulates program t layout f holes contents e → IsQuiet program t.state t.process
-  quiet-by (moves new operands index) never (store, after, is, reaches) = quiet-stepped program t.state (state_with_store t store after) t.process running is refl (goes-on _ refl)
-  quiet-by (prints items index) never (after, is, reaches) = quiet-stepped program t.state (state_with_record t after items) t.process running is refl (goes-on _ refl)
-  quiet-by (fails line k) never (is, at) = quiet-stepped program t.state _ t.process running is refl (goes-on _ refl)
+  quiet-by (moves new operands index) never (store, after, is, reaches) = quiet-stepped program t.state (state_with_store t store after) t.process running is (goes-on _ refl)
+  quiet-by (prints items index) never (after, is, reaches) = quiet-stepped program t.state (state_with_record t after items) t.process running is (goes-on _ refl)
+  quiet-by (fails line k) never (is, at) = quiet-stepped program t.state _ t.process running is (goes-on _ refl)
   quiet-by (waits cell full) never h = absurd (never cell full refl)
-  quiet-by returns never is = quiet-stepped program t.state (with_process t.state t.process (stack_after_return program t.state t.below)) t.process running is refl (goes-on _ refl)
-  quiet-by stops never is = quiet-stepped program t.state (record t.state { halted = true }) t.process running is refl (λ h. refl)
+  quiet-by returns never is = quiet-stepped program t.state (with_process t.state t.process (stack_after_return program t.state t.below)) t.process running is (goes-on _ refl)
+  quiet-by stops never is = quiet-stepped program t.state (record t.state { halted = true }) t.process running is (λ h. refl)
   quiet-by unsupported never h = absurd h
 
 -- a process that doesn't live makes no step

@@ -1,10 +1,8 @@
 -- What a core keeps, and what is seen of it: docs/ARCHITECTURE.md, "Forms".
-use Rattle.std.specs.Prelude.{◌≡◌, ℕ, [], ◌∷◌, length, None}
-use Rattle.hep_source.specs.Units.{Units, main_unit}
+use Rattle.std.specs.Prelude.{◌≡◌, ℕ, [], length, None}
 use Rattle.hep_machine.specs.Histories.{IsLegal}
 use Rattle.hep_machine.specs.Run.{schedule_of, state_after}
 use Rattle.hep_machine.specs.Schedules.{progress_after}
-use Rattle.hep_machine.specs.State.{Activation}
 use Rattle.hep_machine.specs.Step.{wanted_by}
 use Rattle.hep_state.specs.Rooms.{IsMachineAfter}
 use Rattle.hep_state.specs.Snapshots.{snapshot_of}
@@ -23,15 +21,10 @@ core_value c =
       view = machine_view c.image (snapshot_of c.machine);
     }
 
--- the main program's activation
-abbrev pub first_activation : Units → Activation
-first_activation program = record { unit = main_unit program; parent = None; dummies = [] }
-
--- the machine keeps the state after the history, which is legal; one process was made and one activation, and nobody waits
+-- the machine keeps the state after the history, which is legal; one process was made, and nobody waits
 pub record CoreInvariant (c : Inside) : Type 0 where
   pub after : IsMachineAfter c.image c.cells (schedule_of c.history.items) c.machine
   pub alone : length c.machine.processes.items ≡ 1
-  pub first : (state_after c.image c.history.items).activations ≡ first_activation c.image ∷ []
   pub quiet : (p : ℕ) → wanted_by c.image p (state_after c.image c.history.items) ≡ None
   pub unlisted : progress_after c.image c.history.items ≡ record { state = state_after c.image c.history.items; listed = [] }
   pub legal : IsLegal c.image c.cells c.limit c.history.items

@@ -6,7 +6,7 @@ ghost use Rattle.hep_machine.specs.Views.{view_of};
 ghost use Rattle.hep_scheduler.specs.Value.{state_of, opening_of, IsNewFault, IsChoice, IsStop, verdict_of, next_ready_of};
 
 use crate::fault::{ChooseFault, NewFault};
-use crate::laws::living_processes_are_quiet;
+use crate::laws::{living_processes_are_quiet, views_are_of_states};
 use crate::stop::{Stop, Turn, Verdict};
 use hep_frames::laws::layouts_have_what_is_held;
 use hep_image::Image;
@@ -64,6 +64,7 @@ impl Core {
     {
         image.is_runnable();
         living_processes_are_quiet();
+        views_are_of_states();
         if !fits(&image, cells) {
             return Err(NewFault::ArenaFull);
         }
@@ -100,6 +101,7 @@ impl Core {
         }
         self.image.is_runnable();
         living_processes_are_quiet();
+        views_are_of_states();
         self.history.reserve(1)?;
         self.machine.turn(self.alloc, &self.image, p)?;
         note(&mut self.history, p);
@@ -121,6 +123,7 @@ impl Core {
         ensures named { IsStop self.now.program self.now.limit self.now.history self.now.stop }
     {
         self.image.is_runnable();
+        views_are_of_states();
     }
 
     /// The process that comes next by itself: of those that live and don't wait the least above

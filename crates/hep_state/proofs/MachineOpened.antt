@@ -20,23 +20,23 @@ the-only x y zero e = same_Some x y e
 the-only x y (suc i) e = absurd (none-some y e)
 
 -- the machine's one process, with one level and no operands
-pub record IsBegun (key entry : ℕ) (m : Machine) (q : Process) : Type 0 where
+pub record IsBegun (main key entry : ℕ) (m : Machine) (q : Process) : Type 0 where
   pub alone : m.processes.items ≡ q ∷ []
-  pub levels : q.levels.items ≡ record { key = key; unit = 0; index = entry } ∷ []
+  pub levels : q.levels.items ≡ record { key = key; unit = main; index = entry } ∷ []
   pub operands : q.operands.items ≡ []
   pub activations : m.activations ≡ 1
   pub records : m.records.items ≡ []
   pub faults : m.faults.items ≡ []
   pub running : m.halted ≡ false
 
-module _ (program : Units) (cells key entry : ℕ) (m : Machine) (q : Process) (main : main_unit program ≡ 0) (begun : IsBegun key entry m q) where
+module _ (program : Units) (cells key entry : ℕ) (m : Machine) (q : Process) (main : ℕ) (found : main_unit program ≡ main) (begun : IsBegun main key entry m q) where
   abbrev level : Level
-  level = record { key = key; unit = 0; index = entry }
+  level = record { key = key; unit = main; index = entry }
 
   stacks : map stack_of m.processes.items ≡ record { levels = record { key = key; unit = main_unit program; index = entry } ∷ []; operands = [] } ∷ []
   stacks =
       ap (λ (qs : List Process). map stack_of qs) begun.alone
-      ∙ ((λ i. record { levels = reverse (begun.levels i); operands = begun.operands i } ∷ []) ∙ ap (λ (u : ℕ). record { levels = record { key = key; unit = u; index = entry } ∷ []; operands = [] } ∷ []) (sym main))
+      ∙ ((λ i. record { levels = reverse (begun.levels i); operands = begun.operands i } ∷ []) ∙ ap (λ (u : ℕ). record { levels = record { key = key; unit = u; index = entry } ∷ []; operands = [] } ∷ []) (sym found))
 
   snapshot-is : snapshot_of m ≡ snapshot_opened program key entry m.frames.arena (nodes_of m.frames.nodes)
   snapshot-is i =
@@ -50,7 +50,7 @@ module _ (program : Units) (cells key entry : ℕ) (m : Machine) (q : Process) (
         halted = begun.running i;
       }
 
-  module _ (enough : deepest (unit_code program 0) ≤ vec_capacity q.operands) where
+  module _ (enough : deepest (unit_code program main) ≤ vec_capacity q.operands) where
     has-room : HasRoom program q
     has-room i l e =
         let one : level ≡ l = the-only level l i (ap (λ (ls : List Level). slice_get ls i) (sym begun.levels) ∙ e) in

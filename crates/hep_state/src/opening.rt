@@ -3,7 +3,7 @@
 ghost use Rattle.std.specs.Prelude.{◌≡◌, ◌+◌, ◌<◌, ◌≤◌, ◌∷◌, [], false, IfOk, IsSome, length, vec_capacity};
 ghost use Rattle.std.specs.Option.{is_some};
 ghost use Rattle.slab.specs.Slab.{HasRoomFor};
-ghost use Rattle.hep_source.specs.Units.{dummies_of, main_unit, unit_at};
+ghost use Rattle.hep_source.specs.Units.{main_unit};
 ghost use Rattle.hep_machine.specs.Layout.{common_cells, opening_layout};
 ghost use Rattle.hep_arena.specs.Holes.{IsOut};
 ghost use Rattle.hep_image.specs.Image.{IsUnitCode};
@@ -21,16 +21,11 @@ use hep_proc::Frames;
 use hep_source::Value;
 use std::alloc::{AllocError, Global};
 
-// What a core runs of the main program, which is the first unit and has no dummy arguments.
+// What a core runs of the main program.
 fn main_program(image: &Image) -> &UnitCode
-    ensures code { IsUnitCode image.now 0 result.now }
-    ensures first { main_unit image.now ≡ 0 }
-    ensures inside { 0 < length image.now }
-    ensures alone { dummies_of (unit_at image.now 0) ≡ [] }
+    ensures { IsUnitCode image.now (main_unit image.now) result.now }
 {
-    hep_placed::laws::supported_code();
-    image.is_runnable();
-    image.unit(0)
+    image.unit(image.main() as usize)
 }
 
 /// COMMON and the frame of the main program have no more cells than the arena, so that a machine can be opened.
@@ -50,8 +45,9 @@ fn enter_main(frames: &mut Frames, image: &Image) -> usize
 {
     hep_image::laws::openings_fit_by_numbers();
     hep_proc::laws::openings_want_unset_cells();
+    hep_works::laws::programs_are_closed();
     laws::openings_are_shown();
-    frames.open(0, main_program(image).cells)
+    frames.open(image.main(), main_program(image).cells)
 }
 
 // Gives a cell a value. It is full or empty as before.
@@ -128,7 +124,7 @@ impl Machine {
         give_rows(&mut frames, image.rows());
         let level = Level {
             key,
-            unit: 0,
+            unit: image.main(),
             index: main.entry as usize,
         };
         let process = begun(alloc, level, main.operands)?;

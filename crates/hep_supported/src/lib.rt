@@ -6,4 +6,4 @@ mod asynchronous;
 mod statements;
 pub mod supported;
 
-pub use supported::{first_unsupported, has_main};
+pub use supported::{first_unsupported, main_index};

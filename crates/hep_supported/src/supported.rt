@@ -1,5 +1,5 @@
 //! Which accepted programs can be run so far.
-ghost use Rattle.std.specs.Prelude.{◌≡◌, is_some};
+ghost use Rattle.std.specs.Prelude.{◌≡◌};
 ghost use Rattle.hep_source.specs.Units as units;
 ghost use Rattle.hep_image.specs.Supported as supported;
 
@@ -20,16 +20,16 @@ fn is_main(unit: &Unit) -> bool
     }
 }
 
-/// Whether a program has a main program.
-pub fn has_main(program: &[Unit]) -> bool
-    ensures { result ≡ is_some (units.main_among program.now) }
+/// The index of a program's main program, counted from 0, if it has one.
+pub fn main_index(program: &[Unit]) -> Option<usize>
+    ensures { result ≡ units.main_among program.now }
 {
-    for unit in program {
+    for (index, unit) in program.iter().enumerate() {
         if is_main(unit) {
-            return true;
+            return Some(index);
         }
     }
-    false
+    None
 }
 
 fn first_line(unit: &Unit) -> u32
@@ -83,7 +83,7 @@ fn first_unsupported_in(program: &[Unit]) -> Option<u32>
 pub fn first_unsupported(program: &[Unit]) -> Option<u32>
     ensures { result ≡ supported.first_unsupported program.now }
 {
-    if has_main(program) {
+    if main_index(program).is_some() {
         first_unsupported_in(program)
     } else {
         Some(first_line_of(program))

@@ -6,17 +6,17 @@ use Rattle.hep_lower.specs.Refusals.{IsFirstDeep, RefusesCode}
 use Rattle.hep_lower.specs.Units.{AreUnits}
 use Rattle.hep_lower.proofs.Counts.{one-each}
 use Rattle.hep_lower.proofs.Placing.{none-there}
-use Rattle.hep_lower.proofs.Told.{lowered-is, told-cells, told-code, told-deep, told-many, told-unsupported, within-limits}
+use Rattle.hep_lower.proofs.Told.{lowered-is, some-main, told-cells, told-code, told-deep, told-many, told-unsupported, within-limits}
 use Rattle.hep_lower.proofs.program.lower_program.Goals as goal
 
 pub returns-then-exceeds_cells-clause-refused : goal.returns-then-exceeds_cells-clause-refused
 returns-then-exceeds_cells-clause-refused c =
-    told-cells c.args.checked.now c.requires c.refused-then-exceeds_cells.result c.refused-then-exceeds_cells.ensures (c.exceeds_cells.ensures.beyond c.if-exceeds_cells.true)
+    told-cells c.args.checked.now (some-main c.args.checked.now c.args.main c.requires) c.refused-then-exceeds_cells.result c.refused-then-exceeds_cells.ensures (c.exceeds_cells.ensures.beyond c.if-exceeds_cells.true)
 
 pub returns-in_err-units-clause-refused : goal.returns-in_err-units-clause-refused
 returns-in_err-units-clause-refused c =
     let same = c.in_ok-program.ensures ∙ (c.as_slice-source.ensures ∙ c.program.ensures) in
-    told-code c.args.checked.now c.requires c.from_residual-in_err-units.result c.in_err-units.field-0.0 c.from_residual-in_err-units.ensures
+    told-code c.args.checked.now (some-main c.args.checked.now c.args.main c.requires) c.from_residual-in_err-units.result c.in_err-units.field-0.0 c.from_residual-in_err-units.ensures
     (subst (λ (p : Units). RefusesCode p c.in_err-units.field-0.0) same c.in_err-units.ensures.refused)
 
 pub returns-then-source-gt-MOST_INSTRUCTIONS-clause-refused : goal.returns-then-source-gt-MOST_INSTRUCTIONS-clause-refused
@@ -24,7 +24,7 @@ returns-then-source-gt-MOST_INSTRUCTIONS-clause-refused c =
     let program = c.args.checked.now in
     let same = c.as_slice-source.ensures ∙ c.program.ensures in
     let many = subst (λ (p : Units). most_instructions < length p) same c.if-source-gt-MOST_INSTRUCTIONS.true in
-    told-many program c.requires c.refused.result c.refused.ensures (omega (arith, many, one-each program (length program)))
+    told-many program (some-main program c.args.main c.requires) c.refused.result c.refused.ensures (omega (arith, many, one-each program (length program)))
 
 pub returns-in-Some-clause-refused : goal.returns-in-Some-clause-refused
 returns-in-Some-clause-refused c =
@@ -33,7 +33,7 @@ returns-in-Some-clause-refused c =
     let same = c.in_ok-program.ensures ∙ (c.as_slice-source.ensures ∙ c.program.ensures) in
     let known = subst (λ (p : Units). AreUnits p (length p) units) same c.in_ok-units.ensures.units in
     let within = within-limits program units known (c.exceeds_cells.ensures.common c.if-exceeds_cells.false) (c.exceeds_cells.ensures.frames c.if-exceeds_cells.false) c.in_ok-units.ensures.few in
-    told-deep program c.requires c.refused-in-Some.result c.in-Some.line c.refused-in-Some.ensures within (subst (IsFirstDeep program (length program)) c.in-Some.is known.deep)
+    told-deep program (some-main program c.args.main c.requires) c.refused-in-Some.result c.in-Some.line c.refused-in-Some.ensures within (subst (IsFirstDeep program (length program)) c.in-Some.is known.deep)
 
 pub returns-clause-lowered : goal.returns-clause-lowered
 returns-clause-lowered c =
@@ -42,5 +42,5 @@ returns-clause-lowered c =
     let source = c.as_slice-source.ensures ∙ c.program.ensures in
     let known = subst (λ (p : Units). AreUnits p (length p) units) (c.in_ok-program.ensures ∙ source) c.in_ok-units.ensures.units in
     let none = none-there c.first_unsupported.result c.in_default-first_unsupported.not-Some in
-    lowered-is program units known (c.exceeds_cells.ensures.common c.if-exceeds_cells.false) (c.exceeds_cells.ensures.frames c.if-exceeds_cells.false) c.in_ok-units.ensures.few c.requires
+    lowered-is program units known (c.exceeds_cells.ensures.common c.if-exceeds_cells.false) (c.exceeds_cells.ensures.frames c.if-exceeds_cells.false) c.in_ok-units.ensures.few (some-main program c.args.main c.requires)
     (sym (ap first_unsupported source) ∙ (sym c.first_unsupported.ensures ∙ none)) (none-there units.too_deep c.in_default.not-Some)

@@ -1,4 +1,7 @@
 use Rattle.std.proofs.Common.{◌≡◌, [], length, Some, refl, sym, ap, ◌∙◌, subst}
+use Rattle.std.specs.Prelude.{is_some}
+use Rattle.std.specs.Option.{unwrap_or}
+use Rattle.hep_source.specs.Defaults.{no_unit}
 use Rattle.hep_source.specs.Units.{dummies_of, main_unit, unit_at}
 use Rattle.hep_machine.specs.Layout.{common_cells, frame_of}
 use Rattle.hep_machine.specs.Variables.{frame_cells}
@@ -21,13 +24,14 @@ returns c =
     let cells = c.main_program.result.now.cells in
     let common = common_cells program in
     let starts = c.openings_are_shown.ensures.opening program in
-    let own : cells ≡ frame_cells (unit_at program (main_unit program)) = main.code.cells ∙ ap (λ u. frame_cells (unit_at program u)) (sym main.first) in
+    let found : main_unit program ≡ c.main.result = ap (λ o. unwrap_or o no_unit) c.main.ensures.main in
+    let own : cells ≡ frame_cells (unit_at program (main_unit program)) = main.cells in
     let size : cells ≡ frame_of program s 1 = own ∙ sym (c.openings_fit_by_numbers.ensures.frame program) in
-    let plain : dummies_of (unit_at program (main_unit program)) ≡ [] = ap (λ u. dummies_of (unit_at program u)) main.first ∙ main.alone in
-    let opened = c.open.ensures.opened program s (wanted_of program s (first_frames program)) c.requires.unused starts (sym main.first) size (
+    let plain : dummies_of (unit_at program (main_unit program)) ≡ [] = c.programs_are_closed.ensures.main program (ap is_some c.main.ensures.main) in
+    let opened = c.open.ensures.opened program s (wanted_of program s (first_frames program)) c.requires.unused starts (sym found) size (
     λ part v. c.openings_want_unset_cells.ensures program s (first_frames program) part v starts plain) in
     let fit : first_fit cells old.arena.holes ≡ Some common =
     subst (λ n. first_fit n old.arena.holes ≡ Some common) (sym own) (first-fit program old.arena (nodes_of old.nodes) c.requires.unused (c.openings_fit_by_numbers.ensures.layout program) c.requires.fits) in
-    let there : nodes_of new.nodes c.open.result ≡ Some (first_node 0 common cells) =
-    ap (λ (nodes : Nodes). nodes c.open.result) (c.open.ensures.nodes common fit c.requires.unused.none) ∙ node-there c.open.result 0 common cells in
-    c.openings_are_shown.ensures.entered program (length old.arena.contents) c.open.result opened.0 new.arena (nodes_of new.nodes) (first_node 0 common cells) opened.1 (c.open.ensures.taken common fit).size opened.2 there refl
+    let there : nodes_of new.nodes c.open.result ≡ Some (first_node c.main.result common cells) =
+    ap (λ (nodes : Nodes). nodes c.open.result) (c.open.ensures.nodes common fit c.requires.unused.none) ∙ node-there c.open.result c.main.result common cells in
+    c.openings_are_shown.ensures.entered program (length old.arena.contents) c.open.result opened.0 new.arena (nodes_of new.nodes) (first_node c.main.result common cells) opened.1 (c.open.ensures.taken common fit).size opened.2 there refl

@@ -1,6 +1,5 @@
 use Rattle.std.proofs.Common.{◌≡◌, ℕ, ◌<◌, ◌++◌, ◌∷◌, [], ◌∙◌, inr, sym, ap, subst, rules, false, true, None, Some, length, arith, refl}
 use Rattle.std.specs.Prelude.{is_some}
-use Rattle.std.proofs.lemmas.List.{length-map}
 use Rattle.std.proofs.lemmas.Result.{err_from_is_err_and}
 use Rattle.hep_machine.specs.declared.event.Entry.{Entry}
 use Rattle.hep_machine.specs.Histories.{IsLegal}
@@ -10,14 +9,15 @@ use Rattle.hep_machine.specs.Schedules.{progress_after}
 use Rattle.hep_machine.specs.State.{State}
 use Rattle.hep_state.specs.Rooms.{IsMachineAfter}
 use Rattle.hep_machine.specs.Step.{wanted_by}
-use Rattle.hep_state.specs.Snapshots.{snapshot_of, stack_of}
-use Rattle.hep_scheduler.specs.Invariant.{core_value, first_activation}
+use Rattle.hep_state.specs.Snapshots.{snapshot_of}
+use Rattle.hep_state.proofs.Tops.{has-main}
+use Rattle.hep_scheduler.specs.Invariant.{core_value}
 use Rattle.hep_scheduler.specs.Quiet.{AreQuiet}
 use Rattle.hep_scheduler.specs.Seen.{machine_view}
 use Rattle.hep_scheduler.specs.Value.{IsStop, stop_after}
 use Rattle.hep_scheduler.specs.declared.stop.Stop.TheVariants.{Halted}
 use Rattle.hep_scheduler.proofs.Histories.{state-is}
-use Rattle.hep_scheduler.proofs.Kept.{after-next, first-next, halted-is, halted-next, legal-next, next, none-of, quiet-next, some-of, state-next, steps-on, unlisted-next, view-is, view-next}
+use Rattle.hep_scheduler.proofs.Kept.{AreSeen, after-next, halted-is, halted-next, legal-next, next, none-of, quiet-next, some-of, state-next, steps-on, unlisted-next, view-is, view-next}
 use Rattle.hep_scheduler.proofs.scheduler.Core.choose.Goals as goal
 
 pub returns-then-not-lives : goal.returns-then-not-lives
@@ -70,7 +70,6 @@ invariant_of-self-in_err-turn c =
     record {
       after = subst (λ es. IsMachineAfter i.image i.cells (schedule_of es) c.turn.new.self) same after;
       alone = c.turn.ensures.processes ∙ c.self.invariant.alone;
-      first = subst (λ es. (state_after i.image es).activations ≡ first_activation i.image ∷ []) same c.self.invariant.first;
       quiet = subst (λ es. (q : ℕ) → wanted_by i.image q (state_after i.image es) ≡ None) same c.self.invariant.quiet;
       unlisted = subst (λ es. progress_after i.image es ≡ record { state = state_after i.image es; listed = [] }) same c.self.invariant.unlisted;
       legal = subst (IsLegal i.image i.cells i.limit) same c.self.invariant.legal;
@@ -86,12 +85,10 @@ returns-in_err-turn c =
     let lives : c.lives.result ≡ true = search rules in
     let alive = some-of (living (state_after i.image h) c.args.p) (ap (λ (s : State). is_some (living s c.args.p)) (state-is i.image h) ∙ sym (c.lives.ensures.lives i.image i.cells (schedule_of h) c.self.invariant.after.after) ∙ lives) in
     let lt : length h < i.limit = omega (arith, c.len.ensures) in
-    let supported = c.is_runnable.ensures.supported in
     let after = c.in_err-turn.ensures.refused i.cells (schedule_of h) c.self.invariant.after in
     let k = c.self.invariant in
-    let old_alone = length-map i.machine.processes.items stack_of ∙ k.alone in
-    let new_alone = length-map c.turn.new.self.processes.items stack_of ∙ c.turn.ensures.processes ∙ k.alone in
-    let view = view-is i.image i.cells h (snapshot_of c.turn.new.self) after.after supported new_alone k.first k.quiet ∙ sym (view-is i.image i.cells h (snapshot_of i.machine) k.after.after supported old_alone k.first k.quiet) in
+    let seen : AreSeen i.image i.cells = λ choices n. c.views_are_of_states.ensures i.image i.cells choices n c.is_runnable.ensures.accepted (has-main i.image c.is_runnable.ensures.supported) in
+    let view = view-is i.image i.cells h (snapshot_of c.turn.new.self) after.after seen k.quiet ∙ sym (view-is i.image i.cells h (snapshot_of i.machine) k.after.after seen k.quiet) in
     let value : record (core_value i) { history = c.reserve.new.self.items; view = machine_view i.image (snapshot_of c.turn.new.self) } ≡ core_value i = λ j. record (core_value i) { history = c.reserve.ensures.items j; view = view j } in
     let told = err_from_is_err_and c.from_residual-in_err-turn.result c.from_residual-in_err-turn.ensures.1 in
     rw (told.1, told.2, ← c.self.view_is) ((none, going), alive, lt, value)
@@ -113,8 +110,7 @@ invariant_of-self-then-self c =
     record {
       after = after-next i.image i.cells h p h' is done.0 m done.1;
       alone = c.turn.ensures.processes ∙ c.self.invariant.alone;
-      first = first-next i.image i.cells h p h' is done.0 m done.1 law (snapshot_of i.machine) c.self.invariant.after.after was c.self.invariant.first c.self.invariant.quiet;
-      quiet = quiet-next i.image i.cells h p h' is done.0 m done.1 law (snapshot_of i.machine) c.self.invariant.after.after was c.self.invariant.first c.self.invariant.quiet;
+      quiet = quiet-next i.image i.cells h p h' is done.0 m done.1 law (snapshot_of i.machine) c.self.invariant.after.after was c.self.invariant.quiet;
       unlisted = unlisted-next i.image i.cells h p h' is done.0 c.self.invariant.unlisted;
       legal = legal-next i.image i.cells h p h' is done.0 m done.1 i.limit c.self.invariant.legal lt;
       named = ap (λ (s : State). s.halted) (state-next i.image i.cells h p h' is done.0) ∙ sym (halted-next i.image i.cells h p h' is done.0 m done.1) ∙ c.if-self.true;
@@ -137,8 +133,7 @@ invariant_of-self-else-self c =
     record {
       after = after-next i.image i.cells h p h' is done.0 m done.1;
       alone = c.turn.ensures.processes ∙ c.self.invariant.alone;
-      first = first-next i.image i.cells h p h' is done.0 m done.1 law (snapshot_of i.machine) c.self.invariant.after.after was c.self.invariant.first c.self.invariant.quiet;
-      quiet = quiet-next i.image i.cells h p h' is done.0 m done.1 law (snapshot_of i.machine) c.self.invariant.after.after was c.self.invariant.first c.self.invariant.quiet;
+      quiet = quiet-next i.image i.cells h p h' is done.0 m done.1 law (snapshot_of i.machine) c.self.invariant.after.after was c.self.invariant.quiet;
       unlisted = unlisted-next i.image i.cells h p h' is done.0 c.self.invariant.unlisted;
       legal = legal-next i.image i.cells h p h' is done.0 m done.1 i.limit c.self.invariant.legal lt;
       named = subst (IsStop i.image i.limit h') (sym none) (ap (λ (s : State). s.halted) (state-next i.image i.cells h p h' is done.0) ∙ sym (halted-next i.image i.cells h p h' is done.0 m done.1) ∙ c.if-self.false);
@@ -162,8 +157,8 @@ returns-then-self c =
     let stop : Some Halted ≡ stop_after s = rw halted refl in
     let law : AreQuiet i.image i.cells = λ choices n q h going. c.living_processes_are_quiet.ensures i.image i.cells choices n q c.is_runnable.ensures.accepted c.is_runnable.ensures.supported h going in
     let was = halted-is i.image i.cells h (snapshot_of i.machine) c.self.invariant.after.after ∙ subst (IsStop i.image i.limit h) none c.self.invariant.named in
-    let alone = length-map m.processes.items stack_of ∙ c.turn.ensures.processes ∙ c.self.invariant.alone in
-    let view = view-next i.image i.cells h p h' is done.0 m done.1 law (snapshot_of i.machine) c.self.invariant.after.after was c.self.invariant.first c.self.invariant.quiet c.is_runnable.ensures.supported alone in
+    let seen : AreSeen i.image i.cells = λ choices n. c.views_are_of_states.ensures i.image i.cells choices n c.is_runnable.ensures.accepted (has-main i.image c.is_runnable.ensures.supported) in
+    let view = view-next i.image i.cells h p h' is done.0 m done.1 law (snapshot_of i.machine) c.self.invariant.after.after was c.self.invariant.quiet seen in
     rw (← c.self.view_is) ((none, going), lt, (s, steps-on i.image i.cells h p h' is done.0, λ j. record (core_value i) { history = is j; stop = stop j; view = view j }))
 
 pub returns-else-self : goal.returns-else-self
@@ -184,6 +179,6 @@ returns-else-self c =
     let stop : i.stop ≡ stop_after s = none ∙ rw halted refl in
     let law : AreQuiet i.image i.cells = λ choices n q h going. c.living_processes_are_quiet.ensures i.image i.cells choices n q c.is_runnable.ensures.accepted c.is_runnable.ensures.supported h going in
     let was = halted-is i.image i.cells h (snapshot_of i.machine) c.self.invariant.after.after ∙ subst (IsStop i.image i.limit h) none c.self.invariant.named in
-    let alone = length-map m.processes.items stack_of ∙ c.turn.ensures.processes ∙ c.self.invariant.alone in
-    let view = view-next i.image i.cells h p h' is done.0 m done.1 law (snapshot_of i.machine) c.self.invariant.after.after was c.self.invariant.first c.self.invariant.quiet c.is_runnable.ensures.supported alone in
+    let seen : AreSeen i.image i.cells = λ choices n. c.views_are_of_states.ensures i.image i.cells choices n c.is_runnable.ensures.accepted (has-main i.image c.is_runnable.ensures.supported) in
+    let view = view-next i.image i.cells h p h' is done.0 m done.1 law (snapshot_of i.machine) c.self.invariant.after.after was c.self.invariant.quiet seen in
     rw (← c.self.view_is) ((none, going), lt, (s, steps-on i.image i.cells h p h' is done.0, λ j. record (core_value i) { history = is j; stop = stop j; view = view j }))

@@ -1,4 +1,4 @@
-use Rattle.std.proofs.Common.{◌≡◌, ◌∙◌, ◌∷◌, ℕ, None, sym, subst, []}
+use Rattle.std.proofs.Common.{◌≡◌, ℕ, None, sym, subst, []}
 use Rattle.hep_machine.specs.Histories.{IsLegal}
 use Rattle.hep_machine.specs.Layout.{is_held}
 use Rattle.hep_machine.specs.Run.{schedule_of, state_after}
@@ -6,14 +6,13 @@ use Rattle.hep_machine.specs.Schedules.{progress_after}
 use Rattle.hep_machine.specs.Views.{view_of}
 use Rattle.hep_state.specs.Rooms.{IsMachineAfter}
 use Rattle.hep_machine.specs.Step.{wanted_by}
-use Rattle.hep_state.specs.Snapshots.{snapshot_of, stack_of}
-use Rattle.hep_scheduler.specs.Invariant.{first_activation}
-use Rattle.std.proofs.lemmas.List.{length-map}
+use Rattle.hep_state.specs.Snapshots.{snapshot_of}
+use Rattle.hep_state.proofs.Tops.{has-main}
 use Rattle.hep_scheduler.specs.Quiet.{AreQuiet}
 use Rattle.hep_scheduler.specs.Seen.{machine_view}
 use Rattle.hep_scheduler.specs.Value.{opening_of}
 use Rattle.hep_scheduler.proofs.Histories.{legal-none, schedule-none, unlisted-none}
-use Rattle.hep_scheduler.proofs.Kept.{laid-out, opening-first, opening-goes, opening-quiet, view-is}
+use Rattle.hep_scheduler.proofs.Kept.{AreSeen, laid-out, opening-goes, opening-quiet, view-is}
 use Rattle.hep_scheduler.proofs.scheduler.Core.new.Goals as goal
 
 pub invariant_of-result : goal.invariant_of-result
@@ -26,7 +25,6 @@ invariant_of-result c =
     record {
       after = subst (λ es. IsMachineAfter program c.args.cells (schedule_of es) m) none after;
       alone = c.in_ok-machine.ensures.alone;
-      first = subst (λ es. (state_after program es).activations ≡ first_activation program ∷ []) none (opening-first program);
       quiet = subst (λ es. (q : ℕ) → wanted_by program q (state_after program es) ≡ None) none (opening-quiet program c.args.cells law (snapshot_of m) after.after);
       unlisted = subst (λ es. progress_after program es ≡ record { state = state_after program es; listed = [] }) none (unlisted-none program);
       legal = subst (IsLegal program c.args.cells c.args.steps) none (legal-none program c.args.cells c.args.steps (laid-out program c.args.cells [] (snapshot_of m) after.after));
@@ -40,5 +38,6 @@ returns-clause-made c =
     let none = c.new.ensures.items in
     let after = subst (λ ps. IsMachineAfter program c.args.cells ps m) (sym schedule-none) c.in_ok-machine.ensures.opened in
     let law : AreQuiet program c.args.cells = λ choices n q h going. c.living_processes_are_quiet.ensures program c.args.cells choices n q c.is_runnable.ensures.accepted c.is_runnable.ensures.supported h going in
-    let view : machine_view program (snapshot_of m) ≡ view_of program is_held (state_after program []) = view-is program c.args.cells [] (snapshot_of m) after.after c.is_runnable.ensures.supported (length-map m.processes.items stack_of ∙ c.in_ok-machine.ensures.alone) (opening-first program) (opening-quiet program c.args.cells law (snapshot_of m) after.after) in
+    let seen : AreSeen program c.args.cells = λ choices n. c.views_are_of_states.ensures program c.args.cells choices n c.is_runnable.ensures.accepted (has-main program c.is_runnable.ensures.supported) in
+    let view : machine_view program (snapshot_of m) ≡ view_of program is_held (state_after program []) = view-is program c.args.cells [] (snapshot_of m) after.after seen (opening-quiet program c.args.cells law (snapshot_of m) after.after) in
     λ j. record (opening_of program c.args.cells c.args.steps) { history = none j; view = view j }

@@ -1,5 +1,7 @@
 use Rattle.std.proofs.Common.{◌≡◌, ◌<◌, ◌≤◌, [], length, refl, sym, ap, ◌∙◌, subst, arith}
 use Rattle.std.specs.Prelude.{vec_capacity}
+use Rattle.std.specs.Option.{unwrap_or}
+use Rattle.hep_source.specs.Defaults.{no_unit}
 use Rattle.hep_source.specs.Units.{main_unit}
 use Rattle.hep_code.specs.Depths.{deepest}
 use Rattle.hep_code.specs.Stacks.{entry_index}
@@ -29,11 +31,12 @@ returns-clause-opened c =
     let process = c.in_ok-process.process in
     let size : length c.reserve.new.self.arena.contents ≡ c.args.cells = ap (λ (a : Space). length a.contents) c.in_ok-reserve.ensures.arena ∙ c.in_ok-frames.ensures.cells in
     let begins = subst (λ n. IsEntered program n key entered.arena (nodes_of entered.nodes)) size c.enter_main-key.ensures in
-    let entry : unit.entry ≡ entry_index (unit_addressed program (main_unit program)) = main.code.entry ∙ ap (λ u. entry_index (unit_addressed program u)) (sym main.first) in
-    let inside : main_unit program < length program = subst (λ u. u < length program) (sym main.first) main.inside in
-    let after = c.openings_are_shown.ensures.shown program c.args.cells key unit.entry c.rows.result.now entered.arena given.arena (nodes_of entered.nodes) begins c.give_rows.ensures.given c.rows.ensures.initial c.rows.ensures.units inside entry in
-    let enough : deepest (unit_code program 0) ≤ vec_capacity process.operands =
-    subst (λ n. n ≤ vec_capacity process.operands) (main.code.operands ∙ ap deepest main.code.code) (omega (arith, c.in_ok-process.ensures.room)) in
-    machine-opened program c.args.cells key unit.entry _ process main.first (
+    let index = c.main.result in
+    let found : main_unit program ≡ index = ap (λ o. unwrap_or o no_unit) c.main.ensures.main in
+    let inside : main_unit program < length program = subst (λ u. u < length program) (sym found) c.main.ensures.inside in
+    let after = c.openings_are_shown.ensures.shown program c.args.cells key unit.entry c.rows.result.now entered.arena given.arena (nodes_of entered.nodes) begins c.give_rows.ensures.given c.rows.ensures.initial c.rows.ensures.units inside main.entry in
+    let enough : deepest (unit_code program index) ≤ vec_capacity process.operands =
+    subst (λ n. n ≤ vec_capacity process.operands) (main.operands ∙ ap deepest (main.code ∙ ap (unit_code program) found)) (omega (arith, c.in_ok-process.ensures.room)) in
+    machine-opened program c.args.cells key unit.entry _ process index found (
     record { alone = c.in_ok-vec.ensures.items; levels = c.in_ok-process.ensures.levels; operands = c.in_ok-process.ensures.operands; activations = refl; records = c.new-2.ensures.items; faults = c.new-3.ensures.items; running = refl })
     enough c.requires.few (subst (λ (nodes : Nodes). IsAfter program c.args.cells [] (snapshot_opened program key unit.entry given.arena nodes)) (sym c.give_rows.ensures.nodes) after)

@@ -1,0 +1,12 @@
+use Rattle.std.proofs.Common.{ap, sym, ◌∙◌}
+use Rattle.hep_source.specs.Units.{Units, is_main, main_among, subroutine_name}
+use Rattle.hep_image.proofs.Mains.{index-inside}
+use Rattle.hep_image.proofs.image.Image.main.Goals as goal
+
+pub returns-clause-main : goal.returns-clause-main
+returns-clause-main c = ap main_among (sym c.self.view_is) ∙ c.self.invariant.main_is
+
+pub returns-clause-inside : goal.returns-clause-inside
+returns-clause-inside c =
+    let program = c.args.self.now in
+    index-inside (λ unit. is_main (subroutine_name unit)) program c.self.inside.main (ap main_among (sym c.self.view_is) ∙ c.self.invariant.main_is)
