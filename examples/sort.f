@@ -1,4 +1,3 @@
-C     Not supported yet: refused with 403, in line 4.
 C     An array that a subroutine sorts.
       PROGRAM SORTED
       INTEGER L(4)
@@ -7,7 +6,7 @@ C     An array that a subroutine sorts.
       PRINT *, L(1), L(2), L(3), L(4)
       END
       SUBROUTINE SORT(L, N)
-      INTEGER L(N)
+      INTEGER L(*)
       DO 20 I = 1, N-1
       DO 10 J = I+1, N
       IF (L(J) .LT. L(I)) THEN

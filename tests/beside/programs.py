@@ -191,7 +191,7 @@ class Declarations(Draws):
         texts, types, blocks = [], {False: [], True: []}, {}
         for variable in self.declare_variables():
             is_typed = not self.is_of_type(variable.name, variable.logical) or self.chance(0.2)
-            variable.in_common = len(variable.bounds) < 7 and self.chance(0.15)
+            variable.in_common = self.goes_to_common(variable)
             holders = ["DIMENSION"] + ["type"] * is_typed + ["COMMON"] * variable.in_common
             holder = self.pick(holders) if variable.bounds else None
             shown = {name: variable.name + variable.bounds_text * (name == holder) for name in holders}
@@ -200,13 +200,18 @@ class Declarations(Draws):
             if holder == "DIMENSION":
                 texts.append(f"DIMENSION {shown['DIMENSION']}")
             if variable.in_common:
-                # (a block may have the name of a variable)
-                block = self.pick(["", BLOCK, self.scalars[0].name])
-                blocks.setdefault(block, []).append(shown["COMMON"])
+                blocks.setdefault(self.block_of(variable), []).append(shown["COMMON"])
         texts += self.type_statements("INTEGER", types[False]) + self.type_statements("LOGICAL", types[True])
         texts += self.common_statements(blocks)
         self.random.shuffle(texts)
         return texts
+
+    def goes_to_common(self, variable):
+        return len(variable.bounds) < 7 and self.chance(0.15)
+
+    def block_of(self, variable):
+        """The name of a common block for a variable; it may be that of a variable."""
+        return self.pick(["", BLOCK, self.scalars[0].name])
 
     def type_statements(self, word, items):
         texts = []
@@ -546,16 +551,20 @@ class Maker(Expressions):
         self.active = active
         return lines
 
+    def gets_value(self, variable):
+        """Whether a variable gets a value before anything else is done."""
+        return not variable.in_data and not self.is_risky()
+
     def opening(self):
         """Gives values to most variables that DATA gives none."""
         lines = []
         for variable in [*self.scalars, *self.truths, *self.turns]:
-            if not variable.in_data and not self.is_risky():
+            if self.gets_value(variable):
                 lines.append(Line(f"{variable.name}={truth(self.chance(0.5)) if variable.logical else self.constant()}"))
         lines += [Line(f"{counter.name}=0") for counter in self.counters if not self.is_risky()]
         self.random.shuffle(lines)
         for array in self.arrays:
-            if not array.in_data and len(array.bounds) <= len(self.turns) and not self.is_risky():
+            if len(array.bounds) <= len(self.turns) and self.gets_value(array):
                 lines += self.filling(array)
         return lines
 
@@ -580,12 +589,15 @@ class Maker(Expressions):
             lines.append(Line(text, self.label() if self.chance(0.1) else None))
         return [*lines, Line("END")]
 
+    def number_of_parts(self):
+        return self.number(2, 12)
+
     def whole(self, breaks):
         """All statements of the language that a unit by itself may have."""
         declared = [Line(text) for text in [*self.implicit(), *self.parameters(), *self.specifications()]]
         data, lines = self.data(), self.opening()
         self.counters_left = list(self.counters)
-        for _ in range(self.number(2, 12)):
+        for _ in range(self.number_of_parts()):
             lines += self.part(3, [])
         if breaks:
             lines += self.breach()

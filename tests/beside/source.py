@@ -1,4 +1,4 @@
-"""From the bytes of a source of one unit to its statements.
+"""From the bytes of a source to the statements of its units.
 
 A source that breaks a rule isn't told apart from one that this reader is too simple for: both are `Unreadable`. What
 refusals a source gets is no matter of this interpreter, which is for programs that are accepted.
@@ -91,6 +91,13 @@ class Name:
 
 
 @dataclass(frozen=True)
+class Parentheses:
+    """An expression in parentheses: it takes no step, and as an actual argument it is a value and no variable."""
+
+    inner: object
+
+
+@dataclass(frozen=True)
 class Unary:
     operator: str
     operand: object
@@ -119,13 +126,19 @@ class Program(Declaration):
 
 
 @dataclass
+class Subroutine(Declaration):
+    name: str
+    dummies: list
+
+
+@dataclass
 class Implicit(Declaration):
     pass
 
 
 @dataclass
 class Entities(Declaration):
-    """A type statement or DIMENSION: names, each with its bounds or None."""
+    """A type statement or DIMENSION: names, each with its bounds or None. A bound that is open has no upper one."""
 
     entities: list
 
@@ -205,6 +218,12 @@ class Do(Form):
     first: object
     last: object
     increment: object
+
+
+@dataclass
+class Call(Form):
+    name: str
+    actuals: list
 
 
 @dataclass
@@ -381,7 +400,7 @@ class Reader:
         if self.takes("("):
             inner = self.expression()
             self.need(")")
-            return inner
+            return Parentheses(inner)
         truth = self.take(TRUTH)
         if truth:
             return Constant(truth[1] == "TRUE")
@@ -398,11 +417,24 @@ class Reader:
         self.need(")")
         return Name(name, arguments)
 
+    def listed(self, item):
+        """Items in parentheses, of which there may be none; the parentheses may be missing then."""
+        if self.is_done():
+            return []
+        self.need("(")
+        items = [] if self.text.startswith(")", self.at) else self.row(item)
+        self.need(")")
+        return items
+
     # Parts of declarations.
 
+    def upper(self):
+        """An upper bound; a star leaves it open."""
+        return None if self.takes("*") else self.expression()
+
     def bound(self):
-        first = self.expression()
-        return (first, self.expression()) if self.takes(":") else (Constant(1), first)
+        first = self.upper()
+        return (first, self.upper()) if self.takes(":") else (Constant(1), first)
 
     def entity(self):
         """A name and its bounds, or None."""
@@ -596,6 +628,7 @@ def alone(form):
 # The words of statements, a longer one before those that it begins with.
 WORDS = {
     "PROGRAM": lambda rest: Program(whole(rest, Reader.name)),
+    "SUBROUTINE": lambda rest: Subroutine(*whole(rest, lambda reader: (reader.name(), reader.listed(reader.name)))),
     "IMPLICIT": lambda rest: Implicit(),
     "PARAMETER": parameter,
     "INTEGER": lambda rest: Entities(whole(rest, lambda reader: reader.row(reader.entity))),
@@ -609,6 +642,7 @@ WORDS = {
     "ELSE": alone(Else),
     "ENDIF": alone(EndIf),
     "END": alone(End),
+    "CALL": lambda rest: Call(*whole(rest, lambda reader: (reader.name(), reader.listed(reader.expression)))),
     "CONTINUE": alone(Continue),
     "RETURN": alone(Return),
     "STOP": lambda rest: Stop(),
@@ -629,10 +663,14 @@ def form_of(text):
     raise Unreadable(f"what is {text}?")
 
 
-def statements(source):
-    """The statements of a source of one unit."""
-    found = [Statement(text.line, text.label, form_of(text.characters)) for text in texts(source)]
-    ends = [at for at, statement in enumerate(found) if isinstance(statement.form, End)]
-    if ends != [len(found) - 1]:
-        raise Unreadable("the source isn't one unit")
+def units(source):
+    """The statements of each unit of a source, in its order: a unit goes up to its END."""
+    found = [[]]
+    for text in texts(source):
+        statement = Statement(text.line, text.label, form_of(text.characters))
+        found[-1].append(statement)
+        if isinstance(statement.form, End):
+            found.append([])
+    if found.pop():
+        raise Unreadable("the last statement is no END")
     return found

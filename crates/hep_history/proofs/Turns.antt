@@ -1,11 +1,11 @@
 -- Turns of a core, one after the other.
-use Rattle.std.proofs.Common.{◌≡◌, ◌≢◌, ℕ, zero, suc, ◌+◌, ◌<◌, ◌≤◌, Bool, true, false, List, [], ◌∷◌, ◌++◌, Option, Some, None, Ok, Err, length, length-append, replicate, refl, sym, ap, ◌∙◌, subst, arith, append_assoc, add-one, inl, inr}
+use Rattle.std.proofs.Common.{◌≡◌, ◌≢◌, ℕ, zero, suc, ◌+◌, ◌-◌, ◌<◌, ◌≤◌, Bool, true, false, true≢false, List, [], ◌∷◌, ◌++◌, Option, Some, None, Ok, Err, length, length-append, replicate, refl, sym, ap, ◌∙◌, subst, arith, append_assoc, add-one, inl, inr}
 use Rattle.std.proofs.Math.Bool.{beq}
 use Rattle.std.proofs.lemmas.List.{length-replicate, replicate-append-replicate}
-use Rattle.std.specs.Prelude.{if◌then◌else◌, is_some}
+use Rattle.std.specs.Prelude.{IsSome, if◌then◌else◌, is_some}
 use Rattle.std.specs.Option.{unwrap_or}
 use Rattle.hep_machine.specs.declared.event.Entry.{Entry}
-use Rattle.hep_machine.specs.Layout.{is_held}
+use Rattle.hep_machine.specs.Layout.{is_held, layout_of}
 use Rattle.hep_machine.specs.Opening.{opening}
 use Rattle.hep_machine.specs.Processes.{living}
 use Rattle.hep_machine.specs.Run.{run, run_from, state_after_turn, AreSteps, schedule_of, state_after}
@@ -13,13 +13,15 @@ use Rattle.hep_machine.specs.State.{State}
 use Rattle.hep_machine.specs.Step.{StepResult, stepped, waiting, absent, step_result_of, step_result_of_top, state_made, step, wanted_of, is_waiting}
 use Rattle.hep_source.specs.Units.{Units}
 use Rattle.hep_machine.specs.Views.{view_of}
+use Rattle.hep_state.specs.Turns.{HasNoGap}
+use Rattle.hep_state.proofs.Runs.{laid-before}
 use Rattle.hep_scheduler.specs.declared.fault.ChooseFault.TheVariants as refused
 use Rattle.hep_scheduler.specs.declared.stop.Stop.{Stop}
 use Rattle.hep_scheduler.specs.declared.stop.Stop.TheVariants.{Halted}
 use Rattle.hep_scheduler.specs.declared.stop.Turn.{Turn as CoreTurn}
 use Rattle.hep_scheduler.specs.Value.{CoreValue, state_of, core_after_choice, stop_after, HasNoStop, IsTurn, IsChoice}
 use Rattle.hep_history.specs.Progress.{IsStanding, longer, HasTurn, turn_entry, TurnMade}
-use Rattle.hep_history.specs.Replays.{most_entries, standing}
+use Rattle.hep_history.specs.Replays.{HaveGaps, most_entries, standing}
 
 -- ---- what a process does next
 
@@ -84,6 +86,33 @@ state_waited : (program : Units) (es : List Entry) (p : ℕ) → state_after pro
 unfolding run_from schedule_of
 state_waited program es p = state_after_statement program es (turn_entry p true ∷ [])
 
+-- ---- gaps
+
+none_is_not_some : {A : Type 0} (o : Option A) → o ≡ None → IsSome o → ⊥
+none_is_not_some o none some = true≢false (sym (subst IsSome none some))
+
+-- where a turn makes a frame that has no gap, not each frame has one after it
+no_gaps : (program : Units) (cells : ℕ) (es : List Entry) (p : ℕ) → HasNoGap program cells (schedule_of es) p → HaveGaps program cells (es ++ turn_entry p false ∷ []) → ⊥
+unfolding schedule_of
+no_gaps program cells es p gap gaps =
+    none_is_not_some (layout_of program cells is_held (schedule_of es ++ p ∷ [])) gap.full (
+    subst (λ ps. IsSome (layout_of program cells is_held ps)) (schedule_of-append es (turn_entry p false ∷ [])) gaps)
+
+-- what made a step for which there is no gap isn't waiting
+no_gap_waits : (program : Units) (cells : ℕ) (es : List Entry) (p : ℕ) → HasNoGap program cells (schedule_of es) p → is_waiting program (state_after program es) p ≡ true → ⊥
+unfolding state_after
+no_gap_waits program cells es p gap waits = gap.stepped (waiting_stays program p (run program (schedule_of es)) waits)
+
+no_gap_turns : (program : Units) (cells : ℕ) (es : List Entry) (p : ℕ) (waits : Bool) → HasNoGap program cells (schedule_of es) p → HasTurn program (state_after program es) p waits
+    → HaveGaps program cells (es ++ turn_entry p waits ∷ []) → ⊥
+no_gap_turns program cells es p true gap has gaps = no_gap_waits program cells es p gap has.1
+no_gap_turns program cells es p false gap has gaps = no_gaps program cells es p gap gaps
+
+-- the frames of the entries in front are among those of all
+pub gaps_before : (program : Units) (cells : ℕ) (es fs : List Entry) → HaveGaps program cells (es ++ fs) → HaveGaps program cells es
+gaps_before program cells es fs gaps =
+    laid-before program cells (schedule_of es) (schedule_of fs) (subst (λ ps. IsSome (layout_of program cells is_held ps)) (schedule_of-append es fs) gaps)
+
 -- ---- one choice
 
 some_is_not_none : (s : State) (o : Option State) → o ≡ Some s → o ≡ None → ⊥
@@ -106,8 +135,8 @@ limit_is old h = ap (λ c. c.limit) h
 turned : (old new : CoreValue) (p n : ℕ) (blocked waits : Bool) → IsStanding old → HasNoStop old → length old.history < old.limit → IsTurn old p n blocked new → TurnMade old p waits (Ok (beq blocked waits)) new
 turned old new p zero true true h going room t =
     (omega (arith, limit_is old h), (going.1, t.0), t.1 ∙ grown_is old p 0 (state_of old) (limit_is old h) (state_waited old.program old.history p))
-turned old new p zero true false h going room t = λ within has. has (waiting_stays old.program p (state_of old) t.0)
-turned old new p (suc zero) false true h going room t = λ within has. step_or_wait old.program p (state_of old) t.0 t.1 has.1
+turned old new p zero true false h going room t = λ within has gaps. has (waiting_stays old.program p (state_of old) t.0)
+turned old new p (suc zero) false true h going room t = λ within has gaps. step_or_wait old.program p (state_of old) t.0 t.1 has.1
 turned old new p (suc zero) false false h going room t = (
   omega (arith, limit_is old h),
   (λ none. some_is_not_none t.0 (step old.program p (state_of old)) t.1 none),
@@ -125,7 +154,7 @@ no_turn program s p true dead has = absurd (cc (has.1, (dead_stays program p s d
 no_turn program s p false dead has = has (dead_stays program p s dead).0
 
 pub nobody_turns : (old new : CoreValue) (p : ℕ) (waits : Bool) → IsChoice old p (Err refused.NoSuchProcess) new → TurnMade old p waits (Ok false) new
-nobody_turns old new p waits c = λ room has. no_turn old.program (state_of old) p waits c.1 has
+nobody_turns old new p waits c = λ room has gaps. no_turn old.program (state_of old) p waits c.1 has
 
 is_halted : (s : State) (stop : Stop) → stop_after s ≡ Some stop → s.halted ≡ true
 is_halted s stop e = halted_by s.halted stop e
@@ -139,9 +168,10 @@ halted_turn program s p true halted has = absurd (cc (halted, has.0))
 halted_turn program s p false halted has = has (halted_stays program p s halted)
 
 pub stopped_turns : (old new : CoreValue) (p : ℕ) (waits : Bool) (stop : Stop) → IsStanding old → IsChoice old p (Err (refused.Stopped stop)) new → TurnMade old p waits (Ok false) new
-stopped_turns old new p waits stop h (inl c) = λ room has.
+stopped_turns old new p waits stop h (inl c) = λ room has gaps.
     halted_turn old.program (state_of old) p waits (is_halted (state_of old) stop (sym (ap (λ k. k.stop) h) ∙ c.0)) has
-stopped_turns old new p waits stop h (inr c) = λ room has. omega (arith, limit_is old h, c.2)
+stopped_turns old new p waits stop h (inr (inl c)) = λ room has gaps. omega (arith, limit_is old h, c.2)
+stopped_turns old new p waits stop h (inr (inr c)) = λ room has gaps. no_gap_turns old.program old.cells old.history p waits c.3 has gaps
 
 -- ---- many turns
 
@@ -187,10 +217,23 @@ steps_more old mid new p i steps made t =
       u.2 ∙ ap (λ (es : List Entry). standing old.program old.cells es) history,
     )
 
--- a step that isn't there ends it
+-- the entries of n steps are those of i of them, the next one, and the rest
+ones_apart : (es : List Entry) (x : Entry) (i n : ℕ) → i < n → es ++ replicate n x ≡ ((es ++ replicate i x) ++ x ∷ []) ++ replicate (n - (i + 1)) x
+ones_apart es x i n lt =
+    let count : n ≡ (i + 1) + (n - (i + 1)) = omega (arith, lt) in
+    ap (λ k. es ++ replicate k x) count
+    ∙ ap (λ xs. es ++ xs) (sym (replicate-append-replicate (i + 1) (n - (i + 1)) x))
+    ∙ sym (append_assoc es (replicate (i + 1) x) (replicate (n - (i + 1)) x))
+    ∙ ap (λ xs. (es ++ xs) ++ replicate (n - (i + 1)) x) (sym (one_last x i))
+    ∙ ap (λ xs. xs ++ replicate (n - (i + 1)) x) (sym (append_assoc es (replicate i x) (x ∷ [])))
+
+-- a step that isn't there, or makes a frame that has no gap, ends it
 pub steps_end : (old mid new : CoreValue) (p i n : ℕ) → i < n → mid ≡ longer old (replicate i (one p)) → TurnMade mid p false (Ok false) new
-    → length old.history + n ≤ most_entries → AreSteps old.program (state_of old) (replicate n p) → ⊥
-steps_end old mid new p i n lt made t room steps =
+    → length old.history + n ≤ most_entries → AreSteps old.program (state_of old) (replicate n p)
+    → HaveGaps old.program old.cells (old.history ++ replicate n (one p)) → ⊥
+steps_end old mid new p i n lt made t room steps gaps =
     let u = subst (λ (m : CoreValue). TurnMade m p false (Ok false) new) made t in
-    u (omega (arith, length-append old.history (replicate i (one p)), length-replicate i (one p))) (
-    subst (λ (s : State). step old.program p s ≢ None) (sym (state_ones old.program old.history p i)) (steps_at old.program (state_of old) p i n lt steps))
+    u (omega (arith, length-append old.history (replicate i (one p)), length-replicate i (one p)))
+    (subst (λ (s : State). step old.program p s ≢ None) (sym (state_ones old.program old.history p i)) (steps_at old.program (state_of old) p i n lt steps))
+    (gaps_before old.program old.cells ((old.history ++ replicate i (one p)) ++ one p ∷ []) (replicate (n - (i + 1)) (one p)) (
+    subst (HaveGaps old.program old.cells) (ones_apart old.history (one p) i n lt) gaps))

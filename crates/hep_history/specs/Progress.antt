@@ -8,7 +8,7 @@ use Rattle.hep_source.specs.Units.{Units}
 use Rattle.hep_scheduler.specs.Value.{CoreValue, state_of}
 use Rattle.hep_history.specs.declared.fault.ReplayFault.{ReplayFault}
 use Rattle.hep_history.specs.declared.fault.ReplayFault.TheVariants.{NoMemory}
-use Rattle.hep_history.specs.Replays.{IsThere, most_entries, single_steps, standing}
+use Rattle.hep_history.specs.Replays.{HaveGaps, IsThere, most_entries, single_steps, standing}
 
 -- the core is what its history makes it
 abbrev pub IsStanding : CoreValue → Type 0
@@ -27,11 +27,13 @@ abbrev pub turn_entry : ℕ → Bool → Entry
 turn_entry p true = record { process = p; steps = 0 }
 turn_entry p false = record { process = p; steps = 1 }
 
--- what came of a turn: it was made, or there is none, or memory was refused
+-- what came of a turn: it was made; or there is none, or a frame that it makes has no gap; or memory was refused
 abbrev pub TurnMade : CoreValue → ℕ → Bool → Result Bool ReplayFault → CoreValue → Type 0
 TurnMade old p waits (Ok true) new =
     (length old.history < most_entries) × HasTurn old.program (state_of old) p waits × (new ≡ longer old (turn_entry p waits ∷ []))
-TurnMade old p waits (Ok false) new = length old.history < most_entries → HasTurn old.program (state_of old) p waits → ⊥
+TurnMade old p waits (Ok false) new =
+    length old.history < most_entries → HasTurn old.program (state_of old) p waits
+    → HaveGaps old.program old.cells (old.history ++ turn_entry p waits ∷ []) → ⊥
 TurnMade old p waits (Err fault) new = fault ≡ NoMemory
 
 -- of so many steps
@@ -40,7 +42,8 @@ StepsMade old p n (Ok true) new =
     (length old.history + n ≤ most_entries) × AreSteps old.program (state_of old) (replicate n p)
     × (new ≡ longer old (replicate n (record { process = p; steps = 1 })))
 StepsMade old p n (Ok false) new =
-    length old.history + n ≤ most_entries → AreSteps old.program (state_of old) (replicate n p) → ⊥
+    length old.history + n ≤ most_entries → AreSteps old.program (state_of old) (replicate n p)
+    → HaveGaps old.program old.cells (old.history ++ replicate n (record { process = p; steps = 1 })) → ⊥
 StepsMade old p n (Err fault) new = fault ≡ NoMemory
 
 -- of an entry
@@ -49,5 +52,6 @@ EntryMade old e (Ok true) new =
     (length old.history + length (single_steps e.process e.steps) ≤ most_entries) × IsThere old.program (state_of old) e.process e.steps
     × (new ≡ longer old (single_steps e.process e.steps))
 EntryMade old e (Ok false) new =
-    length old.history + length (single_steps e.process e.steps) ≤ most_entries → IsThere old.program (state_of old) e.process e.steps → ⊥
+    length old.history + length (single_steps e.process e.steps) ≤ most_entries → IsThere old.program (state_of old) e.process e.steps
+    → HaveGaps old.program old.cells (old.history ++ single_steps e.process e.steps) → ⊥
 EntryMade old e (Err fault) new = fault ≡ NoMemory

@@ -1,9 +1,9 @@
 -- Histories made again: docs/MACHINE.md, "Histories and choices as texts".
-use Rattle.std.specs.Prelude.{◌≡◌, ℕ, zero, suc, ◌+◌, ◌^◌, ◌<◌, ◌≤◌, true, false, List, [], ◌∷◌, length, replicate, take, slice_get, Some, None, IsSome}
+use Rattle.std.specs.Prelude.{◌≡◌, ℕ, zero, suc, ◌+◌, ◌^◌, ◌<◌, ◌≤◌, true, false, List, [], ◌∷◌, ◌++◌, length, replicate, take, slice_get, Some, None, IsSome}
 use Rattle.std.specs.List.{flat_map}
 use Rattle.hep_machine.specs.declared.event.Entry.{Entry}
-use Rattle.hep_machine.specs.Layout.{is_held, opening_layout}
-use Rattle.hep_machine.specs.Run.{AreSteps, state_after}
+use Rattle.hep_machine.specs.Layout.{is_held, layout_of, opening_layout}
+use Rattle.hep_machine.specs.Run.{AreSteps, schedule_of, state_after}
 use Rattle.hep_machine.specs.State.{State}
 use Rattle.hep_machine.specs.Step.{is_waiting}
 use Rattle.hep_source.specs.Units.{Units}
@@ -35,25 +35,30 @@ abbrev pub IsThere : Units → State → ℕ → ℕ → Type 0
 IsThere program s p zero = (s.halted ≡ false) × (is_waiting program s p ≡ true)
 IsThere program s p (suc n) = AreSteps program s (replicate (suc n) p)
 
--- after these entries the history has room for the entry, and the entry is there
-abbrev pub IsPossible : Units → List Entry → Entry → Type 0
-IsPossible program before e =
+-- each frame that these entries make has its gap in an arena of so many cells
+abbrev pub HaveGaps : Units → ℕ → List Entry → Type 0
+HaveGaps program cells entries = IsSome (layout_of program cells is_held (schedule_of entries))
+
+-- after these entries the history has room for the entry, the entry is there, and each frame has its gap in the arena
+abbrev pub IsPossible : Units → ℕ → List Entry → Entry → Type 0
+IsPossible program cells before e =
     (length (single_entries before) + length (single_steps e.process e.steps) ≤ most_entries)
     × IsThere program (state_after program before) e.process e.steps
+    × HaveGaps program cells (before ++ e ∷ [])
 
 -- each of the first k entries is possible after those before it
-abbrev pub ArePossible : Units → List Entry → ℕ → Type 0
-ArePossible program entries k =
-    (j : ℕ) (e : Entry) → j < k → slice_get entries j ≡ Some e → IsPossible program (take j entries) e
+abbrev pub ArePossible : Units → ℕ → List Entry → ℕ → Type 0
+ArePossible program cells entries k =
+    (j : ℕ) (e : Entry) → j < k → slice_get entries j ≡ Some e → IsPossible program cells (take j entries) e
 
 -- the entry with this number, counted from 1, is the first one that isn't possible
-pub record IsFirstImpossible (program : Units) (entries : List Entry) (number : ℕ) : Type 0 where
+pub record IsFirstImpossible (program : Units) (cells : ℕ) (entries : List Entry) (number : ℕ) : Type 0 where
   pub place : ℕ
   pub entry : Entry
   pub counted : number ≡ place + 1
   pub here : slice_get entries place ≡ Some entry
-  pub before : ArePossible program entries place
-  pub impossible : IsPossible program (take place entries) entry → ⊥
+  pub before : ArePossible program cells entries place
+  pub impossible : IsPossible program cells (take place entries) entry → ⊥
 
 -- ---- what comes of making entries again
 
@@ -81,4 +86,4 @@ abbrev pub IsUnmade : Units → ℕ → List Entry → ReplayFault → Type 0
 IsUnmade program cells entries NoMemory = IsSome (opening_layout program cells)
 IsUnmade program cells entries ArenaFull = opening_layout program cells ≡ None
 IsUnmade program cells entries (Refused number entry) =
-    IsSome (opening_layout program cells) × (number ≡ 603) × IsFirstImpossible program entries entry
+    IsSome (opening_layout program cells) × (number ≡ 603) × IsFirstImpossible program cells entries entry

@@ -15,7 +15,7 @@ use std::alloc::Global;
 pub const MOST_ENTRIES: u64 = 1_099_511_627_776;
 
 // One choice of a process, and whether it did what it should: whether it made a step or, where the
-// process is to wait, found it waiting.
+// process is to wait, found it waiting. A step that makes a frame without a gap isn't made.
 fn make_turn(core: &mut Core, process: u64, waits: bool) -> Result<bool, ReplayFault>
     requires { IsStanding core.old }
     ensures { TurnMade core.old process waits result core.new }
@@ -28,7 +28,7 @@ fn make_turn(core: &mut Core, process: u64, waits: bool) -> Result<bool, ReplayF
     }
 }
 
-// So many steps of a process, and whether each of them was there.
+// So many steps of a process, and whether each of them was there, and each frame had its gap.
 fn make_steps(core: &mut Core, process: u64, steps: u32) -> Result<bool, ReplayFault>
     requires standing { IsStanding core.old }
     requires within { length core.old.history ≤ most_entries }
@@ -61,7 +61,7 @@ fn make_entry(core: &mut Core, entry: Entry) -> Result<bool, ReplayFault>
 /// # Errors
 ///
 /// `ArenaFull` where the main program's frame has no gap in the arena; `Refused` with 603 and the
-/// first entry that isn't possible; `NoMemory`.
+/// first entry that isn't possible, also where a frame that it makes has no gap; `NoMemory`.
 pub fn replay(
     alloc: Global,
     image: Image,
@@ -73,7 +73,7 @@ pub fn replay(
     ensures made { IfOk result (λ core. core ≡ replayed image cells entries.now) }
     ensures expanded { IfOk result (λ core. schedule_of core.history ≡ schedule_of entries.now) }
     ensures fits { OnOk result (IsSome (opening_layout image cells)) }
-    ensures possible { OnOk result (ArePossible image entries.now (length entries.now)) }
+    ensures possible { OnOk result (ArePossible image cells entries.now (length entries.now)) }
     ensures unmade { IfErr result (IsUnmade image cells entries.now) }
 {
     let mut core = Core::new(alloc, image, cells, MOST_ENTRIES)?;
@@ -84,6 +84,8 @@ pub fn replay(
                 entry: index as u64 + 1,
             });
         }
+        // A core's history is legal, so each frame had its gap.
+        core.headline();
     }
     Ok(core)
 }

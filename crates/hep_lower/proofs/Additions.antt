@@ -43,7 +43,7 @@ item-within [] u y e = absurd (none-some y e)
 item-within (z ∷ zs) zero y e = omega arith
 item-within (z ∷ zs) (suc u) y e = omega (arith, item-within zs u y e)
 
-suc-is : (n : ℕ) → n + 1 ≡ suc n
+pub suc-is : (n : ℕ) → n + 1 ≡ suc n
 suc-is n = omega arith
 
 module _ (program : Units) (n : ℕ) (before after : LoweredUnits) (known : AreUnits program n before) where

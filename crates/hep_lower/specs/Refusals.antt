@@ -50,7 +50,8 @@ pub record IsLowered (program : Units) : Type 0 where
   pub supported : first_unsupported program ≡ None
 
 -- it is refused: 204 without a line where it has no main program, as no program that was read from a text is; else 401 without a
--- line; else 402 at its first line that is too deep; else 403 at its first statement that isn't supported
+-- line; else 402 at its first line that is too deep; else 403 at its first statement that isn't supported, or else at the first
+-- statement of its first unit that has adjustable arrays
 abbrev pub IsUnlowered : Units → ℕ → ℕ → Type 0
 IsUnlowered program number line =
     ((number ≡ 204) × (line ≡ 0) × (main_among program ≡ None))

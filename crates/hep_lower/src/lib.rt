@@ -16,6 +16,7 @@ mod statements;
 mod tables;
 mod unit;
 mod units;
+mod unsupported;
 
 pub use fault::EmitFault;
 pub use lowered::{Lowered, lower_unit};

@@ -33,7 +33,7 @@ called program unit c (v, callee, number, there, is, counted, fit) =
     subst (λ o. IsCalledWith program (unwrap_or o no_unit) (length c.actuals)) (sym number) here
 
 abbrev calling : Units → Wish
-calling program = record { variable = λ x. Unit {0}; tested = λ x. Unit {0}; call = IsCalledWith program; purge = Unit {0}; argument = λ a. Unit {0} }
+calling program = record { variable = λ x. Unit {0}; tested = λ x. Unit {0}; call = IsCalledWith program; create = Unit {0}; purge = Unit {0}; argument = λ a. Unit {0} }
 
 module _ (program : Units) (u : ℕ) (facts : Facts (unit_at program u)) (accepted : IsAccepted program) (h : u < length program) where
   all_called : AllMeet (calling program) (code_in program u)
@@ -42,6 +42,7 @@ module _ (program : Units) (u : ℕ) (facts : Facts (unit_at program u)) (accept
       right (unit_of_program program u) facts (calling program) (λ p g varies. tt) (record {
         called = λ s c g i. called program (unit_at program u) c (calls_agree program u g.0 i.0 (unit_at program u) s c accepted (unit_there program u h) g.1 i.1);
         passed = λ s c t g i j. tt;
+        creating = λ s p ts g e. tt;
         purging = λ s ts g e. tt;
         purged = λ s t g i. tt;
       }))
@@ -50,4 +51,4 @@ module _ (program : Units) (u : ℕ) (facts : Facts (unit_at program u)) (accept
   call_agrees i line v n next e = all_called (Step line (Call v n next)) (i, e)
 
   pub create_agrees : (i line v n next : ℕ) → slice_get (code_in program u) i ≡ Some (Step line (Create v n next)) → IsCalledWith program v n
-  create_agrees i line v n next e = all_called (Step line (Create v n next)) (i, e)
+  create_agrees i line v n next e = (all_called (Step line (Create v n next)) (i, e)).0

@@ -45,12 +45,13 @@ use Rattle.hep_source.specs.declared.declaration.NamedConstant.{NamedConstant}
 
 -- ---- what is asked of instructions
 
--- what is asked of the variables of operations, of those that FULL, EMPTY, VALUE, SETE or WAITF is asked of, of a unit called with a number of
--- arguments, of PURGE, and of arguments
+-- what is asked of the variables of operations, of those that FULL, EMPTY, VALUE, SETE or WAITF is asked of, of a unit that is called or begun
+-- with a number of arguments, of CREATE, of PURGE, and of arguments
 pub record Wish : Type 1 where
   pub variable : Variable → Type 0
   pub tested : Variable → Type 0
   pub call : ℕ → ℕ → Type 0
+  pub create : Type 0
   pub purge : Type 0
   pub argument : Argument → Type 0
 
@@ -65,7 +66,7 @@ MeetsOperation w (Store x n next) = w.variable x
 MeetsOperation w (EnterLoop x cells inside behind) = w.variable x
 MeetsOperation w (EndLoop x cells inside behind) = w.variable x
 MeetsOperation w (Call u n next) = w.call u n
-MeetsOperation w (Create u n next) = w.call u n
+MeetsOperation w (Create u n next) = w.call u n × w.create
 MeetsOperation w (Purge n next) = w.purge
 MeetsOperation w _ = Unit {0}
 
@@ -160,6 +161,7 @@ module _ (addressed : AddressedUnit) (w : Wish) where
     pub looped : (c : DoControl) → f ≡ form.Do c → w.variable (addressed.variables c.variable.name)
     pub called : (c : Calling) → Has (calls_in f) c → w.call (addressed.subroutines c.occurrence.name) (length c.actuals)
     pub passed : (c : Calling) (t : Tree) → Has (calls_in f) c → Has c.actuals t → w.argument (argument_of (names_of addressed) t)
+    pub creating : (p : Occurrence) (ts : List Tree) → f ≡ form.Create p ts → w.create
     pub purging : (ts : List Target) → f ≡ form.Purge ts → w.purge
     pub purged : (t : Target) → Has (targets_purged f) t → w.argument (argument_of_target (names_of addressed) t)
 
@@ -375,7 +377,7 @@ module _ (addressed : AddressedUnit) (w : Wish) where
         first_meets w _ _ (h.called (record { occurrence = p; actuals = ts }) (zero, refl)) (
         images_meet w (λ t. Pass (argument_of (names_of addressed) t)) ts (λ t g. h.passed (record { occurrence = p; actuals = ts }) t (zero, refl) g))
     operation_meets line k (form.Create p ts) h =
-        first_meets w _ _ (h.called (record { occurrence = p; actuals = ts }) (zero, refl)) (
+        first_meets w _ _ (h.called (record { occurrence = p; actuals = ts }) (zero, refl), h.creating p ts refl) (
         images_meet w (λ t. Pass (argument_of (names_of addressed) t)) ts (λ t g. h.passed (record { occurrence = p; actuals = ts }) t (zero, refl) g))
     operation_meets line k (form.Purge targets) h =
         first_meets w _ _ (h.purging targets refl) (images_meet w (λ t. Pass (argument_of_target (names_of addressed) t)) targets (λ t g. h.purged t g))

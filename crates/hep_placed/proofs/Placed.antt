@@ -48,7 +48,7 @@ OfArgument P (Referred x n) = P x
 
 -- of each variable, in an argument too, and nothing else
 abbrev pub wishing : (Variable → Type 0) → Wish
-wishing P = record { variable = P; tested = λ x. Unit {0}; call = λ u n. Unit {0}; purge = Unit {0}; argument = OfArgument P }
+wishing P = record { variable = P; tested = λ x. Unit {0}; call = λ u n. Unit {0}; create = Unit {0}; purge = Unit {0}; argument = OfArgument P }
 
 abbrev pub Each : (Variable → Type 0) → List Variable → Type 0
 Each P xs = (i : ℕ) (x : Variable) → slice_get xs i ≡ Some x → P x
@@ -109,6 +109,7 @@ module _ (addressed : AddressedUnit) (facts : Facts addressed.unit) (P : Variabl
       right addressed facts (wishing P) named (record {
         called = λ s c h g. tt;
         passed = λ s c t h g i. argument_right t (λ p j. actual_in_unit addressed facts (wishing P) s c t p h g i j);
+        creating = λ s p ts h e. tt;
         purging = λ s ts h e. tt;
         purged = λ s t h g. purged s t h g (purged_in_unit addressed facts (wishing P) s t h g);
       }))
@@ -120,7 +121,7 @@ unit_of_program program u = addressed_unit program (addresses_of program) u
 
 -- storage units of operations' variables alone, and `$` of those that are tested
 abbrev placing : Wish
-placing = record { variable = IsPlaced; tested = λ x. is_asynchronous x ≡ true; call = λ u n. Unit {0}; purge = Unit {0}; argument = λ a. Unit {0} }
+placing = record { variable = IsPlaced; tested = λ x. is_asynchronous x ≡ true; call = λ u n. Unit {0}; create = Unit {0}; purge = Unit {0}; argument = λ a. Unit {0} }
 
 -- the variable of an asynchronous name that has storage units is asynchronous
 asynchronous_scalar : (a : Bool) (at : Start) → a ≡ true → is_asynchronous (scalar a at) ≡ true
@@ -152,6 +153,7 @@ module _ (program : Units) (u : ℕ) (facts : Facts (unit_at program u)) where
       right (unit_of_program program u) facts placing placed (record {
         called = λ s c h g. tt;
         passed = λ s c t h g i. tt;
+        creating = λ s p ts h e. tt;
         purging = λ s ts h e. tt;
         purged = λ s t h g. tt;
       }))

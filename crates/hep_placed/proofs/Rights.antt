@@ -74,6 +74,7 @@ module _ (addressed : AddressedUnit) (facts : Facts addressed.unit) (w : Wish) w
   pub record Others : Type 0 where
     pub called : (s : Statement) (c : Calling) → Has addressed.unit s → Has (calls_in s.form) c → w.call (addressed.subroutines c.occurrence.name) (length c.actuals)
     pub passed : (s : Statement) (c : Calling) (t : Tree) → Has addressed.unit s → Has (calls_in s.form) c → Has c.actuals t → w.argument (argument_of (names_of addressed) t)
+    pub creating : (s : Statement) (p : Occurrence) (ts : List Tree) → Has addressed.unit s → s.form ≡ form.Create p ts → w.create
     pub purging : (s : Statement) (ts : List Target) → Has addressed.unit s → s.form ≡ form.Purge ts → w.purge
     pub purged : (s : Statement) (t : Target) → Has addressed.unit s → Has (targets_purged s.form) t → w.argument (argument_of_target (names_of addressed) t)
 
@@ -94,6 +95,7 @@ module _ (addressed : AddressedUnit) (facts : Facts addressed.unit) (w : Wish) w
           (loop_no_constant addressed.unit facts h.0 s c h.1 e);
       called = λ c g. others.called s c h g;
       passed = λ c t g i. others.passed s c t h g i;
+      creating = λ p ts e. others.creating s p ts h e;
       purging = λ ts e. others.purging s ts h e;
       purged = λ t g. others.purged s t h g;
     };

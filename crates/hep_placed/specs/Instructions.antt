@@ -7,7 +7,7 @@ use Rattle.hep_code.specs.declared.instruction.Evaluation.TheVariants.{Load, Tes
 use Rattle.hep_code.specs.declared.instruction.Instruction.{Instruction}
 use Rattle.hep_code.specs.declared.instruction.Instruction.TheVariants.{Step, Pass}
 use Rattle.hep_code.specs.declared.instruction.Operation.{Operation}
-use Rattle.hep_code.specs.declared.instruction.Operation.TheVariants.{Evaluate, Store, EnterLoop, EndLoop, Call, Create, Purge}
+use Rattle.hep_code.specs.declared.instruction.Operation.TheVariants.{Evaluate, Store, EnterLoop, EndLoop, Create, Purge}
 use Rattle.hep_code.specs.declared.variable.Variable.{Variable}
 
 -- ---- variables
@@ -34,16 +34,14 @@ variables_in (Step line o) = variables_in_operation o
 variables_in (Pass a) = variables_in_argument a
 variables_in _ = []
 
--- ---- CALL, CREATE and PURGE: X3.9-1978, 15.6.2, and docs/LANGUAGE.md, 9
+-- ---- CREATE and PURGE: docs/LANGUAGE.md, 9
 
-abbrev pub IsWithinActivation : Operation → Type 0
-IsWithinActivation (Call u n next) = ⊥
-IsWithinActivation (Create u n next) = ⊥
-IsWithinActivation (Purge n next) = ⊥
-IsWithinActivation _ = Unit {0}
+abbrev pub IsWithinProcess : Operation → Type 0
+IsWithinProcess (Create u n next) = ⊥
+IsWithinProcess (Purge n next) = ⊥
+IsWithinProcess _ = Unit {0}
 
--- an instruction that begins no activation, purges nothing, and passes nothing
-abbrev pub IsOfOneActivation : Instruction → Type 0
-IsOfOneActivation (Step line o) = IsWithinActivation o
-IsOfOneActivation (Pass a) = ⊥
-IsOfOneActivation _ = Unit {0}
+-- an instruction that begins no process and purges nothing
+abbrev pub IsOfOneProcess : Instruction → Type 0
+IsOfOneProcess (Step line o) = IsWithinProcess o
+IsOfOneProcess _ = Unit {0}

@@ -1,12 +1,13 @@
 //! Laws of the code of accepted programs: where the variables in it are, and what it calls.
-ghost use Rattle.std.specs.Prelude.{◌≡◌, ◌<◌, ℕ, Bool, true, List, [], Some, None, slice_get, length};
+ghost use Rattle.std.specs.Prelude.{◌≡◌, ◌<◌, ℕ, Bool, true, List, Some, None, is_some, slice_get, length};
 ghost use Rattle.hep_source.specs.declared.function.StateFunction.{StateFunction};
 ghost use Rattle.hep_source.specs.declared.name.Name.{Name};
 ghost use Rattle.hep_source.specs.declared.statement.Statement.{Statement};
-ghost use Rattle.hep_source.specs.Units.{Units, dummies_of, main_unit, unit_at};
+ghost use Rattle.hep_source.specs.Units.{Units, dummies_of, main_among, unit_at};
 ghost use Rattle.hep_machine.specs.Constants.{adjustable_dimensions, constant_shape};
 ghost use Rattle.hep_machine.specs.Declarations.{is_array};
 ghost use Rattle.hep_machine.specs.Shapes.{Bounds, is_shape};
+ghost use Rattle.hep_machine.specs.Variables.{adjustable_dimensions_of_all};
 ghost use Rattle.hep_check.specs.Conditions.{IsAccepted};
 ghost use Rattle.hep_code.specs.declared.instruction.Evaluation.TheVariants.{Test};
 ghost use Rattle.hep_code.specs.declared.instruction.Instruction.{Instruction};
@@ -19,7 +20,7 @@ ghost use Rattle.hep_code.specs.Replies.{is_asynchronous};
 ghost use Rattle.hep_image.specs.declared.array.Start.{Start};
 ghost use Rattle.hep_image.specs.Places.{arrays_of, start_of, variable_of};
 ghost use Rattle.hep_image.specs.Supported.{first_unsupported};
-ghost use Rattle.hep_placed.specs.Instructions.{IsOfOneActivation, variables_in, variables_in_operation};
+ghost use Rattle.hep_placed.specs.Instructions.{IsOfOneProcess, variables_in, variables_in_operation};
 ghost use Rattle.hep_placed.specs.Placed.{AreConstantsPlain, ArePlaced, ArePlain, IsArrayAt, IsCalledWith, IsPlaced, code_in};
 
 use hep_check::laws;
@@ -35,15 +36,14 @@ pub fn variables_of_the_code_are_placed()
     laws::constants_agree();
 }
 
-/// Where a program has nothing that isn't supported, it has one unit alone, a main program without dummy
-/// arguments, in whose code no activation begins and nothing is purged or passed, and each variable has
-/// storage units and no `$`.
+/// Where a program has nothing that isn't supported, it has a main program; in its code no process begins and nothing is
+/// purged, and each variable, passed ones too, has storage units and no `$`; and none of its units has adjustable arrays.
 pub fn supported_code()
-    ensures one { (program : Units) (u : ℕ) → first_unsupported program ≡ None → u < length program → (u ≡ 0) × (length program ≡ 1) }
-    ensures main { (program : Units) → first_unsupported program ≡ None → (length program ≡ 1) × (main_unit program ≡ 0) × (dummies_of (unit_at program 0) ≡ []) }
-    ensures activation { (program : Units) (u i : ℕ) (x : Instruction) → IsAccepted program → first_unsupported program ≡ None → u < length program → slice_get (code_in program u) i ≡ Some x → IsOfOneActivation x }
+    ensures main { (program : Units) → first_unsupported program ≡ None → is_some (main_among program) ≡ true }
+    ensures process { (program : Units) (u i : ℕ) (x : Instruction) → IsAccepted program → first_unsupported program ≡ None → u < length program → slice_get (code_in program u) i ≡ Some x → IsOfOneProcess x }
     ensures plain { (program : Units) (u i : ℕ) (x : Instruction) → IsAccepted program → first_unsupported program ≡ None → u < length program → slice_get (code_in program u) i ≡ Some x → ArePlain (variables_in x) }
     ensures placed { (program : Units) (u i : ℕ) (x : Instruction) → IsAccepted program → first_unsupported program ≡ None → u < length program → slice_get (code_in program u) i ≡ Some x → ArePlaced (variables_in x) }
+    ensures unadjusted { (program : Units) (u : ℕ) → first_unsupported program ≡ None → u < length program → adjustable_dimensions_of_all (unit_at program u) (dummies_of (unit_at program u)) ≡ 0 }
 {
     laws::constants_agree();
 }

@@ -10,3 +10,4 @@ mod Right
 mod Few
 mod Accepted
 mod Final
+mod Adjusted

@@ -59,7 +59,7 @@ header-named : (unit : List Statement) (f : Form) (x : Name) → Has (dummies_by
 header-named unit (form.Subroutine q ps) x h = let found = map_at (λ (p : Occurrence). p.name) ps h.0 x h.1 in (found.0, (h.0, found.1), found.2)
 header-named unit _ x h = absurd (none-some x h.1)
 
-dummy-named : (unit ss : List Statement) (x : Name) → Has (dummies_of ss) x → (p : Occurrence) × Has (flat_map (occurrences_in_statement unit) ss) p × (p.name ≡ x)
+pub dummy-named : (unit ss : List Statement) (x : Name) → Has (dummies_of ss) x → (p : Occurrence) × Has (flat_map (occurrences_in_statement unit) ss) p × (p.name ≡ x)
 dummy-named unit [] x h = absurd (none-some x h.1)
 dummy-named unit (s ∷ ss) x h =
     let found = header-named unit s.form x h in

@@ -23,16 +23,16 @@ made options core running legal =
       scheduled = running.scheduled;
     }
 
-over : (options : Options) (value : CoreValue) (stop : Option Stop) → IsStopOfRun options value stop → (stop ≡ None → next_process value.program options.choices value.history ≡ None) → core.IsStop value.program value.limit value.history stop → IsOver value.program options value.history stop
+over : (options : Options) (value : CoreValue) (stop : Option Stop) → IsStopOfRun options value stop → (stop ≡ None → next_process value.program options.choices value.history ≡ None) → core.IsStop value.program value.cells value.limit value.history stop → IsOver value.program options value.history stop
 over options value None here none named = (named, none refl)
 over options value (Some Halted) here none named = named
-over options value (Some ArenaFull) here none named = absurd here
+over options value (Some ArenaFull) here none named = (named.0, here)
 over options value (Some StepLimit) here none named = here
 
 pub outcome_refused : (options : Options) (program : Units) (value : CoreValue) (choice : ℕ) (o : Outcome) → value.program ≡ program → IsHaltedBy options value (NoSuchProcess choice) → IsLegal value.program value.cells value.limit value.history → o ≡ outcome_of_refused_choice value.history → IsRunOutcome program options o
 outcome_refused options program value choice o same halted legal is =
     subst (λ (p : Units). IsRunOutcome p options o) same (value.history, made options value halted.0 legal, inl (halted.2, is))
 
-pub outcome_over : (options : Options) (program : Units) (value : CoreValue) (o : Outcome) → value.program ≡ program → IsRunning options value → (value.stop ≡ None → next_process value.program options.choices value.history ≡ None) → IsLegal value.program value.cells value.limit value.history → core.IsStop value.program value.limit value.history value.stop → o ≡ outcome_of_end value.program value.history value.stop → IsRunOutcome program options o
+pub outcome_over : (options : Options) (program : Units) (value : CoreValue) (o : Outcome) → value.program ≡ program → IsRunning options value → (value.stop ≡ None → next_process value.program options.choices value.history ≡ None) → IsLegal value.program value.cells value.limit value.history → core.IsStop value.program value.cells value.limit value.history value.stop → o ≡ outcome_of_end value.program value.history value.stop → IsRunOutcome program options o
 outcome_over options program value o same running none legal named is =
     subst (λ (p : Units). IsRunOutcome p options o) same (value.history, made options value running legal, inr (value.stop, over options value value.stop running.stop none named, is))

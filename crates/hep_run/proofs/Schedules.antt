@@ -2,9 +2,10 @@
 use Rattle.std.proofs.Common.{◌≡◌, ℕ, zero, suc, ◌+◌, ◌<◌, ◌≤◌, Bool, true, false, List, [], ◌∷◌, ◌++◌, length, take, Option, Some, None, refl, sym, ap, ◌∙◌, subst, arith, inl, inr, Ok, Err, length-append}
 use Rattle.std.specs.Prelude.{◌≢◌, slice_get, nat_lt, not, replicate, cond, if◌then◌else◌}
 use Rattle.std.specs.List.{filter}
+use Rattle.hep_state.specs.Turns.{HasNoGap}
 use Rattle.hep_scheduler.specs.declared.stop.Stop.{Stop}
-use Rattle.hep_scheduler.specs.declared.stop.Stop.TheVariants.{Halted, StepLimit}
-use Rattle.hep_scheduler.specs.declared.fault.ChooseFault.TheVariants.{Stopped}
+use Rattle.hep_scheduler.specs.declared.stop.Stop.TheVariants.{ArenaFull, Halted, StepLimit}
+use Rattle.hep_scheduler.specs.declared.fault.ChooseFault.TheVariants.{NoSuchProcess, Stopped}
 use Rattle.std.proofs.lemmas.Bool.{cases_lt}
 use Rattle.std.proofs.lemmas.List.{take-append-le}
 use Rattle.std.proofs.Math.Seq.{take-append_seam}
@@ -19,13 +20,21 @@ use Rattle.hep_machine.specs.Processes.{living, top_of, is_number_among}
 use Rattle.hep_scheduler.specs.declared.stop.Turn.{Turn}
 use Rattle.hep_scheduler.specs.Value.{CoreValue, state_of, core_after_choice, stop_after, HasNoStop, IsTurn, IsChoice}
 use Rattle.hep_run.specs.declared.options.Options.{Options}
+use Rattle.hep_run.specs.declared.run.Halt.TheVariants as halts
 use Rattle.hep_run.specs.Outcome.{first_choice, next_process, IsNextEntry, IsScheduled}
-use Rattle.hep_run.specs.Progress.{IsStopOfRun, IsRunning}
+use Rattle.hep_run.specs.Progress.{IsHaltedBy, IsStopOfRun, IsRunning}
 
 -- without a STOP the choice comes next, or what is ready
 pub next_is_chosen : (program : Units) (choices : List ℕ) (history : List Entry) → (state_after program history).halted ≡ false → next_process program choices history ≡ first_choice (slice_get choices (length history)) (next_ready program history)
 next_is_chosen program choices history going =
     ap (λ b. if b then None else first_choice (slice_get choices (length history)) (next_ready program history)) going
+
+-- while the choices are made it is the one with the number of the entries so far
+pub choice_is_next : (program : Units) (choices : List ℕ) (history : List Entry) (i p : ℕ) → (state_after program history).halted ≡ false → length history ≡ i → slice_get choices i ≡ Some p → next_process program choices history ≡ Some p
+choice_is_next program choices history i p going count here =
+    next_is_chosen program choices history going
+    ∙ ap (λ (k : ℕ). first_choice (slice_get choices k) (next_ready program history)) count
+    ∙ ap (λ (o : Option ℕ). first_choice o (next_ready program history)) here
 
 -- ---- entries
 
@@ -207,7 +216,7 @@ none_is_next program choices history h none =
 
 -- a choice that meets a stop leaves the run at it
 pub stopped : (options : Options) (old new : CoreValue) (p : ℕ) (stop : Stop) → IsChoice old p (Err (Stopped stop)) new → IsRunning options old → (HasNoStop old → next_process old.program options.choices old.history ≡ Some p) → IsRunning options new × (new.program ≡ old.program) × (new.stop ≢ None)
-stopped options old new p stop c running next = elim c [ inl before ↦ at_stop before | inr now ↦ at_limit now ]
+stopped options old new p stop c running next = elim c [ inl before ↦ at_stop before | inr now ↦ elim now [ inl limit ↦ at_limit limit | inr gap ↦ at_gap gap ] ]
   where
     at_stop : (old.stop ≡ Some stop) × (new ≡ old) → IsRunning options new × (new.program ≡ old.program) × (new.stop ≢ None)
     at_stop (is, same) = (subst (IsRunning options) (sym same) running, ap (λ (v : CoreValue). v.program) same, λ none. absurd (let some : new.stop ≡ Some stop = ap (λ (v : CoreValue). v.stop) same ∙ is in cc))
@@ -221,6 +230,23 @@ stopped options old new p stop c running next = elim c [ inl before ↦ at_stop 
           stop = (full ∙ running.limit, p, next going, alive);
         } in
         (subst (IsRunning options) (sym same) cut, ap (λ (v : CoreValue). v.program) same, λ none. absurd (let some : new.stop ≡ Some StepLimit = ap (λ (v : CoreValue). v.stop) same in cc))
+
+    at_gap : HasNoStop old × (living (state_of old) p ≢ None) × (length old.history < old.limit) × HasNoGap old.program old.cells (schedule_of old.history) p × (stop ≡ ArenaFull) × (new ≡ record old { stop = Some ArenaFull }) → IsRunning options new × (new.program ≡ old.program) × (new.stop ≢ None)
+    at_gap (going, alive, room, gap, is, same) =
+        let full : IsRunning options (record old { stop = Some ArenaFull }) = record {
+          cells = running.cells;
+          limit = running.limit;
+          scheduled = running.scheduled;
+          stop = (omega (arith, room, running.limit), p, next going, subst (λ (n : ℕ). HasNoGap old.program n (schedule_of old.history) p) running.cells gap);
+        } in
+        (subst (IsRunning options) (sym same) full, ap (λ (v : CoreValue). v.program) same, λ none. absurd (let some : new.stop ≡ Some ArenaFull = ap (λ (v : CoreValue). v.stop) same in cc))
+
+-- a choice of a process that doesn't live is refused by its number
+pub nobody_chosen : (options : Options) (old new : CoreValue) (p i : ℕ) → IsChoice old p (Err NoSuchProcess) new → IsRunning options old → length old.history ≡ i → slice_get options.choices i ≡ Some p → IsHaltedBy options new (halts.NoSuchProcess (i + 1))
+nobody_chosen options old new p i c running count here =
+    let refused : IsHaltedBy options old (halts.NoSuchProcess (i + 1)) =
+    (running, omega (arith, count), (c.0.1, p, subst (λ (k : ℕ). slice_get options.choices k ≡ Some p) (sym count) here, c.1)) in
+    subst (λ (v : CoreValue). IsHaltedBy options v (halts.NoSuchProcess (i + 1))) (sym c.2) refused
 
 pub is_none : (o : Option ℕ) → ((p : ℕ) → o ≡ Some p → ⊥) → o ≡ None
 is_none None h = refl

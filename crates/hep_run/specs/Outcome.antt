@@ -1,13 +1,14 @@
 -- What a run of a source comes to, from its bytes to the bytes that it writes: docs/MACHINE.md, "The program".
-use Rattle.std.specs.Prelude.{◌≡◌, ◌≢◌, ◌⊎◌, ℕ, ◌+◌, ◌≤◌, true, false, if◌then◌else◌, List, [], ◌∷◌, ◌++◌, length, take, slice_get, Option, Some, None}
+use Rattle.std.specs.Prelude.{◌≡◌, ◌≢◌, ◌⊎◌, ℕ, ◌+◌, ◌<◌, ◌≤◌, true, false, if◌then◌else◌, List, [], ◌∷◌, ◌++◌, length, take, slice_get, Option, Some, None}
 use Rattle.hep_machine.specs.declared.event.Entry.{Entry}
 use Rattle.hep_machine.specs.declared.event.Fault.{Fault}
 use Rattle.hep_source.specs.Units.{Units}
 use Rattle.hep_machine.specs.Layout.{opening_layout}
 use Rattle.hep_machine.specs.Schedules.{next_ready}
-use Rattle.hep_machine.specs.Run.{state_after}
+use Rattle.hep_machine.specs.Run.{schedule_of, state_after}
 use Rattle.hep_machine.specs.Histories.{IsLegal}
 use Rattle.hep_machine.specs.Processes.{living}
+use Rattle.hep_state.specs.Turns.{HasNoGap}
 use Rattle.hep_scheduler.specs.declared.stop.Stop.{Stop}
 use Rattle.hep_scheduler.specs.declared.stop.Stop.TheVariants.{Halted, ArenaFull, StepLimit}
 use Rattle.hep_image.specs.Names.{names_in_order}
@@ -56,13 +57,19 @@ abbrev pub IsCutShort : Units → Options → List Entry → Type 0
 IsCutShort program options history =
     (length history ≡ options.steps) × (p : ℕ) × (next_process program options.choices history ≡ Some p) × (living (state_after program history) p ≢ None)
 
+-- the history isn't full, and a process comes next, whose step makes an activation for whose frame there is no gap
+abbrev pub IsFull : Units → Options → List Entry → Type 0
+IsFull program options history =
+    (length history < options.steps)
+    × (p : ℕ) × (next_process program options.choices history ≡ Some p) × HasNoGap program options.arena (schedule_of history) p
+
 -- the run is over after this history: no process comes next, or it stops
 abbrev pub IsOver : Units → Options → List Entry → Option Stop → Type 0
 IsOver program options history None =
     ((state_after program history).halted ≡ false) × (next_process program options.choices history ≡ None)
 IsOver program options history (Some StepLimit) = IsCutShort program options history
 IsOver program options history (Some Halted) = (state_after program history).halted ≡ true
-IsOver program options history (Some ArenaFull) = ⊥
+IsOver program options history (Some ArenaFull) = ((state_after program history).halted ≡ false) × IsFull program options history
 
 -- the next choice names a process that doesn't live; after a STOP there is no next one
 abbrev pub IsChoiceRefused : Units → Options → List Entry → Type 0

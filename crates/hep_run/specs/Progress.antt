@@ -9,7 +9,7 @@ use Rattle.hep_run.specs.declared.options.Options.{Options}
 use Rattle.hep_run.specs.declared.run.Halt.{Halt}
 use Rattle.hep_run.specs.declared.run.Halt.TheVariants.{NoMemory, NoSuchProcess}
 use Rattle.hep_run.specs.Sources.{IsRunnableSource}
-use Rattle.hep_run.specs.Outcome.{IsScheduled, IsCutShort, IsChoiceRefused}
+use Rattle.hep_run.specs.Outcome.{IsScheduled, IsCutShort, IsFull, IsChoiceRefused}
 
 -- the core is at the opening of the accepted program that the source is, whose main program's frame has a gap in the arena
 abbrev pub IsOpening : List ℕ → Options → CoreValue → Type 0
@@ -21,7 +21,7 @@ abbrev pub IsStopOfRun : Options → CoreValue → Option Stop → Type 0
 IsStopOfRun options core None = Unit {0}
 IsStopOfRun options core (Some StepLimit) = IsCutShort core.program options core.history
 IsStopOfRun options core (Some Halted) = Unit {0}
-IsStopOfRun options core (Some ArenaFull) = ⊥
+IsStopOfRun options core (Some ArenaFull) = IsFull core.program options core.history
 
 -- the core runs by these options
 pub record IsRunning (options : Options) (core : CoreValue) : Type 0 where

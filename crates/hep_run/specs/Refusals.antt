@@ -28,7 +28,7 @@ IsCheckRefusal source refusal = Tells (IsUnacceptedSource source) refusal
 abbrev pub IsSourceRefusal : List ℕ → Refusal → Type 0
 IsSourceRefusal source refusal = Tells (IsRefusedSource source) refusal
 
--- the source is refused so, or its frame has no gap in the arena
+-- the source is refused so, or the main program's frame has no gap in the arena
 abbrev pub IsOpeningFault : List ℕ → Options → OpeningFault → Type 0
 IsOpeningFault source options (Source refusal) = IsSourceRefusal source refusal
 IsOpeningFault source options ArenaFull = (program : Units) × IsRunnableSource source program × (opening_layout program options.arena ≡ None)

@@ -45,8 +45,8 @@ abbrev pub IsEntriesOutcome : Units → ℕ → List Entry → Outcome → Type 
 IsEntriesOutcome program cells entries o =
     ((opening_layout program cells ≡ None) × (o ≡ outcome_of_full_arena))
     ⊎ (IsSome (opening_layout program cells) × (
-    ((k : ℕ) × IsFirstImpossible program entries k × (o ≡ outcome_of_refused_history 603 k))
-    ⊎ (ArePossible program entries (length entries) × (o ≡ outcome_of_core (replayed program cells entries)))))
+    ((k : ℕ) × IsFirstImpossible program cells entries k × (o ≡ outcome_of_refused_history 603 k))
+    ⊎ (ArePossible program cells entries (length entries) × (o ≡ outcome_of_core (replayed program cells entries)))))
 
 -- what comes of a text of a history
 abbrev pub IsTextOutcome : List ℕ → ℕ → Units → Outcome → Type 0

@@ -13,7 +13,7 @@ pub enum Status {
     Usage,
     /// The run is done, and a process ended by a fault.
     Faulted,
-    /// The main program's frame doesn't fit the arena.
+    /// A frame doesn't fit the arena.
     ArenaFull,
     /// The history is full.
     StepLimit,

@@ -196,7 +196,7 @@ pub fn text_transcript(alloc: Global, text: Vec<u8>) -> Transcript
     }
 }
 
-/// What a program leaves whose frame doesn't fit the arena.
+/// What a program leaves whose main program's frame doesn't fit the arena.
 ///
 /// # Errors
 ///

@@ -1,5 +1,5 @@
 -- A history with one entry more.
-use Rattle.std.proofs.Common.{◌≡◌, ◌≢◌, inr, ℕ, ◌<◌, List, [], ◌∷◌, ◌++◌, length, length-append, refl, sym, ap, ◌∙◌, subst, append_assoc, arith, Option, Some, None, replicate}
+use Rattle.std.proofs.Common.{◌≡◌, ◌≢◌, inr, ℕ, ◌<◌, ◌≤◌, List, [], ◌∷◌, ◌++◌, length, length-append, refl, sym, ap, ◌∙◌, subst, append_assoc, arith, Option, Some, None, replicate}
 use Rattle.std.specs.Prelude.{IsSome}
 use Rattle.std.specs.Option.{unwrap_or}
 use Rattle.hep_machine.specs.declared.event.Entry.{Entry}
@@ -17,6 +17,11 @@ use Rattle.hep_machine.specs.Step.{step}
 pub schedule-none : schedule_of [] ≡ []
 unfolding schedule_of
 schedule-none = refl
+
+-- each entry has one step at most
+pub single-none : length (schedule_of []) ≤ length {A = Entry} []
+unfolding schedule_of
+single-none = omega arith
 
 schedule-last : (es : List Entry) (e : Entry) → schedule_of (es ++ e ∷ []) ≡ schedule_of es ++ (replicate e.steps e.process ++ [])
 unfolding schedule_of

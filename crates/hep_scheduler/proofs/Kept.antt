@@ -1,6 +1,8 @@
 -- What follows from what a machine keeps of the state after a history.
-use Rattle.std.proofs.Common.{◌≡◌, ◌≢◌, ℕ, Bool, true, false, ◌<◌, List, [], ◌∷◌, ◌++◌, length, refl, sym, ap, ◌∙◌, subst, Option, Some, None}
+use Rattle.std.proofs.Common.{◌≡◌, ◌≢◌, ℕ, Bool, true, false, ◌<◌, ◌≤◌, List, [], ◌∷◌, ◌++◌, length, length-append, arith, refl, sym, ap, ◌∙◌, subst, Option, Some, None}
 use Rattle.std.specs.Prelude.{IsSome, if◌then◌else◌, is_some}
+use Rattle.std.specs.Global.{Global}
+use Rattle.std.specs.declared.vec.Vec.{Vec}
 use Rattle.hep_source.specs.Units.{Units}
 use Rattle.hep_machine.specs.declared.event.Entry.{Entry}
 use Rattle.hep_machine.specs.Histories.{IsLegal}
@@ -16,8 +18,11 @@ use Rattle.hep_state.specs.declared.machine.Machine.{Machine}
 use Rattle.hep_state.specs.Rooms.{IsMachineAfter}
 use Rattle.hep_state.specs.Snapshots.{Snapshot, snapshot_of}
 use Rattle.hep_state.specs.Turns.{IsAfter}
+use Rattle.hep_scheduler.specs.Invariant.{CoreInvariant}
 use Rattle.hep_scheduler.specs.Seen.{machine_view}
-use Rattle.hep_scheduler.specs.Value.{verdict_by}
+use Rattle.hep_scheduler.specs.Value.{IsStop, verdict_by}
+use Rattle.hep_scheduler.specs.declared.scheduler.Core.TheInside.{Inside}
+use Rattle.hep_scheduler.specs.declared.stop.Stop.{Stop}
 use Rattle.hep_scheduler.specs.declared.stop.Verdict.TheVariants.{Done, Running}
 use Rattle.hep_scheduler.proofs.Alone.{next-is, verdict-is}
 use Rattle.hep_scheduler.proofs.Histories.{legal-stepped, schedule-stepped, state-is, state-stepped, unlisted-stepped}
@@ -65,6 +70,28 @@ module _ (program : Units) (cells : ℕ) (history : List Entry) (m : Snapshot) (
       let same = state-is program history in
       seen (schedule_of history) m after (λ p. ap (wanted_by program p) (sym same) ∙ quiet p) ∙ ap (view_of program is_held) (sym same)
 
+-- ---- a turn that wasn't taken
+
+-- a core with the same entries, whose machine keeps the same state
+module _ (c : Inside) (kept : CoreInvariant c) (history : Vec Entry Global) (machine : Machine) (same : history.items ≡ c.history.items) (after : IsMachineAfter c.image c.cells (schedule_of c.history.items) machine)
+    (alone : length machine.processes.items ≡ length c.machine.processes.items) where
+  pub unturned-kept : (stop : Option Stop) → IsStop c.image c.cells c.limit c.history.items stop → CoreInvariant (record c { history = history; stop = stop; machine = machine })
+  unturned-kept stop named =
+      record {
+        after = subst (λ es. IsMachineAfter c.image c.cells (schedule_of es) machine) (sym same) after;
+        alone = alone ∙ kept.alone;
+        quiet = subst (λ es. (q : ℕ) → wanted_by c.image q (state_after c.image es) ≡ None) (sym same) kept.quiet;
+        unlisted = subst (λ es. progress_after c.image es ≡ record { state = state_after c.image es; listed = [] }) (sym same) kept.unlisted;
+        legal = subst (IsLegal c.image c.cells c.limit) (sym same) kept.legal;
+        single = subst (λ es. length (schedule_of es) ≤ length es) (sym same) kept.single;
+        named = subst (λ es. IsStop c.image c.cells c.limit es stop) (sym same) named;
+      }
+
+  pub unturned-view : AreSeen c.image c.cells → machine_view c.image (snapshot_of machine) ≡ machine_view c.image (snapshot_of c.machine)
+  unturned-view seen =
+      view-is c.image c.cells c.history.items (snapshot_of machine) after.after seen kept.quiet
+      ∙ sym (view-is c.image c.cells c.history.items (snapshot_of c.machine) kept.after.after seen kept.quiet)
+
 -- ---- one turn more
 
 module _ (program : Units) (cells : ℕ) (h : List Entry) (p : ℕ) (h' : List Entry) (is : h' ≡ h ++ record { process = p; steps = 1 } ∷ []) (made : step program p (run program (schedule_of h)) ≢ None) where
@@ -83,6 +110,10 @@ module _ (program : Units) (cells : ℕ) (h : List Entry) (p : ℕ) (h' : List E
 
   schedule-next : schedule_of h' ≡ schedule_of h ++ p ∷ []
   schedule-next = ap schedule_of is ∙ schedule-stepped h p
+
+  -- each entry has one step at most
+  pub single-next : length (schedule_of h) ≤ length h → length (schedule_of h') ≤ length h'
+  single-next few = omega (arith, few, ap length is, ap length schedule-next, length-append h (record { process = p; steps = 1 } ∷ []), length-append (schedule_of h) (p ∷ []))
 
   pub unlisted-next : progress_after program h ≡ record { state = state_after program h; listed = [] } → progress_after program h' ≡ record { state = state_after program h'; listed = [] }
   unlisted-next none = subst (λ es. progress_after program es ≡ record { state = state_after program es; listed = [] }) (sym is) (unlisted-stepped program h p next none steps-on)

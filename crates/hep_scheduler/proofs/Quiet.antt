@@ -1,30 +1,33 @@
 -- Nothing that can be run so far waits, or stops with more changed than that.
-use Rattle.std.proofs.Common.{◌≡◌, ◌⊎◌, ℕ, zero, suc, ◌+◌, ◌<◌, Bool, true, false, List, [], ◌∷◌, ◌++◌, drop, length, refl, sym, ap, ◌∙◌, subst, true≢false, inl, inr, Option, Some, None}
-use Rattle.std.specs.Prelude.{if◌then◌else◌, slice_get}
+use Rattle.std.proofs.Common.{◌≡◌, ◌⊎◌, ℕ, ◌<◌, Bool, true, false, List, [], ◌∷◌, drop, length, refl, sym, ap, ◌∙◌, subst, true≢false, inl, inr, Option, Some, None, Result, Ok, Err}
+use Rattle.std.specs.Prelude.{if◌then◌else◌}
 use Rattle.std.proofs.lemmas.Option.{same_Some, none-some}
 use Rattle.hep_source.specs.declared.value.Value.{Value}
 use Rattle.hep_source.specs.Units.{Units}
+use Rattle.hep_machine.specs.declared.event.Kind.{Kind}
 use Rattle.hep_machine.specs.declared.slot.Slot.{Slot}
+use Rattle.hep_machine.specs.Binding.{Binding}
 use Rattle.hep_machine.specs.Layout.{Frame, Layout}
 use Rattle.hep_machine.specs.Run.{run}
-use Rattle.hep_machine.specs.State.{Level as SourceLevel, Process, State, Work}
-use Rattle.hep_machine.specs.Step.{Top, stack_after_return, state_made, state_with_store, step, step_result_of, step_result_of_top, stepped, wanted_of}
-use Rattle.hep_machine.specs.Processes.{living, numbered, unit_of, with_process}
+use Rattle.hep_machine.specs.State.{Level as SourceLevel, Process, State}
+use Rattle.hep_machine.specs.Step.{Top, binding_of, result_after_call, result_after_next, stack_after_return, state_made, state_with_store, step, step_result_of, step_result_of_top, stepped, unit_called, wanted_of}
+use Rattle.hep_machine.specs.Processes.{living, numbered, with_process}
 use Rattle.hep_arena.specs.Holes.{Hole}
 use Rattle.hep_code.specs.declared.instruction.Instruction.{Instruction}
 use Rattle.hep_code.specs.declared.instruction.Instruction.TheVariants.{Push, Step, Pass, Show, To}
-use Rattle.hep_code.specs.Ahead.{IsPastPushes}
-use Rattle.hep_code.specs.Standing.{Stands}
-use Rattle.hep_code.specs.UnitCode.{AddressedUnit, code_of}
-use Rattle.hep_code.proofs.Ahead.{drop_one_more, pushed}
+use Rattle.hep_code.specs.declared.instruction.Operation.{Operation}
+use Rattle.hep_code.specs.declared.instruction.Operation.TheVariants.{Call}
+use Rattle.hep_step.specs.Calls.{IsCallAhead}
 use Rattle.hep_step.specs.Effects.{Effect, effect_at, fails, moves, prints, returns, stops, unsupported, waits}
-use Rattle.hep_step.specs.Simulation.{IsNotLeftOut, IsRunning, Simulates, state_with_record, unit_addressed, unit_arrays, unit_code}
+use Rattle.hep_step.specs.Simulation.{IsNotLeftOut, IsRunning, Simulates, code_on_top, is_left_out, state_with_record, unit_arrays, unit_code}
 use Rattle.hep_state.specs.declared.machine.Level.{Level}
 use Rattle.hep_state.specs.Snapshots.{Snapshot, Stack}
 use Rattle.hep_state.specs.Taking.{IsNoWait}
 use Rattle.hep_state.specs.Tops.{IsTurning, frame_under, top_after}
 use Rattle.hep_state.specs.Turns.{IsAbsent, IsAfter}
-use Rattle.hep_state.proofs.Moved.{standing-before}
+use Rattle.hep_state.proofs.Ahead.{Settles, settles}
+use Rattle.hep_state.proofs.Moved.{unit-is}
+use Rattle.hep_state.proofs.Taken.{again, ahead-simulated, inside, settled-now}
 use Rattle.hep_scheduler.specs.Quiet.{IsQuiet}
 
 quiet-stepped : (program : Units) (s u : State) (p : ℕ) → s.halted ≡ false → step_result_of program p s ≡ stepped u → (u.halted ≡ true → u ≡ record s { halted = true }) → IsQuiet program s p
@@ -60,66 +63,44 @@ quiet-absent program s p running gone =
       stays = λ t e. absurd (none-some t (sym none ∙ e));
     }
 
--- ---- the values that stand ahead
+-- ---- CALL
 
-first-there : {A : Type 0} (xs : List A) (n : ℕ) (x : A) → slice_get xs n ≡ Some x → (rest : List A) × (drop n xs ≡ x ∷ rest)
-first-there [] n x e = absurd cc
-first-there (y ∷ ys) zero x e = (ys, ap (λ z. z ∷ ys) (same_Some y x e))
-first-there (y ∷ ys) (suc n) x e = first-there ys n x e
+module _ (program : Units) (t : Top) (running : t.state.halted ≡ false) (lives : living t.state t.process ≡ Some (t.level, t.below)) where
+  -- it makes an activation, or its fault ends the process
+  called : (u : ℕ) (b : Result Binding Kind) → step_result_of program t.process t.state ≡ result_after_call program t u b → IsQuiet program t.state t.process
+  called u (Err k) is = quiet-stepped program t.state _ t.process running is (λ h. absurd (true≢false (sym h ∙ running)))
+  called u (Ok b) is = quiet-stepped program t.state _ t.process running is (λ h. absurd (true≢false (sym h ∙ running)))
 
-module _ (addressed : AddressedUnit) (k : ℕ) (work : Work) where
-  pub record Settles : Type 0 where
-    pub operands : List Value
-    pub index : ℕ
-    pub stands : Stands addressed k work operands index
-    pub past : IsPastPushes (code_of addressed) index
+  pub quiet-call : (operands : List Value) (u count next : ℕ) (behind : List Instruction) → IsCallAhead program t operands u count next behind → IsQuiet program t.state t.process
+  unfolding step_result_of
+  quiet-call operands u count next behind calls =
+      called (unit_called program calls.name) (binding_of program t (unit_called program calls.name) calls.actuals) (
+      ap (step_result_of_top program t.state t.process) lives ∙ ap (result_after_next program t) calls.does_so)
 
-  is-past : (index : ℕ) (ahead : List Instruction) → drop index (code_of addressed) ≡ ahead → ((v : Value) (rest : List Instruction) → ahead ≡ Push v ∷ rest → ⊥) → IsPastPushes (code_of addressed) index
-  is-past index ahead is other v e = let found = first-there (code_of addressed) index (Push v) e in other v found.0 (sym is ∙ found.1)
+-- ---- the operation ahead
 
-  settles-by : (ahead : List Instruction) (operands : List Value) (index : ℕ) → drop index (code_of addressed) ≡ ahead → Stands addressed k work operands index → Settles
-  settles-by [] operands index is stands = record { operands = operands; index = index; stands = stands; past = is-past index [] is (λ v rest e. cc) }
-  settles-by (Push v ∷ rest) operands index is stands = settles-by rest (operands ++ v ∷ []) (index + 1) (drop_one_more (code_of addressed) index (Push v) rest is) (pushed addressed k work operands index stands v rest is)
-  settles-by (Step line o ∷ rest) operands index is stands = record { operands = operands; index = index; stands = stands; past = is-past index (Step line o ∷ rest) is (λ v more e. cc) }
-  settles-by (Pass a ∷ rest) operands index is stands = record { operands = operands; index = index; stands = stands; past = is-past index (Pass a ∷ rest) is (λ v more e. cc) }
-  settles-by (Show a ∷ rest) operands index is stands = record { operands = operands; index = index; stands = stands; past = is-past index (Show a ∷ rest) is (λ v more e. cc) }
-  settles-by (To a ∷ rest) operands index is stands = record { operands = operands; index = index; stands = stands; past = is-past index (To a ∷ rest) is (λ v more e. cc) }
+-- whether one stands in front of these instructions that calls, creates or purges
+left-out-ahead : List Instruction → Bool
+left-out-ahead (Step line o ∷ behind) = is_left_out o
+left-out-ahead (Push v ∷ behind) = false
+left-out-ahead (Pass a ∷ behind) = false
+left-out-ahead (Show a ∷ behind) = false
+left-out-ahead (To a ∷ behind) = false
+left-out-ahead [] = false
 
-  pub settles : (operands : List Value) (index : ℕ) → Stands addressed k work operands index → Settles
-  settles operands index stands = settles-by (drop index (code_of addressed)) operands index refl stands
-
--- ---- a process whose turn it is
-
--- an activation that runs does so at each index at which it stands
-runs-at : (program : Units) (t : Top) (layout : Layout) (f : Frame) (contents : List Slot) (holes : List Hole) (vs ws : List Value) (i j : ℕ) → IsRunning program t layout f contents holes vs i
-    → Stands (unit_addressed program (unit_of t.state t.level.activation)) t.level.statement t.level.work ws j → IsRunning program t layout f contents holes ws j
-runs-at program t layout f contents holes vs ws i j r stands =
-    record {
-      running = r.running;
-      lives = r.lives;
-      level = r.level;
-      others = r.others;
-      itself = r.itself;
-      memory = r.memory;
-      described = r.described;
-      framed = r.framed;
-      stands = stands;
-      placed = r.placed;
-      addressed = r.addressed;
-      looped = r.looped;
-      counted = r.counted;
-    }
+none-left-out : (code : List Instruction) (index : ℕ) (is : List Instruction) → drop index code ≡ is → left-out-ahead is ≡ false → IsNotLeftOut code index
+unfolding left-out-ahead
+none-left-out code index is e h line o behind f = sym (ap left-out-ahead (sym e ∙ f)) ∙ h
 
 module _ (program : Units) (cells : ℕ) (choices : List ℕ) (m : Snapshot) (p : ℕ) (after : IsAfter program cells choices m) (running : m.halted ≡ false)
     (absent-none : numbered m.processes p ≡ None → IsAbsent program cells choices p m)
     (absent-ended : (operands : List Value) → numbered m.processes p ≡ Some (record { levels = []; operands = operands }) → IsAbsent program cells choices p m)
     (turns : (l : Level) (ls : List Level) (operands : List Value) → numbered m.processes p ≡ Some (record { levels = l ∷ ls; operands = operands }) → (top : SourceLevel × Process) × IsTurning program cells choices m p l ls operands top)
-    (runs : (l : Level) (ls : List Level) (operands : List Value) (top : SourceLevel × Process) (h : IsTurning program cells choices m p l ls operands top) → IsRunning program (top_after program choices p top) h.after.layout (frame_under m.nodes l.key) m.arena.contents m.arena.holes operands l.index)
-    (does : (l : Level) (ls : List Level) (top : SourceLevel × Process) (operands ws : List Value) (h : IsTurning program cells choices m p l ls operands top) (j : ℕ) → IsRunning program (top_after program choices p top) h.after.layout (frame_under m.nodes l.key) m.arena.contents m.arena.holes ws j
-    → IsPastPushes (unit_code program (unit_of (run program choices) top.0.activation)) j → IsNotLeftOut (unit_code program (unit_of (run program choices) top.0.activation)) j
-    → Simulates program (top_after program choices p top) h.after.layout (frame_under m.nodes l.key) m.arena.holes m.arena.contents (effect_at (unit_code program (unit_of (run program choices) top.0.activation)) (unit_arrays program (unit_of (run program choices) top.0.activation)) (frame_under m.nodes l.key).first m.arena.contents ws j))
+    (runs : (n : Snapshot) (l : Level) (ls : List Level) (operands : List Value) (top : SourceLevel × Process) (h : IsTurning program cells choices n p l ls operands top) → IsRunning program (top_after program choices p top) h.after.layout (frame_under n.nodes l.key) n.arena.contents n.arena.holes operands l.index)
     (never : (u first : ℕ) (ws : List Value) (j : ℕ) → u < length program → IsNoWait (effect_at (unit_code program u) (unit_arrays program u) first m.arena.contents ws j))
-    (others : (u j : ℕ) → u < length program → IsNotLeftOut (unit_code program u) j) where
+    (only : (u j line : ℕ) (o : Operation) (behind : List Instruction) → u < length program → drop j (unit_code program u) ≡ Step line o ∷ behind → is_left_out o ≡ true → (v count next : ℕ) × (o ≡ Call v count next))
+    (calls : (top : SourceLevel × Process) (layout : Layout) (f : Frame) (contents : List Slot) (holes : List Hole) (operands : List Value) (j line u count next : ℕ) (behind : List Instruction) → IsRunning program (top_after program choices p top) layout f contents holes operands j
+    → drop j (code_on_top program (top_after program choices p top)) ≡ Step line (Call u count next) ∷ behind → IsCallAhead program (top_after program choices p top) operands u count next behind) where
   abbrev s : State
   s = run program choices
 
@@ -132,17 +113,58 @@ module _ (program : Units) (cells : ℕ) (choices : List ℕ) (m : Snapshot) (p 
     by_reason (inl halted) = absurd (true≢false (sym halted ∙ going))
     by_reason (inr gone) = quiet-absent program s p going gone
 
-  of-turning : (l : Level) (ls : List Level) (operands : List Value) (top : SourceLevel × Process) → IsTurning program cells choices m p l ls operands top → IsQuiet program s p
-  of-turning l ls operands top h =
-      let u = unit_of s top.0.activation in
-      let f = frame_under m.nodes l.key in
-      let r = runs l ls operands top h in
-      let settled = settles (unit_addressed program u) top.0.statement top.0.work operands l.index r.stands in
-      let at = runs-at program (top_after program choices p top) h.after.layout f m.arena.contents m.arena.holes operands settled.operands l.index settled.index r settled.stands in
-      let here = (standing-before program cells choices m p l ls operands top h).0.here in
-      let inside : u < length program = subst (λ n. n < length program) (sym here.unit) here.inside in
-      let waitless = never u f.first settled.operands settled.index inside in
-      quiet-by program (top_after program choices p top) h.after.layout f m.arena.holes m.arena.contents going _ (λ cell full e. subst IsNoWait e waitless) (does l ls top operands settled.operands h settled.index at settled.past (others u settled.index inside))
+  module _ (l : Level) (ls : List Level) (operands : List Value) (top : SourceLevel × Process) (h : IsTurning program cells choices m p l ls operands top) where
+    abbrev t : Top
+    t = top_after program choices p top
+
+    abbrev code : List Instruction
+    code = unit_code program l.unit
+
+    -- where the values that stand ahead are operands
+    ahead : Settles program l.unit operands l.index
+    ahead = settles program l.unit operands l.index
+
+    abbrev j : ℕ
+    j = ahead.after
+
+    abbrev next : IsTurning program cells choices (settled-now program cells choices m p l ls operands top h ahead.new j ahead.settles) p (record l { index = j }) ls ahead.new top
+    next = again program cells choices m p l ls operands top h ahead.new j ahead.settles
+
+    runs-on : IsRunning program t next.after.layout (frame_under m.nodes l.key) m.arena.contents m.arena.holes ahead.new j
+    runs-on = runs (settled-now program cells choices m p l ls operands top h ahead.new j ahead.settles) (record l { index = j }) ls ahead.new top next
+
+    within : l.unit < length program
+    within = inside program cells choices m p l ls operands top h
+
+    by_operation : IsNotLeftOut code j → IsQuiet program s p
+    by_operation others =
+        let waitless = never l.unit (frame_under m.nodes l.key).first ahead.new j within in
+        quiet-by program t next.after.layout (frame_under m.nodes l.key) m.arena.holes m.arena.contents going _ (λ cell full e. subst IsNoWait e waitless) (
+        ahead-simulated program cells choices m p l ls operands top h ahead.new j ahead.settles runs-on others)
+
+    by_call : (line : ℕ) (o : Operation) (behind : List Instruction) → drop j code ≡ Step line o ∷ behind → is_left_out o ≡ true → IsQuiet program s p
+    by_call line o behind e left =
+        let call = only l.unit j line o behind within e left in
+        let there = subst (λ u. drop j (unit_code program u) ≡ Step line (Call call.0 call.1 call.2) ∷ behind) (sym (unit-is program cells choices m p l ls operands top h)) (e ∙ (λ i. Step line (call.3 i) ∷ behind)) in
+        quiet-call program t going h.lives ahead.new call.0 call.1 call.2 behind (
+        calls top next.after.layout (frame_under m.nodes l.key) m.arena.contents m.arena.holes ahead.new j line call.0 call.1 call.2 behind runs-on there)
+
+    by_test : (line : ℕ) (o : Operation) (behind : List Instruction) → drop j code ≡ Step line o ∷ behind → (b : Bool) → is_left_out o ≡ b → IsQuiet program s p
+    unfolding left-out-ahead
+    by_test line o behind e true left = by_call line o behind e left
+    by_test line o behind e false other = by_operation (none-left-out code j (Step line o ∷ behind) e other)
+
+    by_ahead : (is : List Instruction) → drop j code ≡ is → IsQuiet program s p
+    unfolding left-out-ahead
+    by_ahead (Step line o ∷ behind) e = by_test line o behind e (is_left_out o) refl
+    by_ahead (Push v ∷ behind) e = by_operation (none-left-out code j (Push v ∷ behind) e refl)
+    by_ahead (Pass a ∷ behind) e = by_operation (none-left-out code j (Pass a ∷ behind) e refl)
+    by_ahead (Show a ∷ behind) e = by_operation (none-left-out code j (Show a ∷ behind) e refl)
+    by_ahead (To a ∷ behind) e = by_operation (none-left-out code j (To a ∷ behind) e refl)
+    by_ahead [] e = by_operation (none-left-out code j [] e refl)
+
+    of-turning : IsQuiet program s p
+    of-turning = by_ahead (drop j code) refl
 
   quiet-at : (o : Option Stack) → numbered m.processes p ≡ o → IsQuiet program s p
   quiet-at None e = of-absent (absent-none e)

@@ -1,5 +1,5 @@
 -- What a core keeps, and what is seen of it: docs/ARCHITECTURE.md, "Forms".
-use Rattle.std.specs.Prelude.{◌≡◌, ℕ, [], length, None}
+use Rattle.std.specs.Prelude.{◌≡◌, ◌≤◌, ℕ, [], length, None}
 use Rattle.hep_machine.specs.Histories.{IsLegal}
 use Rattle.hep_machine.specs.Run.{schedule_of, state_after}
 use Rattle.hep_machine.specs.Schedules.{progress_after}
@@ -21,11 +21,13 @@ core_value c =
       view = machine_view c.image (snapshot_of c.machine);
     }
 
--- the machine keeps the state after the history, which is legal; one process was made, and nobody waits
+-- the machine keeps the state after the history, which is legal, and each entry of which has one step at most; one process was made, and
+-- nobody waits
 pub record CoreInvariant (c : Inside) : Type 0 where
   pub after : IsMachineAfter c.image c.cells (schedule_of c.history.items) c.machine
   pub alone : length c.machine.processes.items ≡ 1
   pub quiet : (p : ℕ) → wanted_by c.image p (state_after c.image c.history.items) ≡ None
   pub unlisted : progress_after c.image c.history.items ≡ record { state = state_after c.image c.history.items; listed = [] }
   pub legal : IsLegal c.image c.cells c.limit c.history.items
-  pub named : IsStop c.image c.limit c.history.items c.stop
+  pub single : length (schedule_of c.history.items) ≤ length c.history.items
+  pub named : IsStop c.image c.cells c.limit c.history.items c.stop

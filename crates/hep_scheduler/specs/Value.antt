@@ -4,11 +4,12 @@ use Rattle.hep_machine.specs.declared.event.Entry.{Entry}
 use Rattle.hep_source.specs.Units.{Units}
 use Rattle.hep_machine.specs.State.{State}
 use Rattle.hep_machine.specs.Step.{step, is_waiting}
-use Rattle.hep_machine.specs.Run.{state_after}
+use Rattle.hep_machine.specs.Run.{schedule_of, state_after}
 use Rattle.hep_machine.specs.Layout.{is_held, opening_layout}
 use Rattle.hep_machine.specs.Schedules.{living_from, next_ready, progress_after, ready_in}
 use Rattle.hep_machine.specs.Views.{View, view_of}
 use Rattle.hep_machine.specs.Processes.{living}
+use Rattle.hep_state.specs.Turns.{HasNoGap}
 use Rattle.hep_scheduler.specs.declared.stop.Stop.{Stop}
 use Rattle.hep_scheduler.specs.declared.stop.Stop.TheVariants.{Halted, ArenaFull, StepLimit}
 use Rattle.hep_scheduler.specs.declared.stop.Turn.{Turn}
@@ -63,23 +64,31 @@ IsTurn old p _ _ new = ⊥
 abbrev pub HasNoStop : CoreValue → Type 0
 HasNoStop core = (core.stop ≡ None) × ((state_of core).halted ≡ false)
 
--- what came of a choice of p: a stop is reported first, then that p doesn't live, then that the history is full, and want of memory last
+-- what came of a choice of p: a stop is reported first, then that p doesn't live, then that the history is full, then that the frame of
+-- a new activation has no gap, and want of memory last
 abbrev pub IsChoice : CoreValue → ℕ → Result Turn ChooseFault → CoreValue → Type 0
 IsChoice old p (Ok turn) new = HasNoStop old × (length old.history < old.limit) × IsTurn old p turn.steps turn.blocked new
 IsChoice old p (Err (refused.Stopped stop)) new =
     ((old.stop ≡ Some stop) × (new ≡ old))
-    ⊎ (HasNoStop old × (living (state_of old) p ≢ None) × (length old.history ≡ old.limit) × (stop ≡ StepLimit) × (new ≡ record old { stop = Some StepLimit }))
+    ⊎ (HasNoStop old × (living (state_of old) p ≢ None) × (length old.history ≡ old.limit)
+    × (stop ≡ StepLimit) × (new ≡ record old { stop = Some StepLimit }))
+    ⊎ (HasNoStop old × (living (state_of old) p ≢ None) × (length old.history < old.limit) × HasNoGap old.program old.cells (schedule_of old.history) p
+    × (stop ≡ ArenaFull) × (new ≡ record old { stop = Some ArenaFull }))
 IsChoice old p (Err refused.NoSuchProcess) new = HasNoStop old × (living (state_of old) p ≡ None) × (new ≡ old)
-IsChoice old p (Err refused.NoMemory) new = HasNoStop old × (living (state_of old) p ≢ None) × (length old.history < old.limit) × (new ≡ old)
+IsChoice old p (Err refused.NoMemory) new =
+    HasNoStop old × (living (state_of old) p ≢ None) × (length old.history < old.limit)
+    × (HasNoGap old.program old.cells (schedule_of old.history) p → ⊥) × (new ≡ old)
 
 -- ---- stops
 
--- a stop by its name, and none: the core is Halted just where the machine is; no step of a supported program makes a frame
-abbrev pub IsStop : Units → ℕ → List Entry → Option Stop → Type 0
-IsStop program limit history None = (state_after program history).halted ≡ false
-IsStop program limit history (Some Halted) = (state_after program history).halted ≡ true
-IsStop program limit history (Some StepLimit) = ((state_after program history).halted ≡ false) × (length history ≡ limit)
-IsStop program limit history (Some ArenaFull) = ⊥
+-- a stop by its name, and none: the core is Halted just where the machine is, and the arena is full where some process's step makes an
+-- activation for whose frame there is no gap
+abbrev pub IsStop : Units → ℕ → ℕ → List Entry → Option Stop → Type 0
+IsStop program cells limit history None = (state_after program history).halted ≡ false
+IsStop program cells limit history (Some Halted) = (state_after program history).halted ≡ true
+IsStop program cells limit history (Some StepLimit) = ((state_after program history).halted ≡ false) × (length history ≡ limit)
+IsStop program cells limit history (Some ArenaFull) =
+    ((state_after program history).halted ≡ false) × ((p : ℕ) × HasNoGap program cells (schedule_of history) p)
 
 -- nothing lives, or all that lives is listed as waiting, or something is ready
 abbrev pub verdict_by : Option Stop → List ℕ → List ℕ → Verdict

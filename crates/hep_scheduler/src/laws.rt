@@ -13,7 +13,7 @@ ghost use Rattle.hep_scheduler.specs.Quiet.{IsQuiet};
 ghost use Rattle.hep_scheduler.specs.Seen.{machine_view};
 
 use hep_state::laws;
-use hep_step::laws::operations_do_what_the_machine_does;
+use hep_step::laws::calls_are_ahead;
 use hep_works::laws as works;
 
 /// Where the processes weren't stopped, none waits, and a step that stops them changes no more than that, in each
@@ -24,8 +24,8 @@ pub fn living_processes_are_quiet()
     laws::turns_are_taken();
     laws::tops_are_running();
     laws::supported_programs_never_wait();
-    laws::supported_programs_leave_nothing_out();
-    operations_do_what_the_machine_does();
+    laws::supported_programs_call_alone();
+    calls_are_ahead();
 }
 
 /// What is seen of a machine is what is seen of the state that it keeps, however many activations were made, in a run of an

@@ -11,7 +11,8 @@ use crate::stop::{Stop, Turn, Verdict};
 use hep_frames::laws::layouts_have_what_is_held;
 use hep_image::Image;
 use hep_machine::{Entry, Fault, Record};
-use hep_state::{Machine, fits};
+use hep_state::laws::activations_are_few;
+use hep_state::{Machine, TurnFault, fits};
 use std::alloc::Global;
 use std::marker::Model;
 
@@ -84,8 +85,10 @@ impl Core {
     ///
     /// # Errors
     ///
-    /// `Stopped` at a stop, or where the history has as many entries as it may have, which sets
-    /// the stop; `NoSuchProcess` where p was never made or has ended; `NoMemory`.
+    /// `Stopped` at a stop; or where the history has as many entries as it may have, or else the step makes an activation for
+    /// whose frame there is no gap, each of which sets the stop and adds no entry. `NoSuchProcess` where p was never made or
+    /// has ended, which is reported after a stop that was set before, and before one that is set now. `NoMemory`, which is
+    /// asked for only where there is a gap.
     pub fn choose(&mut self, p: u64) -> Result<Turn, ChooseFault>
         ensures { IsChoice self.old p result self.new }
     {
@@ -102,8 +105,18 @@ impl Core {
         self.image.is_runnable();
         living_processes_are_quiet();
         views_are_of_states();
-        self.history.reserve(1)?;
-        self.machine.turn(self.alloc, &self.image, p)?;
+        activations_are_few();
+        match self
+            .machine
+            .turn(self.alloc, &self.image, p, &mut self.history)
+        {
+            Ok(()) => {}
+            Err(TurnFault::NoMemory) => return Err(ChooseFault::NoMemory),
+            Err(TurnFault::ArenaFull) => {
+                self.stop = Some(Stop::ArenaFull);
+                return Err(ChooseFault::Stopped(Stop::ArenaFull));
+            }
+        }
         note(&mut self.history, p);
         if self.machine.halted {
             self.stop = Some(Stop::Halted);
@@ -116,11 +129,12 @@ impl Core {
 
     /// Does nothing: its clauses say what every core is. What is seen of a core is what is seen of
     /// the source machine after the core's own history, the history is one that a core may have,
-    /// and a stop is what its name says.
+    /// and a stop is what its name says: a STOP ran, the history is full, or some process can't make its step, for whose new
+    /// activation's frame there is no gap.
     pub fn headline(&self)
         ensures view { self.now.view ≡ view_of self.now.program is_held (state_of self.now) }
         ensures legal { IsLegal self.now.program self.now.cells self.now.limit self.now.history }
-        ensures named { IsStop self.now.program self.now.limit self.now.history self.now.stop }
+        ensures named { IsStop self.now.program self.now.cells self.now.limit self.now.history self.now.stop }
     {
         self.image.is_runnable();
         views_are_of_states();

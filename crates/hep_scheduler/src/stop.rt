@@ -6,8 +6,9 @@
 pub enum Stop {
     /// A STOP ran.
     Halted,
-    /// A frame had no gap in the arena. No core has this stop yet: only the main program has a
-    /// frame, and without a gap for it no core is made (`NewFault::ArenaFull`).
+    /// The step of a process that was chosen makes an activation for whose frame there is no gap in the arena. The step isn't
+    /// made, and the history has no entry of it. Without a gap for the main program's frame no core is made
+    /// (`NewFault::ArenaFull`).
     ArenaFull,
     /// The history has as many entries as it may have, and a living process was chosen.
     StepLimit,

@@ -6,7 +6,7 @@ pub mod Moved
 pub mod Leaving
 pub mod Kept
 pub mod Ended
-pub mod Called
+pub mod Begun
 pub mod Tops
 pub mod Settled
 pub mod Opened
@@ -17,3 +17,12 @@ pub mod Waiting
 pub mod Taken
 pub mod Givings
 pub mod MachineOpened
+pub mod Plain
+pub mod Entered
+pub mod Gapped
+pub mod Callers
+pub mod Bindings
+pub mod Ahead
+pub mod Turned
+pub mod AtCalls
+pub mod Reserved

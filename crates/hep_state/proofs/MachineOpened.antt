@@ -11,7 +11,7 @@ use Rattle.hep_state.specs.declared.machine.Level.{Level}
 use Rattle.hep_state.specs.declared.machine.Machine.{Machine}
 use Rattle.hep_state.specs.declared.machine.Process.{Process}
 use Rattle.hep_state.specs.Openings.{snapshot_opened}
-use Rattle.hep_state.specs.Rooms.{HasRoom, IsMachineAfter}
+use Rattle.hep_state.specs.Rooms.{HasRoom, HasRoomToPass, IsMachineAfter}
 use Rattle.hep_state.specs.Snapshots.{snapshot_of, stack_of}
 use Rattle.hep_state.specs.Turns.{IsAfter}
 
@@ -59,5 +59,5 @@ module _ (program : Units) (cells key entry : ℕ) (m : Machine) (q : Process) (
     all-room : (i : ℕ) (r : Process) → slice_get m.processes.items i ≡ Some r → HasRoom program r
     all-room i r e = subst (HasRoom program) (the-only q r i (ap (λ (qs : List Process). slice_get qs i) (sym begun.alone) ∙ e)) has-room
 
-    pub machine-opened : cells ≤ most_cells → IsAfter program cells [] (snapshot_opened program key entry m.frames.arena (nodes_of m.frames.nodes)) → IsMachineAfter program cells [] m
-    machine-opened few after = record { after = subst (IsAfter program cells []) (sym snapshot-is) after; few = few; room = all-room }
+    pub machine-opened : cells ≤ most_cells → HasRoomToPass program m → IsAfter program cells [] (snapshot_opened program key entry m.frames.arena (nodes_of m.frames.nodes)) → IsMachineAfter program cells [] m
+    machine-opened few to_pass after = record { after = subst (IsAfter program cells []) (sym snapshot-is) after; few = few; to_pass = to_pass; room = all-room }

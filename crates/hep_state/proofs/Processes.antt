@@ -110,3 +110,31 @@ room-moved program q r l next ls was left before after more room i m e =
   where
     unit_of : Level → ℕ
     unit_of k = k.unit
+
+-- what holds of all elements and of one more holds of all of them together
+all-more : (P : Level → Type 0) (xs : List Level) (y : Level) → ((i : ℕ) (m : Level) → slice_get xs i ≡ Some m → P m) → P y → (i : ℕ) (m : Level) → slice_get (xs ++ y ∷ []) i ≡ Some m → P m
+all-more P [] y each one zero m e = subst P (same_Some y m e) one
+all-more P [] y each one (suc i) m e = absurd (none-some m e)
+all-more P (x ∷ xs) y each one zero m e = each zero m e
+all-more P (x ∷ xs) y each one (suc i) m e = all-more P xs y (λ j k f. each (suc j) k f) one i m e
+
+-- a process with one level more, above its top one, which is at another index then
+pub room-more : (program : Units) (q r : Process) (l new : Level) (next : ℕ) (ls : List Level) (was left : List Value) → stack_of q ≡ stack_with l ls was → stack_of r ≡ stack_with new (record l { index = next } ∷ ls) left → vec_capacity q.operands ≤ vec_capacity r.operands
+    → deepest (unit_code program new.unit) ≤ vec_capacity r.operands → HasRoom program q → HasRoom program r
+room-more program q r l new next ls was left before after more enough room i m e =
+    all-more (λ k. deepest (unit_code program k.unit) ≤ vec_capacity r.operands) (reverse (later ∷ ls)) new front enough i m (subst (λ (xs : List Level). slice_get xs i ≡ Some m) (levels-are r new (later ∷ ls) left after) e)
+  where
+    later : Level
+    later = record l { index = next }
+
+    unit_of : Level → ℕ
+    unit_of k = k.unit
+
+    front : (j : ℕ) (k : Level) → slice_get (reverse (later ∷ ls)) j ≡ Some k → deepest (unit_code program k.unit) ≤ vec_capacity r.operands
+    front j k f =
+        let units : (x : Level) → map unit_of (reverse ls ++ x ∷ []) ≡ map unit_of (reverse ls) ++ x.unit ∷ [] = λ x. map-append unit_of (reverse ls) (x ∷ []) in
+        let same : map unit_of (reverse (later ∷ ls)) ≡ map unit_of q.levels.items =
+        ap (map unit_of) (reverse-append (later ∷ []) ls) ∙ (units later ∙ (sym (units l) ∙ sym (ap (map unit_of) (levels-are q l ls was before)))) in
+        let old = map_at unit_of q.levels.items j k.unit (sym (ap (λ us. slice_get us j) same) ∙ image_at unit_of (reverse (later ∷ ls)) j k f) in
+        let here = room j old.0 old.1 in
+        omega (arith, here, more, ap (λ u. deepest (unit_code program u)) old.2)

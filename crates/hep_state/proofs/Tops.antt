@@ -37,11 +37,12 @@ use Rattle.hep_finding.proofs.Reached.{any-addressed}
 use Rattle.hep_finding.proofs.Within.{few-dimensions}
 use Rattle.hep_finding.specs.Within.{ArePlacedArrays}
 use Rattle.hep_image.specs.Places.{arrays_of, start_of, variable_of}
-use Rattle.hep_image.specs.Supported.{first_unsupported, first_unsupported_in}
+use Rattle.std.specs.Option.{option_or}
+use Rattle.hep_image.specs.Supported.{first_adjustable_in, first_unsupported, first_unsupported_in}
 use Rattle.hep_image.specs.declared.array.Start.{Start}
-use Rattle.hep_placed.specs.Instructions.{IsOfOneActivation, variables_in_operation}
+use Rattle.hep_placed.specs.Instructions.{variables_in_operation}
 use Rattle.hep_placed.specs.Placed.{ArePlaced, code_in}
-use Rattle.hep_step.specs.Simulation.{IsRunning, counts_in, found_in, is_left_out, unit_addressed, unit_code, variable_in}
+use Rattle.hep_step.specs.Simulation.{IsRunning, counts_in, found_in, unit_addressed, unit_code, variable_in}
 use Rattle.hep_state.specs.declared.machine.Level.{Level}
 use Rattle.hep_state.specs.Snapshots.{Snapshot}
 use Rattle.hep_state.specs.Tops.{IsTurning, frame_under, top_after}
@@ -60,7 +61,7 @@ pub record IsKnown (program : Units) : Type 0 where
 -- a program in which nothing is unsupported has a main program
 pub has-main : (program : Units) → first_unsupported program ≡ None → is_some (main_among program) ≡ true
 has-main program = by_main (is_some (main_among program)) where
-  by_main : (b : Bool) → (if b then first_unsupported_in program else Some (line_at (unit_at program 0) 0)) ≡ None → b ≡ true
+  by_main : (b : Bool) → (if b then option_or (first_unsupported_in program) (first_adjustable_in program) else Some (line_at (unit_at program 0) 0)) ≡ None → b ≡ true
   by_main true e = refl
   by_main false e = absurd (none-some (line_at (unit_at program 0) 0) (sym e))
 
@@ -78,12 +79,6 @@ unit-there (unit ∷ units) zero h = refl
 unit-there (unit ∷ units) (suc u) h = unit-there units u (omega (arith, h))
 
 -- ---- operations
-
-pub none_left_out : (line : ℕ) (o : Operation) → IsOfOneActivation (Step line o) → is_left_out o ≡ false
-none_left_out line (Call u count next) h = absurd h
-none_left_out line (Create u count next) h = absurd h
-none_left_out line (Purge count next) h = absurd h
-none_left_out line _ h = refl
 
 none_absent : (line : ℕ) (o : Operation) → ArePlaced (variables_in_operation o) → variable_in o ≢ Some Absent
 none_absent line (Evaluate (Load x n)) h e = h 0 x refl (same_Some x Absent e)

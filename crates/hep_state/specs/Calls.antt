@@ -1,48 +1,90 @@
--- CALL: X3.9-1978, 15.6.2, and docs/MACHINE.md, "Steps" and "Layout".
-use Rattle.std.specs.Prelude.{◌≡◌, ℕ, ◌+◌, Bool, List, [], ◌∷◌, length, Some}
-use Rattle.hep_source.specs.Units.{Units, unit_at}
+-- What a core keeps after a CALL or CREATE: docs/MACHINE.md, "Steps" and "Layout".
+use Rattle.std.specs.Prelude.{◌≡◌, ℕ, ◌+◌, ◌<◌, List, [], ◌∷◌, ◌++◌, length, Some, None}
+use Rattle.hep_source.specs.declared.value.Value.{Value}
+use Rattle.hep_source.specs.Units.{Units, dummies_of, unit_at}
 use Rattle.hep_machine.specs.Binding.{Binding}
-use Rattle.hep_machine.specs.Layout.{Layout, common_cells, frame_of, lowest_gap, with_frame}
-use Rattle.hep_machine.specs.Processes.{with_process}
+use Rattle.hep_machine.specs.Evaluation.{Actual}
+use Rattle.hep_machine.specs.Layout.{Layout, common_cells, frame_of, is_held, lowest_gap}
+use Rattle.hep_machine.specs.Processes.{with_numbered}
 use Rattle.hep_machine.specs.Run.{run}
 use Rattle.hep_machine.specs.State.{Level as SourceLevel, Process, State}
-use Rattle.hep_machine.specs.Step.{entry_level, next_activation, with_activation}
+use Rattle.hep_machine.specs.Step.{scope_of, step}
+use Rattle.hep_machine.specs.Variables.{adjustable_dimensions_of_all, frame_cells}
 use Rattle.hep_arena.specs.Space.{Space}
 use Rattle.hep_code.specs.Stacks.{entry_index}
+use Rattle.hep_code.specs.UnitCode.{table_of}
 use Rattle.hep_finding.specs.Bound.{AreKept}
-use Rattle.hep_frames.specs.Addresses.{frame_from}
-use Rattle.hep_frames.specs.Descriptors.{wanted_of}
-use Rattle.hep_frames.specs.Tree.{Node, Nodes, is_stacked}
-use Rattle.hep_proc.specs.Keeping.{Keeps}
+use Rattle.hep_frames.specs.Tree.{Nodes, new_node, with_node}
+use Rattle.hep_passing.specs.declared.given.Given.{Given}
 use Rattle.hep_step.specs.Simulation.{unit_addressed}
 use Rattle.hep_state.specs.declared.machine.Level.{Level}
 use Rattle.hep_state.specs.Snapshots.{Snapshot}
-use Rattle.hep_state.specs.Tops.{top_after, with_stack}
+use Rattle.hep_state.specs.Tops.{IsTurning, with_stack}
+use Rattle.hep_entering.specs.Calling.{ArePassed, IsAllWritten, IsPassing, layout_with, state_called, state_created}
 
--- the state once the top activation has called unit u, with its dummy arguments bound so
-abbrev pub state_called : Units → List ℕ → ℕ → SourceLevel × Process → ℕ → Binding → State
-state_called program choices p top u b =
-    with_process (with_activation (top_after program choices p top) u b) p (entry_level (unit_at program u) (next_activation (run program choices)) ∷ (top.0 ∷ top.1))
+-- the level of a new activation of unit u, whose node is under a key, at its first executable statement
+abbrev pub entered_level : Units → ℕ → ℕ → Level
+entered_level program u key = record { key = key; unit = u; index = entry_index (unit_addressed program u) }
 
--- a layout with the frame of the last activation
-abbrev pub layout_entered : Units → State → Layout → ℕ → Layout
-layout_entered program t layout first = with_frame layout (frame_from program t (length t.activations) first)
-
--- the frame of the last activation has entered, with its node under a key, and what its dummy arguments stand for is in consecutive cells
-pub record HasEntered (program : Units) (t : State) (layout : Layout) (key : ℕ) (before after : Space) (old new : Nodes) : Type 0 where
-  pub first : ℕ
-  pub gap : lowest_gap (length before.contents) (frame_of program t (length t.activations)) (common_cells program) layout ≡ Some first
-  pub size : length after.contents ≡ length before.contents
-  pub out : ℕ → Bool
-  pub keeps : Keeps program t (is_stacked t) out (layout_entered program t layout first) (wanted_of program t (layout_entered program t layout first)) after new
-  pub kept : AreKept program t (layout_entered program t layout first) (length t.activations)
-  pub node : Node
-  pub there : new key ≡ Some node
-  pub activation : length t.activations ≡ node.activation
-  pub others : (k : ℕ) (n : Node) → old k ≡ Some n → (m : Node) × (new k ≡ Some m) × (m.activation ≡ n.activation)
-
--- what is kept then: the activation of unit u is on top of its caller
+-- process p calls unit u: its top activation is to go on at an index, and has the new one above it
 abbrev pub snapshot_called : Units → Snapshot → ℕ → Level → List Level → ℕ → ℕ → ℕ → Space → Nodes → Snapshot
-snapshot_called program m p l ls u next key arena nodes =
-    with_stack (record m { arena = arena; nodes = nodes; activations = m.activations + 1 }) p (
-    record { key = key; unit = u; index = entry_index (unit_addressed program u) } ∷ (record l { index = next } ∷ ls)) []
+snapshot_called program m p l ls u key index arena nodes =
+    record (with_stack (record m { arena = arena; nodes = nodes }) p (entered_level program u key ∷ (record l { index = index } ∷ ls)) []) { activations = m.activations + 1 }
+
+-- it makes a process of unit u, and goes on
+abbrev pub snapshot_created : Units → Snapshot → ℕ → Level → List Level → ℕ → ℕ → ℕ → Space → Nodes → Snapshot
+snapshot_created program m p l ls u key index arena nodes =
+    record m {
+      arena = arena;
+      nodes = nodes;
+      processes = with_numbered m.processes p (record { levels = record l { index = index } ∷ ls; operands = [] }) ++ record { levels = entered_level program u key ∷ []; operands = [] } ∷ [];
+      activations = m.activations + 1;
+    }
+
+-- the step of process p leads to a state, whose last activation runs unit u; its frame has entered the lowest gap, its cells are
+-- written, what its dummy arguments stand for is in consecutive cells, and its node is under a key, a child of the node under another one
+pub record HasEntered (program : Units) (cells : ℕ) (choices : List ℕ) (p : ℕ) (layout : Layout) (old : Nodes) (u key parent : ℕ) (t : State) (arena : Space) (nodes : Nodes) : Type 0 where
+  pub made : step program p (run program choices) ≡ Some t
+  pub inside : u < length program
+  pub first : ℕ
+  pub gap : lowest_gap cells (frame_of program t (length t.activations)) (common_cells program) layout ≡ Some first
+  pub written : IsAllWritten program (run program choices) t layout first (is_held (run program choices)) arena nodes
+  pub kept : AreKept program t (layout_with program t layout first) (length t.activations)
+  pub size : length arena.contents ≡ cells
+  pub vacant : old key ≡ None
+  pub nodes_are : nodes ≡ with_node old key (new_node (length t.activations) u first (frame_of program t (length t.activations)) parent) parent
+
+-- the index is that of the statement after the one at an index of unit u
+abbrev pub IsAfterCall : Units → ℕ → ℕ → ℕ → Type 0
+IsAfterCall program u statement index = index ≡ ((table_of (unit_addressed program u)).flows statement).next
+
+-- ---- a CALL or CREATE of a unit that has no adjustable arrays
+
+-- what is called: a unit's index, the cells of its frame, and the index of its first executable statement in its code
+pub record IsUnit (program : Units) (u cells entry : ℕ) : Type 0 where
+  pub inside : u < length program
+  pub cells_are : cells ≡ frame_cells (unit_at program u)
+  pub entry_is : entry ≡ entry_index (unit_addressed program u)
+  pub plain : adjustable_dimensions_of_all (unit_at program u) (dummies_of (unit_at program u)) ≡ 0
+
+-- it is the turn of process p, whose step makes an activation of such a unit and leads to a state, and this is given to its dummy
+-- arguments; the one that makes it is to go on at an index
+pub record IsMaking (leads : Units → List ℕ → ℕ → SourceLevel × Process → ℕ → Binding → State) (program : Units) (cells : ℕ) (choices : List ℕ) (p : ℕ) (m : Snapshot) (u index : ℕ) (given : List Given) : Type 0 where
+  pub l : Level
+  pub ls : List Level
+  pub operands : List Value
+  pub top : SourceLevel × Process
+  pub turning : IsTurning program cells choices m p l ls operands top
+  pub actuals : List Actual
+  pub b : Binding
+  pub passing : IsPassing program choices p top u actuals b
+  pub passed : ArePassed program (run program choices) turning.after.layout (scope_of program (run program choices) top.0.activation) actuals given
+  pub made : step program p (run program choices) ≡ Some (leads program choices p top u b)
+  pub after : IsAfterCall program l.unit top.0.statement index
+
+-- by CALL, and by CREATE
+abbrev pub IsCalling : Units → ℕ → List ℕ → ℕ → Snapshot → ℕ → ℕ → List Given → Type 0
+IsCalling = IsMaking state_called
+
+abbrev pub IsCreating : Units → ℕ → List ℕ → ℕ → Snapshot → ℕ → ℕ → List Given → Type 0
+IsCreating = IsMaking state_created

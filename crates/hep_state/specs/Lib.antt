@@ -7,3 +7,5 @@ pub mod Openings
 pub mod Rooms
 pub mod Taking
 pub mod Givings
+pub mod CallsAhead
+pub mod Unturned

@@ -1,6 +1,6 @@
 -- Room for operands in what a core keeps: docs/ARCHITECTURE.md, "Forms".
-use Rattle.std.specs.Prelude.{◌≡◌, ◌≤◌, ℕ, List, Some, slice_get, vec_capacity}
-use Rattle.hep_source.specs.Units.{Units}
+use Rattle.std.specs.Prelude.{◌≡◌, ◌-◌, ◌≤◌, ℕ, List, length, Some, slice_get, vec_capacity}
+use Rattle.hep_source.specs.Units.{Units, dummies_of, unit_at}
 use Rattle.hep_code.specs.Depths.{deepest}
 use Rattle.hep_image.specs.Image.{most_cells}
 use Rattle.hep_step.specs.Simulation.{unit_code}
@@ -14,13 +14,23 @@ use Rattle.hep_state.specs.Turns.{IsAfter}
 abbrev pub HasRoom : Units → Process → Type 0
 HasRoom program q = (i : ℕ) (l : Level) → slice_get q.levels.items i ≡ Some l → deepest (unit_code program l.unit) ≤ vec_capacity q.operands
 
--- each process has that room, and the arena has no more cells than it may have
+-- there is room for what is given to the dummy arguments of each unit, so no CALL takes memory for it
+abbrev pub HasRoomToPass : Units → Machine → Type 0
+HasRoomToPass program m = (u : ℕ) → length (dummies_of (unit_at program u)) ≤ vec_capacity m.given
+
+-- the operands of process p have room for the deepest stack of unit u
+abbrev pub HasRoomAt : Units → ℕ → ℕ → Machine → Type 0
+HasRoomAt program p u m = (q : Process) → slice_get m.processes.items (p - 1) ≡ Some q → deepest (unit_code program u) ≤ vec_capacity q.operands
+
+-- each process has room for operands, there is room to pass, and the arena has no more cells than it may have
 pub record HaveRoom (program : Units) (cells : ℕ) (m : Machine) : Type 0 where
   pub few : cells ≤ most_cells
+  pub to_pass : HasRoomToPass program m
   pub room : (i : ℕ) (q : Process) → slice_get m.processes.items i ≡ Some q → HasRoom program q
 
 -- a machine keeps the state after turns of these processes, with that room
 pub record IsMachineAfter (program : Units) (cells : ℕ) (choices : List ℕ) (m : Machine) : Type 0 where
   pub after : IsAfter program cells choices (snapshot_of m)
   pub few : cells ≤ most_cells
+  pub to_pass : HasRoomToPass program m
   pub room : (i : ℕ) (q : Process) → slice_get m.processes.items i ≡ Some q → HasRoom program q

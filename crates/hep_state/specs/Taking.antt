@@ -1,11 +1,11 @@
 -- One turn of a process in what a core keeps, in its parts: docs/MACHINE.md, "Steps".
-use Rattle.std.specs.Prelude.{◌≡◌, ◌<◌, ◌≤◌, ◌+◌, ℕ, List, [], ◌∷◌, ◌++◌, drop, length, Some, OnErr, IfOk, Result}
+use Rattle.std.specs.Prelude.{◌≡◌, ◌<◌, ℕ, List, [], ◌∷◌, ◌++◌, length, Some, OnErr, IfOk, Result}
 use Rattle.hep_source.specs.declared.value.Value.{Value}
 use Rattle.hep_source.specs.Units.{Units}
 use Rattle.hep_machine.specs.Processes.{numbered}
 use Rattle.hep_machine.specs.State.{Level as SourceLevel, Process as SourceProcess, Work}
 use Rattle.hep_arena.specs.Space.{Space}
-use Rattle.hep_code.specs.Ahead.{IsPastPushes, values_ahead}
+use Rattle.hep_code.specs.Ahead.{IsPastPushes}
 use Rattle.hep_code.specs.Standing.{Stands}
 use Rattle.hep_frames.specs.Tree.{Nodes}
 use Rattle.hep_step.specs.declared.effect.Effect.{Effect}
@@ -37,8 +37,7 @@ pub record IsSettled (program : Units) (unit : ℕ) (operands : List Value) (ind
   pub past : IsPastPushes (unit_code program unit) after
   pub stands : (k : ℕ) (work : Work) → Stands (unit_addressed program unit) k work operands index → Stands (unit_addressed program unit) k work new after
 
--- a process has a top level, whose unit and frame are there, with room for the values that stand ahead; and once these are operands, what is
--- ahead of it can be done
+-- a process has a top level, whose unit and frame are there, and what is ahead of it can be done
 pub record CanAdvance (program : Units) (k : Stack) (capacity : ℕ) (arena : Space) (nodes : Nodes) : Type 0 where
   pub l : Level
   pub ls : List Level
@@ -46,23 +45,15 @@ pub record CanAdvance (program : Units) (k : Stack) (capacity : ℕ) (arena : Sp
   pub stack : k ≡ stack_with l ls operands
   pub inside : l.unit < length program
   pub there : nodes l.key ≡ Some (node_under nodes l.key)
-  pub room : length operands + values_ahead (drop l.index (unit_code program l.unit)) ≤ capacity
-  pub ready :
-      (settled : List Value) (index more : ℕ)
-      → IsSettled program l.unit operands l.index settled index
-      → capacity ≤ more
-      → IsReady (unit_code program l.unit) (unit_arrays program l.unit) arena (frame_in_arena (frame_under nodes l.key)) settled more index
+  pub ready : IsReady (unit_code program l.unit) (unit_arrays program l.unit) arena (frame_in_arena (frame_under nodes l.key)) operands capacity l.index
 
 -- then the operation ahead was performed, which changed the cells and the stack; or memory was refused, which changed nothing more
 pub record IsAdvanced {E : Type 0} (program : Units) (nodes : Nodes) (l : Level) (ls : List Level) (operands : List Value) (before after : Space) (result : Result Effect E) (k : Stack) : Type 0 where
-  pub settled : List Value
-  pub index : ℕ
-  pub settles : IsSettled program l.unit operands l.index settled index
   pub next : ℕ
   pub left : List Value
   pub stack : k ≡ stack_with (record l { index = next }) ls left
-  pub performed : IfOk result (λ effect. IsPerformed (effects.effect_at (unit_code program l.unit) (unit_arrays program l.unit) (node_under nodes l.key).first before.contents settled index) (snapshot before.contents settled index) effect (snapshot after.contents left next))
-  pub refused : OnErr result (snapshot after.contents left next ≡ snapshot before.contents settled index)
+  pub performed : IfOk result (λ effect. IsPerformed (effects.effect_at (unit_code program l.unit) (unit_arrays program l.unit) (node_under nodes l.key).first before.contents operands l.index) (snapshot before.contents operands l.index) effect (snapshot after.contents left next))
+  pub refused : OnErr result (snapshot after.contents left next ≡ snapshot before.contents operands l.index)
 
 -- ---- what is left of a turn then
 

@@ -36,3 +36,14 @@ pub record HasWaited (program : Units) (cells : ℕ) (choices : List ℕ) (p cel
 pub record IsAbsent (program : Units) (cells : ℕ) (choices : List ℕ) (p : ℕ) (new : Snapshot) : Type 0 where
   pub none : ((run program choices).halted ≡ true) ⊎ (living (run program choices) p ≡ None)
   pub after : IsAfter program cells choices new
+
+-- ---- want of a gap
+
+-- the step of process p makes an activation for whose frame there is no gap
+pub record HasNoGap (program : Units) (cells : ℕ) (choices : List ℕ) (p : ℕ) : Type 0 where
+  pub stepped : step program p (run program choices) ≢ None
+  pub full : layout_of program cells is_held (choices ++ p ∷ []) ≡ None
+
+-- each frame has its gap, that of an activation too which the next step of process p makes
+abbrev pub HasGaps : Units → ℕ → List ℕ → ℕ → Type 0
+HasGaps program cells choices p = layout_of program cells is_held (choices ++ p ∷ []) ≢ None

@@ -1,13 +1,16 @@
-//! The operation ahead of a process: the values that stand in front of it are put behind the operands, and it is
-//! performed.
-ghost use Rattle.std.specs.Prelude.{◌≡◌, ◌≤◌, ◌<◌, List, length, vec_len, vec_capacity};
+//! What stands ahead of a process: values are put behind the operands, and an operation is performed.
+ghost use Rattle.std.specs.Prelude.{◌≡◌, ◌≤◌, ◌<◌, ◌+◌, ℕ, List, Some, drop, length, slice_get, vec_len, vec_capacity};
 ghost use Rattle.hep_source.specs.declared.value.Value.{Value as OperandValue};
+ghost use Rattle.hep_source.specs.Units.{Units};
+ghost use Rattle.hep_code.specs.Ahead.{values_ahead};
 ghost use Rattle.hep_proc.specs.Nodes.{nodes_of};
+ghost use Rattle.hep_step.specs.Simulation.{unit_code};
 ghost use Rattle.hep_state.specs.declared.machine.Level.{Level as ALevel};
 ghost use Rattle.hep_state.specs.Snapshots.{stack_of};
-ghost use Rattle.hep_state.specs.Taking.{CanAdvance, IsAdvanced, stack_with};
+ghost use Rattle.hep_state.specs.Taking.{CanAdvance, IsAdvanced, IsSettled, stack_with};
 
 use crate::machine::{Level, Process};
+use hep_code::Instruction;
 use hep_code::operands::settle;
 use hep_image::Image;
 use hep_proc::Frames;
@@ -24,6 +27,17 @@ impl Process {
         self.levels[self.levels.len() - 1]
     }
 
+    // Puts the values that stand ahead of its top activation, in its unit's code, behind the operands. There is room for them.
+    pub(crate) fn settle(&mut self, code: &[Instruction])
+        requires { (l : ALevel) × (ls : List ALevel) × (operands : List OperandValue) × (stack_of self.old ≡ stack_with l ls operands) × (length operands + values_ahead (drop l.index code.now) ≤ vec_capacity self.old.operands) }
+        ensures settled { (program : Units) (l : ALevel) (ls : List ALevel) (operands : List OperandValue) → code.now ≡ unit_code program l.unit → stack_of self.old ≡ stack_with l ls operands → (index : ℕ) × (new : List OperandValue) × (stack_of self.new ≡ stack_with (record l { index = index }) ls new) × IsSettled program l.unit operands l.index new index }
+        ensures capacity { vec_capacity self.old.operands ≤ vec_capacity self.new.operands }
+    {
+        let mut index = self.top().index;
+        settle(code, &mut self.operands, &mut index);
+        self.stand_at(index);
+    }
+
     // Its top activation is at an index.
     fn stand_at(&mut self, index: usize)
         requires { 0 < vec_len self.old.levels }
@@ -35,9 +49,9 @@ impl Process {
     }
 }
 
-// Performs the operation ahead of a process, once the values in front of it are operands.
+// Performs the operation ahead of a process, in front of which no value stands.
 //
-// Fails only where memory was refused for a record; nothing is changed then but that values are operands.
+// Fails only where memory was refused for a record; nothing is changed then.
 pub(crate) fn advance(
     process: &mut Process,
     frames: &mut Frames,
@@ -63,7 +77,6 @@ pub(crate) fn advance(
         first: frames.first(key),
         cells: frames.cells(key),
     };
-    settle(code, &mut process.operands, &mut index);
     let performed = perform(
         alloc,
         code,

@@ -76,7 +76,7 @@ impl Machine {
     }
 
     // A fault has ended process p, in the statement with this initial line.
-    fn fail(&mut self, p: u64, line: u32, kind: Kind)
+    pub(crate) fn fail(&mut self, p: u64, line: u32, kind: Kind)
         requires ending { (program : Units) × (cells : ℕ) × (choices : List ℕ) × IsEnding program cells choices p (snapshot_of self.old) (fails line kind) }
         requires room { vec_len self.old.faults < vec_capacity self.old.faults }
         ensures stepped { (program : Units) (cells : ℕ) (choices : List ℕ) → IsEnding program cells choices p (snapshot_of self.old) (fails line kind) → HasStepped program cells choices p (snapshot_of self.new) }

@@ -1,7 +1,8 @@
 //! Laws of what a core keeps: what a turn changes in it is what the source machine's step changes in the state.
-ghost use Rattle.std.specs.Prelude.{◌≡◌, ◌<◌, ◌∷◌, ℕ, Bool, true, false, List, Some, None, Ok, [], is_some, length, nat_eq};
+ghost use Rattle.std.specs.Prelude.{◌≡◌, ◌<◌, ◌≤◌, ◌+◌, ◌∷◌, ℕ, Bool, true, false, List, Some, None, Ok, Err, IsSome, [], drop, is_some, length, nat_eq};
+ghost use Rattle.std.specs.List.{list_all};
 ghost use Rattle.hep_source.specs.declared.value.Value.{Value};
-ghost use Rattle.hep_source.specs.Units.{Units, main_among, main_unit, unit_at};
+ghost use Rattle.hep_source.specs.Units.{Units, dummies_of, main_among, main_unit, unit_at};
 ghost use Rattle.hep_machine.specs.declared.event.Kind.{Kind};
 ghost use Rattle.hep_machine.specs.declared.record.Item.{Item};
 ghost use Rattle.hep_machine.specs.declared.slot.Slot.{Slot};
@@ -10,7 +11,8 @@ ghost use Rattle.hep_machine.specs.Layout.{Layout, activations_on, is_held, open
 ghost use Rattle.hep_machine.specs.Processes.{numbered};
 ghost use Rattle.hep_machine.specs.Run.{run};
 ghost use Rattle.hep_machine.specs.State.{Level as SourceLevel, Process as SourceProcess, State, Work};
-ghost use Rattle.hep_machine.specs.Step.{binding_of};
+ghost use Rattle.hep_machine.specs.declared.event.Kind.TheVariants.{Shape};
+ghost use Rattle.hep_machine.specs.Variables.{adjustable_dimensions_of_all};
 ghost use Rattle.hep_check.specs.Conditions.{IsAccepted};
 ghost use Rattle.hep_arena.specs.Space.{Space};
 ghost use Rattle.hep_code.specs.declared.instruction.Instruction.{Instruction};
@@ -23,17 +25,30 @@ ghost use Rattle.hep_image.specs.declared.data.DataRow.{DataRow};
 ghost use Rattle.hep_image.specs.Data.{AreInitial, AreOfUnits, first_frames};
 ghost use Rattle.hep_image.specs.Supported.{first_unsupported};
 ghost use Rattle.hep_proc.specs.Keeping.{AreKept, CanAllLeave, CanLeave, HasLeft, IsEnded, IsOpening, Keeps, LeadUpwards, all_but};
-ghost use Rattle.hep_step.specs.Calls.{IsCallAhead};
+ghost use Rattle.hep_arena.specs.Holes.{first_fit};
+ghost use Rattle.hep_code.specs.declared.instruction.Instruction.TheVariants.{Step};
+ghost use Rattle.hep_code.specs.declared.instruction.Operation.{Operation};
+ghost use Rattle.hep_code.specs.declared.instruction.Operation.TheVariants.{Call};
+ghost use Rattle.hep_code.specs.Passing.{passed_from};
+ghost use Rattle.hep_image.specs.Image.{most_cells};
+ghost use Rattle.hep_passing.specs.declared.given.Given.{Given};
+ghost use Rattle.hep_passing.specs.Fitting.{is_fitting};
+ghost use Rattle.hep_passing.specs.Ready.{ArePassable};
+ghost use Rattle.hep_reply.specs.Cells.{HasFrame};
+ghost use Rattle.hep_step.specs.Ready.{frame_in_arena};
 ghost use Rattle.hep_step.specs.Effects.{effect_at, fails, moves, prints, returns, stops, waits};
-ghost use Rattle.hep_step.specs.Simulation.{IsNotLeftOut, IsRunning, Simulates, unit_addressed, unit_arrays, unit_code};
+ghost use Rattle.hep_step.specs.Simulation.{IsRunning, Simulates, is_left_out, unit_addressed, unit_arrays, unit_code};
 ghost use Rattle.hep_state.specs.declared.machine.Level.{Level};
-ghost use Rattle.hep_state.specs.Calls.{HasEntered, snapshot_called, state_called};
+ghost use Rattle.hep_entering.specs.Calling.{state_called, state_created};
+ghost use Rattle.hep_state.specs.Calls.{HasEntered, IsAfterCall, IsCalling, IsUnit, snapshot_called, snapshot_created};
 ghost use Rattle.hep_state.specs.Openings.{IsEntered, IsGiven, snapshot_opened, unset_opening};
 ghost use Rattle.hep_state.specs.Showing.{node_under};
 ghost use Rattle.hep_state.specs.Snapshots.{Snapshot};
-ghost use Rattle.hep_state.specs.Taking.{IsNoWait};
+ghost use Rattle.hep_state.specs.Taking.{IsEnding, IsNoWait};
 ghost use Rattle.hep_state.specs.Tops.{IsTurning, frame_under, keys_of, snapshot_failed, snapshot_moved, snapshot_printed, snapshot_returned, snapshot_stopped, state_failed, state_returned, top_after, with_stack};
-ghost use Rattle.hep_state.specs.Turns.{HasStepped, HasWaited, IsAbsent, IsAfter};
+ghost use Rattle.hep_state.specs.declared.passing.CallAhead.{CallAhead};
+ghost use Rattle.hep_state.specs.CallsAhead.{IsAtCall, IsWithoutCall, given_of};
+ghost use Rattle.hep_state.specs.Turns.{HasGaps, HasNoGap, HasStepped, HasWaited, IsAbsent, IsAfter};
 
 /// A process that has levels lives, and it is its turn where the processes weren't stopped; one that has none, or that isn't
 /// there, doesn't live.
@@ -64,12 +79,19 @@ pub fn supported_programs_never_wait()
     hep_placed::laws::tested_variables_are_asynchronous();
 }
 
-/// Nor does it call, create or purge.
-pub fn supported_programs_leave_nothing_out()
-    ensures { (program : Units) (u index : ℕ) → IsAccepted program → first_unsupported program ≡ None → u < length program → IsNotLeftOut (unit_code program u) index }
+/// Of what calls, creates or purges only CALL stands in a program that can be run so far, and none of its arrays is adjustable.
+pub fn supported_programs_call_alone()
+    ensures call { (program : Units) (u index line : ℕ) (o : Operation) (behind : List Instruction) → IsAccepted program → first_unsupported program ≡ None → u < length program → drop index (unit_code program u) ≡ Step line o ∷ behind → is_left_out o ≡ true → (v count next : ℕ) × (o ≡ Call v count next) }
+    ensures unadjusted { (program : Units) (u : ℕ) → first_unsupported program ≡ None → u < length program → adjustable_dimensions_of_all (unit_at program u) (dummies_of (unit_at program u)) ≡ 0 }
+    ensures main { (program : Units) → first_unsupported program ≡ None → is_some (main_among program) ≡ true }
 {
     hep_placed::laws::supported_code();
 }
+
+/// A turn makes one activation at most, and the opening has one.
+pub fn activations_are_few()
+    ensures { (program : Units) (cells : ℕ) (choices : List ℕ) (m : Snapshot) → IsAfter program cells choices m → m.activations ≤ 1 + length choices }
+{}
 
 /// Where the values that stand ahead are put behind the operands, the same state is shown.
 pub fn settled_machines_show_the_same()
@@ -117,10 +139,72 @@ pub fn faults_are_shown()
     ensures { (program : Units) (cells : ℕ) (choices : List ℕ) (m : Snapshot) (p : ℕ) (l : Level) (ls : List Level) (operands : List Value) (top : SourceLevel × SourceProcess) (arena : Space) (nodes : Nodes) (line : ℕ) (kind : Kind) → (turning : IsTurning program cells choices m p l ls operands top) → HasLeft program (state_failed program choices p top kind) (is_stacked (state_failed program choices p top kind)) (is_held (run program choices)) turning.after.layout m.arena arena m.nodes nodes → length arena.contents ≡ length m.arena.contents → Simulates program (top_after program choices p top) turning.after.layout (frame_under m.nodes l.key) m.arena.holes m.arena.contents (fails line kind) → HasStepped program cells choices p (snapshot_failed m p (record { process = p; unit = l.unit; line = line; kind = kind }) arena nodes) }
 {}
 
-/// CALL: where the frame of the new activation has entered, with its dummy arguments bound, the activation runs on top of its
-/// caller, which goes on behind the CALL then.
+/// A process that is at a CALL calls a subroutine of the program, with as many actual arguments as this has dummy arguments, and
+/// what its operands and the entries behind the CALL name can be passed.
+pub fn calls_can_be_made()
+    ensures inside { (program : Units) (cells : ℕ) (choices : List ℕ) (m : Snapshot) (p : ℕ) (call : CallAhead) → IsAccepted program → is_some (main_among program) ≡ true → IsAtCall program cells choices p m call → call.unit < length program }
+    ensures counted { (program : Units) (cells : ℕ) (choices : List ℕ) (m : Snapshot) (p : ℕ) (call : CallAhead) → IsAccepted program → is_some (main_among program) ≡ true → IsAtCall program cells choices p m call → call.count ≡ length (dummies_of (unit_at program call.unit)) }
+    ensures framed { (program : Units) (cells : ℕ) (choices : List ℕ) (m : Snapshot) (p : ℕ) (call : CallAhead) → IsAccepted program → is_some (main_among program) ≡ true → length m.arena.contents ≤ most_cells → (at : IsAtCall program cells choices p m call) → HasFrame m.arena (frame_in_arena (frame_under m.nodes at.l.key)) }
+    ensures passable { (program : Units) (cells : ℕ) (choices : List ℕ) (m : Snapshot) (p : ℕ) (call : CallAhead) → IsAccepted program → is_some (main_among program) ≡ true → (at : IsAtCall program cells choices p m call) → ArePassable m.arena (unit_arrays program at.l.unit) (frame_in_arena (frame_under m.nodes at.l.key)) (passed_from call.count at.behind at.operands) }
+{
+    hep_works::laws::works_come_from_statements();
+    hep_works::laws::calls_come_from_statements();
+    hep_works::laws::subroutines_are_called();
+    hep_works::laws::programs_are_closed();
+    hep_works::laws::units_are_there();
+    hep_works::laws::activations_are_bound_in_runs();
+    hep_placed::laws::arrays_are_there();
+    hep_passing::laws::callers_can_pass();
+    hep_step::laws::calls_are_ahead();
+    tops_are_running();
+}
+
+/// What its actual arguments give is what the dummy arguments of the new activation stand for; and where one of them is no
+/// element, or a dummy argument has more elements than it is given, a fault ends the process (X3.9-1978, 15.9.3).
+pub fn calls_give_what_is_bound()
+    ensures calling { (program : Units) (cells : ℕ) (choices : List ℕ) (m : Snapshot) (p : ℕ) (call : CallAhead) (given : List Given) → IsAccepted program → is_some (main_among program) ≡ true → adjustable_dimensions_of_all (unit_at program call.unit) (dummies_of (unit_at program call.unit)) ≡ 0 → (at : IsAtCall program cells choices p m call) → given_of program m call at ≡ Ok given → list_all (is_fitting given) (unit_arrays program call.unit) ≡ true → IsCalling program cells choices p m call.unit call.next given }
+    ensures range { (program : Units) (cells : ℕ) (choices : List ℕ) (m : Snapshot) (p : ℕ) (call : CallAhead) (kind : Kind) → IsAccepted program → is_some (main_among program) ≡ true → (at : IsAtCall program cells choices p m call) → given_of program m call at ≡ Err kind → IsEnding program cells choices p m (fails call.line kind) }
+    ensures shape { (program : Units) (cells : ℕ) (choices : List ℕ) (m : Snapshot) (p : ℕ) (call : CallAhead) (given : List Given) → IsAccepted program → is_some (main_among program) ≡ true → adjustable_dimensions_of_all (unit_at program call.unit) (dummies_of (unit_at program call.unit)) ≡ 0 → (at : IsAtCall program cells choices p m call) → given_of program m call at ≡ Ok given → list_all (is_fitting given) (unit_arrays program call.unit) ≡ false → IsEnding program cells choices p m (fails call.line Shape) }
+{
+    hep_works::laws::works_come_from_statements();
+    hep_works::laws::calls_come_from_statements();
+    hep_works::laws::subroutines_are_called();
+    hep_works::laws::actual_arguments_fit();
+    hep_works::laws::variables_are_placed();
+    hep_works::laws::programs_are_closed();
+    hep_works::laws::units_are_there();
+    hep_works::laws::activations_are_bound_in_runs();
+    hep_accepted::names::names_are_given_once();
+    hep_passing::laws::all_actuals_are_passed();
+    hep_passing::laws::shapes_decide_bindings();
+    hep_entering::laws::calls_make_activations();
+    hep_step::laws::calls_are_ahead();
+    tops_are_running();
+}
+
+/// Where the arena has no gap as long as the frame of the unit that is called, the step's frame has none; and where it has one, or
+/// where a fault ends the process, each frame has its gap.
+pub fn gaps_are_told()
+    ensures none { (program : Units) (cells : ℕ) (choices : List ℕ) (m : Snapshot) (p u n entry index : ℕ) (given : List Given) → IsCalling program cells choices p m u index given → IsUnit program u n entry → first_fit n m.arena.holes ≡ None → HasNoGap program cells choices p }
+    ensures some { (program : Units) (cells : ℕ) (choices : List ℕ) (m : Snapshot) (p u n entry index : ℕ) (given : List Given) → IsCalling program cells choices p m u index given → IsUnit program u n entry → IsSome (first_fit n m.arena.holes) → HasGaps program cells choices p }
+    ensures fault { (program : Units) (cells : ℕ) (choices : List ℕ) (m : Snapshot) (p line : ℕ) (kind : Kind) → IsEnding program cells choices p m (fails line kind) → HasGaps program cells choices p }
+{}
+
+/// Where what stands ahead of a process calls, creates and purges nothing, its step makes no activation, and so each frame has its
+/// gap.
+pub fn other_steps_find_gaps()
+    ensures { (program : Units) (cells : ℕ) (choices : List ℕ) (m : Snapshot) (p : ℕ) → IsAccepted program → is_some (main_among program) ≡ true → IsAfter program cells choices m → m.halted ≡ false → IsWithoutCall program p m → HasGaps program cells choices p }
+{
+    hep_step::laws::operations_do_what_the_machine_does();
+    turns_are_taken();
+    tops_are_running();
+}
+
+/// Where the frame of the activation that a CALL or CREATE makes has entered and its cells are written, a step was made: the new
+/// activation is shown on top of its caller or as a process of its own, and the caller or creator goes on behind the statement.
 pub fn calls_are_shown()
-    ensures { (program : Units) (cells : ℕ) (choices : List ℕ) (m : Snapshot) (p : ℕ) (l : Level) (ls : List Level) (operands : List Value) (top : SourceLevel × SourceProcess) (u count next key : ℕ) (behind : List Instruction) (b : Binding) (arena : Space) (nodes : Nodes) → (turning : IsTurning program cells choices m p l ls operands top) → (calls : IsCallAhead program (top_after program choices p top) operands u count next behind) → binding_of program (top_after program choices p top) u calls.actuals ≡ Ok b → u < length program → HasEntered program (state_called program choices p top u b) turning.after.layout key m.arena arena m.nodes nodes → HasStepped program cells choices p (snapshot_called program m p l ls u next key arena nodes) }
+    ensures called { (program : Units) (cells : ℕ) (choices : List ℕ) (m : Snapshot) (p : ℕ) (l : Level) (ls : List Level) (operands : List Value) (top : SourceLevel × SourceProcess) (u key index : ℕ) (b : Binding) (arena : Space) (nodes : Nodes) → (turning : IsTurning program cells choices m p l ls operands top) → HasEntered program cells choices p turning.after.layout m.nodes u key l.key (state_called program choices p top u b) arena nodes → IsAfterCall program l.unit top.0.statement index → HasStepped program cells choices p (snapshot_called program m p l ls u key index arena nodes) }
+    ensures created { (program : Units) (cells : ℕ) (choices : List ℕ) (m : Snapshot) (p : ℕ) (l : Level) (ls : List Level) (operands : List Value) (top : SourceLevel × SourceProcess) (u key index : ℕ) (b : Binding) (arena : Space) (nodes : Nodes) → (turning : IsTurning program cells choices m p l ls operands top) → HasEntered program cells choices p turning.after.layout m.nodes u key l.key (state_created program choices p top u b) arena nodes → IsAfterCall program l.unit top.0.statement index → HasStepped program cells choices p (snapshot_created program m p l ls u key index arena nodes) }
 {}
 
 /// Where the frame of the main program has entered and DATA has given the cells their values, the opening is shown, with process

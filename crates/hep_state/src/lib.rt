@@ -5,11 +5,16 @@
 #![tactic(auto)]
 
 mod advancing;
+mod calling;
 mod ending;
 pub mod laws;
 mod machine;
 mod opening;
+mod passing;
 mod turn;
 
+pub use calling::Called;
 pub use machine::{Level, Machine, Process};
 pub use opening::fits;
+pub use passing::CallAhead;
+pub use turn::TurnFault;

@@ -1,5 +1,6 @@
 //! What a core keeps of a state.
 use hep_machine::{Fault, Record};
+use hep_passing::Given;
 use hep_proc::Frames;
 use hep_source::Value;
 
@@ -29,4 +30,7 @@ pub struct Machine {
     pub faults: Vec<Fault>,
     /// All processes were ended by a STOP.
     pub halted: bool,
+    /// What the actual arguments of a CALL give, while it is made. It has room for the dummy arguments of each unit, so that no
+    /// CALL takes memory for them.
+    pub given: Vec<Given>,
 }

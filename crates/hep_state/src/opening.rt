@@ -1,9 +1,9 @@
 //! A machine before its first turn: process 1 at the main program, whose frame is just behind COMMON, with what DATA
 //! gives (X3.9-1978, section 9).
-ghost use Rattle.std.specs.Prelude.{◌≡◌, ◌+◌, ◌<◌, ◌≤◌, ◌∷◌, [], false, IfOk, IsSome, length, vec_capacity};
+ghost use Rattle.std.specs.Prelude.{◌≡◌, ◌+◌, ◌<◌, ◌≤◌, ◌∷◌, ℕ, [], false, IfOk, IsSome, length, vec_capacity};
 ghost use Rattle.std.specs.Option.{is_some};
 ghost use Rattle.slab.specs.Slab.{HasRoomFor};
-ghost use Rattle.hep_source.specs.Units.{main_unit};
+ghost use Rattle.hep_source.specs.Units.{dummies_of, main_unit, unit_at};
 ghost use Rattle.hep_machine.specs.Layout.{common_cells, opening_layout};
 ghost use Rattle.hep_arena.specs.Holes.{IsOut};
 ghost use Rattle.hep_image.specs.Image.{IsUnitCode};
@@ -18,7 +18,7 @@ use crate::machine::{Level, Machine, Process};
 use hep_image::{DataRow, Image, UnitCode};
 use hep_machine::Slot;
 use hep_proc::Frames;
-use hep_source::Value;
+use hep_source::{Form, Statement, Unit, Value};
 use std::alloc::{AllocError, Global};
 
 // What a core runs of the main program.
@@ -86,6 +86,33 @@ fn give_rows(frames: &mut Frames, rows: &[DataRow])
     }
 }
 
+// How many dummy arguments a unit has.
+fn dummies(unit: &Unit) -> usize
+    ensures { result ≡ length (dummies_of unit.now) }
+{
+    match unit.as_slice() {
+        [
+            Statement {
+                form: Form::Subroutine(_, dummies),
+                ..
+            },
+            ..
+        ] => dummies.as_slice().len(),
+        _ => 0,
+    }
+}
+
+// The most dummy arguments that a unit has.
+fn most_dummies(program: &[Unit]) -> usize
+    ensures { (u : ℕ) → length (dummies_of (unit_at program.now u)) ≤ result }
+{
+    let mut most = 0;
+    for unit in program {
+        most = most.max(dummies(unit));
+    }
+    most
+}
+
 // A process with one activation, and room for so many operands.
 fn begun(alloc: Global, level: Level, operands: u32) -> Result<Process, AllocError>
     ensures levels { IfOk result (λ process. process.levels.items ≡ level ∷ []) }
@@ -135,6 +162,7 @@ impl Machine {
             records: Vec::new(alloc),
             faults: Vec::new(alloc),
             halted: false,
+            given: Vec::with_capacity(alloc, most_dummies(image.program().as_slice()))?,
         })
     }
 }

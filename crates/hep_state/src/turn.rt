@@ -1,21 +1,48 @@
 //! One turn of a process.
-ghost use Rattle.std.specs.Prelude.{◌≡◌, ◌≢◌, ◌++◌, ◌∷◌, ℕ, true, false, List, [], None, IfOk, OnErr, OnOk, length};
+ghost use Rattle.std.specs.Prelude.{◌≡◌, ◌≢◌, ◌<◌, ◌≤◌, ◌+◌, ◌^◌, ◌++◌, ◌∷◌, ◌-◌, ℕ, true, false, List, [], None, Some, IfOk, IfErr, OnErr, OnOk, length, slice_get, vec_len, vec_capacity};
 ghost use Rattle.std.specs.Option.{is_some};
+ghost use Rattle.slab.specs.Slab.{HasRoomFor};
 ghost use Rattle.hep_source.specs.Units.{Units};
 ghost use Rattle.hep_machine.specs.Processes.{living};
 ghost use Rattle.hep_machine.specs.Run.{run};
 ghost use Rattle.hep_machine.specs.Step.{step};
-ghost use Rattle.hep_state.specs.Rooms.{HaveRoom, IsMachineAfter};
+ghost use Rattle.hep_state.specs.declared.machine.Process.{Process as AProcess};
+ghost use Rattle.hep_state.specs.CallsAhead.{IsAtCall, IsWithoutCall};
+ghost use Rattle.hep_state.specs.Rooms.{HasRoomAt, HaveRoom, IsMachineAfter};
 ghost use Rattle.hep_state.specs.Snapshots.{snapshot_of};
 ghost use Rattle.hep_state.specs.Taking.{HasLevels, IsLeft, IsSeenSame};
 ghost use Rattle.hep_state.specs.Turns.{IsAfter};
+ghost use Rattle.hep_state.specs.Unturned.{IsUnturned};
 
 use crate::advancing::advance;
+use crate::calling::Called;
 use crate::laws;
 use crate::machine::Machine;
+use crate::passing::CallAhead;
 use hep_image::Image;
+use hep_machine::Entry;
 use hep_step::Effect;
 use std::alloc::{AllocError, Global};
+
+/// Why a turn was not taken. The same state is shown then.
+#[derive(Clone, Copy, Debug, PartialEq, Eq)]
+pub enum TurnFault {
+    /// No gap of the arena is as long as the frame of the unit that is called.
+    ArenaFull,
+    /// Memory was refused.
+    NoMemory,
+}
+
+impl From<AllocError> for TurnFault {
+    ghost use Rattle.std.specs.Prelude.{◌≡◌};
+    ghost use Rattle.hep_state.specs.declared.turn.TurnFault.TheVariants.{NoMemory};
+
+    ghost from_gives = { λ _ e. e ≡ NoMemory };
+
+    fn from(_refused: AllocError) -> TurnFault {
+        TurnFault::NoMemory
+    }
+}
 
 impl Machine {
     /// Process p, counted from 1, was made and has activations.
@@ -32,11 +59,49 @@ impl Machine {
         }
     }
 
-    // Performs the operation ahead of process p.
+    // Room for what a turn may write: a record, a fault, and its entry of the history.
+    fn reserve(&mut self, history: &mut Vec<Entry>) -> Result<(), AllocError>
+        ensures records { OnOk result (vec_len self.new.records < vec_capacity self.new.records) }
+        ensures faults { OnOk result (vec_len self.new.faults < vec_capacity self.new.faults) }
+        ensures entry { OnOk result (vec_len history.new < vec_capacity history.new) }
+        ensures entries { history.new.items ≡ history.old.items }
+        ensures written { (self.new.records.items ≡ self.old.records.items) × (self.new.faults.items ≡ self.old.faults.items) }
+        ensures others { self.new ≡ record self.old { records = self.new.records; faults = self.new.faults } }
+    {
+        self.records.reserve(1)?;
+        self.faults.reserve(1)?;
+        history.reserve(1)
+    }
+
+    // Room for an activation more of process p, with so many operands at once, and for the entry of its turn.
+    fn reserve_activation(
+        &mut self,
+        p: u64,
+        operands: u32,
+        history: &mut Vec<Entry>,
+    ) -> Result<(), AllocError>
+        requires { HasLevels (snapshot_of self.old) p }
+        ensures node { OnOk result (HasRoomFor self.new.frames.nodes 1) }
+        ensures level { OnOk result ((q : AProcess) → slice_get self.new.processes.items (p - 1) ≡ Some q → vec_len q.levels < vec_capacity q.levels) }
+        ensures operands { OnOk result ((q : AProcess) → slice_get self.new.processes.items (p - 1) ≡ Some q → operands ≤ vec_capacity q.operands) }
+        ensures entry { OnOk result (vec_len history.new < vec_capacity history.new) }
+        ensures entries { history.new.items ≡ history.old.items }
+        ensures shown { snapshot_of self.new ≡ snapshot_of self.old }
+        ensures given { self.new.given ≡ self.old.given }
+        ensures rooms { (program : Units) (cells : ℕ) → HaveRoom program cells self.old → HaveRoom program cells self.new }
+    {
+        history.reserve(1)?;
+        self.frames.reserve()?;
+        let process = &mut self.processes[(p - 1) as usize];
+        process.levels.reserve(1)?;
+        process.operands.reserve(operands as usize)
+    }
+
+    // Performs the operation ahead of process p, which isn't CALL.
     fn advance(&mut self, alloc: Global, image: &Image, p: u64) -> Result<Effect, AllocError>
         requires after { (cells : ℕ) × (choices : List ℕ) × IsMachineAfter image.now cells choices self.old }
         requires running { self.old.halted ≡ false }
-        requires living { HasLevels (snapshot_of self.old) p }
+        requires plain { IsWithoutCall image.now p (snapshot_of self.old) }
         ensures left { IfOk result (λ effect. (cells : ℕ) (choices : List ℕ) → IsMachineAfter image.now cells choices self.old → IsLeft image.now cells choices p (snapshot_of self.new) effect) }
         ensures refused { OnErr result ((cells : ℕ) (choices : List ℕ) → IsAfter image.now cells choices (snapshot_of self.old) → IsAfter image.now cells choices (snapshot_of self.new)) }
         ensures same { OnErr result (IsSeenSame (snapshot_of self.old) (snapshot_of self.new)) }
@@ -48,30 +113,109 @@ impl Machine {
         image.is_runnable();
         laws::tops_are_running();
         laws::supported_programs_never_wait();
-        laws::supported_programs_leave_nothing_out();
         let process = &mut self.processes[(p - 1) as usize];
         advance(process, &mut self.frames, alloc, image)
     }
 
-    /// One step of process p, which lives: the machine shows the state after the source machine's step.
-    ///
-    /// # Errors
-    ///
-    /// Only where memory was refused; the same state is shown then.
-    pub fn turn(&mut self, alloc: Global, image: &Image, p: u64) -> Result<(), AllocError>
+    // A turn of process p, ahead of which no CALL stands.
+    fn take_operation(
+        &mut self,
+        alloc: Global,
+        image: &Image,
+        p: u64,
+        history: &mut Vec<Entry>,
+    ) -> Result<(), AllocError>
         requires after { (cells : ℕ) × (choices : List ℕ) × IsMachineAfter image.now cells choices self.old }
         requires running { self.old.halted ≡ false }
-        requires living { HasLevels (snapshot_of self.old) p }
+        requires plain { IsWithoutCall image.now p (snapshot_of self.old) }
         ensures stepped { OnOk result ((cells : ℕ) (choices : List ℕ) → IsMachineAfter image.now cells choices self.old → (step image.now p (run image.now choices) ≢ None) × IsMachineAfter image.now cells (choices ++ p ∷ []) self.new) }
         ensures refused { OnErr result ((cells : ℕ) (choices : List ℕ) → IsMachineAfter image.now cells choices self.old → IsMachineAfter image.now cells choices self.new) }
         ensures same { OnErr result (IsSeenSame (snapshot_of self.old) (snapshot_of self.new)) }
         ensures processes { length self.new.processes.items ≡ length self.old.processes.items }
+        ensures room { OnOk result (vec_len history.new < vec_capacity history.new) }
+        ensures entries { history.new.items ≡ history.old.items }
     {
         // What the turn may write has room before anything changes.
-        self.records.reserve(1)?;
-        self.faults.reserve(1)?;
+        self.reserve(history)?;
         let effect = self.advance(alloc, image, p)?;
         self.end_turn(p, effect);
         Ok(())
+    }
+
+    // A turn of process p, which is at a CALL: an activation more, or a fault.
+    //
+    // Whether the frame has a gap is found before memory is asked for.
+    fn take_call(
+        &mut self,
+        image: &Image,
+        p: u64,
+        call: CallAhead,
+        history: &mut Vec<Entry>,
+    ) -> Result<(), TurnFault>
+        requires at { (cells : ℕ) × (choices : List ℕ) × IsMachineAfter image.now cells choices self.old × IsAtCall image.now cells choices p (snapshot_of self.old) call }
+        requires countable { self.old.activations + 1 < 2 ^ 64 }
+        ensures stepped { OnOk result ((cells : ℕ) (choices : List ℕ) → IsMachineAfter image.now cells choices self.old → IsAtCall image.now cells choices p (snapshot_of self.old) call → (step image.now p (run image.now choices) ≢ None) × IsMachineAfter image.now cells (choices ++ p ∷ []) self.new) }
+        ensures unturned { IfErr result (λ e. (cells : ℕ) (choices : List ℕ) → IsMachineAfter image.now cells choices self.old → IsAtCall image.now cells choices p (snapshot_of self.old) call → IsUnturned e image.now cells choices p) }
+        ensures refused { OnErr result ((cells : ℕ) (choices : List ℕ) → IsMachineAfter image.now cells choices self.old → IsMachineAfter image.now cells choices self.new) }
+        ensures same { OnErr result (IsSeenSame (snapshot_of self.old) (snapshot_of self.new)) }
+        ensures processes { length self.new.processes.items ≡ length self.old.processes.items }
+        ensures room { OnOk result (vec_len history.new < vec_capacity history.new) }
+        ensures entries { history.new.items ≡ history.old.items }
+    {
+        image.is_runnable();
+        laws::calls_can_be_made();
+        laws::gaps_are_told();
+        laws::supported_programs_call_alone();
+        if let Err(kind) = self.give(image, p, call) {
+            self.reserve(history)?;
+            self.fail(p, call.line, kind);
+            return Ok(());
+        }
+        let unit = image.unit(call.unit as usize);
+        if !self.frames.fits(unit.cells) {
+            return Err(TurnFault::ArenaFull);
+        }
+        self.reserve_activation(p, unit.operands, history)?;
+        let called = Called {
+            unit: call.unit,
+            cells: unit.cells,
+            entry: unit.entry as usize,
+        };
+        self.call(p, called, call.next as usize);
+        Ok(())
+    }
+
+    /// One step of process p, which lives: the machine shows the state after the source machine's step. The history gets room
+    /// for the entry of the turn.
+    ///
+    /// # Errors
+    ///
+    /// `ArenaFull` where a CALL makes an activation for whose frame there is no gap, which is found before memory is asked for;
+    /// `NoMemory`. The same state is shown then.
+    pub fn turn(
+        &mut self,
+        alloc: Global,
+        image: &Image,
+        p: u64,
+        history: &mut Vec<Entry>,
+    ) -> Result<(), TurnFault>
+        requires after { (cells : ℕ) × (choices : List ℕ) × IsMachineAfter image.now cells choices self.old }
+        requires running { self.old.halted ≡ false }
+        requires living { HasLevels (snapshot_of self.old) p }
+        requires countable { self.old.activations + 1 < 2 ^ 64 }
+        ensures stepped { OnOk result ((cells : ℕ) (choices : List ℕ) → IsMachineAfter image.now cells choices self.old → (step image.now p (run image.now choices) ≢ None) × IsMachineAfter image.now cells (choices ++ p ∷ []) self.new) }
+        ensures unturned { IfErr result (λ e. (cells : ℕ) (choices : List ℕ) → IsMachineAfter image.now cells choices self.old → IsUnturned e image.now cells choices p) }
+        ensures refused { OnErr result ((cells : ℕ) (choices : List ℕ) → IsMachineAfter image.now cells choices self.old → IsMachineAfter image.now cells choices self.new) }
+        ensures same { OnErr result (IsSeenSame (snapshot_of self.old) (snapshot_of self.new)) }
+        ensures processes { length self.new.processes.items ≡ length self.old.processes.items }
+        ensures room { OnOk result (vec_len history.new < vec_capacity history.new) }
+        ensures entries { history.new.items ≡ history.old.items }
+    {
+        image.is_runnable();
+        laws::other_steps_find_gaps();
+        match self.call_ahead(image, p) {
+            Some(call) => self.take_call(image, p, call, history),
+            None => Ok(self.take_operation(alloc, image, p, history)?),
+        }
     }
 }

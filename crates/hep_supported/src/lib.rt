@@ -1,4 +1,4 @@
-//! Which accepted programs can be run so far (docs/MACHINE.md, "The program").
+//! Which statements of accepted programs can be run so far (docs/MACHINE.md, "The program").
 #![tactic(auto)]
 
 mod arrays;
@@ -6,4 +6,4 @@ mod asynchronous;
 mod statements;
 pub mod supported;
 
-pub use supported::{first_unsupported, main_index};
+pub use supported::{first_unsupported_statement, main_index};

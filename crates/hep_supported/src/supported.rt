@@ -32,25 +32,6 @@ pub fn main_index(program: &[Unit]) -> Option<usize>
     None
 }
 
-fn first_line(unit: &Unit) -> u32
-    ensures { result ≡ units.line_at unit.now 0 }
-{
-    match unit.as_slice() {
-        [first, ..] => first.line,
-        [] => 0,
-    }
-}
-
-// The line of a program's first statement.
-fn first_line_of(program: &[Unit]) -> u32
-    ensures { result ≡ units.line_at (units.unit_at program.now 0) 0 }
-{
-    match program {
-        [first, ..] => first_line(first),
-        [] => 0,
-    }
-}
-
 // The line of the first statement of a unit that isn't supported.
 fn first_unsupported_among(unit: &[Statement]) -> Option<u32>
     ensures { result ≡ supported.first_unsupported_among unit.now unit.now }
@@ -63,29 +44,18 @@ fn first_unsupported_among(unit: &[Statement]) -> Option<u32>
     None
 }
 
-fn first_unsupported_in(program: &[Unit]) -> Option<u32>
-    ensures { result ≡ supported.first_unsupported_in program.now }
-{
-    match program {
-        [] => None,
-        [unit] => first_unsupported_among(unit.as_slice()),
-        [unit, second, ..] => {
-            first_unsupported_among(unit.as_slice()).or(Some(first_line(second)))
-        }
-    }
-}
-
-/// The line of the first statement that can't be run so far: CALL, CREATE, PURGE, one with an asynchronous name, and
-/// the first statement of a second unit. In a program without a main program it is the first statement of all; `None`
-/// where the program can be run.
+/// The line of the first statement, in the order of the source, that can't be run so far: a CREATE, a PURGE, or one with an
+/// asynchronous name; `None` where there is none. That a program has no main program, or that a unit has adjustable
+/// arrays, is for the caller to find out.
 ///
 /// It takes no memory, and of an accepted program each statement is gone through once.
-pub fn first_unsupported(program: &[Unit]) -> Option<u32>
-    ensures { result ≡ supported.first_unsupported program.now }
+pub fn first_unsupported_statement(program: &[Unit]) -> Option<u32>
+    ensures { result ≡ supported.first_unsupported_in program.now }
 {
-    if main_index(program).is_some() {
-        first_unsupported_in(program)
-    } else {
-        Some(first_line_of(program))
+    for unit in program {
+        if let Some(line) = first_unsupported_among(unit.as_slice()) {
+            return Some(line);
+        }
     }
+    None
 }

@@ -117,8 +117,11 @@ fn sums(alloc: Global, depth: usize) -> Result<Vec<u8>, Fail> {
 fn limits(rt: HostRuntime) -> Result<(), Fail> {
     let alloc = rt.alloc();
     assert_eq!(rt;
-        refusal_of(alloc, b"      END\n      SUBROUTINE S\n      END\n")?,
-        Some((403, 2))
+        refusal_of(
+            alloc,
+            b"      CREATE S\n      END\n      SUBROUTINE S\n      END\n"
+        )?,
+        Some((403, 1))
     );
     assert_eq!(rt;
         refusal_of(alloc, &arrays(alloc, b"ABCDEFGHIJKLMNO")?)?,

@@ -43,11 +43,11 @@ loop-index-preserved c =
     subst (λ (b : Bool). EntryMade c.loop-index.core entry (Ok b) c.make_entry.new.core) c.if-not-branch.false c.in_ok-make_entry.ensures in
     let made' = subst (λ (x : CoreValue). EntryMade x entry (Ok true) c.make_entry.new.core) c.loop-index.invariant.made made in
     let at = here entries c.loop-index.index c.loop-index-test.true in
-    let next = entry_next c.args.image c.args.cells entries c.loop-index.index entry c.make_entry.new.core at made' in
+    let next = entry_next c.args.image c.args.cells entries c.loop-index.index entry c.make_entry.new.core at made' c.headline.ensures.legal.room in
     record {
       made = next.0;
       within = next.1;
-      possible = possible_more c.args.image entries c.loop-index.index entry at c.loop-index.invariant.possible next.2;
+      possible = possible_more c.args.image c.args.cells entries c.loop-index.index entry at c.loop-index.invariant.possible next.2;
     }
 
 pub returns-clause-expanded : goal.returns-clause-expanded

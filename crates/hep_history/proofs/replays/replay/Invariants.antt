@@ -6,5 +6,5 @@ abbrev pub invariant-loop-index : goal.invariant-loop-index
 invariant-loop-index l = record {
   made : l.core ≡ replayed l.fn.image l.cells (take l.index l.entries);
   within : length (single_entries (take l.index l.entries)) ≤ most_entries;
-  possible : ArePossible l.fn.image l.entries l.index;
+  possible : ArePossible l.fn.image l.cells l.entries l.index;
 }

@@ -1,4 +1,4 @@
-use Rattle.std.proofs.Common.{◌∙◌, ap, subst, sym}
+use Rattle.std.proofs.Common.{◌∙◌, ap, arith, subst, sym}
 use Rattle.std.specs.Option.{unwrap_or}
 use Rattle.hep_source.specs.Defaults.{no_unit}
 use Rattle.hep_source.specs.Units.{is_main, subroutine_name}
@@ -14,6 +14,10 @@ initial_rows-requires-clause-main c = ap (λ o. unwrap_or o no_unit) c.requires.
 
 pub initial_rows-requires-clause-inside : goal.initial_rows-requires-clause-inside
 initial_rows-requires-clause-inside c = index-inside (λ unit. is_main (subroutine_name unit)) c.args.checked.now c.args.main c.requires.main
+
+pub overflow_cast-main : goal.overflow_cast-main
+overflow_cast-main c =
+    omega (arith, index-inside (λ unit. is_main (subroutine_name unit)) c.args.checked.now c.args.main c.requires.main, c.requires.few)
 
 pub new-requires : goal.new-requires
 new-requires c =

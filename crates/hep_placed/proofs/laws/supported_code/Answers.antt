@@ -1,18 +1,18 @@
 use Rattle.hep_placed.proofs.Facts.{facts_of}
-use Rattle.hep_placed.proofs.Supported.{alone, main_alone, one_activation, placed_in_supported, plain_in_supported}
+use Rattle.hep_placed.proofs.Supported.{main_there, none_adjusted, one_process, placed_in_supported, plain_in_supported}
 use Rattle.hep_placed.proofs.laws.supported_code.Goals as goal
 
-pub returns-clause-one : goal.returns-clause-one
-returns-clause-one c = alone
-
 pub returns-clause-main : goal.returns-clause-main
-returns-clause-main c = main_alone
+returns-clause-main c = main_there
 
-pub returns-clause-activation : goal.returns-clause-activation
-returns-clause-activation c = λ program u i x accepted none h e. one_activation program u (facts_of c.constants_agree.ensures program u accepted h) none h i x e
+pub returns-clause-process : goal.returns-clause-process
+returns-clause-process c = λ program u i x accepted none h e. one_process program u (facts_of c.constants_agree.ensures program u accepted h) none h i x e
 
 pub returns-clause-plain : goal.returns-clause-plain
 returns-clause-plain c = λ program u i x accepted none h e. plain_in_supported program u (facts_of c.constants_agree.ensures program u accepted h) none h i x e
 
 pub returns-clause-placed : goal.returns-clause-placed
 returns-clause-placed c = λ program u i x accepted none h e. placed_in_supported program u (facts_of c.constants_agree.ensures program u accepted h) none h i x e
+
+pub returns-clause-unadjusted : goal.returns-clause-unadjusted
+returns-clause-unadjusted c = λ program u none h. none_adjusted program none u h

@@ -1,7 +1,6 @@
-use Rattle.std.proofs.Common.{◌≡◌, ◌<◌, drop, length, sym, ap, ◌∙◌, subst, arith}
-use Rattle.std.specs.Prelude.{IfOk, vec_len, vec_capacity}
+use Rattle.std.proofs.Common.{◌≡◌, ◌<◌, length, sym, ap, ◌∙◌, subst}
+use Rattle.std.specs.Prelude.{IfOk, OnErr, vec_capacity}
 use Rattle.slab.specs.Slab.{ContainsKey}
-use Rattle.hep_code.specs.Ahead.{values_ahead}
 use Rattle.hep_proc.specs.Nodes.{nodes_of}
 use Rattle.hep_proc.proofs.Slabs.{some-value}
 use Rattle.hep_step.specs.Effects.{effect_at}
@@ -11,7 +10,7 @@ use Rattle.hep_step.specs.Simulation.{unit_arrays, unit_code}
 use Rattle.hep_state.specs.declared.machine.Level.{Level}
 use Rattle.hep_state.specs.Showing.{node_under}
 use Rattle.hep_state.specs.Tops.{frame_under}
-use Rattle.hep_state.proofs.Advanced.{of-equals, settled-here}
+use Rattle.hep_state.proofs.Advanced.{of-equals}
 use Rattle.hep_state.proofs.Stacked.{operands-are, some-levels}
 use Rattle.hep_state.proofs.advancing.advance.Goals as goal
 
@@ -40,17 +39,6 @@ cells-requires c =
     let same = c.top-key.ensures r.l r.ls r.operands r.stack in
     subst (λ (l : Level). ContainsKey slab l.key) (sym same) (some-value slab r.l.key (node_under (nodes_of slab) r.l.key) r.there)
 
-pub settle-requires : goal.settle-requires
-settle-requires c =
-    let r = c.requires in
-    let q = c.args.process.now in
-    let same = c.top-key.ensures r.l r.ls r.operands r.stack in
-    let code : c.as_slice-code.result.now ≡ unit_code c.args.image.now c.top-key.result.unit = c.as_slice-code.ensures ∙ c.unit-unit.ensures.code in
-    let ahead : values_ahead (drop c.top-key.result.index c.as_slice-code.result.now) ≡ values_ahead (drop r.l.index (unit_code c.args.image.now r.l.unit)) =
-    ap (λ is. values_ahead (drop c.top-key.result.index is)) code ∙ ap (λ (l : Level). values_ahead (drop l.index (unit_code c.args.image.now l.unit))) same in
-    let count : vec_len q.operands ≡ length r.operands = q.operands.ok.0 ∙ ap length (operands-are q r.l r.ls r.operands r.stack) in
-    record { room = omega (arith, ahead, count, r.room) }
-
 pub perform-performed-requires : goal.perform-performed-requires
 perform-performed-requires c =
     let r = c.requires in
@@ -58,17 +46,18 @@ perform-performed-requires c =
     let program = c.args.image.now in
     let slab = c.args.frames.now.nodes in
     let top = c.top-key.result in
-    let settled = c.settle.new.operands.items in
-    let room = vec_capacity c.settle.new.operands in
-    let index = c.settle.new.index in
+    let vs = q.operands.items in
+    let room = vec_capacity q.operands in
+    let index = top.index in
     let same = c.top-key.ensures r.l r.ls r.operands r.stack in
     let there = ap (λ (l : Level). nodes_of slab l.key) same ∙ r.there in
     let code : c.as_slice-code.result.now ≡ unit_code program top.unit = c.as_slice-code.ensures ∙ c.unit-unit.ensures.code in
     let arrays : c.as_slice-arrays.result.now ≡ unit_arrays program top.unit = c.as_slice-arrays.ensures ∙ c.unit-unit.ensures.arrays in
-    let was = settled-here program top r.l q.operands.items r.operands settled index c.as_slice-code.result.now code same (operands-are q r.l r.ls r.operands r.stack) c.settle.ensures.settled c.settle.ensures.stands in
-    let ready = r.ready settled index room was c.settle.ensures.capacity in
+    let ready : IsReady (unit_code program r.l.unit) (unit_arrays program r.l.unit) c.args.frames.now.arena (frame_in_arena (frame_under (nodes_of slab) r.l.key)) vs room index =
+    subst (λ (l : Level). IsReady (unit_code program r.l.unit) (unit_arrays program r.l.unit) c.args.frames.now.arena (frame_in_arena (frame_under (nodes_of slab) r.l.key)) vs room l.index) (sym same) (
+    subst (λ ws. IsReady (unit_code program r.l.unit) (unit_arrays program r.l.unit) c.args.frames.now.arena (frame_in_arena (frame_under (nodes_of slab) r.l.key)) ws room r.l.index) (sym (operands-are q r.l r.ls r.operands r.stack)) r.ready) in
     record {
-      ready = of-equals (λ code arrays f. IsReady code arrays c.args.frames.now.arena f settled room index)
+      ready = of-equals (λ code arrays f. IsReady code arrays c.args.frames.now.arena f vs room index)
           (unit_code program r.l.unit) c.as_slice-code.result.now (unit_arrays program r.l.unit) c.as_slice-arrays.result.now (frame_in_arena (frame_under (nodes_of slab) r.l.key)) (record { first = c.first.result; cells = c.cells.result })
           (ap (λ (l : Level). unit_code program l.unit) (sym same) ∙ sym code)
           (ap (λ (l : Level). unit_arrays program l.unit) (sym same) ∙ sym arrays)
@@ -89,8 +78,9 @@ returns-clause-advanced c l ls operands is =
     let before = c.args.frames.now.arena in
     let after = c.perform-performed.new.arena in
     let top = c.top-key.result in
-    let settled = c.settle.new.operands.items in
-    let index = c.settle.new.index in
+    let vs = q.operands.items in
+    let index = top.index in
+    let ops = operands-are q l ls operands is in
     let left = c.perform-performed.new.operands.items in
     let next = c.perform-performed.new.index in
     let same = c.top-key.ensures l ls operands is in
@@ -100,17 +90,17 @@ returns-clause-advanced c l ls operands is =
     let code : c.as_slice-code.result.now ≡ unit_code program top.unit = c.as_slice-code.ensures ∙ c.unit-unit.ensures.code in
     let arrays : c.as_slice-arrays.result.now ≡ unit_arrays program top.unit = c.as_slice-arrays.ensures ∙ c.unit-unit.ensures.arrays in
     record {
-      settled = settled;
-      index = index;
-      settles = settled-here program top l q.operands.items operands settled index c.as_slice-code.result.now code same (operands-are q l ls operands is) c.settle.ensures.settled c.settle.ensures.stands;
       next = next;
       left = left;
       stack = c.stand_at.ensures.stack l ls left (λ i. record { levels = (is i).levels; operands = left });
-      performed = of-equals (λ code arrays first. IfOk c.perform-performed.result (λ effect. IsPerformed (effect_at code arrays first before.contents settled index) (snapshot before.contents settled index) effect (snapshot after.contents left next)))
+      performed = subst (λ (m : Level). IfOk c.perform-performed.result (λ effect. IsPerformed (effect_at (unit_code program l.unit) (unit_arrays program l.unit) (node_under nodes l.key).first before.contents operands m.index) (snapshot before.contents operands m.index) effect (snapshot after.contents left next))) same (
+          subst (λ ws. IfOk c.perform-performed.result (λ effect. IsPerformed (effect_at (unit_code program l.unit) (unit_arrays program l.unit) (node_under nodes l.key).first before.contents ws index) (snapshot before.contents ws index) effect (snapshot after.contents left next))) ops (
+          of-equals (λ code arrays first. IfOk c.perform-performed.result (λ effect. IsPerformed (effect_at code arrays first before.contents vs index) (snapshot before.contents vs index) effect (snapshot after.contents left next)))
           c.as_slice-code.result.now (unit_code program l.unit) c.as_slice-arrays.result.now (unit_arrays program l.unit) c.first.result (node_under nodes l.key).first
           (code ∙ ap (λ (m : Level). unit_code program m.unit) same)
           (arrays ∙ ap (λ (m : Level). unit_arrays program m.unit) same)
           (c.first.ensures (node_under nodes r.l.key) there ∙ ap (λ (m : Level). (node_under nodes m.key).first) (sym same_there ∙ same))
-          c.perform-performed.ensures.performed;
-      refused = c.perform-performed.ensures.refused;
+          c.perform-performed.ensures.performed));
+      refused = subst (λ (m : Level). OnErr c.perform-performed.result (snapshot after.contents left next ≡ snapshot before.contents operands m.index)) same (
+          subst (λ ws. OnErr c.perform-performed.result (snapshot after.contents left next ≡ snapshot before.contents ws index)) ops c.perform-performed.ensures.refused);
     }

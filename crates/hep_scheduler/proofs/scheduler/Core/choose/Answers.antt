@@ -1,23 +1,19 @@
-use Rattle.std.proofs.Common.{◌≡◌, ℕ, ◌<◌, ◌++◌, ◌∷◌, [], ◌∙◌, inr, sym, ap, subst, rules, false, true, None, Some, length, arith, refl}
+use Rattle.std.proofs.Common.{◌≡◌, ◌<◌, ◌++◌, ◌∷◌, [], ◌∙◌, inl, inr, sym, ap, subst, rules, false, true, None, Some, length, arith, refl}
 use Rattle.std.specs.Prelude.{is_some}
-use Rattle.std.proofs.lemmas.Result.{err_from_is_err_and}
 use Rattle.hep_machine.specs.declared.event.Entry.{Entry}
-use Rattle.hep_machine.specs.Histories.{IsLegal}
 use Rattle.hep_machine.specs.Processes.{living}
 use Rattle.hep_machine.specs.Run.{schedule_of, state_after}
-use Rattle.hep_machine.specs.Schedules.{progress_after}
 use Rattle.hep_machine.specs.State.{State}
-use Rattle.hep_state.specs.Rooms.{IsMachineAfter}
-use Rattle.hep_machine.specs.Step.{wanted_by}
 use Rattle.hep_state.specs.Snapshots.{snapshot_of}
+use Rattle.hep_state.specs.Unturned.{IsUnturned}
 use Rattle.hep_state.proofs.Tops.{has-main}
 use Rattle.hep_scheduler.specs.Invariant.{core_value}
 use Rattle.hep_scheduler.specs.Quiet.{AreQuiet}
 use Rattle.hep_scheduler.specs.Seen.{machine_view}
 use Rattle.hep_scheduler.specs.Value.{IsStop, stop_after}
-use Rattle.hep_scheduler.specs.declared.stop.Stop.TheVariants.{Halted}
+use Rattle.hep_scheduler.specs.declared.stop.Stop.TheVariants.{ArenaFull, Halted}
 use Rattle.hep_scheduler.proofs.Histories.{state-is}
-use Rattle.hep_scheduler.proofs.Kept.{AreSeen, after-next, halted-is, halted-next, legal-next, next, none-of, quiet-next, some-of, state-next, steps-on, unlisted-next, view-is, view-next}
+use Rattle.hep_scheduler.proofs.Kept.{AreSeen, after-next, halted-is, halted-next, legal-next, next, none-of, quiet-next, single-next, some-of, state-next, steps-on, unlisted-next, unturned-kept, unturned-view, view-next}
 use Rattle.hep_scheduler.proofs.scheduler.Core.choose.Goals as goal
 
 pub returns-then-not-lives : goal.returns-then-not-lives
@@ -25,7 +21,7 @@ returns-then-not-lives c =
     let i = c.self.inside in
     let h = i.history.items in
     let none : i.stop ≡ None = search rules in
-    let going = subst (IsStop i.image i.limit h) none c.self.invariant.named in
+    let going = subst (IsStop i.image i.cells i.limit h) none c.self.invariant.named in
     let dead : c.lives.result ≡ false = search rules in
     let ended = none-of (living (state_after i.image h) c.args.p) (ap (λ (s : State). is_some (living s c.args.p)) (state-is i.image h) ∙ sym (c.lives.ensures.lives i.image i.cells (schedule_of h) c.self.invariant.after.after) ∙ dead) in
     rw (← c.self.view_is) ((none, going), ended, refl)
@@ -35,63 +31,77 @@ returns-then-self-len c =
     let i = c.self.inside in
     let h = i.history.items in
     let none : i.stop ≡ None = search rules in
-    let going = subst (IsStop i.image i.limit h) none c.self.invariant.named in
+    let going = subst (IsStop i.image i.cells i.limit h) none c.self.invariant.named in
     let lives : c.lives.result ≡ true = search rules in
     let alive = some-of (living (state_after i.image h) c.args.p) (ap (λ (s : State). is_some (living s c.args.p)) (state-is i.image h) ∙ sym (c.lives.ensures.lives i.image i.cells (schedule_of h) c.self.invariant.after.after) ∙ lives) in
     let full : length h ≡ i.limit = omega (arith, c.len.ensures, c.if-self-len.true, c.self.invariant.legal.within) in
-    rw (← c.self.view_is) (inr ((none, going), alive, full, refl, refl))
-
-pub returns-in_err-reserve : goal.returns-in_err-reserve
-returns-in_err-reserve c =
-    let i = c.self.inside in
-    let h = i.history.items in
-    let none : i.stop ≡ None = search rules in
-    let going = subst (IsStop i.image i.limit h) none c.self.invariant.named in
-    let lives : c.lives.result ≡ true = search rules in
-    let alive = some-of (living (state_after i.image h) c.args.p) (ap (λ (s : State). is_some (living s c.args.p)) (state-is i.image h) ∙ sym (c.lives.ensures.lives i.image i.cells (schedule_of h) c.self.invariant.after.after) ∙ lives) in
-    let lt : length h < i.limit = omega (arith, c.len.ensures) in
-    let value : record (core_value i) { history = c.reserve.new.self.items } ≡ core_value i = λ j. record (core_value i) { history = c.reserve.ensures.items j } in
-    let told = err_from_is_err_and c.from_residual.result c.from_residual.ensures.1 in
-    rw (told.1, told.2, ← c.self.view_is) ((none, going), alive, lt, value)
+    rw (← c.self.view_is) (inr (inl ((none, going), alive, full, refl, refl)))
 
 pub turn-requires-clause-running : goal.turn-requires-clause-running
 turn-requires-clause-running c =
     let i = c.self.inside in
     let h = i.history.items in
     let none : i.stop ≡ None = search rules in
-    halted-is i.image i.cells h (snapshot_of i.machine) c.self.invariant.after.after ∙ subst (IsStop i.image i.limit h) none c.self.invariant.named
+    halted-is i.image i.cells h (snapshot_of i.machine) c.self.invariant.after.after ∙ subst (IsStop i.image i.cells i.limit h) none c.self.invariant.named
 
-pub invariant_of-self-in_err-turn : goal.invariant_of-self-in_err-turn
-invariant_of-self-in_err-turn c =
+-- each activation was made by an entry of its own, and the history is a vector
+pub turn-requires-clause-countable : goal.turn-requires-clause-countable
+turn-requires-clause-countable c =
     let i = c.self.inside in
     let h = i.history.items in
-    let same = sym c.reserve.ensures.items in
-    let after = c.in_err-turn.ensures.refused i.cells (schedule_of h) c.self.invariant.after in
-    record {
-      after = subst (λ es. IsMachineAfter i.image i.cells (schedule_of es) c.turn.new.self) same after;
-      alone = c.turn.ensures.processes ∙ c.self.invariant.alone;
-      quiet = subst (λ es. (q : ℕ) → wanted_by i.image q (state_after i.image es) ≡ None) same c.self.invariant.quiet;
-      unlisted = subst (λ es. progress_after i.image es ≡ record { state = state_after i.image es; listed = [] }) same c.self.invariant.unlisted;
-      legal = subst (IsLegal i.image i.cells i.limit) same c.self.invariant.legal;
-      named = subst (λ es. IsStop i.image i.limit es i.stop) same c.self.invariant.named;
-    }
+    let k = c.self.invariant in
+    omega (arith, c.activations_are_few.ensures i.image i.cells (schedule_of h) (snapshot_of i.machine) k.after.after, k.single, i.history.ok.0, i.history.ok.1, i.history.small)
 
-pub returns-in_err-turn : goal.returns-in_err-turn
-returns-in_err-turn c =
+pub invariant_of-self-in-Err-NoMemory : goal.invariant_of-self-in-Err-NoMemory
+invariant_of-self-in-Err-NoMemory c =
+    let i = c.self.inside in
+    let k = c.self.invariant in
+    let after = c.in-Err-NoMemory.ensures.refused i.cells (schedule_of i.history.items) k.after in
+    unturned-kept i k c.turn.new.history c.turn.new.self c.turn.ensures.entries after c.turn.ensures.processes i.stop k.named
+
+pub returns-in-Err-NoMemory : goal.returns-in-Err-NoMemory
+returns-in-Err-NoMemory c =
     let i = c.self.inside in
     let h = i.history.items in
     let none : i.stop ≡ None = search rules in
-    let going = subst (IsStop i.image i.limit h) none c.self.invariant.named in
+    let going = subst (IsStop i.image i.cells i.limit h) none c.self.invariant.named in
     let lives : c.lives.result ≡ true = search rules in
     let alive = some-of (living (state_after i.image h) c.args.p) (ap (λ (s : State). is_some (living s c.args.p)) (state-is i.image h) ∙ sym (c.lives.ensures.lives i.image i.cells (schedule_of h) c.self.invariant.after.after) ∙ lives) in
     let lt : length h < i.limit = omega (arith, c.len.ensures) in
-    let after = c.in_err-turn.ensures.refused i.cells (schedule_of h) c.self.invariant.after in
-    let k = c.self.invariant in
     let seen : AreSeen i.image i.cells = λ choices n. c.views_are_of_states.ensures i.image i.cells choices n c.is_runnable.ensures.accepted (has-main i.image c.is_runnable.ensures.supported) in
-    let view = view-is i.image i.cells h (snapshot_of c.turn.new.self) after.after seen k.quiet ∙ sym (view-is i.image i.cells h (snapshot_of i.machine) k.after.after seen k.quiet) in
-    let value : record (core_value i) { history = c.reserve.new.self.items; view = machine_view i.image (snapshot_of c.turn.new.self) } ≡ core_value i = λ j. record (core_value i) { history = c.reserve.ensures.items j; view = view j } in
-    let told = err_from_is_err_and c.from_residual-in_err-turn.result c.from_residual-in_err-turn.ensures.1 in
-    rw (told.1, told.2, ← c.self.view_is) ((none, going), alive, lt, value)
+    let after = c.in-Err-NoMemory.ensures.refused i.cells (schedule_of h) c.self.invariant.after in
+    let gapped = subst (λ e. IsUnturned e i.image i.cells (schedule_of h) c.args.p) c.in-Err-NoMemory.field-0-is (c.in-Err-NoMemory.ensures.unturned i.cells (schedule_of h) c.self.invariant.after) in
+    let view = unturned-view i c.self.invariant c.turn.new.history c.turn.new.self c.turn.ensures.entries after c.turn.ensures.processes seen in
+    let value : record (core_value i) { history = c.turn.new.history.items; view = machine_view i.image (snapshot_of c.turn.new.self) } ≡ core_value i = λ j. record (core_value i) { history = c.turn.ensures.entries j; view = view j } in
+    rw (← c.self.view_is) ((none, going), alive, lt, (λ gap. gapped gap.full), value)
+
+pub invariant_of-self-in-Err-ArenaFull : goal.invariant_of-self-in-Err-ArenaFull
+invariant_of-self-in-Err-ArenaFull c =
+    let i = c.self.inside in
+    let h = i.history.items in
+    let none : i.stop ≡ None = search rules in
+    let going = subst (IsStop i.image i.cells i.limit h) none c.self.invariant.named in
+    let k = c.self.invariant in
+    let after = c.in-Err-ArenaFull.ensures.refused i.cells (schedule_of h) k.after in
+    let gap = subst (λ e. IsUnturned e i.image i.cells (schedule_of h) c.args.p) c.in-Err-ArenaFull.field-0-is (c.in-Err-ArenaFull.ensures.unturned i.cells (schedule_of h) k.after) in
+    unturned-kept i k c.turn.new.history c.turn.new.self c.turn.ensures.entries after c.turn.ensures.processes (Some ArenaFull) (going, (c.args.p, gap))
+
+pub returns-in-Err-ArenaFull : goal.returns-in-Err-ArenaFull
+returns-in-Err-ArenaFull c =
+    let i = c.self.inside in
+    let h = i.history.items in
+    let none : i.stop ≡ None = search rules in
+    let going = subst (IsStop i.image i.cells i.limit h) none c.self.invariant.named in
+    let lives : c.lives.result ≡ true = search rules in
+    let alive = some-of (living (state_after i.image h) c.args.p) (ap (λ (s : State). is_some (living s c.args.p)) (state-is i.image h) ∙ sym (c.lives.ensures.lives i.image i.cells (schedule_of h) c.self.invariant.after.after) ∙ lives) in
+    let lt : length h < i.limit = omega (arith, c.len.ensures) in
+    let seen : AreSeen i.image i.cells = λ choices n. c.views_are_of_states.ensures i.image i.cells choices n c.is_runnable.ensures.accepted (has-main i.image c.is_runnable.ensures.supported) in
+    let after = c.in-Err-ArenaFull.ensures.refused i.cells (schedule_of h) c.self.invariant.after in
+    let gap = subst (λ e. IsUnturned e i.image i.cells (schedule_of h) c.args.p) c.in-Err-ArenaFull.field-0-is (c.in-Err-ArenaFull.ensures.unturned i.cells (schedule_of h) c.self.invariant.after) in
+    let view = unturned-view i c.self.invariant c.turn.new.history c.turn.new.self c.turn.ensures.entries after c.turn.ensures.processes seen in
+    let value : record (core_value i) { history = c.turn.new.history.items; stop = Some ArenaFull; view = machine_view i.image (snapshot_of c.turn.new.self) } ≡ record (core_value i) { stop = Some ArenaFull } =
+    λ j. record (core_value i) { history = c.turn.ensures.entries j; stop = Some ArenaFull; view = view j } in
+    rw (← c.self.view_is) (inr (inr ((none, going), alive, lt, gap, refl, value)))
 
 pub invariant_of-self-then-self : goal.invariant_of-self-then-self
 invariant_of-self-then-self c =
@@ -100,19 +110,20 @@ invariant_of-self-then-self c =
     let p = c.args.p in
     let e : Entry = record { process = p; steps = 1 } in
     let h' = c.note.new.history.items in
-    let is : h' ≡ h ++ e ∷ [] = c.note.ensures ∙ ap (λ es. es ++ e ∷ []) c.reserve.ensures.items in
-    let done = c.in_ok-turn.ensures.stepped i.cells (schedule_of h) c.self.invariant.after in
+    let is : h' ≡ h ++ e ∷ [] = c.note.ensures ∙ ap (λ es. es ++ e ∷ []) c.turn.ensures.entries in
+    let done = c.in-Ok.ensures.stepped i.cells (schedule_of h) c.self.invariant.after in
     let lt : length h < i.limit = omega (arith, c.len.ensures) in
     let m = c.turn.new.self in
     let none : i.stop ≡ None = search rules in
     let law : AreQuiet i.image i.cells = λ choices n q h going. c.living_processes_are_quiet.ensures i.image i.cells choices n q c.is_runnable.ensures.accepted c.is_runnable.ensures.supported h going in
-    let was = halted-is i.image i.cells h (snapshot_of i.machine) c.self.invariant.after.after ∙ subst (IsStop i.image i.limit h) none c.self.invariant.named in
+    let was = halted-is i.image i.cells h (snapshot_of i.machine) c.self.invariant.after.after ∙ subst (IsStop i.image i.cells i.limit h) none c.self.invariant.named in
     record {
       after = after-next i.image i.cells h p h' is done.0 m done.1;
       alone = c.turn.ensures.processes ∙ c.self.invariant.alone;
       quiet = quiet-next i.image i.cells h p h' is done.0 m done.1 law (snapshot_of i.machine) c.self.invariant.after.after was c.self.invariant.quiet;
       unlisted = unlisted-next i.image i.cells h p h' is done.0 c.self.invariant.unlisted;
       legal = legal-next i.image i.cells h p h' is done.0 m done.1 i.limit c.self.invariant.legal lt;
+      single = single-next i.image i.cells h p h' is done.0 c.self.invariant.single;
       named = ap (λ (s : State). s.halted) (state-next i.image i.cells h p h' is done.0) ∙ sym (halted-next i.image i.cells h p h' is done.0 m done.1) ∙ c.if-self.true;
     }
 
@@ -123,20 +134,21 @@ invariant_of-self-else-self c =
     let p = c.args.p in
     let e : Entry = record { process = p; steps = 1 } in
     let h' = c.note.new.history.items in
-    let is : h' ≡ h ++ e ∷ [] = c.note.ensures ∙ ap (λ es. es ++ e ∷ []) c.reserve.ensures.items in
-    let done = c.in_ok-turn.ensures.stepped i.cells (schedule_of h) c.self.invariant.after in
+    let is : h' ≡ h ++ e ∷ [] = c.note.ensures ∙ ap (λ es. es ++ e ∷ []) c.turn.ensures.entries in
+    let done = c.in-Ok.ensures.stepped i.cells (schedule_of h) c.self.invariant.after in
     let lt : length h < i.limit = omega (arith, c.len.ensures) in
     let m = c.turn.new.self in
     let none : i.stop ≡ None = search rules in
     let law : AreQuiet i.image i.cells = λ choices n q h going. c.living_processes_are_quiet.ensures i.image i.cells choices n q c.is_runnable.ensures.accepted c.is_runnable.ensures.supported h going in
-    let was = halted-is i.image i.cells h (snapshot_of i.machine) c.self.invariant.after.after ∙ subst (IsStop i.image i.limit h) none c.self.invariant.named in
+    let was = halted-is i.image i.cells h (snapshot_of i.machine) c.self.invariant.after.after ∙ subst (IsStop i.image i.cells i.limit h) none c.self.invariant.named in
     record {
       after = after-next i.image i.cells h p h' is done.0 m done.1;
       alone = c.turn.ensures.processes ∙ c.self.invariant.alone;
       quiet = quiet-next i.image i.cells h p h' is done.0 m done.1 law (snapshot_of i.machine) c.self.invariant.after.after was c.self.invariant.quiet;
       unlisted = unlisted-next i.image i.cells h p h' is done.0 c.self.invariant.unlisted;
       legal = legal-next i.image i.cells h p h' is done.0 m done.1 i.limit c.self.invariant.legal lt;
-      named = subst (IsStop i.image i.limit h') (sym none) (ap (λ (s : State). s.halted) (state-next i.image i.cells h p h' is done.0) ∙ sym (halted-next i.image i.cells h p h' is done.0 m done.1) ∙ c.if-self.false);
+      single = single-next i.image i.cells h p h' is done.0 c.self.invariant.single;
+      named = subst (IsStop i.image i.cells i.limit h') (sym none) (ap (λ (s : State). s.halted) (state-next i.image i.cells h p h' is done.0) ∙ sym (halted-next i.image i.cells h p h' is done.0 m done.1) ∙ c.if-self.false);
     }
 
 pub returns-then-self : goal.returns-then-self
@@ -146,17 +158,17 @@ returns-then-self c =
     let p = c.args.p in
     let e : Entry = record { process = p; steps = 1 } in
     let h' = c.note.new.history.items in
-    let is : h' ≡ h ++ e ∷ [] = c.note.ensures ∙ ap (λ es. es ++ e ∷ []) c.reserve.ensures.items in
-    let done = c.in_ok-turn.ensures.stepped i.cells (schedule_of h) c.self.invariant.after in
+    let is : h' ≡ h ++ e ∷ [] = c.note.ensures ∙ ap (λ es. es ++ e ∷ []) c.turn.ensures.entries in
+    let done = c.in-Ok.ensures.stepped i.cells (schedule_of h) c.self.invariant.after in
     let lt : length h < i.limit = omega (arith, c.len.ensures) in
     let m = c.turn.new.self in
     let none : i.stop ≡ None = search rules in
-    let going = subst (IsStop i.image i.limit h) none c.self.invariant.named in
+    let going = subst (IsStop i.image i.cells i.limit h) none c.self.invariant.named in
     let s = next i.image i.cells h p h' is done.0 in
     let halted : s.halted ≡ true = sym (halted-next i.image i.cells h p h' is done.0 m done.1) ∙ c.if-self.true in
     let stop : Some Halted ≡ stop_after s = rw halted refl in
     let law : AreQuiet i.image i.cells = λ choices n q h going. c.living_processes_are_quiet.ensures i.image i.cells choices n q c.is_runnable.ensures.accepted c.is_runnable.ensures.supported h going in
-    let was = halted-is i.image i.cells h (snapshot_of i.machine) c.self.invariant.after.after ∙ subst (IsStop i.image i.limit h) none c.self.invariant.named in
+    let was = halted-is i.image i.cells h (snapshot_of i.machine) c.self.invariant.after.after ∙ subst (IsStop i.image i.cells i.limit h) none c.self.invariant.named in
     let seen : AreSeen i.image i.cells = λ choices n. c.views_are_of_states.ensures i.image i.cells choices n c.is_runnable.ensures.accepted (has-main i.image c.is_runnable.ensures.supported) in
     let view = view-next i.image i.cells h p h' is done.0 m done.1 law (snapshot_of i.machine) c.self.invariant.after.after was c.self.invariant.quiet seen in
     rw (← c.self.view_is) ((none, going), lt, (s, steps-on i.image i.cells h p h' is done.0, λ j. record (core_value i) { history = is j; stop = stop j; view = view j }))
@@ -168,17 +180,17 @@ returns-else-self c =
     let p = c.args.p in
     let e : Entry = record { process = p; steps = 1 } in
     let h' = c.note.new.history.items in
-    let is : h' ≡ h ++ e ∷ [] = c.note.ensures ∙ ap (λ es. es ++ e ∷ []) c.reserve.ensures.items in
-    let done = c.in_ok-turn.ensures.stepped i.cells (schedule_of h) c.self.invariant.after in
+    let is : h' ≡ h ++ e ∷ [] = c.note.ensures ∙ ap (λ es. es ++ e ∷ []) c.turn.ensures.entries in
+    let done = c.in-Ok.ensures.stepped i.cells (schedule_of h) c.self.invariant.after in
     let lt : length h < i.limit = omega (arith, c.len.ensures) in
     let m = c.turn.new.self in
     let none : i.stop ≡ None = search rules in
-    let going = subst (IsStop i.image i.limit h) none c.self.invariant.named in
+    let going = subst (IsStop i.image i.cells i.limit h) none c.self.invariant.named in
     let s = next i.image i.cells h p h' is done.0 in
     let halted : s.halted ≡ false = sym (halted-next i.image i.cells h p h' is done.0 m done.1) ∙ c.if-self.false in
     let stop : i.stop ≡ stop_after s = none ∙ rw halted refl in
     let law : AreQuiet i.image i.cells = λ choices n q h going. c.living_processes_are_quiet.ensures i.image i.cells choices n q c.is_runnable.ensures.accepted c.is_runnable.ensures.supported h going in
-    let was = halted-is i.image i.cells h (snapshot_of i.machine) c.self.invariant.after.after ∙ subst (IsStop i.image i.limit h) none c.self.invariant.named in
+    let was = halted-is i.image i.cells h (snapshot_of i.machine) c.self.invariant.after.after ∙ subst (IsStop i.image i.cells i.limit h) none c.self.invariant.named in
     let seen : AreSeen i.image i.cells = λ choices n. c.views_are_of_states.ensures i.image i.cells choices n c.is_runnable.ensures.accepted (has-main i.image c.is_runnable.ensures.supported) in
     let view = view-next i.image i.cells h p h' is done.0 m done.1 law (snapshot_of i.machine) c.self.invariant.after.after was c.self.invariant.quiet seen in
     rw (← c.self.view_is) ((none, going), lt, (s, steps-on i.image i.cells h p h' is done.0, λ j. record (core_value i) { history = is j; stop = stop j; view = view j }))

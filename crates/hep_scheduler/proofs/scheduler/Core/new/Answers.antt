@@ -1,4 +1,4 @@
-use Rattle.std.proofs.Common.{◌≡◌, ℕ, None, sym, subst, []}
+use Rattle.std.proofs.Common.{◌≡◌, ◌≤◌, ℕ, None, length, sym, subst, []}
 use Rattle.hep_machine.specs.Histories.{IsLegal}
 use Rattle.hep_machine.specs.Layout.{is_held}
 use Rattle.hep_machine.specs.Run.{schedule_of, state_after}
@@ -11,7 +11,7 @@ use Rattle.hep_state.proofs.Tops.{has-main}
 use Rattle.hep_scheduler.specs.Quiet.{AreQuiet}
 use Rattle.hep_scheduler.specs.Seen.{machine_view}
 use Rattle.hep_scheduler.specs.Value.{opening_of}
-use Rattle.hep_scheduler.proofs.Histories.{legal-none, schedule-none, unlisted-none}
+use Rattle.hep_scheduler.proofs.Histories.{legal-none, schedule-none, single-none, unlisted-none}
 use Rattle.hep_scheduler.proofs.Kept.{AreSeen, laid-out, opening-goes, opening-quiet, view-is}
 use Rattle.hep_scheduler.proofs.scheduler.Core.new.Goals as goal
 
@@ -28,6 +28,7 @@ invariant_of-result c =
       quiet = subst (λ es. (q : ℕ) → wanted_by program q (state_after program es) ≡ None) none (opening-quiet program c.args.cells law (snapshot_of m) after.after);
       unlisted = subst (λ es. progress_after program es ≡ record { state = state_after program es; listed = [] }) none (unlisted-none program);
       legal = subst (IsLegal program c.args.cells c.args.steps) none (legal-none program c.args.cells c.args.steps (laid-out program c.args.cells [] (snapshot_of m) after.after));
+      single = subst (λ es. length (schedule_of es) ≤ length es) none (single-none);
       named = subst (λ es. (state_after program es).halted ≡ _) none (opening-goes program);
     }
 

@@ -2,6 +2,8 @@ use Rattle.std.proofs.Common.{◌≡◌, ℕ, ◌-◌, ◌≤◌, List, ◌∷�
 use Rattle.std.specs.Prelude.{IfOk, OnErr, Result, Ok, Err, vec_capacity}
 use Rattle.std.proofs.lemmas.List.{length-set}
 use Rattle.hep_source.specs.declared.value.Value.{Value}
+use Rattle.hep_source.specs.Units.{Units}
+use Rattle.hep_code.specs.Ahead.{IsPastPushes}
 use Rattle.hep_code.specs.Depths.{deepest}
 use Rattle.hep_proc.specs.Nodes.{nodes_of}
 use Rattle.hep_step.specs.Effects.{effect_at}
@@ -15,14 +17,15 @@ use Rattle.hep_state.specs.declared.machine.Process.{Process}
 use Rattle.hep_state.specs.Rooms.{HasRoom}
 use Rattle.hep_state.specs.Showing.{node_under}
 use Rattle.hep_state.specs.Snapshots.{Snapshot, snapshot_of, stack_of}
-use Rattle.hep_state.specs.Taking.{IsLeft, stack_with}
+use Rattle.hep_state.specs.Taking.{IsLeft, IsSettled, stack_with}
 use Rattle.hep_state.specs.Tops.{with_contents, with_stack}
 use Rattle.hep_state.specs.Turns.{IsAfter}
+use Rattle.hep_state.proofs.Ahead.{as-settled}
 use Rattle.hep_state.proofs.Ended.{top-node}
 use Rattle.hep_state.proofs.Processes.{all-set, process-at, room-moved, stacks-set}
 use Rattle.hep_state.proofs.Settled.{turning}
 use Rattle.hep_state.proofs.Stacked.{last-there}
-use Rattle.hep_state.proofs.Taken.{again, ahead-simulated, inside, left-over, ready, room-ahead, settled-now, with_performed}
+use Rattle.hep_state.proofs.Taken.{again, ahead-simulated, inside, left-over, ready, settled-now, with_performed}
 use Rattle.hep_state.proofs.Tops.{has-main}
 use Rattle.hep_state.proofs.machine.Machine.advance.Goals as goal
 
@@ -40,15 +43,15 @@ advance-requires c =
     let m = snapshot_of c.args.self.now in
     let p = c.args.p in
     let q = c.index_mut-process.result.now in
-    let e = c.requires.living in
-    let l = e.0 in
-    let ls = e.1 in
-    let vs = e.2 in
+    let e = c.requires.plain in
+    let l = e.l in
+    let ls = e.ls in
+    let vs = e.operands in
     let cells = c.requires.after.0 in
     let choices = c.requires.after.1 in
     let h = c.requires.after.2 in
-    let it = process-at c.args.self.now.processes.items p (stack_with l ls vs) q e.3 c.index_mut-process.ensures.value in
-    let turn = turning program cells choices m p h.after l ls vs c.requires.running e.3 in
+    let it = process-at c.args.self.now.processes.items p (stack_with l ls vs) q e.there c.index_mut-process.ensures.value in
+    let turn = turning program cells choices m p h.after l ls vs c.requires.running e.there in
     let accepted = c.is_runnable.ensures.accepted in
     let supported = c.is_runnable.ensures.supported in
     let here = inside program cells choices m p l ls vs turn.0 turn.1 in
@@ -60,11 +63,11 @@ advance-requires c =
       stack = it.stack;
       inside = here;
       there = top-node program cells choices m p l ls vs turn.0 turn.1;
-      room = omega (arith, room, room-ahead program cells choices m p l ls vs turn.0 turn.1);
-      ready = λ settled index more settles wide.
-          let next = again program cells choices m p l ls vs turn.0 turn.1 settled index settles in
-          let runs = c.tops_are_running.ensures.running program cells choices (settled-now program cells choices m p l ls vs turn.0 turn.1 settled index settles) p (record l { index = index }) ls settled turn.0 accepted (has-main program supported) next in
-          ready program cells choices m p l ls vs turn.0 turn.1 settled index settles runs more (c.tops_are_running.ensures.arrays program cells choices m p l ls vs turn.0 accepted (has-main program supported) turn.1) h.few (omega (arith, room, wide));
+      ready =
+          let settles = as-settled program l vs e.past in
+          let next = again program cells choices m p l ls vs turn.0 turn.1 vs l.index settles in
+          let runs = c.tops_are_running.ensures.running program cells choices (settled-now program cells choices m p l ls vs turn.0 turn.1 vs l.index settles) p l ls vs turn.0 accepted (has-main program supported) next in
+          ready program cells choices m p l ls vs turn.0 turn.1 vs l.index settles runs (vec_capacity q.operands) (c.tops_are_running.ensures.arrays program cells choices m p l ls vs turn.0 accepted (has-main program supported) turn.1) h.few room;
     }
 
 -- what the machine shows, where a process has another stack and cells of the arena have changed
@@ -85,27 +88,26 @@ returns-clause-left c =
     let m = snapshot_of c.args.self.now in
     let p = c.args.p in
     let q = c.index_mut-process.result.now in
-    let e = c.requires.living in
-    let l = e.0 in
-    let ls = e.1 in
-    let vs = e.2 in
-    let it = process-at c.args.self.now.processes.items p (stack_with l ls vs) q e.3 c.index_mut-process.ensures.value in
+    let e = c.requires.plain in
+    let l = e.l in
+    let ls = e.ls in
+    let vs = e.operands in
+    let it = process-at c.args.self.now.processes.items p (stack_with l ls vs) q e.there c.index_mut-process.ensures.value in
     let a = c.advance.ensures.advanced l ls vs it.stack in
     let after = performed.snapshot c.advance.new.frames.arena.contents a.left a.next in
-    let ahead = effect_at (unit_code program l.unit) (unit_arrays program l.unit) (node_under m.nodes l.key).first m.arena.contents a.settled a.index in
+    let ahead = effect_at (unit_code program l.unit) (unit_arrays program l.unit) (node_under m.nodes l.key).first m.arena.contents vs l.index in
     let shown = shown-now c.args.self.now p c.advance.new.process c.advance.new.frames l ls a.left a.next a.stack c.advance.ensures.holes c.advance.ensures.nodes in
     let accepted = c.is_runnable.ensures.accepted in
     let supported = c.is_runnable.ensures.supported in
     of-ok c.advance.result a.performed (λ effect is cells choices h.
-    let turn = turning program cells choices m p h.after l ls vs c.requires.running e.3 in
+    let turn = turning program cells choices m p h.after l ls vs c.requires.running e.there in
     let here = inside program cells choices m p l ls vs turn.0 turn.1 in
-    let next = again program cells choices m p l ls vs turn.0 turn.1 a.settled a.index a.settles in
-    let runs = c.tops_are_running.ensures.running program cells choices (settled-now program cells choices m p l ls vs turn.0 turn.1 a.settled a.index a.settles) p (record l { index = a.index }) ls a.settled turn.0 accepted (has-main program supported) next in
-    let others = c.supported_programs_leave_nothing_out.ensures program l.unit a.index accepted supported here in
-    let simulated = ahead-simulated program cells choices m p l ls vs turn.0 turn.1 a.settled a.index a.settles runs others in
-    let quiet = c.supported_programs_never_wait.ensures program l.unit (node_under m.nodes l.key).first m.arena.contents a.settled a.index accepted supported here in
+    let next = again program cells choices m p l ls vs turn.0 turn.1 vs l.index (as-settled program l vs e.past) in
+    let runs = c.tops_are_running.ensures.running program cells choices (settled-now program cells choices m p l ls vs turn.0 turn.1 vs l.index (as-settled program l vs e.past)) p l ls vs turn.0 accepted (has-main program supported) next in
+    let simulated = ahead-simulated program cells choices m p l ls vs turn.0 turn.1 vs l.index (as-settled program l vs e.past) runs e.plain in
+    let quiet = c.supported_programs_never_wait.ensures program l.unit (node_under m.nodes l.key).first m.arena.contents vs l.index accepted supported here in
     subst (λ (n : Snapshot). IsLeft program cells choices p n effect) (sym shown) (
-    left-over program cells choices m p l ls vs turn.0 turn.1 a.settled a.index a.settles ahead effect after simulated quiet c.advance.ensures.cells is))
+    left-over program cells choices m p l ls vs turn.0 turn.1 vs l.index (as-settled program l vs e.past) ahead effect after simulated quiet c.advance.ensures.cells is))
 
 pub returns-clause-refused : goal.returns-clause-refused
 returns-clause-refused c =
@@ -113,30 +115,30 @@ returns-clause-refused c =
     let m = snapshot_of c.args.self.now in
     let p = c.args.p in
     let q = c.index_mut-process.result.now in
-    let e = c.requires.living in
-    let l = e.0 in
-    let ls = e.1 in
-    let vs = e.2 in
-    let it = process-at c.args.self.now.processes.items p (stack_with l ls vs) q e.3 c.index_mut-process.ensures.value in
+    let e = c.requires.plain in
+    let l = e.l in
+    let ls = e.ls in
+    let vs = e.operands in
+    let it = process-at c.args.self.now.processes.items p (stack_with l ls vs) q e.there c.index_mut-process.ensures.value in
     let a = c.advance.ensures.advanced l ls vs it.stack in
     let shown = shown-now c.args.self.now p c.advance.new.process c.advance.new.frames l ls a.left a.next a.stack c.advance.ensures.holes c.advance.ensures.nodes in
     of-err c.advance.result a.refused (λ is cells choices h.
-    let turn = turning program cells choices m p h l ls vs c.requires.running e.3 in
-    let next = again program cells choices m p l ls vs turn.0 turn.1 a.settled a.index a.settles in
-    let same = shown ∙ ap (with_performed program cells choices m p l ls vs turn.0 turn.1 a.settled a.index a.settles) is in
+    let turn = turning program cells choices m p h l ls vs c.requires.running e.there in
+    let next = again program cells choices m p l ls vs turn.0 turn.1 vs l.index (as-settled program l vs e.past) in
+    let same = shown ∙ ap (with_performed program cells choices m p l ls vs turn.0 turn.1 vs l.index (as-settled program l vs e.past)) is in
     subst (IsAfter program cells choices) (sym same) next.after)
 
 pub returns-clause-same : goal.returns-clause-same
 returns-clause-same c =
-    let e = c.requires.living in
+    let e = c.requires.plain in
     let p = c.args.p in
-    let it = process-at c.args.self.now.processes.items p (stack_with e.0 e.1 e.2) c.index_mut-process.result.now e.3 c.index_mut-process.ensures.value in
-    let a = c.advance.ensures.advanced e.0 e.1 e.2 it.stack in
+    let it = process-at c.args.self.now.processes.items p (stack_with e.l e.ls e.operands) c.index_mut-process.result.now e.there c.index_mut-process.ensures.value in
+    let a = c.advance.ensures.advanced e.l e.ls e.operands it.stack in
     let old = c.args.self.now in
     of-err c.advance.result a.refused (λ is. record {
       arena = λ i. record { contents = (is i).contents; holes = c.advance.ensures.holes i };
       nodes = ap nodes_of c.advance.ensures.nodes;
-      processes = ap length (stacks-set old.processes.items p c.advance.new.process (stack_with (record e.0 { index = a.next }) e.1 a.left) a.stack) ∙ length-set (snapshot_of old).processes (p - 1) (stack_with (record e.0 { index = a.next }) e.1 a.left);
+      processes = ap length (stacks-set old.processes.items p c.advance.new.process (stack_with (record e.l { index = a.next }) e.ls a.left) a.stack) ∙ length-set (snapshot_of old).processes (p - 1) (stack_with (record e.l { index = a.next }) e.ls a.left);
       activations = refl;
       records = refl;
       faults = refl;
@@ -148,11 +150,12 @@ returns-clause-rooms c cells h =
     let p = c.args.p in
     let q = c.index_mut-process.result.now in
     let r = c.advance.new.process in
-    let e = c.requires.living in
-    let it = process-at c.args.self.now.processes.items p (stack_with e.0 e.1 e.2) q e.3 c.index_mut-process.ensures.value in
-    let a = c.advance.ensures.advanced e.0 e.1 e.2 it.stack in
+    let e = c.requires.plain in
+    let it = process-at c.args.self.now.processes.items p (stack_with e.l e.ls e.operands) q e.there c.index_mut-process.ensures.value in
+    let a = c.advance.ensures.advanced e.l e.ls e.operands it.stack in
     record {
       few = h.few;
+      to_pass = h.to_pass;
       room = all-set (HasRoom c.args.image.now) c.args.self.now.processes.items (p - 1) r h.room (
-          room-moved c.args.image.now q r e.0 a.next e.1 e.2 a.left it.stack a.stack c.advance.ensures.capacity (h.room (p - 1) q it.there));
+          room-moved c.args.image.now q r e.l a.next e.ls e.operands a.left it.stack a.stack c.advance.ensures.capacity (h.room (p - 1) q it.there));
     }

@@ -58,5 +58,6 @@ returns-clause-rooms c program cells h =
     let r : Process = record { levels = c.leave_all.new.levels; operands = c.clear.new.self } in
     record {
       few = h.few;
+      to_pass = h.to_pass;
       room = all-set (HasRoom program) c.args.self.now.processes.items (c.args.p - 1) r h.room (room-none program r c.leave_all.ensures.none);
     }

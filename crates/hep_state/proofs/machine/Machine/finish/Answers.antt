@@ -62,6 +62,7 @@ returns-clause-rooms c program cells h =
     let it = process-at c.args.self.now.processes.items p (stack_with e.l e.ls e.operands) q e.turning.kept c.index_mut.ensures.value in
     record {
       few = h.few;
+      to_pass = h.to_pass;
       room = all-set (HasRoom program) c.args.self.now.processes.items _ r h.room
           (room-fewer program q r c.end_top-ended.result c.end_top-ended.ensures.fewer (omega (arith, c.end_top-ended.ensures.capacity)) (h.room _ q it.there));
     }

@@ -1,29 +1,42 @@
-use Rattle.std.proofs.Common.{sym, subst}
+use Rattle.std.proofs.Common.{ℕ, List, ◌∙◌}
+use Rattle.hep_source.specs.Units.{Units}
+use Rattle.hep_state.specs.declared.turn.TurnFault.{TurnFault}
+use Rattle.hep_state.specs.Rooms.{IsMachineAfter}
 use Rattle.hep_state.specs.Snapshots.{snapshot_of}
-use Rattle.hep_state.specs.Turns.{IsAfter}
+use Rattle.hep_state.specs.Unturned.{IsUnturned}
+use Rattle.hep_state.proofs.Tops.{has-main}
+use Rattle.hep_state.proofs.Turned.{err-then, ok-then, on-err, without-memory}
 use Rattle.hep_state.proofs.machine.Machine.turn.Goals as goal
 
-pub end_turn-requires-clause-left : goal.end_turn-requires-clause-left
-end_turn-requires-clause-left c =
-    let h = c.requires.after in (
-      c.args.image.now,
-      h.0,
-      h.1,
-      c.in_ok-effect.ensures.left h.0 h.1 (record {
-        after = subst (IsAfter c.args.image.now h.0 h.1) (λ i. record (snapshot_of c.args.self.now) { records = sym c.reserve.ensures.items i; faults = sym c.reserve-2.ensures.items i }) h.2.after;
-        few = h.2.few;
-        room = h.2.room;
-      }),
-    )
+-- why a turn was not taken, wherever a machine comes to
+abbrev unturned-by : Units → ℕ → (ℕ → List ℕ → Type 0) → TurnFault → Type 0
+unturned-by program p there e = (cells : ℕ) (choices : List ℕ) → there cells choices → IsUnturned e program cells choices p
 
-pub returns-clause-stepped : goal.returns-clause-stepped
-returns-clause-stepped c cells choices h =
+pub take_call-requires-clause-at : goal.take_call-requires-clause-at
+take_call-requires-clause-at c =
+    let h = c.requires.after in
+    (h.0, h.1, c.in-Some.ensures.after h.0 h.1 h.2, c.in-Some.ensures.call h.0 h.1 h.2)
+
+pub take_operation-requires-clause-after : goal.take_operation-requires-clause-after
+take_operation-requires-clause-after c =
+    let h = c.requires.after in
+    (h.0, h.1, c.in-None.ensures.after h.0 h.1 h.2)
+
+pub returns-in_err-take_operation-in-None-clause-unturned : goal.returns-in_err-take_operation-in-None-clause-unturned
+returns-in_err-take_operation-in-None-clause-unturned c =
     let program = c.args.image.now in
-    let left = c.in_ok-effect.ensures.left cells choices (record {
-      after = subst (IsAfter program cells choices) (λ i. record (snapshot_of c.args.self.now) { records = sym c.reserve.ensures.items i; faults = sym c.reserve-2.ensures.items i }) h.after;
-      few = h.few;
-      room = h.room;
-    }) in
-    let stepped = c.end_turn.ensures.stepped program cells choices left in
-    let rooms = c.end_turn.ensures.rooms program cells (c.advance.ensures.rooms cells (record { few = h.few; room = h.room })) in
-    (stepped.stepped, record { after = stepped.after; few = rooms.few; room = rooms.room })
+    without-memory (unturned-by program c.args.p (λ cells choices. IsMachineAfter program cells choices c.args.self.now)) c.from_residual.result c.from_residual.ensures.1 (λ cells choices h.
+    c.other_steps_find_gaps.ensures program cells choices (snapshot_of c.call_ahead.new.self) c.args.p c.is_runnable.ensures.accepted (has-main program c.is_runnable.ensures.supported) (c.in-None.ensures.after cells choices h).after (c.in-None.ensures.same.halted ∙ c.requires.running) c.in-None.ensures.call)
+
+pub returns-in_err-take_operation-in-None-clause-refused : goal.returns-in_err-take_operation-in-None-clause-refused
+returns-in_err-take_operation-in-None-clause-refused c =
+    on-err c.from_residual.result c.from_residual.ensures.0 (λ cells choices h. c.in_err-take_operation-in-None.ensures.refused cells choices (c.in-None.ensures.after cells choices h))
+
+pub returns-in-Some-clause-stepped : goal.returns-in-Some-clause-stepped
+returns-in-Some-clause-stepped c = ok-then c.take_call.result c.take_call.ensures.stepped (λ stepped cells choices h. stepped cells choices (c.in-Some.ensures.after cells choices h) (c.in-Some.ensures.call cells choices h))
+
+pub returns-in-Some-clause-refused : goal.returns-in-Some-clause-refused
+returns-in-Some-clause-refused c = err-then c.take_call.result c.take_call.ensures.refused (λ refused cells choices h. refused cells choices (c.in-Some.ensures.after cells choices h))
+
+pub returns-in_ok-take_operation-in-None-clause-stepped : goal.returns-in_ok-take_operation-in-None-clause-stepped
+returns-in_ok-take_operation-in-None-clause-stepped c cells choices h = c.in_ok-take_operation-in-None.ensures.stepped cells choices (c.in-None.ensures.after cells choices h)

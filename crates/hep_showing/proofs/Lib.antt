@@ -1,3 +1,0 @@
-mod Standing
-mod Shown
-mod Plain

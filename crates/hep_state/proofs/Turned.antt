@@ -1,0 +1,70 @@
+-- A machine that keeps what it kept: where only room was made, or what a CALL gives was written.
+use Rattle.std.proofs.Common.{◌≡◌, ℕ, List, Result, Ok, Err, Option, Some, None, refl, sym, ap, ◌∙◌, subst}
+use Rattle.std.specs.Prelude.{◌≤◌, Bool, true, false, IfErr, IsSome, MatchOption, OnErr, OnOk, is_some, length, slice_get, vec_capacity, Vec}
+use Rattle.std.specs.Result.{IsErr, IsErrAnd}
+use Rattle.std.proofs.lemmas.Result.{err_from_is_err_and}
+use Rattle.hep_source.specs.Units.{Units, dummies_of, unit_at}
+use Rattle.hep_state.specs.declared.machine.Machine.{Machine}
+use Rattle.hep_state.specs.declared.machine.Process.{Process}
+use Rattle.hep_state.specs.declared.turn.TurnFault.{TurnFault}
+use Rattle.hep_state.specs.declared.turn.TurnFault.TheVariants.{NoMemory}
+use Rattle.hep_state.specs.Rooms.{HasRoom, HaveRoom, IsMachineAfter}
+use Rattle.hep_state.specs.Snapshots.{snapshot_of}
+use Rattle.hep_state.specs.Turns.{IsAfter}
+
+-- ---- answers
+
+-- memory was refused
+pub without-memory : {A : Type 0} (P : TurnFault → Type 0) (r : Result A TurnFault) → IsErrAnd r (λ e. e ≡ NoMemory) → P NoMemory → IfErr r P
+without-memory P r h given = let told = err_from_is_err_and r h in subst (λ x. IfErr x P) (sym (told.1 ∙ ap Err told.2)) given
+
+pub on-err : {A E P : Type 0} (r : Result A E) → IsErr r → P → OnErr r P
+on-err (Err e) h given = given
+on-err (Ok x) h given = absurd cc
+
+pub ok-then : {A E P Q : Type 0} (r : Result A E) → OnOk r P → (P → Q) → OnOk r Q
+ok-then (Ok x) h f = f h
+ok-then (Err e) h f = h
+
+pub err-then : {A E P Q : Type 0} (r : Result A E) → OnErr r P → (P → Q) → OnErr r Q
+err-then (Ok x) h f = h
+err-then (Err e) h f = f h
+
+pub option-then : {A M N : Type 0} {P Q : A → Type 0} (o : Option A) → MatchOption o M P → (M → N) → ((x : A) → P x → Q x) → MatchOption o N Q
+option-then None h f g = f h
+option-then (Some x) h f g = g x h
+
+pub some-of : {A : Type 0} (o : Option A) → is_some o ≡ true → IsSome o
+some-of None e = absurd cc
+some-of (Some x) e = cc
+
+pub none-of : {A : Type 0} (o : Option A) → is_some o ≡ false → o ≡ None
+none-of None e = refl
+none-of (Some x) e = absurd cc
+
+-- ---- machines
+
+pub rooms-of : (program : Units) (cells : ℕ) (choices : List ℕ) (m : Machine) → IsMachineAfter program cells choices m → HaveRoom program cells m
+rooms-of program cells choices m h = record { few = h.few; to_pass = h.to_pass; room = h.room }
+
+pub machine-of : (program : Units) (cells : ℕ) (choices : List ℕ) (m : Machine) → IsAfter program cells choices (snapshot_of m) → HaveRoom program cells m → IsMachineAfter program cells choices m
+machine-of program cells choices m after rooms = record { after = after; few = rooms.few; to_pass = rooms.to_pass; room = rooms.room }
+
+-- another one that shows the same, with the same processes and the same room to pass
+pub machine-same : (program : Units) (cells : ℕ) (choices : List ℕ) (old new : Machine) → snapshot_of new ≡ snapshot_of old → new.processes ≡ old.processes → new.given ≡ old.given → IsMachineAfter program cells choices old → IsMachineAfter program cells choices new
+machine-same program cells choices old new shown processes given h =
+    record {
+      after = subst (IsAfter program cells choices) (sym shown) h.after;
+      few = h.few;
+      to_pass = λ u. subst (λ n. length (dummies_of (unit_at program u)) ≤ n) (sym (ap vec_capacity given)) (h.to_pass u);
+      room = λ i q e. h.room i q (ap (λ qs. slice_get qs i) (ap (λ v. v.items) (sym processes)) ∙ e);
+    }
+
+-- records and faults stay, with other room
+pub shown-written : (old new : Machine) → new ≡ record old { records = new.records; faults = new.faults } → new.records.items ≡ old.records.items → new.faults.items ≡ old.faults.items → snapshot_of new ≡ snapshot_of old
+shown-written old new others records faults = ap snapshot_of others ∙ (λ i. record (snapshot_of old) { records = records i; faults = faults i })
+
+pub machine-written : (program : Units) (cells : ℕ) (choices : List ℕ) (old new : Machine) → new ≡ record old { records = new.records; faults = new.faults } → new.records.items ≡ old.records.items → new.faults.items ≡ old.faults.items
+    → IsMachineAfter program cells choices old → IsMachineAfter program cells choices new
+machine-written program cells choices old new others records faults =
+    machine-same program cells choices old new (shown-written old new others records faults) (ap (λ (m : Machine). m.processes) others) (ap (λ (m : Machine). m.given) others)

@@ -1,0 +1,62 @@
+use Rattle.std.proofs.Common.{◌≡◌, true}
+use Rattle.std.specs.Prelude.{is_some}
+use Rattle.hep_source.specs.Units.{Units, main_among, unit_at}
+use Rattle.hep_machine.specs.declared.event.Kind.TheVariants.{Shape}
+use Rattle.hep_machine.specs.Run.{run}
+use Rattle.hep_machine.specs.Step.{next_activation, scope_of}
+use Rattle.hep_check.specs.Conditions.{IsAccepted}
+use Rattle.hep_state.proofs.Bindings.{IsKnownToBind, actuals, called-so, dummies-given, fault-ends, range-bound}
+use Rattle.hep_state.proofs.Callers.{IsKnown, called-inside}
+use Rattle.hep_state.proofs.Tops.{unit-there}
+use Rattle.hep_state.proofs.laws.calls_give_what_is_bound.Goals as goal
+
+-- what the laws called say of a program
+known : goal.After-tops_are_running → (program : Units) → IsAccepted program → is_some (main_among program) ≡ true → IsKnown program
+known c program accepted main =
+    record {
+      closed = c.programs_are_closed.ensures.closed program accepted;
+      units = λ choices a one made. c.units_are_there.ensures program choices a accepted main one made;
+      bound = λ choices a one made. c.activations_are_bound_in_runs.ensures program choices a accepted main one made;
+      works = λ choices p top lives. c.works_come_from_statements.ensures.top program choices p top lives;
+      called = c.calls_come_from_statements.ensures.called;
+      subroutine = λ u k x actuals by. c.subroutines_are_called.ensures.there program u k x actuals accepted by;
+      arguments = λ u k x actuals by. c.subroutines_are_called.ensures.arguments program u k x actuals accepted by;
+      running = λ cells choices m p l ls operands top turning. c.tops_are_running.ensures.running program cells choices m p l ls operands top accepted main turning;
+      ahead = c.calls_are_ahead.ensures.ahead program;
+    }
+
+all-known : goal.After-tops_are_running → (program : Units) → IsAccepted program → is_some (main_among program) ≡ true → IsKnownToBind program
+all-known c program accepted main =
+    record {
+      known = known c program accepted main;
+      distinct = λ u inside i j x. c.names_are_given_once.ensures.dummies program u i j (unit_at program u) x accepted (unit-there program u inside);
+      fits = λ u k j x y actuals a. c.actual_arguments_fit.ensures program u k j x y actuals a accepted;
+      placed = λ unit x. c.variables_are_placed.ensures program unit x;
+      passed = c.all_actuals_are_passed.ensures.entries program;
+      made = c.calls_make_activations.ensures.called program;
+      faults = c.calls_are_ahead.ensures.fails program;
+    }
+
+pub returns-clause-calling : goal.returns-clause-calling
+returns-clause-calling c program cells choices m p call given accepted main plain at gives fit =
+    let all = all-known c program accepted main in
+    let s = run program choices in
+    let inside = called-inside program all.known cells choices p m call at in
+    let dummies = dummies-given program all cells choices p m call at given gives in
+    let bound =
+    c.shapes_decide_bindings.ensures.fit program s at.turning.after.layout call.unit (next_activation s) (scope_of program s at.top.0.activation) s.store (actuals program all cells choices p m call at) given dummies.0 accepted inside plain dummies.1 dummies.2 fit in
+    called-so program all cells choices p m call at given bound.0 gives bound.1
+
+pub returns-clause-range : goal.returns-clause-range
+returns-clause-range c program cells choices m p call kind accepted main at gives =
+    let all = all-known c program accepted main in
+    fault-ends program all cells choices p m call at kind (range-bound program all cells choices p m call at kind gives)
+
+pub returns-clause-shape : goal.returns-clause-shape
+returns-clause-shape c program cells choices m p call given accepted main plain at gives unfit =
+    let all = all-known c program accepted main in
+    let s = run program choices in
+    let inside = called-inside program all.known cells choices p m call at in
+    let dummies = dummies-given program all cells choices p m call at given gives in
+    fault-ends program all cells choices p m call at Shape (
+    c.shapes_decide_bindings.ensures.unfit program s at.turning.after.layout call.unit (next_activation s) (scope_of program s at.top.0.activation) s.store (actuals program all cells choices p m call at) given dummies.0 accepted inside plain dummies.1 dummies.2 unfit)

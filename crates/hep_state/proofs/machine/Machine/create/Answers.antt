@@ -1,0 +1,125 @@
+use Rattle.std.proofs.Common.{◌≡◌, ◌+◌, ◌-◌, List, [], ◌∷◌, ◌++◌, length, map, reverse, refl, sym, ap, ◌∙◌, subst, arith}
+use Rattle.std.specs.Prelude.{slice_set}
+use Rattle.std.proofs.lemmas.List.{map-append}
+use Rattle.hep_source.specs.Units.{dummies_of, unit_at}
+use Rattle.hep_machine.specs.Layout.{common_cells, frame_of, is_held, lowest_gap}
+use Rattle.hep_machine.specs.Run.{run}
+use Rattle.hep_machine.specs.Step.{scope_of}
+use Rattle.hep_machine.specs.Variables.{adjustable_dimensions_of_all, frame_cells}
+use Rattle.hep_frames.specs.Descriptors.{wanted_of}
+use Rattle.hep_frames.specs.Tree.{is_stacked, new_node, with_node}
+use Rattle.slab.specs.Slab.{ContainsKey}
+use Rattle.hep_proc.specs.Nodes.{nodes_of}
+use Rattle.hep_proc.proofs.Slabs.{some-value}
+use Rattle.hep_state.specs.declared.machine.Level.{Level}
+use Rattle.hep_state.specs.Showing.{node_under}
+use Rattle.hep_state.specs.Snapshots.{Stack, snapshot_of, stack_of}
+use Rattle.hep_state.specs.Taking.{stack_with}
+use Rattle.hep_state.specs.Turns.{HasStepped}
+use Rattle.hep_state.proofs.Ended.{kept-now, top-node}
+use Rattle.hep_state.proofs.Processes.{inside-at, process-at, stacks-set}
+use Rattle.hep_state.proofs.Stacked.{some-levels}
+use Rattle.hep_entering.specs.Calling.{IsWritten, state_created, unit_begun}
+use Rattle.hep_state.specs.Calls.{HasEntered, entered_level, snapshot_created}
+use Rattle.hep_state.proofs.Plain.{created-number, created-stacked, created-unit, dummies-fit, passed-many, top-activation}
+use Rattle.hep_state.proofs.Begun.{created-shown}
+use Rattle.hep_state.proofs.machine.Machine.create.Goals as goal
+
+pub index-requires : goal.index-requires
+index-requires c =
+    let e = c.requires.creating.3 in
+    let inside = inside-at c.args.self.now.processes.items c.args.p (stack_with e.l e.ls e.operands) e.turning.kept in
+    omega (arith, inside.1, c.args.self.now.processes.ok.0)
+
+pub top_key-parent-requires : goal.top_key-parent-requires
+top_key-parent-requires c =
+    let e = c.requires.creating.3 in
+    let it = process-at c.args.self.now.processes.items c.args.p (stack_with e.l e.ls e.operands) c.index.result.now e.turning.kept c.index.ensures in
+    some-levels c.index.result.now e.l e.ls e.operands it.stack
+
+pub begin-key-requires-clause-many : goal.begin-key-requires-clause-many
+begin-key-requires-clause-many c =
+    let r = c.requires.creating in
+    let e = r.3 in
+    let many = passed-many r.0 (run r.0 r.2) e.turning.after.layout (scope_of r.0 (run r.0 r.2) e.top.0.activation) e.actuals c.args.given.now e.passed in
+    omega (arith, many, e.passing.as_many, r.4.cells_are, dummies-fit r.0 c.args.called.unit)
+
+pub begin-key-requires-clause-there : goal.begin-key-requires-clause-there
+begin-key-requires-clause-there c =
+    let r = c.requires.creating in
+    let e = r.3 in
+    let slab = c.args.self.now.frames.nodes in
+    let it = process-at c.args.self.now.processes.items c.args.p (stack_with e.l e.ls e.operands) c.index.result.now e.turning.kept c.index.ensures in
+    let same = c.top_key-parent.ensures e.l e.ls e.operands it.stack in
+    subst (ContainsKey slab) (sym same) (some-value slab e.l.key (node_under (nodes_of slab) e.l.key) (top-node r.0 r.1 r.2 (snapshot_of c.args.self.now) c.args.p e.l e.ls e.operands e.top e.turning))
+
+pub begin-key-requires-clause-kept : goal.begin-key-requires-clause-kept
+begin-key-requires-clause-kept c =
+    let r = c.requires.creating in
+    let e = r.3 in
+    kept-now r.0 r.1 r.2 (snapshot_of c.args.self.now) c.args.p e.l e.ls e.operands e.top e.turning
+
+pub begin-key-requires-clause-children : goal.begin-key-requires-clause-children
+begin-key-requires-clause-children c =
+    let r = c.requires.creating in
+    let e = r.3 in
+    let s = run r.0 r.2 in
+    let layout = e.turning.after.layout in
+    let shows = e.turning.after.shows in
+    c.children_are_activations.ensures r.0 s (is_stacked s) (is_held s) layout (wanted_of r.0 s layout) c.args.self.now.frames.arena (nodes_of c.args.self.now.frames.nodes) c.top_key-parent.result shows.keeps (omega (arith, c.requires.countable, shows.activations))
+
+pub index_mut-requires : goal.index_mut-requires
+index_mut-requires c =
+    let e = c.requires.creating.3 in
+    let it = process-at c.args.self.now.processes.items c.args.p (stack_with e.l e.ls e.operands) c.index.result.now e.turning.kept c.index.ensures in
+    omega (arith, it.inside, c.args.self.now.processes.ok.0)
+
+pub go_on-requires : goal.go_on-requires
+go_on-requires c =
+    let e = c.requires.creating.3 in
+    let it = process-at c.args.self.now.processes.items c.args.p (stack_with e.l e.ls e.operands) c.index_mut.result.now e.turning.kept c.index_mut.ensures.value in
+    some-levels c.index_mut.result.now e.l e.ls e.operands it.stack
+
+pub returns-clause-stepped : goal.returns-clause-stepped
+returns-clause-stepped c program cells choices e unit =
+    let p = c.args.p in
+    let u = c.args.called.unit in
+    let old = c.args.self.now in
+    let m = snapshot_of old in
+    let s = run program choices in
+    let t = state_created program choices p e.top u e.b in
+    let n = length t.activations in
+    let h = e.turning in
+    let layout = h.after.layout in
+    let arena = c.begin-key.new.frames.arena in
+    let nodes = nodes_of c.begin-key.new.frames.nodes in
+    let key = c.begin-key.result in
+    let before = process-at old.processes.items p (stack_with e.l e.ls e.operands) c.index.result.now h.kept c.index.ensures in
+    let it = process-at old.processes.items p (stack_with e.l e.ls e.operands) c.index_mut.result.now h.kept c.index_mut.ensures.value in
+    let parent : c.top_key-parent.result ≡ e.l.key = c.top_key-parent.ensures e.l e.ls e.operands before.stack in
+    let there = ap m.nodes parent ∙ top-node program cells choices m p e.l e.ls e.operands e.top h in
+    let act : old.activations + 1 ≡ n = omega (arith, h.after.shows.activations, created-number program choices p e.top u e.b) in
+    let size : c.args.called.cells ≡ frame_of program t n = unit.cells_are ∙ ap (λ v. frame_cells (unit_at program v)) (sym (created-unit program choices p e.top u e.b)) in
+    let written = c.begin-key.ensures.written program choices p e.top u e.actuals e.b t layout (is_held s) (node_under m.nodes e.l.key) h.after.shows.keeps there (top-activation program cells choices m p e.l e.ls e.operands e.top h) e.passing e.passed refl refl act refl size in
+    let first = written.0 in
+    let plain = c.other_cells_are_unset.ensures.plain (unit_begun program t) (ap (λ v. adjustable_dimensions_of_all (unit_at program v) (dummies_of (unit_at program v))) (created-unit program choices p e.top u e.b) ∙ unit.plain) in
+    let all = subst (λ k. IsWritten program s t layout first k (is_held s) arena nodes) plain (c.other_cells_are_unset.ensures.created program choices p e.top u e.b layout first (is_held s) arena nodes h.lives e.made written.3) in
+    let entered : HasEntered program cells choices p layout m.nodes u key e.l.key t arena nodes =
+    record {
+      made = e.made;
+      inside = unit.inside;
+      first = first;
+      gap = (λ i. lowest_gap (sym h.after.size i) (sym size i) (common_cells program) layout) ∙ written.2;
+      written = all;
+      kept = c.references_are_kept.ensures.created program choices p e.top u e.actuals e.b layout first (length old.frames.arena.contents) c.args.given.now e.passing e.passed h.after.shows.keeps.memory.laid h.after.shows.kept n (created-stacked program choices p e.top u e.b h.lives);
+      size = c.begin-key.ensures.cells ∙ h.after.size;
+      vacant = c.begin-key.ensures.vacant;
+      nodes_are = c.begin-key.ensures.nodes first written.1 ∙ (λ i. with_node m.nodes key (new_node (act i) u first (size i) (parent i)) (parent i));
+    } in
+    let k : Stack = record { levels = record e.l { index = c.args.index } ∷ e.ls; operands = [] } in
+    let stacks = stacks-set old.processes.items p c.go_on.new.process k (c.go_on.ensures.stack e.l e.ls e.operands it.stack) in
+    let fresh : stack_of (record c.args.process { levels = c.add_level.new.levels }) ≡ record { levels = entered_level program u key ∷ []; operands = [] } =
+    λ i. record { levels = (ap reverse (c.add_level.ensures ∙ ap (λ (xs : List Level). xs ++ record { key = key; unit = u; index = c.args.called.entry } ∷ []) c.requires.empty.0) ∙ (λ j. record { key = key; unit = u; index = unit.entry_is j } ∷ [])) i; operands = c.requires.empty.1 i } in
+    let all_stacks = ap (map stack_of) c.add_process.ensures ∙ (map-append stack_of (slice_set old.processes.items (p - 1) c.go_on.new.process) (record c.args.process { levels = c.add_level.new.levels } ∷ []) ∙ (λ i. stacks i ++ fresh i ∷ [])) in
+    subst (HasStepped program cells choices p) (λ i. record (snapshot_created program m p e.l e.ls u key c.args.index arena nodes) { processes = sym all_stacks i }) (
+    created-shown program cells choices m p e.l e.ls e.operands e.top u e.b h key c.args.index arena nodes entered e.after)

@@ -1,0 +1,36 @@
+use Rattle.std.proofs.Common.{◌≡◌, drop, length, sym, ap, ◌∙◌, subst, arith}
+use Rattle.std.specs.Prelude.{vec_len, vec_capacity}
+use Rattle.hep_code.specs.Ahead.{values_ahead}
+use Rattle.hep_step.specs.Simulation.{unit_code}
+use Rattle.hep_state.specs.declared.machine.Level.{Level}
+use Rattle.hep_state.specs.Taking.{stack_with}
+use Rattle.hep_state.proofs.Advanced.{settled-here}
+use Rattle.hep_state.proofs.Stacked.{operands-are, some-levels}
+use Rattle.hep_state.proofs.machine.Process.settle.Goals as goal
+
+pub top-index-requires : goal.top-index-requires
+top-index-requires c = let r = c.requires in some-levels c.args.self.now r.0 r.1 r.2 r.3
+
+pub settle-requires : goal.settle-requires
+settle-requires c =
+    let r = c.requires in
+    let q = c.args.self.now in
+    let same = c.top-index.ensures r.0 r.1 r.2 r.3 in
+    let ahead = ap (λ (l : Level). values_ahead (drop l.index c.args.code.now)) same in
+    let count = q.operands.ok.0 ∙ ap length (operands-are q r.0 r.1 r.2 r.3) in
+    omega (arith, ahead, count, r.4)
+
+pub stand_at-requires : goal.stand_at-requires
+stand_at-requires c = let r = c.requires in some-levels c.args.self.now r.0 r.1 r.2 r.3
+
+pub returns-clause-settled : goal.returns-clause-settled
+returns-clause-settled c program l ls operands code is =
+    let q = c.args.self.now in
+    let same = c.top-index.ensures l ls operands is in
+    let settled = c.settle.new.operands.items in
+    let index = c.settle.new.index in (
+      index,
+      settled,
+      c.stand_at.ensures.stack l ls settled (λ i. record { levels = (is i).levels; operands = settled }),
+      settled-here program c.top-index.result l q.operands.items operands settled index c.args.code.now (code ∙ ap (λ (m : Level). unit_code program m.unit) (sym same)) same (operands-are q l ls operands is) c.settle.ensures.settled c.settle.ensures.stands,
+    )

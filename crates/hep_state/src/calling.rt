@@ -1,0 +1,157 @@
+//! CALL and CREATE: an activation that begins, with its frame (X3.9-1978, 15.6.2).
+ghost use Rattle.std.specs.Prelude.{◌≡◌, ◌<◌, ◌≤◌, ◌+◌, ◌*◌, ◌-◌, ◌^◌, ◌++◌, ◌∷◌, ℕ, List, [], Some, IsSome, length, slice_get, vec_len, vec_capacity};
+ghost use Rattle.slab.specs.Slab.{HasRoomFor};
+ghost use Rattle.hep_source.specs.declared.value.Value.{Value as OperandValue};
+ghost use Rattle.hep_source.specs.Units.{Units};
+ghost use Rattle.hep_arena.specs.Holes.{first_fit};
+ghost use Rattle.hep_state.specs.declared.machine.Level.{Level as ALevel};
+ghost use Rattle.hep_state.specs.declared.machine.Process.{Process as AProcess};
+ghost use Rattle.hep_state.specs.Snapshots.{snapshot_of, stack_of};
+ghost use Rattle.hep_state.specs.Taking.{stack_with};
+ghost use Rattle.hep_state.specs.Turns.{HasStepped};
+ghost use Rattle.hep_state.specs.Calls.{IsCalling, IsCreating, IsUnit};
+ghost use Rattle.hep_state.specs.Rooms.{HasRoomAt, HaveRoom};
+
+use crate::machine::{Level, Machine, Process};
+use hep_entering::begin;
+use hep_passing::Given;
+
+/// A unit that is called: its index in the program, how many cells its frame has, and where its first executable statement is in its
+/// code.
+#[derive(Clone, Copy, Debug)]
+pub struct Called {
+    pub unit: u32,
+    pub cells: u32,
+    pub entry: usize,
+}
+
+// The key of the node of its top activation.
+fn top_key(process: &Process) -> usize
+    requires { 0 < vec_len process.now.levels }
+    ensures { (l : ALevel) (ls : List ALevel) (operands : List OperandValue) → stack_of process.now ≡ stack_with l ls operands → result ≡ l.key }
+{
+    process.levels[process.levels.len() - 1].key
+}
+
+// Appends a level, for which there is room.
+fn add_level(levels: &mut Vec<Level>, added: Level)
+    requires { vec_len levels.old < vec_capacity levels.old }
+    ensures { levels.new.items ≡ levels.old.items ++ added ∷ [] }
+{
+    let _ = levels.push(added);
+}
+
+// Its top activation is to go on at an index.
+fn go_on(process: &mut Process, index: usize)
+    requires { 0 < vec_len process.old.levels }
+    ensures stack { (l : ALevel) (ls : List ALevel) (operands : List OperandValue) → stack_of process.old ≡ stack_with l ls operands → stack_of process.new ≡ stack_with (record l { index = index }) ls [] }
+    ensures count { vec_len process.new.levels ≡ vec_len process.old.levels }
+    ensures capacity { vec_capacity process.new.levels ≡ vec_capacity process.old.levels }
+    ensures operands { vec_capacity process.new.operands ≡ vec_capacity process.old.operands }
+{
+    let top = process.levels.len() - 1;
+    process.levels[top].index = index;
+    process.operands.clear();
+}
+
+// Its top activation is to go on at an index, and a new one is above it.
+fn put_above(process: &mut Process, index: usize, level: Level)
+    requires some { 0 < vec_len process.old.levels }
+    requires room { vec_len process.old.levels < vec_capacity process.old.levels }
+    ensures stack { (l : ALevel) (ls : List ALevel) (operands : List OperandValue) → stack_of process.old ≡ stack_with l ls operands → stack_of process.new ≡ record { levels = level ∷ (record l { index = index } ∷ ls); operands = [] } }
+    ensures operands { vec_capacity process.new.operands ≡ vec_capacity process.old.operands }
+{
+    go_on(process, index);
+    add_level(&mut process.levels, level);
+}
+
+// Appends a process, for which there is room.
+fn add_process(processes: &mut Vec<Process>, added: Process)
+    requires { vec_len processes.old < vec_capacity processes.old }
+    ensures { processes.new.items ≡ processes.old.items ++ added ∷ [] }
+{
+    let _ = processes.push(added);
+}
+
+impl Machine {
+    // Process p calls a unit that has no adjustable arrays, with what is given, and goes on at an index once this ends: the unit's
+    // activation has its frame, with what is given to its dummy arguments, and is on top.
+    //
+    // There is a gap for the frame, and room for its node and for a level more, and for the unit's operands.
+    pub(crate) fn call(&mut self, p: u64, called: Called, index: usize)
+        requires calling { (program : Units) × (cells : ℕ) × (choices : List ℕ) × IsCalling program cells choices p (snapshot_of self.old) called.unit index self.old.given.items × IsUnit program called.unit called.cells called.entry }
+        requires few { length self.old.frames.arena.contents ≤ 16777216 }
+        requires countable { self.old.activations + 1 < 2 ^ 64 }
+        requires gap { IsSome (first_fit called.cells self.old.frames.arena.holes) }
+        requires node { HasRoomFor self.old.frames.nodes 1 }
+        requires level { (q : AProcess) → slice_get self.old.processes.items (p - 1) ≡ Some q → vec_len q.levels < vec_capacity q.levels }
+        ensures stepped { (program : Units) (cells : ℕ) (choices : List ℕ) → IsCalling program cells choices p (snapshot_of self.old) called.unit index self.old.given.items → IsUnit program called.unit called.cells called.entry → HasStepped program cells choices p (snapshot_of self.new) }
+        ensures rooms { (program : Units) (cells : ℕ) → HaveRoom program cells self.old → HasRoomAt program p called.unit self.old → HaveRoom program cells self.new }
+        ensures processes { length self.new.processes.items ≡ length self.old.processes.items }
+    {
+        hep_proc::laws::children_are_activations();
+        hep_entering::laws::other_cells_are_unset();
+        hep_entering::laws::references_are_kept();
+        let place = (p - 1) as usize;
+        let activation = self.activations + 1;
+        let parent = top_key(&self.processes[place]);
+        let Called { unit, cells, entry } = called;
+        let key = begin(
+            &mut self.frames,
+            activation,
+            unit,
+            cells,
+            parent,
+            &self.given,
+        );
+        let level = Level {
+            key,
+            unit,
+            index: entry,
+        };
+        put_above(&mut self.processes[place], index, level);
+        self.activations = activation;
+    }
+
+    /// Process p makes a process of a unit that has no adjustable arrays, and goes on at an index: the unit's activation has its
+    /// frame, with what is given to its dummy arguments, and is the one level of the process, which was empty.
+    ///
+    /// There is a gap for the frame, and room for its node, for the process and for its level.
+    pub fn create(
+        &mut self,
+        p: u64,
+        called: Called,
+        index: usize,
+        given: &[Given],
+        mut process: Process,
+    )
+        requires creating { (program : Units) × (cells : ℕ) × (choices : List ℕ) × IsCreating program cells choices p (snapshot_of self.old) called.unit index given.now × IsUnit program called.unit called.cells called.entry }
+        requires few { length self.old.frames.arena.contents ≤ 16777216 }
+        requires countable { self.old.activations + 1 < 2 ^ 64 }
+        requires gap { IsSome (first_fit called.cells self.old.frames.arena.holes) }
+        requires node { HasRoomFor self.old.frames.nodes 1 }
+        requires empty { (process.levels.items ≡ []) × (process.operands.items ≡ []) }
+        requires level { vec_len process.levels < vec_capacity process.levels }
+        requires process { vec_len self.old.processes < vec_capacity self.old.processes }
+        ensures stepped { (program : Units) (cells : ℕ) (choices : List ℕ) → IsCreating program cells choices p (snapshot_of self.old) called.unit index given.now → IsUnit program called.unit called.cells called.entry → HasStepped program cells choices p (snapshot_of self.new) }
+        ensures processes { length self.new.processes.items ≡ length self.old.processes.items + 1 }
+    {
+        hep_proc::laws::children_are_activations();
+        hep_entering::laws::other_cells_are_unset();
+        hep_entering::laws::references_are_kept();
+        let place = (p - 1) as usize;
+        let activation = self.activations + 1;
+        let parent = top_key(&self.processes[place]);
+        let Called { unit, cells, entry } = called;
+        let key = begin(&mut self.frames, activation, unit, cells, parent, given);
+        let level = Level {
+            key,
+            unit,
+            index: entry,
+        };
+        go_on(&mut self.processes[place], index);
+        add_level(&mut process.levels, level);
+        add_process(&mut self.processes, process);
+        self.activations = activation;
+    }
+}

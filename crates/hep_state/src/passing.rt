@@ -1,0 +1,113 @@
+//! A CALL that stands ahead of a process: what it calls, and what its actual arguments give (X3.9-1978, 15.6.2 and 15.9.3).
+ghost use Rattle.std.specs.Prelude.{◌≡◌, ◌≤◌, ◌∷◌, ℕ, List, false, true, MatchOption, IfOk, IfErr, OnOk, OnErr, drop, length};
+ghost use Rattle.hep_code.specs.declared.instruction.Instruction.{Instruction as AnInstruction};
+ghost use Rattle.hep_code.specs.declared.instruction.Instruction.TheVariants.{Step};
+ghost use Rattle.hep_code.specs.declared.instruction.Operation.TheVariants.{Call};
+ghost use Rattle.hep_step.specs.Effects.{fails};
+ghost use Rattle.hep_state.specs.Calls.{IsCalling};
+ghost use Rattle.hep_state.specs.CallsAhead.{HasNoCall, IsAtCall, IsWithoutCall};
+ghost use Rattle.hep_state.specs.Rooms.{HaveRoom, IsMachineAfter};
+ghost use Rattle.hep_state.specs.Snapshots.{snapshot_of};
+ghost use Rattle.hep_state.specs.Taking.{HasLevels, IsEnding, IsSeenSame};
+
+use crate::laws;
+use crate::machine::{Level, Machine};
+use hep_code::operands::settle;
+use hep_code::{Instruction, Operation};
+use hep_image::Image;
+use hep_machine::Kind;
+use hep_passing::{give_actuals, shapes_fit};
+use hep_reply::Frame;
+
+/// A CALL that stands ahead of a process.
+#[derive(Clone, Copy, Debug)]
+pub struct CallAhead {
+    /// The initial line of its statement.
+    pub line: u32,
+    /// The index in the program of the unit that it calls.
+    pub unit: u32,
+    /// How many actual arguments it has.
+    pub count: u32,
+    /// The index in the code at which its caller goes on.
+    pub next: u32,
+}
+
+// The CALL at an index of a unit's code, if one stands there.
+fn call_at(code: &[Instruction], index: usize) -> Option<CallAhead>
+    ensures { MatchOption result (HasNoCall (drop index code.now)) (λ call. (behind : List AnInstruction) × (drop index code.now ≡ Step call.line (Call call.unit call.count call.next) ∷ behind)) }
+{
+    match code.get(index) {
+        Some(
+            Instruction::Step {
+                line,
+                operation: Operation::Call { unit, count, next },
+            },
+        ) => Some(CallAhead {
+            line: *line,
+            unit: *unit,
+            count: *count,
+            next: *next,
+        }),
+        _ => None,
+    }
+}
+
+impl Machine {
+    // The CALL that stands ahead of process p, if one does, once the values in front of it are operands.
+    pub(crate) fn call_ahead(&mut self, image: &Image, p: u64) -> Option<CallAhead>
+        requires after { (cells : ℕ) × (choices : List ℕ) × IsMachineAfter image.now cells choices self.old }
+        requires running { self.old.halted ≡ false }
+        requires living { HasLevels (snapshot_of self.old) p }
+        ensures call { MatchOption result (IsWithoutCall image.now p (snapshot_of self.new)) (λ call. (cells : ℕ) (choices : List ℕ) → IsMachineAfter image.now cells choices self.old → IsAtCall image.now cells choices p (snapshot_of self.new) call) }
+        ensures after { (cells : ℕ) (choices : List ℕ) → IsMachineAfter image.now cells choices self.old → IsMachineAfter image.now cells choices self.new }
+        ensures same { IsSeenSame (snapshot_of self.old) (snapshot_of self.new) }
+        ensures living { HasLevels (snapshot_of self.new) p }
+    {
+        image.is_runnable();
+        laws::supported_programs_call_alone();
+        let process = &mut self.processes[(p - 1) as usize];
+        let Level { unit, .. } = process.top();
+        let code = image.unit(unit as usize).code.as_slice();
+        process.settle(code);
+        call_at(code, process.top().index)
+    }
+
+    // What the actual arguments of the CALL ahead of process p give.
+    //
+    // Fails with Range where one of them is no element, and with Shape where a dummy argument has more elements than it is given.
+    // Nothing but `given` changes.
+    pub(crate) fn give(&mut self, image: &Image, p: u64, call: CallAhead) -> Result<(), Kind>
+        requires at { (cells : ℕ) × (choices : List ℕ) × IsMachineAfter image.now cells choices self.old × IsAtCall image.now cells choices p (snapshot_of self.old) call }
+        ensures given { OnOk result ((cells : ℕ) (choices : List ℕ) → IsMachineAfter image.now cells choices self.old → IsAtCall image.now cells choices p (snapshot_of self.old) call → IsCalling image.now cells choices p (snapshot_of self.old) call.unit call.next self.new.given.items) }
+        ensures fault { IfErr result (λ kind. (cells : ℕ) (choices : List ℕ) → IsMachineAfter image.now cells choices self.old → IsAtCall image.now cells choices p (snapshot_of self.old) call → IsEnding image.now cells choices p (snapshot_of self.old) (fails call.line kind)) }
+        ensures others { self.new ≡ record self.old { given = self.new.given } }
+        ensures rooms { (cells : ℕ) → HaveRoom image.now cells self.old → HaveRoom image.now cells self.new }
+    {
+        image.is_runnable();
+        laws::calls_can_be_made();
+        laws::calls_give_what_is_bound();
+        laws::supported_programs_call_alone();
+        let process = &self.processes[(p - 1) as usize];
+        let Level { key, unit, index } = process.top();
+        let caller = image.unit(unit as usize);
+        let frame = Frame {
+            first: self.frames.first(key),
+            cells: self.frames.cells(key),
+        };
+        give_actuals(
+            &caller.code.as_slice()[index + 1..],
+            call.count as usize,
+            &process.operands,
+            caller.arrays.as_slice(),
+            &self.frames.arena,
+            frame,
+            &mut self.given,
+        )?;
+        let called = image.unit(call.unit as usize);
+        if shapes_fit(called.arrays.as_slice(), &self.given) {
+            Ok(())
+        } else {
+            Err(Kind::Shape)
+        }
+    }
+}

@@ -1,0 +1,614 @@
+"""Random programs of two to five units, each by a seed.
+
+Before any unit is made it is drawn what the others see of it: the dummy arguments of the subroutines, and the common
+blocks. A careful program gives each dummy array as many elements as it wants and each variable a value; the others pass
+elements that aren't there, arrays that are too short and bounds that are none. The calls end: a subroutine calls those
+behind it in an order, and the recursive ones call each other only while a dummy argument counts down.
+"""
+import itertools
+from dataclasses import dataclass, field
+
+from programs import GREATEST, MOST, Draws, Line, Maker, Variable, truth
+
+
+@dataclass(eq=False)
+class Dummy:
+    """A dummy argument, as it is planned. An array has the bounds that callers count on; each upper one is given by a
+    constant, by a star, by another dummy argument or by a variable of COMMON. `wanted` is what the value of such a dummy
+    argument is then, and None of all others."""
+
+    logical: bool = False
+    bounds: list = field(default_factory=list)
+    uppers: list = field(default_factory=list)
+    wanted: int | None = None
+    counts_down: bool = False
+
+    def grows_by(self, bound):
+        """Whether the array is longer by one row of its last dimension where this bound is one more, and by no other."""
+        return self.uppers.count(bound) == 1 and self.uppers[-1] is bound
+
+    def size(self, more):
+        """How many elements it needs, where the bounds are more than what is wanted by as much as is said."""
+        count = 1
+        for (lower, upper), given in zip(self.bounds, self.uppers):
+            count *= upper - lower + 1 + more.get(given, 0)
+        return count
+
+
+@dataclass(eq=False)
+class Subroutine:
+    """A subroutine as it is planned: which ones it calls, and whether those that call themselves are among them."""
+
+    name: str
+    dummies: list
+    place: int
+    is_recursive: bool
+    is_called: bool = False
+
+
+@dataclass(eq=False)
+class Block:
+    """A common block: which of its positions are logical, one that bounds may have, with its value, and how many the main
+    program names."""
+
+    name: str
+    logicals: list
+    bound_at: int | None = None
+    bound: int = 0
+    known: int = 0
+
+
+class Plan(Draws):
+    """What the units of a program know of each other."""
+
+    def __init__(self, seed):
+        super().__init__(f"{seed} plan")
+        self.main = self.name() if self.chance(0.5) else None
+        self.blocks = [self.block(name) for name in self.block_names()]
+        self.subroutines = self.planned()
+        self.breaks = self.chance(0.05)
+
+    def unit_names(self):
+        return {subroutine.name for subroutine in self.subroutines} | {self.main}
+
+    # COMMON.
+
+    def block_names(self):
+        names = [self.name() for _ in range(self.pick([0, 1, 1, 2]))]
+        return names + [""] * self.chance(0.5)
+
+    def block(self, name):
+        """Positions of one type stand beside each other, mostly."""
+        logicals = []
+        for _ in range(self.number(1, 3)):
+            logicals += [self.chance(0.3)] * self.number(1, 4)
+        block = Block(name, logicals)
+        if self.chance(0.4):
+            block.bound_at, block.bound = self.number(0, len(logicals) - 1), self.number(1, 3)
+            logicals[block.bound_at] = False
+        # (a named block has one length)
+        least = 1 if block.bound_at is None else block.bound_at + 1
+        block.known = self.number(least, len(logicals)) if not name and self.chance(0.5) else len(logicals)
+        return block
+
+    def bounded_blocks(self):
+        return [block for block in self.blocks if block.bound_at is not None]
+
+    # Subroutines.
+
+    def planned(self):
+        """First those that call all others, then those that call themselves, then those that these call."""
+        kinds = sorted(self.pick([0, 0, 1, 1, 2]) for _ in range(self.pick([1, 1, 2, 2, 3, 4])))
+        return [Subroutine(self.name(), self.dummies(kind == 1), at, kind == 1) for at, kind in enumerate(kinds)]
+
+    def dummies(self, is_recursive):
+        found = [Dummy(counts_down=True)] if is_recursive else []
+        for _ in range(self.pick([0, 1, 1, 2, 2, 3, 4])):
+            if self.chance(0.45):
+                found += self.array()
+            else:
+                found.append(Dummy(self.chance(0.25)))
+        self.random.shuffle(found)
+        return found
+
+    def array(self):
+        """A dummy array, with the dummy arguments that its bounds have."""
+        array, bounds = Dummy(self.chance(0.2)), []
+        for _ in range(self.pick([1, 1, 1, 1, 2, 2, 3])):
+            lower = self.pick([1, 1, 1, 1, 0, -2, 3])
+            array.bounds.append((lower, lower + self.number(0, 2 if array.bounds else 3)))
+            array.uppers.append("constant")
+        if self.chance(0.35):
+            at = self.number(0, len(array.uppers) - 1)
+            array.uppers[at] = self.adjustable(array.bounds, at)
+            bounds = [bound for bound in array.uppers if isinstance(bound, Dummy)]
+        if self.chance(0.35):
+            array.uppers[-1] = "star"
+        return [array, *bounds]
+
+    def adjustable(self, bounds, at):
+        """By what an upper bound is given: a position in COMMON, whose value the bound is then, or a dummy argument."""
+        blocks = self.bounded_blocks()
+        if blocks and self.chance(0.4):
+            block = self.pick(blocks)
+            bounds[at] = (min(bounds[at][0], block.bound), block.bound)
+            return block
+        return Dummy(wanted=bounds[at][1] + self.pick([0, 0, 0, -1, 2]))
+
+    # Which ones a unit may call; None is the main program.
+
+    def callees(self, caller):
+        """Those that are called under no condition."""
+        if caller is None:
+            return self.subroutines
+        behind = self.subroutines[caller.place + 1 :]
+        return [other for other in behind if not other.is_recursive] if caller.is_recursive else behind
+
+    def recursive_callees(self, caller):
+        """Those that are called as often as a dummy argument counts down to zero."""
+        return [other for other in self.subroutines if other.is_recursive] if caller and caller.is_recursive else []
+
+
+@dataclass
+class Held(Variable):
+    """A variable that isn't the unit's own: a dummy argument or one of COMMON; and whether it begins with a value."""
+
+    block: str | None = None
+    has_value: bool = True
+
+
+class UnitMaker(Maker):
+    """The statements of one unit of a plan."""
+
+    def __init__(self, seed, plan, subroutine=None):
+        super().__init__(f"{seed} {subroutine.name if subroutine else 'main program'}")
+        self.plan = plan
+        self.subroutine = subroutine
+        self.risk = plan.risk
+        self.names |= plan.unit_names()
+        # Names of units that this one doesn't call, which variables may have.
+        called = {other.name for other in [*plan.callees(subroutine), *plan.recursive_callees(subroutine)]}
+        self.free_units = sorted(plan.unit_names() - called - {None, subroutine.name if subroutine else plan.main})
+        self.variables_of = {}
+        self.bounds_of_blocks = {}
+        # Variables that are read and that nothing stores in: others count on their values.
+        self.fixed = []
+        self.calls_left = self.number(2, 5)
+        self.declared = 0
+
+    def name_of_variable(self):
+        return self.free_units.pop() if self.free_units and self.chance(0.05) else super().name_of_variable()
+
+    # What is declared. All texts that stand before the first executable statement are counted.
+
+    def implicit(self):
+        return self.counted(super().implicit())
+
+    def parameters(self):
+        return self.counted(super().parameters())
+
+    def counted(self, texts):
+        self.declared += len(texts)
+        return texts
+
+    def specifications(self):
+        return self.counted(super().specifications())
+
+    def declare_variables(self):
+        """The unit's own variables, then its dummy arguments, then the positions of each block in their order."""
+        own = super().declare_variables()
+        if self.subroutine:
+            # (DATA alone gives values to an array of seven dimensions)
+            self.arrays = [array for array in self.arrays if len(array.bounds) < 7]
+            own = [variable for variable in own if len(variable.bounds) < 7]
+        held = self.declare_dummies() + [variable for block in self.blocks_used() for variable in self.positions(block)]
+        own = self.lend_turn(own, held) + self.arrays_to_pass()
+        self.shape_dummies()
+        return own + held
+
+    def arrays_to_pass(self):
+        """Arrays that are long enough for those that are called, mostly, and some of any length."""
+        wanted = [(self.chance(0.2), self.number(4, 12)) for _ in range(self.pick([0, 0, 1]))]
+        for other in self.plan.callees(self.subroutine) + self.plan.recursive_callees(self.subroutine):
+            wanted += [(dummy.logical, dummy.size({}) + self.number(0, 3)) for dummy in other.dummies if dummy.bounds]
+        found = []
+        for logical, size in wanted:
+            is_there = any(array.logical == logical and array.size() >= size for array in self.arrays)
+            if not is_there and size > 1 and self.chance(0.7):
+                array = Variable(self.name(), logical)
+                self.divide(array, size)
+                self.arrays.append(array)
+                found.append(array)
+        return found
+
+    def divide(self, array, size):
+        """Gives an array one dimension of this size, or two."""
+        extents = [size]
+        if size % 2 == 0 and self.chance(0.3):
+            extents = self.pick([[2, size // 2], [size // 2, 2]])
+        texts = []
+        for extent in extents:
+            lower = self.pick([1, 1, 1, 0, -1])
+            array.bounds.append((lower, lower + extent - 1))
+            upper = self.constant_text(lower + extent - 1)
+            texts.append(upper if lower == 1 else f"{lower}:{upper}")
+        array.bounds_text = f"({','.join(texts)})"
+
+    def hold(self, variable):
+        """Makes a variable one of those that expressions and assignments have."""
+        lists = [(self.arrays, bool(variable.bounds)), (self.truths, variable.logical), (self.scalars, True)]
+        next(variables for variables, fits in lists if fits).append(variable)
+
+    def declare_dummies(self):
+        held = []
+        for dummy in self.subroutine.dummies if self.subroutine else []:
+            variable = Held(self.name_of_variable(), dummy.logical, list(dummy.bounds))
+            self.variables_of[dummy] = variable
+            held.append(variable)
+            if dummy.counts_down or dummy.wanted is not None and self.chance(0.6):
+                self.fixed.append(variable)
+            else:
+                self.hold(variable)
+        return held
+
+    def shape_dummies(self):
+        """Writes the bounds of dummy arrays, once the names that stand in them are there."""
+        for dummy, variable in self.variables_of.items():
+            if dummy.bounds:
+                texts = [self.bound_text(lower, upper, given) for (lower, upper), given in zip(dummy.bounds, dummy.uppers)]
+                variable.bounds_text = f"({','.join(texts)})"
+
+    def bound_text(self, lower, upper, given):
+        match given:
+            case "constant":
+                text = self.constant_text(upper)
+            case "star":
+                text = "*"
+            case Dummy():
+                text = self.moved(self.variables_of[given].name, upper - given.wanted)
+            case Block():
+                text = self.moved(self.bounds_of_blocks[given].name, upper - given.bound)
+        return text if lower == 1 and self.chance(0.7) else f"{lower}:{text}"
+
+    def moved(self, name, difference):
+        """An expression of a name that is more or less than it by this."""
+        return f"{name}{difference:+d}" if difference else self.pick([name, name, f"({name})", f"2*{name}-{name}"])
+
+    # COMMON.
+
+    def blocks_used(self):
+        """The blocks that a unit names: those that it needs, and some of the others; the main program mostly names all."""
+        needed = {upper for dummy in self.variables_of for upper in dummy.uppers if isinstance(upper, Block)}
+        share = 0.5 if self.subroutine else 1
+        blocks = [block for block in self.plan.blocks if block in needed or self.chance(share) and not self.is_risky()]
+        self.random.shuffle(blocks)
+        return blocks
+
+    def length(self, block):
+        """How many positions of a block the unit names."""
+        if not self.subroutine:
+            return block.known
+        least = 1 if block.bound_at is None else block.bound_at + 1
+        return len(block.logicals) if block.name or self.chance(0.5) else self.number(least, len(block.logicals))
+
+    def positions(self, block):
+        """Variables for the positions of a block; one whose value bounds need has a variable of its own."""
+        found, at, end = [], 0, self.length(block)
+        while at < end:
+            run = at + 1
+            while run < end and block.logicals[run] == block.logicals[at] and block.bound_at not in (at, run):
+                run += 1
+            variable = Held(self.name(), block.logicals[at], block=block.name)
+            size = self.number(2, run - at) if run - at > 1 and self.chance(0.5) else 1
+            if size > 1:
+                self.divide(variable, size)
+            variable.has_value = bool(self.subroutine) and at + size <= block.known
+            if at == block.bound_at:
+                self.bounds_of_blocks[block] = variable
+                self.fixed.append(variable)
+            else:
+                self.hold(variable)
+            found.append(variable)
+            at += size
+        return found
+
+    def goes_to_common(self, variable):
+        return isinstance(variable, Held) and variable.block is not None
+
+    def block_of(self, variable):
+        return variable.block
+
+    def lend_turn(self, own, held):
+        """Sometimes a dummy argument or a variable of COMMON is the variable of DOs. Gives what is left of the others."""
+        free = [variable for variable in held if any(variable is scalar for scalar in self.scalars)]
+        if not free or self.chance(0.7):
+            return own
+        turn, lent = self.turns[0], self.pick(free)
+        self.turns[0] = lent
+        self.scalars = [variable for variable in self.scalars if variable is not lent]
+        return [variable for variable in own if variable is not turn]
+
+    # How the unit begins.
+
+    def data(self):
+        return [] if self.subroutine else super().data()
+
+    def gets_value(self, variable):
+        if isinstance(variable, Held) and variable.has_value:
+            return self.chance(0.1)
+        return super().gets_value(variable)
+
+    def opening(self):
+        """Values, first those that bounds need; then the first calls."""
+        lines = []
+        if not self.subroutine:
+            needed = [(variable, block.bound) for block, variable in self.bounds_of_blocks.items()]
+            lines = [Line(f"{variable.name}={self.constant_text(value)}") for variable, value in needed if not self.is_risky()]
+        lines += super().opening()
+        if self.plan.recursive_callees(self.subroutine) and self.chance(0.7):
+            lines += self.recursion()
+        for other in self.plan.callees(self.subroutine):
+            if self.chance(0.4 if other.is_called else 0.8):
+                lines += self.calling(other)
+        return lines
+
+    def number_of_parts(self):
+        return self.number(0, 5) if self.subroutine else self.number(2, 8)
+
+    # Calls.
+
+    def primary(self, depth):
+        return self.pick(self.fixed).name if self.fixed and self.chance(0.06) else super().primary(depth)
+
+    def value_passed(self, dummy):
+        """An actual argument for a scalar: an expression, or a variable or element by its place."""
+        logical = dummy.logical
+        arrays = [array for array in self.arrays if array.logical == logical]
+        variables = self.truths if logical else [*self.scalars, *self.active, *self.turns[:1]]
+        kinds = ["expression"] * 4 + ["variable"] * 6 * bool(variables) + ["element"] * 4 * bool(arrays)
+        given = self.truths_given() if logical else self.integers_given()
+        match self.pick(kinds + ["given"] * bool(given)):
+            case "variable":
+                name = self.pick(variables).name
+                return f"({name})" if self.chance(0.2) else name
+            case "element":
+                element = self.element(self.pick(arrays), 1)
+                return f"({element})" if self.chance(0.15) else element
+            case "given":
+                return self.pick(given).name
+        if logical:
+            return self.pick([truth(self.chance(0.5)), self.logical(1)])
+        return self.pick([self.constant(), f"-{self.number(1, 9)}", self.sum(1), self.small()])
+
+    def array_passed(self, size, logical):
+        """An array that has so many elements left from its first one on, or from one that is named; None where there is no
+        such array. What is risked is risked more often than elsewhere, since it is rare among all that may fault."""
+        is_risked = self.chance(3 * self.risk)
+        arrays = [array for array in self.arrays if array.logical == logical and (array.size() >= size or is_risked)]
+        if not arrays:
+            return None
+        array = self.pick(arrays)
+        offset = self.number(0, array.size() if is_risked else array.size() - size)
+        if offset == 0 and self.chance(0.7):
+            return array.name
+        subscripts = []
+        for at, (lower, upper) in enumerate(array.bounds, 1):
+            extent = upper - lower + 1
+            subscripts.append(lower + (offset if at == len(array.bounds) else offset % extent))
+            offset //= extent
+        return f"{array.name}({','.join(self.subscript(value, value, 1) for value in subscripts)})"
+
+    def bound_passed(self, value, before):
+        """The value of a bound, as an expression of constants, or in a variable that gets it before."""
+        if self.is_risky():
+            value = self.pick([value - 1, value + 1, 0, -2, GREATEST])
+        free = [variable.name for variable in self.scalars if not any(variable.name == line.text.partition("=")[0] for line in before or ())]
+        if before is None or not free or self.chance(0.6) or value > 99:
+            return str(value) if value > 99 else self.pick([self.constant_text(value), str(value), f"({value})"])
+        name = self.pick(free)
+        before.append(Line(f"{name}={value}"))
+        return name
+
+    def passed(self, other, count, before=None):
+        """Actual arguments for a subroutine; None where no array fits. What has to be done before them is added."""
+        more = {dummy: self.pick([0, 0, 1, 2]) for dummy in other.dummies if dummy.wanted is not None and self.may_grow(other, dummy)}
+        found, scalars = [], []
+        for dummy in other.dummies:
+            if dummy.counts_down:
+                found.append(count)
+            elif dummy.wanted is not None:
+                found.append(self.bound_passed(dummy.wanted + more.get(dummy, 0), before))
+            elif dummy.bounds:
+                found.append(self.array_passed(dummy.size(more), dummy.logical))
+            else:
+                found.append(self.scalar_passed(dummy, scalars))
+        return None if None in found else found
+
+    def scalar_passed(self, dummy, before):
+        """An actual argument for a scalar, which may be one that stands before it too."""
+        texts = [text for logical, text in before if logical == dummy.logical]
+        text = self.pick(texts) if texts and self.chance(0.2) else self.value_passed(dummy)
+        before.append((dummy.logical, text))
+        return text
+
+    def may_grow(self, other, bound):
+        return all(dummy.grows_by(bound) for dummy in other.dummies if bound in dummy.uppers)
+
+    def call_text(self, other, passed):
+        other.is_called = True
+        empty = "()" if self.chance(0.3) else ""
+        return f"CALL {other.name}({','.join(passed)})" if passed else f"CALL {other.name}{empty}"
+
+    def times(self):
+        """How often a recursive subroutine calls itself or another one."""
+        if self.is_risky():
+            return self.pick(["1000", self.sum(1)])
+        return str(self.number(0, 3))
+
+    def calling(self, other):
+        """A CALL, perhaps with assignments before it."""
+        before = []
+        passed = self.passed(other, self.times(), before)
+        return [] if passed is None else [*before, Line(self.call_text(other, passed), self.label() if self.chance(0.05) else None)]
+
+    def one_call(self):
+        """A CALL as one statement, if there is one to make."""
+        callees = self.plan.callees(self.subroutine)
+        if not callees or self.calls_left <= 0:
+            return None
+        other = self.pick(callees)
+        passed = self.passed(other, self.times())
+        if passed is None:
+            return None
+        # (a call in loops is made often)
+        self.calls_left -= 1 + len(self.active)
+        return self.call_text(other, passed)
+
+    def recursion(self):
+        """A CALL under the condition that the dummy argument which counts down is above zero."""
+        other = self.pick(self.plan.recursive_callees(self.subroutine))
+        count = next(self.variables_of[dummy].name for dummy in self.subroutine.dummies if dummy.counts_down)
+        before = []
+        passed = self.passed(other, f"{count}-1", before)
+        if passed is None:
+            return []
+        text = self.call_text(other, passed)
+        if self.is_risky():
+            return [*before, Line(text)]
+        if before or self.chance(0.4):
+            return [Line(f"IF ({count}.GT.0) THEN"), *before, Line(text), Line("END IF")]
+        return [Line(f"IF ({count}.LE.0) RETURN"), Line(text)] if self.chance(0.3) else [Line(f"IF ({count}.GT.0) {text}")]
+
+    # Statements with calls.
+
+    def simple(self, targets):
+        call = self.one_call() if self.chance(0.1) else None
+        return call or super().simple(targets)
+
+    def conditional(self, targets):
+        call = self.one_call() if self.chance(0.15) else None
+        if self.subroutine and self.chance(0.06):
+            call = "RETURN"
+        return f"IF ({self.logical()}) {call}" if call else super().conditional(targets)
+
+    def part(self, depth, targets):
+        if self.chance(0.12) and self.calls_left > 0 and len(self.active) < 2:
+            callees = self.plan.callees(self.subroutine)
+            if callees:
+                self.calls_left -= 1 + len(self.active)
+                return self.calling(self.pick(callees)) or [Line("CONTINUE")]
+        if depth == 3 and not self.active and self.plan.recursive_callees(self.subroutine) and self.calls_left > 0 and self.chance(0.15):
+            self.calls_left -= 2
+            return self.recursion() or [Line("CONTINUE")]
+        if self.chance(0.01):
+            return [Line("RETURN" if self.subroutine else "STOP")]
+        return super().part(depth, targets)
+
+    # Rules that are broken.
+
+    def breach(self):
+        """Half of the breaches are those of a unit by itself, the others are of calls."""
+        choices = self.breaches_of_calls()
+        # (a breach by itself may call the first scalar, which mustn't be a unit)
+        self.scalars.sort(key=lambda variable: variable.name in self.plan.unit_names())
+        if not choices or self.chance(0.5):
+            return super().breach()
+        text, refusal = self.pick(choices)
+        return [Line(text, None, refusal)]
+
+    def breaches_of_calls(self):
+        found = []
+        variables = [variable.name for variable in [*self.scalars, *self.truths, *self.arrays]]
+        for other in self.plan.subroutines:
+            if other.name in variables:
+                continue
+            count = len(other.dummies)
+            for wrong in {count + 1, max(count - 1, 0)} - {count}:
+                ones = ",".join(["1"] * wrong)
+                found.append((f"CALL {other.name}({ones})", "303"))
+            passed = self.passed(other, "1")
+            for at, dummy in enumerate(other.dummies if passed else []):
+                for wrong in self.misfits(dummy):
+                    actuals = ",".join([*passed[:at], wrong, *passed[at + 1 :]])
+                    found.append((f"CALL {other.name}({actuals})", "304"))
+        if self.plan.main and self.plan.main not in variables:
+            found.append((f"CALL {self.plan.main}", f"310 NAME {self.plan.main}"))
+        if self.subroutine and self.scalars:
+            found.append((f"DATA {self.scalars[0].name}/1/", "311"))
+        return found
+
+    def misfits(self, dummy):
+        """Actual arguments that don't fit a dummy argument."""
+        if dummy.bounds:
+            others = [array.name for array in self.arrays if array.logical != dummy.logical]
+            return ["1", ".TRUE.", *others[:1], *[f"({variable.name})" for variable in self.scalars[:1]]]
+        return [*(array.name for array in self.arrays[:1]), "1" if dummy.logical else ".TRUE."]
+
+    # The whole.
+
+    def held(self):
+        """The variables that are dummy arguments or in COMMON."""
+        everything = [*self.scalars, *self.truths, *self.arrays, *self.turns, *self.fixed]
+        return [variable for variable in everything if isinstance(variable, Held)]
+
+    def header(self):
+        if not self.subroutine:
+            return [Line(f"PROGRAM {self.plan.main}")] if self.plan.main else []
+        names = ",".join(self.variables_of[dummy].name for dummy in self.subroutine.dummies)
+        return [Line(f"SUBROUTINE {self.subroutine.name}" + (f"({names})" if names else self.pick(["", "()"])))]
+
+    def unit(self, breaks):
+        """The lines of the unit, and the index at which a specification statement could be added."""
+        *lines, end = self.whole(breaks)
+        head = self.header()
+        returning = [Line("RETURN")] * (bool(self.subroutine) and self.chance(0.1))
+        return [*head, *lines, *returning, end], len(head) + self.declared
+
+
+class Assembly:
+    """The units of a plan, in an order that is drawn."""
+
+    def __init__(self, seed):
+        self.plan = Plan(seed)
+        makers = [UnitMaker(seed, self.plan, subroutine) for subroutine in self.plan.subroutines]
+        breaks = self.plan.pick(["unit", "unit", "unit", "end", "block", "dummy"]) if self.plan.breaks else None
+        broken = self.plan.pick([*makers, None]) if breaks == "unit" else makers
+        self.units = [(maker, *maker.unit(maker is broken)) for maker in makers]
+        # (the main program comes last, since it calls what nobody else does)
+        main = UnitMaker(seed, self.plan)
+        self.units.append((main, *main.unit(broken is None)))
+        if self.plan.chance(0.6):
+            self.plan.random.shuffle(self.units)
+        else:
+            self.units.reverse()
+        if breaks in ("block", "dummy"):
+            self.break_common(breaks)
+        self.behind = [Line("END", None, "205")] if breaks == "end" else []
+
+    def break_common(self, what):
+        """Puts a dummy argument into a new block, or one more name into a block that a unit before has too."""
+        if what == "dummy":
+            for maker, lines, at in self.units:
+                plain = [variable.name for variable in maker.variables_of.values() if not variable.bounds]
+                if plain:
+                    lines.insert(at, Line(f"COMMON /{self.plan.name()}/ {plain[0]}", None, "309"))
+                    return
+        seen = set()
+        for maker, lines, at in self.units:
+            named = {variable.block for variable in maker.held() if variable.block}
+            if named & seen:
+                name = maker.name()
+                lines[at:at] = [Line(f"INTEGER {name}"), Line(f"COMMON /{sorted(named & seen)[0]}/ {name}", None, "305")]
+                return
+            seen |= named
+
+    def lines(self):
+        return [line for _, lines, _ in self.units for line in lines] + self.behind
+
+
+def program_of(seed):
+    """The statements of a program of several units, which is drawn again where one of them is too long."""
+    for attempt in itertools.count():
+        lines = Assembly(f"{seed} units {attempt}").lines()
+        if all(len(line.text) <= MOST for line in lines):
+            return lines
