@@ -1,0 +1,6 @@
+pub mod Coded
+pub mod Dimensions
+pub mod Readable
+pub mod Sources
+pub mod Stored
+mod Worked

@@ -1,0 +1,4 @@
+pub mod BoundCode
+pub mod DimensionCode
+pub mod Given
+pub mod Sources
