@@ -1,13 +1,13 @@
 -- The code of a bound, and what it comes to by what is stored: X3.9-1978, 5.5.1. Operands stand from left to right, and behind
 -- them what is done with them.
-use Rattle.std.specs.Prelude.{ℕ, ◌-◌, Bool, true, false, List, [], ◌∷◌, ◌++◌, take, drop, length, Option, Some, None}
+use Rattle.std.specs.Prelude.{◌≡◌, ℕ, ◌-◌, Bool, true, false, List, [], ◌∷◌, ◌++◌, take, drop, length, Option, Some, None}
 use Rattle.std.specs.Option.{option_map, option_and_then}
 use Rattle.hep_source.specs.declared.name.Name.{Name}
 use Rattle.hep_source.specs.declared.statement.Statement.{Statement}
 use Rattle.hep_source.specs.declared.value.Value.{Value as Constant}
 use Rattle.hep_source.specs.Tree.{Tree, Trees, constant, occurrence, with_list, parenthesized, signed, negated, binary, no_trees, trees}
 use Rattle.hep_machine.specs.Arithmetic.{signed_value, negated_value, combined_value, function_value}
-use Rattle.hep_machine.specs.Constants.{without_fault}
+use Rattle.hep_machine.specs.Constants.{Values, without_fault}
 use Rattle.hep_machine.specs.Functions.{Meaning, pure, listed_meaning}
 use Rattle.hep_code.specs.ExpressionCode.{count}
 use Rattle.hep_bounds.specs.declared.operation.BoundOperation.{BoundOperation}
@@ -95,3 +95,8 @@ module _ (common dummies : ℕ → Option Constant) where
   -- the value that code leaves
   abbrev pub coded_value : List BoundOperation → Option Constant
   coded_value code = option_and_then only_value (after_code code [])
+
+  -- each name's source takes no operands, and has the name's value
+  pub record AreSources (values : Values) (source : Sources) : Type 0 where
+    pub takes_none : (x : Name) → is_source (source x) ≡ true
+    pub has_value : (x : Name) → values x ≡ value_at (source x)

@@ -2,6 +2,7 @@
 use Rattle.std.specs.Prelude.{ℕ, ◌<◌, List, [], ◌∷◌, length, slice_get, Option, Some, None}
 use Rattle.hep_source.specs.declared.value.Value.{Value}
 use Rattle.hep_machine.specs.declared.slot.Slot.{Slot}
+use Rattle.hep_machine.specs.Shapes.{Bounds}
 use Rattle.hep_arena.specs.Holes.{IsOut}
 use Rattle.hep_arena.specs.Space.{Space}
 use Rattle.hep_image.specs.Finding.{cells_in}
@@ -9,6 +10,8 @@ use Rattle.hep_passing.specs.declared.given.Given.{Given}
 use Rattle.hep_passing.specs.declared.given.Given.TheVariants as giving
 use Rattle.hep_bounds.specs.declared.operation.BoundOperation.{BoundOperation}
 use Rattle.hep_bounds.specs.declared.operation.BoundOperation.TheVariants.{InCommon, InDummy}
+use Rattle.hep_bounds.specs.BoundCode.{after_code, after_operation, coded_value}
+use Rattle.hep_bounds.specs.DimensionCode.{coded_shape}
 
 -- what is stored in a cell
 abbrev pub stored_in : List Slot → ℕ → Option Value
@@ -22,6 +25,22 @@ stored_by contents (Some (giving.Units first count)) = stored_in contents first
 
 abbrev pub stored_for : List Slot → List Given → ℕ → Option Value
 stored_for contents given k = stored_by contents (slice_get given k)
+
+-- what code comes to then
+module _ (contents : List Slot) (given : List Given) where
+  abbrev pub left_by_operation : BoundOperation → List Value → Option (List Value)
+  left_by_operation o stack = after_operation (stored_in contents) (stored_for contents given) o stack
+
+  abbrev pub left_by_code : List BoundOperation → Option (List Value)
+  left_by_code code = after_code (stored_in contents) (stored_for contents given) code []
+
+  abbrev pub value_by_code : List BoundOperation → Option Value
+  value_by_code code = coded_value (stored_in contents) (stored_for contents given) code
+
+  abbrev pub shape_by_code : List BoundOperation → Option Bounds
+  shape_by_code code = coded_shape (stored_in contents) (stored_for contents given) code
+
+-- ---- what can be read
 
 module _ (space : Space) where
   -- a cell lies in the arena and in no hole

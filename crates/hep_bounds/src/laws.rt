@@ -6,23 +6,23 @@ ghost use Rattle.hep_source.specs.declared.statement.Statement.{Statement};
 ghost use Rattle.hep_source.specs.declared.value.Value.{Value};
 ghost use Rattle.hep_source.specs.Tree.{Tree};
 ghost use Rattle.hep_source.specs.Units.{Units, dummies_of};
+ghost use Rattle.hep_machine.specs.Binding.{bound_values, dummy_with_shape, with_actuals, with_shape};
+ghost use Rattle.hep_machine.specs.Constants.{Values, shape_by, value_of};
+ghost use Rattle.hep_machine.specs.Declarations.{dimensions_of, is_array, is_common};
 ghost use Rattle.hep_machine.specs.declared.slot.Slot.{Slot};
 ghost use Rattle.hep_machine.specs.Evaluation.{Actual};
 ghost use Rattle.hep_machine.specs.Layout.{Layout};
-ghost use Rattle.hep_machine.specs.Binding.{bound_values, dummy_with_shape, with_actuals, with_shape};
-ghost use Rattle.hep_machine.specs.Declarations.{dimensions_of, is_array, is_common};
-ghost use Rattle.hep_machine.specs.Constants.{Values, shape_by, value_of};
 ghost use Rattle.hep_machine.specs.Locations.{Scope, own_storage};
 ghost use Rattle.hep_machine.specs.State.{Dummy, State, Store};
 ghost use Rattle.hep_arena.specs.Gaps.{frame_among};
-ghost use Rattle.hep_frames.specs.Addresses.{Holds, IsMemory, address};
-ghost use Rattle.hep_passing.specs.Agreement.{AreGiven};
 ghost use Rattle.hep_arena.specs.Holes.{Hole};
 ghost use Rattle.hep_arena.specs.Space.{Space};
+ghost use Rattle.hep_frames.specs.Addresses.{Holds, IsMemory, address};
+ghost use Rattle.hep_passing.specs.Agreement.{AreGiven};
 ghost use Rattle.hep_passing.specs.declared.given.Given.{Given};
-ghost use Rattle.hep_bounds.specs.DimensionCode.{code_of_dimensions, coded_shape};
+ghost use Rattle.hep_bounds.specs.BoundCode.{AreSources, Sources, after_code, code_of_bound, coded_value};
 ghost use Rattle.hep_bounds.specs.declared.operation.BoundOperation.{BoundOperation};
-ghost use Rattle.hep_bounds.specs.BoundCode.{Sources, after_code, code_of_bound, coded_value, is_source, value_at};
+ghost use Rattle.hep_bounds.specs.DimensionCode.{code_of_dimensions, coded_shape};
 ghost use Rattle.hep_bounds.specs.Given.{AreReadable, IsReadable, stored_for, stored_in};
 ghost use Rattle.hep_bounds.specs.Sources.{AreStored, IsNamedOnce, adjustable_code, source_of};
 
@@ -30,15 +30,15 @@ ghost use Rattle.hep_bounds.specs.Sources.{AreStored, IsNamedOnce, adjustable_co
 /// behind those that are there, and what stands behind the code goes on with it. It comes to nothing where the
 /// expression has no value (X3.9-1978, 5.5.1).
 pub fn bounds_are_coded()
-    ensures none { (unit : List Statement) (source : Sources) (values : Values) (common dummies : ℕ → Option Value) → ((x : Name) → is_source (source x) ≡ true) → ((x : Name) → values x ≡ value_at common dummies (source x)) → (t : Tree) (more : List BoundOperation) (stack : List Value) → value_of unit values t ≡ None → after_code common dummies (code_of_bound source unit t ++ more) stack ≡ None }
-    ensures some { (unit : List Statement) (source : Sources) (values : Values) (common dummies : ℕ → Option Value) → ((x : Name) → is_source (source x) ≡ true) → ((x : Name) → values x ≡ value_at common dummies (source x)) → (t : Tree) (more : List BoundOperation) (stack : List Value) (v : Value) → value_of unit values t ≡ Some v → after_code common dummies (code_of_bound source unit t ++ more) stack ≡ after_code common dummies more (stack ++ v ∷ []) }
-    ensures value { (unit : List Statement) (source : Sources) (values : Values) (common dummies : ℕ → Option Value) → ((x : Name) → is_source (source x) ≡ true) → ((x : Name) → values x ≡ value_at common dummies (source x)) → (t : Tree) → coded_value common dummies (code_of_bound source unit t) ≡ value_of unit values t }
+    ensures none { (unit : List Statement) (source : Sources) (values : Values) (common dummies : ℕ → Option Value) → AreSources common dummies values source → (t : Tree) (more : List BoundOperation) (stack : List Value) → value_of unit values t ≡ None → after_code common dummies (code_of_bound source unit t ++ more) stack ≡ None }
+    ensures some { (unit : List Statement) (source : Sources) (values : Values) (common dummies : ℕ → Option Value) → AreSources common dummies values source → (t : Tree) (more : List BoundOperation) (stack : List Value) (v : Value) → value_of unit values t ≡ Some v → after_code common dummies (code_of_bound source unit t ++ more) stack ≡ after_code common dummies more (stack ++ v ∷ []) }
+    ensures value { (unit : List Statement) (source : Sources) (values : Values) (common dummies : ℕ → Option Value) → AreSources common dummies values source → (t : Tree) → coded_value common dummies (code_of_bound source unit t) ≡ value_of unit values t }
 {}
 
 /// The code of an array's dimensions comes to the shape that the array has by the values of the names, and to none where
 /// it has none: a bound has no value, or the bounds are no shape (X3.9-1978, 5.5.1).
 pub fn shapes_are_coded()
-    ensures { (unit : List Statement) (source : Sources) (values : Values) (common dummies : ℕ → Option Value) → ((x : Name) → is_source (source x) ≡ true) → ((x : Name) → values x ≡ value_at common dummies (source x)) → (x : Name) → coded_shape common dummies (code_of_dimensions source unit (dimensions_of unit x)) ≡ shape_by unit values x }
+    ensures { (unit : List Statement) (source : Sources) (values : Values) (common dummies : ℕ → Option Value) → AreSources common dummies values source → (x : Name) → coded_shape common dummies (code_of_dimensions source unit (dimensions_of unit x)) ≡ shape_by unit values x }
 {}
 
 /// What code reads can be read where each name's source can: a cell that lies in the arena and in no hole.
@@ -50,8 +50,7 @@ pub fn code_is_readable()
 /// The sources of a unit's names are where its bounds have their values when it is called, so that a dummy argument has
 /// the shape to which the code of its dimensions comes, or SHAPE is the fault (X3.9-1978, 5.5.1 and 15.9.3.3).
 pub fn adjustable_shapes_are_coded()
-    ensures values { (scope : Scope) (store : Store) (cell : Name → ℕ) (common dummies : ℕ → Option Value) → AreStored scope store cell common dummies → (x : Name) → bound_values scope store x ≡ value_at common dummies (source_of scope.unit cell x) }
-    ensures sources { (unit : List Statement) (cell : Name → ℕ) (x : Name) → is_source (source_of unit cell x) ≡ true }
+    ensures sources { (scope : Scope) (store : Store) (cell : Name → ℕ) (common dummies : ℕ → Option Value) → AreStored scope store cell common dummies → AreSources common dummies (bound_values scope store) (source_of scope.unit cell) }
     ensures shape { (scope : Scope) (store : Store) (cell : Name → ℕ) (common dummies : ℕ → Option Value) → AreStored scope store cell common dummies → (x : Name) (d : Dummy) → with_shape scope store x d ≡ (if is_array scope.unit x then dummy_with_shape d (coded_shape common dummies (adjustable_code scope.unit cell x)) else Ok d) }
 {}
 

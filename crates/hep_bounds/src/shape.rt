@@ -3,7 +3,7 @@ ghost use Rattle.std.specs.Prelude.{◌≡◌, ◌≤◌, [], length, vec_capaci
 ghost use Rattle.std.specs.Option.{option_map};
 ghost use Rattle.hep_machine.specs.Constants.{if_shape};
 ghost use Rattle.hep_bounds.specs.DimensionCode as definitions;
-ghost use Rattle.hep_bounds.specs.Given.{AreReadable, stored_for, stored_in};
+ghost use Rattle.hep_bounds.specs.Given.{AreReadable, shape_by_code};
 
 use crate::operation::BoundOperation;
 use crate::value::run;
@@ -71,7 +71,7 @@ pub fn shape_given(
 ) -> Option<Shape>
     requires readable { AreReadable arena.now given.now code.now }
     requires room { length code.now ≤ vec_capacity stack.old }
-    ensures shape { result ≡ definitions.coded_shape (stored_in arena.now.contents) (stored_for arena.now.contents given.now) code.now }
+    ensures shape { result ≡ shape_by_code arena.now.contents given.now code.now }
     ensures capacity { vec_capacity stack.old ≤ vec_capacity stack.new }
 {
     run(code, arena, given, stack)?;

@@ -1,9 +1,8 @@
 //! The value of a bound.
-ghost use Rattle.std.specs.Prelude.{◌≡◌, ◌<◌, ◌≤◌, ◌+◌, ◌++◌, ◌∷◌, [], length, slice_get, take, vec_len, vec_capacity, Some, None, IfSome, MatchOption};
-ghost use Rattle.std.specs.Option.{is_none};
+ghost use Rattle.std.specs.Prelude.{◌≡◌, ◌<◌, ◌≤◌, ◌+◌, ◌++◌, ◌∷◌, [], length, slice_get, take, vec_len, vec_capacity, Some, None, MatchOption};
 ghost use Rattle.hep_arena.specs.Holes.{IsOut};
 ghost use Rattle.hep_bounds.specs.BoundCode as definitions;
-ghost use Rattle.hep_bounds.specs.Given.{AreReadable, IsFirstCell, IsReadable, stored_for, stored_in};
+ghost use Rattle.hep_bounds.specs.Given.{AreReadable, IsFirstCell, IsReadable, left_by_code, left_by_operation, stored_for, stored_in, value_by_code};
 
 use crate::operation::BoundOperation;
 use hep_arena::Arena;
@@ -78,7 +77,7 @@ fn operate(
 ) -> Option<()>
     requires readable { IsReadable arena.now given.now operation }
     requires room { vec_len stack.old < vec_capacity stack.old }
-    ensures done { MatchOption result (definitions.after_operation (stored_in arena.now.contents) (stored_for arena.now.contents given.now) operation stack.old.items ≡ None) (λ _. definitions.after_operation (stored_in arena.now.contents) (stored_for arena.now.contents given.now) operation stack.old.items ≡ Some stack.new.items) }
+    ensures done { MatchOption result (left_by_operation arena.now.contents given.now operation stack.old.items ≡ None) (λ _. left_by_operation arena.now.contents given.now operation stack.old.items ≡ Some stack.new.items) }
     ensures length { vec_len stack.new ≤ vec_len stack.old + 1 }
     ensures capacity { vec_capacity stack.old ≤ vec_capacity stack.new }
 {
@@ -97,7 +96,7 @@ pub(crate) fn run(
 ) -> Option<()>
     requires readable { AreReadable arena.now given.now code.now }
     requires room { length code.now ≤ vec_capacity stack.old }
-    ensures done { MatchOption result (definitions.after_code (stored_in arena.now.contents) (stored_for arena.now.contents given.now) code.now [] ≡ None) (λ _. definitions.after_code (stored_in arena.now.contents) (stored_for arena.now.contents given.now) code.now [] ≡ Some stack.new.items) }
+    ensures done { MatchOption result (left_by_code arena.now.contents given.now code.now ≡ None) (λ _. left_by_code arena.now.contents given.now code.now ≡ Some stack.new.items) }
     ensures capacity { vec_capacity stack.old ≤ vec_capacity stack.new }
 {
     stack.clear();
@@ -128,7 +127,7 @@ pub fn bound_value(
 ) -> Option<Value>
     requires readable { AreReadable arena.now given.now code.now }
     requires room { length code.now ≤ vec_capacity stack.old }
-    ensures value { result ≡ definitions.coded_value (stored_in arena.now.contents) (stored_for arena.now.contents given.now) code.now }
+    ensures value { result ≡ value_by_code arena.now.contents given.now code.now }
     ensures capacity { vec_capacity stack.old ≤ vec_capacity stack.new }
 {
     run(code, arena, given, stack)?;
