@@ -11,18 +11,13 @@ use Rattle.hep_source.specs.declared.operator.Sign.TheVariants.{Minus}
 use Rattle.hep_source.specs.declared.value.Value.{Value as Constant}
 use Rattle.hep_source.specs.declared.value.Value.TheVariants.{Int}
 use Rattle.hep_source.specs.Tree.{Tree, constant, occurrence, with_list, parenthesized, signed, binary, no_trees, trees}
-use Rattle.hep_machine.specs.Access.{unset_cell}
 use Rattle.hep_machine.specs.Declarations.{first_letter}
 use Rattle.hep_machine.specs.declared.shape.Bound.{Bound}
 use Rattle.hep_machine.specs.Shapes.{Bounds}
-use Rattle.hep_machine.specs.declared.slot.Slot.{Slot}
-use Rattle.hep_passing.specs.declared.given.Given.{Given}
-use Rattle.hep_passing.specs.declared.given.Given.TheVariants as giving
 use Rattle.hep_bounds.specs.declared.operation.BoundOperation.{BoundOperation}
 use Rattle.hep_bounds.specs.declared.operation.BoundOperation.TheVariants.{Value, InCommon, InDummy, Sign, Combine, Apply, Nowhere}
 use Rattle.hep_bounds.specs.BoundCode.{code_of_bound, coded_value}
 use Rattle.hep_bounds.specs.DimensionCode.{code_of_dimensions, coded_shape}
-use Rattle.hep_bounds.specs.Given.{stored_in, stored_for}
 
 abbrev name : List ℕ → Occurrence
 name letters = record { name = record { asynchronous = false; letters = letters }; position = 0 }
@@ -67,22 +62,19 @@ code_of_largest = refl
 code_of_element : code (with_list (name (codes "A     ")) (trees n no_trees)) ≡ Nowhere ∷ []
 code_of_element = refl
 
--- ---- what they come to: N is in cell 1, K is an expression, and M is 7
+-- ---- what they come to: N has what is stored in cell 1 or 2 of COMMON, K is 6, and M is 7
 
-abbrev stored : ℕ → Slot
-stored i = record { value = Some (Int (pos i)); full = false }
+abbrev common : ℕ → Option Constant
+common c = if nat_eq c 1 then Some (Int (pos 4)) else if nat_eq c 3 then Some (Int (pos 7)) else None
 
-abbrev contents : List Slot
-contents = stored 40 ∷ stored 4 ∷ unset_cell ∷ stored 7 ∷ []
-
-abbrev given : ℕ → List Given
-given first = giving.Units first 1 ∷ giving.Value (Int (pos 6)) ∷ []
+abbrev dummies : ℕ → ℕ → Option Constant
+dummies first k = if nat_eq k 0 then common first else if nat_eq k 1 then Some (Int (pos 6)) else None
 
 abbrev value : ℕ → Tree → Option Constant
-value first t = coded_value (stored_in contents) (stored_for contents (given first)) (code t)
+value first t = coded_value common (dummies first) (code t)
 
 abbrev shape : ℕ → List Dimension → Option Bounds
-shape first ds = coded_shape (stored_in contents) (stored_for contents (given first)) (dimensions ds)
+shape first ds = coded_shape common (dummies first) (dimensions ds)
 
 abbrev bound : ℤ → Option ℤ → Bound
 bound lower upper = record { lower = lower; upper = upper }

@@ -1,4 +1,3 @@
 pub mod BoundCode
 pub mod DimensionCode
-pub mod Given
 pub mod Sources

@@ -14,7 +14,7 @@ pub enum BoundOperation {
     /// What is stored in a cell of COMMON, by its number in the arena.
     InCommon(u32),
     /// What is stored in a scalar dummy argument, by its number among the unit's dummy arguments, from 0.
-    InDummy(u32),
+    InDummy(usize),
     /// Puts a sign before an operand (6.1.2).
     Sign(Sign),
     /// `.NOT.` (6.4.1).
@@ -24,7 +24,7 @@ pub enum BoundOperation {
     /// A function of integers (15.10).
     Apply {
         function: PureFunction,
-        arguments: u32,
+        arguments: usize,
     },
     /// What has no value in a bound.
     Nowhere,
@@ -32,7 +32,7 @@ pub enum BoundOperation {
 
 impl BoundOperation {
     /// How many operands the operation takes.
-    pub fn arity(self) -> u32
+    pub fn arity(self) -> usize
         ensures { result ≡ code.arity self }
     {
         match self {

@@ -1,8 +1,8 @@
 use Rattle.std.proofs.Common.{◌≡◌, ◌≤◌, [], drop}
 use Rattle.std.specs.Prelude.{vec_capacity, vec_len}
 use Rattle.hep_bounds.specs.BoundCode.{after_code}
-use Rattle.hep_bounds.specs.Given.{AreReadable, stored_for, stored_in}
-use Rattle.hep_bounds.proofs.value.run.Given as goal
+use Rattle.hep_shaping.specs.Given.{AreReadable, stored_for, stored_in}
+use Rattle.hep_shaping.proofs.value.run.Given as goal
 
 abbrev pub invariant-loop-operation : goal.invariant-loop-operation
 invariant-loop-operation l =

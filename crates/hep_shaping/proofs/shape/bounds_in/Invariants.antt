@@ -1,6 +1,6 @@
 use Rattle.std.proofs.Common.{◌≡◌, ◌++◌, length}
 use Rattle.hep_bounds.specs.DimensionCode.{bounds_in}
-use Rattle.hep_bounds.proofs.shape.bounds_in.Given as goal
+use Rattle.hep_shaping.proofs.shape.bounds_in.Given as goal
 
 abbrev pub invariant-loop-bound : goal.invariant-loop-bound
 invariant-loop-bound l =

@@ -14,7 +14,7 @@ use Rattle.hep_bounds.specs.declared.operation.BoundOperation.{BoundOperation}
 use Rattle.hep_bounds.specs.declared.operation.BoundOperation.TheVariants.{Sign, Not, Combine, Apply}
 use Rattle.hep_bounds.specs.BoundCode.{Sources, code_of_listed, code_of_bound, code_of_bounds}
 use Rattle.hep_bounds.specs.DimensionCode.{code_of_lower, code_from_upper, code_of_dimensions}
-use Rattle.hep_bounds.specs.Given.{AreReadable, IsReadable}
+use Rattle.hep_shaping.specs.Given.{AreReadable, IsReadable}
 
 module _ (space : Space) (given : List Given) where
   abbrev Readable : List BoundOperation → Type 0

@@ -2,10 +2,10 @@
 ghost use Rattle.std.specs.Prelude.{◌≡◌, ◌<◌, ◌≤◌, ◌+◌, ◌++◌, ◌∷◌, [], length, slice_get, take, vec_len, vec_capacity, Some, None, MatchOption};
 ghost use Rattle.hep_arena.specs.Holes.{IsOut};
 ghost use Rattle.hep_bounds.specs.BoundCode as definitions;
-ghost use Rattle.hep_bounds.specs.Given.{AreReadable, IsFirstCell, IsReadable, left_by_code, left_by_operation, stored_for, stored_in, value_by_code};
+ghost use Rattle.hep_shaping.specs.Given.{AreReadable, IsFirstCell, IsReadable, left_by_code, left_by_operation, stored_for, stored_in, value_by_code};
 
-use crate::operation::BoundOperation;
 use hep_arena::Arena;
+use hep_bounds::BoundOperation;
 use hep_machine::intrinsics::function_value;
 use hep_machine::values::{combined_value, negated_value, signed_value};
 use hep_passing::Given;
@@ -21,11 +21,11 @@ fn stored(arena: &Arena, at: u32) -> Option<Value>
 }
 
 // What is stored in a dummy argument.
-fn stored_given(arena: &Arena, given: &[Given], number: u32) -> Option<Value>
+fn stored_given(arena: &Arena, given: &[Given], number: usize) -> Option<Value>
     requires readable { IsFirstCell arena.now (slice_get given.now number) }
     ensures { result ≡ stored_for arena.now.contents given.now number }
 {
-    match given.get(number as usize) {
+    match given.get(number) {
         None => None,
         Some(Given::Value(value)) => Some(*value),
         Some(Given::Units { first, .. }) => stored(arena, *first),
@@ -81,7 +81,7 @@ fn operate(
     ensures length { vec_len stack.new ≤ vec_len stack.old + 1 }
     ensures capacity { vec_capacity stack.old ≤ vec_capacity stack.new }
 {
-    let kept = stack.len().saturating_sub(operation.arity() as usize);
+    let kept = stack.len().saturating_sub(operation.arity());
     let value = value_on(operation, arena, given, &stack[kept..])?;
     replace(stack, kept, value);
     Some(())

@@ -1,5 +1,5 @@
-use Rattle.hep_bounds.proofs.Stored.{are_stored, call_readable}
-use Rattle.hep_bounds.proofs.laws.calls_have_what_is_stored.Goals as goal
+use Rattle.hep_shaping.proofs.Stored.{are_stored, call_readable}
+use Rattle.hep_shaping.proofs.laws.calls_have_what_is_stored.Goals as goal
 
 pub returns-clause-stored : goal.returns-clause-stored
 returns-clause-stored c = λ program s layout contents b scope actuals given cell frameless holds once given_so addressed. are_stored program s layout contents b frameless scope actuals given cell holds once given_so addressed

@@ -28,9 +28,9 @@ use Rattle.hep_frames.proofs.Memory.{location-self}
 use Rattle.hep_passing.specs.declared.given.Given.{Given}
 use Rattle.hep_passing.specs.declared.given.Given.TheVariants as giving
 use Rattle.hep_passing.specs.Agreement.{AreGiven, AreUnitsOf, IsGiven}
-use Rattle.hep_bounds.specs.Given.{AreReadable, IsCell, IsFirstCell, IsReadable, stored_by, stored_for, stored_in}
+use Rattle.hep_shaping.specs.Given.{AreReadable, IsCell, IsFirstCell, IsReadable, stored_by, stored_for, stored_in}
 use Rattle.hep_bounds.specs.Sources.{AreStored, IsNamedOnce, adjustable_code, source_by, source_of}
-use Rattle.hep_bounds.proofs.Readable.{dimensions_readable}
+use Rattle.hep_shaping.proofs.Readable.{dimensions_readable}
 
 -- ---- names and locations
 

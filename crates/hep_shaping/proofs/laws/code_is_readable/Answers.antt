@@ -1,5 +1,5 @@
-use Rattle.hep_bounds.proofs.Readable.{bound_readable, dimensions_readable}
-use Rattle.hep_bounds.proofs.laws.code_is_readable.Goals as goal
+use Rattle.hep_shaping.proofs.Readable.{bound_readable, dimensions_readable}
+use Rattle.hep_shaping.proofs.laws.code_is_readable.Goals as goal
 
 pub returns-clause-bound : goal.returns-clause-bound
 returns-clause-bound c = λ space given unit source sources t. bound_readable space given unit source sources t

@@ -3,12 +3,12 @@ ghost use Rattle.std.specs.Prelude.{◌≡◌, ◌≤◌, [], length, vec_capaci
 ghost use Rattle.std.specs.Option.{option_map};
 ghost use Rattle.hep_machine.specs.Constants.{if_shape};
 ghost use Rattle.hep_bounds.specs.DimensionCode as definitions;
-ghost use Rattle.hep_bounds.specs.Given.{AreReadable, shape_by_code};
+ghost use Rattle.hep_shaping.specs.Given.{AreReadable, shape_by_code};
 
-use crate::operation::BoundOperation;
 use crate::value::run;
 use arrayvec::ArrayVec;
 use hep_arena::Arena;
+use hep_bounds::BoundOperation;
 use hep_machine::Bound;
 use hep_machine::values::integer_of;
 use hep_passing::Given;
@@ -50,7 +50,7 @@ fn bounds_in(values: &[Value]) -> ArrayVec<Bound, 7>
 }
 
 // The shape that values are, if they are one.
-#[tactic(auto, using(crate::proofs::Dimensions::many_no_shape, crate::proofs::Dimensions::few_bounds))]
+#[tactic(auto, using(hep_bounds::proofs::Dimensions::many_no_shape, hep_bounds::proofs::Dimensions::few_bounds))]
 fn shape_in(values: &[Value]) -> Option<Shape>
     ensures { result ≡ if_shape (Some (definitions.bounds_in values.now)) }
 {
