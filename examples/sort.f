@@ -1,4 +1,4 @@
-C     An array that a subroutine sorts.
+C     An array that a subroutine sorts, as long as it is told.
       PROGRAM SORTED
       INTEGER L(4)
       DATA L/30, 10, 40, 20/
@@ -6,7 +6,7 @@ C     An array that a subroutine sorts.
       PRINT *, L(1), L(2), L(3), L(4)
       END
       SUBROUTINE SORT(L, N)
-      INTEGER L(*)
+      INTEGER L(N)
       DO 20 I = 1, N-1
       DO 10 J = I+1, N
       IF (L(J) .LT. L(I)) THEN

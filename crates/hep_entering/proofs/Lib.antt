@@ -13,6 +13,7 @@ mod Leading
 mod Places
 mod Rest
 mod Shaped
+pub mod AllShaped
 mod Blocks
 pub mod Nodes
 mod Levels

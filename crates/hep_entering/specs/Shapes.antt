@@ -1,5 +1,5 @@
 -- The bounds of adjustable arrays in a frame: X3.9-1978, 5.5, and docs/MACHINE.md, "Variables and frames".
-use Rattle.std.specs.Prelude.{◌≡◌, ℕ, ◌+◌, ◌*◌, List, length, ℤ, take, Option, Some, None, slice_get}
+use Rattle.std.specs.Prelude.{◌≡◌, ℕ, ◌+◌, ◌*◌, List, [], ◌∷◌, length, ℤ, take, Option, Some, None, slice_get}
 use Rattle.hep_source.specs.declared.name.Name.{Name}
 use Rattle.hep_source.specs.declared.statement.Statement.{Statement}
 use Rattle.hep_source.specs.Units.{Units, dummies_of, unit_at}
@@ -9,10 +9,12 @@ use Rattle.hep_machine.specs.Locations.{dummy_at}
 use Rattle.hep_machine.specs.Processes.{activation_of, unit_of}
 use Rattle.hep_machine.specs.Shapes.{Bounds}
 use Rattle.hep_machine.specs.State.{State}
-use Rattle.hep_machine.specs.Variables.{adjustable_dimensions_of_all, do_statements, locals_of}
+use Rattle.hep_machine.specs.Variables.{adjustable_dimensions_of_all, do_statements, frame_cells, locals_of}
 use Rattle.hep_arena.specs.Gaps.{frame_among}
 use Rattle.hep_arena.specs.Space.{Space}
 use Rattle.hep_frames.specs.Descriptors.{number}
+use Rattle.hep_frames.specs.Tree.{Node}
+use Rattle.hep_passing.specs.Shapes.{AreShapesOf}
 use Rattle.hep_entering.specs.Giving.{AreDistinct}
 use Rattle.hep_entering.specs.Writing.{IsSet}
 
@@ -42,3 +44,26 @@ pub record IsShaping (program : Units) (s : State) (layout : Layout) (a k at : �
 abbrev pub IsBoundPut : ℕ → ℤ → Option ℤ → Space → Space → Type 0
 IsBoundPut p lower None before after = IsSet p (number lower) before after
 IsBoundPut p lower (Some upper) before after = (between : Space) × IsSet p (number lower) before between × IsSet (p + 1) (number upper) between after
+
+-- ---- all of them
+
+-- the cells of the bounds of a dummy argument, none where its array isn't adjustable, and those of several
+abbrev pub cells_of_shape : Option Bounds → ℕ
+cells_of_shape None = 0
+cells_of_shape (Some shape) = 2 * length shape
+
+abbrev pub cells_of_shapes : List (Option Bounds) → ℕ
+cells_of_shapes [] = 0
+cells_of_shapes (x ∷ xs) = cells_of_shape x + cells_of_shapes xs
+
+-- these are the shapes of the dummy arguments of activation a, whose names are distinct
+pub record AreShaping (program : Units) (s : State) (a : ℕ) (shapes : List (Option Bounds)) : Type 0 where
+  pub distinct : AreDistinct (dummies_of (unit_at program (unit_of s a)))
+  pub shapes_are : AreShapesOf (unit_at program (unit_of s a)) (activation_of s a).dummies shapes
+
+-- a node has the frame of activation a in a layout, as long as its unit's are
+pub record IsFramedBy (program : Units) (s : State) (layout : Layout) (a : ℕ) (n : Node) : Type 0 where
+  pub frame : Frame
+  pub framed : frame_among a layout ≡ Some frame
+  pub begins : n.first ≡ frame.first
+  pub sized : n.cells ≡ frame_cells (unit_at program (unit_of s a))

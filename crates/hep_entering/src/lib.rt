@@ -8,4 +8,4 @@ mod shaping;
 
 pub use beginning::begin;
 pub use binding::bind;
-pub use shaping::shape;
+pub use shaping::shape_all;

@@ -9,6 +9,7 @@ use Rattle.hep_code.specs.Limits.{most_operands}
 use Rattle.hep_code.specs.Stacks.{addressed_unit, entry_index}
 use Rattle.hep_code.specs.UnitCode.{code_of}
 use Rattle.hep_image.specs.Data.{AreInitial, AreOfUnits}
+use Rattle.hep_image.specs.Dummies.{dummy_arguments}
 use Rattle.hep_image.specs.Names.{names_in_order}
 use Rattle.hep_image.specs.Places.{addresses_of, arrays_of, array_of}
 use Rattle.hep_image.specs.Private.{private_cells}
@@ -25,6 +26,7 @@ pub record IsUnitCode (program : Units) (u : ℕ) (unit : UnitCode) : Type 0 whe
   pub code : unit.code ≡ code_of (addressed_unit program (addresses_of program) u)
   pub entry : unit.entry ≡ entry_index (addressed_unit program (addresses_of program) u)
   pub arrays : unit.arrays ≡ map (array_of program (unit_at program u)) (arrays_of (unit_at program u))
+  pub dummies : unit.dummies ≡ dummy_arguments program (unit_at program u)
   pub operands : unit.operands ≡ deepest unit.code
   pub few_operands : unit.operands ≤ most_operands
   pub cells : unit.cells ≡ frame_cells (unit_at program u)

@@ -1,5 +1,6 @@
 pub mod Places
 pub mod Private
+pub mod Dummies
 pub mod Finding
 pub mod Within
 pub mod Supported

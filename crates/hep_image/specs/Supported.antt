@@ -1,13 +1,13 @@
 -- Which accepted programs can be run so far: docs/MACHINE.md, "The program".
-use Rattle.std.specs.Prelude.{ℕ, Bool, true, false, ◌||◌, nat_eq, if◌then◌else◌, List, [], ◌∷◌, Option, Some, None, is_some}
+use Rattle.std.specs.Prelude.{ℕ, Bool, true, false, ◌||◌, if◌then◌else◌, List, [], ◌∷◌, Option, Some, None, is_some}
 use Rattle.std.specs.List.{list_any}
 use Rattle.std.specs.Option.{option_or}
 use Rattle.hep_source.specs.declared.name.Occurrence.{Occurrence}
 use Rattle.hep_source.specs.declared.statement.Form.{Form}
 use Rattle.hep_source.specs.declared.statement.Form.TheVariants as form
 use Rattle.hep_source.specs.declared.statement.Statement.{Statement}
-use Rattle.hep_source.specs.Units.{Units, dummies_of, line_at, main_among, unit_at}
-use Rattle.hep_machine.specs.Variables.{adjustable_dimensions_of_all, occurrences_in_statement}
+use Rattle.hep_source.specs.Units.{Units, line_at, main_among, unit_at}
+use Rattle.hep_machine.specs.Variables.{occurrences_in_statement}
 
 abbrev pub is_unsupported_form : Form → Bool
 is_unsupported_form (form.Create p ts) = true
@@ -28,13 +28,6 @@ abbrev pub first_unsupported_in : Units → Option ℕ
 first_unsupported_in [] = None
 first_unsupported_in (unit ∷ units) = option_or (first_unsupported_among unit unit) (first_unsupported_in units)
 
--- the line of the first statement of the first unit that has adjustable arrays: X3.9-1978, 5.5.1
-abbrev pub first_adjustable_in : Units → Option ℕ
-first_adjustable_in [] = None
-first_adjustable_in (unit ∷ units) = if nat_eq (adjustable_dimensions_of_all unit (dummies_of unit)) 0 then first_adjustable_in units else Some (line_at unit 0)
-
--- a program without a main program can't be run at all: that is told of its first statement; a statement that isn't supported
--- is told of before a unit that has adjustable arrays, wherever they stand
+-- a program without a main program can't be run at all: that is told of its first statement
 abbrev pub first_unsupported : Units → Option ℕ
-first_unsupported program =
-    if is_some (main_among program) then option_or (first_unsupported_in program) (first_adjustable_in program) else Some (line_at (unit_at program 0) 0)
+first_unsupported program = if is_some (main_among program) then first_unsupported_in program else Some (line_at (unit_at program 0) 0)

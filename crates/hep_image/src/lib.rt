@@ -6,11 +6,13 @@
 
 pub mod array;
 pub mod data;
+pub mod dummy;
 pub mod image;
 pub mod laws;
 pub mod unit;
 
 pub use array::{Array, Extents, Start};
 pub use data::DataRow;
+pub use dummy::DummyArgument;
 pub use image::Image;
 pub use unit::UnitCode;

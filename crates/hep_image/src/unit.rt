@@ -1,6 +1,7 @@
 //! What an image has of a unit.
 
 use crate::array::Array;
+use crate::dummy::DummyArgument;
 use hep_base::Sequence;
 use hep_code::Instruction;
 use hep_source::Syntax;
@@ -14,6 +15,8 @@ pub struct UnitCode {
     pub entry: u32,
     /// Its arrays, in order of first appearance.
     pub arrays: Sequence<Array>,
+    /// Its dummy arguments, in order.
+    pub dummies: Sequence<DummyArgument>,
     /// How many operands there are at once at most.
     pub operands: u32,
     /// How many cells its frame has.
@@ -29,6 +32,7 @@ impl Syntax for UnitCode {
             code: self.code.copy(alloc)?,
             entry: self.entry,
             arrays: self.arrays.copy(alloc)?,
+            dummies: self.dummies.copy(alloc)?,
             operands: self.operands,
             cells: self.cells,
             private: self.private.copy(alloc)?,
@@ -39,6 +43,7 @@ impl Syntax for UnitCode {
         self.code.same(&other.code)
             && self.entry == other.entry
             && self.arrays.same(&other.arrays)
+            && self.dummies.same(&other.dummies)
             && self.operands == other.operands
             && self.cells == other.cells
             && self.private.same(&other.private)

@@ -8,4 +8,3 @@ pub mod Additions
 pub mod Counts
 pub mod Placing
 pub mod Told
-pub mod Adjusted

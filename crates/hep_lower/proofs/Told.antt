@@ -1,11 +1,11 @@
 -- What is told of a program that has no image, and what is known of one that has.
-use Rattle.std.proofs.Common.{◌≡◌, ◌≢◌, inl, inr, ℕ, ◌<◌, ◌≤◌, ◌+◌, List, [], Some, None, length, refl, sym, ap, ◌∙◌, subst, arith}
-use Rattle.std.specs.Prelude.{Result, Ok, Err, IfErr}
+use Rattle.std.proofs.Common.{◌≡◌, ◌≢◌, inl, inr, ℕ, ◌<◌, ◌≤◌, List, [], Option, Some, None, length, refl, sym, ◌∙◌, subst}
+use Rattle.std.specs.Prelude.{Result, Ok, Err, IfErr, if◌then◌else◌, is_some}
 use Rattle.std.specs.Result.{IsErr, IsErrAnd}
 use Rattle.std.proofs.lemmas.Option.{none-some}
 use Rattle.hep_base.specs.declared.refusal.Refusal.{Refusal as LowerFault}
 use Rattle.hep_base.specs.declared.refusal.Refusal.TheVariants.{NoMemory, Refused}
-use Rattle.hep_source.specs.Units.{Units, main_among, unit_at}
+use Rattle.hep_source.specs.Units.{Units, line_at, main_among, unit_at}
 use Rattle.hep_machine.specs.Layout.{common_cells}
 use Rattle.hep_machine.specs.Variables.{frame_cells}
 use Rattle.hep_check.specs.Conditions.{IsAccepted}
@@ -13,9 +13,9 @@ use Rattle.hep_code.specs.Limits.{most_instructions}
 use Rattle.hep_image.specs.declared.data.DataRow.{DataRow}
 use Rattle.hep_image.specs.declared.unit.UnitCode.{UnitCode}
 use Rattle.hep_image.specs.Data.{AreInitial, AreOfUnits}
-use Rattle.hep_image.specs.Image.{IsImage, IsUnitCode, most_cells}
+use Rattle.hep_image.specs.Image.{IsImage, most_cells}
 use Rattle.hep_image.specs.Names.{names_in_order}
-use Rattle.hep_image.specs.Supported.{first_unsupported}
+use Rattle.hep_image.specs.Supported.{first_unsupported, first_unsupported_in}
 use Rattle.hep_lower.specs.declared.units.LoweredUnits.{LoweredUnits}
 use Rattle.hep_lower.specs.Refusals.{AreCellsBeyond, IsCodeBeyond, IsFirstDeep, IsLowered, IsWithinLimits, Refuses, RefusesCode}
 use Rattle.hep_lower.specs.Units.{AreUnits}
@@ -24,6 +24,12 @@ pub some-main : (program : Units) (main : ℕ) → main_among program ≡ Some m
 some-main program main e none = none-some main (sym none ∙ e)
 
 module _ (program : Units) (main : main_among program ≢ None) where
+  pub supported-with-main : first_unsupported program ≡ first_unsupported_in program
+  supported-with-main = by_main (main_among program) main where
+    by_main : (o : Option ℕ) → o ≢ None → (if is_some o then first_unsupported_in program else Some (line_at (unit_at program 0) 0)) ≡ first_unsupported_in program
+    by_main None other = absurd (other refl)
+    by_main (Some n) other = refl
+
   pub told-cells : (fault : LowerFault) → fault ≡ Refused 401 0 [] → AreCellsBeyond program → Refuses program fault
   told-cells fault is beyond = subst (Refuses program) (sym is) (inr (inl (refl, refl, main, inl beyond)), refl)
 

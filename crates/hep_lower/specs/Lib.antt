@@ -6,4 +6,3 @@ pub mod Starts
 pub mod Asked
 pub mod Refusals
 pub mod Units
-pub mod Adjustable

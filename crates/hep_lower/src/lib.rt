@@ -16,7 +16,6 @@ mod statements;
 mod tables;
 mod unit;
 mod units;
-mod unsupported;
 
 pub use fault::EmitFault;
 pub use lowered::{Lowered, lower_unit};

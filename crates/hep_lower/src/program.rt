@@ -1,9 +1,8 @@
 //! Checked programs become images.
 ghost use Rattle.std.specs.Prelude.{◌≡◌, ◌≤◌, ◌<◌, ℕ, Some, None, IfOk, IfErr, OnOk, IsTrue, true, false, length};
-ghost use Rattle.hep_source.specs.Units.{Units, main_among, main_unit, unit_at};
+ghost use Rattle.hep_source.specs.Units.{main_among, main_unit, unit_at};
 ghost use Rattle.hep_machine.specs.Layout.{common_cells};
 ghost use Rattle.hep_machine.specs.Variables.{frame_cells};
-ghost use Rattle.hep_check.specs.Conditions.{IsAccepted};
 ghost use Rattle.hep_common.specs.Starts.{AreStarts};
 ghost use Rattle.hep_image.specs.Data.{AreInitial, AreOfUnits};
 ghost use Rattle.hep_code.specs.Limits.{most_instructions};
@@ -15,14 +14,13 @@ ghost use Rattle.hep_lower.specs.Units.{AreUnits};
 use crate::spellings::names_in_order;
 use crate::unit::MOST_INSTRUCTIONS;
 use crate::units::{LoweredUnits, lower_units};
-use crate::unsupported::first_unsupported;
 use hep_base::{Refusal as LowerFault, Sequence};
 use hep_check::Checked;
 use hep_common::CommonStarts;
 use hep_data::{MainFrame, data_rows};
 use hep_image::{DataRow, Image};
 use hep_places::unit_places;
-use hep_supported::main_index;
+use hep_supported::{first_unsupported_statement, main_index};
 use hep_symbols::ProgramSymbols;
 use std::alloc::{AllocError, Global};
 
@@ -132,7 +130,7 @@ fn lower_program(alloc: Global, checked: &Checked, main: usize) -> Result<Image,
     if let Some(line) = units.too_deep {
         return Err(LowerFault::refused(alloc, 402, line));
     }
-    if let Some(line) = first_unsupported(source, &units.codes) {
+    if let Some(line) = first_unsupported_statement(source) {
         return Err(LowerFault::refused(alloc, 403, line));
     }
     Ok(image_of(alloc, checked, main, &program, &common, units)?)
@@ -147,8 +145,7 @@ fn lower_program(alloc: Global, checked: &Checked, main: usize) -> Result<Image,
 /// line, where COMMON or the frame of a unit would have more than 16,777,216 cells, or there would be more than
 /// 1,048,576 instructions in all units together. Else 402 with the line of the first statement that would have more
 /// than 256 operands at once (docs/LANGUAGE.md, 12). Else 403 with the line of the first statement that isn't
-/// supported, or else of the first statement of the first unit that has adjustable arrays (docs/LANGUAGE.md, 11). Or
-/// that memory was refused, which is asked for only where there is a main program.
+/// supported (docs/LANGUAGE.md, 11). Or that memory was refused, which is asked for only where there is a main program.
 pub fn lower(alloc: Global, checked: &Checked) -> Result<Image, LowerFault>
     // What is lowered is the program.
     ensures same { IfOk result (λ image. image ≡ checked.now) }

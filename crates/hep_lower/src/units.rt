@@ -122,6 +122,7 @@ fn lower_numbered(
         code: Sequence::from(lowered.code),
         entry: lowered.entry,
         arrays: Sequence::from(places.arrays),
+        dummies: Sequence::from(places.dummies),
         operands: lowered.depth.operands as u32,
         cells: places.cells,
         private: Sequence::from(places.private),

@@ -1,15 +1,11 @@
--- Worked actual arguments: a frame of eleven cells behind two of COMMON, with a dummy array that has two storage units left; and
--- dummy arrays of a unit that is called with what is given to them.
-use Rattle.std.specs.Prelude.{◌≡◌, ℕ, pos, Bool, true, false, List, [], ◌∷◌, Result, Ok, Err, Option, Some, None, refl}
-use Rattle.std.specs.List.{list_all}
-use Rattle.std.specs.Option.{option_map}
+-- Worked actual arguments: a frame of eleven cells behind two of COMMON, with a dummy array that has two storage units left.
+use Rattle.std.specs.Prelude.{◌≡◌, ℕ, pos, false, List, [], ◌∷◌, Result, Ok, Err, Some, refl}
 use Rattle.hep_source.specs.declared.value.Value.{Value}
 use Rattle.hep_source.specs.declared.value.Value.TheVariants.{Int}
 use Rattle.hep_machine.specs.declared.event.Kind.{Kind}
 use Rattle.hep_machine.specs.declared.event.Kind.TheVariants.{Range}
 use Rattle.hep_machine.specs.declared.slot.Slot.{Slot}
 use Rattle.hep_machine.specs.Access.{unset_cell}
-use Rattle.hep_machine.specs.Shapes.{Bounds}
 use Rattle.hep_code.specs.declared.instruction.Argument.TheVariants.{Evaluated, Referred}
 use Rattle.hep_code.specs.declared.instruction.Instruction.{Instruction}
 use Rattle.hep_code.specs.declared.instruction.Instruction.TheVariants.{Pass}
@@ -17,12 +13,11 @@ use Rattle.hep_code.specs.declared.variable.Variable.{Variable}
 use Rattle.hep_code.specs.declared.variable.Variable.TheVariants as variables
 use Rattle.hep_code.specs.Passing.{passed_from}
 use Rattle.hep_image.specs.declared.array.Array.{Array}
-use Rattle.hep_image.specs.declared.array.Extents.TheVariants.{Constant, Adjustable}
-use Rattle.hep_image.specs.declared.array.Start.TheVariants.{Dummy, Local}
+use Rattle.hep_image.specs.declared.array.Extents.TheVariants.{Adjustable}
+use Rattle.hep_image.specs.declared.array.Start.TheVariants.{Dummy}
 use Rattle.hep_image.specs.Finding.{cells_in}
 use Rattle.hep_passing.specs.declared.given.Given.{Given}
 use Rattle.hep_passing.specs.declared.given.Given.TheVariants as giving
-use Rattle.hep_passing.specs.Fitting.{is_fitting}
 use Rattle.hep_passing.specs.Passing.{given_by, passed_at}
 
 abbrev number : ℕ → Slot
@@ -87,32 +82,3 @@ all = refl
 
 fault : given (Pass Evaluated ∷ Pass (Referred (variables.Array false 0) 2) ∷ Pass Evaluated ∷ []) (8 ∷ 4 ∷ 1 ∷ 5 ∷ []) ≡ Err Range
 fault = refl
-
--- ---- shapes
-
--- the second dummy argument is an array of three rows, its second dimension from 1 on; and there is a local array of four elements
-abbrev rows : Option ℕ → Bounds
-rows last = record { lower = pos 1; upper = Some (pos 3) } ∷ record { lower = pos 1; upper = option_map pos last } ∷ []
-
-abbrev called : Option ℕ → List Array
-called last =
-    record { start = Local 7; extents = Constant (record { lower = pos 1; upper = Some (pos 4) } ∷ []) }
-    ∷ record { start = Dummy 3; extents = Constant (rows last) }
-    ∷ []
-
-abbrev fitting : Option ℕ → List Given → Bool
-fitting last gs = list_all (is_fitting gs) (called last)
-
--- six elements fit six storage units; they don't fit five, nor an expression, whatever is given to the first dummy argument
-six_in_six : fitting (Some 2) (giving.Value (Int (pos 8)) ∷ giving.Units 20 6 ∷ []) ≡ true
-six_in_six = refl
-
-six_in_five : fitting (Some 2) (giving.Units 20 6 ∷ giving.Units 20 5 ∷ []) ≡ false
-six_in_five = refl
-
-six_in_an_expression : fitting (Some 2) (giving.Units 20 6 ∷ giving.Value (Int (pos 8)) ∷ []) ≡ false
-six_in_an_expression = refl
-
--- one whose last bound is open fits anywhere
-open_in_one : fitting None (giving.Units 20 6 ∷ giving.Units 20 1 ∷ []) ≡ true
-open_in_one = refl

@@ -2,4 +2,4 @@ pub mod Passing
 pub mod Agreement
 pub mod Entries
 pub mod Ready
-pub mod Fitting
+pub mod Shapes

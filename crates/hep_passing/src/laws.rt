@@ -1,21 +1,17 @@
 //! Laws of passing: what actual arguments give, by the cells of the arena, is what the source machine's dummy arguments
 //! stand for.
-ghost use Rattle.std.specs.Prelude.{◌≡◌, ◌≢◌, ℕ, ◌<◌, ◌≤◌, true, false, List, ◌++◌, length, map, Ok, Err};
-ghost use Rattle.std.specs.List.{flat_map, list_all};
+ghost use Rattle.std.specs.Prelude.{◌≡◌, ◌≢◌, ℕ, ◌≤◌, List, ◌++◌, length, map};
+ghost use Rattle.std.specs.List.{flat_map};
 ghost use Rattle.hep_source.specs.declared.name.Name.{Name};
 ghost use Rattle.hep_source.specs.declared.value.Value.{Value};
-ghost use Rattle.hep_source.specs.Units.{Units, dummies_of, unit_at};
-ghost use Rattle.hep_machine.specs.declared.event.Kind.TheVariants.{Shape};
+ghost use Rattle.hep_source.specs.Units.{Units, unit_at};
 ghost use Rattle.hep_machine.specs.declared.slot.Slot.{Slot};
-ghost use Rattle.hep_machine.specs.Binding.{Binding, binding_for, dummies_for, dummy_for};
+ghost use Rattle.hep_machine.specs.Binding.{dummies_for, dummy_for};
 ghost use Rattle.hep_machine.specs.Evaluation.{Actual, referred};
 ghost use Rattle.hep_machine.specs.Layout.{Frame, Layout};
-ghost use Rattle.hep_machine.specs.Locations.{Scope};
 ghost use Rattle.hep_machine.specs.Processes.{unit_of};
-ghost use Rattle.hep_machine.specs.State.{Dummy, State, Store};
+ghost use Rattle.hep_machine.specs.State.{State};
 ghost use Rattle.hep_machine.specs.Step.{scope_of};
-ghost use Rattle.hep_machine.specs.Variables.{adjustable_dimensions_of_all};
-ghost use Rattle.hep_check.specs.Conditions.{IsAccepted};
 ghost use Rattle.hep_arena.specs.Holes.{Hole};
 ghost use Rattle.hep_code.specs.declared.instruction.Instruction.{Instruction};
 ghost use Rattle.hep_code.specs.declared.instruction.Instruction.TheVariants.{Pass};
@@ -25,12 +21,10 @@ ghost use Rattle.hep_code.specs.Passing.{passed_actual, passed_from};
 ghost use Rattle.hep_frames.specs.Addresses.{IsMemory};
 ghost use Rattle.hep_image.specs.Finding.{cells_in};
 ghost use Rattle.hep_image.specs.Image.{most_cells};
-ghost use Rattle.hep_image.specs.Places.{array_of, arrays_of, variable_of};
+ghost use Rattle.hep_image.specs.Places.{variable_of};
 ghost use Rattle.hep_finding.specs.Within.{ArePlacedArrays};
 ghost use Rattle.hep_reply.specs.Cells.{HasFrame};
-ghost use Rattle.hep_passing.specs.declared.given.Given.{Given};
-ghost use Rattle.hep_passing.specs.Agreement.{AreGiven, AreGivenAs, ArePlaced, IsCaller, IsPassedAs, arrays_at};
-ghost use Rattle.hep_passing.specs.Fitting.{is_fitting};
+ghost use Rattle.hep_passing.specs.Agreement.{AreGivenAs, ArePlaced, IsCaller, IsPassedAs, arrays_at};
 ghost use Rattle.hep_passing.specs.Passing.{given_by, passed_at};
 ghost use Rattle.hep_passing.specs.Ready.{ArePassable, IsPassable};
 
@@ -54,13 +48,3 @@ pub fn callers_can_pass()
     ensures variable { (program : Units) (s : State) (layout : Layout) (contents : List Slot) (holes : List Hole) (a : ℕ) (f : Frame) (x : Name) (vs : List Value) → IsCaller program s layout contents a f → IsMemory program s layout contents holes → ArePlacedArrays program (unit_at program (unit_of s a)) → IsPassable (record { contents = contents; holes = holes }) (arrays_at program s a) (record { first = f.first; cells = f.cells }) (variable_of program (unit_at program (unit_of s a)) x) vs }
     ensures actuals { (program : Units) (s : State) (layout : Layout) (contents : List Slot) (holes : List Hole) (a : ℕ) (f : Frame) (actuals : List Actual) (more : List Instruction) → IsCaller program s layout contents a f → IsMemory program s layout contents holes → ArePlacedArrays program (unit_at program (unit_of s a)) → ArePassable (record { contents = contents; holes = holes }) (arrays_at program s a) (record { first = f.first; cells = f.cells }) (passed_from (length actuals) (map (λ y. Pass (argument_of_actual (variable_of program (unit_at program (unit_of s a))) y)) actuals ++ more) (flat_map operands_of_actual actuals)) }
 {}
-
-/// Where the actual arguments of a CALL or CREATE of a unit without adjustable arrays give what its dummy arguments stand for, these are
-/// bound if each array among them fits what it is given, as `shapes_fit` tells, and else the fault is SHAPE (X3.9-1978, 5.5 and 15.9.3.3).
-pub fn shapes_decide_bindings()
-    ensures fit { (program : Units) (s : State) (layout : Layout) (u a : ℕ) (scope : Scope) (store : Store) (actuals : List Actual) (given : List Given) (ds : List Dummy) → IsAccepted program → u < length program → adjustable_dimensions_of_all (unit_at program u) (dummies_of (unit_at program u)) ≡ 0 → dummies_for scope a (dummies_of (unit_at program u)) actuals ≡ Ok ds → AreGiven program s layout a (dummies_of (unit_at program u)) actuals given ds → list_all (is_fitting given) (map (array_of program (unit_at program u)) (arrays_of (unit_at program u))) ≡ true → (b : Binding) × (binding_for scope store (unit_at program u) a actuals ≡ Ok b) }
-    ensures unfit { (program : Units) (s : State) (layout : Layout) (u a : ℕ) (scope : Scope) (store : Store) (actuals : List Actual) (given : List Given) (ds : List Dummy) → IsAccepted program → u < length program → adjustable_dimensions_of_all (unit_at program u) (dummies_of (unit_at program u)) ≡ 0 → dummies_for scope a (dummies_of (unit_at program u)) actuals ≡ Ok ds → AreGiven program s layout a (dummies_of (unit_at program u)) actuals given ds → list_all (is_fitting given) (map (array_of program (unit_at program u)) (arrays_of (unit_at program u))) ≡ false → binding_for scope store (unit_at program u) a actuals ≡ Err Shape }
-{
-    hep_accepted::names::names_are_given_once();
-    hep_placed::laws::constant_shapes();
-}

@@ -4,13 +4,11 @@
 //! Nothing here takes memory or changes a cell.
 #![tactic(auto)]
 
-pub mod fitting;
 pub mod given;
 pub mod giving;
 pub mod laws;
 pub mod passing;
 
-pub use fitting::shapes_fit;
 pub use given::Given;
 pub use giving::give_actuals;
 pub use passing::passed;

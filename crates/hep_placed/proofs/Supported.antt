@@ -1,9 +1,9 @@
 -- The code of programs in which nothing is unsupported.
 use Rattle.std.proofs.Common.{◌≡◌, ◌<◌, ℕ, zero, suc, Bool, true, false, List, [], ◌∷◌, Option, Some, None, refl, sym, ap, ◌∙◌, subst, true≢false, arith}
-use Rattle.std.specs.Prelude.{slice_get, length, nat_eq, if◌then◌else◌, is_some}
+use Rattle.std.specs.Prelude.{slice_get, length, if◌then◌else◌, is_some}
 use Rattle.std.specs.List.{list_any}
 use Rattle.std.specs.Option.{option_or}
-use Rattle.std.proofs.lemmas.Bool.{eqb-true, or_parts}
+use Rattle.std.proofs.lemmas.Bool.{or_parts}
 use Rattle.std.proofs.lemmas.Option.{none-some, same_Some}
 use Rattle.hep_source.specs.declared.declaration.Target.{Target}
 use Rattle.hep_source.specs.declared.name.Name.{Name}
@@ -11,9 +11,9 @@ use Rattle.hep_source.specs.declared.name.Occurrence.{Occurrence}
 use Rattle.hep_source.specs.declared.statement.Form.{Form}
 use Rattle.hep_source.specs.declared.statement.Form.TheVariants as form
 use Rattle.hep_source.specs.declared.statement.Statement.{Statement}
-use Rattle.hep_source.specs.Units.{Units, dummies_of, line_at, main_among, unit_at}
+use Rattle.hep_source.specs.Units.{Units, line_at, main_among, unit_at}
 use Rattle.hep_machine.specs.Declarations.{is_array, is_constant_name}
-use Rattle.hep_machine.specs.Variables.{adjustable_dimensions_of_all, occurrences_in_statement, occurrences_of}
+use Rattle.hep_machine.specs.Variables.{occurrences_in_statement, occurrences_of}
 use Rattle.hep_check.specs.Statements.{targets_purged}
 use Rattle.hep_code.specs.declared.instruction.Instruction.{Instruction}
 use Rattle.hep_code.specs.declared.instruction.Instruction.TheVariants.{Step}
@@ -25,7 +25,7 @@ use Rattle.hep_code.specs.Replies.{is_asynchronous}
 use Rattle.hep_image.specs.declared.array.Start.{Start}
 use Rattle.hep_image.specs.declared.array.Start.TheVariants.{Local, Common, Dummy}
 use Rattle.hep_image.specs.Places.{scalar, start_of, variable_by, variable_of}
-use Rattle.hep_image.specs.Supported.{first_adjustable_in, first_unsupported, first_unsupported_among, first_unsupported_in, is_unsupported, is_unsupported_form}
+use Rattle.hep_image.specs.Supported.{first_unsupported, first_unsupported_among, first_unsupported_in, is_unsupported, is_unsupported_form}
 use Rattle.hep_accepted.proofs.Members.{Has, flat_has}
 use Rattle.hep_accepted.proofs.Parts.{any-each}
 use Rattle.hep_placed.specs.Instructions.{IsOfOneProcess, IsWithinProcess, variables_in}
@@ -55,37 +55,20 @@ supported_in [] u s e h g = absurd (omega arith)
 supported_in (unit ∷ units) zero s e h g = among unit unit s (neither (first_unsupported_among unit unit) (first_unsupported_in units) e).0 g
 supported_in (unit ∷ units) (suc u) s e h g = supported_in units u s (neither (first_unsupported_among unit unit) (first_unsupported_in units) e).1 (omega (arith, h)) g
 
-unadjusted_in : (program : Units) (u : ℕ) → first_adjustable_in program ≡ None → u < length program → adjustable_dimensions_of_all (unit_at program u) (dummies_of (unit_at program u)) ≡ 0
-unadjusted_in [] u e h = absurd (omega arith)
-unadjusted_in (unit ∷ units) u e h = by_test (nat_eq (adjustable_dimensions_of_all unit (dummies_of unit)) 0) refl e u h (unadjusted_in units) where
-  by_place : (v : ℕ) → nat_eq (adjustable_dimensions_of_all unit (dummies_of unit)) 0 ≡ true → v < suc (length units) → ((w : ℕ) → w < length units → adjustable_dimensions_of_all (unit_at units w) (dummies_of (unit_at units w)) ≡ 0)
-      → adjustable_dimensions_of_all (unit_at (unit ∷ units) v) (dummies_of (unit_at (unit ∷ units) v)) ≡ 0
-  by_place zero f g more = eqb-true (adjustable_dimensions_of_all unit (dummies_of unit)) 0 f
-  by_place (suc v) f g more = more v (omega (arith, g))
-
-  by_test : (b : Bool) → nat_eq (adjustable_dimensions_of_all unit (dummies_of unit)) 0 ≡ b → (if b then first_adjustable_in units else Some (line_at unit 0)) ≡ None → (v : ℕ) → v < suc (length units)
-      → ((w : ℕ) → first_adjustable_in units ≡ None → w < length units → adjustable_dimensions_of_all (unit_at units w) (dummies_of (unit_at units w)) ≡ 0)
-      → adjustable_dimensions_of_all (unit_at (unit ∷ units) v) (dummies_of (unit_at (unit ∷ units) v)) ≡ 0
-  by_test true f none v g more = by_place v f g (λ w. more w none)
-  by_test false f none v g more = absurd (none-some (line_at unit 0) (sym none))
-
 -- and it has a main program
 with_main : (o : Option ℕ) (line : ℕ) (rest : Option ℕ) → (if is_some o then rest else Some line) ≡ None → (is_some o ≡ true) × (rest ≡ None)
 with_main (Some n) line rest e = (refl, e)
 with_main None line rest e = absurd (none-some line (sym e))
 
 module _ (program : Units) (none : first_unsupported program ≡ None) where
-  within : (is_some (main_among program) ≡ true) × (option_or (first_unsupported_in program) (first_adjustable_in program) ≡ None)
-  within = with_main (main_among program) (line_at (unit_at program 0) 0) (option_or (first_unsupported_in program) (first_adjustable_in program)) none
+  within : (is_some (main_among program) ≡ true) × (first_unsupported_in program ≡ None)
+  within = with_main (main_among program) (line_at (unit_at program 0) 0) (first_unsupported_in program) none
 
   pub main_there : is_some (main_among program) ≡ true
   main_there = within.0
 
   supported : (u : ℕ) (s : Statement) → u < length program → Has (unit_at program u) s → is_unsupported (unit_at program u) s ≡ false
-  supported u s = supported_in program u s (neither (first_unsupported_in program) (first_adjustable_in program) within.1).0
-
-  pub none_adjusted : (u : ℕ) → u < length program → adjustable_dimensions_of_all (unit_at program u) (dummies_of (unit_at program u)) ≡ 0
-  none_adjusted u = unadjusted_in program u (neither (first_unsupported_in program) (first_adjustable_in program) within.1).1
+  supported u s = supported_in program u s within.1
 
 none_purged : (f : Form) (t : Target) → is_unsupported_form f ≡ false → Has (targets_purged f) t → ⊥
 none_purged (form.Purge ts) t e h = true≢false e

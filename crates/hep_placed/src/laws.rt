@@ -3,11 +3,10 @@ ghost use Rattle.std.specs.Prelude.{◌≡◌, ◌<◌, ℕ, Bool, true, List, S
 ghost use Rattle.hep_source.specs.declared.function.StateFunction.{StateFunction};
 ghost use Rattle.hep_source.specs.declared.name.Name.{Name};
 ghost use Rattle.hep_source.specs.declared.statement.Statement.{Statement};
-ghost use Rattle.hep_source.specs.Units.{Units, dummies_of, main_among, unit_at};
+ghost use Rattle.hep_source.specs.Units.{Units, main_among, unit_at};
 ghost use Rattle.hep_machine.specs.Constants.{adjustable_dimensions, constant_shape};
 ghost use Rattle.hep_machine.specs.Declarations.{is_array};
 ghost use Rattle.hep_machine.specs.Shapes.{Bounds, is_shape};
-ghost use Rattle.hep_machine.specs.Variables.{adjustable_dimensions_of_all};
 ghost use Rattle.hep_check.specs.Conditions.{IsAccepted};
 ghost use Rattle.hep_code.specs.declared.instruction.Evaluation.TheVariants.{Test};
 ghost use Rattle.hep_code.specs.declared.instruction.Instruction.{Instruction};
@@ -37,13 +36,12 @@ pub fn variables_of_the_code_are_placed()
 }
 
 /// Where a program has nothing that isn't supported, it has a main program; in its code no process begins and nothing is
-/// purged, and each variable, passed ones too, has storage units and no `$`; and none of its units has adjustable arrays.
+/// purged, and each variable, passed ones too, has storage units and no `$`.
 pub fn supported_code()
     ensures main { (program : Units) → first_unsupported program ≡ None → is_some (main_among program) ≡ true }
     ensures process { (program : Units) (u i : ℕ) (x : Instruction) → IsAccepted program → first_unsupported program ≡ None → u < length program → slice_get (code_in program u) i ≡ Some x → IsOfOneProcess x }
     ensures plain { (program : Units) (u i : ℕ) (x : Instruction) → IsAccepted program → first_unsupported program ≡ None → u < length program → slice_get (code_in program u) i ≡ Some x → ArePlain (variables_in x) }
     ensures placed { (program : Units) (u i : ℕ) (x : Instruction) → IsAccepted program → first_unsupported program ≡ None → u < length program → slice_get (code_in program u) i ≡ Some x → ArePlaced (variables_in x) }
-    ensures unadjusted { (program : Units) (u : ℕ) → first_unsupported program ≡ None → u < length program → adjustable_dimensions_of_all (unit_at program u) (dummies_of (unit_at program u)) ≡ 0 }
 {
     laws::constants_agree();
 }

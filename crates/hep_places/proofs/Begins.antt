@@ -190,7 +190,7 @@ module _ (unit : List Statement) (small : frame_cells unit ≤ 16777216) where
 -- ---- units of programs
 
 module _ (program : Units) (u : ℕ) (unit : List Statement) (there : slice_get program u ≡ Some unit) (small : frame_cells unit ≤ 16777216) (few : common_cells program ≤ 16777216) (common : CommonStarts) (starts : AreStarts program common) where
-  common-first : (x : Name) (b : BlockName) (offset : Option ℕ) → common_block unit x ≡ Some b → offset ≡ offset_among unit no_length (entries_of unit) x → narrowed (start_in common b + unwrap_or offset 0) ≡ first_in_common program unit b x
+  pub common-first : (x : Name) (b : BlockName) (offset : Option ℕ) → common_block unit x ≡ Some b → offset ≡ offset_among unit no_length (entries_of unit) x → narrowed (start_in common b + unwrap_or offset 0) ≡ first_in_common program unit b x
   common-first x b offset h e =
       let a = first_of_block program b in
       let f = first_in (same_name x) (block_row unit b) in

@@ -15,13 +15,13 @@ use Rattle.hep_storage.proofs.CellCounts.{adjustable}
 use Rattle.hep_common.specs.Starts.{narrowed}
 use Rattle.hep_places.specs.Found.{Table, constant_extents, extents_found}
 
-array-shape : (unit : List Statement) (x : Name) → is_array unit x ≡ true → if_shape (bounds_of unit (constant_value unit) (dimensions_of unit x)) ≡ constant_shape unit x
+pub array-shape : (unit : List Statement) (x : Name) → is_array unit x ≡ true → if_shape (bounds_of unit (constant_value unit) (dimensions_of unit x)) ≡ constant_shape unit x
 array-shape unit x h = by (is_nonempty (dimensions_of unit x)) h where
   by : (t : Bool) → t ≡ true → if_shape (bounds_of unit (constant_value unit) (dimensions_of unit x)) ≡ (if t then if_shape (bounds_of unit (constant_value unit) (dimensions_of unit x)) else Some [])
   by true e = refl
   by false e = absurd (true≢false (sym e))
 
-some-dimension : (ds : List Dimension) → is_nonempty ds ≡ true → nat_eq (length ds) 0 ≡ false
+pub some-dimension : (ds : List Dimension) → is_nonempty ds ≡ true → nat_eq (length ds) 0 ≡ false
 some-dimension [] h = absurd (true≢false (sym h))
 some-dimension (d ∷ ds) h = grind (arith, nat_tests)
 

@@ -7,7 +7,8 @@ use Rattle.indexmap.specs.IndexMap.{get}
 use Rattle.hep_source.specs.declared.name.Name.{Name}
 use Rattle.hep_source.specs.declared.statement.Statement.{Statement}
 use Rattle.hep_source.specs.Names.{name_eq}
-use Rattle.hep_source.specs.Units.{Units}
+use Rattle.hep_source.specs.Units.{Units, dummies_of}
+use Rattle.hep_machine.specs.Constants.{constant_value}
 use Rattle.hep_machine.specs.Layout.{common_cells}
 use Rattle.hep_machine.specs.Variables.{frame_cells, locals_of, names_of}
 use Rattle.hep_code.specs.declared.variable.Variable.TheVariants.{Absent}
@@ -18,8 +19,10 @@ use Rattle.hep_common.specs.Starts.{AreStarts}
 use Rattle.hep_common.specs.declared.starts.CommonStarts.{CommonStarts}
 use Rattle.hep_places.specs.declared.tables.Tables.{Tables}
 use Rattle.hep_places.specs.declared.unit.UnitPlaces.{UnitPlaces}
+use Rattle.hep_places.specs.Dummies.{dummy_found, source_found}
 use Rattle.hep_places.specs.Found.{AreTables, array_found, start_found, variable_among}
 use Rattle.hep_places.specs.Unit.{ArePlaces}
+use Rattle.hep_places.proofs.Arguments.{dummies-right, source-right}
 use Rattle.hep_places.proofs.Begins.{bounds-right, cells-right, dimensions-right, local-first, loops-right, start-right}
 use Rattle.hep_places.proofs.Right.{HasShapes, arrays-right, extents-right, private-right, variables-right}
 
@@ -34,6 +37,7 @@ pub record IsFound (unit : List Statement) (common : CommonStarts) (t : Tables) 
   pub arrays : p.arrays.items ≡ map (array_found unit (found_start unit common t) (get name_eq t.bounds)) (arrays_of unit)
   pub cells : p.cells ≡ t.cells
   pub private_are : p.private.items ≡ map (λ (x : Name). unwrap_or (get name_eq t.locals x) 0) (filter (is_private unit) (locals_of unit))
+  pub dummies : p.dummies.items ≡ map (dummy_found unit (source_found unit (constant_value unit) common (get name_eq t.offsets))) (dummies_of unit)
 
 pub places-right : (program : Units) (u : ℕ) (unit : List Statement) (common : CommonStarts) (t : Tables) (p : UnitPlaces) → slice_get program u ≡ Some unit → HasShapes unit → length (arrays_of unit) ≤ 33554432
     → frame_cells unit ≤ 16777216 → common_cells program ≤ 16777216 → AreStarts program common → IsFound unit common t p → ArePlaces program unit p
@@ -44,6 +48,7 @@ places-right program u unit common t p there shapes arrays small few starts f =
       arrays = f.arrays ∙ arrays-right program unit (found_start unit common t) (get name_eq t.bounds) right (λ x h. extents-right unit (get name_eq t.bounds) x shapes h (λ k e. f.tables.bounds x ∙ bounds-right unit small x k e) (λ k e. dimensions-right unit small x k e));
       cells = f.cells ∙ (f.tables.cells ∙ cells-right unit small);
       private_are = f.private_are ∙ private-right unit (get name_eq t.locals) (λ x h. f.tables.locals x ∙ local-first unit small x h);
+      dummies = f.dummies ∙ dummies-right program unit (source_found unit (constant_value unit) common (get name_eq t.offsets)) shapes (λ x. source-right program u unit there small few common starts (get name_eq t.offsets) x (f.tables.offsets x));
     }
   where
     right : (x : Name) → found_start unit common t x ≡ start_of program unit x

@@ -10,4 +10,5 @@ mod Right
 mod Few
 mod Accepted
 mod Final
-mod Adjusted
+mod Counts
+mod Arguments

@@ -1,4 +1,4 @@
 pub mod Places
 pub mod Found
 pub mod Unit
-pub mod Adjustable
+pub mod Dummies

@@ -4,6 +4,7 @@ use Rattle.hep_source.specs.declared.name.Name.{Name}
 use Rattle.hep_source.specs.declared.statement.Statement.{Statement}
 use Rattle.hep_source.specs.Units.{Units}
 use Rattle.hep_machine.specs.Variables.{frame_cells}
+use Rattle.hep_image.specs.Dummies.{dummy_arguments}
 use Rattle.hep_image.specs.Places.{array_of, arrays_of, loop_cells, variable_of}
 use Rattle.hep_image.specs.Private.{private_cells}
 use Rattle.hep_places.specs.declared.unit.UnitPlaces.{UnitPlaces}
@@ -17,3 +18,5 @@ pub record ArePlaces (program : Units) (unit : List Statement) (p : UnitPlaces) 
   pub arrays : p.arrays.items ≡ map (array_of program unit) (arrays_of unit)
   pub cells : p.cells ≡ frame_cells unit
   pub private_are : p.private.items ≡ private_cells unit
+  -- what must be known of its dummy arguments where it is called
+  pub dummies : p.dummies.items ≡ dummy_arguments program unit

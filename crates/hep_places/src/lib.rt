@@ -4,7 +4,9 @@
 mod actuals;
 mod arrays;
 mod blocks;
+mod bounds;
 mod cells;
+mod dummies;
 pub mod laws;
 mod loops;
 mod names;

@@ -8,13 +8,15 @@ ghost use Rattle.hep_common.specs.Starts.{AreStarts};
 ghost use Rattle.hep_places.specs.Unit.{ArePlaces};
 
 use crate::arrays::arrays_among;
+use crate::bounds::Known;
+use crate::dummies::dummy_arguments;
 use crate::laws::arrays_are_few;
 use crate::places::Places;
 use crate::tables::tables_of;
 use crate::variables::{private_among, variables_among};
 use hep_accepted::values::arrays_have_shapes;
 use hep_common::CommonStarts;
-use hep_image::Array;
+use hep_image::{Array, DummyArgument};
 use hep_placed::laws::constant_shapes;
 use hep_storage::constants::constants;
 use hep_symbols::Symbols;
@@ -31,6 +33,8 @@ pub struct UnitPlaces {
     /// The cells of its frame, counted from the first one, that have a plain local scalar which is nowhere a bare
     /// actual argument; in rising order.
     pub private: Vec<u32>,
+    /// What must be known of its dummy arguments where it is called, in their order.
+    pub dummies: Vec<DummyArgument>,
 }
 
 /// Where the variables, arrays and DOs of a unit of an accepted program are, by one pass over each row of its frame and
@@ -57,6 +61,13 @@ pub fn unit_places(
     let arrays = arrays_among(alloc, symbols, common, &constants, &tables, names)?;
     let variables = variables_among(alloc, symbols, common, &tables, names)?;
     let private = private_among(alloc, symbols, &tables, symbols.locals())?;
+    let known = Known {
+        symbols,
+        common,
+        constants: &constants,
+        tables: &tables,
+    };
+    let dummies = dummy_arguments(alloc, &known, symbols.dummies())?;
     Ok(UnitPlaces {
         places: Places {
             variables,
@@ -65,5 +76,6 @@ pub fn unit_places(
         arrays,
         cells: tables.cells,
         private,
+        dummies,
     })
 }

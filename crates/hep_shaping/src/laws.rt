@@ -1,25 +1,30 @@
 //! Laws of what the code of bounds reads at a CALL.
-ghost use Rattle.std.specs.Prelude.{◌≡◌, ℕ, true, List, Some, None};
+ghost use Rattle.std.specs.Prelude.{◌≡◌, ℕ, ◌<◌, ◌≤◌, true, false, List, Some, None, Ok, Err, length};
 ghost use Rattle.hep_source.specs.declared.declaration.Dimension.{Dimension};
 ghost use Rattle.hep_source.specs.declared.name.Name.{Name};
 ghost use Rattle.hep_source.specs.declared.statement.Statement.{Statement};
 ghost use Rattle.hep_source.specs.Tree.{Tree};
-ghost use Rattle.hep_source.specs.Units.{Units, dummies_of};
-ghost use Rattle.hep_machine.specs.Binding.{with_actuals};
+ghost use Rattle.hep_source.specs.Units.{Units, dummies_of, unit_at};
+ghost use Rattle.hep_machine.specs.Binding.{Binding, binding_for, dummies_for, with_actuals};
 ghost use Rattle.hep_machine.specs.Declarations.{is_common};
+ghost use Rattle.hep_machine.specs.declared.event.Kind.TheVariants.{Shape};
 ghost use Rattle.hep_machine.specs.declared.slot.Slot.{Slot};
 ghost use Rattle.hep_machine.specs.Evaluation.{Actual};
 ghost use Rattle.hep_machine.specs.Layout.{Layout};
 ghost use Rattle.hep_machine.specs.Locations.{Scope, own_storage};
-ghost use Rattle.hep_machine.specs.State.{State};
+ghost use Rattle.hep_machine.specs.State.{Dummy, State};
+ghost use Rattle.hep_check.specs.Conditions.{IsAccepted};
 ghost use Rattle.hep_arena.specs.Gaps.{frame_among};
 ghost use Rattle.hep_arena.specs.Holes.{Hole};
 ghost use Rattle.hep_arena.specs.Space.{Space};
 ghost use Rattle.hep_frames.specs.Addresses.{Holds, IsMemory, address};
+ghost use Rattle.hep_image.specs.Dummies.{dummy_arguments};
 ghost use Rattle.hep_passing.specs.Agreement.{AreGiven};
 ghost use Rattle.hep_passing.specs.declared.given.Given.{Given};
 ghost use Rattle.hep_bounds.specs.BoundCode.{Sources, code_of_bound};
 ghost use Rattle.hep_bounds.specs.DimensionCode.{code_of_dimensions};
+ghost use Rattle.hep_passing.specs.Shapes.{AreShapesOf};
+ghost use Rattle.hep_shaping.specs.Fitting.{AreShapable, are_fitting, longest_code, shapes_of};
 ghost use Rattle.hep_shaping.specs.Given.{AreReadable, IsReadable, stored_for, stored_in};
 ghost use Rattle.hep_bounds.specs.Sources.{AreStored, IsNamedOnce, adjustable_code};
 
@@ -35,3 +40,25 @@ pub fn calls_have_what_is_stored()
     ensures stored { (program : Units) (s : State) (layout : Layout) (contents : List Slot) (b : ℕ) (scope : Scope) (actuals : List Actual) (given : List Given) (cell : Name → ℕ) → frame_among b layout ≡ None → Holds program s layout contents → IsNamedOnce (dummies_of scope.unit) → AreGiven program s layout b (dummies_of scope.unit) actuals given scope.dummies → ((x : Name) → is_common scope.unit x ≡ true → address program s layout (own_storage scope x).start ≡ Some (cell x)) → AreStored scope (with_actuals s.store b (dummies_of scope.unit) actuals) cell (stored_in contents) (stored_for contents given) }
     ensures readable { (program : Units) (s : State) (layout : Layout) (contents : List Slot) (holes : List Hole) (b : ℕ) (scope : Scope) (actuals : List Actual) (given : List Given) (cell : Name → ℕ) → IsMemory program s layout contents holes → AreGiven program s layout b (dummies_of scope.unit) actuals given scope.dummies → ((x : Name) → is_common scope.unit x ≡ true → address program s layout (own_storage scope x).start ≡ Some (cell x)) → (x : Name) → AreReadable (record { contents = contents; holes = holes }) given (adjustable_code scope.unit cell x) }
 {}
+
+/// Where a unit is called, `find_shapes` can read what the bounds of its arrays name, and has the room that it needs where there
+/// is room for the longest code.
+pub fn calls_are_shapable()
+    ensures { (program : Units) (s : State) (layout : Layout) (contents : List Slot) (holes : List Hole) (u a room : ℕ) (actuals : List Actual) (given : List Given) (ds : List Dummy) → IsAccepted program → u < length program → IsMemory program s layout contents holes → AreGiven program s layout a (dummies_of (unit_at program u)) actuals given ds → longest_code (dummy_arguments program (unit_at program u)) ≤ room → AreShapable (record { contents = contents; holes = holes }) given room (dummy_arguments program (unit_at program u)) }
+{
+    hep_accepted::names::names_stand_for_one_thing();
+    hep_accepted::values::arrays_have_shapes();
+}
+
+/// Where the actual arguments of a CALL or CREATE give what the dummy arguments of a unit stand for, these are bound if each
+/// array among them has a shape that fits what it is given, as `find_shapes` tells, and an adjustable one has the shape that
+/// is found; else the fault is SHAPE (X3.9-1978, 5.5, 5.5.1 and 15.9.3.3).
+pub fn shapes_decide_bindings()
+    ensures fit { (program : Units) (s : State) (layout : Layout) (contents : List Slot) (u a : ℕ) (scope : Scope) (actuals : List Actual) (given : List Given) (ds : List Dummy) → IsAccepted program → u < length program → frame_among a layout ≡ None → Holds program s layout contents → AreGiven program s layout a (dummies_of (unit_at program u)) actuals given ds → dummies_for scope a (dummies_of (unit_at program u)) actuals ≡ Ok ds → are_fitting contents given (dummy_arguments program (unit_at program u)) ≡ true → (b : Binding) × (binding_for scope s.store (unit_at program u) a actuals ≡ Ok b) × AreShapesOf (unit_at program u) b.dummies (shapes_of contents given (dummy_arguments program (unit_at program u))) }
+    ensures unfit { (program : Units) (s : State) (layout : Layout) (contents : List Slot) (u a : ℕ) (scope : Scope) (actuals : List Actual) (given : List Given) (ds : List Dummy) → IsAccepted program → u < length program → frame_among a layout ≡ None → Holds program s layout contents → AreGiven program s layout a (dummies_of (unit_at program u)) actuals given ds → dummies_for scope a (dummies_of (unit_at program u)) actuals ≡ Ok ds → are_fitting contents given (dummy_arguments program (unit_at program u)) ≡ false → binding_for scope s.store (unit_at program u) a actuals ≡ Err Shape }
+{
+    hep_accepted::names::names_are_given_once();
+    hep_accepted::names::names_stand_for_one_thing();
+    hep_accepted::values::arrays_have_shapes();
+    hep_placed::laws::constant_shapes();
+}

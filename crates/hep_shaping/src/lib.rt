@@ -4,9 +4,11 @@
 //! Nothing here takes memory or changes a cell.
 #![tactic(auto)]
 
+pub mod fitting;
 pub mod laws;
 pub mod shape;
 pub mod value;
 
+pub use fitting::{find_shapes, longest_code};
 pub use shape::shape_given;
 pub use value::bound_value;

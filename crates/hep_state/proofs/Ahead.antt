@@ -1,34 +1,30 @@
 -- The operation ahead of a process: where it isn't left out, its step makes no activation.
-use Rattle.std.proofs.Common.{◌≡◌, ◌≢◌, ℕ, zero, suc, ◌+◌, ◌<◌, Bool, true, false, List, [], ◌∷◌, ◌++◌, drop, length, Some, None, refl, sym, ap, ◌∙◌}
-use Rattle.std.specs.Prelude.{if◌then◌else◌, is_some, slice_get}
+use Rattle.std.proofs.Common.{◌≡◌, ◌≢◌, ℕ, zero, suc, ◌+◌, Bool, true, false, List, [], ◌∷◌, ◌++◌, drop, Some, None, refl, sym, ap, ◌∙◌}
+use Rattle.std.specs.Prelude.{if◌then◌else◌, slice_get}
 use Rattle.std.specs.Option.{unwrap_or}
 use Rattle.std.proofs.lemmas.Option.{none-some, same_Some}
 use Rattle.hep_source.specs.declared.value.Value.{Value}
-use Rattle.hep_source.specs.Units.{Units, main_among}
+use Rattle.hep_source.specs.Units.{Units}
 use Rattle.hep_machine.specs.declared.slot.Slot.{Slot}
 use Rattle.hep_machine.specs.Layout.{Frame, Layout, is_held, layout_of}
 use Rattle.hep_machine.specs.Run.{state_after_turn}
 use Rattle.hep_machine.specs.State.{Level as SourceLevel, Process, State}
 use Rattle.hep_machine.specs.Step.{StepResult, Top, stack_after_return, state_made, state_with_store, step_result_of, stepped}
 use Rattle.hep_machine.specs.Processes.{with_process}
-use Rattle.hep_check.specs.Conditions.{IsAccepted}
 use Rattle.hep_arena.specs.Holes.{Hole}
 use Rattle.hep_code.specs.declared.instruction.Instruction.{Instruction}
 use Rattle.hep_code.specs.declared.instruction.Instruction.TheVariants.{Pass, Push, Show, Step, To}
 use Rattle.hep_code.specs.Ahead.{IsPastPushes}
 use Rattle.hep_code.proofs.Ahead.{drop_one_more, pushed}
-use Rattle.hep_image.specs.Supported.{first_unsupported}
 use Rattle.hep_step.specs.Effects.{Effect, fails, moves, prints, returns, stops, unsupported, waits}
 use Rattle.hep_step.specs.Simulation.{IsNotLeftOut, IsRunning, Simulates, state_with_record, unit_addressed, unit_code}
 use Rattle.hep_state.specs.declared.machine.Level.{Level}
 use Rattle.hep_state.specs.Snapshots.{Snapshot}
-use Rattle.hep_state.specs.Taking.{HasLevels, IsSettled}
+use Rattle.hep_state.specs.Taking.{IsSettled}
 use Rattle.hep_state.specs.Tops.{IsTurning, frame_under, top_after}
-use Rattle.hep_state.specs.Turns.{IsAfter}
 use Rattle.hep_state.proofs.Runs.{layout-stays, step-is}
 use Rattle.hep_state.proofs.Settled.{turning}
-use Rattle.hep_state.proofs.Taken.{again, ahead-simulated, inside, settled-now}
-use Rattle.hep_state.proofs.Tops.{has-main}
+use Rattle.hep_state.proofs.Taken.{again, ahead-simulated}
 
 -- ---- the values that stand ahead
 

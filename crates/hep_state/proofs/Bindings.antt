@@ -1,5 +1,5 @@
 -- What the actual arguments of a CALL give, and the dummy arguments that they bind: one by one, and as the source machine has them.
-use Rattle.std.proofs.Common.{◌≡◌, ◌≢◌, inl, inr, ℕ, suc, ◌<◌, false, List, [], ◌∷◌, ◌++◌, drop, length, map, Some, Result, Ok, Err, refl, sym, ap, subst, arith}
+use Rattle.std.proofs.Common.{◌≡◌, ◌≢◌, inl, inr, ℕ, suc, ◌<◌, false, List, [], ◌∷◌, ◌++◌, drop, length, map, Option, Some, None, Result, Ok, Err, refl, sym, ap, subst, arith}
 use Rattle.std.specs.Prelude.{slice_get}
 use Rattle.std.specs.List.{flat_map}
 use Rattle.std.proofs.lemmas.Option.{slice_get_cases, slice_get_within}
@@ -15,8 +15,10 @@ use Rattle.hep_machine.specs.Layout.{Frame, Layout}
 use Rattle.hep_machine.specs.Locations.{Scope}
 use Rattle.hep_machine.specs.Processes.{unit_of}
 use Rattle.hep_machine.specs.Run.{run}
+use Rattle.hep_machine.specs.Shapes.{Bounds}
 use Rattle.hep_machine.specs.State.{Dummy, Level as SourceLevel, Process, State}
 use Rattle.hep_machine.specs.Step.{Top, binding_of, next_activation, scope_of, step, unit_called}
+use Rattle.hep_arena.specs.Gaps.{frame_among}
 use Rattle.hep_arena.specs.Holes.{Hole}
 use Rattle.hep_code.specs.declared.instruction.Instruction.{Instruction}
 use Rattle.hep_code.specs.declared.instruction.Instruction.TheVariants.{Pass, Step}
@@ -25,6 +27,7 @@ use Rattle.hep_code.specs.declared.variable.Variable.{Variable}
 use Rattle.hep_code.specs.declared.variable.Variable.TheVariants.{Absent}
 use Rattle.hep_code.specs.Actions.{argument_of_actual, operands_of_actual}
 use Rattle.hep_code.specs.Passing.{passed_from}
+use Rattle.hep_frames.specs.Addresses.{IsMemory}
 use Rattle.hep_frames.specs.Runs.{RunsFrom}
 use Rattle.hep_image.specs.Finding.{cells_in}
 use Rattle.hep_image.specs.Places.{variable_of}
@@ -32,6 +35,7 @@ use Rattle.hep_passing.specs.declared.given.Given.{Given}
 use Rattle.hep_passing.specs.declared.given.Given.TheVariants as giving
 use Rattle.hep_passing.specs.Agreement.{AreGiven, AreGivenAs, ArePlaced, IsCaller, IsGiven, arrays_at}
 use Rattle.hep_passing.specs.Passing.{given_by}
+use Rattle.hep_passing.specs.Shapes.{AreShapesOf}
 use Rattle.hep_step.specs.Calls.{IsCallAhead}
 use Rattle.hep_step.specs.Effects.{fails}
 use Rattle.hep_step.specs.Simulation.{IsRunning, Simulates, code_on_top}
@@ -176,11 +180,22 @@ module _ (program : Units) (all : IsKnownToBind program) (cells : ℕ) (choices 
 
   -- ---- none
 
+  abbrev memory : IsMemory program old layout m.arena.contents m.arena.holes
+  memory = at.turning.after.shows.keeps.memory
+
+  -- the new activation has no frame yet
+  pub frameless : frame_among (next_activation old) layout ≡ None
+  frameless = by_frame (frame_among (next_activation old) layout) refl where
+    by_frame : (o : Option Frame) → frame_among (next_activation old) layout ≡ o → o ≡ None
+    by_frame None e = refl
+    by_frame (Some f) e = absurd (omega (arith, (memory.laid.made (next_activation old) f e).1))
+
   pub dummies-given : (gs : List Given) → given_of program m call at ≡ Ok gs → (ds : List Dummy) × (bound ≡ Ok ds) × AreGiven program old layout (next_activation old) xs actuals gs ds
   dummies-given gs e = given-so program old layout (next_activation old) xs actuals (given_of program m call at) bound gs given-as e
 
-  pub called-so : (gs : List Given) (b : Binding) → given_of program m call at ≡ Ok gs → binding ≡ Ok b → IsCalling program cells choices p m call.unit call.next gs
-  called-so gs b e bound_so =
+  pub called-so : (gs : List Given) (shapes : List (Option Bounds)) (b : Binding) → given_of program m call at ≡ Ok gs → binding ≡ Ok b → AreShapesOf (unit_at program call.unit) b.dummies shapes
+      → IsCalling program cells choices p m call.unit call.next gs shapes
+  called-so gs shapes b e bound_so shaped =
       let ahead = calls program all.known cells choices p m call at in
       let dummies = dummies-given gs e in
       let passing : IsPassing program choices p at.top call.unit actuals b =
@@ -200,6 +215,7 @@ module _ (program : Units) (all : IsKnownToBind program) (cells : ℕ) (choices 
         actuals = actuals;
         b = b;
         passing = passing;
+        shaped = shaped;
         passed = all-passed program old layout (scope_of program old at.top.0.activation) (next_activation old) xs actuals gs dummies.0 dummies.1 dummies.2;
         made = subst (λ u. step program p old ≡ Some (state_called program choices p at.top u b)) (sym ahead.unit) step_so;
         after = subst (λ u. IsAfterCall program u at.top.0.statement call.next) (caller-unit program all.known cells choices p m call at) ahead.onward;

@@ -8,6 +8,7 @@ use Rattle.hep_source.specs.Units.{Units, unit_at}
 use Rattle.hep_machine.specs.declared.event.Kind.{Kind}
 use Rattle.hep_machine.specs.Layout.{Layout, common_cells, frame_of, is_held, layout_after_step, layout_of, lowest_gap, remaining_layout, with_frame}
 use Rattle.hep_machine.specs.Run.{run}
+use Rattle.hep_machine.specs.Shapes.{Bounds}
 use Rattle.hep_machine.specs.State.{State}
 use Rattle.hep_machine.specs.Step.{step}
 use Rattle.hep_machine.specs.Variables.{frame_cells}
@@ -22,7 +23,7 @@ use Rattle.hep_state.specs.Snapshots.{Snapshot}
 use Rattle.hep_state.specs.Taking.{IsEnding}
 use Rattle.hep_state.specs.Tops.{state_failed}
 use Rattle.hep_state.specs.Turns.{HasGaps, HasNoGap}
-use Rattle.hep_state.proofs.Plain.{called-number, called-unit, dummies-fit}
+use Rattle.hep_state.proofs.Made.{called-number, called-unit, dummies-fit}
 use Rattle.hep_state.proofs.Runs.{layout-last, layout-left, step-is}
 
 -- ---- the layout after a step that makes an activation
@@ -39,7 +40,7 @@ layout-more program cells choices p layout t gap e made long is =
 
 -- ---- CALL
 
-module _ (program : Units) (cells : ℕ) (choices : List ℕ) (m : Snapshot) (p u n entry index : ℕ) (given : List Given) (h : IsCalling program cells choices p m u index given) (unit : IsUnit program u n entry) where
+module _ (program : Units) (cells : ℕ) (choices : List ℕ) (m : Snapshot) (p u n entry index : ℕ) (given : List Given) (shapes : List (Option Bounds)) (h : IsCalling program cells choices p m u index given shapes) (unit : IsUnit program u n entry) where
   abbrev t : State
   t = state_called program choices p h.top u h.b
 

@@ -17,7 +17,7 @@ pub mod Waiting
 pub mod Taken
 pub mod Givings
 pub mod MachineOpened
-pub mod Plain
+pub mod Made
 pub mod Entered
 pub mod Gapped
 pub mod Callers

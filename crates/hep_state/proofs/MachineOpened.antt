@@ -59,5 +59,5 @@ module _ (program : Units) (cells key entry : ℕ) (m : Machine) (q : Process) (
     all-room : (i : ℕ) (r : Process) → slice_get m.processes.items i ≡ Some r → HasRoom program r
     all-room i r e = subst (HasRoom program) (the-only q r i (ap (λ (qs : List Process). slice_get qs i) (sym begun.alone) ∙ e)) has-room
 
-    pub machine-opened : cells ≤ most_cells → HasRoomToPass program m → IsAfter program cells [] (snapshot_opened program key entry m.frames.arena (nodes_of m.frames.nodes)) → IsMachineAfter program cells [] m
+    pub machine-opened : cells ≤ most_cells → HasRoomToPass program m.passing → IsAfter program cells [] (snapshot_opened program key entry m.frames.arena (nodes_of m.frames.nodes)) → IsMachineAfter program cells [] m
     machine-opened few to_pass after = record { after = subst (IsAfter program cells []) (sym snapshot-is) after; few = few; to_pass = to_pass; room = all-room }

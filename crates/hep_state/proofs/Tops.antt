@@ -19,7 +19,7 @@ use Rattle.hep_arena.specs.Gaps.{frame_among}
 use Rattle.hep_code.specs.declared.instruction.Instruction.TheVariants.{Step}
 use Rattle.hep_code.specs.declared.instruction.Evaluation.TheVariants.{Load, Test}
 use Rattle.hep_code.specs.declared.instruction.Operation.{Operation}
-use Rattle.hep_code.specs.declared.instruction.Operation.TheVariants.{Evaluate, Store, EnterLoop, EndLoop, Call, Create, Purge}
+use Rattle.hep_code.specs.declared.instruction.Operation.TheVariants.{Evaluate, Store, EnterLoop, EndLoop}
 use Rattle.hep_code.specs.declared.variable.Variable.TheVariants.{Absent}
 use Rattle.hep_code.specs.Replies.{IsAddressed}
 use Rattle.hep_code.specs.Standing.{HoldsLoops, Stands}
@@ -37,8 +37,7 @@ use Rattle.hep_finding.proofs.Reached.{any-addressed}
 use Rattle.hep_finding.proofs.Within.{few-dimensions}
 use Rattle.hep_finding.specs.Within.{ArePlacedArrays}
 use Rattle.hep_image.specs.Places.{arrays_of, start_of, variable_of}
-use Rattle.std.specs.Option.{option_or}
-use Rattle.hep_image.specs.Supported.{first_adjustable_in, first_unsupported, first_unsupported_in}
+use Rattle.hep_image.specs.Supported.{first_unsupported, first_unsupported_in}
 use Rattle.hep_image.specs.declared.array.Start.{Start}
 use Rattle.hep_placed.specs.Instructions.{variables_in_operation}
 use Rattle.hep_placed.specs.Placed.{ArePlaced, code_in}
@@ -61,7 +60,7 @@ pub record IsKnown (program : Units) : Type 0 where
 -- a program in which nothing is unsupported has a main program
 pub has-main : (program : Units) → first_unsupported program ≡ None → is_some (main_among program) ≡ true
 has-main program = by_main (is_some (main_among program)) where
-  by_main : (b : Bool) → (if b then option_or (first_unsupported_in program) (first_adjustable_in program) else Some (line_at (unit_at program 0) 0)) ≡ None → b ≡ true
+  by_main : (b : Bool) → (if b then first_unsupported_in program else Some (line_at (unit_at program 0) 0)) ≡ None → b ≡ true
   by_main true e = refl
   by_main false e = absurd (none-some (line_at (unit_at program 0) 0) (sym e))
 

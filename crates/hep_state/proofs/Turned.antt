@@ -1,14 +1,13 @@
 -- A machine that keeps what it kept: where only room was made, or what a CALL gives was written.
 use Rattle.std.proofs.Common.{◌≡◌, ℕ, List, Result, Ok, Err, Option, Some, None, refl, sym, ap, ◌∙◌, subst}
-use Rattle.std.specs.Prelude.{◌≤◌, Bool, true, false, IfErr, IsSome, MatchOption, OnErr, OnOk, is_some, length, slice_get, vec_capacity, Vec}
+use Rattle.std.specs.Prelude.{true, false, IfErr, IsSome, MatchOption, OnErr, OnOk, is_some, slice_get}
 use Rattle.std.specs.Result.{IsErr, IsErrAnd}
 use Rattle.std.proofs.lemmas.Result.{err_from_is_err_and}
-use Rattle.hep_source.specs.Units.{Units, dummies_of, unit_at}
+use Rattle.hep_source.specs.Units.{Units}
 use Rattle.hep_state.specs.declared.machine.Machine.{Machine}
-use Rattle.hep_state.specs.declared.machine.Process.{Process}
 use Rattle.hep_state.specs.declared.turn.TurnFault.{TurnFault}
 use Rattle.hep_state.specs.declared.turn.TurnFault.TheVariants.{NoMemory}
-use Rattle.hep_state.specs.Rooms.{HasRoom, HaveRoom, IsMachineAfter}
+use Rattle.hep_state.specs.Rooms.{HasRoomToPass, HaveRoom, IsMachineAfter}
 use Rattle.hep_state.specs.Snapshots.{snapshot_of}
 use Rattle.hep_state.specs.Turns.{IsAfter}
 
@@ -51,12 +50,12 @@ pub machine-of : (program : Units) (cells : ℕ) (choices : List ℕ) (m : Machi
 machine-of program cells choices m after rooms = record { after = after; few = rooms.few; to_pass = rooms.to_pass; room = rooms.room }
 
 -- another one that shows the same, with the same processes and the same room to pass
-pub machine-same : (program : Units) (cells : ℕ) (choices : List ℕ) (old new : Machine) → snapshot_of new ≡ snapshot_of old → new.processes ≡ old.processes → new.given ≡ old.given → IsMachineAfter program cells choices old → IsMachineAfter program cells choices new
-machine-same program cells choices old new shown processes given h =
+pub machine-same : (program : Units) (cells : ℕ) (choices : List ℕ) (old new : Machine) → snapshot_of new ≡ snapshot_of old → new.processes ≡ old.processes → new.passing ≡ old.passing → IsMachineAfter program cells choices old → IsMachineAfter program cells choices new
+machine-same program cells choices old new shown processes passing h =
     record {
       after = subst (IsAfter program cells choices) (sym shown) h.after;
       few = h.few;
-      to_pass = λ u. subst (λ n. length (dummies_of (unit_at program u)) ≤ n) (sym (ap vec_capacity given)) (h.to_pass u);
+      to_pass = subst (HasRoomToPass program) (sym passing) h.to_pass;
       room = λ i q e. h.room i q (ap (λ qs. slice_get qs i) (ap (λ v. v.items) (sym processes)) ∙ e);
     }
 
@@ -67,4 +66,4 @@ shown-written old new others records faults = ap snapshot_of others ∙ (λ i. r
 pub machine-written : (program : Units) (cells : ℕ) (choices : List ℕ) (old new : Machine) → new ≡ record old { records = new.records; faults = new.faults } → new.records.items ≡ old.records.items → new.faults.items ≡ old.faults.items
     → IsMachineAfter program cells choices old → IsMachineAfter program cells choices new
 machine-written program cells choices old new others records faults =
-    machine-same program cells choices old new (shown-written old new others records faults) (ap (λ (m : Machine). m.processes) others) (ap (λ (m : Machine). m.given) others)
+    machine-same program cells choices old new (shown-written old new others records faults) (ap (λ (m : Machine). m.processes) others) (ap (λ (m : Machine). m.passing) others)

@@ -1,7 +1,7 @@
 -- What a core keeps after a CALL or CREATE: docs/MACHINE.md, "Steps" and "Layout".
-use Rattle.std.specs.Prelude.{◌≡◌, ℕ, ◌+◌, ◌<◌, List, [], ◌∷◌, ◌++◌, length, Some, None}
+use Rattle.std.specs.Prelude.{◌≡◌, ℕ, ◌+◌, ◌<◌, List, [], ◌∷◌, ◌++◌, length, Option, Some, None}
 use Rattle.hep_source.specs.declared.value.Value.{Value}
-use Rattle.hep_source.specs.Units.{Units, dummies_of, unit_at}
+use Rattle.hep_source.specs.Units.{Units, unit_at}
 use Rattle.hep_machine.specs.Binding.{Binding}
 use Rattle.hep_machine.specs.Evaluation.{Actual}
 use Rattle.hep_machine.specs.Layout.{Layout, common_cells, frame_of, is_held, lowest_gap}
@@ -9,13 +9,15 @@ use Rattle.hep_machine.specs.Processes.{with_numbered}
 use Rattle.hep_machine.specs.Run.{run}
 use Rattle.hep_machine.specs.State.{Level as SourceLevel, Process, State}
 use Rattle.hep_machine.specs.Step.{scope_of, step}
-use Rattle.hep_machine.specs.Variables.{adjustable_dimensions_of_all, frame_cells}
+use Rattle.hep_machine.specs.Shapes.{Bounds}
+use Rattle.hep_machine.specs.Variables.{frame_cells}
 use Rattle.hep_arena.specs.Space.{Space}
 use Rattle.hep_code.specs.Stacks.{entry_index}
 use Rattle.hep_code.specs.UnitCode.{table_of}
 use Rattle.hep_finding.specs.Bound.{AreKept}
 use Rattle.hep_frames.specs.Tree.{Nodes, new_node, with_node}
 use Rattle.hep_passing.specs.declared.given.Given.{Given}
+use Rattle.hep_passing.specs.Shapes.{AreShapesOf}
 use Rattle.hep_step.specs.Simulation.{unit_addressed}
 use Rattle.hep_state.specs.declared.machine.Level.{Level}
 use Rattle.hep_state.specs.Snapshots.{Snapshot}
@@ -58,18 +60,17 @@ pub record HasEntered (program : Units) (cells : ℕ) (choices : List ℕ) (p : 
 abbrev pub IsAfterCall : Units → ℕ → ℕ → ℕ → Type 0
 IsAfterCall program u statement index = index ≡ ((table_of (unit_addressed program u)).flows statement).next
 
--- ---- a CALL or CREATE of a unit that has no adjustable arrays
+-- ---- a CALL or CREATE of a unit
 
 -- what is called: a unit's index, the cells of its frame, and the index of its first executable statement in its code
 pub record IsUnit (program : Units) (u cells entry : ℕ) : Type 0 where
   pub inside : u < length program
   pub cells_are : cells ≡ frame_cells (unit_at program u)
   pub entry_is : entry ≡ entry_index (unit_addressed program u)
-  pub plain : adjustable_dimensions_of_all (unit_at program u) (dummies_of (unit_at program u)) ≡ 0
 
 -- it is the turn of process p, whose step makes an activation of such a unit and leads to a state, and this is given to its dummy
--- arguments; the one that makes it is to go on at an index
-pub record IsMaking (leads : Units → List ℕ → ℕ → SourceLevel × Process → ℕ → Binding → State) (program : Units) (cells : ℕ) (choices : List ℕ) (p : ℕ) (m : Snapshot) (u index : ℕ) (given : List Given) : Type 0 where
+-- arguments, and these are the shapes of the adjustable arrays among them; the one that makes it is to go on at an index
+pub record IsMaking (leads : Units → List ℕ → ℕ → SourceLevel × Process → ℕ → Binding → State) (program : Units) (cells : ℕ) (choices : List ℕ) (p : ℕ) (m : Snapshot) (u index : ℕ) (given : List Given) (shapes : List (Option Bounds)) : Type 0 where
   pub l : Level
   pub ls : List Level
   pub operands : List Value
@@ -79,12 +80,13 @@ pub record IsMaking (leads : Units → List ℕ → ℕ → SourceLevel × Proce
   pub b : Binding
   pub passing : IsPassing program choices p top u actuals b
   pub passed : ArePassed program (run program choices) turning.after.layout (scope_of program (run program choices) top.0.activation) actuals given
+  pub shaped : AreShapesOf (unit_at program u) b.dummies shapes
   pub made : step program p (run program choices) ≡ Some (leads program choices p top u b)
   pub after : IsAfterCall program l.unit top.0.statement index
 
 -- by CALL, and by CREATE
-abbrev pub IsCalling : Units → ℕ → List ℕ → ℕ → Snapshot → ℕ → ℕ → List Given → Type 0
+abbrev pub IsCalling : Units → ℕ → List ℕ → ℕ → Snapshot → ℕ → ℕ → List Given → List (Option Bounds) → Type 0
 IsCalling = IsMaking state_called
 
-abbrev pub IsCreating : Units → ℕ → List ℕ → ℕ → Snapshot → ℕ → ℕ → List Given → Type 0
+abbrev pub IsCreating : Units → ℕ → List ℕ → ℕ → Snapshot → ℕ → ℕ → List Given → List (Option Bounds) → Type 0
 IsCreating = IsMaking state_created

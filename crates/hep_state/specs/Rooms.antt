@@ -1,11 +1,14 @@
 -- Room for operands in what a core keeps: docs/ARCHITECTURE.md, "Forms".
-use Rattle.std.specs.Prelude.{◌≡◌, ◌-◌, ◌≤◌, ℕ, List, length, Some, slice_get, vec_capacity}
+use Rattle.std.specs.Prelude.{◌≡◌, ◌-◌, ◌<◌, ◌≤◌, ℕ, List, length, Some, slice_get, vec_capacity}
 use Rattle.hep_source.specs.Units.{Units, dummies_of, unit_at}
 use Rattle.hep_code.specs.Depths.{deepest}
+use Rattle.hep_image.specs.Dummies.{dummy_arguments}
 use Rattle.hep_image.specs.Image.{most_cells}
+use Rattle.hep_shaping.specs.Fitting.{longest_code}
 use Rattle.hep_step.specs.Simulation.{unit_code}
 use Rattle.hep_state.specs.declared.machine.Level.{Level}
 use Rattle.hep_state.specs.declared.machine.Machine.{Machine}
+use Rattle.hep_state.specs.declared.machine.Passing.{Passing}
 use Rattle.hep_state.specs.declared.machine.Process.{Process}
 use Rattle.hep_state.specs.Snapshots.{snapshot_of}
 use Rattle.hep_state.specs.Turns.{IsAfter}
@@ -14,9 +17,12 @@ use Rattle.hep_state.specs.Turns.{IsAfter}
 abbrev pub HasRoom : Units → Process → Type 0
 HasRoom program q = (i : ℕ) (l : Level) → slice_get q.levels.items i ≡ Some l → deepest (unit_code program l.unit) ≤ vec_capacity q.operands
 
--- there is room for what is given to the dummy arguments of each unit, so no CALL takes memory for it
-abbrev pub HasRoomToPass : Units → Machine → Type 0
-HasRoomToPass program m = (u : ℕ) → length (dummies_of (unit_at program u)) ≤ vec_capacity m.given
+-- there is room for what is given to the dummy arguments of each unit, for their shapes, and for the values in the code of each, so no
+-- CALL takes memory for it
+pub record HasRoomToPass (program : Units) (r : Passing) : Type 0 where
+  pub given : (u : ℕ) → length (dummies_of (unit_at program u)) ≤ vec_capacity r.given
+  pub shapes : (u : ℕ) → length (dummies_of (unit_at program u)) ≤ vec_capacity r.shapes
+  pub values : (u : ℕ) → u < length program → longest_code (dummy_arguments program (unit_at program u)) ≤ vec_capacity r.values
 
 -- the operands of process p have room for the deepest stack of unit u
 abbrev pub HasRoomAt : Units → ℕ → ℕ → Machine → Type 0
@@ -25,12 +31,12 @@ HasRoomAt program p u m = (q : Process) → slice_get m.processes.items (p - 1) 
 -- each process has room for operands, there is room to pass, and the arena has no more cells than it may have
 pub record HaveRoom (program : Units) (cells : ℕ) (m : Machine) : Type 0 where
   pub few : cells ≤ most_cells
-  pub to_pass : HasRoomToPass program m
+  pub to_pass : HasRoomToPass program m.passing
   pub room : (i : ℕ) (q : Process) → slice_get m.processes.items i ≡ Some q → HasRoom program q
 
 -- a machine keeps the state after turns of these processes, with that room
 pub record IsMachineAfter (program : Units) (cells : ℕ) (choices : List ℕ) (m : Machine) : Type 0 where
   pub after : IsAfter program cells choices (snapshot_of m)
   pub few : cells ≤ most_cells
-  pub to_pass : HasRoomToPass program m
+  pub to_pass : HasRoomToPass program m.passing
   pub room : (i : ℕ) (q : Process) → slice_get m.processes.items i ≡ Some q → HasRoom program q

@@ -1,5 +1,5 @@
 //! What stands ahead of a process: values are put behind the operands, and an operation is performed.
-ghost use Rattle.std.specs.Prelude.{◌≡◌, ◌≤◌, ◌<◌, ◌+◌, ℕ, List, Some, drop, length, slice_get, vec_len, vec_capacity};
+ghost use Rattle.std.specs.Prelude.{◌≡◌, ◌≤◌, ◌<◌, ◌+◌, ℕ, List, drop, length, vec_len, vec_capacity};
 ghost use Rattle.hep_source.specs.declared.value.Value.{Value as OperandValue};
 ghost use Rattle.hep_source.specs.Units.{Units};
 ghost use Rattle.hep_code.specs.Ahead.{values_ahead};

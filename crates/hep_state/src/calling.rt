@@ -1,5 +1,5 @@
 //! CALL and CREATE: an activation that begins, with its frame (X3.9-1978, 15.6.2).
-ghost use Rattle.std.specs.Prelude.{◌≡◌, ◌<◌, ◌≤◌, ◌+◌, ◌*◌, ◌-◌, ◌^◌, ◌++◌, ◌∷◌, ℕ, List, [], Some, IsSome, length, slice_get, vec_len, vec_capacity};
+ghost use Rattle.std.specs.Prelude.{◌≡◌, ◌<◌, ◌≤◌, ◌+◌, ◌-◌, ◌^◌, ◌++◌, ◌∷◌, ℕ, List, [], Some, IsSome, length, slice_get, vec_len, vec_capacity};
 ghost use Rattle.slab.specs.Slab.{HasRoomFor};
 ghost use Rattle.hep_source.specs.declared.value.Value.{Value as OperandValue};
 ghost use Rattle.hep_source.specs.Units.{Units};
@@ -13,8 +13,9 @@ ghost use Rattle.hep_state.specs.Calls.{IsCalling, IsCreating, IsUnit};
 ghost use Rattle.hep_state.specs.Rooms.{HasRoomAt, HaveRoom};
 
 use crate::machine::{Level, Machine, Process};
-use hep_entering::begin;
+use hep_entering::{begin, shape_all};
 use hep_passing::Given;
+use hep_shape::Shape;
 
 /// A unit that is called: its index in the program, how many cells its frame has, and where its first executable statement is in its
 /// code.
@@ -74,22 +75,23 @@ fn add_process(processes: &mut Vec<Process>, added: Process)
 }
 
 impl Machine {
-    // Process p calls a unit that has no adjustable arrays, with what is given, and goes on at an index once this ends: the unit's
-    // activation has its frame, with what is given to its dummy arguments, and is on top.
+    // Process p calls a unit with what is given, and goes on at an index once this ends: the unit's activation has its frame, with what
+    // is given to its dummy arguments and their shapes, and is on top.
     //
     // There is a gap for the frame, and room for its node and for a level more, and for the unit's operands.
     pub(crate) fn call(&mut self, p: u64, called: Called, index: usize)
-        requires calling { (program : Units) × (cells : ℕ) × (choices : List ℕ) × IsCalling program cells choices p (snapshot_of self.old) called.unit index self.old.given.items × IsUnit program called.unit called.cells called.entry }
+        requires calling { (program : Units) × (cells : ℕ) × (choices : List ℕ) × IsCalling program cells choices p (snapshot_of self.old) called.unit index self.old.passing.given.items self.old.passing.shapes.items × IsUnit program called.unit called.cells called.entry }
         requires few { length self.old.frames.arena.contents ≤ 16777216 }
         requires countable { self.old.activations + 1 < 2 ^ 64 }
         requires gap { IsSome (first_fit called.cells self.old.frames.arena.holes) }
         requires node { HasRoomFor self.old.frames.nodes 1 }
         requires level { (q : AProcess) → slice_get self.old.processes.items (p - 1) ≡ Some q → vec_len q.levels < vec_capacity q.levels }
-        ensures stepped { (program : Units) (cells : ℕ) (choices : List ℕ) → IsCalling program cells choices p (snapshot_of self.old) called.unit index self.old.given.items → IsUnit program called.unit called.cells called.entry → HasStepped program cells choices p (snapshot_of self.new) }
+        ensures stepped { (program : Units) (cells : ℕ) (choices : List ℕ) → IsCalling program cells choices p (snapshot_of self.old) called.unit index self.old.passing.given.items self.old.passing.shapes.items → IsUnit program called.unit called.cells called.entry → HasStepped program cells choices p (snapshot_of self.new) }
         ensures rooms { (program : Units) (cells : ℕ) → HaveRoom program cells self.old → HasRoomAt program p called.unit self.old → HaveRoom program cells self.new }
         ensures processes { length self.new.processes.items ≡ length self.old.processes.items }
     {
         hep_proc::laws::children_are_activations();
+        hep_entering::laws::dummies_are_bound();
         hep_entering::laws::other_cells_are_unset();
         hep_entering::laws::references_are_kept();
         let place = (p - 1) as usize;
@@ -102,8 +104,9 @@ impl Machine {
             unit,
             cells,
             parent,
-            &self.given,
+            &self.passing.given,
         );
+        shape_all(&mut self.frames, key, &self.passing.shapes);
         let level = Level {
             key,
             unit,
@@ -113,8 +116,8 @@ impl Machine {
         self.activations = activation;
     }
 
-    /// Process p makes a process of a unit that has no adjustable arrays, and goes on at an index: the unit's activation has its
-    /// frame, with what is given to its dummy arguments, and is the one level of the process, which was empty.
+    /// Process p makes a process of a unit, and goes on at an index: the unit's activation has its frame, with what is given to its
+    /// dummy arguments and their shapes, and is the one level of the process, which was empty.
     ///
     /// There is a gap for the frame, and room for its node, for the process and for its level.
     pub fn create(
@@ -123,9 +126,10 @@ impl Machine {
         called: Called,
         index: usize,
         given: &[Given],
+        shapes: &[Option<Shape>],
         mut process: Process,
     )
-        requires creating { (program : Units) × (cells : ℕ) × (choices : List ℕ) × IsCreating program cells choices p (snapshot_of self.old) called.unit index given.now × IsUnit program called.unit called.cells called.entry }
+        requires creating { (program : Units) × (cells : ℕ) × (choices : List ℕ) × IsCreating program cells choices p (snapshot_of self.old) called.unit index given.now shapes.now × IsUnit program called.unit called.cells called.entry }
         requires few { length self.old.frames.arena.contents ≤ 16777216 }
         requires countable { self.old.activations + 1 < 2 ^ 64 }
         requires gap { IsSome (first_fit called.cells self.old.frames.arena.holes) }
@@ -133,10 +137,11 @@ impl Machine {
         requires empty { (process.levels.items ≡ []) × (process.operands.items ≡ []) }
         requires level { vec_len process.levels < vec_capacity process.levels }
         requires process { vec_len self.old.processes < vec_capacity self.old.processes }
-        ensures stepped { (program : Units) (cells : ℕ) (choices : List ℕ) → IsCreating program cells choices p (snapshot_of self.old) called.unit index given.now → IsUnit program called.unit called.cells called.entry → HasStepped program cells choices p (snapshot_of self.new) }
+        ensures stepped { (program : Units) (cells : ℕ) (choices : List ℕ) → IsCreating program cells choices p (snapshot_of self.old) called.unit index given.now shapes.now → IsUnit program called.unit called.cells called.entry → HasStepped program cells choices p (snapshot_of self.new) }
         ensures processes { length self.new.processes.items ≡ length self.old.processes.items + 1 }
     {
         hep_proc::laws::children_are_activations();
+        hep_entering::laws::dummies_are_bound();
         hep_entering::laws::other_cells_are_unset();
         hep_entering::laws::references_are_kept();
         let place = (p - 1) as usize;
@@ -144,6 +149,7 @@ impl Machine {
         let parent = top_key(&self.processes[place]);
         let Called { unit, cells, entry } = called;
         let key = begin(&mut self.frames, activation, unit, cells, parent, given);
+        shape_all(&mut self.frames, key, shapes);
         let level = Level {
             key,
             unit,

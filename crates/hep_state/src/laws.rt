@@ -1,6 +1,5 @@
 //! Laws of what a core keeps: what a turn changes in it is what the source machine's step changes in the state.
-ghost use Rattle.std.specs.Prelude.{◌≡◌, ◌<◌, ◌≤◌, ◌+◌, ◌∷◌, ℕ, Bool, true, false, List, Some, None, Ok, Err, IsSome, [], drop, is_some, length, nat_eq};
-ghost use Rattle.std.specs.List.{list_all};
+ghost use Rattle.std.specs.Prelude.{◌≡◌, ◌<◌, ◌≤◌, ◌+◌, ◌∷◌, ℕ, Bool, true, false, List, Option, Some, None, Ok, Err, IsSome, [], drop, is_some, length, nat_eq};
 ghost use Rattle.hep_source.specs.declared.value.Value.{Value};
 ghost use Rattle.hep_source.specs.Units.{Units, dummies_of, main_among, main_unit, unit_at};
 ghost use Rattle.hep_machine.specs.declared.event.Kind.{Kind};
@@ -10,9 +9,9 @@ ghost use Rattle.hep_machine.specs.Binding.{Binding};
 ghost use Rattle.hep_machine.specs.Layout.{Layout, activations_on, is_held, opening_layout};
 ghost use Rattle.hep_machine.specs.Processes.{numbered};
 ghost use Rattle.hep_machine.specs.Run.{run};
-ghost use Rattle.hep_machine.specs.State.{Level as SourceLevel, Process as SourceProcess, State, Work};
+ghost use Rattle.hep_machine.specs.State.{Level as SourceLevel, Process as SourceProcess, Work};
 ghost use Rattle.hep_machine.specs.declared.event.Kind.TheVariants.{Shape};
-ghost use Rattle.hep_machine.specs.Variables.{adjustable_dimensions_of_all};
+ghost use Rattle.hep_machine.specs.Shapes.{Bounds};
 ghost use Rattle.hep_check.specs.Conditions.{IsAccepted};
 ghost use Rattle.hep_arena.specs.Space.{Space};
 ghost use Rattle.hep_code.specs.declared.instruction.Instruction.{Instruction};
@@ -30,10 +29,11 @@ ghost use Rattle.hep_code.specs.declared.instruction.Instruction.TheVariants.{St
 ghost use Rattle.hep_code.specs.declared.instruction.Operation.{Operation};
 ghost use Rattle.hep_code.specs.declared.instruction.Operation.TheVariants.{Call};
 ghost use Rattle.hep_code.specs.Passing.{passed_from};
+ghost use Rattle.hep_image.specs.Dummies.{dummy_arguments};
 ghost use Rattle.hep_image.specs.Image.{most_cells};
 ghost use Rattle.hep_passing.specs.declared.given.Given.{Given};
-ghost use Rattle.hep_passing.specs.Fitting.{is_fitting};
 ghost use Rattle.hep_passing.specs.Ready.{ArePassable};
+ghost use Rattle.hep_shaping.specs.Fitting.{AreShapable, are_fitting, longest_code, shapes_of};
 ghost use Rattle.hep_reply.specs.Cells.{HasFrame};
 ghost use Rattle.hep_step.specs.Ready.{frame_in_arena};
 ghost use Rattle.hep_step.specs.Effects.{effect_at, fails, moves, prints, returns, stops, waits};
@@ -79,10 +79,9 @@ pub fn supported_programs_never_wait()
     hep_placed::laws::tested_variables_are_asynchronous();
 }
 
-/// Of what calls, creates or purges only CALL stands in a program that can be run so far, and none of its arrays is adjustable.
+/// Of what calls, creates or purges only CALL stands in a program that can be run so far.
 pub fn supported_programs_call_alone()
     ensures call { (program : Units) (u index line : ℕ) (o : Operation) (behind : List Instruction) → IsAccepted program → first_unsupported program ≡ None → u < length program → drop index (unit_code program u) ≡ Step line o ∷ behind → is_left_out o ≡ true → (v count next : ℕ) × (o ≡ Call v count next) }
-    ensures unadjusted { (program : Units) (u : ℕ) → first_unsupported program ≡ None → u < length program → adjustable_dimensions_of_all (unit_at program u) (dummies_of (unit_at program u)) ≡ 0 }
     ensures main { (program : Units) → first_unsupported program ≡ None → is_some (main_among program) ≡ true }
 {
     hep_placed::laws::supported_code();
@@ -159,12 +158,14 @@ pub fn calls_can_be_made()
     tops_are_running();
 }
 
-/// What its actual arguments give is what the dummy arguments of the new activation stand for; and where one of them is no
-/// element, or a dummy argument has more elements than it is given, a fault ends the process (X3.9-1978, 15.9.3).
+/// What its actual arguments give is what the dummy arguments of the new activation stand for, what the bounds of their arrays name
+/// can be read, and these have the shapes that are found; and where one of them is no
+/// element, or a dummy argument has no shape or more elements than it is given, a fault ends the process (X3.9-1978, 5.5.1 and 15.9.3).
 pub fn calls_give_what_is_bound()
-    ensures calling { (program : Units) (cells : ℕ) (choices : List ℕ) (m : Snapshot) (p : ℕ) (call : CallAhead) (given : List Given) → IsAccepted program → is_some (main_among program) ≡ true → adjustable_dimensions_of_all (unit_at program call.unit) (dummies_of (unit_at program call.unit)) ≡ 0 → (at : IsAtCall program cells choices p m call) → given_of program m call at ≡ Ok given → list_all (is_fitting given) (unit_arrays program call.unit) ≡ true → IsCalling program cells choices p m call.unit call.next given }
+    ensures shapable { (program : Units) (cells : ℕ) (choices : List ℕ) (m : Snapshot) (p : ℕ) (call : CallAhead) (given : List Given) (room : ℕ) → IsAccepted program → is_some (main_among program) ≡ true → (at : IsAtCall program cells choices p m call) → given_of program m call at ≡ Ok given → longest_code (dummy_arguments program (unit_at program call.unit)) ≤ room → AreShapable m.arena given room (dummy_arguments program (unit_at program call.unit)) }
+    ensures calling { (program : Units) (cells : ℕ) (choices : List ℕ) (m : Snapshot) (p : ℕ) (call : CallAhead) (given : List Given) → IsAccepted program → is_some (main_among program) ≡ true → (at : IsAtCall program cells choices p m call) → given_of program m call at ≡ Ok given → are_fitting m.arena.contents given (dummy_arguments program (unit_at program call.unit)) ≡ true → IsCalling program cells choices p m call.unit call.next given (shapes_of m.arena.contents given (dummy_arguments program (unit_at program call.unit))) }
     ensures range { (program : Units) (cells : ℕ) (choices : List ℕ) (m : Snapshot) (p : ℕ) (call : CallAhead) (kind : Kind) → IsAccepted program → is_some (main_among program) ≡ true → (at : IsAtCall program cells choices p m call) → given_of program m call at ≡ Err kind → IsEnding program cells choices p m (fails call.line kind) }
-    ensures shape { (program : Units) (cells : ℕ) (choices : List ℕ) (m : Snapshot) (p : ℕ) (call : CallAhead) (given : List Given) → IsAccepted program → is_some (main_among program) ≡ true → adjustable_dimensions_of_all (unit_at program call.unit) (dummies_of (unit_at program call.unit)) ≡ 0 → (at : IsAtCall program cells choices p m call) → given_of program m call at ≡ Ok given → list_all (is_fitting given) (unit_arrays program call.unit) ≡ false → IsEnding program cells choices p m (fails call.line Shape) }
+    ensures shape { (program : Units) (cells : ℕ) (choices : List ℕ) (m : Snapshot) (p : ℕ) (call : CallAhead) (given : List Given) → IsAccepted program → is_some (main_among program) ≡ true → (at : IsAtCall program cells choices p m call) → given_of program m call at ≡ Ok given → are_fitting m.arena.contents given (dummy_arguments program (unit_at program call.unit)) ≡ false → IsEnding program cells choices p m (fails call.line Shape) }
 {
     hep_works::laws::works_come_from_statements();
     hep_works::laws::calls_come_from_statements();
@@ -176,7 +177,8 @@ pub fn calls_give_what_is_bound()
     hep_works::laws::activations_are_bound_in_runs();
     hep_accepted::names::names_are_given_once();
     hep_passing::laws::all_actuals_are_passed();
-    hep_passing::laws::shapes_decide_bindings();
+    hep_shaping::laws::calls_are_shapable();
+    hep_shaping::laws::shapes_decide_bindings();
     hep_entering::laws::calls_make_activations();
     hep_step::laws::calls_are_ahead();
     tops_are_running();
@@ -185,8 +187,8 @@ pub fn calls_give_what_is_bound()
 /// Where the arena has no gap as long as the frame of the unit that is called, the step's frame has none; and where it has one, or
 /// where a fault ends the process, each frame has its gap.
 pub fn gaps_are_told()
-    ensures none { (program : Units) (cells : ℕ) (choices : List ℕ) (m : Snapshot) (p u n entry index : ℕ) (given : List Given) → IsCalling program cells choices p m u index given → IsUnit program u n entry → first_fit n m.arena.holes ≡ None → HasNoGap program cells choices p }
-    ensures some { (program : Units) (cells : ℕ) (choices : List ℕ) (m : Snapshot) (p u n entry index : ℕ) (given : List Given) → IsCalling program cells choices p m u index given → IsUnit program u n entry → IsSome (first_fit n m.arena.holes) → HasGaps program cells choices p }
+    ensures none { (program : Units) (cells : ℕ) (choices : List ℕ) (m : Snapshot) (p u n entry index : ℕ) (given : List Given) (shapes : List (Option Bounds)) → IsCalling program cells choices p m u index given shapes → IsUnit program u n entry → first_fit n m.arena.holes ≡ None → HasNoGap program cells choices p }
+    ensures some { (program : Units) (cells : ℕ) (choices : List ℕ) (m : Snapshot) (p u n entry index : ℕ) (given : List Given) (shapes : List (Option Bounds)) → IsCalling program cells choices p m u index given shapes → IsUnit program u n entry → IsSome (first_fit n m.arena.holes) → HasGaps program cells choices p }
     ensures fault { (program : Units) (cells : ℕ) (choices : List ℕ) (m : Snapshot) (p line : ℕ) (kind : Kind) → IsEnding program cells choices p m (fails line kind) → HasGaps program cells choices p }
 {}
 

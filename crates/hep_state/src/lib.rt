@@ -14,7 +14,7 @@ mod passing;
 mod turn;
 
 pub use calling::Called;
-pub use machine::{Level, Machine, Process};
+pub use machine::{Level, Machine, Passing, Process};
 pub use opening::fits;
 pub use passing::CallAhead;
 pub use turn::TurnFault;

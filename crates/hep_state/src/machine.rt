@@ -2,6 +2,7 @@
 use hep_machine::{Fault, Record};
 use hep_passing::Given;
 use hep_proc::Frames;
+use hep_shape::Shape;
 use hep_source::Value;
 
 /// An activation on a stack: the key of its node, the index of its unit in the program, and where it is in the
@@ -20,6 +21,17 @@ pub struct Process {
     pub operands: Vec<Value>,
 }
 
+/// What the actual arguments of a CALL give, while it is made.
+#[derive(Drop)]
+pub struct Passing {
+    /// What each dummy argument stands for.
+    pub given: Vec<Given>,
+    /// The shape of each one that is an adjustable array.
+    pub shapes: Vec<Option<Shape>>,
+    /// The values of bounds, while shapes are found.
+    pub values: Vec<Value>,
+}
+
 /// A state: the frames, the processes by number, counted from 1, how many activations were made, and what was written.
 #[derive(Drop)]
 pub struct Machine {
@@ -30,7 +42,6 @@ pub struct Machine {
     pub faults: Vec<Fault>,
     /// All processes were ended by a STOP.
     pub halted: bool,
-    /// What the actual arguments of a CALL give, while it is made. It has room for the dummy arguments of each unit, so that no
-    /// CALL takes memory for them.
-    pub given: Vec<Given>,
+    /// It has room for the dummy arguments of each unit and for their bounds, so that no CALL takes memory for them.
+    pub passing: Passing,
 }

@@ -6,18 +6,21 @@ ghost use Rattle.slab.specs.Slab.{HasRoomFor};
 ghost use Rattle.hep_source.specs.Units.{dummies_of, main_unit, unit_at};
 ghost use Rattle.hep_machine.specs.Layout.{common_cells, opening_layout};
 ghost use Rattle.hep_arena.specs.Holes.{IsOut};
+ghost use Rattle.hep_image.specs.Dummies.{dummy_arguments};
 ghost use Rattle.hep_image.specs.Image.{IsUnitCode};
 ghost use Rattle.hep_proc.specs.Keeping.{IsUnused};
 ghost use Rattle.hep_proc.specs.Nodes.{nodes_of};
+ghost use Rattle.hep_shaping.specs.Fitting as shaping;
 ghost use Rattle.hep_state.specs.Givings.{AreOut};
 ghost use Rattle.hep_state.specs.Openings.{IsEntered, IsGiven};
-ghost use Rattle.hep_state.specs.Rooms.{IsMachineAfter};
+ghost use Rattle.hep_state.specs.Rooms.{HasRoomToPass, IsMachineAfter};
 
 use crate::laws;
-use crate::machine::{Level, Machine, Process};
+use crate::machine::{Level, Machine, Passing, Process};
 use hep_image::{DataRow, Image, UnitCode};
 use hep_machine::Slot;
 use hep_proc::Frames;
+use hep_shaping::longest_code;
 use hep_source::{Form, Statement, Unit, Value};
 use std::alloc::{AllocError, Global};
 
@@ -113,6 +116,29 @@ fn most_dummies(program: &[Unit]) -> usize
     most
 }
 
+// The most operations that the code of an adjustable array of a unit has.
+fn longest_code_of_all(image: &Image) -> usize
+    ensures { (u : ℕ) → u < length image.now → shaping.longest_code (dummy_arguments image.now (unit_at image.now u)) ≤ result }
+{
+    let mut longest = 0;
+    for unit in 0..image.program().as_slice().len() {
+        longest = longest.max(longest_code(image.unit(unit).dummies.as_slice()));
+    }
+    longest
+}
+
+// Room for what is given to the dummy arguments of each unit, for their shapes, and for the values of bounds.
+fn room_to_pass(alloc: Global, image: &Image) -> Result<Passing, AllocError>
+    ensures { IfOk result (λ passing. HasRoomToPass image.now passing) }
+{
+    let most = most_dummies(image.program().as_slice());
+    Ok(Passing {
+        given: Vec::with_capacity(alloc, most)?,
+        shapes: Vec::with_capacity(alloc, most)?,
+        values: Vec::with_capacity(alloc, longest_code_of_all(image))?,
+    })
+}
+
 // A process with one activation, and room for so many operands.
 fn begun(alloc: Global, level: Level, operands: u32) -> Result<Process, AllocError>
     ensures levels { IfOk result (λ process. process.levels.items ≡ level ∷ []) }
@@ -162,7 +188,7 @@ impl Machine {
             records: Vec::new(alloc),
             faults: Vec::new(alloc),
             halted: false,
-            given: Vec::with_capacity(alloc, most_dummies(image.program().as_slice()))?,
+            passing: room_to_pass(alloc, image)?,
         })
     }
 }

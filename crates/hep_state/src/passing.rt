@@ -1,5 +1,5 @@
 //! A CALL that stands ahead of a process: what it calls, and what its actual arguments give (X3.9-1978, 15.6.2 and 15.9.3).
-ghost use Rattle.std.specs.Prelude.{◌≡◌, ◌≤◌, ◌∷◌, ℕ, List, false, true, MatchOption, IfOk, IfErr, OnOk, OnErr, drop, length};
+ghost use Rattle.std.specs.Prelude.{◌≡◌, ◌∷◌, ℕ, List, false, MatchOption, IfErr, OnOk, drop};
 ghost use Rattle.hep_code.specs.declared.instruction.Instruction.{Instruction as AnInstruction};
 ghost use Rattle.hep_code.specs.declared.instruction.Instruction.TheVariants.{Step};
 ghost use Rattle.hep_code.specs.declared.instruction.Operation.TheVariants.{Call};
@@ -11,13 +11,14 @@ ghost use Rattle.hep_state.specs.Snapshots.{snapshot_of};
 ghost use Rattle.hep_state.specs.Taking.{HasLevels, IsEnding, IsSeenSame};
 
 use crate::laws;
-use crate::machine::{Level, Machine};
+use crate::machine::{Level, Machine, Passing};
 use hep_code::operands::settle;
 use hep_code::{Instruction, Operation};
 use hep_image::Image;
 use hep_machine::Kind;
-use hep_passing::{give_actuals, shapes_fit};
+use hep_passing::give_actuals;
 use hep_reply::Frame;
+use hep_shaping::find_shapes;
 
 /// A CALL that stands ahead of a process.
 #[derive(Clone, Copy, Debug)]
@@ -74,13 +75,14 @@ impl Machine {
 
     // What the actual arguments of the CALL ahead of process p give.
     //
-    // Fails with Range where one of them is no element, and with Shape where a dummy argument has more elements than it is given.
-    // Nothing but `given` changes.
+    // Fails with Range where one of them is no element, and with Shape where a dummy argument has no shape or more elements than it is
+    // given.
+    // Nothing but `passing` changes.
     pub(crate) fn give(&mut self, image: &Image, p: u64, call: CallAhead) -> Result<(), Kind>
         requires at { (cells : ℕ) × (choices : List ℕ) × IsMachineAfter image.now cells choices self.old × IsAtCall image.now cells choices p (snapshot_of self.old) call }
-        ensures given { OnOk result ((cells : ℕ) (choices : List ℕ) → IsMachineAfter image.now cells choices self.old → IsAtCall image.now cells choices p (snapshot_of self.old) call → IsCalling image.now cells choices p (snapshot_of self.old) call.unit call.next self.new.given.items) }
+        ensures given { OnOk result ((cells : ℕ) (choices : List ℕ) → IsMachineAfter image.now cells choices self.old → IsAtCall image.now cells choices p (snapshot_of self.old) call → IsCalling image.now cells choices p (snapshot_of self.old) call.unit call.next self.new.passing.given.items self.new.passing.shapes.items) }
         ensures fault { IfErr result (λ kind. (cells : ℕ) (choices : List ℕ) → IsMachineAfter image.now cells choices self.old → IsAtCall image.now cells choices p (snapshot_of self.old) call → IsEnding image.now cells choices p (snapshot_of self.old) (fails call.line kind)) }
-        ensures others { self.new ≡ record self.old { given = self.new.given } }
+        ensures others { self.new ≡ record self.old { passing = self.new.passing } }
         ensures rooms { (cells : ℕ) → HaveRoom image.now cells self.old → HaveRoom image.now cells self.new }
     {
         image.is_runnable();
@@ -94,6 +96,11 @@ impl Machine {
             first: self.frames.first(key),
             cells: self.frames.cells(key),
         };
+        let Passing {
+            given,
+            shapes,
+            values,
+        } = &mut self.passing;
         give_actuals(
             &caller.code.as_slice()[index + 1..],
             call.count as usize,
@@ -101,10 +108,11 @@ impl Machine {
             caller.arrays.as_slice(),
             &self.frames.arena,
             frame,
-            &mut self.given,
+            given,
         )?;
         let called = image.unit(call.unit as usize);
-        if shapes_fit(called.arrays.as_slice(), &self.given) {
+        let dummies = called.dummies.as_slice();
+        if find_shapes(dummies, &self.frames.arena, given, values, shapes) {
             Ok(())
         } else {
             Err(Kind::Shape)

@@ -8,7 +8,7 @@ ghost use Rattle.hep_machine.specs.Run.{run};
 ghost use Rattle.hep_machine.specs.Step.{step};
 ghost use Rattle.hep_state.specs.declared.machine.Process.{Process as AProcess};
 ghost use Rattle.hep_state.specs.CallsAhead.{IsAtCall, IsWithoutCall};
-ghost use Rattle.hep_state.specs.Rooms.{HasRoomAt, HaveRoom, IsMachineAfter};
+ghost use Rattle.hep_state.specs.Rooms.{HaveRoom, IsMachineAfter};
 ghost use Rattle.hep_state.specs.Snapshots.{snapshot_of};
 ghost use Rattle.hep_state.specs.Taking.{HasLevels, IsLeft, IsSeenSame};
 ghost use Rattle.hep_state.specs.Turns.{IsAfter};
@@ -87,7 +87,7 @@ impl Machine {
         ensures entry { OnOk result (vec_len history.new < vec_capacity history.new) }
         ensures entries { history.new.items ≡ history.old.items }
         ensures shown { snapshot_of self.new ≡ snapshot_of self.old }
-        ensures given { self.new.given ≡ self.old.given }
+        ensures passing { self.new.passing ≡ self.old.passing }
         ensures rooms { (program : Units) (cells : ℕ) → HaveRoom program cells self.old → HaveRoom program cells self.new }
     {
         history.reserve(1)?;

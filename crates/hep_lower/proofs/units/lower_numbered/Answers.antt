@@ -30,7 +30,8 @@ returns-clause-lowered c =
         few_operands = c.in-Ok.ensures.few shallow;
         cells = places.cells;
         few_cells = subst (λ n. n ≤ most_cells) (sym places.cells) c.requires.small_frame;
-        private_are = c.from-3.ensures ∙ places.private_are;
+        dummies = c.from-3.ensures ∙ places.dummies;
+        private_are = c.from-4.ensures ∙ places.private_are;
       },
       sym (c.in-Ok.ensures.too_deep ∙ ap line_too_deep made) ∙ shallow,
       subst (λ code. length code ≤ most_instructions) made c.in-Ok.ensures.short,

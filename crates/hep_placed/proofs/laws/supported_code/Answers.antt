@@ -1,5 +1,5 @@
 use Rattle.hep_placed.proofs.Facts.{facts_of}
-use Rattle.hep_placed.proofs.Supported.{main_there, none_adjusted, one_process, placed_in_supported, plain_in_supported}
+use Rattle.hep_placed.proofs.Supported.{main_there, one_process, placed_in_supported, plain_in_supported}
 use Rattle.hep_placed.proofs.laws.supported_code.Goals as goal
 
 pub returns-clause-main : goal.returns-clause-main
@@ -13,6 +13,3 @@ returns-clause-plain c = λ program u i x accepted none h e. plain_in_supported 
 
 pub returns-clause-placed : goal.returns-clause-placed
 returns-clause-placed c = λ program u i x accepted none h e. placed_in_supported program u (facts_of c.constants_agree.ensures program u accepted h) none h i x e
-
-pub returns-clause-unadjusted : goal.returns-clause-unadjusted
-returns-clause-unadjusted c = λ program u none h. none_adjusted program none u h

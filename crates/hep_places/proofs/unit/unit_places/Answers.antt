@@ -5,11 +5,13 @@ use Rattle.indexmap.specs.IndexMap.{get}
 use Rattle.hep_source.specs.declared.name.Name.{Name}
 use Rattle.hep_source.specs.declared.statement.Statement.{Statement}
 use Rattle.hep_source.specs.Names.{name_eq}
-use Rattle.hep_source.specs.Units.{unit_at}
+use Rattle.hep_source.specs.Units.{dummies_of, unit_at}
+use Rattle.hep_machine.specs.Constants.{Values, value_among}
 use Rattle.hep_machine.specs.Declarations.{is_array}
 use Rattle.hep_machine.specs.Variables.{names_of}
 use Rattle.hep_image.specs.Private.{is_private}
 use Rattle.hep_places.specs.declared.unit.UnitPlaces.{UnitPlaces}
+use Rattle.hep_places.specs.Dummies.{dummy_found, source_found, source_in}
 use Rattle.hep_places.specs.Found.{array_found, variable_among}
 use Rattle.hep_places.proofs.Accepted.{no-dummy, unit_there}
 use Rattle.hep_places.proofs.Final.{IsFound, found_start, places-right}
@@ -17,6 +19,7 @@ use Rattle.hep_places.proofs.Right.{constant-is-fixed}
 use Rattle.hep_places.proofs.unit.unit_places.Goals as goal
 
 pub returns : goal.returns
+unfolding source_in
 returns c = λ program u accepted inside same starts few small.
     let unit = unit_at program u in
     let now = c.args.symbols.now in
@@ -27,6 +30,7 @@ returns c = λ program u accepted inside same starts few small.
       arrays = c.in_ok-arrays.arrays;
       cells = t.cells;
       private = c.in_ok-private.private;
+      dummies = c.in_ok-dummies.dummies;
     } in
     let there = unit_there program u inside in
     let names : c.as_slice-names.result.now ≡ names_of now = c.as_slice-names.ensures.keys ∙ c.names.ensures in
@@ -44,4 +48,5 @@ returns c = λ program u accepted inside same starts few small.
       arrays = c.in_ok-arrays.ensures ∙ ap (λ xs. map (array_found now (found_start now common t) (get name_eq t.bounds)) (filter (is_array now) xs)) names;
       cells = λ i. t.cells;
       private_are = c.in_ok-private.ensures ∙ ap (λ xs. map (λ (x : Name). unwrap_or (get name_eq t.locals x) 0) (filter (is_private now) xs)) c.locals.ensures;
+      dummies = c.in_ok-dummies.ensures ∙ ap (map (dummy_found now (source_found now (value_among c.in_ok-constants.constants) common (get name_eq t.offsets)))) c.dummies.ensures ∙ ap (λ (values : Values). map (dummy_found now (source_found now values common (get name_eq t.offsets))) (dummies_of now)) c.in_ok-constants.ensures;
     }))

@@ -5,7 +5,9 @@ use Rattle.hep_machine.specs.declared.event.Kind.TheVariants.{Shape}
 use Rattle.hep_machine.specs.Run.{run}
 use Rattle.hep_machine.specs.Step.{next_activation, scope_of}
 use Rattle.hep_check.specs.Conditions.{IsAccepted}
-use Rattle.hep_state.proofs.Bindings.{IsKnownToBind, actuals, called-so, dummies-given, fault-ends, range-bound}
+use Rattle.hep_image.specs.Dummies.{dummy_arguments}
+use Rattle.hep_shaping.specs.Fitting.{shapes_of}
+use Rattle.hep_state.proofs.Bindings.{IsKnownToBind, actuals, called-so, dummies-given, fault-ends, frameless, range-bound}
 use Rattle.hep_state.proofs.Callers.{IsKnown, called-inside}
 use Rattle.hep_state.proofs.Tops.{unit-there}
 use Rattle.hep_state.proofs.laws.calls_give_what_is_bound.Goals as goal
@@ -37,15 +39,23 @@ all-known c program accepted main =
       faults = c.calls_are_ahead.ensures.fails program;
     }
 
-pub returns-clause-calling : goal.returns-clause-calling
-returns-clause-calling c program cells choices m p call given accepted main plain at gives fit =
+pub returns-clause-shapable : goal.returns-clause-shapable
+returns-clause-shapable c program cells choices m p call given room accepted main at gives few =
     let all = all-known c program accepted main in
     let s = run program choices in
-    let inside = called-inside program all.known cells choices p m call at in
+    let dummies = dummies-given program all cells choices p m call at given gives in
+    c.calls_are_shapable.ensures program s at.turning.after.layout m.arena.contents m.arena.holes call.unit (next_activation s) room (actuals program all cells choices p m call at) given dummies.0 accepted (called-inside program all.known cells choices p m call at)
+    at.turning.after.shows.keeps.memory dummies.2 few
+
+pub returns-clause-calling : goal.returns-clause-calling
+returns-clause-calling c program cells choices m p call given accepted main at gives fit =
+    let all = all-known c program accepted main in
+    let s = run program choices in
     let dummies = dummies-given program all cells choices p m call at given gives in
     let bound =
-    c.shapes_decide_bindings.ensures.fit program s at.turning.after.layout call.unit (next_activation s) (scope_of program s at.top.0.activation) s.store (actuals program all cells choices p m call at) given dummies.0 accepted inside plain dummies.1 dummies.2 fit in
-    called-so program all cells choices p m call at given bound.0 gives bound.1
+    c.shapes_decide_bindings.ensures.fit program s at.turning.after.layout m.arena.contents call.unit (next_activation s) (scope_of program s at.top.0.activation) (actuals program all cells choices p m call at) given dummies.0 accepted (called-inside program all.known cells choices p m call at)
+    (frameless program all cells choices p m call at) at.turning.after.shows.keeps.memory.holds dummies.2 dummies.1 fit in
+    called-so program all cells choices p m call at given (shapes_of m.arena.contents given (dummy_arguments program (unit_at program call.unit))) bound.0 gives bound.1 bound.2
 
 pub returns-clause-range : goal.returns-clause-range
 returns-clause-range c program cells choices m p call kind accepted main at gives =
@@ -53,10 +63,10 @@ returns-clause-range c program cells choices m p call kind accepted main at give
     fault-ends program all cells choices p m call at kind (range-bound program all cells choices p m call at kind gives)
 
 pub returns-clause-shape : goal.returns-clause-shape
-returns-clause-shape c program cells choices m p call given accepted main plain at gives unfit =
+returns-clause-shape c program cells choices m p call given accepted main at gives unfit =
     let all = all-known c program accepted main in
     let s = run program choices in
-    let inside = called-inside program all.known cells choices p m call at in
     let dummies = dummies-given program all cells choices p m call at given gives in
     fault-ends program all cells choices p m call at Shape (
-    c.shapes_decide_bindings.ensures.unfit program s at.turning.after.layout call.unit (next_activation s) (scope_of program s at.top.0.activation) s.store (actuals program all cells choices p m call at) given dummies.0 accepted inside plain dummies.1 dummies.2 unfit)
+    c.shapes_decide_bindings.ensures.unfit program s at.turning.after.layout m.arena.contents call.unit (next_activation s) (scope_of program s at.top.0.activation) (actuals program all cells choices p m call at) given dummies.0 accepted (called-inside program all.known cells choices p m call at)
+    (frameless program all cells choices p m call at) at.turning.after.shows.keeps.memory.holds dummies.2 dummies.1 unfit)

@@ -1,4 +1,4 @@
-use Rattle.std.proofs.Common.{◌≡◌, Bool, true, false, true≢false, sym, refl, ◌∙◌, ℕ}
+use Rattle.std.proofs.Common.{◌≡◌, true, false, true≢false, sym, refl, ℕ}
 use Rattle.hep_code.specs.declared.instruction.Instruction.TheVariants.{Step}
 use Rattle.hep_code.specs.declared.instruction.Operation.{Operation}
 use Rattle.hep_code.specs.declared.instruction.Operation.TheVariants.{Call, Create, Purge}
@@ -17,9 +17,6 @@ called-alone line _ one out = absurd (true≢false (sym out))
 pub returns-clause-call : goal.returns-clause-call
 returns-clause-call c program u index line o behind accepted none inside ahead out =
     called-alone line o (c.supported_code.ensures.process program u index (Step line o) accepted none inside (dropped-first (unit_code program u) index (Step line o) behind ahead)) out
-
-pub returns-clause-unadjusted : goal.returns-clause-unadjusted
-returns-clause-unadjusted c = c.supported_code.ensures.unadjusted
 
 pub returns-clause-main : goal.returns-clause-main
 returns-clause-main c = c.supported_code.ensures.main

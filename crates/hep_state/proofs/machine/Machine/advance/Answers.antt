@@ -1,9 +1,7 @@
-use Rattle.std.proofs.Common.{◌≡◌, ℕ, ◌-◌, ◌≤◌, List, ◌∷◌, length, refl, sym, ap, ◌∙◌, subst, arith}
+use Rattle.std.proofs.Common.{◌≡◌, ℕ, ◌-◌, ◌≤◌, List, ◌∷◌, length, refl, sym, ap, ◌∙◌, subst}
 use Rattle.std.specs.Prelude.{IfOk, OnErr, Result, Ok, Err, vec_capacity}
 use Rattle.std.proofs.lemmas.List.{length-set}
 use Rattle.hep_source.specs.declared.value.Value.{Value}
-use Rattle.hep_source.specs.Units.{Units}
-use Rattle.hep_code.specs.Ahead.{IsPastPushes}
 use Rattle.hep_code.specs.Depths.{deepest}
 use Rattle.hep_proc.specs.Nodes.{nodes_of}
 use Rattle.hep_step.specs.Effects.{effect_at}
@@ -17,7 +15,7 @@ use Rattle.hep_state.specs.declared.machine.Process.{Process}
 use Rattle.hep_state.specs.Rooms.{HasRoom}
 use Rattle.hep_state.specs.Showing.{node_under}
 use Rattle.hep_state.specs.Snapshots.{Snapshot, snapshot_of, stack_of}
-use Rattle.hep_state.specs.Taking.{IsLeft, IsSettled, stack_with}
+use Rattle.hep_state.specs.Taking.{IsLeft, stack_with}
 use Rattle.hep_state.specs.Tops.{with_contents, with_stack}
 use Rattle.hep_state.specs.Turns.{IsAfter}
 use Rattle.hep_state.proofs.Ahead.{as-settled}

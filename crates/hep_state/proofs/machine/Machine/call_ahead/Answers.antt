@@ -1,9 +1,6 @@
-use Rattle.std.proofs.Common.{◌≡◌, ℕ, ◌-◌, ◌<◌, ◌≤◌, Bool, true, false, List, ◌∷◌, drop, length, Some, refl, sym, ap, ◌∙◌, subst, arith}
+use Rattle.std.proofs.Common.{◌≡◌, ℕ, ◌-◌, ◌<◌, ◌≤◌, Bool, true, false, List, ◌∷◌, drop, length, refl, sym, ap, ◌∙◌, subst, arith}
 use Rattle.std.specs.Prelude.{vec_capacity}
 use Rattle.std.specs.Vec.{with_item}
-use Rattle.hep_source.specs.declared.value.Value.{Value}
-use Rattle.hep_source.specs.Units.{Units}
-use Rattle.hep_check.specs.Conditions.{IsAccepted}
 use Rattle.hep_machine.specs.Processes.{numbered}
 use Rattle.hep_code.specs.declared.instruction.Instruction.{Instruction}
 use Rattle.hep_code.specs.declared.instruction.Instruction.TheVariants.{Step}
@@ -11,13 +8,12 @@ use Rattle.hep_code.specs.declared.instruction.Operation.{Operation}
 use Rattle.hep_code.specs.declared.instruction.Operation.TheVariants.{Call}
 use Rattle.hep_code.specs.Ahead.{values_ahead}
 use Rattle.hep_code.specs.Depths.{deepest}
-use Rattle.hep_image.specs.Supported.{first_unsupported}
 use Rattle.hep_step.specs.Simulation.{IsNotLeftOut, is_left_out, unit_code}
 use Rattle.hep_state.specs.declared.machine.Level.{Level}
 use Rattle.hep_state.specs.CallsAhead.{HasNoCall, IsAtCall, IsWithoutCall}
 use Rattle.hep_state.specs.Rooms.{HasRoom}
 use Rattle.hep_state.specs.Snapshots.{Snapshot, Stack, snapshot_of}
-use Rattle.hep_state.specs.Taking.{IsSettled, stack_with}
+use Rattle.hep_state.specs.Taking.{stack_with}
 use Rattle.hep_state.specs.Tops.{with_stack}
 use Rattle.hep_state.specs.Turns.{IsAfter}
 use Rattle.hep_state.proofs.Processes.{all-set, process-at, room-moved, stacks-set}

@@ -1,21 +1,23 @@
 use Rattle.std.proofs.Common.{◌≡◌, ℕ, ◌+◌, ◌-◌, ◌<◌, ◌≤◌, List, take, drop, length, sym, ◌∙◌, subst, arith}
-use Rattle.std.specs.Prelude.{Result, Ok, Err, IfErr, IsErr, IsErrAnd}
-use Rattle.std.specs.List.{list_all}
+use Rattle.std.specs.Prelude.{Result, Ok, Err, IfErr, IsErr, IsErrAnd, vec_capacity}
+use Rattle.hep_source.specs.Units.{unit_at}
 use Rattle.hep_machine.specs.declared.event.Kind.{Kind}
 use Rattle.hep_code.specs.Passing.{Passed, passed_from}
 use Rattle.hep_image.specs.declared.array.Array.{Array}
 use Rattle.hep_image.specs.Finding.{cells_in}
+use Rattle.hep_image.specs.Dummies.{dummy_arguments}
 use Rattle.hep_image.specs.Image.{most_cells}
 use Rattle.hep_passing.specs.declared.given.Given.{Given}
-use Rattle.hep_passing.specs.Fitting.{is_fitting}
 use Rattle.hep_passing.specs.Passing.{given_by}
 use Rattle.hep_passing.specs.Ready.{ArePassable}
+use Rattle.hep_shaping.specs.Fitting.{AreShapable, are_fitting, shapes_of}
 use Rattle.hep_reply.specs.declared.frame.Frame.{Frame}
 use Rattle.hep_reply.specs.Cells.{HasFrame}
 use Rattle.hep_step.specs.Effects.{fails}
 use Rattle.hep_step.specs.Ready.{frame_in_arena}
 use Rattle.hep_step.specs.Simulation.{unit_arrays}
 use Rattle.hep_state.specs.declared.machine.Level.{Level}
+use Rattle.hep_state.specs.Calls.{IsCalling}
 use Rattle.hep_state.specs.CallsAhead.{IsAtCall, given_of}
 use Rattle.hep_state.specs.Rooms.{IsMachineAfter}
 use Rattle.hep_state.specs.Snapshots.{snapshot_of}
@@ -23,7 +25,7 @@ use Rattle.hep_state.specs.Taking.{IsEnding}
 use Rattle.hep_state.specs.Tops.{frame_under}
 use Rattle.hep_state.proofs.AtCalls.{given-read, index-inside, key-there, level-is, of-read, process-there, unit-inside}
 use Rattle.hep_state.proofs.Stacked.{some-levels}
-use Rattle.hep_state.proofs.machine.Machine.give.Goals.{After-as_slice, After-as_slice-2, After-shapes_fit}
+use Rattle.hep_state.proofs.machine.Machine.give.Goals.{After-as_slice, After-as_slice-2, After-find_shapes}
 use Rattle.hep_state.proofs.machine.Machine.give.Goals as goal
 
 -- ---- what is read
@@ -110,7 +112,7 @@ give_actuals-requires-clause-room c =
     let r = c.requires.at in
     let main = c.supported_programs_call_alone.ensures.main c.args.image.now c.is_runnable.ensures.supported in
     let counted = c.calls_can_be_made.ensures.counted c.args.image.now r.0 r.1 (snapshot_of c.args.self.now) c.args.p c.args.call c.is_runnable.ensures.accepted main r.3 in
-    omega (arith, counted, r.2.to_pass c.args.call.unit)
+    omega (arith, counted, r.2.to_pass.given c.args.call.unit)
 
 -- ---- what comes of it
 
@@ -135,34 +137,49 @@ unit-called-requires c =
     let main = c.supported_programs_call_alone.ensures.main c.args.image.now c.is_runnable.ensures.supported in
     c.calls_can_be_made.ensures.inside c.args.image.now r.0 r.1 (snapshot_of c.args.self.now) c.args.p c.args.call c.is_runnable.ensures.accepted main r.3
 
--- whether the shapes fit is told of what is given
-fit : (c : After-shapes_fit) → c.shapes_fit.result ≡ list_all (is_fitting c.give_actuals.new.given.items) (unit_arrays c.args.image.now c.args.call.unit)
-fit c = c.shapes_fit.ensures ∙ (λ i. list_all (is_fitting (c.deref-2.ensures.value i)) ((c.as_slice-3.ensures ∙ c.unit-called.ensures.arrays) i))
+-- the dummy arguments of the unit that is called, and what is given to them
+dummies-are : (c : After-find_shapes) → c.as_slice-dummies.result.now ≡ dummy_arguments c.args.image.now (unit_at c.args.image.now c.args.call.unit)
+dummies-are c = c.as_slice-dummies.ensures ∙ c.unit-called.ensures.dummies
 
-pub returns-then-shapes_fit-clause-given : goal.returns-then-shapes_fit-clause-given
-returns-then-shapes_fit-clause-given c cells choices h at =
+pub find_shapes-requires-clause-readable : goal.find_shapes-requires-clause-readable
+find_shapes-requires-clause-readable c =
+    let r = c.requires.at in
     let program = c.args.image.now in
     let m = snapshot_of c.args.self.now in
+    let space = c.args.self.now.frames.arena in
+    let room = vec_capacity c.args.self.now.passing.values in
     let accepted = c.is_runnable.ensures.accepted in
-    let supported = c.is_runnable.ensures.supported in
-    let main = c.supported_programs_call_alone.ensures.main program supported in
+    let main = c.supported_programs_call_alone.ensures.main program c.is_runnable.ensures.supported in
     let given = c.give_actuals.new.given.items in
-    let inside = c.calls_can_be_made.ensures.inside program cells choices m c.args.p c.args.call accepted main at in
-    let plain = c.supported_programs_call_alone.ensures.unadjusted program c.args.call.unit supported inside in
-    c.calls_give_what_is_bound.ensures.calling program cells choices m c.args.p c.args.call given accepted main plain at
-    (gives (goal.at.returns-then-shapes_fit-clause-given c).After-as_slice-2 cells choices at (Ok given) c.in_ok-give_actuals.ensures.given)
-    (sym (fit (goal.at.returns-then-shapes_fit-clause-given c).After-shapes_fit) ∙ c.if-shapes_fit.true)
+    let inside = c.calls_can_be_made.ensures.inside program r.0 r.1 m c.args.p c.args.call accepted main r.3 in
+    let gives_so = gives (goal.at.find_shapes-requires-clause-readable c).After-as_slice-2 r.0 r.1 r.3 (Ok given) c.in_ok-give_actuals.ensures.given in
+    let shapable = c.calls_give_what_is_bound.ensures.shapable program r.0 r.1 m c.args.p c.args.call given room accepted main r.3 gives_so (r.2.to_pass.values c.args.call.unit inside) in
+    subst (λ gs. AreShapable space gs room c.as_slice-dummies.result.now) (sym c.deref-2.ensures.value)
+    (subst (AreShapable space given room) (sym (c.as_slice-dummies.ensures ∙ c.unit-called.ensures.dummies)) shapable)
 
-pub returns-else-shapes_fit-clause-fault : goal.returns-else-shapes_fit-clause-fault
-returns-else-shapes_fit-clause-fault c cells choices h at =
+-- whether the arrays fit is told of what is given
+fit : (c : After-find_shapes) → c.find_shapes.result ≡ are_fitting c.args.self.now.frames.arena.contents c.give_actuals.new.given.items (dummy_arguments c.args.image.now (unit_at c.args.image.now c.args.call.unit))
+fit c = c.find_shapes.ensures.fit ∙ (λ i. are_fitting c.args.self.now.frames.arena.contents (c.deref-2.ensures.value i) (dummies-are c i))
+
+pub returns-then-find_shapes-clause-given : goal.returns-then-find_shapes-clause-given
+returns-then-find_shapes-clause-given c cells choices h at =
     let program = c.args.image.now in
     let m = snapshot_of c.args.self.now in
-    let accepted = c.is_runnable.ensures.accepted in
-    let supported = c.is_runnable.ensures.supported in
-    let main = c.supported_programs_call_alone.ensures.main program supported in
+    let main = c.supported_programs_call_alone.ensures.main program c.is_runnable.ensures.supported in
     let given = c.give_actuals.new.given.items in
-    let inside = c.calls_can_be_made.ensures.inside program cells choices m c.args.p c.args.call accepted main at in
-    let plain = c.supported_programs_call_alone.ensures.unadjusted program c.args.call.unit supported inside in
-    c.calls_give_what_is_bound.ensures.shape program cells choices m c.args.p c.args.call given accepted main plain at
-    (gives (goal.at.returns-else-shapes_fit-clause-fault c).After-as_slice-2 cells choices at (Ok given) c.in_ok-give_actuals.ensures.given)
-    (sym (fit (goal.at.returns-else-shapes_fit-clause-fault c).After-shapes_fit) ∙ c.if-shapes_fit.false)
+    let before = (goal.at.returns-then-find_shapes-clause-given c).After-find_shapes in
+    let found = c.find_shapes.ensures.found c.if-find_shapes.true ∙ (λ i. shapes_of c.args.self.now.frames.arena.contents (c.deref-2.ensures.value i) (dummies-are before i)) in
+    subst (IsCalling program cells choices c.args.p m c.args.call.unit c.args.call.next given) (sym found) (
+    c.calls_give_what_is_bound.ensures.calling program cells choices m c.args.p c.args.call given c.is_runnable.ensures.accepted main at
+    (gives (goal.at.returns-then-find_shapes-clause-given c).After-as_slice-2 cells choices at (Ok given) c.in_ok-give_actuals.ensures.given)
+    (sym (fit before) ∙ c.if-find_shapes.true))
+
+pub returns-else-find_shapes-clause-fault : goal.returns-else-find_shapes-clause-fault
+returns-else-find_shapes-clause-fault c cells choices h at =
+    let program = c.args.image.now in
+    let m = snapshot_of c.args.self.now in
+    let main = c.supported_programs_call_alone.ensures.main program c.is_runnable.ensures.supported in
+    let given = c.give_actuals.new.given.items in
+    c.calls_give_what_is_bound.ensures.shape program cells choices m c.args.p c.args.call given c.is_runnable.ensures.accepted main at
+    (gives (goal.at.returns-else-find_shapes-clause-fault c).After-as_slice-2 cells choices at (Ok given) c.in_ok-give_actuals.ensures.given)
+    (sym (fit (goal.at.returns-else-find_shapes-clause-fault c).After-find_shapes) ∙ c.if-find_shapes.false)

@@ -2,13 +2,12 @@ use Rattle.std.proofs.Common.{◌≡◌, ◌<◌, ◌≤◌, [], length, refl, s
 use Rattle.std.specs.Prelude.{vec_capacity}
 use Rattle.std.specs.Option.{unwrap_or}
 use Rattle.hep_source.specs.Defaults.{no_unit}
-use Rattle.hep_source.specs.Units.{Units, dummies_of, main_unit, unit_at}
+use Rattle.hep_source.specs.Units.{main_unit}
 use Rattle.hep_code.specs.Depths.{deepest}
-use Rattle.hep_code.specs.Stacks.{entry_index}
 use Rattle.hep_arena.specs.Space.{Space}
 use Rattle.hep_frames.specs.Tree.{Nodes}
 use Rattle.hep_proc.specs.Nodes.{nodes_of}
-use Rattle.hep_step.specs.Simulation.{unit_addressed, unit_code}
+use Rattle.hep_step.specs.Simulation.{unit_code}
 use Rattle.hep_state.specs.Openings.{IsEntered, snapshot_opened}
 use Rattle.hep_state.specs.Turns.{IsAfter}
 use Rattle.hep_state.proofs.Givings.{entered-out}
@@ -39,4 +38,4 @@ returns-clause-opened c =
     subst (λ n. n ≤ vec_capacity process.operands) (main.operands ∙ ap deepest (main.code ∙ ap (unit_code program) found)) (omega (arith, c.in_ok-process.ensures.room)) in
     machine-opened program c.args.cells key unit.entry _ process index found (
     record { alone = c.in_ok-vec.ensures.items; levels = c.in_ok-process.ensures.levels; operands = c.in_ok-process.ensures.operands; activations = refl; records = c.new-2.ensures.items; faults = c.new-3.ensures.items; running = refl })
-    enough c.requires.few (λ u. let few = subst (λ (us : Units). length (dummies_of (unit_at us u)) ≤ c.most_dummies.result) (c.as_slice.ensures ∙ c.program.ensures) (c.most_dummies.ensures u) in omega (arith, few, c.in_ok-with_capacity.ensures.capacity)) (subst (λ (nodes : Nodes). IsAfter program c.args.cells [] (snapshot_opened program key unit.entry given.arena nodes)) (sym c.give_rows.ensures.nodes) after)
+    enough c.requires.few c.in_ok-room_to_pass.ensures (subst (λ (nodes : Nodes). IsAfter program c.args.cells [] (snapshot_opened program key unit.entry given.arena nodes)) (sym c.give_rows.ensures.nodes) after)

@@ -1,17 +1,14 @@
-use Rattle.std.proofs.Common.{◌≡◌, ◌-◌, ◌<◌, ◌≤◌, ℕ, List, Some, refl, sym, ap, ◌∙◌, subst, arith}
-use Rattle.std.specs.Prelude.{IsSome, is_some, length, slice_get, vec_capacity, Vec}
+use Rattle.std.proofs.Common.{◌≡◌, ◌-◌, ◌<◌, ◌≤◌, ℕ, List, sym, ap, ◌∙◌, subst}
+use Rattle.std.specs.Prelude.{is_some, length, vec_capacity}
 use Rattle.hep_source.specs.Units.{Units}
 use Rattle.hep_arena.specs.Holes.{first_fit}
 use Rattle.hep_code.specs.Depths.{deepest}
 use Rattle.hep_image.specs.Image.{IsUnitCode}
 use Rattle.hep_image.specs.declared.unit.UnitCode.{UnitCode}
-use Rattle.hep_machine.specs.Variables.{adjustable_dimensions_of_all}
-use Rattle.hep_source.specs.Units.{dummies_of, unit_at}
-use Rattle.hep_passing.specs.declared.given.Given.{Given}
 use Rattle.hep_step.specs.Effects.{fails}
 use Rattle.hep_step.specs.Simulation.{unit_code}
 use Rattle.hep_state.specs.declared.machine.Machine.{Machine}
-use Rattle.hep_state.specs.declared.machine.Process.{Process}
+use Rattle.hep_state.specs.declared.machine.Passing.{Passing}
 use Rattle.hep_state.specs.declared.passing.CallAhead.{CallAhead}
 use Rattle.hep_state.specs.declared.turn.TurnFault.{TurnFault}
 use Rattle.hep_state.specs.Calls.{IsCalling, IsUnit}
@@ -30,12 +27,12 @@ abbrev unturned-at : Units → ℕ → CallAhead → Machine → TurnFault → T
 unturned-at program p call m e = (cells : ℕ) (choices : List ℕ) → IsMachineAfter program cells choices m → IsAtCall program cells choices p (snapshot_of m) call → IsUnturned e program cells choices p
 
 -- a machine in which what a CALL gives was written
-given-after : (program : Units) (cells : ℕ) (choices : List ℕ) (old new : Machine) → new ≡ record old { given = new.given } → HaveRoom program cells new → IsMachineAfter program cells choices old → IsMachineAfter program cells choices new
+given-after : (program : Units) (cells : ℕ) (choices : List ℕ) (old new : Machine) → new ≡ record old { passing = new.passing } → HaveRoom program cells new → IsMachineAfter program cells choices old → IsMachineAfter program cells choices new
 given-after program cells choices old new others rooms h = machine-of program cells choices new (subst (IsAfter program cells choices) (sym (ap snapshot_of others)) h.after) rooms
 
 -- what is called
-unit-of : (program : Units) (u : ℕ) (unit : UnitCode) → u < length program → IsUnitCode program u unit → adjustable_dimensions_of_all (unit_at program u) (dummies_of (unit_at program u)) ≡ 0 → IsUnit program u unit.cells unit.entry
-unit-of program u unit inside code plain = record { inside = inside; cells_are = code.cells; entry_is = code.entry; plain = plain }
+unit-of : (program : Units) (u : ℕ) (unit : UnitCode) → u < length program → IsUnitCode program u unit → IsUnit program u unit.cells unit.entry
+unit-of program u unit inside code = record { inside = inside; cells_are = code.cells; entry_is = code.entry }
 
 pub returns-in_err-reserve-clause-unturned : goal.returns-in_err-reserve-clause-unturned
 returns-in_err-reserve-clause-unturned c =
@@ -73,8 +70,7 @@ returns-then-not-fits-clause-unturned c cells choices h at =
     let u = c.args.call.unit in
     let unit = c.unit-unit.result.now in
     let inside = c.calls_can_be_made.ensures.inside program cells choices (snapshot_of c.args.self.now) c.args.p c.args.call c.is_runnable.ensures.accepted (has-main program c.is_runnable.ensures.supported) at in
-    let plain = c.supported_programs_call_alone.ensures.unadjusted program u c.is_runnable.ensures.supported inside in
-    c.gaps_are_told.ensures.none program cells choices (snapshot_of c.args.self.now) c.args.p u unit.cells unit.entry c.args.call.next c.give.new.self.given.items (c.in_default.ensures.given cells choices h at) (unit-of program u unit inside c.unit-unit.ensures plain) (
+    c.gaps_are_told.ensures.none program cells choices (snapshot_of c.args.self.now) c.args.p u unit.cells unit.entry c.args.call.next c.give.new.self.passing.given.items c.give.new.self.passing.shapes.items (c.in_default.ensures.given cells choices h at) (unit-of program u unit inside c.unit-unit.ensures) (
     ap (λ (m : Machine). first_fit unit.cells m.frames.arena.holes) (sym c.give.ensures.others) ∙ none-of (first_fit unit.cells c.give.new.self.frames.arena.holes) (sym c.fits.ensures.fit ∙ c.if-not-fits.true))
 
 pub returns-in_err-reserve_activation-clause-unturned : goal.returns-in_err-reserve_activation-clause-unturned
@@ -84,8 +80,7 @@ returns-in_err-reserve_activation-clause-unturned c =
     let unit = c.unit-unit.result.now in
     without-memory (unturned-at program c.args.p c.args.call c.args.self.now) c.from_residual-in_err-reserve_activation.result c.from_residual-in_err-reserve_activation.ensures.1 (λ cells choices h at.
     let inside = c.calls_can_be_made.ensures.inside program cells choices (snapshot_of c.args.self.now) c.args.p c.args.call c.is_runnable.ensures.accepted (has-main program c.is_runnable.ensures.supported) at in
-    let plain = c.supported_programs_call_alone.ensures.unadjusted program u c.is_runnable.ensures.supported inside in
-    c.gaps_are_told.ensures.some program cells choices (snapshot_of c.args.self.now) c.args.p u unit.cells unit.entry c.args.call.next c.give.new.self.given.items (c.in_default.ensures.given cells choices h at) (unit-of program u unit inside c.unit-unit.ensures plain) (
+    c.gaps_are_told.ensures.some program cells choices (snapshot_of c.args.self.now) c.args.p u unit.cells unit.entry c.args.call.next c.give.new.self.passing.given.items c.give.new.self.passing.shapes.items (c.in_default.ensures.given cells choices h at) (unit-of program u unit inside c.unit-unit.ensures) (
     some-of (first_fit unit.cells c.args.self.now.frames.arena.holes) (ap (λ (m : Machine). is_some (first_fit unit.cells m.frames.arena.holes)) (sym c.give.ensures.others) ∙ (sym c.fits.ensures.fit ∙ c.if-not-fits.false))))
 
 pub returns-in_err-reserve_activation-clause-refused : goal.returns-in_err-reserve_activation-clause-refused
@@ -96,24 +91,24 @@ returns-in_err-reserve_activation-clause-refused c =
     machine-of program cells choices c.reserve_activation.new.self (subst (IsAfter program cells choices) (sym c.reserve_activation.ensures.shown) had.after) (c.reserve_activation.ensures.rooms program cells (rooms-of program cells choices c.give.new.self had)))
 
 -- what is called and given is so in a machine that shows the same and has the same given
-calling-moved : (program : Units) (cells : ℕ) (choices : List ℕ) (p u next : ℕ) (old new : Machine) (given : List Given) → snapshot_of new ≡ snapshot_of old → new.given.items ≡ given → IsCalling program cells choices p (snapshot_of old) u next given
-    → IsCalling program cells choices p (snapshot_of new) u next new.given.items
-calling-moved program cells choices p u next old new given shown same calling =
-    subst (λ (n : Snapshot). IsCalling program cells choices p n u next new.given.items) (sym shown) (subst (IsCalling program cells choices p (snapshot_of old) u next) (sym same) calling)
+calling-moved : (program : Units) (cells : ℕ) (choices : List ℕ) (p u next : ℕ) (old new : Machine) (passing : Passing) → snapshot_of new ≡ snapshot_of old → new.passing ≡ passing → IsCalling program cells choices p (snapshot_of old) u next passing.given.items passing.shapes.items
+    → IsCalling program cells choices p (snapshot_of new) u next new.passing.given.items new.passing.shapes.items
+calling-moved program cells choices p u next old new passing shown same calling =
+    subst (λ (n : Snapshot). IsCalling program cells choices p n u next new.passing.given.items new.passing.shapes.items) (sym shown)
+    (subst (λ (r : Passing). IsCalling program cells choices p (snapshot_of old) u next r.given.items r.shapes.items) (sym same) calling)
 
 pub call-requires-clause-calling : goal.call-requires-clause-calling
 call-requires-clause-calling c =
     let program = c.args.image.now in
     let u = c.args.call.unit in
     let h = c.requires.at in
-    let inside = c.calls_can_be_made.ensures.inside program h.0 h.1 (snapshot_of c.args.self.now) c.args.p c.args.call c.is_runnable.ensures.accepted (has-main program c.is_runnable.ensures.supported) h.3 in
-    let plain = c.supported_programs_call_alone.ensures.unadjusted program u c.is_runnable.ensures.supported inside in (
+    let inside = c.calls_can_be_made.ensures.inside program h.0 h.1 (snapshot_of c.args.self.now) c.args.p c.args.call c.is_runnable.ensures.accepted (has-main program c.is_runnable.ensures.supported) h.3 in (
       program,
       h.0,
       h.1,
-      calling-moved program h.0 h.1 c.args.p u c.args.call.next c.args.self.now c.reserve_activation.new.self c.give.new.self.given.items (c.reserve_activation.ensures.shown ∙ ap snapshot_of c.give.ensures.others) (ap (λ v. v.items) c.reserve_activation.ensures.given)
+      calling-moved program h.0 h.1 c.args.p u c.args.call.next c.args.self.now c.reserve_activation.new.self c.give.new.self.passing (c.reserve_activation.ensures.shown ∙ ap snapshot_of c.give.ensures.others) c.reserve_activation.ensures.passing
           (c.in_default.ensures.given h.0 h.1 h.2 h.3),
-      unit-of program u c.unit-unit.result.now inside c.unit-unit.ensures plain,
+      unit-of program u c.unit-unit.result.now inside c.unit-unit.ensures,
     )
 
 pub returns-clause-stepped : goal.returns-clause-stepped
@@ -122,10 +117,9 @@ returns-clause-stepped c cells choices h at =
     let u = c.args.call.unit in
     let unit = c.unit-unit.result.now in
     let inside = c.calls_can_be_made.ensures.inside program cells choices (snapshot_of c.args.self.now) c.args.p c.args.call c.is_runnable.ensures.accepted (has-main program c.is_runnable.ensures.supported) at in
-    let plain = c.supported_programs_call_alone.ensures.unadjusted program u c.is_runnable.ensures.supported inside in
-    let calling = calling-moved program cells choices c.args.p u c.args.call.next c.args.self.now c.reserve_activation.new.self c.give.new.self.given.items (c.reserve_activation.ensures.shown ∙ ap snapshot_of c.give.ensures.others) (ap (λ v. v.items) c.reserve_activation.ensures.given)
+    let calling = calling-moved program cells choices c.args.p u c.args.call.next c.args.self.now c.reserve_activation.new.self c.give.new.self.passing (c.reserve_activation.ensures.shown ∙ ap snapshot_of c.give.ensures.others) c.reserve_activation.ensures.passing
     (c.in_default.ensures.given cells choices h at) in
-    let stepped = c.call.ensures.stepped program cells choices calling (unit-of program u unit inside c.unit-unit.ensures plain) in
+    let stepped = c.call.ensures.stepped program cells choices calling (unit-of program u unit inside c.unit-unit.ensures) in
     let deep : unit.operands ≡ deepest (unit_code program u) = c.unit-unit.ensures.operands ∙ ap deepest c.unit-unit.ensures.code in
     let rooms = c.call.ensures.rooms program cells (c.reserve_activation.ensures.rooms program cells (c.give.ensures.rooms cells (rooms-of program cells choices c.args.self.now h)))
     (λ q e. subst (λ n. n ≤ vec_capacity q.operands) deep (c.in_ok-reserve_activation.ensures.operands q e)) in

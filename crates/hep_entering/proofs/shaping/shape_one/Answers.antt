@@ -1,0 +1,14 @@
+use Rattle.std.proofs.Common.{◌≡◌, ◌+◌, ◌*◌, ◌<◌, ◌∙◌, length, refl, sym, ap, subst, arith}
+use Rattle.std.proofs.lemmas.Option.{same_Some}
+use Rattle.hep_machine.specs.Shapes.{Bounds}
+use Rattle.hep_entering.specs.Shapes.{IsShaping, cells_of_shape}
+use Rattle.hep_entering.proofs.shaping.shape_one.Goals as goal
+
+pub shape-requires-clause-out : goal.shape-requires-clause-out
+shape-requires-clause-out c p low high =
+    c.requires.out p low (subst (λ n. p < c.args.at + n) (sym (ap cells_of_shape c.in-Some.is ∙ ap (λ (bs : Bounds). 2 * length bs) (sym c.bounds-bounds.ensures.value))) high)
+
+pub returns-clause-shaped : goal.returns-clause-shaped
+returns-clause-shaped c bounds e program s on out layout wanted a k kept h =
+    c.shape.ensures.shaped program s on out layout wanted a k kept
+    (subst (λ bs. IsShaping program s layout a k c.args.at bs) (sym (c.bounds-bounds.ensures.value ∙ same_Some _ bounds (sym c.in-Some.is ∙ e))) h)

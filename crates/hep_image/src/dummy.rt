@@ -1,0 +1,37 @@
+//! Dummy arguments without their names.
+
+use hep_base::Sequence;
+use hep_bounds::BoundOperation;
+use hep_shape::Shape;
+use hep_source::Syntax;
+use std::alloc::{AllocError, Global};
+
+/// A dummy argument, by what must be known of it where its unit is called (X3.9-1978, 15.9.3).
+#[derive(Drop)]
+pub enum DummyArgument {
+    /// It is no array.
+    Scalar,
+    /// An array whose bounds are all constant, of which the last one may be open (5.5).
+    Array(Shape),
+    /// An array whose bounds are fixed at each call, by their code (5.5.1).
+    Adjustable(Sequence<BoundOperation>),
+}
+
+impl Syntax for DummyArgument {
+    fn copy(&self, alloc: Global) -> Result<DummyArgument, AllocError> {
+        match self {
+            DummyArgument::Scalar => Ok(DummyArgument::Scalar),
+            DummyArgument::Array(shape) => Ok(DummyArgument::Array(shape.copy(alloc)?)),
+            DummyArgument::Adjustable(code) => Ok(DummyArgument::Adjustable(code.copy(alloc)?)),
+        }
+    }
+
+    fn same(&self, other: &DummyArgument) -> bool {
+        match (self, other) {
+            (DummyArgument::Scalar, DummyArgument::Scalar) => true,
+            (DummyArgument::Array(a), DummyArgument::Array(b)) => a.same(b),
+            (DummyArgument::Adjustable(a), DummyArgument::Adjustable(b)) => a.same(b),
+            _ => false,
+        }
+    }
+}

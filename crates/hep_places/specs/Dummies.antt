@@ -1,0 +1,51 @@
+-- What is found of the dummy arguments of a unit: X3.9-1978, 5.5.1 and 15.9.3.
+use Rattle.std.specs.Prelude.{ℕ, ◌+◌, nat_eq, if◌then◌else◌, List, Option, Some, None}
+use Rattle.std.specs.Option.{unwrap_or}
+use Rattle.indexmap.specs.IndexMap.{get}
+use Rattle.hep_source.specs.declared.declaration.Dimension.{Dimension}
+use Rattle.hep_source.specs.declared.name.Name.{Name}
+use Rattle.hep_source.specs.declared.statement.Statement.{Statement}
+use Rattle.hep_source.specs.Names.{name_eq, index_among}
+use Rattle.hep_source.specs.Units.{dummies_of}
+use Rattle.hep_machine.specs.Constants.{Values, adjustable_dimensions, constant_shape, value_among}
+use Rattle.hep_machine.specs.Declarations.{BlockName, common_block, dimensions_of, is_array, is_common}
+use Rattle.hep_machine.specs.Shapes.{Bounds}
+use Rattle.hep_bounds.specs.BoundCode.{Sources}
+use Rattle.hep_bounds.specs.DimensionCode.{code_of_dimensions}
+use Rattle.hep_bounds.specs.Sources.{source_by}
+use Rattle.hep_image.specs.declared.dummy.DummyArgument.{DummyArgument}
+use Rattle.hep_image.specs.declared.dummy.DummyArgument.TheVariants.{Scalar, Array, Adjustable}
+use Rattle.hep_common.specs.Starts.{narrowed, start_in}
+use Rattle.hep_common.specs.declared.starts.CommonStarts.{CommonStarts}
+use Rattle.hep_places.specs.declared.bounds.Known.{Known}
+use Rattle.hep_places.specs.Found.{Table}
+
+-- the first cell of a name in COMMON
+abbrev pub cell_by : CommonStarts → Option BlockName → Option ℕ → ℕ
+cell_by common None offset = 0
+cell_by common (Some b) offset = narrowed (start_in common b + unwrap_or offset 0)
+
+-- where the value of each name is
+abbrev pub source_found : List Statement → Values → CommonStarts → Table → Sources
+source_found unit values common offsets x =
+    source_by (values x) (index_among x (dummies_of unit)) (is_common unit x) (cell_by common (common_block unit x) (offsets x))
+
+unfoldable pub source_in : Known → Sources
+source_in k = source_found k.symbols.now (value_among k.constants.now) k.common.now (get name_eq k.tables.now.offsets)
+
+-- no array of an accepted program is without a shape
+abbrev pub constant_array : Option Bounds → DummyArgument
+constant_array None = Scalar
+constant_array (Some bs) = Array bs
+
+abbrev pub adjustable_array : Known → List Dimension → DummyArgument
+adjustable_array k ds = Adjustable (code_of_dimensions (source_in k) k.symbols.now ds)
+
+abbrev pub array_found : List Statement → Sources → Name → DummyArgument
+array_found unit source x =
+    if nat_eq (adjustable_dimensions unit x) 0
+    then constant_array (constant_shape unit x)
+    else Adjustable (code_of_dimensions source unit (dimensions_of unit x))
+
+abbrev pub dummy_found : List Statement → Sources → Name → DummyArgument
+dummy_found unit source x = if is_array unit x then array_found unit source x else Scalar
