@@ -227,6 +227,12 @@ class Call(Form):
 
 
 @dataclass
+class Create(Form):
+    name: str
+    actuals: list
+
+
+@dataclass
 class Continue(Form):
     pass
 
@@ -625,6 +631,11 @@ def alone(form):
     return read
 
 
+def called(form):
+    """A subroutine with actual arguments, for a CALL or CREATE."""
+    return lambda rest: form(*whole(rest, lambda reader: (reader.name(), reader.listed(reader.expression))))
+
+
 # The words of statements, a longer one before those that it begins with.
 WORDS = {
     "PROGRAM": lambda rest: Program(whole(rest, Reader.name)),
@@ -642,7 +653,8 @@ WORDS = {
     "ELSE": alone(Else),
     "ENDIF": alone(EndIf),
     "END": alone(End),
-    "CALL": lambda rest: Call(*whole(rest, lambda reader: (reader.name(), reader.listed(reader.expression)))),
+    "CALL": called(Call),
+    "CREATE": called(Create),
     "CONTINUE": alone(Continue),
     "RETURN": alone(Return),
     "STOP": lambda rest: Stop(),

@@ -22,6 +22,7 @@ class Dummy:
     uppers: list = field(default_factory=list)
     wanted: int | None = None
     counts_down: bool = False
+    asynchronous: bool = False
 
     def grows_by(self, bound):
         """Whether the array is longer by one row of its last dimension where this bound is one more, and by no other."""
@@ -48,18 +49,26 @@ class Subroutine:
 
 @dataclass(eq=False)
 class Block:
-    """A common block: which of its positions are logical, one that bounds may have, with its value, and how many the main
-    program names."""
+    """A common block: which of its positions are logical, one that bounds may have, with its value, how many the main
+    program names, and whether all are asynchronous."""
 
     name: str
     logicals: list
     bound_at: int | None = None
     bound: int = 0
     known: int = 0
+    asynchronous: bool = False
+
+    def sign(self):
+        """What stands before the names of its variables."""
+        return "$" if self.asynchronous else ""
 
 
 class Plan(Draws):
     """What the units of a program know of each other."""
+
+    # Whether units have asynchronous variables.
+    asynchronous = False
 
     def __init__(self, seed):
         super().__init__(f"{seed} plan")
@@ -144,6 +153,10 @@ class Plan(Draws):
         behind = self.subroutines[caller.place + 1 :]
         return [other for other in behind if not other.is_recursive] if caller.is_recursive else behind
 
+    def callees_in_passing(self, caller):
+        """Those of them that are called anywhere, in loops and under conditions too."""
+        return self.callees(caller)
+
     def recursive_callees(self, caller):
         """Those that are called as often as a dummy argument counts down to zero."""
         return [other for other in self.subroutines if other.is_recursive] if caller and caller.is_recursive else []
@@ -161,7 +174,7 @@ class UnitMaker(Maker):
     """The statements of one unit of a plan."""
 
     def __init__(self, seed, plan, subroutine=None):
-        super().__init__(f"{seed} {subroutine.name if subroutine else 'main program'}")
+        super().__init__(f"{seed} {subroutine.name if subroutine else 'main program'}", plan.asynchronous)
         self.plan = plan
         self.subroutine = subroutine
         self.risk = plan.risk
@@ -200,6 +213,7 @@ class UnitMaker(Maker):
         if self.subroutine:
             # (DATA alone gives values to an array of seven dimensions)
             self.arrays = [array for array in self.arrays if len(array.bounds) < 7]
+            self.signals = [signal for signal in self.signals if len(signal.bounds) < 7]
             own = [variable for variable in own if len(variable.bounds) < 7]
         held = self.declare_dummies() + [variable for block in self.blocks_used() for variable in self.positions(block)]
         own = self.lend_turn(own, held) + self.arrays_to_pass()
@@ -208,16 +222,22 @@ class UnitMaker(Maker):
 
     def arrays_to_pass(self):
         """Arrays that are long enough for those that are called, mostly, and some of any length."""
-        wanted = [(self.chance(0.2), self.number(4, 12)) for _ in range(self.pick([0, 0, 1]))]
+        wanted, signals = [(self.chance(0.2), self.number(4, 12)) for _ in range(self.pick([0, 0, 1]))], []
         for other in self.plan.callees(self.subroutine) + self.plan.recursive_callees(self.subroutine):
-            wanted += [(dummy.logical, dummy.size({}) + self.number(0, 3)) for dummy in other.dummies if dummy.bounds]
+            dummies = [dummy for dummy in other.dummies if dummy.bounds]
+            wanted += [(dummy.logical, dummy.size({}) + self.number(0, 3)) for dummy in dummies if not dummy.asynchronous]
+            signals += [(dummy.logical, dummy.size({}) + self.number(0, 3)) for dummy in dummies if dummy.asynchronous]
+        return self.as_long_as(wanted, self.arrays, "") + self.as_long_as(signals, self.signals, "$")
+
+    def as_long_as(self, wanted, arrays, sign):
+        """Adds arrays to others, so that mostly each wanted one is there; gives those that are new."""
         found = []
         for logical, size in wanted:
-            is_there = any(array.logical == logical and array.size() >= size for array in self.arrays)
+            is_there = any(array.logical == logical and array.size() >= size for array in arrays)
             if not is_there and size > 1 and self.chance(0.7):
-                array = Variable(self.name(), logical)
+                array = Variable(sign + self.name(), logical)
                 self.divide(array, size)
-                self.arrays.append(array)
+                arrays.append(array)
                 found.append(array)
         return found
 
@@ -236,13 +256,15 @@ class UnitMaker(Maker):
 
     def hold(self, variable):
         """Makes a variable one of those that expressions and assignments have."""
-        lists = [(self.arrays, bool(variable.bounds)), (self.truths, variable.logical), (self.scalars, True)]
+        lists = [(self.signals, variable.name.startswith("$")), (self.arrays, bool(variable.bounds))]
+        lists += [(self.truths, variable.logical), (self.scalars, True)]
         next(variables for variables, fits in lists if fits).append(variable)
 
     def declare_dummies(self):
         held = []
         for dummy in self.subroutine.dummies if self.subroutine else []:
-            variable = Held(self.name_of_variable(), dummy.logical, list(dummy.bounds))
+            name = "$" + self.name() if dummy.asynchronous else self.name_of_variable()
+            variable = Held(name, dummy.logical, list(dummy.bounds))
             self.variables_of[dummy] = variable
             held.append(variable)
             if dummy.counts_down or dummy.wanted is not None and self.chance(0.6):
@@ -298,7 +320,7 @@ class UnitMaker(Maker):
             run = at + 1
             while run < end and block.logicals[run] == block.logicals[at] and block.bound_at not in (at, run):
                 run += 1
-            variable = Held(self.name(), block.logicals[at], block=block.name)
+            variable = Held(block.sign() + self.name(), block.logicals[at], block=block.name)
             size = self.number(2, run - at) if run - at > 1 and self.chance(0.5) else 1
             if size > 1:
                 self.divide(variable, size)
@@ -380,11 +402,11 @@ class UnitMaker(Maker):
             return self.pick([truth(self.chance(0.5)), self.logical(1)])
         return self.pick([self.constant(), f"-{self.number(1, 9)}", self.sum(1), self.small()])
 
-    def array_passed(self, size, logical):
-        """An array that has so many elements left from its first one on, or from one that is named; None where there is no
+    def array_passed(self, size, logical, arrays):
+        """An array of these that has so many elements left from its first one on, or from one that is named; None where there is no
         such array. What is risked is risked more often than elsewhere, since it is rare among all that may fault."""
         is_risked = self.chance(3 * self.risk)
-        arrays = [array for array in self.arrays if array.logical == logical and (array.size() >= size or is_risked)]
+        arrays = [array for array in arrays if array.logical == logical and (array.size() >= size or is_risked)]
         if not arrays:
             return None
         array = self.pick(arrays)
@@ -397,6 +419,13 @@ class UnitMaker(Maker):
             subscripts.append(lower + (offset if at == len(array.bounds) else offset % extent))
             offset //= extent
         return f"{array.name}({','.join(self.subscript(value, value, 1) for value in subscripts)})"
+
+    def signal_passed(self, dummy):
+        """An actual argument for an asynchronous dummy argument; None where there is none."""
+        signals = [signal for signal in self.signals if signal.logical == dummy.logical]
+        if dummy.bounds:
+            return self.array_passed(dummy.size({}), dummy.logical, [signal for signal in signals if signal.bounds])
+        return self.place(self.pick(signals)) if signals else None
 
     def bound_passed(self, value, before):
         """The value of a bound, as an expression of constants, or in a variable that gets it before."""
@@ -416,10 +445,12 @@ class UnitMaker(Maker):
         for dummy in other.dummies:
             if dummy.counts_down:
                 found.append(count)
+            elif dummy.asynchronous:
+                found.append(self.signal_passed(dummy))
             elif dummy.wanted is not None:
                 found.append(self.bound_passed(dummy.wanted + more.get(dummy, 0), before))
             elif dummy.bounds:
-                found.append(self.array_passed(dummy.size(more), dummy.logical))
+                found.append(self.array_passed(dummy.size(more), dummy.logical, self.arrays))
             else:
                 found.append(self.scalar_passed(dummy, scalars))
         return None if None in found else found
@@ -449,11 +480,18 @@ class UnitMaker(Maker):
         """A CALL, perhaps with assignments before it."""
         before = []
         passed = self.passed(other, self.times(), before)
-        return [] if passed is None else [*before, Line(self.call_text(other, passed), self.label() if self.chance(0.05) else None)]
+        if passed is None:
+            return []
+        call = Line(self.call_text(other, passed), self.label() if self.chance(0.05) else None)
+        self.note_call(other, passed)
+        return [*before, call]
+
+    def note_call(self, other, passed):
+        """What is to be done after a CALL, in a program where that matters."""
 
     def one_call(self):
         """A CALL as one statement, if there is one to make."""
-        callees = self.plan.callees(self.subroutine)
+        callees = self.plan.callees_in_passing(self.subroutine)
         if not callees or self.calls_left <= 0:
             return None
         other = self.pick(callees)
@@ -539,16 +577,19 @@ class UnitMaker(Maker):
 
     def misfits(self, dummy):
         """Actual arguments that don't fit a dummy argument."""
+        if dummy.asynchronous:
+            return ["1", *(variable.name for variable in [*self.scalars, *self.arrays][:2])]
         if dummy.bounds:
             others = [array.name for array in self.arrays if array.logical != dummy.logical]
             return ["1", ".TRUE.", *others[:1], *[f"({variable.name})" for variable in self.scalars[:1]]]
-        return [*(array.name for array in self.arrays[:1]), "1" if dummy.logical else ".TRUE."]
+        others = [*self.arrays[:1], *self.signals[:1]]
+        return [*(variable.name for variable in others), "1" if dummy.logical else ".TRUE."]
 
     # The whole.
 
     def held(self):
         """The variables that are dummy arguments or in COMMON."""
-        everything = [*self.scalars, *self.truths, *self.arrays, *self.turns, *self.fixed]
+        everything = [*self.scalars, *self.truths, *self.arrays, *self.turns, *self.fixed, *self.signals]
         return [variable for variable in everything if isinstance(variable, Held)]
 
     def header(self):
@@ -568,14 +609,16 @@ class UnitMaker(Maker):
 class Assembly:
     """The units of a plan, in an order that is drawn."""
 
+    plan_of, maker_of = Plan, UnitMaker
+
     def __init__(self, seed):
-        self.plan = Plan(seed)
-        makers = [UnitMaker(seed, self.plan, subroutine) for subroutine in self.plan.subroutines]
+        self.plan = self.plan_of(seed)
+        makers = [self.maker_of(seed, self.plan, subroutine) for subroutine in self.plan.subroutines]
         breaks = self.plan.pick(["unit", "unit", "unit", "end", "block", "dummy"]) if self.plan.breaks else None
         broken = self.plan.pick([*makers, None]) if breaks == "unit" else makers
         self.units = [(maker, *maker.unit(maker is broken)) for maker in makers]
         # (the main program comes last, since it calls what nobody else does)
-        main = UnitMaker(seed, self.plan)
+        main = self.maker_of(seed, self.plan)
         self.units.append((main, *main.unit(broken is None)))
         if self.plan.chance(0.6):
             self.plan.random.shuffle(self.units)
@@ -606,9 +649,9 @@ class Assembly:
         return [line for _, lines, _ in self.units for line in lines] + self.behind
 
 
-def program_of(seed):
+def program_of(seed, assembly=Assembly):
     """The statements of a program of several units, which is drawn again where one of them is too long."""
     for attempt in itertools.count():
-        lines = Assembly(f"{seed} units {attempt}").lines()
+        lines = assembly(f"{seed} units {attempt}").lines()
         if all(len(line.text) <= MOST for line in lines):
             return lines

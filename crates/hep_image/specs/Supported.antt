@@ -10,11 +10,10 @@ use Rattle.hep_source.specs.Units.{Units, line_at, main_among, unit_at}
 use Rattle.hep_machine.specs.Variables.{occurrences_in_statement}
 
 abbrev pub is_unsupported_form : Form → Bool
-is_unsupported_form (form.Create p ts) = true
 is_unsupported_form (form.Purge targets) = true
 is_unsupported_form _ = false
 
--- CREATE, PURGE, and each statement with an asynchronous name
+-- PURGE, and each statement with an asynchronous name
 abbrev pub is_unsupported : List Statement → Statement → Bool
 is_unsupported unit s = is_unsupported_form s.form || list_any (λ (p : Occurrence). p.name.asynchronous) (occurrences_in_statement unit s)
 

@@ -18,7 +18,7 @@ use Rattle.hep_check.specs.Statements.{targets_purged}
 use Rattle.hep_code.specs.declared.instruction.Instruction.{Instruction}
 use Rattle.hep_code.specs.declared.instruction.Instruction.TheVariants.{Step}
 use Rattle.hep_code.specs.declared.instruction.Operation.{Operation}
-use Rattle.hep_code.specs.declared.instruction.Operation.TheVariants.{Create, Purge}
+use Rattle.hep_code.specs.declared.instruction.Operation.TheVariants.{Purge}
 use Rattle.hep_code.specs.declared.variable.Variable.{Variable}
 use Rattle.hep_code.specs.declared.variable.Variable.TheVariants as variables
 use Rattle.hep_code.specs.Replies.{is_asynchronous}
@@ -28,7 +28,7 @@ use Rattle.hep_image.specs.Places.{scalar, start_of, variable_by, variable_of}
 use Rattle.hep_image.specs.Supported.{first_unsupported, first_unsupported_among, first_unsupported_in, is_unsupported, is_unsupported_form}
 use Rattle.hep_accepted.proofs.Members.{Has, flat_has}
 use Rattle.hep_accepted.proofs.Parts.{any-each}
-use Rattle.hep_placed.specs.Instructions.{IsOfOneProcess, IsWithinProcess, variables_in}
+use Rattle.hep_placed.specs.Instructions.{IsNoPurge, PurgesNothing, variables_in}
 use Rattle.hep_placed.specs.Placed.{ArePlaced, ArePlain, IsPlaced, code_in}
 use Rattle.hep_placed.proofs.Coded.{AllMeet, Meets, MeetsOperation, Wish, code_meets}
 use Rattle.hep_placed.proofs.Facts.{Facts}
@@ -98,9 +98,9 @@ plain_variable program unit x e = plain_by unit x (start_of program unit x) e
 abbrev IsPlainlyPlaced : Variable → Type 0
 IsPlainlyPlaced x = IsPlaced x × (is_asynchronous x ≡ false)
 
--- no CREATE and no PURGE
+-- no PURGE
 abbrev staying : Wish
-staying = record { variable = λ x. Unit {0}; tested = λ x. Unit {0}; call = λ u n. Unit {0}; create = ⊥; purge = ⊥; argument = λ a. Unit {0} }
+staying = record { variable = λ x. Unit {0}; tested = λ x. Unit {0}; call = λ u n. Unit {0}; create = Unit {0}; purge = ⊥; argument = λ a. Unit {0} }
 
 module _ (program : Units) (u : ℕ) (facts : Facts (unit_at program u)) (none : first_unsupported program ≡ None) (there : u < length program) where
   parts : (s : Statement) → Has (unit_at program u) s → (is_unsupported_form s.form ≡ false) × (list_any (λ (p : Occurrence). p.name.asynchronous) (occurrences_in_statement (unit_at program u) s) ≡ false)
@@ -131,18 +131,17 @@ module _ (program : Units) (u : ℕ) (facts : Facts (unit_at program u)) (none :
       right (unit_of_program program u) facts staying (λ p h varies. tt) (record {
         called = λ s c h g. tt;
         passed = λ s c t h g i. tt;
-        creating = λ s p ts h e. true≢false (sym (ap is_unsupported_form e) ∙ (parts s h).0);
+        creating = λ s p ts h e. tt;
         purging = λ s ts h e. true≢false (sym (ap is_unsupported_form e) ∙ (parts s h).0);
         purged = λ s t h g. tt;
       }))
 
-  pub one_process : (i : ℕ) (x : Instruction) → slice_get (code_in program u) i ≡ Some x → IsOfOneProcess x
-  one_process i x e = by_instruction x (all_stay x (i, e)) where
-    by_operation : (o : Operation) → MeetsOperation staying o → IsWithinProcess o
-    by_operation (Create v n next) h = h.1
+  pub none_purges : (i : ℕ) (x : Instruction) → slice_get (code_in program u) i ≡ Some x → PurgesNothing x
+  none_purges i x e = by_instruction x (all_stay x (i, e)) where
+    by_operation : (o : Operation) → MeetsOperation staying o → IsNoPurge o
     by_operation (Purge n next) h = h
     by_operation _ h = tt
 
-    by_instruction : (y : Instruction) → Meets staying y → IsOfOneProcess y
+    by_instruction : (y : Instruction) → Meets staying y → PurgesNothing y
     by_instruction (Step line o) h = by_operation o h
     by_instruction _ h = tt

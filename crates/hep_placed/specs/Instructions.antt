@@ -7,7 +7,7 @@ use Rattle.hep_code.specs.declared.instruction.Evaluation.TheVariants.{Load, Tes
 use Rattle.hep_code.specs.declared.instruction.Instruction.{Instruction}
 use Rattle.hep_code.specs.declared.instruction.Instruction.TheVariants.{Step, Pass}
 use Rattle.hep_code.specs.declared.instruction.Operation.{Operation}
-use Rattle.hep_code.specs.declared.instruction.Operation.TheVariants.{Evaluate, Store, EnterLoop, EndLoop, Create, Purge}
+use Rattle.hep_code.specs.declared.instruction.Operation.TheVariants.{Evaluate, Store, EnterLoop, EndLoop, Purge}
 use Rattle.hep_code.specs.declared.variable.Variable.{Variable}
 
 -- ---- variables
@@ -34,14 +34,13 @@ variables_in (Step line o) = variables_in_operation o
 variables_in (Pass a) = variables_in_argument a
 variables_in _ = []
 
--- ---- CREATE and PURGE: docs/LANGUAGE.md, 9
+-- ---- PURGE: docs/LANGUAGE.md, 9
 
-abbrev pub IsWithinProcess : Operation → Type 0
-IsWithinProcess (Create u n next) = ⊥
-IsWithinProcess (Purge n next) = ⊥
-IsWithinProcess _ = Unit {0}
+abbrev pub IsNoPurge : Operation → Type 0
+IsNoPurge (Purge n next) = ⊥
+IsNoPurge _ = Unit {0}
 
--- an instruction that begins no process and purges nothing
-abbrev pub IsOfOneProcess : Instruction → Type 0
-IsOfOneProcess (Step line o) = IsWithinProcess o
-IsOfOneProcess _ = Unit {0}
+-- an instruction that purges nothing
+abbrev pub PurgesNothing : Instruction → Type 0
+PurgesNothing (Step line o) = IsNoPurge o
+PurgesNothing _ = Unit {0}

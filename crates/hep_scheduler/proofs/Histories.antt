@@ -1,6 +1,7 @@
 -- A history with one entry more.
-use Rattle.std.proofs.Common.{◌≡◌, ◌≢◌, inr, ℕ, ◌<◌, ◌≤◌, List, [], ◌∷◌, ◌++◌, length, length-append, refl, sym, ap, ◌∙◌, subst, append_assoc, arith, Option, Some, None, replicate}
-use Rattle.std.specs.Prelude.{IsSome}
+use Rattle.std.proofs.Common.{◌≡◌, ◌≢◌, inr, ℕ, zero, suc, ◌-◌, ◌<◌, ◌≤◌, List, [], ◌∷◌, ◌++◌, length, length-append, refl, sym, ap, ◌∙◌, subst, append_assoc, arith, Option, Some, None, replicate}
+use Rattle.std.specs.Prelude.{IsSome, slice_get}
+use Rattle.std.proofs.lemmas.Option.{none-some, same_Some}
 use Rattle.std.specs.Option.{unwrap_or}
 use Rattle.hep_machine.specs.declared.event.Entry.{Entry}
 use Rattle.hep_source.specs.Units.{Units}
@@ -8,7 +9,7 @@ use Rattle.hep_machine.specs.Histories.{IsEntry, AreEntries, IsLegal}
 use Rattle.hep_machine.specs.Layout.{is_held, layout_of}
 use Rattle.hep_machine.specs.Opening.{opening}
 use Rattle.hep_machine.specs.Run.{run, run_from, schedule_of_entry, schedule_of, state_after, state_after_turn}
-use Rattle.hep_machine.specs.Schedules.{Progress, progress_after_entry, progress_from, progress_after}
+use Rattle.hep_machine.specs.Schedules.{Progress, progress_after_entry, progress_from, progress_after, last_process}
 use Rattle.hep_machine.specs.State.{State}
 use Rattle.hep_machine.specs.Step.{step}
 
@@ -100,3 +101,24 @@ legal-stepped program cells limit es p s h lt room e = record {
   entries = entries-last program es (record { process = p; steps = 1 }) (opening program) h.entries
       (inr (omega arith, omega arith, (some-step (step program p (run_from program (opening program) (schedule_of es))) s e, tt)));
 }
+
+-- ---- the process of the last entry
+
+last-at : (es : List Entry) (i : ℕ) (e : Entry) → suc i ≡ length es → slice_get es i ≡ Some e → last_process es ≡ e.process
+last-at [] i e n h = absurd (none-some e h)
+last-at (x ∷ []) zero e n h = ap (λ (y : Entry). y.process) (same_Some x e h)
+last-at (x ∷ []) (suc i) e n h = absurd (none-some e h)
+last-at (x ∷ y ∷ es) zero e n h = absurd (omega (arith, n))
+last-at (x ∷ y ∷ es) (suc i) e n h = last-at (y ∷ es) i e (omega (arith, n)) h
+
+pub last-some : (es : List Entry) (e : Entry) → slice_get es (length es - 1) ≡ Some e → last_process es ≡ e.process
+last-some [] e h = absurd (none-some e h)
+last-some (x ∷ es) e h = last-at (x ∷ es) (length es) e refl (ap (slice_get (x ∷ es)) (let same : length es ≡ length (x ∷ es) - 1 = omega arith in same) ∙ h)
+
+pub last-none : (es : List Entry) → slice_get es (length es - 1) ≡ None → last_process es ≡ 0
+last-none [] h = refl
+last-none (x ∷ es) h = absurd (omega (arith, past (x ∷ es) (length (x ∷ es) - 1) h)) where
+  past : (ys : List Entry) (i : ℕ) → slice_get ys i ≡ None → length ys ≤ i
+  past [] i e = omega arith
+  past (y ∷ ys) zero e = absurd cc
+  past (y ∷ ys) (suc i) e = omega (arith, past ys i e)

@@ -1,6 +1,6 @@
 -- What follows from what a machine keeps of the state after a history.
 use Rattle.std.proofs.Common.{◌≡◌, ◌≢◌, ℕ, Bool, true, false, ◌<◌, ◌≤◌, List, [], ◌∷◌, ◌++◌, length, length-append, arith, refl, sym, ap, ◌∙◌, subst, Option, Some, None}
-use Rattle.std.specs.Prelude.{IsSome, if◌then◌else◌, is_some}
+use Rattle.std.specs.Prelude.{IsSome, is_some}
 use Rattle.std.specs.Global.{Global}
 use Rattle.std.specs.declared.vec.Vec.{Vec}
 use Rattle.hep_source.specs.Units.{Units}
@@ -8,25 +8,25 @@ use Rattle.hep_machine.specs.declared.event.Entry.{Entry}
 use Rattle.hep_machine.specs.Histories.{IsLegal}
 use Rattle.hep_machine.specs.Layout.{is_held, layout_of}
 use Rattle.hep_machine.specs.Opening.{opening}
-use Rattle.hep_machine.specs.Processes.{living}
 use Rattle.hep_machine.specs.Run.{run, run_from, schedule_of, state_after}
 use Rattle.hep_machine.specs.Schedules.{last_process, living_from, next_of_ready, next_ready, progress_after, ready_in}
 use Rattle.hep_machine.specs.State.{State}
 use Rattle.hep_machine.specs.Step.{step, wanted_by}
 use Rattle.hep_machine.specs.Views.{view_of}
+use Rattle.hep_ready.specs.Numbers.{Numbers}
 use Rattle.hep_state.specs.declared.machine.Machine.{Machine}
 use Rattle.hep_state.specs.Rooms.{IsMachineAfter}
 use Rattle.hep_state.specs.Snapshots.{Snapshot, snapshot_of}
 use Rattle.hep_state.specs.Turns.{IsAfter}
 use Rattle.hep_scheduler.specs.Invariant.{CoreInvariant}
 use Rattle.hep_scheduler.specs.Seen.{machine_view}
-use Rattle.hep_scheduler.specs.Value.{IsStop, verdict_by}
+use Rattle.hep_scheduler.specs.Value.{IsStop}
 use Rattle.hep_scheduler.specs.declared.scheduler.Core.TheInside.{Inside}
 use Rattle.hep_scheduler.specs.declared.stop.Stop.{Stop}
-use Rattle.hep_scheduler.specs.declared.stop.Verdict.TheVariants.{Done, Running}
-use Rattle.hep_scheduler.proofs.Alone.{next-is, verdict-is}
 use Rattle.hep_scheduler.proofs.Histories.{legal-stepped, schedule-stepped, state-is, state-stepped, unlisted-stepped}
 use Rattle.hep_scheduler.specs.Quiet.{AreQuiet, IsQuiet}
+use Rattle.hep_scheduler.specs.Noted.{AreNoted, living_after}
+use Rattle.hep_scheduler.proofs.Living.{all-ready}
 use Rattle.hep_scheduler.proofs.Wants.{wanted-halted}
 
 -- what is seen of machines, as long as nobody waits: `laws::views_are_of_states`
@@ -59,8 +59,8 @@ module _ (program : Units) (cells : ℕ) (history : List Entry) (m : Snapshot) (
   pub faults-are : m.faults ≡ (state_after program history).faults
   faults-are = after.shows.faults ∙ ap (λ (s : State). s.faults) (sym (state-is program history))
 
-  pub alone-there : length m.processes ≡ 1 → length (state_after program history).processes ≡ 1
-  alone-there one = ap (λ (s : State). length s.processes) (state-is program history) ∙ sym after.shows.processes ∙ one
+  pub made-are : length m.processes ≡ length (state_after program history).processes
+  made-are = after.shows.processes ∙ ap (λ (s : State). length s.processes) (sym (state-is program history))
 
   pub laid-out : IsSome (layout_of program cells is_held (schedule_of history))
   laid-out = is-some (layout_of program cells is_held (schedule_of history)) after.layout after.laid
@@ -73,13 +73,14 @@ module _ (program : Units) (cells : ℕ) (history : List Entry) (m : Snapshot) (
 -- ---- a turn that wasn't taken
 
 -- a core with the same entries, whose machine keeps the same state
-module _ (c : Inside) (kept : CoreInvariant c) (history : Vec Entry Global) (machine : Machine) (same : history.items ≡ c.history.items) (after : IsMachineAfter c.image c.cells (schedule_of c.history.items) machine)
-    (alone : length machine.processes.items ≡ length c.machine.processes.items) where
-  pub unturned-kept : (stop : Option Stop) → IsStop c.image c.cells c.limit c.history.items stop → CoreInvariant (record c { history = history; stop = stop; machine = machine })
+module _ (c : Inside) (kept : CoreInvariant c) (history : Vec Entry Global) (machine : Machine) (ready : Numbers) (same : history.items ≡ c.history.items) (after : IsMachineAfter c.image c.cells (schedule_of c.history.items) machine)
+    (noted : ready.ready ≡ c.ready.ready) (numbers : length machine.processes.items ≤ ready.room) where
+  pub unturned-kept : (stop : Option Stop) → IsStop c.image c.cells c.limit c.history.items stop → CoreInvariant (record c { history = history; stop = stop; machine = machine; ready = ready })
   unturned-kept stop named =
       record {
         after = subst (λ es. IsMachineAfter c.image c.cells (schedule_of es) machine) (sym same) after;
-        alone = alone ∙ kept.alone;
+        ready = subst (λ es. ready.ready ≡ living_from 1 (state_after c.image es).processes) (sym same) (noted ∙ kept.ready);
+        numbers = numbers;
         quiet = subst (λ es. (q : ℕ) → wanted_by c.image q (state_after c.image es) ≡ None) (sym same) kept.quiet;
         unlisted = subst (λ es. progress_after c.image es ≡ record { state = state_after c.image es; listed = [] }) (sym same) kept.unlisted;
         legal = subst (IsLegal c.image c.cells c.limit) (sym same) kept.legal;
@@ -122,6 +123,16 @@ module _ (program : Units) (cells : ℕ) (h : List Entry) (p : ℕ) (h' : List E
     pub after-next : IsMachineAfter program cells (schedule_of h') m
     after-next = subst (λ ps. IsMachineAfter program cells ps m) (sym schedule-next) after
 
+    -- where those that lived were ready, and those that live after the turn were noted
+    pub ready-next : (number : ℕ) (before ns : List ℕ) → AreNoted p number (snapshot_of m) before ns → before ≡ living_from 1 (state_after program h).processes
+        → number ≡ length (state_after program h).processes → ns ≡ living_from 1 (state_after program h').processes
+    ready-next number before ns noted living counted =
+        noted program cells (schedule_of h) (record { stepped = made; after = after.after }) (record {
+          living = living ∙ ap (λ (s : State). living_from 1 s.processes) (state-is program h);
+          counted = counted ∙ ap (λ (s : State). length s.processes) (state-is program h);
+        })
+        ∙ ap (living_after program) (sym schedule-next) ∙ ap (λ (s : State). living_from 1 s.processes) (sym (state-is program h'))
+
     pub halted-next : m.halted ≡ next.halted
     halted-next = halted-is program cells h' (snapshot_of m) after-next.after ∙ ap (λ (s : State). s.halted) state-next
 
@@ -155,26 +166,23 @@ pub opening-goes : (program : Units) → (state_after program []).halted ≡ fal
 unfolding state_after run run_from schedule_of opening
 opening-goes program = refl
 
--- ---- one process
-
-module _ (program : Units) (cells limit : ℕ) (h : List Entry) (m : Snapshot) (after : IsAfter program cells (schedule_of h) m) (one : length m.processes ≡ 1)
-    (unlisted : progress_after program h ≡ record { state = state_after program h; listed = [] }) (lives : Bool) (known : lives ≡ is_some (living (run program (schedule_of h)) 1)) where
-  lives-there : is_some (living (state_after program h) 1) ≡ lives
-  lives-there = ap (λ (s : State). is_some (living s 1)) (state-is program h) ∙ sym known
-
-  pub ready-is : next_ready program h ≡ (if lives then Some 1 else None)
-  ready-is =
-      ap (λ x. next_of_ready (last_process h) (ready_in x)) unlisted
-      ∙ next-is (state_after program h) (last_process h) (alone-there program cells h m after one)
-      ∙ ap (λ b. if b then Some 1 else None) lives-there
-
-  pub verdict-there : verdict_by None (living_from 1 (state_after program h).processes) (ready_in (progress_after program h)) ≡ (if lives then Running else Done)
-  verdict-there =
-      ap (λ x. verdict_by None (living_from 1 (state_after program h).processes) (ready_in x)) unlisted
-      ∙ verdict-is (state_after program h) (alone-there program cells h m after one)
-      ∙ ap (λ b. if b then Running else Done) lives-there
+-- the main program's process lives
+pub opening-ready : (program : Units) → 1 ∷ [] ≡ living_from 1 (state_after program []).processes
+unfolding state_after run run_from schedule_of opening
+opening-ready program = refl
 
 pub opening-quiet : (program : Units) (cells : ℕ) → AreQuiet program cells → (m : Snapshot) → IsAfter program cells (schedule_of []) m
     → (q : ℕ) → wanted_by program q (state_after program []) ≡ None
 opening-quiet program cells law m after q =
     ap (wanted_by program q) (state-is program []) ∙ (law (schedule_of []) m q after (halted-is program cells [] m after ∙ opening-goes program)).unwaited
+
+-- ---- the process that comes next
+
+-- of those that live, as nobody waits
+module _ (program : Units) (h : List Entry) (ns : List ℕ) (known : ns ≡ living_from 1 (state_after program h).processes)
+    (unlisted : progress_after program h ≡ record { state = state_after program h; listed = [] }) where
+  ready-there : ready_in (progress_after program h) ≡ ns
+  ready-there = ap ready_in unlisted ∙ all-ready (state_after program h) ∙ sym known
+
+  pub next-is : (last : ℕ) → last ≡ last_process h → next_of_ready last ns ≡ next_ready program h
+  next-is last same = λ i. next_of_ready (same i) (sym ready-there i)

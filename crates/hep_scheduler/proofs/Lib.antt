@@ -1,5 +1,5 @@
 mod Histories
-mod Alone
+mod Living
 mod Quiet
 mod Wants
 mod Dummies

@@ -2,22 +2,23 @@
 use Rattle.std.proofs.Common.{◌≡◌, ◌⊎◌, ℕ, ◌<◌, Bool, true, false, List, [], ◌∷◌, drop, length, refl, sym, ap, ◌∙◌, subst, true≢false, inl, inr, Option, Some, None, Result, Ok, Err}
 use Rattle.std.specs.Prelude.{if◌then◌else◌}
 use Rattle.std.proofs.lemmas.Option.{same_Some, none-some}
+use Rattle.hep_source.specs.declared.name.Name.{Name}
 use Rattle.hep_source.specs.declared.value.Value.{Value}
 use Rattle.hep_source.specs.Units.{Units}
 use Rattle.hep_machine.specs.declared.event.Kind.{Kind}
 use Rattle.hep_machine.specs.declared.slot.Slot.{Slot}
 use Rattle.hep_machine.specs.Binding.{Binding}
+use Rattle.hep_machine.specs.Evaluation.{Actual, does}
 use Rattle.hep_machine.specs.Layout.{Frame, Layout}
 use Rattle.hep_machine.specs.Run.{run}
 use Rattle.hep_machine.specs.State.{Level as SourceLevel, Process, State}
-use Rattle.hep_machine.specs.Step.{Top, binding_of, result_after_call, result_after_next, stack_after_return, state_made, state_with_store, step, step_result_of, step_result_of_top, stepped, unit_called, wanted_of}
+use Rattle.hep_machine.specs.Step.{Top, binding_of, result_after_call, result_after_create, result_after_next, stack_after_return, state_made, state_with_store, step, step_result_of, step_result_of_top, stepped, unit_called, wanted_of}
 use Rattle.hep_machine.specs.Processes.{living, numbered, with_process}
 use Rattle.hep_arena.specs.Holes.{Hole}
 use Rattle.hep_code.specs.declared.instruction.Instruction.{Instruction}
 use Rattle.hep_code.specs.declared.instruction.Instruction.TheVariants.{Push, Step, Pass, Show, To}
 use Rattle.hep_code.specs.declared.instruction.Operation.{Operation}
-use Rattle.hep_code.specs.declared.instruction.Operation.TheVariants.{Call}
-use Rattle.hep_step.specs.Calls.{IsCallAhead}
+use Rattle.hep_step.specs.Calls.{IsCallAhead, made_by, making}
 use Rattle.hep_step.specs.Effects.{Effect, effect_at, fails, moves, prints, returns, stops, unsupported, waits}
 use Rattle.hep_step.specs.Simulation.{IsNotLeftOut, IsRunning, Simulates, code_on_top, is_left_out, state_with_record, unit_arrays, unit_code}
 use Rattle.hep_state.specs.declared.machine.Level.{Level}
@@ -63,7 +64,7 @@ quiet-absent program s p running gone =
       stays = λ t e. absurd (none-some t (sym none ∙ e));
     }
 
--- ---- CALL
+-- ---- CALL and CREATE
 
 module _ (program : Units) (t : Top) (running : t.state.halted ≡ false) (lives : living t.state t.process ≡ Some (t.level, t.below)) where
   -- it makes an activation, or its fault ends the process
@@ -71,11 +72,19 @@ module _ (program : Units) (t : Top) (running : t.state.halted ≡ false) (lives
   called u (Err k) is = quiet-stepped program t.state _ t.process running is (λ h. absurd (true≢false (sym h ∙ running)))
   called u (Ok b) is = quiet-stepped program t.state _ t.process running is (λ h. absurd (true≢false (sym h ∙ running)))
 
-  pub quiet-call : (operands : List Value) (u count next : ℕ) (behind : List Instruction) → IsCallAhead program t operands u count next behind → IsQuiet program t.state t.process
+  -- and so is a process made
+  created : (u : ℕ) (b : Result Binding Kind) → step_result_of program t.process t.state ≡ result_after_create program t u b → IsQuiet program t.state t.process
+  created u (Err k) is = quiet-stepped program t.state _ t.process running is (λ h. absurd (true≢false (sym h ∙ running)))
+  created u (Ok b) is = quiet-stepped program t.state _ t.process running is (λ h. absurd (true≢false (sym h ∙ running)))
+
+  made : (makes : Bool) (x : Name) (actuals : List Actual) → step_result_of program t.process t.state ≡ result_after_next program t (does (made_by makes x actuals)) → IsQuiet program t.state t.process
+  made false x actuals is = called (unit_called program x) (binding_of program t (unit_called program x) actuals) is
+  made true x actuals is = created (unit_called program x) (binding_of program t (unit_called program x) actuals) is
+
+  pub quiet-call : (makes : Bool) (operands : List Value) (u count next : ℕ) (behind : List Instruction) → IsCallAhead makes program t operands u count next behind → IsQuiet program t.state t.process
   unfolding step_result_of
-  quiet-call operands u count next behind calls =
-      called (unit_called program calls.name) (binding_of program t (unit_called program calls.name) calls.actuals) (
-      ap (step_result_of_top program t.state t.process) lives ∙ ap (result_after_next program t) calls.does_so)
+  quiet-call makes operands u count next behind calls =
+      made makes calls.name calls.actuals (ap (step_result_of_top program t.state t.process) lives ∙ ap (result_after_next program t) calls.does_so)
 
 -- ---- the operation ahead
 
@@ -98,9 +107,9 @@ module _ (program : Units) (cells : ℕ) (choices : List ℕ) (m : Snapshot) (p 
     (turns : (l : Level) (ls : List Level) (operands : List Value) → numbered m.processes p ≡ Some (record { levels = l ∷ ls; operands = operands }) → (top : SourceLevel × Process) × IsTurning program cells choices m p l ls operands top)
     (runs : (n : Snapshot) (l : Level) (ls : List Level) (operands : List Value) (top : SourceLevel × Process) (h : IsTurning program cells choices n p l ls operands top) → IsRunning program (top_after program choices p top) h.after.layout (frame_under n.nodes l.key) n.arena.contents n.arena.holes operands l.index)
     (never : (u first : ℕ) (ws : List Value) (j : ℕ) → u < length program → IsNoWait (effect_at (unit_code program u) (unit_arrays program u) first m.arena.contents ws j))
-    (only : (u j line : ℕ) (o : Operation) (behind : List Instruction) → u < length program → drop j (unit_code program u) ≡ Step line o ∷ behind → is_left_out o ≡ true → (v count next : ℕ) × (o ≡ Call v count next))
-    (calls : (top : SourceLevel × Process) (layout : Layout) (f : Frame) (contents : List Slot) (holes : List Hole) (operands : List Value) (j line u count next : ℕ) (behind : List Instruction) → IsRunning program (top_after program choices p top) layout f contents holes operands j
-    → drop j (code_on_top program (top_after program choices p top)) ≡ Step line (Call u count next) ∷ behind → IsCallAhead program (top_after program choices p top) operands u count next behind) where
+    (only : (u j line : ℕ) (o : Operation) (behind : List Instruction) → u < length program → drop j (unit_code program u) ≡ Step line o ∷ behind → is_left_out o ≡ true → (makes : Bool) × (v count next : ℕ) × (o ≡ making makes v count next))
+    (calls : (makes : Bool) (top : SourceLevel × Process) (layout : Layout) (f : Frame) (contents : List Slot) (holes : List Hole) (operands : List Value) (j line u count next : ℕ) (behind : List Instruction) → IsRunning program (top_after program choices p top) layout f contents holes operands j
+    → drop j (code_on_top program (top_after program choices p top)) ≡ Step line (making makes u count next) ∷ behind → IsCallAhead makes program (top_after program choices p top) operands u count next behind) where
   abbrev s : State
   s = run program choices
 
@@ -145,9 +154,9 @@ module _ (program : Units) (cells : ℕ) (choices : List ℕ) (m : Snapshot) (p 
     by_call : (line : ℕ) (o : Operation) (behind : List Instruction) → drop j code ≡ Step line o ∷ behind → is_left_out o ≡ true → IsQuiet program s p
     by_call line o behind e left =
         let call = only l.unit j line o behind within e left in
-        let there = subst (λ u. drop j (unit_code program u) ≡ Step line (Call call.0 call.1 call.2) ∷ behind) (sym (unit-is program cells choices m p l ls operands top h)) (e ∙ (λ i. Step line (call.3 i) ∷ behind)) in
-        quiet-call program t going h.lives ahead.new call.0 call.1 call.2 behind (
-        calls top next.after.layout (frame_under m.nodes l.key) m.arena.contents m.arena.holes ahead.new j line call.0 call.1 call.2 behind runs-on there)
+        let there = subst (λ u. drop j (unit_code program u) ≡ Step line (making call.0 call.1 call.2 call.3) ∷ behind) (sym (unit-is program cells choices m p l ls operands top h)) (e ∙ (λ i. Step line (call.4 i) ∷ behind)) in
+        quiet-call program t going h.lives call.0 ahead.new call.1 call.2 call.3 behind (
+        calls call.0 top next.after.layout (frame_under m.nodes l.key) m.arena.contents m.arena.holes ahead.new j line call.1 call.2 call.3 behind runs-on there)
 
     by_test : (line : ℕ) (o : Operation) (behind : List Instruction) → drop j code ≡ Step line o ∷ behind → (b : Bool) → is_left_out o ≡ b → IsQuiet program s p
     unfolding left-out-ahead

@@ -24,7 +24,7 @@ pub fn living_processes_are_quiet()
     laws::turns_are_taken();
     laws::tops_are_running();
     laws::supported_programs_never_wait();
-    laws::supported_programs_call_alone();
+    laws::supported_programs_purge_nothing();
     calls_are_ahead();
 }
 

@@ -1,8 +1,10 @@
 //! The core: a run of an image, one choice at a time, with its history.
-ghost use Rattle.std.specs.Prelude.{◌≡◌, ◌≤◌, ◌<◌, ◌++◌, ◌∷◌, [], None, Some, IsSome, IfOk, OnOk, IfErr, vec_len, vec_capacity};
+ghost use Rattle.std.specs.Prelude.{◌≡◌, ◌≤◌, ◌<◌, ◌++◌, ◌∷◌, [], None, Some, IsSome, IfOk, OnOk, IfErr, length, vec_len, vec_capacity};
 ghost use Rattle.hep_machine.specs.Histories.{IsLegal};
 ghost use Rattle.hep_machine.specs.Layout.{is_held, opening_layout, used_cells};
 ghost use Rattle.hep_machine.specs.Views.{view_of};
+ghost use Rattle.hep_state.specs.Snapshots.{snapshot_of};
+ghost use Rattle.hep_scheduler.specs.Noted.{AreNoted};
 ghost use Rattle.hep_scheduler.specs.Value.{state_of, opening_of, IsNewFault, IsChoice, IsStop, verdict_of, next_ready_of};
 
 use crate::fault::{ChooseFault, NewFault};
@@ -11,12 +13,13 @@ use crate::stop::{Stop, Turn, Verdict};
 use hep_frames::laws::layouts_have_what_is_held;
 use hep_image::Image;
 use hep_machine::{Entry, Fault, Record};
+use hep_ready::Ready;
 use hep_state::laws::activations_are_few;
 use hep_state::{Machine, TurnFault, fits};
 use std::alloc::Global;
 use std::marker::Model;
 
-// The main program's.
+// The main program's process.
 const FIRST_PROCESS: u64 = 1;
 
 /// A run of an image. Contracts see the program, the cells of the arena, the longest history, the
@@ -30,6 +33,8 @@ pub struct Core {
     history: Vec<Entry>,
     stop: Option<Stop>,
     machine: Machine,
+    // The processes that live and don't wait.
+    ready: Ready,
 }
 
 impl Model for Core {
@@ -70,6 +75,9 @@ impl Core {
             return Err(NewFault::ArenaFull);
         }
         let machine = Machine::open(alloc, &image, cells)?;
+        let mut ready = Ready::new(alloc);
+        ready.reserve(1)?;
+        ready.add(FIRST_PROCESS);
         Ok(Core {
             alloc,
             image,
@@ -78,6 +86,7 @@ impl Core {
             history: Vec::new(alloc),
             stop: None,
             machine,
+            ready,
         })
     }
 
@@ -106,10 +115,14 @@ impl Core {
         living_processes_are_quiet();
         views_are_of_states();
         activations_are_few();
-        match self
-            .machine
-            .turn(self.alloc, &self.image, p, &mut self.history)
-        {
+        let made = self.machine.processes.len();
+        match self.machine.turn(
+            self.alloc,
+            &self.image,
+            p,
+            &mut self.history,
+            &mut self.ready,
+        ) {
             Ok(()) => {}
             Err(TurnFault::NoMemory) => return Err(ChooseFault::NoMemory),
             Err(TurnFault::ArenaFull) => {
@@ -118,6 +131,7 @@ impl Core {
             }
         }
         note(&mut self.history, p);
+        note_ready(&mut self.ready, &self.machine, p, made);
         if self.machine.halted {
             self.stop = Some(Stop::Halted);
         }
@@ -145,8 +159,8 @@ impl Core {
     pub fn next_ready(&self) -> Option<u64>
         ensures { result ≡ next_ready_of self.now }
     {
-        // CREATE isn't supported yet, so no process is made but the first.
-        self.machine.lives(FIRST_PROCESS).then_some(FIRST_PROCESS)
+        let last = self.history.last().map_or(0, |entry| entry.process);
+        self.ready.next(last)
     }
 
     /// Whether the run goes on.
@@ -155,8 +169,8 @@ impl Core {
     {
         match self.stop {
             Some(stop) => Verdict::Stopped(stop),
-            None if self.machine.lives(FIRST_PROCESS) => Verdict::Running,
-            None => Verdict::Done,
+            None if self.ready.is_empty() => Verdict::Done,
+            None => Verdict::Running,
         }
     }
 
@@ -206,4 +220,19 @@ fn note(history: &mut Vec<Entry>, p: u64)
         process: p,
         steps: 1,
     });
+}
+
+// After a turn of process p, before which so many processes were made: p isn't ready once it has ended, and a process that it made
+// is.
+fn note_ready(ready: &mut Ready, machine: &Machine, p: u64, made: usize)
+    requires { length machine.now.processes.items ≤ ready.old.room }
+    ensures ready { AreNoted p made (snapshot_of machine.now) ready.old.ready ready.new.ready }
+    ensures room { ready.new.room ≡ ready.old.room }
+{
+    if !machine.lives(p) {
+        ready.remove(p);
+    }
+    if made < machine.processes.len() {
+        ready.add(machine.processes.len() as u64);
+    }
 }

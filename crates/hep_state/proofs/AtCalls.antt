@@ -9,7 +9,6 @@ use Rattle.hep_source.specs.Units.{Units}
 use Rattle.hep_machine.specs.declared.event.Kind.{Kind}
 use Rattle.hep_code.specs.declared.instruction.Instruction.{Instruction}
 use Rattle.hep_code.specs.declared.instruction.Instruction.TheVariants.{Step}
-use Rattle.hep_code.specs.declared.instruction.Operation.TheVariants.{Call}
 use Rattle.hep_code.specs.Passing.{Passed, passed_from}
 use Rattle.hep_code.proofs.Ahead.{drop_one_more}
 use Rattle.hep_frames.specs.Tree.{Node}
@@ -26,7 +25,7 @@ use Rattle.hep_state.specs.declared.machine.Level.{Level}
 use Rattle.hep_state.specs.declared.machine.Machine.{Machine}
 use Rattle.hep_state.specs.declared.machine.Process.{Process}
 use Rattle.hep_state.specs.declared.passing.CallAhead.{CallAhead}
-use Rattle.hep_state.specs.CallsAhead.{IsAtCall, given_of}
+use Rattle.hep_state.specs.CallsAhead.{IsAtCall, given_of, operation_of}
 use Rattle.hep_state.specs.Showing.{node_under}
 use Rattle.hep_state.specs.Snapshots.{snapshot_of, stack_of}
 use Rattle.hep_state.specs.Taking.{stack_with}
@@ -64,7 +63,7 @@ module _ (program : Units) (cells : ℕ) (choices : List ℕ) (p : ℕ) (m : Mac
 
       -- the code of its unit
       module _ (code : List Instruction) (code_is : code ≡ unit_code program level.unit) where
-        call-there : drop level.index code ≡ Step call.line (Call call.unit call.count call.next) ∷ at.behind
+        call-there : drop level.index code ≡ Step call.line (operation_of call) ∷ at.behind
         call-there = ap (drop level.index) code_is ∙ (ap (λ (l : Level). drop l.index (unit_code program l.unit)) level-is ∙ at.ahead)
 
         pub index-inside : level.index < length code

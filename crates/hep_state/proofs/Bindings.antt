@@ -1,5 +1,5 @@
 -- What the actual arguments of a CALL give, and the dummy arguments that they bind: one by one, and as the source machine has them.
-use Rattle.std.proofs.Common.{◌≡◌, ◌≢◌, inl, inr, ℕ, suc, ◌<◌, false, List, [], ◌∷◌, ◌++◌, drop, length, map, Option, Some, None, Result, Ok, Err, refl, sym, ap, subst, arith}
+use Rattle.std.proofs.Common.{◌≡◌, ◌≢◌, inl, inr, ℕ, suc, ◌<◌, Bool, false, List, [], ◌∷◌, ◌++◌, drop, length, map, Option, Some, None, Result, Ok, Err, refl, sym, ap, subst, arith}
 use Rattle.std.specs.Prelude.{slice_get}
 use Rattle.std.specs.List.{flat_map}
 use Rattle.std.proofs.lemmas.Option.{slice_get_cases, slice_get_within}
@@ -10,7 +10,7 @@ use Rattle.hep_source.specs.Units.{Units, dummies_of, unit_at}
 use Rattle.hep_machine.specs.declared.event.Kind.{Kind}
 use Rattle.hep_machine.specs.declared.slot.Slot.{Slot}
 use Rattle.hep_machine.specs.Binding.{Binding, binding_with_shapes, dummies_for, dummy_before, dummy_for, with_actuals}
-use Rattle.hep_machine.specs.Evaluation.{Actual, Reference, calling, does, evaluated, next_of, referred}
+use Rattle.hep_machine.specs.Evaluation.{Actual, Reference, does, evaluated, next_of, referred}
 use Rattle.hep_machine.specs.Layout.{Frame, Layout}
 use Rattle.hep_machine.specs.Locations.{Scope}
 use Rattle.hep_machine.specs.Processes.{unit_of}
@@ -22,7 +22,6 @@ use Rattle.hep_arena.specs.Gaps.{frame_among}
 use Rattle.hep_arena.specs.Holes.{Hole}
 use Rattle.hep_code.specs.declared.instruction.Instruction.{Instruction}
 use Rattle.hep_code.specs.declared.instruction.Instruction.TheVariants.{Pass, Step}
-use Rattle.hep_code.specs.declared.instruction.Operation.TheVariants.{Call}
 use Rattle.hep_code.specs.declared.variable.Variable.{Variable}
 use Rattle.hep_code.specs.declared.variable.Variable.TheVariants.{Absent}
 use Rattle.hep_code.specs.Actions.{argument_of_actual, operands_of_actual}
@@ -36,15 +35,15 @@ use Rattle.hep_passing.specs.declared.given.Given.TheVariants as giving
 use Rattle.hep_passing.specs.Agreement.{AreGiven, AreGivenAs, ArePlaced, IsCaller, IsGiven, arrays_at}
 use Rattle.hep_passing.specs.Passing.{given_by}
 use Rattle.hep_passing.specs.Shapes.{AreShapesOf}
-use Rattle.hep_step.specs.Calls.{IsCallAhead}
+use Rattle.hep_step.specs.Calls.{IsCallAhead, made_by, making}
 use Rattle.hep_step.specs.Effects.{fails}
 use Rattle.hep_step.specs.Simulation.{IsRunning, Simulates, code_on_top}
 use Rattle.hep_works.specs.Actuals.{FitsDummy, IsVariableOf}
 use Rattle.hep_works.specs.Works.{IsCalledBy}
-use Rattle.hep_entering.specs.Calling.{ArePassed, IsPassed, IsPassing, state_called}
+use Rattle.hep_entering.specs.Calling.{ArePassed, IsPassed, IsPassing}
 use Rattle.hep_entering.specs.Giving.{AreDistinct}
 use Rattle.hep_state.specs.declared.passing.CallAhead.{CallAhead}
-use Rattle.hep_state.specs.Calls.{IsAfterCall, IsCalling}
+use Rattle.hep_state.specs.Calls.{IsAfterCall, IsMaking, state_made}
 use Rattle.hep_state.specs.CallsAhead.{IsAtCall, given_of}
 use Rattle.hep_state.specs.Snapshots.{Snapshot}
 use Rattle.hep_state.specs.Taking.{IsEnding}
@@ -114,11 +113,11 @@ pub record IsKnownToBind (program : Units) : Type 0 where
       → IsCaller program s layout contents a f → ArePlaced (variable_of program (unit_at program (unit_of s a))) actuals → length xs ≡ length actuals
       → AreGivenAs program s layout b xs actuals (given_by (cells_in contents) f.first (arrays_at program s a) (passed_from (length actuals) (map (λ y. Pass (argument_of_actual (variable_of program (unit_at program (unit_of s a))) y)) actuals ++ more) (flat_map operands_of_actual actuals))) (dummies_for (scope_of program s a) b xs actuals)
   -- of the step
-  pub made : (choices : List ℕ) (p : ℕ) (top : SourceLevel × Process) (x : Name) (actuals : List Actual) (b : Binding) → (run program choices).halted ≡ false → IsPassing program choices p top (unit_called program x) actuals b
-      → next_of (unit_at program (unit_of (run program choices) top.0.activation)) top.0.work ≡ does (calling x actuals) → step program p (run program choices) ≡ Some (state_called program choices p top (unit_called program x) b)
-  pub faults : (t : Top) (layout : Layout) (f : Frame) (contents : List Slot) (holes : List Hole) (operands : List Value) (index line u count next : ℕ) (behind : List Instruction)
-      → IsRunning program t layout f contents holes operands index → drop index (code_on_top program t) ≡ Step line (Call u count next) ∷ behind
-      → (ahead : IsCallAhead program t operands u count next behind) (k : Kind) → binding_of program t u ahead.actuals ≡ Err k → Simulates program t layout f holes contents (fails line k)
+  pub made : (creates : Bool) (choices : List ℕ) (p : ℕ) (top : SourceLevel × Process) (x : Name) (actuals : List Actual) (b : Binding) → (run program choices).halted ≡ false → IsPassing program choices p top (unit_called program x) actuals b
+      → next_of (unit_at program (unit_of (run program choices) top.0.activation)) top.0.work ≡ does (made_by creates x actuals) → step program p (run program choices) ≡ Some (state_made creates program choices p top (unit_called program x) b)
+  pub faults : (creates : Bool) (t : Top) (layout : Layout) (f : Frame) (contents : List Slot) (holes : List Hole) (operands : List Value) (index line u count next : ℕ) (behind : List Instruction)
+      → IsRunning program t layout f contents holes operands index → drop index (code_on_top program t) ≡ Step line (making creates u count next) ∷ behind
+      → (ahead : IsCallAhead creates program t operands u count next behind) (k : Kind) → binding_of program t u ahead.actuals ≡ Err k → Simulates program t layout f holes contents (fails line k)
 
 module _ (program : Units) (all : IsKnownToBind program) (cells : ℕ) (choices : List ℕ) (p : ℕ) (m : Snapshot) (call : CallAhead) (at : IsAtCall program cells choices p m call) where
   abbrev old : State
@@ -174,7 +173,7 @@ module _ (program : Units) (all : IsKnownToBind program) (cells : ℕ) (choices 
         top = at.top;
         turning = at.turning;
         simulated =
-            all.faults (top_after program choices p at.top) layout (frame_under m.nodes at.l.key) m.arena.contents m.arena.holes at.operands at.l.index call.line call.unit call.count call.next at.behind
+            all.faults call.creates (top_after program choices p at.top) layout (frame_under m.nodes at.l.key) m.arena.contents m.arena.holes at.operands at.l.index call.line call.unit call.count call.next at.behind
             (runs program all.known cells choices p m call at) (ahead-on-top program all.known cells choices p m call at) ahead k e;
       }
 
@@ -194,7 +193,7 @@ module _ (program : Units) (all : IsKnownToBind program) (cells : ℕ) (choices 
   dummies-given gs e = given-so program old layout (next_activation old) xs actuals (given_of program m call at) bound gs given-as e
 
   pub called-so : (gs : List Given) (shapes : List (Option Bounds)) (b : Binding) → given_of program m call at ≡ Ok gs → binding ≡ Ok b → AreShapesOf (unit_at program call.unit) b.dummies shapes
-      → IsCalling program cells choices p m call.unit call.next gs shapes
+      → IsMaking (state_made call.creates) program cells choices p m call.unit call.next gs shapes
   called-so gs shapes b e bound_so shaped =
       let ahead = calls program all.known cells choices p m call at in
       let dummies = dummies-given gs e in
@@ -205,7 +204,7 @@ module _ (program : Units) (all : IsKnownToBind program) (cells : ℕ) (choices 
         as_many = as-many program all.known cells choices p m call at;
         distinct = all.distinct call.unit (called-inside program all.known cells choices p m call at);
       } in
-      let step_so = all.made choices p at.top ahead.name actuals b at.turning.running (subst (λ u. IsPassing program choices p at.top u actuals b) ahead.unit passing) ahead.does_so in
+      let step_so = all.made call.creates choices p at.top ahead.name actuals b at.turning.running (subst (λ u. IsPassing program choices p at.top u actuals b) ahead.unit passing) ahead.does_so in
       record {
         l = at.l;
         ls = at.ls;
@@ -217,6 +216,6 @@ module _ (program : Units) (all : IsKnownToBind program) (cells : ℕ) (choices 
         passing = passing;
         shaped = shaped;
         passed = all-passed program old layout (scope_of program old at.top.0.activation) (next_activation old) xs actuals gs dummies.0 dummies.1 dummies.2;
-        made = subst (λ u. step program p old ≡ Some (state_called program choices p at.top u b)) (sym ahead.unit) step_so;
+        made = subst (λ u. step program p old ≡ Some (state_made call.creates program choices p at.top u b)) (sym ahead.unit) step_so;
         after = subst (λ u. IsAfterCall program u at.top.0.statement call.next) (caller-unit program all.known cells choices p m call at) ahead.onward;
       }

@@ -1,5 +1,5 @@
 -- Whether the frame of an activation that is to begin has a gap.
-use Rattle.std.proofs.Common.{◌≡◌, ℕ, suc, true, List, [], ◌∷◌, ◌++◌, length, Option, Some, None, refl, sym, ap, ◌∙◌, arith}
+use Rattle.std.proofs.Common.{◌≡◌, ℕ, suc, Bool, true, List, [], ◌∷◌, ◌++◌, length, Option, Some, None, refl, sym, ap, ◌∙◌, arith}
 use Rattle.std.specs.Prelude.{is_some, nat_lt, IsSome}
 use Rattle.std.specs.Option.{option_map, unwrap_or}
 use Rattle.std.proofs.lemmas.Bool.Decides.{nat_tests}
@@ -17,13 +17,12 @@ use Rattle.hep_frames.specs.Addresses.{frame_from}
 use Rattle.hep_frames.proofs.Memory.{memory-fits}
 use Rattle.hep_passing.specs.declared.given.Given.{Given}
 use Rattle.hep_step.specs.Effects.{fails}
-use Rattle.hep_entering.specs.Calling.{state_called}
-use Rattle.hep_state.specs.Calls.{IsCalling, IsUnit}
+use Rattle.hep_state.specs.Calls.{IsMaking, IsUnit, state_made}
 use Rattle.hep_state.specs.Snapshots.{Snapshot}
 use Rattle.hep_state.specs.Taking.{IsEnding}
 use Rattle.hep_state.specs.Tops.{state_failed}
 use Rattle.hep_state.specs.Turns.{HasGaps, HasNoGap}
-use Rattle.hep_state.proofs.Made.{called-number, called-unit, dummies-fit}
+use Rattle.hep_state.proofs.Made.{dummies-fit, made-number, made-unit}
 use Rattle.hep_state.proofs.Runs.{layout-last, layout-left, step-is}
 
 -- ---- the layout after a step that makes an activation
@@ -38,11 +37,11 @@ layout-more program cells choices p layout t gap e made long is =
     layout-last program cells choices p layout e
     ∙ (ap (λ o. layout_after_step program cells is_held s (unwrap_or o s) layout) made ∙ rw one (ap (λ o. option_map (remaining_layout is_held t) (option_map (λ first. with_frame layout (frame_from program t (length t.activations) first)) o)) is))
 
--- ---- CALL
+-- ---- CALL and CREATE
 
-module _ (program : Units) (cells : ℕ) (choices : List ℕ) (m : Snapshot) (p u n entry index : ℕ) (given : List Given) (shapes : List (Option Bounds)) (h : IsCalling program cells choices p m u index given shapes) (unit : IsUnit program u n entry) where
+module _ (creates : Bool) (program : Units) (cells : ℕ) (choices : List ℕ) (m : Snapshot) (p u n entry index : ℕ) (given : List Given) (shapes : List (Option Bounds)) (h : IsMaking (state_made creates) program cells choices p m u index given shapes) (unit : IsUnit program u n entry) where
   abbrev t : State
-  t = state_called program choices p h.top u h.b
+  t = state_made creates program choices p h.top u h.b
 
   abbrev layout : Layout
   layout = h.turning.after.layout
@@ -51,13 +50,13 @@ module _ (program : Units) (cells : ℕ) (choices : List ℕ) (m : Snapshot) (p 
   gap-is : first_fit n m.arena.holes ≡ lowest_gap cells (frame_of program t (length t.activations)) (common_cells program) layout
   gap-is =
       let memory = h.turning.after.shows.keeps.memory in
-      let size : n ≡ frame_of program t (length t.activations) = unit.cells_are ∙ ap (λ v. frame_cells (unit_at program v)) (sym (called-unit program choices p h.top u h.b)) in
+      let size : n ≡ frame_of program t (length t.activations) = unit.cells_are ∙ ap (λ v. frame_cells (unit_at program v)) (sym (made-unit creates program choices p h.top u h.b)) in
       memory-fits program (run program choices) layout m.arena.contents m.arena.holes n memory (omega (arith, unit.cells_are, dummies-fit program u))
       ∙ (λ i. lowest_gap (h.turning.after.size i) (size i) (common_cells program) layout)
 
   laid : (gap : Option ℕ) → first_fit n m.arena.holes ≡ gap
       → layout_of program cells is_held (choices ++ p ∷ []) ≡ option_map (remaining_layout is_held t) (option_map (λ first. with_frame layout (frame_from program t (length t.activations) first)) gap)
-  laid gap e = layout-more program cells choices p layout t gap h.turning.after.laid h.made (omega (arith, called-number program choices p h.top u h.b)) (sym gap-is ∙ e)
+  laid gap e = layout-more program cells choices p layout t gap h.turning.after.laid h.made (omega (arith, made-number creates program choices p h.top u h.b)) (sym gap-is ∙ e)
 
   pub called-no-gap : first_fit n m.arena.holes ≡ None → HasNoGap program cells choices p
   called-no-gap none = record { stepped = λ e. none-some t (sym e ∙ h.made); full = laid None none }

@@ -1,5 +1,5 @@
 -- The activation that a CALL or CREATE makes, and what it is given.
-use Rattle.std.proofs.Common.{◌≡◌, ℕ, suc, ◌+◌, ◌*◌, ◌≤◌, true, List, [], ◌∷◌, length, Option, Some, refl, sym, ap, ◌∙◌, subst, arith}
+use Rattle.std.proofs.Common.{◌≡◌, ℕ, suc, ◌+◌, ◌*◌, ◌≤◌, Bool, true, false, List, [], ◌∷◌, length, Option, Some, refl, sym, ap, ◌∙◌, subst, arith}
 use Rattle.std.specs.Prelude.{if◌then◌else◌}
 use Rattle.std.specs.Option.{unwrap_or}
 use Rattle.std.proofs.lemmas.Bool.{eq-eqb}
@@ -26,6 +26,7 @@ use Rattle.hep_passing.specs.declared.given.Given.{Given}
 use Rattle.hep_passing.specs.Shapes.{AreShapesOf}
 use Rattle.hep_state.specs.declared.machine.Level.{Level}
 use Rattle.hep_state.specs.Showing.{no_node, node_under}
+use Rattle.hep_state.specs.Calls.{state_made}
 use Rattle.hep_state.specs.Snapshots.{Snapshot}
 use Rattle.hep_state.specs.Tops.{IsTurning}
 use Rattle.hep_state.proofs.Moved.{standing-before}
@@ -73,6 +74,15 @@ created-unit program choices p top u b =
     let t = state_created program choices p top u b in
     let number : length t.activations ≡ suc (length (run program choices).activations) = omega (arith, created-number program choices p top u b) in
     ap (unit_of t) number ∙ ap (λ (z : Activation). z.unit) (activation-last (run program choices) t (called_activation u top b) refl)
+
+pub made-number : (creates : Bool) (program : Units) (choices : List ℕ) (p : ℕ) (top : SourceLevel × Process) (u : ℕ) (b : Binding) → length (state_made creates program choices p top u b).activations ≡ length (run program choices).activations + 1
+made-number false = called-number
+made-number true = created-number
+
+pub made-unit : (creates : Bool) (program : Units) (choices : List ℕ) (p : ℕ) (top : SourceLevel × Process) (u : ℕ) (b : Binding)
+    → unit_of (state_made creates program choices p top u b) (length (state_made creates program choices p top u b).activations) ≡ u
+made-unit false = called-unit
+made-unit true = created-unit
 
 pub called-dummies : (program : Units) (choices : List ℕ) (p : ℕ) (top : SourceLevel × Process) (u : ℕ) (b : Binding) → (activation_of (state_called program choices p top u b) (length (state_called program choices p top u b).activations)).dummies ≡ b.dummies
 called-dummies program choices p top u b =

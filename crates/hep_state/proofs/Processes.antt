@@ -112,7 +112,7 @@ room-moved program q r l next ls was left before after more room i m e =
     unit_of k = k.unit
 
 -- what holds of all elements and of one more holds of all of them together
-all-more : (P : Level → Type 0) (xs : List Level) (y : Level) → ((i : ℕ) (m : Level) → slice_get xs i ≡ Some m → P m) → P y → (i : ℕ) (m : Level) → slice_get (xs ++ y ∷ []) i ≡ Some m → P m
+pub all-more : {A : Type 0} (P : A → Type 0) (xs : List A) (y : A) → ((i : ℕ) (m : A) → slice_get xs i ≡ Some m → P m) → P y → (i : ℕ) (m : A) → slice_get (xs ++ y ∷ []) i ≡ Some m → P m
 all-more P [] y each one zero m e = subst P (same_Some y m e) one
 all-more P [] y each one (suc i) m e = absurd (none-some m e)
 all-more P (x ∷ xs) y each one zero m e = each zero m e
@@ -138,3 +138,10 @@ room-more program q r l new next ls was left before after more enough room i m e
         let old = map_at unit_of q.levels.items j k.unit (sym (ap (λ us. slice_get us j) same) ∙ image_at unit_of (reverse (later ∷ ls)) j k f) in
         let here = room j old.0 old.1 in
         omega (arith, here, more, ap (λ u. deepest (unit_code program u)) old.2)
+
+-- one that has one level has room for the unit of that
+pub room-alone : (program : Units) (q : Process) (level : Level) → q.levels.items ≡ level ∷ [] → deepest (unit_code program level.unit) ≤ vec_capacity q.operands → HasRoom program q
+room-alone program q level alone enough i l e = by_index i (ap (λ (ls : List Level). slice_get ls i) (sym alone) ∙ e) where
+  by_index : (j : ℕ) → slice_get (level ∷ []) j ≡ Some l → deepest (unit_code program l.unit) ≤ vec_capacity q.operands
+  by_index zero f = subst (λ (x : Level). deepest (unit_code program x.unit) ≤ vec_capacity q.operands) (same_Some level l f) enough
+  by_index (suc j) f = absurd (none-some l f)

@@ -1,5 +1,5 @@
 -- What a core keeps after a CALL or CREATE: docs/MACHINE.md, "Steps" and "Layout".
-use Rattle.std.specs.Prelude.{◌≡◌, ℕ, ◌+◌, ◌<◌, List, [], ◌∷◌, ◌++◌, length, Option, Some, None}
+use Rattle.std.specs.Prelude.{◌≡◌, ℕ, ◌+◌, ◌<◌, List, [], ◌∷◌, ◌++◌, Bool, true, false, length, Option, Some, None}
 use Rattle.hep_source.specs.declared.value.Value.{Value}
 use Rattle.hep_source.specs.Units.{Units, unit_at}
 use Rattle.hep_machine.specs.Binding.{Binding}
@@ -83,6 +83,11 @@ pub record IsMaking (leads : Units → List ℕ → ℕ → SourceLevel × Proce
   pub shaped : AreShapesOf (unit_at program u) b.dummies shapes
   pub made : step program p (run program choices) ≡ Some (leads program choices p top u b)
   pub after : IsAfterCall program l.unit top.0.statement index
+
+-- the state to which CALL, or CREATE, leads
+abbrev pub state_made : Bool → Units → List ℕ → ℕ → SourceLevel × Process → ℕ → Binding → State
+state_made false = state_called
+state_made true = state_created
 
 -- by CALL, and by CREATE
 abbrev pub IsCalling : Units → ℕ → List ℕ → ℕ → Snapshot → ℕ → ℕ → List Given → List (Option Bounds) → Type 0

@@ -9,13 +9,13 @@ ghost use Rattle.hep_state.specs.declared.machine.Process.{Process as AProcess};
 ghost use Rattle.hep_state.specs.Snapshots.{snapshot_of, stack_of};
 ghost use Rattle.hep_state.specs.Taking.{stack_with};
 ghost use Rattle.hep_state.specs.Turns.{HasStepped};
+ghost use Rattle.hep_code.specs.Depths.{deepest};
+ghost use Rattle.hep_step.specs.Simulation.{unit_code};
 ghost use Rattle.hep_state.specs.Calls.{IsCalling, IsCreating, IsUnit};
 ghost use Rattle.hep_state.specs.Rooms.{HasRoomAt, HaveRoom};
 
 use crate::machine::{Level, Machine, Process};
 use hep_entering::{begin, shape_all};
-use hep_passing::Given;
-use hep_shape::Shape;
 
 /// A unit that is called: its index in the program, how many cells its frame has, and where its first executable statement is in its
 /// code.
@@ -116,20 +116,12 @@ impl Machine {
         self.activations = activation;
     }
 
-    /// Process p makes a process of a unit, and goes on at an index: the unit's activation has its frame, with what is given to its
-    /// dummy arguments and their shapes, and is the one level of the process, which was empty.
-    ///
-    /// There is a gap for the frame, and room for its node, for the process and for its level.
-    pub fn create(
-        &mut self,
-        p: u64,
-        called: Called,
-        index: usize,
-        given: &[Given],
-        shapes: &[Option<Shape>],
-        mut process: Process,
-    )
-        requires creating { (program : Units) × (cells : ℕ) × (choices : List ℕ) × IsCreating program cells choices p (snapshot_of self.old) called.unit index given.now shapes.now × IsUnit program called.unit called.cells called.entry }
+    // Process p makes a process of a unit with what is given, and goes on at an index: the unit's activation has its frame, with what is given to its
+    // dummy arguments and their shapes, and is the one level of the process, which was empty.
+    //
+    // There is a gap for the frame, and room for its node, for the process and for its level, and for the unit's operands.
+    pub(crate) fn create(&mut self, p: u64, called: Called, index: usize, mut process: Process)
+        requires creating { (program : Units) × (cells : ℕ) × (choices : List ℕ) × IsCreating program cells choices p (snapshot_of self.old) called.unit index self.old.passing.given.items self.old.passing.shapes.items × IsUnit program called.unit called.cells called.entry }
         requires few { length self.old.frames.arena.contents ≤ 16777216 }
         requires countable { self.old.activations + 1 < 2 ^ 64 }
         requires gap { IsSome (first_fit called.cells self.old.frames.arena.holes) }
@@ -137,7 +129,8 @@ impl Machine {
         requires empty { (process.levels.items ≡ []) × (process.operands.items ≡ []) }
         requires level { vec_len process.levels < vec_capacity process.levels }
         requires process { vec_len self.old.processes < vec_capacity self.old.processes }
-        ensures stepped { (program : Units) (cells : ℕ) (choices : List ℕ) → IsCreating program cells choices p (snapshot_of self.old) called.unit index given.now shapes.now → IsUnit program called.unit called.cells called.entry → HasStepped program cells choices p (snapshot_of self.new) }
+        ensures stepped { (program : Units) (cells : ℕ) (choices : List ℕ) → IsCreating program cells choices p (snapshot_of self.old) called.unit index self.old.passing.given.items self.old.passing.shapes.items → IsUnit program called.unit called.cells called.entry → HasStepped program cells choices p (snapshot_of self.new) }
+        ensures rooms { (program : Units) (cells : ℕ) → HaveRoom program cells self.old → deepest (unit_code program called.unit) ≤ vec_capacity process.operands → HaveRoom program cells self.new }
         ensures processes { length self.new.processes.items ≡ length self.old.processes.items + 1 }
     {
         hep_proc::laws::children_are_activations();
@@ -148,8 +141,15 @@ impl Machine {
         let activation = self.activations + 1;
         let parent = top_key(&self.processes[place]);
         let Called { unit, cells, entry } = called;
-        let key = begin(&mut self.frames, activation, unit, cells, parent, given);
-        shape_all(&mut self.frames, key, shapes);
+        let key = begin(
+            &mut self.frames,
+            activation,
+            unit,
+            cells,
+            parent,
+            &self.passing.given,
+        );
+        shape_all(&mut self.frames, key, &self.passing.shapes);
         let level = Level {
             key,
             unit,

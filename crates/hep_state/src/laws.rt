@@ -27,7 +27,6 @@ ghost use Rattle.hep_proc.specs.Keeping.{AreKept, CanAllLeave, CanLeave, HasLeft
 ghost use Rattle.hep_arena.specs.Holes.{first_fit};
 ghost use Rattle.hep_code.specs.declared.instruction.Instruction.TheVariants.{Step};
 ghost use Rattle.hep_code.specs.declared.instruction.Operation.{Operation};
-ghost use Rattle.hep_code.specs.declared.instruction.Operation.TheVariants.{Call};
 ghost use Rattle.hep_code.specs.Passing.{passed_from};
 ghost use Rattle.hep_image.specs.Dummies.{dummy_arguments};
 ghost use Rattle.hep_image.specs.Image.{most_cells};
@@ -36,11 +35,12 @@ ghost use Rattle.hep_passing.specs.Ready.{ArePassable};
 ghost use Rattle.hep_shaping.specs.Fitting.{AreShapable, are_fitting, longest_code, shapes_of};
 ghost use Rattle.hep_reply.specs.Cells.{HasFrame};
 ghost use Rattle.hep_step.specs.Ready.{frame_in_arena};
+ghost use Rattle.hep_step.specs.Calls.{making};
 ghost use Rattle.hep_step.specs.Effects.{effect_at, fails, moves, prints, returns, stops, waits};
 ghost use Rattle.hep_step.specs.Simulation.{IsRunning, Simulates, is_left_out, unit_addressed, unit_arrays, unit_code};
 ghost use Rattle.hep_state.specs.declared.machine.Level.{Level};
 ghost use Rattle.hep_entering.specs.Calling.{state_called, state_created};
-ghost use Rattle.hep_state.specs.Calls.{HasEntered, IsAfterCall, IsCalling, IsUnit, snapshot_called, snapshot_created};
+ghost use Rattle.hep_state.specs.Calls.{HasEntered, IsAfterCall, IsMaking, IsUnit, snapshot_called, snapshot_created, state_made};
 ghost use Rattle.hep_state.specs.Openings.{IsEntered, IsGiven, snapshot_opened, unset_opening};
 ghost use Rattle.hep_state.specs.Showing.{node_under};
 ghost use Rattle.hep_state.specs.Snapshots.{Snapshot};
@@ -79,9 +79,9 @@ pub fn supported_programs_never_wait()
     hep_placed::laws::tested_variables_are_asynchronous();
 }
 
-/// Of what calls, creates or purges only CALL stands in a program that can be run so far.
-pub fn supported_programs_call_alone()
-    ensures call { (program : Units) (u index line : ℕ) (o : Operation) (behind : List Instruction) → IsAccepted program → first_unsupported program ≡ None → u < length program → drop index (unit_code program u) ≡ Step line o ∷ behind → is_left_out o ≡ true → (v count next : ℕ) × (o ≡ Call v count next) }
+/// Of what calls, creates or purges only CALL and CREATE stand in a program that can be run so far.
+pub fn supported_programs_purge_nothing()
+    ensures call { (program : Units) (u index line : ℕ) (o : Operation) (behind : List Instruction) → IsAccepted program → first_unsupported program ≡ None → u < length program → drop index (unit_code program u) ≡ Step line o ∷ behind → is_left_out o ≡ true → (creates : Bool) × (v count next : ℕ) × (o ≡ making creates v count next) }
     ensures main { (program : Units) → first_unsupported program ≡ None → is_some (main_among program) ≡ true }
 {
     hep_placed::laws::supported_code();
@@ -138,7 +138,7 @@ pub fn faults_are_shown()
     ensures { (program : Units) (cells : ℕ) (choices : List ℕ) (m : Snapshot) (p : ℕ) (l : Level) (ls : List Level) (operands : List Value) (top : SourceLevel × SourceProcess) (arena : Space) (nodes : Nodes) (line : ℕ) (kind : Kind) → (turning : IsTurning program cells choices m p l ls operands top) → HasLeft program (state_failed program choices p top kind) (is_stacked (state_failed program choices p top kind)) (is_held (run program choices)) turning.after.layout m.arena arena m.nodes nodes → length arena.contents ≡ length m.arena.contents → Simulates program (top_after program choices p top) turning.after.layout (frame_under m.nodes l.key) m.arena.holes m.arena.contents (fails line kind) → HasStepped program cells choices p (snapshot_failed m p (record { process = p; unit = l.unit; line = line; kind = kind }) arena nodes) }
 {}
 
-/// A process that is at a CALL calls a subroutine of the program, with as many actual arguments as this has dummy arguments, and
+/// A process that is at a CALL or CREATE makes an activation of a subroutine of the program, with as many actual arguments as this has dummy arguments, and
 /// what its operands and the entries behind the CALL name can be passed.
 pub fn calls_can_be_made()
     ensures inside { (program : Units) (cells : ℕ) (choices : List ℕ) (m : Snapshot) (p : ℕ) (call : CallAhead) → IsAccepted program → is_some (main_among program) ≡ true → IsAtCall program cells choices p m call → call.unit < length program }
@@ -163,7 +163,7 @@ pub fn calls_can_be_made()
 /// element, or a dummy argument has no shape or more elements than it is given, a fault ends the process (X3.9-1978, 5.5.1 and 15.9.3).
 pub fn calls_give_what_is_bound()
     ensures shapable { (program : Units) (cells : ℕ) (choices : List ℕ) (m : Snapshot) (p : ℕ) (call : CallAhead) (given : List Given) (room : ℕ) → IsAccepted program → is_some (main_among program) ≡ true → (at : IsAtCall program cells choices p m call) → given_of program m call at ≡ Ok given → longest_code (dummy_arguments program (unit_at program call.unit)) ≤ room → AreShapable m.arena given room (dummy_arguments program (unit_at program call.unit)) }
-    ensures calling { (program : Units) (cells : ℕ) (choices : List ℕ) (m : Snapshot) (p : ℕ) (call : CallAhead) (given : List Given) → IsAccepted program → is_some (main_among program) ≡ true → (at : IsAtCall program cells choices p m call) → given_of program m call at ≡ Ok given → are_fitting m.arena.contents given (dummy_arguments program (unit_at program call.unit)) ≡ true → IsCalling program cells choices p m call.unit call.next given (shapes_of m.arena.contents given (dummy_arguments program (unit_at program call.unit))) }
+    ensures making { (program : Units) (cells : ℕ) (choices : List ℕ) (m : Snapshot) (p : ℕ) (call : CallAhead) (given : List Given) → IsAccepted program → is_some (main_among program) ≡ true → (at : IsAtCall program cells choices p m call) → given_of program m call at ≡ Ok given → are_fitting m.arena.contents given (dummy_arguments program (unit_at program call.unit)) ≡ true → IsMaking (state_made call.creates) program cells choices p m call.unit call.next given (shapes_of m.arena.contents given (dummy_arguments program (unit_at program call.unit))) }
     ensures range { (program : Units) (cells : ℕ) (choices : List ℕ) (m : Snapshot) (p : ℕ) (call : CallAhead) (kind : Kind) → IsAccepted program → is_some (main_among program) ≡ true → (at : IsAtCall program cells choices p m call) → given_of program m call at ≡ Err kind → IsEnding program cells choices p m (fails call.line kind) }
     ensures shape { (program : Units) (cells : ℕ) (choices : List ℕ) (m : Snapshot) (p : ℕ) (call : CallAhead) (given : List Given) → IsAccepted program → is_some (main_among program) ≡ true → (at : IsAtCall program cells choices p m call) → given_of program m call at ≡ Ok given → are_fitting m.arena.contents given (dummy_arguments program (unit_at program call.unit)) ≡ false → IsEnding program cells choices p m (fails call.line Shape) }
 {
@@ -187,8 +187,8 @@ pub fn calls_give_what_is_bound()
 /// Where the arena has no gap as long as the frame of the unit that is called, the step's frame has none; and where it has one, or
 /// where a fault ends the process, each frame has its gap.
 pub fn gaps_are_told()
-    ensures none { (program : Units) (cells : ℕ) (choices : List ℕ) (m : Snapshot) (p u n entry index : ℕ) (given : List Given) (shapes : List (Option Bounds)) → IsCalling program cells choices p m u index given shapes → IsUnit program u n entry → first_fit n m.arena.holes ≡ None → HasNoGap program cells choices p }
-    ensures some { (program : Units) (cells : ℕ) (choices : List ℕ) (m : Snapshot) (p u n entry index : ℕ) (given : List Given) (shapes : List (Option Bounds)) → IsCalling program cells choices p m u index given shapes → IsUnit program u n entry → IsSome (first_fit n m.arena.holes) → HasGaps program cells choices p }
+    ensures none { (creates : Bool) (program : Units) (cells : ℕ) (choices : List ℕ) (m : Snapshot) (p u n entry index : ℕ) (given : List Given) (shapes : List (Option Bounds)) → IsMaking (state_made creates) program cells choices p m u index given shapes → IsUnit program u n entry → first_fit n m.arena.holes ≡ None → HasNoGap program cells choices p }
+    ensures some { (creates : Bool) (program : Units) (cells : ℕ) (choices : List ℕ) (m : Snapshot) (p u n entry index : ℕ) (given : List Given) (shapes : List (Option Bounds)) → IsMaking (state_made creates) program cells choices p m u index given shapes → IsUnit program u n entry → IsSome (first_fit n m.arena.holes) → HasGaps program cells choices p }
     ensures fault { (program : Units) (cells : ℕ) (choices : List ℕ) (m : Snapshot) (p line : ℕ) (kind : Kind) → IsEnding program cells choices p m (fails line kind) → HasGaps program cells choices p }
 {}
 

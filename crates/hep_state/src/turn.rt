@@ -17,10 +17,11 @@ ghost use Rattle.hep_state.specs.Unturned.{IsUnturned};
 use crate::advancing::advance;
 use crate::calling::Called;
 use crate::laws;
-use crate::machine::Machine;
+use crate::machine::{Machine, Process};
 use crate::passing::CallAhead;
 use hep_image::Image;
 use hep_machine::Entry;
+use hep_ready::Ready;
 use hep_step::Effect;
 use std::alloc::{AllocError, Global};
 
@@ -97,7 +98,41 @@ impl Machine {
         process.operands.reserve(operands as usize)
     }
 
-    // Performs the operation ahead of process p, which isn't CALL.
+    // Room for a process more and for the node of its activation, and for the entry of the turn that makes it; and that process, which
+    // is empty so far, with room for a level and for so many operands at once. Its number has room to be ready.
+    fn reserve_process(
+        &mut self,
+        alloc: Global,
+        operands: u32,
+        history: &mut Vec<Entry>,
+        ready: &mut Ready,
+    ) -> Result<Process, AllocError>
+        ensures node { OnOk result (HasRoomFor self.new.frames.nodes 1) }
+        ensures process { OnOk result (vec_len self.new.processes < vec_capacity self.new.processes) }
+        ensures empty { IfOk result (λ process. (process.levels.items ≡ []) × (process.operands.items ≡ [])) }
+        ensures level { IfOk result (λ process. vec_len process.levels < vec_capacity process.levels) }
+        ensures operands { IfOk result (λ process. operands ≤ vec_capacity process.operands) }
+        ensures entry { OnOk result (vec_len history.new < vec_capacity history.new) }
+        ensures entries { history.new.items ≡ history.old.items }
+        ensures numbers { OnOk result (length self.new.processes.items + 1 ≤ ready.new.room) }
+        ensures room { ready.old.room ≤ ready.new.room }
+        ensures ready { ready.new.ready ≡ ready.old.ready }
+        ensures shown { snapshot_of self.new ≡ snapshot_of self.old }
+        ensures processes { self.new.processes.items ≡ self.old.processes.items }
+        ensures passing { self.new.passing ≡ self.old.passing }
+        ensures rooms { (program : Units) (cells : ℕ) → HaveRoom program cells self.old → HaveRoom program cells self.new }
+    {
+        history.reserve(1)?;
+        self.frames.reserve()?;
+        self.processes.reserve(1)?;
+        ready.reserve(self.processes.len() as u64 + 1)?;
+        Ok(Process {
+            levels: Vec::with_capacity(alloc, 1)?,
+            operands: Vec::with_capacity(alloc, operands as usize)?,
+        })
+    }
+
+    // Performs the operation ahead of process p, which is neither CALL nor CREATE.
     fn advance(&mut self, alloc: Global, image: &Image, p: u64) -> Result<Effect, AllocError>
         requires after { (cells : ℕ) × (choices : List ℕ) × IsMachineAfter image.now cells choices self.old }
         requires running { self.old.halted ≡ false }
@@ -117,7 +152,7 @@ impl Machine {
         advance(process, &mut self.frames, alloc, image)
     }
 
-    // A turn of process p, ahead of which no CALL stands.
+    // A turn of process p, ahead of which neither CALL nor CREATE stands.
     fn take_operation(
         &mut self,
         alloc: Global,
@@ -142,30 +177,35 @@ impl Machine {
         Ok(())
     }
 
-    // A turn of process p, which is at a CALL: an activation more, or a fault.
+    // A turn of process p, which is at a CALL or CREATE: an activation more, or a fault.
     //
     // Whether the frame has a gap is found before memory is asked for.
     fn take_call(
         &mut self,
+        alloc: Global,
         image: &Image,
         p: u64,
         call: CallAhead,
         history: &mut Vec<Entry>,
+        ready: &mut Ready,
     ) -> Result<(), TurnFault>
         requires at { (cells : ℕ) × (choices : List ℕ) × IsMachineAfter image.now cells choices self.old × IsAtCall image.now cells choices p (snapshot_of self.old) call }
         requires countable { self.old.activations + 1 < 2 ^ 64 }
+        requires numbers { length self.old.processes.items ≤ ready.old.room }
         ensures stepped { OnOk result ((cells : ℕ) (choices : List ℕ) → IsMachineAfter image.now cells choices self.old → IsAtCall image.now cells choices p (snapshot_of self.old) call → (step image.now p (run image.now choices) ≢ None) × IsMachineAfter image.now cells (choices ++ p ∷ []) self.new) }
         ensures unturned { IfErr result (λ e. (cells : ℕ) (choices : List ℕ) → IsMachineAfter image.now cells choices self.old → IsAtCall image.now cells choices p (snapshot_of self.old) call → IsUnturned e image.now cells choices p) }
         ensures refused { OnErr result ((cells : ℕ) (choices : List ℕ) → IsMachineAfter image.now cells choices self.old → IsMachineAfter image.now cells choices self.new) }
         ensures same { OnErr result (IsSeenSame (snapshot_of self.old) (snapshot_of self.new)) }
-        ensures processes { length self.new.processes.items ≡ length self.old.processes.items }
+        ensures processes { OnErr result (length self.new.processes.items ≡ length self.old.processes.items) }
         ensures room { OnOk result (vec_len history.new < vec_capacity history.new) }
         ensures entries { history.new.items ≡ history.old.items }
+        ensures numbers { length self.new.processes.items ≤ ready.new.room }
+        ensures ready { ready.new.ready ≡ ready.old.ready }
     {
         image.is_runnable();
         laws::calls_can_be_made();
         laws::gaps_are_told();
-        laws::supported_programs_call_alone();
+        laws::supported_programs_purge_nothing();
         if let Err(kind) = self.give(image, p, call) {
             self.reserve(history)?;
             self.fail(p, call.line, kind);
@@ -175,22 +215,27 @@ impl Machine {
         if !self.frames.fits(unit.cells) {
             return Err(TurnFault::ArenaFull);
         }
-        self.reserve_activation(p, unit.operands, history)?;
         let called = Called {
             unit: call.unit,
             cells: unit.cells,
             entry: unit.entry as usize,
         };
-        self.call(p, called, call.next as usize);
+        if call.creates {
+            let process = self.reserve_process(alloc, unit.operands, history, ready)?;
+            self.create(p, called, call.next as usize, process);
+        } else {
+            self.reserve_activation(p, unit.operands, history)?;
+            self.call(p, called, call.next as usize);
+        }
         Ok(())
     }
 
     /// One step of process p, which lives: the machine shows the state after the source machine's step. The history gets room
-    /// for the entry of the turn.
+    /// for the entry of the turn, and a process that is made has room to be ready; which ones are stays.
     ///
     /// # Errors
     ///
-    /// `ArenaFull` where a CALL makes an activation for whose frame there is no gap, which is found before memory is asked for;
+    /// `ArenaFull` where a CALL or CREATE makes an activation for whose frame there is no gap, which is found before memory is asked for;
     /// `NoMemory`. The same state is shown then.
     pub fn turn(
         &mut self,
@@ -198,23 +243,27 @@ impl Machine {
         image: &Image,
         p: u64,
         history: &mut Vec<Entry>,
+        ready: &mut Ready,
     ) -> Result<(), TurnFault>
         requires after { (cells : ℕ) × (choices : List ℕ) × IsMachineAfter image.now cells choices self.old }
         requires running { self.old.halted ≡ false }
         requires living { HasLevels (snapshot_of self.old) p }
         requires countable { self.old.activations + 1 < 2 ^ 64 }
+        requires numbers { length self.old.processes.items ≤ ready.old.room }
         ensures stepped { OnOk result ((cells : ℕ) (choices : List ℕ) → IsMachineAfter image.now cells choices self.old → (step image.now p (run image.now choices) ≢ None) × IsMachineAfter image.now cells (choices ++ p ∷ []) self.new) }
         ensures unturned { IfErr result (λ e. (cells : ℕ) (choices : List ℕ) → IsMachineAfter image.now cells choices self.old → IsUnturned e image.now cells choices p) }
         ensures refused { OnErr result ((cells : ℕ) (choices : List ℕ) → IsMachineAfter image.now cells choices self.old → IsMachineAfter image.now cells choices self.new) }
         ensures same { OnErr result (IsSeenSame (snapshot_of self.old) (snapshot_of self.new)) }
-        ensures processes { length self.new.processes.items ≡ length self.old.processes.items }
+        ensures processes { OnErr result (length self.new.processes.items ≡ length self.old.processes.items) }
         ensures room { OnOk result (vec_len history.new < vec_capacity history.new) }
         ensures entries { history.new.items ≡ history.old.items }
+        ensures numbers { length self.new.processes.items ≤ ready.new.room }
+        ensures ready { ready.new.ready ≡ ready.old.ready }
     {
         image.is_runnable();
         laws::other_steps_find_gaps();
         match self.call_ahead(image, p) {
-            Some(call) => self.take_call(image, p, call, history),
+            Some(call) => self.take_call(alloc, image, p, call, history, ready),
             None => Ok(self.take_operation(alloc, image, p, history)?),
         }
     }

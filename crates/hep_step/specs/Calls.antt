@@ -1,24 +1,36 @@
--- What a CALL that stands ahead calls: X3.9-1978, 15.6.2, and docs/MACHINE.md, "Steps".
-use Rattle.std.specs.Prelude.{◌≡◌, ℕ, List, ◌++◌, length, map}
+-- What a CALL or CREATE that stands ahead makes an activation of: X3.9-1978, 15.6.2, and docs/MACHINE.md, "Steps".
+use Rattle.std.specs.Prelude.{◌≡◌, ℕ, Bool, true, false, List, ◌++◌, length, map}
 use Rattle.std.specs.List.{flat_map}
 use Rattle.hep_source.specs.declared.name.Name.{Name}
 use Rattle.hep_source.specs.declared.value.Value.{Value}
 use Rattle.hep_source.specs.Units.{Units}
-use Rattle.hep_machine.specs.Evaluation.{Actual, calling, does, next_of}
+use Rattle.hep_machine.specs.Evaluation.{Action, Actual, calling, creating, does, next_of}
 use Rattle.hep_machine.specs.Step.{Top, unit_called, unit_on_top}
 use Rattle.hep_code.specs.declared.instruction.Instruction.{Instruction}
 use Rattle.hep_code.specs.declared.instruction.Instruction.TheVariants.{Pass}
+use Rattle.hep_code.specs.declared.instruction.Operation.{Operation}
+use Rattle.hep_code.specs.declared.instruction.Operation.TheVariants.{Call, Create}
 use Rattle.hep_code.specs.Actions.{argument_of_actual, operands_of_actual}
 use Rattle.hep_code.specs.UnitCode.{table_of}
 use Rattle.hep_image.specs.Places.{variable_of}
 use Rattle.hep_step.specs.Simulation.{addressed_on_top}
 
--- the source machine calls unit u with so many actual arguments, which the operands and the entries behind the operation pass, and
+-- CALL, or CREATE, in the code
+abbrev pub making : Bool → ℕ → ℕ → ℕ → Operation
+making false u count next = Call u count next
+making true u count next = Create u count next
+
+-- and as the source machine does it
+abbrev pub made_by : Bool → Name → List Actual → Action
+made_by false x actuals = calling x actuals
+made_by true x actuals = creating x actuals
+
+-- the source machine calls or creates unit u with so many actual arguments, which the operands and the entries behind the operation pass, and
 -- the activation goes on at an index then
-pub record IsCallAhead (program : Units) (t : Top) (operands : List Value) (u count next : ℕ) (behind : List Instruction) : Type 0 where
+pub record IsCallAhead (creates : Bool) (program : Units) (t : Top) (operands : List Value) (u count next : ℕ) (behind : List Instruction) : Type 0 where
   pub name : Name
   pub actuals : List Actual
-  pub does_so : next_of (unit_on_top program t) t.level.work ≡ does (calling name actuals)
+  pub does_so : next_of (unit_on_top program t) t.level.work ≡ does (made_by creates name actuals)
   pub unit : u ≡ unit_called program name
   pub counted : count ≡ length actuals
   pub onward : next ≡ ((table_of (addressed_on_top program t)).flows t.level.statement).next

@@ -1,5 +1,5 @@
 //! Laws of steps: what an operation does to the arena and to the operands is what the source machine does.
-ghost use Rattle.std.specs.Prelude.{◌≡◌, ◌≤◌, ◌∷◌, ℕ, List, Err, drop, length};
+ghost use Rattle.std.specs.Prelude.{◌≡◌, ◌≤◌, ◌∷◌, ℕ, Bool, List, Err, drop, length};
 ghost use Rattle.hep_source.specs.declared.value.Value.{Value};
 ghost use Rattle.hep_source.specs.Units.{Units};
 ghost use Rattle.hep_machine.specs.declared.event.Kind.{Kind};
@@ -10,13 +10,13 @@ ghost use Rattle.hep_arena.specs.Holes.{Hole};
 ghost use Rattle.hep_code.specs.declared.instruction.Evaluation.{Evaluation};
 ghost use Rattle.hep_code.specs.declared.instruction.Instruction.{Instruction};
 ghost use Rattle.hep_code.specs.declared.instruction.Instruction.TheVariants.{Step};
-ghost use Rattle.hep_code.specs.declared.instruction.Operation.TheVariants.{Call, Evaluate, Store, Jump, Choose, BySign, Condition, Branch, EnterLoop, EndLoop, Print, Return, Stop};
+ghost use Rattle.hep_code.specs.declared.instruction.Operation.TheVariants.{Evaluate, Store, Jump, Choose, BySign, Condition, Branch, EnterLoop, EndLoop, Print, Return, Stop};
 ghost use Rattle.hep_code.specs.declared.variable.Variable.{Variable};
 ghost use Rattle.hep_code.specs.Ahead.{IsPastPushes};
 ghost use Rattle.hep_code.specs.Depths.{deepest};
 ghost use Rattle.hep_image.specs.Image.{most_cells};
 ghost use Rattle.hep_finding.specs.Within.{ArePlacedArrays};
-ghost use Rattle.hep_step.specs.Calls.{IsCallAhead};
+ghost use Rattle.hep_step.specs.Calls.{IsCallAhead, making};
 ghost use Rattle.hep_step.specs.Effects.{effect_at, fails};
 ghost use Rattle.hep_step.specs.Ready.{IsReady, frame_in_arena};
 ghost use Rattle.hep_step.specs.Simulation.{IsNotLeftOut, IsRunning, IsSimulated, Simulates, arrays_on_top, code_on_top};
@@ -71,11 +71,11 @@ pub fn runs_stop()
     ensures { IsSimulated Stop }
 {}
 
-/// CALL (15.6.2): where it stands ahead, the source machine calls its subroutine, with the actual arguments that the operands and
-/// the entries behind it pass; and where these bind no dummy arguments, there is the same fault.
+/// CALL (15.6.2) and CREATE: where one stands ahead, the source machine calls or creates its subroutine, with the actual arguments
+/// that the operands and the entries behind it pass; and where these bind no dummy arguments, there is the same fault.
 pub fn calls_are_ahead()
-    ensures ahead { (program : Units) (t : Top) (layout : Layout) (f : Frame) (contents : List Slot) (holes : List Hole) (operands : List Value) (index line u count next : ℕ) (behind : List Instruction) → IsRunning program t layout f contents holes operands index → drop index (code_on_top program t) ≡ Step line (Call u count next) ∷ behind → IsCallAhead program t operands u count next behind }
-    ensures fails { (program : Units) (t : Top) (layout : Layout) (f : Frame) (contents : List Slot) (holes : List Hole) (operands : List Value) (index line u count next : ℕ) (behind : List Instruction) → IsRunning program t layout f contents holes operands index → drop index (code_on_top program t) ≡ Step line (Call u count next) ∷ behind → (calls : IsCallAhead program t operands u count next behind) (k : Kind) → binding_of program t u calls.actuals ≡ Err k → Simulates program t layout f holes contents (fails line k) }
+    ensures ahead { (creates : Bool) (program : Units) (t : Top) (layout : Layout) (f : Frame) (contents : List Slot) (holes : List Hole) (operands : List Value) (index line u count next : ℕ) (behind : List Instruction) → IsRunning program t layout f contents holes operands index → drop index (code_on_top program t) ≡ Step line (making creates u count next) ∷ behind → IsCallAhead creates program t operands u count next behind }
+    ensures fails { (creates : Bool) (program : Units) (t : Top) (layout : Layout) (f : Frame) (contents : List Slot) (holes : List Hole) (operands : List Value) (index line u count next : ℕ) (behind : List Instruction) → IsRunning program t layout f contents holes operands index → drop index (code_on_top program t) ≡ Step line (making creates u count next) ∷ behind → (calls : IsCallAhead creates program t operands u count next behind) (k : Kind) → binding_of program t u calls.actuals ≡ Err k → Simulates program t layout f holes contents (fails line k) }
 {}
 
 /// Where no value stands ahead that is to be put behind the operands, whatever operation stands there does what

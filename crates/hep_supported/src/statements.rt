@@ -13,7 +13,7 @@ use hep_source::{Expr, Form, Statement, Target};
 fn is_unsupported_form(form: &Form) -> bool
     ensures { result ≡ supported.is_unsupported_form form.now }
 {
-    matches!(form, Form::Create(_, _) | Form::Purge(_))
+    matches!(form, Form::Purge(_))
 }
 
 fn is_in_assignment(unit: &[Statement], target: &Target, value: &Expr) -> bool
@@ -54,7 +54,7 @@ fn is_in_statement(unit: &[Statement], statement: &Statement) -> bool
     is_in_each(unit, statement.conditions.as_slice()) || is_in_form(unit, &statement.form)
 }
 
-// CREATE, PURGE, or a statement with an asynchronous name.
+// PURGE, or a statement with an asynchronous name.
 pub(crate) fn is_unsupported(unit: &[Statement], statement: &Statement) -> bool
     ensures { result ≡ supported.is_unsupported unit.now statement.now }
 {

@@ -117,10 +117,7 @@ fn sums(alloc: Global, depth: usize) -> Result<Vec<u8>, Fail> {
 fn limits(rt: HostRuntime) -> Result<(), Fail> {
     let alloc = rt.alloc();
     assert_eq!(rt;
-        refusal_of(
-            alloc,
-            b"      CREATE S\n      END\n      SUBROUTINE S\n      END\n"
-        )?,
+        refusal_of(alloc, b"      PURGE $I\n      END\n")?,
         Some((403, 1))
     );
     assert_eq!(rt;

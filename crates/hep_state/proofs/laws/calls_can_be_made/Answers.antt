@@ -1,6 +1,12 @@
-use Rattle.std.proofs.Common.{◌≡◌, true, sym, subst, ◌∙◌}
+use Rattle.std.proofs.Common.{◌≡◌, ℕ, Bool, List, false, true, sym, subst, ◌∙◌}
 use Rattle.std.specs.Prelude.{is_some}
+use Rattle.hep_source.specs.declared.name.Name.{Name}
+use Rattle.hep_source.specs.declared.statement.Statement.{Statement}
 use Rattle.hep_source.specs.Units.{Units, main_among, unit_at}
+use Rattle.hep_machine.specs.Evaluation.{Actual, does, next_of}
+use Rattle.hep_machine.specs.State.{Work}
+use Rattle.hep_step.specs.Calls.{made_by}
+use Rattle.hep_works.specs.Works.{ComesFrom, IsCalledBy}
 use Rattle.hep_machine.specs.Run.{run}
 use Rattle.hep_check.specs.Conditions.{IsAccepted}
 use Rattle.hep_finding.specs.Within.{ArePlacedArrays}
@@ -10,6 +16,10 @@ use Rattle.hep_state.specs.Tops.{frame_under}
 use Rattle.hep_state.proofs.Callers.{IsKnown, as-many, called-inside, caller-unit, calls, calls-so, passed-by}
 use Rattle.hep_state.proofs.laws.calls_can_be_made.Goals as goal
 
+from-made : goal.After-tops_are_running → (creates : Bool) (unit : List Statement) (k : ℕ) (work : Work) (x : Name) (actuals : List Actual) → ComesFrom unit k work → next_of unit work ≡ does (made_by creates x actuals) → IsCalledBy unit k x actuals
+from-made c false = c.calls_come_from_statements.ensures.called
+from-made c true = c.calls_come_from_statements.ensures.created
+
 -- what the laws called say of a program
 known : goal.After-tops_are_running → (program : Units) → IsAccepted program → is_some (main_among program) ≡ true → IsKnown program
 known c program accepted main =
@@ -18,11 +28,11 @@ known c program accepted main =
       units = λ choices a one made. c.units_are_there.ensures program choices a accepted main one made;
       bound = λ choices a one made. c.activations_are_bound_in_runs.ensures program choices a accepted main one made;
       works = λ choices p top lives. c.works_come_from_statements.ensures.top program choices p top lives;
-      called = c.calls_come_from_statements.ensures.called;
+      called = from-made c;
       subroutine = λ u k x actuals by. c.subroutines_are_called.ensures.there program u k x actuals accepted by;
       arguments = λ u k x actuals by. c.subroutines_are_called.ensures.arguments program u k x actuals accepted by;
       running = λ cells choices m p l ls operands top turning. c.tops_are_running.ensures.running program cells choices m p l ls operands top accepted main turning;
-      ahead = c.calls_are_ahead.ensures.ahead program;
+      ahead = λ creates. c.calls_are_ahead.ensures.ahead creates program;
     }
 
 pub returns-clause-inside : goal.returns-clause-inside

@@ -1,9 +1,19 @@
-use Rattle.std.proofs.Common.{◌≡◌, true}
+use Rattle.std.proofs.Common.{◌≡◌, ℕ, Bool, List, Some, false, true}
 use Rattle.std.specs.Prelude.{is_some}
+use Rattle.hep_source.specs.declared.name.Name.{Name}
+use Rattle.hep_source.specs.declared.statement.Statement.{Statement}
 use Rattle.hep_source.specs.Units.{Units, main_among, unit_at}
+use Rattle.hep_machine.specs.Evaluation.{Actual, does, next_of}
+use Rattle.hep_machine.specs.State.{Level as SourceLevel, Process, Work}
+use Rattle.hep_step.specs.Calls.{made_by}
+use Rattle.hep_works.specs.Works.{ComesFrom, IsCalledBy}
 use Rattle.hep_machine.specs.declared.event.Kind.TheVariants.{Shape}
 use Rattle.hep_machine.specs.Run.{run}
-use Rattle.hep_machine.specs.Step.{next_activation, scope_of}
+use Rattle.hep_machine.specs.Binding.{Binding}
+use Rattle.hep_machine.specs.Processes.{unit_of}
+use Rattle.hep_machine.specs.Step.{next_activation, scope_of, step, unit_called}
+use Rattle.hep_entering.specs.Calling.{IsPassing}
+use Rattle.hep_state.specs.Calls.{state_made}
 use Rattle.hep_check.specs.Conditions.{IsAccepted}
 use Rattle.hep_image.specs.Dummies.{dummy_arguments}
 use Rattle.hep_shaping.specs.Fitting.{shapes_of}
@@ -11,6 +21,10 @@ use Rattle.hep_state.proofs.Bindings.{IsKnownToBind, actuals, called-so, dummies
 use Rattle.hep_state.proofs.Callers.{IsKnown, called-inside}
 use Rattle.hep_state.proofs.Tops.{unit-there}
 use Rattle.hep_state.proofs.laws.calls_give_what_is_bound.Goals as goal
+
+from-made : goal.After-tops_are_running → (creates : Bool) (unit : List Statement) (k : ℕ) (work : Work) (x : Name) (actuals : List Actual) → ComesFrom unit k work → next_of unit work ≡ does (made_by creates x actuals) → IsCalledBy unit k x actuals
+from-made c false = c.calls_come_from_statements.ensures.called
+from-made c true = c.calls_come_from_statements.ensures.created
 
 -- what the laws called say of a program
 known : goal.After-tops_are_running → (program : Units) → IsAccepted program → is_some (main_among program) ≡ true → IsKnown program
@@ -20,12 +34,17 @@ known c program accepted main =
       units = λ choices a one made. c.units_are_there.ensures program choices a accepted main one made;
       bound = λ choices a one made. c.activations_are_bound_in_runs.ensures program choices a accepted main one made;
       works = λ choices p top lives. c.works_come_from_statements.ensures.top program choices p top lives;
-      called = c.calls_come_from_statements.ensures.called;
+      called = from-made c;
       subroutine = λ u k x actuals by. c.subroutines_are_called.ensures.there program u k x actuals accepted by;
       arguments = λ u k x actuals by. c.subroutines_are_called.ensures.arguments program u k x actuals accepted by;
       running = λ cells choices m p l ls operands top turning. c.tops_are_running.ensures.running program cells choices m p l ls operands top accepted main turning;
-      ahead = c.calls_are_ahead.ensures.ahead program;
+      ahead = λ creates. c.calls_are_ahead.ensures.ahead creates program;
     }
+
+steps-made : goal.After-tops_are_running → (program : Units) (creates : Bool) (choices : List ℕ) (p : ℕ) (top : SourceLevel × Process) (x : Name) (actuals : List Actual) (b : Binding) → (run program choices).halted ≡ false → IsPassing program choices p top (unit_called program x) actuals b
+    → next_of (unit_at program (unit_of (run program choices) top.0.activation)) top.0.work ≡ does (made_by creates x actuals) → step program p (run program choices) ≡ Some (state_made creates program choices p top (unit_called program x) b)
+steps-made c program false = c.calls_make_activations.ensures.called program
+steps-made c program true = c.calls_make_activations.ensures.created program
 
 all-known : goal.After-tops_are_running → (program : Units) → IsAccepted program → is_some (main_among program) ≡ true → IsKnownToBind program
 all-known c program accepted main =
@@ -35,8 +54,8 @@ all-known c program accepted main =
       fits = λ u k j x y actuals a. c.actual_arguments_fit.ensures program u k j x y actuals a accepted;
       placed = λ unit x. c.variables_are_placed.ensures program unit x;
       passed = c.all_actuals_are_passed.ensures.entries program;
-      made = c.calls_make_activations.ensures.called program;
-      faults = c.calls_are_ahead.ensures.fails program;
+      made = steps-made c program;
+      faults = λ creates. c.calls_are_ahead.ensures.fails creates program;
     }
 
 pub returns-clause-shapable : goal.returns-clause-shapable
@@ -47,8 +66,8 @@ returns-clause-shapable c program cells choices m p call given room accepted mai
     c.calls_are_shapable.ensures program s at.turning.after.layout m.arena.contents m.arena.holes call.unit (next_activation s) room (actuals program all cells choices p m call at) given dummies.0 accepted (called-inside program all.known cells choices p m call at)
     at.turning.after.shows.keeps.memory dummies.2 few
 
-pub returns-clause-calling : goal.returns-clause-calling
-returns-clause-calling c program cells choices m p call given accepted main at gives fit =
+pub returns-clause-making : goal.returns-clause-making
+returns-clause-making c program cells choices m p call given accepted main at gives fit =
     let all = all-known c program accepted main in
     let s = run program choices in
     let dummies = dummies-given program all cells choices p m call at given gives in

@@ -2,7 +2,7 @@ use Rattle.hep_step.proofs.Calls.{call_ahead, call_fails}
 use Rattle.hep_step.proofs.laws.calls_are_ahead.Goals as goal
 
 pub returns-clause-ahead : goal.returns-clause-ahead
-returns-clause-ahead c program t layout f contents holes operands index line u count next behind running ahead = call_ahead program t layout f contents holes operands index line u count next behind running ahead
+returns-clause-ahead c creates program t layout f contents holes operands index line u count next behind running ahead = call_ahead creates program t layout f contents holes operands index line u count next behind running ahead
 
 pub returns-clause-fails : goal.returns-clause-fails
-returns-clause-fails c program t layout f contents holes operands index line u count next behind running ahead calls k none = call_fails program t layout f contents holes operands index line u count next behind running ahead calls k none
+returns-clause-fails c creates program t layout f contents holes operands index line u count next behind running ahead calls k none = call_fails creates program t layout f contents holes operands index line u count next behind running ahead calls k none

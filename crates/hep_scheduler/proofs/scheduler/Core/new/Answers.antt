@@ -1,9 +1,10 @@
-use Rattle.std.proofs.Common.{◌≡◌, ◌≤◌, ℕ, None, length, sym, subst, []}
+use Rattle.std.proofs.Common.{◌≡◌, ◌≤◌, ◌∙◌, ◌∷◌, ℕ, None, ap, arith, length, sym, subst, []}
 use Rattle.hep_machine.specs.Histories.{IsLegal}
 use Rattle.hep_machine.specs.Layout.{is_held}
 use Rattle.hep_machine.specs.Run.{schedule_of, state_after}
-use Rattle.hep_machine.specs.Schedules.{progress_after}
+use Rattle.hep_machine.specs.Schedules.{living_from, progress_after}
 use Rattle.hep_machine.specs.Views.{view_of}
+use Rattle.hep_ready.specs.Numbers.{with_number}
 use Rattle.hep_state.specs.Rooms.{IsMachineAfter}
 use Rattle.hep_machine.specs.Step.{wanted_by}
 use Rattle.hep_state.specs.Snapshots.{snapshot_of}
@@ -12,7 +13,7 @@ use Rattle.hep_scheduler.specs.Quiet.{AreQuiet}
 use Rattle.hep_scheduler.specs.Seen.{machine_view}
 use Rattle.hep_scheduler.specs.Value.{opening_of}
 use Rattle.hep_scheduler.proofs.Histories.{legal-none, schedule-none, single-none, unlisted-none}
-use Rattle.hep_scheduler.proofs.Kept.{AreSeen, laid-out, opening-goes, opening-quiet, view-is}
+use Rattle.hep_scheduler.proofs.Kept.{AreSeen, laid-out, opening-goes, opening-quiet, opening-ready, view-is}
 use Rattle.hep_scheduler.proofs.scheduler.Core.new.Goals as goal
 
 pub invariant_of-result : goal.invariant_of-result
@@ -24,7 +25,8 @@ invariant_of-result c =
     let law : AreQuiet program c.args.cells = λ choices n q h going. c.living_processes_are_quiet.ensures program c.args.cells choices n q c.is_runnable.ensures.accepted c.is_runnable.ensures.supported h going in
     record {
       after = subst (λ es. IsMachineAfter program c.args.cells (schedule_of es) m) none after;
-      alone = c.in_ok-machine.ensures.alone;
+      ready = c.add.ensures.ready ∙ ap (with_number 1) (c.in_ok-reserve.ensures.ready ∙ c.new-ready.ensures.ready) ∙ subst (λ es. 1 ∷ [] ≡ living_from 1 (state_after program es).processes) none (opening-ready program);
+      numbers = omega (arith, c.in_ok-machine.ensures.alone, c.in_ok-reserve.ensures.room, c.add.ensures.room);
       quiet = subst (λ es. (q : ℕ) → wanted_by program q (state_after program es) ≡ None) none (opening-quiet program c.args.cells law (snapshot_of m) after.after);
       unlisted = subst (λ es. progress_after program es ≡ record { state = state_after program es; listed = [] }) none (unlisted-none program);
       legal = subst (IsLegal program c.args.cells c.args.steps) none (legal-none program c.args.cells c.args.steps (laid-out program c.args.cells [] (snapshot_of m) after.after));

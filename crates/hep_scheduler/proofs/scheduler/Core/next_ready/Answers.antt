@@ -1,14 +1,22 @@
-use Rattle.std.proofs.Common.{◌∙◌, sym}
-use Rattle.hep_machine.specs.Run.{schedule_of}
-use Rattle.hep_state.specs.Snapshots.{snapshot_of, stack_of}
-use Rattle.std.proofs.lemmas.List.{length-map}
-use Rattle.hep_scheduler.proofs.Alone.{then-is}
-use Rattle.hep_scheduler.proofs.Kept.{ready-is}
+use Rattle.std.proofs.Common.{◌≡◌, ◌∙◌, ◌-◌, ℕ, List, Option, Some, None, MatchOption, Bor, ap, length, rules, sym}
+use Rattle.std.specs.Prelude.{slice_get}
+use Rattle.std.specs.Option.{option_copied}
+use Rattle.hep_machine.specs.declared.event.Entry.{Entry}
+use Rattle.hep_machine.specs.Schedules.{last_process}
+use Rattle.hep_scheduler.proofs.Histories.{last-none, last-some}
+use Rattle.hep_scheduler.proofs.Kept.{next-is}
 use Rattle.hep_scheduler.proofs.scheduler.Core.next_ready.Goals as goal
+
+-- the process of the last entry, where one is read, and else 0
+last-read : (es : List Entry) (o : Option (Bor Entry)) (p : ℕ) (P : Bor Entry → Type 0) → ((e : Bor Entry) → P e → p ≡ e.now.process) → option_copied o ≡ slice_get es (length es - 1) → MatchOption o (p ≡ 0) P → p ≡ last_process es
+last-read es None p P by read is = is ∙ sym (last-none es (sym read))
+last-read es (Some e) p P by read is = by e is ∙ sym (last-some es e.now (sym read))
 
 pub returns : goal.returns
 returns c =
     let i = c.self.inside in
     let h = i.history.items in
     let k = c.self.invariant in
-    rw (← c.self.view_is) (c.then_some.ensures ∙ then-is c.lives.result 1 ∙ sym (ready-is i.image i.cells i.limit h (snapshot_of i.machine) k.after.after (length-map i.machine.processes.items stack_of ∙ k.alone) k.unlisted c.lives.result (c.lives.ensures.lives i.image i.cells (schedule_of h) k.after.after)))
+    let read : option_copied c.last.result ≡ slice_get h (length h - 1) = c.last.ensures.value ∙ ap (λ (es : List Entry). slice_get es (length es - 1)) c.deref.ensures.value in
+    let last = last-read h c.last.result c.map_or-last.result _ (λ e given. search rules) read c.map_or-last.ensures in
+    rw (← c.self.view_is) (c.next.ensures.next ∙ next-is i.image h i.ready.ready k.ready k.unlisted c.map_or-last.result last)

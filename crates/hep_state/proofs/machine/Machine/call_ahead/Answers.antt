@@ -5,9 +5,9 @@ use Rattle.hep_machine.specs.Processes.{numbered}
 use Rattle.hep_code.specs.declared.instruction.Instruction.{Instruction}
 use Rattle.hep_code.specs.declared.instruction.Instruction.TheVariants.{Step}
 use Rattle.hep_code.specs.declared.instruction.Operation.{Operation}
-use Rattle.hep_code.specs.declared.instruction.Operation.TheVariants.{Call}
 use Rattle.hep_code.specs.Ahead.{values_ahead}
 use Rattle.hep_code.specs.Depths.{deepest}
+use Rattle.hep_step.specs.Calls.{making}
 use Rattle.hep_step.specs.Simulation.{IsNotLeftOut, is_left_out, unit_code}
 use Rattle.hep_state.specs.declared.machine.Level.{Level}
 use Rattle.hep_state.specs.CallsAhead.{HasNoCall, IsAtCall, IsWithoutCall}
@@ -24,15 +24,19 @@ use Rattle.hep_state.proofs.Taken.{inside, room-ahead}
 use Rattle.hep_state.proofs.Turned.{option-then}
 use Rattle.hep_state.proofs.machine.Machine.call_ahead.Goals as goal
 
--- where no CALL stands, and of what calls, creates or purges only CALL could
-nothing-else : (code : List Instruction) (index : ℕ) → ((line : ℕ) (o : Operation) (behind : List Instruction) → drop index code ≡ Step line o ∷ behind → is_left_out o ≡ true → (v count next : ℕ) × (o ≡ Call v count next))
+-- where no CALL and no CREATE stands, and of what calls, creates or purges only they could
+nothing-else : (code : List Instruction) (index : ℕ) → ((line : ℕ) (o : Operation) (behind : List Instruction) → drop index code ≡ Step line o ∷ behind → is_left_out o ≡ true → (creates : Bool) × (v count next : ℕ) × (o ≡ making creates v count next))
     → HasNoCall (drop index code) → IsNotLeftOut code index
 nothing-else code index alone none line o behind ahead = by_test (is_left_out o) refl where
+  makes-none : (creates : Bool) (v count next : ℕ) → HasNoCall (Step line (making creates v count next) ∷ behind) → true ≡ false
+  makes-none false v count next h = absurd h
+  makes-none true v count next h = absurd h
+
   by_test : (b : Bool) → is_left_out o ≡ b → b ≡ false
   by_test false e = refl
   by_test true e =
       let call = alone line o behind ahead e in
-      absurd (subst HasNoCall (ahead ∙ ap (λ x. Step line x ∷ behind) call.3) none)
+      makes-none call.0 call.1 call.2 call.3 (subst HasNoCall (ahead ∙ ap (λ x. Step line x ∷ behind) call.4) none)
 
 pub top-unit-requires : goal.top-unit-requires
 top-unit-requires c =
@@ -99,7 +103,7 @@ returns-clause-call c =
       operands = s.1;
       there = numbered-set m.processes p (stack_with l ls vs) (stack_with later ls s.1) e.3;
       past = s.3.past;
-      plain = nothing-else (unit_code program l.unit) s.0 (λ line o behind ahead out. c.supported_programs_call_alone.ensures.call program l.unit s.0 line o behind c.is_runnable.ensures.accepted c.is_runnable.ensures.supported there ahead out)
+      plain = nothing-else (unit_code program l.unit) s.0 (λ line o behind ahead out. c.supported_programs_purge_nothing.ensures.call program l.unit s.0 line o behind c.is_runnable.ensures.accepted c.is_runnable.ensures.supported there ahead out)
           (subst HasNoCall here none);
     }))
     (λ call found cells choices after.

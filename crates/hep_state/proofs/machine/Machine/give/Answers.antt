@@ -17,7 +17,7 @@ use Rattle.hep_step.specs.Effects.{fails}
 use Rattle.hep_step.specs.Ready.{frame_in_arena}
 use Rattle.hep_step.specs.Simulation.{unit_arrays}
 use Rattle.hep_state.specs.declared.machine.Level.{Level}
-use Rattle.hep_state.specs.Calls.{IsCalling}
+use Rattle.hep_state.specs.Calls.{IsMaking, state_made}
 use Rattle.hep_state.specs.CallsAhead.{IsAtCall, given_of}
 use Rattle.hep_state.specs.Rooms.{IsMachineAfter}
 use Rattle.hep_state.specs.Snapshots.{snapshot_of}
@@ -95,7 +95,7 @@ gives c cells choices at r is =
 pub give_actuals-requires-clause-frame : goal.give_actuals-requires-clause-frame
 give_actuals-requires-clause-frame c =
     let r = c.requires.at in
-    let main = c.supported_programs_call_alone.ensures.main c.args.image.now c.is_runnable.ensures.supported in
+    let main = c.supported_programs_purge_nothing.ensures.main c.args.image.now c.is_runnable.ensures.supported in
     let few : length c.args.self.now.frames.arena.contents ≤ most_cells = omega (arith, r.2.few, r.2.after.size) in
     let framed = c.calls_can_be_made.ensures.framed c.args.image.now r.0 r.1 (snapshot_of c.args.self.now) c.args.p c.args.call c.is_runnable.ensures.accepted main few r.3 in
     at-call (goal.at.give_actuals-requires-clause-frame c).After-as_slice-2 r.0 r.1 r.3 (λ f xs ps. HasFrame c.args.self.now.frames.arena f) framed
@@ -103,14 +103,14 @@ give_actuals-requires-clause-frame c =
 pub give_actuals-requires-clause-passable : goal.give_actuals-requires-clause-passable
 give_actuals-requires-clause-passable c =
     let r = c.requires.at in
-    let main = c.supported_programs_call_alone.ensures.main c.args.image.now c.is_runnable.ensures.supported in
+    let main = c.supported_programs_purge_nothing.ensures.main c.args.image.now c.is_runnable.ensures.supported in
     let passable = c.calls_can_be_made.ensures.passable c.args.image.now r.0 r.1 (snapshot_of c.args.self.now) c.args.p c.args.call c.is_runnable.ensures.accepted main r.3 in
     at-call (goal.at.give_actuals-requires-clause-passable c).After-as_slice-2 r.0 r.1 r.3 (λ f xs ps. ArePassable c.args.self.now.frames.arena xs f ps) passable
 
 pub give_actuals-requires-clause-room : goal.give_actuals-requires-clause-room
 give_actuals-requires-clause-room c =
     let r = c.requires.at in
-    let main = c.supported_programs_call_alone.ensures.main c.args.image.now c.is_runnable.ensures.supported in
+    let main = c.supported_programs_purge_nothing.ensures.main c.args.image.now c.is_runnable.ensures.supported in
     let counted = c.calls_can_be_made.ensures.counted c.args.image.now r.0 r.1 (snapshot_of c.args.self.now) c.args.p c.args.call c.is_runnable.ensures.accepted main r.3 in
     omega (arith, counted, r.2.to_pass.given c.args.call.unit)
 
@@ -125,7 +125,7 @@ returns-in_err-give_actuals-clause-fault c =
     let program = c.args.image.now in
     let m = snapshot_of c.args.self.now in
     let kind = c.in_err-give_actuals.field-0.0 in
-    let main = c.supported_programs_call_alone.ensures.main program c.is_runnable.ensures.supported in
+    let main = c.supported_programs_purge_nothing.ensures.main program c.is_runnable.ensures.supported in
     of-fault c.from_residual.result kind (λ k. (cells : ℕ) (choices : List ℕ) → IsMachineAfter program cells choices c.args.self.now → IsAtCall program cells choices c.args.p m c.args.call → IsEnding program cells choices c.args.p m (fails c.args.call.line k)) c.from_residual.ensures (
     λ cells choices h at.
     c.calls_give_what_is_bound.ensures.range program cells choices m c.args.p c.args.call kind c.is_runnable.ensures.accepted main at (
@@ -134,7 +134,7 @@ returns-in_err-give_actuals-clause-fault c =
 pub unit-called-requires : goal.unit-called-requires
 unit-called-requires c =
     let r = c.requires.at in
-    let main = c.supported_programs_call_alone.ensures.main c.args.image.now c.is_runnable.ensures.supported in
+    let main = c.supported_programs_purge_nothing.ensures.main c.args.image.now c.is_runnable.ensures.supported in
     c.calls_can_be_made.ensures.inside c.args.image.now r.0 r.1 (snapshot_of c.args.self.now) c.args.p c.args.call c.is_runnable.ensures.accepted main r.3
 
 -- the dummy arguments of the unit that is called, and what is given to them
@@ -149,7 +149,7 @@ find_shapes-requires-clause-readable c =
     let space = c.args.self.now.frames.arena in
     let room = vec_capacity c.args.self.now.passing.values in
     let accepted = c.is_runnable.ensures.accepted in
-    let main = c.supported_programs_call_alone.ensures.main program c.is_runnable.ensures.supported in
+    let main = c.supported_programs_purge_nothing.ensures.main program c.is_runnable.ensures.supported in
     let given = c.give_actuals.new.given.items in
     let inside = c.calls_can_be_made.ensures.inside program r.0 r.1 m c.args.p c.args.call accepted main r.3 in
     let gives_so = gives (goal.at.find_shapes-requires-clause-readable c).After-as_slice-2 r.0 r.1 r.3 (Ok given) c.in_ok-give_actuals.ensures.given in
@@ -165,12 +165,12 @@ pub returns-then-find_shapes-clause-given : goal.returns-then-find_shapes-clause
 returns-then-find_shapes-clause-given c cells choices h at =
     let program = c.args.image.now in
     let m = snapshot_of c.args.self.now in
-    let main = c.supported_programs_call_alone.ensures.main program c.is_runnable.ensures.supported in
+    let main = c.supported_programs_purge_nothing.ensures.main program c.is_runnable.ensures.supported in
     let given = c.give_actuals.new.given.items in
     let before = (goal.at.returns-then-find_shapes-clause-given c).After-find_shapes in
     let found = c.find_shapes.ensures.found c.if-find_shapes.true ∙ (λ i. shapes_of c.args.self.now.frames.arena.contents (c.deref-2.ensures.value i) (dummies-are before i)) in
-    subst (IsCalling program cells choices c.args.p m c.args.call.unit c.args.call.next given) (sym found) (
-    c.calls_give_what_is_bound.ensures.calling program cells choices m c.args.p c.args.call given c.is_runnable.ensures.accepted main at
+    subst (IsMaking (state_made c.args.call.creates) program cells choices c.args.p m c.args.call.unit c.args.call.next given) (sym found) (
+    c.calls_give_what_is_bound.ensures.making program cells choices m c.args.p c.args.call given c.is_runnable.ensures.accepted main at
     (gives (goal.at.returns-then-find_shapes-clause-given c).After-as_slice-2 cells choices at (Ok given) c.in_ok-give_actuals.ensures.given)
     (sym (fit before) ∙ c.if-find_shapes.true))
 
@@ -178,7 +178,7 @@ pub returns-else-find_shapes-clause-fault : goal.returns-else-find_shapes-clause
 returns-else-find_shapes-clause-fault c cells choices h at =
     let program = c.args.image.now in
     let m = snapshot_of c.args.self.now in
-    let main = c.supported_programs_call_alone.ensures.main program c.is_runnable.ensures.supported in
+    let main = c.supported_programs_purge_nothing.ensures.main program c.is_runnable.ensures.supported in
     let given = c.give_actuals.new.given.items in
     c.calls_give_what_is_bound.ensures.shape program cells choices m c.args.p c.args.call given c.is_runnable.ensures.accepted main at
     (gives (goal.at.returns-else-find_shapes-clause-fault c).After-as_slice-2 cells choices at (Ok given) c.in_ok-give_actuals.ensures.given)

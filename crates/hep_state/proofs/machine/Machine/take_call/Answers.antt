@@ -1,4 +1,4 @@
-use Rattle.std.proofs.Common.{◌≡◌, ◌-◌, ◌<◌, ◌≤◌, ℕ, List, sym, ap, ◌∙◌, subst}
+use Rattle.std.proofs.Common.{◌≡◌, ◌-◌, ◌<◌, ◌≤◌, ℕ, Bool, true, false, List, sym, ap, ◌∙◌, subst}
 use Rattle.std.specs.Prelude.{is_some, length, vec_capacity}
 use Rattle.hep_source.specs.Units.{Units}
 use Rattle.hep_arena.specs.Holes.{first_fit}
@@ -11,7 +11,7 @@ use Rattle.hep_state.specs.declared.machine.Machine.{Machine}
 use Rattle.hep_state.specs.declared.machine.Passing.{Passing}
 use Rattle.hep_state.specs.declared.passing.CallAhead.{CallAhead}
 use Rattle.hep_state.specs.declared.turn.TurnFault.{TurnFault}
-use Rattle.hep_state.specs.Calls.{IsCalling, IsUnit}
+use Rattle.hep_state.specs.Calls.{IsMaking, IsUnit, state_made}
 use Rattle.hep_state.specs.CallsAhead.{IsAtCall}
 use Rattle.hep_state.specs.Rooms.{HaveRoom, IsMachineAfter}
 use Rattle.hep_state.specs.Snapshots.{Snapshot, snapshot_of}
@@ -70,7 +70,7 @@ returns-then-not-fits-clause-unturned c cells choices h at =
     let u = c.args.call.unit in
     let unit = c.unit-unit.result.now in
     let inside = c.calls_can_be_made.ensures.inside program cells choices (snapshot_of c.args.self.now) c.args.p c.args.call c.is_runnable.ensures.accepted (has-main program c.is_runnable.ensures.supported) at in
-    c.gaps_are_told.ensures.none program cells choices (snapshot_of c.args.self.now) c.args.p u unit.cells unit.entry c.args.call.next c.give.new.self.passing.given.items c.give.new.self.passing.shapes.items (c.in_default.ensures.given cells choices h at) (unit-of program u unit inside c.unit-unit.ensures) (
+    c.gaps_are_told.ensures.none c.args.call.creates program cells choices (snapshot_of c.args.self.now) c.args.p u unit.cells unit.entry c.args.call.next c.give.new.self.passing.given.items c.give.new.self.passing.shapes.items (c.in_default.ensures.given cells choices h at) (unit-of program u unit inside c.unit-unit.ensures) (
     ap (λ (m : Machine). first_fit unit.cells m.frames.arena.holes) (sym c.give.ensures.others) ∙ none-of (first_fit unit.cells c.give.new.self.frames.arena.holes) (sym c.fits.ensures.fit ∙ c.if-not-fits.true))
 
 pub returns-in_err-reserve_activation-clause-unturned : goal.returns-in_err-reserve_activation-clause-unturned
@@ -80,7 +80,7 @@ returns-in_err-reserve_activation-clause-unturned c =
     let unit = c.unit-unit.result.now in
     without-memory (unturned-at program c.args.p c.args.call c.args.self.now) c.from_residual-in_err-reserve_activation.result c.from_residual-in_err-reserve_activation.ensures.1 (λ cells choices h at.
     let inside = c.calls_can_be_made.ensures.inside program cells choices (snapshot_of c.args.self.now) c.args.p c.args.call c.is_runnable.ensures.accepted (has-main program c.is_runnable.ensures.supported) at in
-    c.gaps_are_told.ensures.some program cells choices (snapshot_of c.args.self.now) c.args.p u unit.cells unit.entry c.args.call.next c.give.new.self.passing.given.items c.give.new.self.passing.shapes.items (c.in_default.ensures.given cells choices h at) (unit-of program u unit inside c.unit-unit.ensures) (
+    c.gaps_are_told.ensures.some c.args.call.creates program cells choices (snapshot_of c.args.self.now) c.args.p u unit.cells unit.entry c.args.call.next c.give.new.self.passing.given.items c.give.new.self.passing.shapes.items (c.in_default.ensures.given cells choices h at) (unit-of program u unit inside c.unit-unit.ensures) (
     some-of (first_fit unit.cells c.args.self.now.frames.arena.holes) (ap (λ (m : Machine). is_some (first_fit unit.cells m.frames.arena.holes)) (sym c.give.ensures.others) ∙ (sym c.fits.ensures.fit ∙ c.if-not-fits.false))))
 
 pub returns-in_err-reserve_activation-clause-refused : goal.returns-in_err-reserve_activation-clause-refused
@@ -90,12 +90,36 @@ returns-in_err-reserve_activation-clause-refused c =
     let had = given-after program cells choices c.args.self.now c.give.new.self c.give.ensures.others (c.give.ensures.rooms cells (rooms-of program cells choices c.args.self.now h)) h in
     machine-of program cells choices c.reserve_activation.new.self (subst (IsAfter program cells choices) (sym c.reserve_activation.ensures.shown) had.after) (c.reserve_activation.ensures.rooms program cells (rooms-of program cells choices c.give.new.self had)))
 
--- what is called and given is so in a machine that shows the same and has the same given
-calling-moved : (program : Units) (cells : ℕ) (choices : List ℕ) (p u next : ℕ) (old new : Machine) (passing : Passing) → snapshot_of new ≡ snapshot_of old → new.passing ≡ passing → IsCalling program cells choices p (snapshot_of old) u next passing.given.items passing.shapes.items
-    → IsCalling program cells choices p (snapshot_of new) u next new.passing.given.items new.passing.shapes.items
-calling-moved program cells choices p u next old new passing shown same calling =
-    subst (λ (n : Snapshot). IsCalling program cells choices p n u next new.passing.given.items new.passing.shapes.items) (sym shown)
-    (subst (λ (r : Passing). IsCalling program cells choices p (snapshot_of old) u next r.given.items r.shapes.items) (sym same) calling)
+pub returns-in_err-process-clause-unturned : goal.returns-in_err-process-clause-unturned
+returns-in_err-process-clause-unturned c =
+    let program = c.args.image.now in
+    let u = c.args.call.unit in
+    let unit = c.unit-unit.result.now in
+    without-memory (unturned-at program c.args.p c.args.call c.args.self.now) c.from_residual-in_err-process.result c.from_residual-in_err-process.ensures.1 (λ cells choices h at.
+    let inside = c.calls_can_be_made.ensures.inside program cells choices (snapshot_of c.args.self.now) c.args.p c.args.call c.is_runnable.ensures.accepted (has-main program c.is_runnable.ensures.supported) at in
+    c.gaps_are_told.ensures.some c.args.call.creates program cells choices (snapshot_of c.args.self.now) c.args.p u unit.cells unit.entry c.args.call.next c.give.new.self.passing.given.items c.give.new.self.passing.shapes.items (c.in_default.ensures.given cells choices h at) (unit-of program u unit inside c.unit-unit.ensures) (
+    some-of (first_fit unit.cells c.args.self.now.frames.arena.holes) (ap (λ (m : Machine). is_some (first_fit unit.cells m.frames.arena.holes)) (sym c.give.ensures.others) ∙ (sym c.fits.ensures.fit ∙ c.if-not-fits.false))))
+
+pub returns-in_err-process-clause-refused : goal.returns-in_err-process-clause-refused
+returns-in_err-process-clause-refused c =
+    let program = c.args.image.now in
+    on-err c.from_residual-in_err-process.result c.from_residual-in_err-process.ensures.0 (λ cells choices h.
+    let had = given-after program cells choices c.args.self.now c.give.new.self c.give.ensures.others (c.give.ensures.rooms cells (rooms-of program cells choices c.args.self.now h)) h in
+    machine-of program cells choices c.reserve_process.new.self (subst (IsAfter program cells choices) (sym c.reserve_process.ensures.shown) had.after) (c.reserve_process.ensures.rooms program cells (rooms-of program cells choices c.give.new.self had)))
+
+-- what is made and given is so in a machine that shows the same and has the same given
+making-moved : (creates : Bool) (program : Units) (cells : ℕ) (choices : List ℕ) (p u next : ℕ) (old new : Machine) (passing : Passing) → snapshot_of new ≡ snapshot_of old → new.passing ≡ passing
+    → IsMaking (state_made creates) program cells choices p (snapshot_of old) u next passing.given.items passing.shapes.items
+    → IsMaking (state_made creates) program cells choices p (snapshot_of new) u next new.passing.given.items new.passing.shapes.items
+making-moved creates program cells choices p u next old new passing shown same making =
+    subst (λ (n : Snapshot). IsMaking (state_made creates) program cells choices p n u next new.passing.given.items new.passing.shapes.items) (sym shown)
+    (subst (λ (r : Passing). IsMaking (state_made creates) program cells choices p (snapshot_of old) u next r.given.items r.shapes.items) (sym same) making)
+
+-- it is a CALL, or a CREATE
+made-as : (b creates : Bool) (program : Units) (cells : ℕ) (choices : List ℕ) (p u next : ℕ) (m : Machine) → creates ≡ b → IsMaking (state_made creates) program cells choices p (snapshot_of m) u next m.passing.given.items m.passing.shapes.items
+    → IsMaking (state_made b) program cells choices p (snapshot_of m) u next m.passing.given.items m.passing.shapes.items
+made-as b creates program cells choices p u next m same making =
+    subst (λ x. IsMaking (state_made x) program cells choices p (snapshot_of m) u next m.passing.given.items m.passing.shapes.items) same making
 
 pub call-requires-clause-calling : goal.call-requires-clause-calling
 call-requires-clause-calling c =
@@ -106,21 +130,53 @@ call-requires-clause-calling c =
       program,
       h.0,
       h.1,
-      calling-moved program h.0 h.1 c.args.p u c.args.call.next c.args.self.now c.reserve_activation.new.self c.give.new.self.passing (c.reserve_activation.ensures.shown ∙ ap snapshot_of c.give.ensures.others) c.reserve_activation.ensures.passing
-          (c.in_default.ensures.given h.0 h.1 h.2 h.3),
+      made-as false c.args.call.creates program h.0 h.1 c.args.p u c.args.call.next c.reserve_activation.new.self c.if-call.false
+          (making-moved c.args.call.creates program h.0 h.1 c.args.p u c.args.call.next c.args.self.now c.reserve_activation.new.self c.give.new.self.passing (c.reserve_activation.ensures.shown ∙ ap snapshot_of c.give.ensures.others) c.reserve_activation.ensures.passing
+          (c.in_default.ensures.given h.0 h.1 h.2 h.3)),
       unit-of program u c.unit-unit.result.now inside c.unit-unit.ensures,
     )
 
-pub returns-clause-stepped : goal.returns-clause-stepped
-returns-clause-stepped c cells choices h at =
+pub create-requires-clause-creating : goal.create-requires-clause-creating
+create-requires-clause-creating c =
+    let program = c.args.image.now in
+    let u = c.args.call.unit in
+    let h = c.requires.at in
+    let inside = c.calls_can_be_made.ensures.inside program h.0 h.1 (snapshot_of c.args.self.now) c.args.p c.args.call c.is_runnable.ensures.accepted (has-main program c.is_runnable.ensures.supported) h.3 in (
+      program,
+      h.0,
+      h.1,
+      made-as true c.args.call.creates program h.0 h.1 c.args.p u c.args.call.next c.reserve_process.new.self c.if-call.true
+          (making-moved c.args.call.creates program h.0 h.1 c.args.p u c.args.call.next c.args.self.now c.reserve_process.new.self c.give.new.self.passing (c.reserve_process.ensures.shown ∙ ap snapshot_of c.give.ensures.others) c.reserve_process.ensures.passing
+          (c.in_default.ensures.given h.0 h.1 h.2 h.3)),
+      unit-of program u c.unit-unit.result.now inside c.unit-unit.ensures,
+    )
+
+pub returns-in_ok-reserve_activation-clause-stepped : goal.returns-in_ok-reserve_activation-clause-stepped
+returns-in_ok-reserve_activation-clause-stepped c cells choices h at =
     let program = c.args.image.now in
     let u = c.args.call.unit in
     let unit = c.unit-unit.result.now in
     let inside = c.calls_can_be_made.ensures.inside program cells choices (snapshot_of c.args.self.now) c.args.p c.args.call c.is_runnable.ensures.accepted (has-main program c.is_runnable.ensures.supported) at in
-    let calling = calling-moved program cells choices c.args.p u c.args.call.next c.args.self.now c.reserve_activation.new.self c.give.new.self.passing (c.reserve_activation.ensures.shown ∙ ap snapshot_of c.give.ensures.others) c.reserve_activation.ensures.passing
-    (c.in_default.ensures.given cells choices h at) in
+    let calling = made-as false c.args.call.creates program cells choices c.args.p u c.args.call.next c.reserve_activation.new.self c.if-call.false
+    (making-moved c.args.call.creates program cells choices c.args.p u c.args.call.next c.args.self.now c.reserve_activation.new.self c.give.new.self.passing (c.reserve_activation.ensures.shown ∙ ap snapshot_of c.give.ensures.others) c.reserve_activation.ensures.passing
+    (c.in_default.ensures.given cells choices h at)) in
     let stepped = c.call.ensures.stepped program cells choices calling (unit-of program u unit inside c.unit-unit.ensures) in
     let deep : unit.operands ≡ deepest (unit_code program u) = c.unit-unit.ensures.operands ∙ ap deepest c.unit-unit.ensures.code in
     let rooms = c.call.ensures.rooms program cells (c.reserve_activation.ensures.rooms program cells (c.give.ensures.rooms cells (rooms-of program cells choices c.args.self.now h)))
     (λ q e. subst (λ n. n ≤ vec_capacity q.operands) deep (c.in_ok-reserve_activation.ensures.operands q e)) in
+    (stepped.stepped, record { after = stepped.after; few = rooms.few; to_pass = rooms.to_pass; room = rooms.room })
+
+pub returns-in_ok-process-clause-stepped : goal.returns-in_ok-process-clause-stepped
+returns-in_ok-process-clause-stepped c cells choices h at =
+    let program = c.args.image.now in
+    let u = c.args.call.unit in
+    let unit = c.unit-unit.result.now in
+    let inside = c.calls_can_be_made.ensures.inside program cells choices (snapshot_of c.args.self.now) c.args.p c.args.call c.is_runnable.ensures.accepted (has-main program c.is_runnable.ensures.supported) at in
+    let creating = made-as true c.args.call.creates program cells choices c.args.p u c.args.call.next c.reserve_process.new.self c.if-call.true
+    (making-moved c.args.call.creates program cells choices c.args.p u c.args.call.next c.args.self.now c.reserve_process.new.self c.give.new.self.passing (c.reserve_process.ensures.shown ∙ ap snapshot_of c.give.ensures.others) c.reserve_process.ensures.passing
+    (c.in_default.ensures.given cells choices h at)) in
+    let stepped = c.create.ensures.stepped program cells choices creating (unit-of program u unit inside c.unit-unit.ensures) in
+    let deep : unit.operands ≡ deepest (unit_code program u) = c.unit-unit.ensures.operands ∙ ap deepest c.unit-unit.ensures.code in
+    let rooms = c.create.ensures.rooms program cells (c.reserve_process.ensures.rooms program cells (c.give.ensures.rooms cells (rooms-of program cells choices c.args.self.now h)))
+    (subst (λ n. n ≤ vec_capacity c.in_ok-process.process.operands) deep c.in_ok-process.ensures.operands) in
     (stepped.stepped, record { after = stepped.after; few = rooms.few; to_pass = rooms.to_pass; room = rooms.room })

@@ -1,0 +1,4 @@
+pub mod Nodes
+pub mod Listed
+pub mod Marking
+mod Worked

@@ -1,0 +1,9 @@
+//! Which processes are ready to run, by their numbers, and which of them comes next.
+//!
+//! No call takes memory but the one that makes room.
+#![tactic(auto)]
+
+mod ready;
+mod tree;
+
+pub use ready::Ready;
