@@ -1,0 +1,4 @@
+pub mod Adding
+pub mod Wanting
+pub mod Tying
+mod Worked

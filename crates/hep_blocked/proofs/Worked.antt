@@ -1,0 +1,26 @@
+-- Of four processes 1 and 4 wait for cell 7 to be full and 3 waits for it to be empty: what is so once it is full, and where
+-- process 6 waits too.
+use Rattle.std.proofs.Common.{◌≡◌, [], ◌∷◌, List, Option, None, Some, map, true, false, refl}
+use Rattle.hep_blocked.specs.declared.want.Want.{Want}
+use Rattle.hep_blocked.specs.Waiting.{awake, numbers_waiting, with_numbers, with_want}
+
+abbrev filled : Want
+filled = record { cell = 7; full = true }
+
+abbrev emptied : Want
+emptied = record { cell = 7; full = false }
+
+abbrev waiting : List (Option Want)
+waiting = Some filled ∷ None ∷ Some emptied ∷ Some filled ∷ []
+
+-- 3 still waits
+after_full : map (awake filled) waiting ≡ None ∷ None ∷ Some emptied ∷ None ∷ []
+after_full = refl
+
+-- 2 was ready, and 1 and 4 are too
+ready_after : with_numbers (numbers_waiting filled waiting) (2 ∷ []) ≡ 1 ∷ 2 ∷ 4 ∷ []
+ready_after = refl
+
+-- 5 has a place then and doesn't wait
+six_waits : with_want 6 emptied waiting ≡ Some filled ∷ None ∷ Some emptied ∷ Some filled ∷ None ∷ Some emptied ∷ []
+six_waits = refl

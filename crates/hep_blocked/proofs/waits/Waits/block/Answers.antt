@@ -1,0 +1,22 @@
+use Rattle.std.proofs.Common.{◌≡◌, ◌-◌, List, Option, Some, None, set, ap, ◌∙◌}
+use Rattle.hep_blocked.specs.declared.want.Want.{Want}
+use Rattle.hep_blocked.specs.Lists.{list_of}
+use Rattle.hep_blocked.specs.Waiting.{waiting_at}
+use Rattle.hep_blocked.proofs.Tying.{blocked-items, tied-blocked, waiting-blocked}
+use Rattle.hep_blocked.proofs.waits.Waits.block.Goals as goal
+
+pub invariant_of-self-2 : goal.invariant_of-self-2
+invariant_of-self-2 c =
+    let p = c.args.p in
+    let ws = c.self.inside.wanted.items in
+    let items = set c.grow.new.wanted.items (c.args.p - 1) (Some c.args.want) in
+    let written = blocked-items c.args.p c.args.want ws c.grow.new.wanted.items c.in_ok-grow.ensures.grown in
+    let idle : waiting_at c.self.inside.wanted.items c.args.p ≡ None = ap (λ (os : List (Option Want)). waiting_at os p) c.self.view_is ∙ c.requires.not_waiting in
+    let tied = tied-blocked p c.args.want ws items (list_of c.self.inside.lists) (list_of c.add.new.lists) c.self.invariant.0 c.requires.number idle written c.in_default.ensures.added in
+    (tied, c.in_default.ensures.unique)
+
+pub returns-clause-waiting : goal.returns-clause-waiting
+returns-clause-waiting c = λ q.
+    let ws = c.self.inside.wanted.items in
+    let written = blocked-items c.args.p c.args.want ws c.grow.new.wanted.items c.in_ok-grow.ensures.grown in
+    rw (← c.self.view_is) (ap (λ (os : List (Option Want)). waiting_at os q) written ∙ waiting-blocked c.args.p c.args.want ws c.requires.number q)

@@ -1,0 +1,7 @@
+use Rattle.std.proofs.Common.{refl}
+use Rattle.hep_blocked.specs.Lists.{list_of}
+use Rattle.hep_blocked.proofs.Tying.{tied-none}
+use Rattle.hep_blocked.proofs.waits.Waits.new.Goals as goal
+
+pub invariant_of-result : goal.invariant_of-result
+invariant_of-result c = (tied-none (list_of c.new-2.result) c.new.result.items c.new.ensures.items (λ want. rw c.new-2.ensures.empty refl), c.new-2.ensures.unique)

@@ -1,0 +1,39 @@
+-- The processes that wait, in a list under each want.
+use Rattle.std.specs.Prelude.{◌≡◌, ℕ, ◌-◌, false, if◌then◌else◌, List, [], ◌∷◌, ◌++◌, slice_set, Option, Some, None}
+use Rattle.std.specs.Global.{Vec}
+use Rattle.indexmap.specs.IndexMap.{IndexMap, get}
+use Rattle.hep_machine.specs.Processes.{is_number_among}
+use Rattle.hep_blocked.specs.declared.want.Want.{Want}
+use Rattle.hep_blocked.specs.Waiting.{waits_for, want_eq}
+
+-- the processes in a list; none where there is no list
+abbrev pub items_of : Option (Vec ℕ) → List ℕ
+items_of None = []
+items_of (Some list) = list.items
+
+-- the processes in the list under a want
+abbrev pub list_of : {S : Type 0} → IndexMap Want (Vec ℕ) S → Want → List ℕ
+list_of lists want = items_of (get want_eq lists want)
+
+-- the lists, with a process more at the end of the one under a want
+abbrev pub with_process : Want → ℕ → (Want → List ℕ) → Want → List ℕ
+with_process want p lists w = if want_eq want w then lists w ++ p ∷ [] else lists w
+
+-- the lists, but for the one under a want
+abbrev pub without_list : Want → (Want → List ℕ) → Want → List ℕ
+without_list want lists w = if want_eq want w then [] else lists w
+
+-- no number is there twice
+abbrev pub AreApart : List ℕ → Type 0
+AreApart [] = Unit {0}
+AreApart (p ∷ ps) = (is_number_among p ps ≡ false) × AreApart ps
+
+-- a process is in the list under a want just where it waits for it, and once
+pub record IsTied (waiting : List (Option Want)) (lists : Want → List ℕ) : Type 0 where
+  pub tied : (want : Want) (p : ℕ) → is_number_among p (lists want) ≡ waits_for want waiting p
+  pub once : (want : Want) → AreApart (lists want)
+
+-- these processes wait for nothing any more
+abbrev pub cleared : List ℕ → List (Option Want) → List (Option Want)
+cleared [] waiting = waiting
+cleared (p ∷ ps) waiting = cleared ps (slice_set waiting (p - 1) None)

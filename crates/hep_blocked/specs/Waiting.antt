@@ -1,0 +1,44 @@
+-- What processes wait for: docs/MACHINE.md, "Steps", and "Which process comes next".
+use Rattle.std.specs.Prelude.{ℕ, zero, suc, ◌-◌, ◌&&◌, Bool, false, if◌then◌else◌, nat_eq, List, [], ◌∷◌, ◌++◌, length, replicate, slice_index_or, slice_set, Option, Some, None}
+use mathlib.Core.Bool.{beq}
+use Rattle.hep_ready.specs.Numbers.{with_number}
+use Rattle.hep_blocked.specs.declared.want.Want.{Want}
+
+-- the same test as `==` makes it, by which the lists are looked up
+abbrev pub want_eq : Want → Want → Bool
+want_eq v w = nat_eq v.cell w.cell && beq v.full w.full
+
+-- what is waited for, if anything is, is this
+abbrev pub wants : Want → Option Want → Bool
+wants want None = false
+wants want (Some w) = want_eq want w
+
+-- what the process of a number waits for, of a list whose first element is what process 1 waits for
+abbrev pub waiting_at : List (Option Want) → ℕ → Option Want
+waiting_at waiting zero = None
+waiting_at waiting (suc k) = slice_index_or waiting k None
+
+-- the process of a number waits for this
+abbrev pub waits_for : Want → List (Option Want) → ℕ → Bool
+waits_for want waiting p = wants want (waiting_at waiting p)
+
+-- process p waits for this; the list gets longer where p had no place in it
+abbrev pub with_want : ℕ → Want → List (Option Want) → List (Option Want)
+with_want p want waiting = slice_set (waiting ++ replicate (p - length waiting) None) (p - 1) (Some want)
+
+-- what is still waited for, once there is what was wanted
+abbrev pub awake : Want → Option Want → Option Want
+awake want waiting = if wants want waiting then None else waiting
+
+-- the numbers of those that wait for this, of which the first one has the number n
+abbrev pub waiting_from : ℕ → Want → List (Option Want) → List ℕ
+waiting_from n want [] = []
+waiting_from n want (w ∷ ws) = if wants want w then n ∷ waiting_from (suc n) want ws else waiting_from (suc n) want ws
+
+abbrev pub numbers_waiting : Want → List (Option Want) → List ℕ
+numbers_waiting want waiting = waiting_from 1 want waiting
+
+-- rising numbers and these, each put where it belongs
+abbrev pub with_numbers : List ℕ → List ℕ → List ℕ
+with_numbers [] ready = ready
+with_numbers (p ∷ ps) ready = with_numbers ps (with_number p ready)

@@ -1,0 +1,116 @@
+//! The processes that wait.
+ghost use Rattle.std.specs.Prelude.{◌≡◌, ℕ, ◌≤◌, ◌||◌, [], None, Some, OnErr, OnOk, if◌then◌else◌, length, max, map, nat_eq};
+ghost use Rattle.hep_machine.specs.Processes.{is_number_among};
+ghost use Rattle.hep_blocked.specs.Waiting.{awake, numbers_waiting, waiting_at, waits_for, with_numbers, with_want};
+
+use crate::lists::{Lists, add, grow, take, wake_each};
+use crate::want::Want;
+use hep_ready::Ready;
+use indexmap::IndexMap;
+use std::alloc::{AllocError, Global};
+use std::marker::Model;
+
+/// The processes that wait. Contracts see a list of what each process waits for, that of the
+/// process p at p - 1; a process past its end waits for nothing.
+pub struct Waits {
+    alloc: Global,
+    // What the process p waits for is at p - 1.
+    wanted: Vec<Option<Want>>,
+    // Under each want the processes that wait for it, in the order in which they were blocked.
+    lists: Lists,
+}
+
+impl Drop for Waits {
+    fn drop(self) {
+        let Waits {
+            alloc,
+            wanted,
+            lists,
+        } = self;
+    }
+}
+
+impl Model for Waits {
+    ghost use Rattle.std.specs.Prelude.{List, Option};
+    ghost use Rattle.std.specs.Coded.{codes};
+    ghost use Rattle.hep_blocked.specs.declared.want.Want.{Want as PureWant};
+    ghost use Rattle.hep_blocked.specs.contracts.want.Want as want;
+    ghost use Rattle.indexmap.specs.IndexMap.{IsUnique};
+    ghost use Rattle.hep_blocked.specs.Lists.{IsTied, list_of};
+    ghost use Rattle.hep_blocked.specs.Waiting.{want_eq};
+
+    ghost Value = { List (Option PureWant) };
+
+    ghost coded = { Prim.hlevel (codes, want.the_row.coded) };
+
+    ghost view = { λ w. w.wanted.items };
+
+    ghost invariant = { λ w. IsTied w.wanted.items (list_of w.lists) × IsUnique want_eq w.lists };
+}
+
+impl Waits {
+    /// Nobody waits. This takes no memory.
+    pub fn new(alloc: Global) -> Waits
+        ensures { result ≡ [] }
+    {
+        Waits {
+            alloc,
+            wanted: Vec::new(alloc),
+            lists: IndexMap::new(alloc),
+        }
+    }
+
+    /// A process that didn't wait waits for a cell to be full, or to be empty.
+    ///
+    /// Where numbers come one after the other, as those of processes do, this costs a constant
+    /// time on the whole.
+    ///
+    /// # Errors
+    ///
+    /// `AllocError` where memory was refused; nothing has changed then.
+    pub fn block(&mut self, p: u64, want: Want) -> Result<(), AllocError>
+        requires number { 1 ≤ p }
+        requires not_waiting { waiting_at self.old p ≡ None }
+        ensures blocked { OnOk result (self.new ≡ with_want p want self.old) }
+        ensures waiting { OnOk result ((q : ℕ) → waiting_at self.new q ≡ (if nat_eq p q then Some want else waiting_at self.old q)) }
+        ensures size { OnOk result (length self.new ≡ max p (length self.old)) }
+        ensures refused { OnErr result (self.new ≡ self.old) }
+    {
+        let size = self.wanted.len();
+        grow(&mut self.wanted, p as usize)?;
+        if let Err(refused) = add(self.alloc, &mut self.lists, want, p) {
+            self.wanted.truncate(size);
+            return Err(refused);
+        }
+        self.wanted[p as usize - 1] = Some(want);
+        Ok(())
+    }
+
+    /// Those that wait for this are ready and wait no more. Their numbers have to have room among
+    /// the ready ones.
+    ///
+    /// This takes no memory. It costs a constant time, and for each process that it wakes the
+    /// logarithm of the room.
+    pub fn wake(&mut self, want: Want, ready: &mut Ready)
+        requires room { length self.old ≤ ready.old.room }
+        ensures woken { self.new ≡ map (awake want) self.old }
+        ensures waiting { (p : ℕ) → waiting_at self.new p ≡ awake want (waiting_at self.old p) }
+        ensures ready { ready.new.ready ≡ with_numbers (numbers_waiting want self.old) ready.old.ready }
+        ensures among { (p : ℕ) → is_number_among p ready.new.ready ≡ (waits_for want self.old p || is_number_among p ready.old.ready) }
+        ensures room { ready.new.room ≡ ready.old.room }
+    {
+        if let Some(processes) = take(&mut self.lists, want) {
+            wake_each(&processes, &mut self.wanted, ready);
+        }
+    }
+
+    /// What a process waits for.
+    ///
+    /// This costs a constant time.
+    pub fn waiting(&self, p: u64) -> Option<Want>
+        ensures { result ≡ waiting_at self.now p }
+    {
+        let index = p.checked_sub(1)?;
+        *self.wanted.get(index as usize)?
+    }
+}
