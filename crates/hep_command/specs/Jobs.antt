@@ -1,6 +1,8 @@
 -- What a command line may ask for: docs/MACHINE.md, "The program".
 use Rattle.std.specs.Prelude.{◌≡◌, ◌≢◌, ◌⊎◌, ℕ, ◌≤◌, List as ListOf, Option, Some, None}
 use Rattle.std.specs.Borrow.{Bor}
+use Rattle.clap.specs.declared.error.kind.ErrorKind.{ErrorKind}
+use Rattle.clap.specs.declared.error.kind.ErrorKind.TheVariants.{DisplayHelp, DisplayVersion, OutOfMemory}
 use Rattle.hep_command.specs.declared.job.Job.{Job}
 use Rattle.hep_command.specs.declared.job.Job.TheVariants.{Standard, Check, Run, Replay, List, Explain}
 
@@ -31,3 +33,10 @@ IsWrittenApart _ = Unit {0}
 -- a text was asked for, the words are wrong, or memory was refused
 abbrev pub IsUsageStatus : ℕ → Type 0
 IsUsageStatus status = (status ≡ 0) ⊎ (status ≡ 2) ⊎ (status ≡ 7)
+
+-- 0 for what was asked for, 2 for a mistake in the words
+abbrev pub usage_status : ErrorKind → ℕ
+usage_status DisplayHelp = 0
+usage_status DisplayVersion = 0
+usage_status OutOfMemory = 7
+usage_status _ = 2

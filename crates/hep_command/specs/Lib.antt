@@ -1,2 +1,5 @@
+pub mod Numbers
+pub mod Asked
+pub mod Program
 pub mod Jobs
 pub mod Explanations

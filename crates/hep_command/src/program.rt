@@ -1,5 +1,10 @@
 //! The commands and options, as `clap` reads them and shows them in its help.
 
+ghost use Rattle.std.specs.Prelude.{◌≡◌, true, IfOk};
+ghost use Rattle.clap.specs.Words.{App, Rule, with_rule, with_subcommand};
+ghost use Rattle.hep_command.specs.Program.{IsArgument, IsCommand};
+ghost use Rattle.hep_command.specs.Program as spec;
+
 use crate::job::{MOST_ARENA, MOST_STEPS};
 use clap::builder::ValueParser;
 use clap::{Arg, Command};
@@ -25,29 +30,39 @@ const LIST_EXAMPLE: &str = "Example: hepf list examples/sort.f";
 const EXPLAIN_EXAMPLE: &str = "Example: hepf explain 403";
 
 // A word that has to be there.
-fn argument<'a>(alloc: Global, id: &'a str, name: &'a str) -> Arg<'a> {
+fn argument<'a>(alloc: Global, id: &'a str, name: &'a str) -> Arg<'a>
+    ensures { IsArgument (spec.required_word id.entry.now) result }
+{
     Arg::new(alloc, id).value_name(name).required(true)
 }
 
-fn file_option<'a>(alloc: Global, id: &'a str) -> Arg<'a> {
+fn file_option<'a>(alloc: Global, id: &'a str) -> Arg<'a>
+    ensures { IsArgument (spec.file_option id.entry.now) result }
+{
     Arg::new(alloc, id).long(id).value_name("FILE")
 }
 
-fn number_option<'a>(alloc: Global, id: &'a str, most: u64) -> Arg<'a> {
+fn number_option<'a>(alloc: Global, id: &'a str, most: u64) -> Arg<'a>
+    ensures { IsArgument (spec.number_option id.entry.now most) result }
+{
     Arg::new(alloc, id)
         .long(id)
         .value_name("N")
         .value_parser(ValueParser::unsigned(1, most))
 }
 
-fn arena_option<'a>(alloc: Global) -> Arg<'a> {
+fn arena_option<'a>(alloc: Global) -> Arg<'a>
+    ensures { IsArgument spec.arena_option result }
+{
     number_option(alloc, "arena", u64::from(MOST_ARENA)).help(
         "Cells of storage, 1 to 16777216 [default: 65536]",
     )
 }
 
 // The source of a command.
-fn source_argument<'a>(alloc: Global) -> Arg<'a> {
+fn source_argument<'a>(alloc: Global) -> Arg<'a>
+    ensures { IsArgument spec.source_word result }
+{
     argument(alloc, "file", "FILE").help("The source")
 }
 
@@ -55,7 +70,10 @@ fn source_argument<'a>(alloc: Global) -> Arg<'a> {
 fn with_arg<'a>(
     whole: Result<Command<'a>, AllocError>,
     part: Arg<'a>,
-) -> Result<Command<'a>, AllocError> {
+) -> Result<Command<'a>, AllocError>
+    ensures { (app : App) (rule : Rule) → IfOk whole.entry (IsCommand app) → IsArgument rule part.entry
+        → IfOk result (IsCommand (with_rule app rule)) }
+{
     whole?.arg(part)
 }
 
@@ -63,33 +81,46 @@ fn with_arg<'a>(
 fn with_command<'a>(
     whole: Result<Command<'a>, AllocError>,
     part: Result<Command<'a>, AllocError>,
-) -> Result<Command<'a>, AllocError> {
+) -> Result<Command<'a>, AllocError>
+    ensures { (app sub : App) → sub.top.is_plain ≡ true → IfOk whole.entry (IsCommand app) → IfOk part.entry (IsCommand sub)
+        → IfOk result (IsCommand (with_subcommand app sub.top)) }
+{
     let part = part?;
     whole?.subcommand(part)
 }
 
-fn check_command<'a>(alloc: Global) -> Result<Command<'a>, AllocError> {
+fn check_command<'a>(alloc: Global) -> Result<Command<'a>, AllocError>
+    ensures { IfOk result (IsCommand spec.check_command) }
+{
     Command::new(alloc, "check")
         .about("Say why a source can't run, and nothing if it can")
         .after_help(CHECK_EXAMPLE)
         .arg(source_argument(alloc))
 }
 
-fn steps_option<'a>(alloc: Global) -> Arg<'a> {
+fn steps_option<'a>(alloc: Global) -> Arg<'a>
+    ensures { IsArgument spec.steps_option result }
+{
     number_option(alloc, "steps", MOST_STEPS).help(
         "Entries at most, 1 to 4294967296 [default: 10000000]",
     )
 }
 
-fn choices_option<'a>(alloc: Global) -> Arg<'a> {
+fn choices_option<'a>(alloc: Global) -> Arg<'a>
+    ensures { IsArgument spec.choices_option result }
+{
     file_option(alloc, "choices").help("The processes that are chosen first, one a line")
 }
 
-fn history_option<'a>(alloc: Global) -> Arg<'a> {
+fn history_option<'a>(alloc: Global) -> Arg<'a>
+    ensures { IsArgument spec.history_option result }
+{
     file_option(alloc, "history").help("Gets the history: process and steps, an entry a line")
 }
 
-fn run_command<'a>(alloc: Global) -> Result<Command<'a>, AllocError> {
+fn run_command<'a>(alloc: Global) -> Result<Command<'a>, AllocError>
+    ensures { IfOk result (IsCommand spec.run_command) }
+{
     let run = Command::new(alloc, "run")
         .about("Run a source")
         .after_help(RUN_EXAMPLE)
@@ -101,13 +132,17 @@ fn run_command<'a>(alloc: Global) -> Result<Command<'a>, AllocError> {
 }
 
 // A first part of a history that is there.
-fn history_argument<'a>(alloc: Global) -> Arg<'a> {
+fn history_argument<'a>(alloc: Global) -> Arg<'a>
+    ensures { IsArgument spec.history_word result }
+{
     argument(alloc, "history", "HISTORY").help(
         "A history that `run --history` wrote, or some first lines of it",
     )
 }
 
-fn replay_command<'a>(alloc: Global) -> Result<Command<'a>, AllocError> {
+fn replay_command<'a>(alloc: Global) -> Result<Command<'a>, AllocError>
+    ensures { IfOk result (IsCommand spec.replay_command) }
+{
     let replay = Command::new(alloc, "replay")
         .about("Make the steps of a history again")
         .after_help(REPLAY_EXAMPLE)
@@ -116,14 +151,18 @@ fn replay_command<'a>(alloc: Global) -> Result<Command<'a>, AllocError> {
     with_arg(replay, arena_option(alloc))
 }
 
-fn list_command<'a>(alloc: Global) -> Result<Command<'a>, AllocError> {
+fn list_command<'a>(alloc: Global) -> Result<Command<'a>, AllocError>
+    ensures { IfOk result (IsCommand spec.list_command) }
+{
     Command::new(alloc, "list")
         .about("List the units and common blocks of a source with their cells")
         .after_help(LIST_EXAMPLE)
         .arg(source_argument(alloc))
 }
 
-fn explain_command<'a>(alloc: Global) -> Result<Command<'a>, AllocError> {
+fn explain_command<'a>(alloc: Global) -> Result<Command<'a>, AllocError>
+    ensures { IfOk result (IsCommand spec.explain_command) }
+{
     let number = argument(alloc, "number", "NUMBER")
         .value_parser(ValueParser::unsigned(0, u64::from(u16::MAX)))
         .help("The number of a line REFUSED");
@@ -134,7 +173,9 @@ fn explain_command<'a>(alloc: Global) -> Result<Command<'a>, AllocError> {
 }
 
 // The command line of the program.
-pub(crate) fn program<'a>(alloc: Global) -> Result<Command<'a>, AllocError> {
+pub(crate) fn program<'a>(alloc: Global) -> Result<Command<'a>, AllocError>
+    ensures { IfOk result (IsCommand spec.hepf) }
+{
     let whole = Command::new(alloc, "hepf")
         .version(VERSION)
         .about(ABOUT)

@@ -1,6 +1,11 @@
 //! The words of a command line.
-ghost use Rattle.std.specs.Prelude.{◌≡◌, ◌≤◌, false, IfOk, IfErr, IfSome};
-ghost use Rattle.hep_command.specs.Jobs.{IsInRange, IsNoPath, IsUsageStatus, IsWrittenApart};
+ghost use Rattle.std.specs.Prelude.{◌≡◌, ◌⊎◌, ◌≤◌, false, true, IfOk, IfErr, IfSome, Some, map, option_map};
+ghost use Rattle.clap.specs.Words.{kind_of, subcommand_rows_of};
+ghost use Rattle.hep_command.specs.Program.{IsStatusFor, asked};
+ghost use Rattle.hep_command.specs.Numbers.{number_within, option_number};
+ghost use Rattle.hep_command.specs.Asked.{asked_by, arena_in, check_in, command_in, explain_in, job_in, list_in};
+ghost use Rattle.hep_command.specs.Asked.{replay_in, run_in, steps_in, word_of, words_found};
+ghost use Rattle.hep_command.specs.Jobs.{IsInRange, IsNoPath, IsUsageStatus, IsWrittenApart, usage_status};
 
 use crate::job::{ARENA, Job, MOST_ARENA, MOST_STEPS, STEPS, Usage};
 use crate::program::program;
@@ -16,80 +21,108 @@ const MISTAKE: &str = "error: these words have no meaning\n";
 // What is said where the history would be written to a file that is read.
 const SAME_FILE: &str = "error: --history names a file that is read\n";
 
+// The number that a text of decimal digits writes, where it lies in the range. `clap` has checked
+// this before; it is read anew from the text, so that the job's number is the word's.
+fn number_within(text: &str, least: u64, most: u64) -> Option<u64>
+    ensures { result ≡ number_within least most text.now }
+{
+    match text.parse::<u64>() {
+        Ok(number) if least <= number && number <= most => Some(number),
+        _ => None,
+    }
+}
+
+// The word that was found for an argument.
+fn word_of<'a>(found: &ArgMatches<'a>, id: &str) -> Option<&'a str>
+    ensures { option_map (λ word. word.now) result ≡ word_of found.now id.now }
+{
+    found.get_str(id)
+}
+
 // The number of an option, `other` where it isn't given.
 fn number_of(found: &ArgMatches<'_>, id: &str, most: u64, other: u64) -> Option<u64>
     requires { (1 ≤ other) × (other ≤ most) }
-    ensures { IfSome result (λ n. (1 ≤ n) × (n ≤ most)) }
+    ensures range { IfSome result (λ n. (1 ≤ n) × (n ≤ most)) }
+    ensures number { result ≡ option_number most other (word_of found.now id.now) }
 {
-    if !found.contains_id(id) {
-        return Some(other);
+    match word_of(found, id) {
+        Some(text) => number_within(text, 1, most),
+        None => Some(other),
     }
-    let number = found.get_one::<u64>(id)?;
-    if number < 1 || most < number {
-        return None;
-    }
-    Some(number)
 }
 
 fn arena_of(found: &ArgMatches<'_>) -> Option<u32>
-    ensures { IfSome result (λ n. (1 ≤ n) × (n ≤ 16777216)) }
+    ensures range { IfSome result (λ n. (1 ≤ n) × (n ≤ 16777216)) }
+    ensures number { result ≡ arena_in (words_found found.now) }
 {
     let cells = number_of(found, "arena", u64::from(MOST_ARENA), u64::from(ARENA))?;
     Some(cells as u32)
 }
 
+fn steps_of(found: &ArgMatches<'_>) -> Option<u64>
+    ensures range { IfSome result (λ n. (1 ≤ n) × (n ≤ 4294967296)) }
+    ensures number { result ≡ steps_in (words_found found.now) }
+{
+    number_of(found, "steps", MOST_STEPS, STEPS)
+}
+
 fn check_job<'a>(found: &ArgMatches<'a>) -> Option<Job<'a>>
-    ensures { IfSome result IsInRange }
+    ensures range { IfSome result IsInRange }
+    ensures job { option_map asked_by result ≡ check_in (words_found found.now) }
 {
     Some(Job::Check {
-        file: found.get_str("file")?,
+        file: word_of(found, "file")?,
     })
 }
 
 fn run_job<'a>(found: &ArgMatches<'a>) -> Option<Job<'a>>
-    ensures { IfSome result IsInRange }
+    ensures range { IfSome result IsInRange }
+    ensures job { option_map asked_by result ≡ run_in (words_found found.now) }
 {
     Some(Job::Run {
-        file: found.get_str("file")?,
+        file: word_of(found, "file")?,
         arena: arena_of(found)?,
-        steps: number_of(found, "steps", MOST_STEPS, STEPS)?,
-        choices: found.get_str("choices"),
-        history: found.get_str("history"),
+        steps: steps_of(found)?,
+        choices: word_of(found, "choices"),
+        history: word_of(found, "history"),
     })
 }
 
 fn replay_job<'a>(found: &ArgMatches<'a>) -> Option<Job<'a>>
-    ensures { IfSome result IsInRange }
+    ensures range { IfSome result IsInRange }
+    ensures job { option_map asked_by result ≡ replay_in (words_found found.now) }
 {
     Some(Job::Replay {
-        file: found.get_str("file")?,
-        history: found.get_str("history")?,
+        file: word_of(found, "file")?,
+        history: word_of(found, "history")?,
         arena: arena_of(found)?,
     })
 }
 
 fn list_job<'a>(found: &ArgMatches<'a>) -> Option<Job<'a>>
-    ensures { IfSome result IsInRange }
+    ensures range { IfSome result IsInRange }
+    ensures job { option_map asked_by result ≡ list_in (words_found found.now) }
 {
     Some(Job::List {
-        file: found.get_str("file")?,
+        file: word_of(found, "file")?,
     })
 }
 
 fn explain_job<'a>(found: &ArgMatches<'a>) -> Option<Job<'a>>
-    ensures { IfSome result IsInRange }
+    ensures range { IfSome result IsInRange }
+    ensures job { option_map asked_by result ≡ explain_in (words_found found.now) }
 {
-    let number = found.get_one::<u16>("number")?;
-    Some(Job::Explain { number })
+    let number = number_within(word_of(found, "number")?, 0, u64::from(u16::MAX))?;
+    Some(Job::Explain {
+        number: number as u16,
+    })
 }
 
-// The job of words that `clap` took.
-fn job_of<'a>(matches: &ArgMatches<'a>) -> Option<Job<'a>>
-    ensures { IfSome result IsInRange }
+// The job of a command and what was found for it.
+fn command_job<'a>(command: &str, found: &ArgMatches<'a>) -> Option<Job<'a>>
+    ensures range { IfSome result IsInRange }
+    ensures job { option_map asked_by result ≡ command_in command.now (words_found found.now) }
 {
-    let Some((command, found)) = matches.subcommand() else {
-        return Some(Job::Standard);
-    };
     if command == "check" {
         return check_job(found);
     }
@@ -108,8 +141,20 @@ fn job_of<'a>(matches: &ArgMatches<'a>) -> Option<Job<'a>>
     None
 }
 
+// The job of words that `clap` took.
+fn job_of<'a>(matches: &ArgMatches<'a>) -> Option<Job<'a>>
+    ensures range { IfSome result IsInRange }
+    ensures job { option_map asked_by result ≡ job_in (subcommand_rows_of matches.now) }
+{
+    let Some((command, found)) = matches.subcommand() else {
+        return Some(Job::Standard);
+    };
+    command_job(command, found)
+}
+
 fn is_path(path: Option<&str>, other: &str) -> bool
-    ensures { result ≡ false → IsNoPath path.entry other.entry }
+    ensures other { result ≡ false → IsNoPath path.entry other.entry }
+    ensures same { result ≡ true → ¬ (IsNoPath path.entry other.entry) }
 {
     match path {
         Some(path) => path == other,
@@ -119,7 +164,8 @@ fn is_path(path: Option<&str>, other: &str) -> bool
 
 // Whether the history would be written to a file that is read.
 fn is_overwriting(job: &Job<'_>) -> bool
-    ensures { result ≡ false → IsWrittenApart job.now }
+    ensures apart { result ≡ false → IsWrittenApart job.now }
+    ensures over { result ≡ true → ¬ (IsWrittenApart job.now) }
 {
     match job {
         Job::Run {
@@ -134,7 +180,8 @@ fn is_overwriting(job: &Job<'_>) -> bool
 
 // What is said where `clap` gave no matches: its own text.
 fn usage_of(alloc: Global, error: &Error) -> Usage
-    ensures { IsUsageStatus result.status }
+    ensures range { IsUsageStatus result.status }
+    ensures status { (result.status ≡ 7) ⊎ (result.status ≡ usage_status (kind_of error.now)) }
 {
     let status = match error.kind() {
         ErrorKind::OutOfMemory => return Usage::no_memory(alloc),
@@ -152,12 +199,15 @@ fn usage_of(alloc: Global, error: &Error) -> Usage
 /// # Errors
 ///
 /// What is to be written in the place of a job: help, the version, or what is wrong with the words,
-/// in the words of `clap`, or that the history would be written to a file that is read. The status is 0 for help and the version, 2 for words that are wrong,
-/// and 7 where memory was refused.
+/// in the words of `clap`, or that the history would be written to a file that is read. The status
+/// is 0 for help and the version, 2 for words that are wrong, and 7 where memory was refused.
 pub fn read_words<'a, S: AsStr>(alloc: Global, words: &'a [S]) -> Result<Job<'a>, Usage>
     ensures job { IfOk result IsInRange }
+    ensures asked { IfOk result (λ job. asked (map S.text words.entry.now) ≡ Some (asked_by job)) }
     ensures apart { IfOk result IsWrittenApart }
     ensures usage { IfErr result (λ usage. IsUsageStatus usage.status) }
+    ensures status { IfErr result (λ usage.
+        (usage.status ≡ 7) ⊎ IsStatusFor (map S.text words.entry.now) usage.status) }
 {
     let program = match program(alloc) {
         Ok(program) => program,

@@ -1,0 +1,56 @@
+-- What a parse of the program's words gives.
+use Rattle.std.proofs.Common.{◌≡◌, ◌⊎◌, ◌∙◌, [], ℕ, Bool, List, true}
+use Rattle.std.proofs.Common.{false, not, ap, sym, subst, refl, inl, inr}
+use Rattle.clap.specs.Words.{App, HasKind, HasMatchesOf, IsAmong, Text, app_of}
+use Rattle.clap.specs.Words.{fault_of, is_simple, is_simple_and_free, kind_of, subcommand_of, subcommand_rows_of}
+use Rattle.clap.specs.declared.builder.command.Command.{Command}
+use Rattle.clap.specs.declared.parser.matches.ArgMatches.{ArgMatches}
+use Rattle.clap.specs.declared.error.Error.{Error}
+use Rattle.clap.proofs.OnLiterals.{clap_on_literals}
+use Rattle.hep_command.specs.Asked.{job_in}
+use Rattle.hep_command.specs.Program.{IsCommand, IsStatusFor, asked, hepf}
+use Rattle.hep_command.specs.Jobs.{usage_status}
+
+pub not_true : (b : Bool) → not b ≡ true → b ≡ false
+not_true false e = refl
+not_true true e = cc
+
+hepf_is_simple : is_simple hepf ≡ true
+unfolding clap_on_literals
+hepf_is_simple = refl
+
+pub job_in-asked : (command : Command) (matches : ArgMatches) (words : List Text) → IsCommand hepf command
+    → HasMatchesOf (app_of command) words matches → job_in (subcommand_rows_of matches) ≡ asked words
+unfolding asked
+job_in-asked command matches words is found =
+    ap job_in ((found (ap is_simple is ∙ hepf_is_simple)).1 ∙ ap (λ (app : App). subcommand_of app words) is)
+
+hepf_is_free : is_simple_and_free hepf ≡ true
+unfolding clap_on_literals
+hepf_is_free = refl
+
+pub firsts : {A B C D : Type 0} → (A × B) ⊎ (C × D) → A ⊎ C
+firsts (inl both) = inl both.0
+firsts (inr both) = inr both.0
+
+-- the status for words that `clap` took
+pub taken_status : (command : Command) (words : List Text) (status : ℕ) → IsCommand hepf command
+    → (is_simple_and_free (app_of command) ≡ true → fault_of (app_of command) words ≡ [])
+    → (status ≡ 2) ⊎ (status ≡ 7) → (status ≡ 7) ⊎ IsStatusFor words status
+unfolding IsStatusFor
+taken_status command words status is none (inl two) =
+    inr (inl (sym (ap (λ (app : App). fault_of app words) is) ∙ none (ap is_simple_and_free is ∙ hepf_is_free), two))
+taken_status command words status is none (inr seven) = inl seven
+
+-- the status for those that it refused
+pub refused_status : (command : Command) (words : List Text) (error : Error) (status : ℕ) → IsCommand hepf command
+    → (is_simple_and_free (app_of command) ≡ true → HasKind (fault_of (app_of command) words) error)
+    → (status ≡ 7) ⊎ (status ≡ usage_status (kind_of error)) → (status ≡ 7) ⊎ IsStatusFor words status
+unfolding IsStatusFor
+refused_status command words error status is kinds (inl seven) = inl seven
+refused_status command words error status is kinds (inr by_kind) = elim (kinds (ap is_simple_and_free is ∙ hepf_is_free)) [
+  | inl no_memory ↦ inl (by_kind ∙ ap usage_status no_memory)
+  | inr among ↦
+      let here = subst (λ (app : App). IsAmong (kind_of error) (fault_of app words)) is among in
+      inr (inr (kind_of error, here, by_kind))
+]

@@ -1,0 +1,54 @@
+-- What the words for numbers and jobs say, row by row.
+use Rattle.std.proofs.Common.{◌≡◌, ◌∷◌, [], Some, None, refl, codes}
+use Rattle.clap.proofs.OnLiterals.{clap_on_literals}
+use Rattle.hep_command.specs.Asked.{replay, run, standard}
+use Rattle.hep_command.specs.Numbers.{number_within}
+use Rattle.hep_command.specs.Program.{asked}
+
+least : number_within 1 16777216 (codes "1") ≡ Some 1
+least = refl
+
+greatest : number_within 1 16777216 (codes "16777216") ≡ Some 16777216
+greatest = refl
+
+greatest_steps : number_within 1 4294967296 (codes "4294967296") ≡ Some 4294967296
+greatest_steps = refl
+
+zeros_in_front : number_within 1 16777216 (codes "007") ≡ Some 7
+zeros_in_front = refl
+
+plus : number_within 1 16777216 (codes "+5") ≡ Some 5
+plus = refl
+
+zero_number : number_within 1 16777216 (codes "0") ≡ None
+zero_number = refl
+
+one_too_large : number_within 1 16777216 (codes "16777217") ≡ None
+one_too_large = refl
+
+empty : number_within 1 16777216 (codes "") ≡ None
+empty = refl
+
+minus : number_within 1 16777216 (codes "-5") ≡ None
+minus = refl
+
+plus_alone : number_within 1 16777216 (codes "+") ≡ None
+plus_alone = refl
+
+letter : number_within 1 16777216 (codes "1a") ≡ None
+letter = refl
+
+no_word : asked (codes "hepf" ∷ []) ≡ Some standard
+unfolding asked clap_on_literals
+no_word = refl
+
+run_with_all : asked (codes "hepf" ∷ codes "run" ∷ codes "--history" ∷ codes "h" ∷ codes "a.f" ∷ codes "--steps=4294967296"
+    ∷ codes "--choices" ∷ codes "c" ∷ codes "--arena" ∷ codes "9" ∷ [])
+    ≡ Some (run (codes "a.f") 9 4294967296 (Some (codes "c")) (Some (codes "h")))
+unfolding asked clap_on_literals
+run_with_all = refl
+
+replay_with_defaults : asked (codes "hepf" ∷ codes "replay" ∷ codes "a.f" ∷ codes "h" ∷ [])
+    ≡ Some (replay (codes "a.f") (codes "h") 65536)
+unfolding asked clap_on_literals
+replay_with_defaults = refl

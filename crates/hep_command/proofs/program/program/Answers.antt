@@ -1,0 +1,25 @@
+use Rattle.std.proofs.Common.{◌≡◌, refl, rules}
+use Rattle.clap.specs.Words.{App, app_of, with_subcommand}
+use Rattle.hep_command.specs.Program as spec
+use Rattle.hep_command.proofs.program.program.Goals as goal
+
+abbrev to_check : App
+to_check = with_subcommand spec.bare_program spec.check_command.top
+
+abbrev to_run : App
+to_run = with_subcommand to_check spec.run_command.top
+
+abbrev to_replay : App
+to_replay = with_subcommand to_run spec.replay_command.top
+
+abbrev to_list : App
+to_list = with_subcommand to_replay spec.list_command.top
+
+pub returns : goal.returns
+returns c =
+    let bare : app_of c.after_help-whole.result ≡ spec.bare_program = search rules in
+    let with_check = c.with_command-whole.ensures spec.bare_program spec.check_command refl bare c.check_command.ensures in
+    let with_run = c.with_command-whole-2.ensures to_check spec.run_command refl with_check c.run_command.ensures in
+    let with_replay = c.with_command-whole-3.ensures to_run spec.replay_command refl with_run c.replay_command.ensures in
+    let with_list = c.with_command-whole-4.ensures to_replay spec.list_command refl with_replay c.list_command.ensures in
+    c.with_command.ensures to_list spec.explain_command refl with_list c.explain_command.ensures

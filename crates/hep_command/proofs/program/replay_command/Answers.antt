@@ -1,0 +1,21 @@
+use Rattle.std.proofs.Common.{◌≡◌, ◌∙◌, IfOk, ap₂, codes, rules}
+use Rattle.std.proofs.lemmas.Result.{IfOk-weaker}
+use Rattle.clap.specs.Words.{App, app_of, new_app, with_rule}
+use Rattle.hep_command.specs.Program.{IsCommand}
+use Rattle.hep_command.specs.Program as spec
+use Rattle.hep_command.proofs.program.replay_command.Goals as goal
+
+abbrev to_source : App
+to_source = with_rule (new_app (codes "replay")) spec.source_word
+
+abbrev to_history : App
+to_history = with_rule to_source spec.history_word
+
+pub returns : goal.returns
+returns c =
+    let bare : app_of c.after_help.result ≡ new_app (codes "replay") = search rules in
+    let source = c.source_argument.ensures in
+    let with_source : IfOk c.arg-replay.result (IsCommand to_source) =
+    IfOk-weaker c.arg-replay.result _ _ (λ r h. h.shape source.1 ∙ ap₂ with_rule bare source.0) c.arg-replay.ensures in
+    let with_history = c.with_arg-replay.ensures to_source spec.history_word with_source c.history_argument.ensures in
+    c.with_arg.ensures to_history spec.arena_option with_history c.arena_option.ensures

@@ -1,0 +1,76 @@
+-- Which job a command and its words ask for: docs/MACHINE.md, "The program".
+use Rattle.std.specs.Prelude.{ℕ, List as ListOf, Option, Some, None, codes, if◌then◌else◌, option_and_then, option_map}
+use Rattle.std.specs.Str.{bytes_eq}
+use Rattle.std.specs.Borrow.{Bor}
+use Rattle.clap.specs.Words.{Row, Text, first_of, found_of, rows_of}
+use Rattle.clap.specs.declared.parser.matches.ArgMatches.{ArgMatches}
+use Rattle.hep_command.specs.Numbers.{number_within, option_number}
+use Rattle.hep_command.specs.declared.job.Job.{Job}
+use Rattle.hep_command.specs.declared.job.Job.TheVariants.{Standard, Check, Run, Replay, List, Explain}
+
+-- a job with the texts of its paths
+pub data Asked : Type 0 where
+  standard : Asked
+  check : Text → Asked
+  run : Text → ℕ → ℕ → Option Text → Option Text → Asked
+  replay : Text → Text → ℕ → Asked
+  list : Text → Asked
+  explain : ℕ → Asked
+
+abbrev pub texts : Option (Bor (ListOf ℕ)) → Option Text
+texts = option_map (λ path. path.now)
+
+abbrev pub asked_by : Job → Asked
+asked_by Standard = standard
+asked_by (Check file) = check file.now
+asked_by (Run file arena steps choices history) = run file.now arena steps (texts choices) (texts history)
+asked_by (Replay file history arena) = replay file.now history.now arena
+asked_by (List file) = list file.now
+asked_by (Explain number) = explain number
+
+-- what was found for a command, each word under the id of its argument
+abbrev pub words_found : ArgMatches → ListOf Row
+words_found matches = rows_of (found_of matches)
+
+abbrev pub word_of : ArgMatches → Text → Option Text
+word_of matches id = first_of id (words_found matches)
+
+abbrev pub arena_in : ListOf Row → Option ℕ
+arena_in rows = option_number 16777216 65536 (first_of (codes "arena") rows)
+
+abbrev pub steps_in : ListOf Row → Option ℕ
+steps_in rows = option_number 4294967296 10000000 (first_of (codes "steps") rows)
+
+abbrev pub check_in : ListOf Row → Option Asked
+check_in rows = option_map check (first_of (codes "file") rows)
+
+abbrev pub run_in : ListOf Row → Option Asked
+run_in rows =
+    option_and_then (λ file. option_and_then (λ arena. option_map
+    (λ steps. run file arena steps (first_of (codes "choices") rows) (first_of (codes "history") rows))
+    (steps_in rows)) (arena_in rows)) (first_of (codes "file") rows)
+
+abbrev pub replay_in : ListOf Row → Option Asked
+replay_in rows =
+    option_and_then (λ file. option_and_then (λ history. option_map (replay file history)
+    (arena_in rows)) (first_of (codes "history") rows)) (first_of (codes "file") rows)
+
+abbrev pub list_in : ListOf Row → Option Asked
+list_in rows = option_map list (first_of (codes "file") rows)
+
+abbrev pub explain_in : ListOf Row → Option Asked
+explain_in rows = option_map explain (option_and_then (number_within 0 65535) (first_of (codes "number") rows))
+
+-- the job of the command with this name
+abbrev pub command_in : Text → ListOf Row → Option Asked
+command_in command rows =
+    if bytes_eq command (codes "check") then check_in rows
+    else (if bytes_eq command (codes "run") then run_in rows
+    else (if bytes_eq command (codes "replay") then replay_in rows
+    else (if bytes_eq command (codes "list") then list_in rows
+    else (if bytes_eq command (codes "explain") then explain_in rows else None))))
+
+-- with no command the source on standard input is run
+abbrev pub job_in : Option (Text × ListOf Row) → Option Asked
+job_in None = Some standard
+job_in (Some found) = command_in found.0 found.1

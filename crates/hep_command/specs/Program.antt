@@ -1,0 +1,85 @@
+-- The commands and options of the program, as a parse sees them: docs/MACHINE.md, "The program".
+use Rattle.std.specs.Prelude.{◌≡◌, ◌⊎◌, [], false, ℕ, List, Option, Some, true, codes}
+use Rattle.clap.specs.Words.{App, Rule, Text, app_of, new_app, new_rule, rule_of, subcommand_of}
+use Rattle.clap.specs.Words.{IsAmong, fault_of, with_rule, with_subcommand}
+use Rattle.clap.specs.declared.builder.arg.Arg.{Arg}
+use Rattle.clap.specs.declared.builder.command.Command.{Command}
+use Rattle.clap.specs.declared.error.kind.ErrorKind.{ErrorKind}
+use Rattle.clap.specs.declared.builder.value_parser.ValueParser.TheVariants.{Unsigned}
+use Rattle.hep_command.specs.Asked.{Asked, job_in}
+use Rattle.hep_command.specs.Jobs.{usage_status}
+
+-- a word that has to be there
+abbrev pub required_word : Text → Rule
+required_word id = record (new_rule id) { value_names = 1; required = true }
+
+abbrev pub file_option : Text → Rule
+file_option id = record (new_rule id) { long = Some id; value_names = 1 }
+
+abbrev pub number_option : Text → ℕ → Rule
+number_option id most = record (file_option id) { parser = Some (Unsigned 1 most) }
+
+abbrev pub source_word : Rule
+source_word = required_word (codes "file")
+
+abbrev pub history_word : Rule
+history_word = required_word (codes "history")
+
+abbrev pub refusal_word : Rule
+refusal_word = record (required_word (codes "number")) { parser = Some (Unsigned 0 65535) }
+
+abbrev pub arena_option : Rule
+arena_option = number_option (codes "arena") 16777216
+
+abbrev pub steps_option : Rule
+steps_option = number_option (codes "steps") 4294967296
+
+abbrev pub choices_option : Rule
+choices_option = file_option (codes "choices")
+
+abbrev pub history_option : Rule
+history_option = file_option (codes "history")
+
+abbrev pub check_command : App
+check_command = with_rule (new_app (codes "check")) source_word
+
+abbrev pub run_command : App
+run_command =
+    with_rule (with_rule (with_rule (with_rule (with_rule (new_app (codes "run")) source_word)
+    arena_option) steps_option) choices_option) history_option
+
+abbrev pub replay_command : App
+replay_command =
+    with_rule (with_rule (with_rule (new_app (codes "replay")) source_word) history_word) arena_option
+
+abbrev pub list_command : App
+list_command = with_rule (new_app (codes "list")) source_word
+
+abbrev pub explain_command : App
+explain_command = with_rule (new_app (codes "explain")) refusal_word
+
+-- the command line before its commands
+abbrev pub bare_program : App
+bare_program = record (new_app (codes "hepf")) { top = record (new_app (codes "hepf")).top { has_version = true } }
+
+abbrev pub hepf : App
+hepf =
+    with_subcommand (with_subcommand (with_subcommand (with_subcommand (with_subcommand bare_program
+    check_command.top) run_command.top) replay_command.top) list_command.top) explain_command.top
+
+-- a parse sees this of the argument, and of the command
+abbrev pub IsArgument : Rule → Arg → Type 0
+IsArgument rule argument = (rule_of argument ≡ rule) × (argument.global ≡ false)
+
+abbrev pub IsCommand : App → Command → Type 0
+IsCommand app command = app_of command ≡ app
+
+-- the job that the words ask for
+unfoldable pub asked : List Text → Option Asked
+asked words = job_in (subcommand_of hepf words)
+
+-- the status where the words get no job: that of a fault which they have, and 2 where they have none, as where the
+-- history would be written to a file that is read
+unfoldable pub IsStatusFor : List Text → ℕ → Type 0
+IsStatusFor words status = ((fault_of hepf words ≡ []) × (status ≡ 2))
+    ⊎ ((kind : ErrorKind) × IsAmong kind (fault_of hepf words) × (status ≡ usage_status kind))
