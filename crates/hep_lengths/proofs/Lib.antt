@@ -1,0 +1,5 @@
+pub mod Nodes
+pub mod Climbing
+pub mod Listed
+pub mod Numbering
+mod Worked
