@@ -1,0 +1,4 @@
+pub mod Kept
+pub mod LeftOut
+pub mod Next
+mod Worked
