@@ -1,0 +1,3 @@
+pub mod Nodes
+pub mod Waited
+pub mod Seen
