@@ -1,0 +1,4 @@
+pub mod Members
+pub mod Living
+pub mod Waking
+pub mod Keeping
