@@ -105,7 +105,7 @@ swaps p q xs = elim (order p q) [
   ]
 ]
 
-among-one : (q p : ℕ) (xs : List ℕ) → is_number_among q (with_number p xs) ≡ (nat_eq q p || is_number_among q xs)
+pub among-one : (q p : ℕ) (xs : List ℕ) → is_number_among q (with_number p xs) ≡ (nat_eq q p || is_number_among q xs)
 among-one q p [] = refl
 among-one q p (x ∷ xs) = elim (order p x) [
   | inl l ↦ ap (is_number_among q) (before p x xs l)

@@ -143,7 +143,7 @@ tied-woken want ws ws' lists lists' t woken left = record {
 
 -- ---- one more process waits
 
-grown-length : (p : ℕ) (ws : List (Option Want)) → length (ws ++ replicate (p - length ws) None) ≡ max p (length ws)
+pub grown-length : (p : ℕ) (ws : List (Option Want)) → length (ws ++ replicate (p - length ws) None) ≡ max p (length ws)
 grown-length p ws =
     let none : Option Want = None in
     omega (arith, length-append ws (replicate (p - length ws) none), length-replicate (p - length ws) none)

@@ -1,8 +1,8 @@
--- Of four processes 1 and 4 wait for cell 7 to be full and 3 waits for it to be empty: what is so once it is full, and where
--- process 6 waits too.
+-- Of four processes 1 and 4 wait for cell 7 to be full and 3 waits for it to be empty: what is so once it is full, where process
+-- 6 waits too, and who waits behind a number.
 use Rattle.std.proofs.Common.{◌≡◌, [], ◌∷◌, List, Option, None, Some, map, true, false, refl}
 use Rattle.hep_blocked.specs.declared.want.Want.{Want}
-use Rattle.hep_blocked.specs.Waiting.{awake, numbers_waiting, with_numbers, with_want}
+use Rattle.hep_blocked.specs.Waiting.{awake, next_waiting, numbers_waiting, with_numbers, with_want}
 
 abbrev filled : Want
 filled = record { cell = 7; full = true }
@@ -24,3 +24,14 @@ ready_after = refl
 -- 5 has a place then and doesn't wait
 six_waits : with_want 6 emptied waiting ≡ Some filled ∷ None ∷ Some emptied ∷ Some filled ∷ None ∷ Some emptied ∷ []
 six_waits = refl
+
+-- behind 1 it is 3 and not 2, behind 4 nobody
+after_one : next_waiting waiting 1 ≡ Some 3
+after_one = refl
+
+after_four : next_waiting waiting 4 ≡ None
+after_four = refl
+
+-- 1 waits no more once the cell is full
+first_after_full : next_waiting (map (awake filled) waiting) 0 ≡ Some 3
+first_after_full = refl

@@ -1,10 +1,12 @@
--- The processes that wait, in a list under each want.
-use Rattle.std.specs.Prelude.{◌≡◌, ℕ, ◌-◌, false, if◌then◌else◌, List, [], ◌∷◌, ◌++◌, slice_set, Option, Some, None}
+-- The processes that wait, in a list under each want, and the numbers of all of them.
+use Rattle.std.specs.Prelude.{◌≡◌, ℕ, ◌-◌, ◌≤◌, false, if◌then◌else◌, List, [], ◌∷◌, ◌++◌, length, slice_set, Option, Some, None, is_some}
 use Rattle.std.specs.Global.{Vec}
 use Rattle.indexmap.specs.IndexMap.{IndexMap, get}
 use Rattle.hep_machine.specs.Processes.{is_number_among}
+use Rattle.hep_machine.specs.Schedules.{without}
+use Rattle.hep_ready.specs.Numbers.{Numbers}
 use Rattle.hep_blocked.specs.declared.want.Want.{Want}
-use Rattle.hep_blocked.specs.Waiting.{waits_for, want_eq}
+use Rattle.hep_blocked.specs.Waiting.{waiting_at, waits_for, want_eq}
 
 -- the processes in a list; none where there is no list
 abbrev pub items_of : Option (Vec ℕ) → List ℕ
@@ -33,7 +35,17 @@ pub record IsTied (waiting : List (Option Want)) (lists : Want → List ℕ) : T
   pub tied : (want : Want) (p : ℕ) → is_number_among p (lists want) ≡ waits_for want waiting p
   pub once : (want : Want) → AreApart (lists want)
 
+-- a number is there just where its process waits, and each process of the list has room
+pub record AreNumbers (waiting : List (Option Want)) (numbers : Numbers) : Type 0 where
+  pub among : (p : ℕ) → is_number_among p numbers.ready ≡ is_some (waiting_at waiting p)
+  pub places : length waiting ≤ numbers.room
+
 -- these processes wait for nothing any more
 abbrev pub cleared : List ℕ → List (Option Want) → List (Option Want)
 cleared [] waiting = waiting
 cleared (p ∷ ps) waiting = cleared ps (slice_set waiting (p - 1) None)
+
+-- the numbers without these
+abbrev pub without_numbers : List ℕ → List ℕ → List ℕ
+without_numbers [] numbers = numbers
+without_numbers (p ∷ ps) numbers = without_numbers ps (without p numbers)

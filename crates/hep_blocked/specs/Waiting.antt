@@ -1,5 +1,5 @@
 -- What processes wait for: docs/MACHINE.md, "Steps", and "Which process comes next".
-use Rattle.std.specs.Prelude.{ℕ, zero, suc, ◌-◌, ◌&&◌, Bool, false, if◌then◌else◌, nat_eq, List, [], ◌∷◌, ◌++◌, length, replicate, slice_index_or, slice_set, Option, Some, None}
+use Rattle.std.specs.Prelude.{ℕ, zero, suc, ◌-◌, ◌&&◌, Bool, false, if◌then◌else◌, nat_eq, nat_lt, List, [], ◌∷◌, ◌++◌, length, replicate, slice_index_or, slice_set, Option, Some, None, is_some}
 use mathlib.Core.Bool.{beq}
 use Rattle.hep_ready.specs.Numbers.{with_number}
 use Rattle.hep_blocked.specs.declared.want.Want.{Want}
@@ -37,6 +37,14 @@ waiting_from n want (w ∷ ws) = if wants want w then n ∷ waiting_from (suc n)
 
 abbrev pub numbers_waiting : Want → List (Option Want) → List ℕ
 numbers_waiting want waiting = waiting_from 1 want waiting
+
+-- of those that wait the least number above p, where the first one has the number n
+abbrev pub next_from : ℕ → ℕ → List (Option Want) → Option ℕ
+next_from n p [] = None
+next_from n p (w ∷ ws) = if nat_lt p n && is_some w then Some n else next_from (suc n) p ws
+
+abbrev pub next_waiting : List (Option Want) → ℕ → Option ℕ
+next_waiting waiting p = next_from 1 p waiting
 
 -- rising numbers and these, each put where it belongs
 abbrev pub with_numbers : List ℕ → List ℕ → List ℕ

@@ -3,7 +3,7 @@ ghost use Rattle.std.specs.Prelude.{◌≡◌, ℕ, ◌≤◌, ◌-◌, ◌++◌
 ghost use Rattle.indexmap.specs.IndexMap.{IsUnique, get};
 ghost use Rattle.hep_machine.specs.Processes.{is_number_among};
 ghost use Rattle.hep_blocked.specs.declared.want.Want.{Want as PureWant};
-ghost use Rattle.hep_blocked.specs.Lists.{cleared, items_of, list_of, with_process, without_list};
+ghost use Rattle.hep_blocked.specs.Lists.{cleared, items_of, list_of, with_process, without_list, without_numbers};
 ghost use Rattle.hep_blocked.specs.Waiting.{want_eq, with_numbers};
 
 use crate::want::Want;
@@ -73,16 +73,25 @@ pub(crate) fn grow(wanted: &mut Vec<Option<Want>>, size: usize) -> Result<(), Al
     Ok(())
 }
 
-/// The processes wait for nothing any more, and are ready.
-pub(crate) fn wake_each(processes: &[u64], wanted: &mut Vec<Option<Want>>, ready: &mut Ready)
+/// The processes wait for nothing any more, and are ready. Their numbers are taken out of those of
+/// the processes that wait.
+pub(crate) fn wake_each(
+    processes: &[u64],
+    wanted: &mut Vec<Option<Want>>,
+    numbers: &mut Ready,
+    ready: &mut Ready,
+)
     requires known { (p : ℕ) → is_number_among p processes.now ≡ true → (1 ≤ p) × (p ≤ length wanted.old.items) }
     requires room { length wanted.old.items ≤ ready.old.room }
     ensures wanted { wanted.new.items ≡ cleared processes.now wanted.old.items }
+    ensures numbers { numbers.new.ready ≡ without_numbers processes.now numbers.old.ready }
+    ensures places { numbers.new.room ≡ numbers.old.room }
     ensures ready { ready.new.ready ≡ with_numbers processes.now ready.old.ready }
     ensures room { ready.new.room ≡ ready.old.room }
 {
     for p in processes {
         wanted[*p as usize - 1] = None;
+        numbers.remove(*p);
         ready.add(*p);
     }
 }

@@ -1,7 +1,7 @@
 //! The processes that wait.
-ghost use Rattle.std.specs.Prelude.{◌≡◌, ℕ, ◌≤◌, ◌||◌, [], None, Some, OnErr, OnOk, if◌then◌else◌, length, max, map, nat_eq};
+ghost use Rattle.std.specs.Prelude.{◌≡◌, ◌≢◌, ℕ, ◌<◌, ◌≤◌, ◌||◌, [], None, Some, IfNone, IfSome, OnErr, OnOk, false, if◌then◌else◌, is_none, length, max, map, nat_eq, true};
 ghost use Rattle.hep_machine.specs.Processes.{is_number_among};
-ghost use Rattle.hep_blocked.specs.Waiting.{awake, numbers_waiting, waiting_at, waits_for, with_numbers, with_want};
+ghost use Rattle.hep_blocked.specs.Waiting.{awake, next_waiting, numbers_waiting, waiting_at, waits_for, with_numbers, with_want};
 
 use crate::lists::{Lists, add, grow, take, wake_each};
 use crate::want::Want;
@@ -18,6 +18,9 @@ pub struct Waits {
     wanted: Vec<Option<Want>>,
     // Under each want the processes that wait for it, in the order in which they were blocked.
     lists: Lists,
+    // The numbers of the processes that wait: the tree that serves for the ready ones serves for
+    // these too.
+    numbers: Ready,
 }
 
 impl Drop for Waits {
@@ -26,6 +29,7 @@ impl Drop for Waits {
             alloc,
             wanted,
             lists,
+            numbers,
         } = self;
     }
 }
@@ -36,7 +40,7 @@ impl Model for Waits {
     ghost use Rattle.hep_blocked.specs.declared.want.Want.{Want as PureWant};
     ghost use Rattle.hep_blocked.specs.contracts.want.Want as want;
     ghost use Rattle.indexmap.specs.IndexMap.{IsUnique};
-    ghost use Rattle.hep_blocked.specs.Lists.{IsTied, list_of};
+    ghost use Rattle.hep_blocked.specs.Lists.{AreNumbers, IsTied, list_of};
     ghost use Rattle.hep_blocked.specs.Waiting.{want_eq};
 
     ghost Value = { List (Option PureWant) };
@@ -45,7 +49,7 @@ impl Model for Waits {
 
     ghost view = { λ w. w.wanted.items };
 
-    ghost invariant = { λ w. IsTied w.wanted.items (list_of w.lists) × IsUnique want_eq w.lists };
+    ghost invariant = { λ w. IsTied w.wanted.items (list_of w.lists) × IsUnique want_eq w.lists × AreNumbers w.wanted.items w.numbers };
 }
 
 impl Waits {
@@ -57,6 +61,7 @@ impl Waits {
             alloc,
             wanted: Vec::new(alloc),
             lists: IndexMap::new(alloc),
+            numbers: Ready::new(alloc),
         }
     }
 
@@ -76,6 +81,7 @@ impl Waits {
         ensures size { OnOk result (length self.new ≡ max p (length self.old)) }
         ensures refused { OnErr result (self.new ≡ self.old) }
     {
+        self.numbers.reserve(p)?;
         let size = self.wanted.len();
         grow(&mut self.wanted, p as usize)?;
         if let Err(refused) = add(self.alloc, &mut self.lists, want, p) {
@@ -83,6 +89,7 @@ impl Waits {
             return Err(refused);
         }
         self.wanted[p as usize - 1] = Some(want);
+        self.numbers.add(p);
         Ok(())
     }
 
@@ -100,7 +107,7 @@ impl Waits {
         ensures room { ready.new.room ≡ ready.old.room }
     {
         if let Some(processes) = take(&mut self.lists, want) {
-            wake_each(&processes, &mut self.wanted, ready);
+            wake_each(&processes, &mut self.wanted, &mut self.numbers, ready);
         }
     }
 
@@ -112,5 +119,28 @@ impl Waits {
     {
         let index = p.checked_sub(1)?;
         *self.wanted.get(index as usize)?
+    }
+
+    /// Of the processes that wait the one with the least number above this. None where there is
+    /// none.
+    ///
+    /// This costs the logarithm of the greatest number that has waited.
+    pub fn next_after(&self, p: u64) -> Option<u64>
+        ensures next { result ≡ next_waiting self.now p }
+        ensures found { IfSome result (λ q. (p < q) × (waiting_at self.now q ≢ None) × ((r : ℕ) → p < r → r < q → waiting_at self.now r ≡ None)) }
+        ensures none { IfNone result ((q : ℕ) → p < q → waiting_at self.now q ≡ None) }
+    {
+        self.numbers.first_above(p)
+    }
+
+    /// Nobody waits.
+    ///
+    /// This costs a constant time.
+    pub fn is_empty(&self) -> bool
+        ensures empty { result ≡ is_none (next_waiting self.now 0) }
+        ensures nobody { result ≡ true → (p : ℕ) → waiting_at self.now p ≡ None }
+        ensures somebody { result ≡ false → (p : ℕ) × (waiting_at self.now p ≢ None) }
+    {
+        self.numbers.is_empty()
     }
 }

@@ -11,10 +11,12 @@ use Rattle.hep_code.specs.UnitCode.{code_of}
 use Rattle.hep_image.specs.Data.{AreInitial, AreOfUnits}
 use Rattle.hep_image.specs.Dummies.{dummy_arguments}
 use Rattle.hep_image.specs.Names.{names_in_order}
+use Rattle.hep_image.specs.Owners.{AreInOrder, block_starts, frame_variables}
 use Rattle.hep_image.specs.Places.{addresses_of, arrays_of, array_of}
 use Rattle.hep_image.specs.Private.{private_cells}
 use Rattle.hep_image.specs.Supported.{first_unsupported}
 use Rattle.hep_image.specs.declared.data.DataRow.{DataRow}
+use Rattle.hep_image.specs.declared.owners.BlockStart.{BlockStart}
 use Rattle.hep_image.specs.declared.unit.UnitCode.{UnitCode}
 
 -- the cells that a frame, and COMMON, may have at most: docs/LANGUAGE.md, "Limits"
@@ -32,10 +34,12 @@ pub record IsUnitCode (program : Units) (u : ℕ) (unit : UnitCode) : Type 0 whe
   pub cells : unit.cells ≡ frame_cells (unit_at program u)
   pub few_cells : unit.cells ≤ most_cells
   pub private_are : unit.private ≡ private_cells (unit_at program u)
+  pub variables_are : unit.variables ≡ frame_variables (unit_at program u)
+  pub in_order : AreInOrder unit.variables
 
 -- an image of an accepted program that can be run has all of its units, the index of the main program, the cells of COMMON, what
--- DATA gives at the opening, and the names
-pub record IsImage (program : Units) (units : List UnitCode) (main common : ℕ) (rows : List DataRow) (names : List (List ℕ)) : Type 0 where
+-- DATA gives at the opening, the names, and where the common blocks begin
+pub record IsImage (program : Units) (units : List UnitCode) (main common : ℕ) (rows : List DataRow) (names : List (List ℕ)) (blocks : List BlockStart) : Type 0 where
   pub accepted : IsAccepted program
   pub supported : first_unsupported program ≡ None
   pub all : length units ≡ length program
@@ -46,3 +50,4 @@ pub record IsImage (program : Units) (units : List UnitCode) (main common : ℕ)
   pub initial : AreInitial program rows
   pub of_units : AreOfUnits program rows
   pub named : names ≡ names_in_order program
+  pub blocks_are : blocks ≡ block_starts program

@@ -6,4 +6,5 @@ pub mod Within
 pub mod Supported
 pub mod Data
 pub mod Names
+pub mod Owners
 pub mod Image

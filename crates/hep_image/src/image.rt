@@ -7,9 +7,11 @@ ghost use Rattle.hep_image.specs.Data.{AreInitial, AreOfUnits};
 ghost use Rattle.hep_image.specs.Image as spec;
 ghost use Rattle.hep_image.specs.Image.{IsImage, IsUnitCode};
 ghost use Rattle.hep_image.specs.Names.{names_in_order};
+ghost use Rattle.hep_image.specs.Owners.{block_before, block_starts};
 ghost use Rattle.hep_image.specs.Supported.{first_unsupported};
 
 use crate::data::DataRow;
+use crate::owners::BlockStart;
 use crate::unit::UnitCode;
 use hep_base::Sequence;
 use hep_source::{Program, Syntax, Text};
@@ -29,6 +31,8 @@ pub struct Image {
     rows: Sequence<DataRow>,
     /// The names of the units, the variables and the common blocks.
     names: Sequence<Text>,
+    /// The common blocks, in the order of their cells.
+    blocks: Sequence<BlockStart>,
 }
 
 impl Model for Image {
@@ -44,12 +48,12 @@ impl Model for Image {
 
     ghost view = { λ a. a.program };
 
-    ghost invariant = { λ a. IsImage a.program a.units a.main a.common a.rows a.names };
+    ghost invariant = { λ a. IsImage a.program a.units a.main a.common a.rows a.names a.blocks };
 }
 
 impl Image {
     /// A program, what a core runs of its units, the index of its main program, how many cells COMMON has, what DATA
-    /// gives at the opening, and the names. `hep_lower` finds out all of it.
+    /// gives at the opening, the names, and where the common blocks begin. `hep_lower` finds out all of it.
     pub fn new(
         program: Program,
         units: Sequence<UnitCode>,
@@ -57,8 +61,9 @@ impl Image {
         common: u32,
         rows: Sequence<DataRow>,
         names: Sequence<Text>,
+        blocks: Sequence<BlockStart>,
     ) -> Image
-        requires { IsImage program units main common rows names }
+        requires { IsImage program units main common rows names blocks }
         ensures { result ≡ program }
     {
         Image {
@@ -68,6 +73,7 @@ impl Image {
             common,
             rows,
             names,
+            blocks,
         }
     }
 
@@ -123,6 +129,20 @@ impl Image {
         Some(name.as_slice())
     }
 
+    /// The last common block that begins at this cell or before it, counted from that of the arena: the one whose
+    /// cell it is, where it is COMMON's.
+    pub fn block_at(&self, cell: u32) -> Option<BlockStart>
+        ensures { result ≡ block_before (block_starts self.now) cell }
+    {
+        let blocks = self.blocks.as_slice();
+        let begun = blocks.partition_point(|block| block.first <= cell);
+        if begun == 0 {
+            None
+        } else {
+            Some(blocks[begun - 1])
+        }
+    }
+
     /// What is known of each image: its program is accepted, and all of it can be run.
     pub fn is_runnable(&self)
         ensures accepted { IsAccepted self.now }
@@ -146,6 +166,7 @@ impl Image {
             common: self.common,
             rows: self.rows.copy(alloc)?,
             names: self.names.copy(alloc)?,
+            blocks: self.blocks.copy(alloc)?,
         })
     }
 

@@ -1,7 +1,10 @@
 //! What an image has of a unit.
+ghost use Rattle.std.specs.Prelude.{◌≡◌};
+ghost use Rattle.hep_image.specs.Owners.{AreInOrder, variable_before};
 
 use crate::array::Array;
 use crate::dummy::DummyArgument;
+use crate::owners::FrameVariable;
 use hep_base::Sequence;
 use hep_code::Instruction;
 use hep_source::Syntax;
@@ -24,6 +27,25 @@ pub struct UnitCode {
     /// The cells of its frame, counted from the first one, that have a plain local scalar which is nowhere a bare
     /// actual argument; in rising order.
     pub private: Sequence<u32>,
+    /// The variables with cells in its frame, in the order of their cells.
+    pub variables: Sequence<FrameVariable>,
+}
+
+impl UnitCode {
+    /// The last of its variables that begins at this cell or before it, counted from the frame's first one: the one
+    /// whose cell it is, where it is a variable's.
+    pub fn variable_at(&self, cell: u32) -> Option<FrameVariable>
+        requires { AreInOrder self.now.variables }
+        ensures { result ≡ variable_before self.now.variables cell }
+    {
+        let variables = self.variables.as_slice();
+        let begun = variables.partition_point(|variable| variable.first <= cell);
+        if begun == 0 {
+            None
+        } else {
+            Some(variables[begun - 1])
+        }
+    }
 }
 
 impl Syntax for UnitCode {
@@ -36,6 +58,7 @@ impl Syntax for UnitCode {
             operands: self.operands,
             cells: self.cells,
             private: self.private.copy(alloc)?,
+            variables: self.variables.copy(alloc)?,
         })
     }
 
@@ -47,5 +70,6 @@ impl Syntax for UnitCode {
             && self.operands == other.operands
             && self.cells == other.cells
             && self.private.same(&other.private)
+            && self.variables.same(&other.variables)
     }
 }

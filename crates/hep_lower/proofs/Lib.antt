@@ -8,3 +8,4 @@ pub mod Additions
 pub mod Counts
 pub mod Placing
 pub mod Told
+pub mod BlocksBegun

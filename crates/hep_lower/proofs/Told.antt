@@ -11,10 +11,12 @@ use Rattle.hep_machine.specs.Variables.{frame_cells}
 use Rattle.hep_check.specs.Conditions.{IsAccepted}
 use Rattle.hep_code.specs.Limits.{most_instructions}
 use Rattle.hep_image.specs.declared.data.DataRow.{DataRow}
+use Rattle.hep_image.specs.declared.owners.BlockStart.{BlockStart}
 use Rattle.hep_image.specs.declared.unit.UnitCode.{UnitCode}
 use Rattle.hep_image.specs.Data.{AreInitial, AreOfUnits}
 use Rattle.hep_image.specs.Image.{IsImage, most_cells}
 use Rattle.hep_image.specs.Names.{names_in_order}
+use Rattle.hep_image.specs.Owners.{block_starts}
 use Rattle.hep_image.specs.Supported.{first_unsupported, first_unsupported_in}
 use Rattle.hep_lower.specs.declared.units.LoweredUnits.{LoweredUnits}
 use Rattle.hep_lower.specs.Refusals.{AreCellsBeyond, IsCodeBeyond, IsFirstDeep, IsLowered, IsWithinLimits, Refuses, RefusesCode}
@@ -64,10 +66,10 @@ module _ (program : Units) (units : LoweredUnits) (known : AreUnits program (len
   lowered-is few main none shallow =
       record { main = main; within = within-limits few; shallow = subst (IsFirstDeep program (length program)) shallow known.deep; supported = none }
 
-  pub image-is : IsAccepted program → first_unsupported program ≡ None → units.too_deep ≡ None → (codes : List UnitCode) (main cells : ℕ) (rows : List DataRow) (names : List (List ℕ))
-      → codes ≡ units.codes.items → main_among program ≡ Some main → cells ≡ common_cells program → AreInitial program rows → AreOfUnits program rows → names ≡ names_in_order program → IsImage program codes main cells rows names
-  image-is accepted none shallow codes main cells rows names same main_is size initial of_units named =
-      subst (λ us. IsImage program us main cells rows names) (sym same) (record {
+  pub image-is : IsAccepted program → first_unsupported program ≡ None → units.too_deep ≡ None → (codes : List UnitCode) (main cells : ℕ) (rows : List DataRow) (names : List (List ℕ)) (blocks : List BlockStart)
+      → codes ≡ units.codes.items → main_among program ≡ Some main → cells ≡ common_cells program → AreInitial program rows → AreOfUnits program rows → names ≡ names_in_order program → blocks ≡ block_starts program → IsImage program codes main cells rows names blocks
+  image-is accepted none shallow codes main cells rows names blocks same main_is size initial of_units named begun =
+      subst (λ us. IsImage program us main cells rows names blocks) (sym same) (record {
         accepted = accepted;
         supported = none;
         all = known.all shallow;
@@ -78,4 +80,5 @@ module _ (program : Units) (units : LoweredUnits) (known : AreUnits program (len
         initial = initial;
         of_units = of_units;
         named = named;
+        blocks_are = begun;
       })

@@ -6,3 +6,4 @@ pub mod Starts
 pub mod Asked
 pub mod Refusals
 pub mod Units
+pub mod Blocks

@@ -2,6 +2,7 @@
 #![tactic(auto)]
 
 mod actuals;
+mod blocks;
 mod emit;
 mod expressions;
 mod fault;

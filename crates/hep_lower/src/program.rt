@@ -11,12 +11,13 @@ ghost use Rattle.hep_image.specs.Supported as supported;
 ghost use Rattle.hep_lower.specs.Refusals.{AreCellsBeyond, IsLowered, Refuses};
 ghost use Rattle.hep_lower.specs.Units.{AreUnits};
 
+use crate::blocks::starts_of;
 use crate::spellings::names_in_order;
 use crate::unit::MOST_INSTRUCTIONS;
 use crate::units::{LoweredUnits, lower_units};
 use hep_base::{Refusal as LowerFault, Sequence};
 use hep_check::Checked;
-use hep_common::CommonStarts;
+use hep_common::{CommonBlocks, CommonStarts};
 use hep_data::{MainFrame, data_rows};
 use hep_image::{DataRow, Image};
 use hep_places::unit_places;
@@ -96,7 +97,11 @@ fn image_of(
 {
     checked.is_accepted();
     let rows = initial_rows(alloc, checked, main, program, common)?;
-    let names = names_in_order(alloc, checked.program().as_slice(), program)?;
+    let source = checked.program().as_slice();
+    let listed = CommonBlocks::of_program(alloc, source)?;
+    let blocks = listed.blocks();
+    let names = names_in_order(alloc, source, program, blocks)?;
+    let starts = starts_of(alloc, common, blocks)?;
     let copy = checked.program().copy(alloc)?;
     Ok(Image::new(
         copy,
@@ -105,6 +110,7 @@ fn image_of(
         common.cells() as u32,
         Sequence::from(rows),
         Sequence::from(names),
+        Sequence::from(starts),
     ))
 }
 

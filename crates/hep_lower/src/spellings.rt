@@ -3,9 +3,9 @@ ghost use Rattle.std.specs.Prelude.{◌≡◌, ◌++◌, map, IfOk, OnOk};
 ghost use Rattle.std.specs.List.{flat_map};
 ghost use Rattle.hep_source.specs.Names.{spelling};
 ghost use Rattle.hep_source.specs.Units as units;
+ghost use Rattle.hep_machine.specs.Declarations.{blocks_of};
 ghost use Rattle.hep_image.specs.Names as words;
 
-use hep_common::CommonBlocks;
 use hep_source::{Name, Text, Unit};
 use hep_symbols::{ProgramSymbols, Symbols};
 use std::alloc::{AllocError, Global};
@@ -58,7 +58,7 @@ fn add_blocks(alloc: Global, names: &mut Vec<Text>, list: &[Option<Name>]) -> Re
     Ok(())
 }
 
-/// The names of the units, of the variables of each unit, and of the common blocks.
+/// The names of the units, of the variables of each unit, and of the common blocks, which are these.
 ///
 /// # Errors
 ///
@@ -67,14 +67,15 @@ pub(crate) fn names_in_order(
     alloc: Global,
     list: &[Unit],
     program: &ProgramSymbols,
+    blocks: &[Option<Name>],
 ) -> Result<Vec<Text>, AllocError>
-    requires { program.now ≡ list.now }
+    requires program { program.now ≡ list.now }
+    requires blocks { blocks.now ≡ blocks_of list.now }
     ensures { IfOk result (λ names. names.items ≡ words.names_in_order list.now) }
 {
-    let common = CommonBlocks::of_program(alloc, list)?;
     let mut names = Vec::new(alloc);
     add_unit_names(alloc, &mut names, list)?;
     add_variables(alloc, &mut names, program.units())?;
-    add_blocks(alloc, &mut names, common.blocks())?;
+    add_blocks(alloc, &mut names, blocks)?;
     Ok(names)
 }

@@ -126,6 +126,7 @@ fn lower_numbered(
         operands: lowered.depth.operands as u32,
         cells: places.cells,
         private: Sequence::from(places.private),
+        variables: Sequence::from(places.frame_variables),
     }))
 }
 

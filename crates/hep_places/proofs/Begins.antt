@@ -132,6 +132,9 @@ module _ (unit : List Statement) (small : frame_cells unit ≤ 16777216) where
   at-part : (part : FramePart) (n : ℕ) → first_of_part unit part ≡ n → narrowed n ≡ first_of_part unit part
   at-part part n e = narrowed-small n (omega (arith, e, part-small part)) ∙ sym e
 
+  pub argument-at : (x : Name) (k : ℕ) → index_among x (dummies_of unit) ≡ Some k → narrowed (1 + 2 * k) ≡ first_of_part unit (argument x)
+  argument-at x k e = at-part (argument x) (1 + 2 * k) (argument-first unit x k e).begins
+
   pub local-first : (x : Name) → is_among x (locals_of unit) ≡ true → start_among (first_local unit) (name_row unit (locals_of unit)) x ≡ Some (first_of_part unit (variable x))
   local-first x h =
       let n = before_locals + first_in (same_name x) (name_row unit (locals_of unit)) in
@@ -220,5 +223,5 @@ module _ (program : Units) (u : ℕ) (unit : List Statement) (there : slice_get 
     by_block None h = by_local (is_among x (locals_of unit)) refl
 
     by_index : (k : Option ℕ) → index_among x (dummies_of unit) ≡ k → start_by common k (common_block unit x) (offsets x) (locals x) ≡ image.start_by program unit x k (common_block unit x) (is_among x (locals_of unit))
-    by_index (Some k) e = ap (λ n. Some (Dummy n)) (at-part unit small (argument x) (1 + 2 * k) (argument-first unit x k e).begins)
+    by_index (Some k) e = ap (λ n. Some (Dummy n)) (argument-at unit small x k e)
     by_index None e = by_block (common_block unit x) refl

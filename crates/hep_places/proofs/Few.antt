@@ -1,13 +1,12 @@
 -- Arrays have cells of their own, so there are no more of them than cells.
-use Rattle.std.proofs.Common.{◌≡◌, ◌⊎◌, inl, inr, ℕ, zero, suc, ◌+◌, ◌*◌, ◌<◌, ◌≤◌, Bool, true, false, List, [], ◌∷◌, ◌++◌, length, Option, Some, None, refl, ap, sym, ◌∙◌, subst, arith, true≢false, cond, if◌then◌else◌}
+use Rattle.std.proofs.Common.{◌≡◌, ◌⊎◌, inl, inr, ℕ, zero, suc, ◌+◌, ◌*◌, ◌<◌, ◌≤◌, Bool, true, false, List, [], ◌∷◌, ◌++◌, length, Option, Some, None, refl, ap, sym, ◌∙◌, subst, arith, true≢false}
 use Rattle.std.specs.Prelude.{IfSome, slice_get, nat_le, ◌&&◌}
-use Rattle.std.specs.List.{filter}
 use Rattle.std.specs.Option.{unwrap_or}
 use Rattle.std.proofs.Math.Nat.{mul-le-mul}
 use Rattle.std.proofs.lemmas.Bool.{and_parts}
 use Rattle.std.proofs.lemmas.List.{length-append}
 use Rattle.std.proofs.lemmas.Option.{same_Some, none-some}
-use Rattle.hep_source.proofs.NameTests.{equal_names, same_name-self}
+use Rattle.hep_source.proofs.NameTests.{equal_names, same_name-self, same_name-turned}
 use Rattle.hep_source.specs.declared.name.Name.{Name}
 use Rattle.hep_source.specs.declared.statement.Statement.{Statement}
 use Rattle.hep_source.specs.Names.{index_among, is_among, same_name}
@@ -23,6 +22,7 @@ use Rattle.hep_shape.proofs.Extents.{between_extent}
 use Rattle.hep_accepted.proofs.Members.{Has, has_behind, has_first_or, has_front, has_more}
 use Rattle.hep_image.specs.declared.array.Start.{Start}
 use Rattle.hep_image.specs.Places.{arrays_of, start_by, start_of}
+use Rattle.hep_image.proofs.Distinct.{AreDistinct, fewer_distinct, names_distinct}
 use Rattle.hep_frames.specs.Rows.{FramePart, argument, block_row, common_row, first_in, first_in_common, first_of_block, first_of_part, frame_row, owner_in, same_part, size_in, variable}
 use Rattle.hep_frames.proofs.CommonRows.{block_row-below, common_row-cells, name-size}
 use Rattle.hep_frames.proofs.FrameRows.{argument-first, equal_parts, frame_row-cells, variable-first}
@@ -30,7 +30,7 @@ use Rattle.hep_frames.proofs.Rows.{owned-by, place-at}
 use Rattle.hep_frames.proofs.Runs.{common-size}
 use Rattle.hep_places.proofs.Begins.{key-among}
 use Rattle.hep_places.proofs.InBlocks.{key-in-block}
-use Rattle.hep_places.proofs.Named.{AreDistinct, has_among, names_distinct}
+use Rattle.hep_places.proofs.Named.{has_among}
 
 -- ---- names that are each there once are no more than others of which they are some
 
@@ -49,7 +49,7 @@ without x (z ∷ zs) (suc i, e) = let r = without x zs (i, e) in (z ∷ r.0, ap 
     by (inl g) = (zero, ap Some g)
     by (inr g) = has_more z rs y (rest y d g)
 
-no-more : (xs ys : List Name) → AreDistinct xs → ((x : Name) → Has xs x → Has ys x) → length xs ≤ length ys
+no-more : (xs ys : List Name) → AreDistinct same_name xs → ((x : Name) → Has xs x → Has ys x) → length xs ≤ length ys
 no-more [] ys d h = omega arith
 no-more (x ∷ xs) ys d h =
     let r = without x ys (h x (zero, refl)) in
@@ -59,21 +59,6 @@ no-more (x ∷ xs) ys d h =
     other : (y : Name) → Has xs y → (t : Bool) → same_name y x ≡ t → t ≡ false
     other y g true e = absurd (true≢false (sym (has_among xs x (subst (λ z. Has xs z) (equal_names y x e) g)) ∙ d.0))
     other y g false e = refl
-
-fewer-among : (test : Name → Bool) (x : Name) (xs : List Name) → is_among x xs ≡ false → is_among x (filter test xs) ≡ false
-fewer-among test x [] h = refl
-fewer-among test x (y ∷ ys) h = by (test y) (same_name x y) refl h (fewer-among test x ys) where
-  by : (a t : Bool) → same_name x y ≡ t → (if t then true else is_among x ys) ≡ false → (is_among x ys ≡ false → is_among x (filter test ys) ≡ false) → is_among x (cond a (y ∷ filter test ys) (filter test ys)) ≡ false
-  by a true e g rest = absurd (true≢false g)
-  by true false e g rest = ap (λ s. if s then true else is_among x (filter test ys)) e ∙ rest g
-  by false false e g rest = rest g
-
-fewer-distinct : (test : Name → Bool) (xs : List Name) → AreDistinct xs → AreDistinct (filter test xs)
-fewer-distinct test [] h = h
-fewer-distinct test (y ∷ ys) h = by (test y) (fewer-distinct test ys h.1) where
-  by : (a : Bool) → AreDistinct (filter test ys) → AreDistinct (cond a (y ∷ filter test ys) (filter test ys))
-  by true g = (fewer-among test y ys h.0, g)
-  by false g = g
 
 -- ---- the owners of cells
 
@@ -205,7 +190,7 @@ module _ (program : Units) (u : ℕ) (unit : List Statement) (there : slice_get 
   pub arrays-few : length (arrays_of unit) ≤ frame_cells unit + common_cells program
   unfolding frame_owners common_owners
   arrays-few =
-      let fit = no-more (arrays_of unit) (frame_owners ++ common_owners) (fewer-distinct (is_array unit) (names_of unit) (names_distinct unit)) (λ x h. let at = begun h.0 x h.1 in owned x at.0 at.1 at.2) in
+      let fit = no-more (arrays_of unit) (frame_owners ++ common_owners) (fewer_distinct same_name same_name-turned (is_array unit) (names_of unit) (names_distinct unit)) (λ x h. let at = begun h.0 x h.1 in owned x at.0 at.1 at.2) in
       omega (
         arith,
         fit,

@@ -9,6 +9,7 @@ mod Named
 mod Right
 mod Few
 mod Accepted
+mod InFrame
 mod Final
 mod Counts
 mod Arguments

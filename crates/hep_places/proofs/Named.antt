@@ -1,7 +1,7 @@
--- Each occurrence in a unit is one of a name of the unit, and each name of a unit is there once.
+-- Each occurrence in a unit is one of a name of the unit.
 use Rattle.std.proofs.Common.{◌≡◌, zero, suc, Bool, true, false, List, [], ◌∷◌, ◌++◌, refl, ap, ◌∙◌, subst, if◌then◌else◌}
 use Rattle.std.proofs.lemmas.Option.{none-some, same_Some}
-use Rattle.hep_source.proofs.NameTests.{same_name-self, same_name-turned}
+use Rattle.hep_source.proofs.NameTests.{same_name-self}
 use Rattle.hep_source.specs.declared.name.Name.{Name}
 use Rattle.hep_source.specs.declared.name.Occurrence.{Occurrence}
 use Rattle.hep_source.specs.declared.statement.Statement.{Statement}
@@ -43,38 +43,3 @@ all_there xs (y ∷ ys) x (suc i, g) = all_there (with_name xs y) ys x (i, g)
 
 pub name_of_unit : (unit : List Statement) (p : Occurrence) → Has (occurrences_of unit) p → Has (names_of unit) p.name
 name_of_unit unit p h = all_there [] (names_of_occurrences (occurrences_of unit)) p.name (has_map (λ (q : Occurrence). q.name) (occurrences_of unit) p h)
-
--- ---- each name once
-
-abbrev pub AreDistinct : List Name → Type 0
-AreDistinct [] = Unit {0}
-AreDistinct (x ∷ xs) = (is_among x xs ≡ false) × AreDistinct xs
-
-parts : (a b : Bool) → (if a then true else b) ≡ false → (a ≡ false) × (b ≡ false)
-parts true b e = absurd cc
-parts false b e = (refl, e)
-
-not_last : (x y : Name) (xs : List Name) → is_among x xs ≡ false → same_name x y ≡ false → is_among x (xs ++ y ∷ []) ≡ false
-not_last x y [] e f = ap (λ b. if b then true else false) f
-not_last x y (z ∷ zs) e f =
-    let h = parts (same_name x z) (is_among x zs) e in
-    ap (λ b. if b then true else is_among x (zs ++ y ∷ [])) h.0 ∙ not_last x y zs h.1 f
-
-distinct_last : (xs : List Name) (y : Name) → is_among y xs ≡ false → AreDistinct xs → AreDistinct (xs ++ y ∷ [])
-distinct_last [] y e h = (refl, tt)
-distinct_last (x ∷ xs) y e h =
-    let g = parts (same_name y x) (is_among y xs) e in
-    (not_last x y xs h.0 (same_name-turned x y ∙ g.0), distinct_last xs y g.1 h.1)
-
-distinct_with : (xs : List Name) (y : Name) → AreDistinct xs → AreDistinct (with_name xs y)
-distinct_with xs y h = by (is_among y xs) refl where
-  by : (b : Bool) → is_among y xs ≡ b → AreDistinct (if b then xs else xs ++ y ∷ [])
-  by true e = h
-  by false e = distinct_last xs y e h
-
-distinct_all : (xs ys : List Name) → AreDistinct xs → AreDistinct (with_names xs ys)
-distinct_all xs [] h = h
-distinct_all xs (y ∷ ys) h = distinct_all (with_name xs y) ys (distinct_with xs y h)
-
-pub names_distinct : (unit : List Statement) → AreDistinct (names_of unit)
-names_distinct unit = distinct_all [] (names_of_occurrences (occurrences_of unit)) tt

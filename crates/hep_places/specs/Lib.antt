@@ -2,3 +2,4 @@ pub mod Places
 pub mod Found
 pub mod Unit
 pub mod Dummies
+pub mod Owners

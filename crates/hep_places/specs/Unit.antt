@@ -5,6 +5,7 @@ use Rattle.hep_source.specs.declared.statement.Statement.{Statement}
 use Rattle.hep_source.specs.Units.{Units}
 use Rattle.hep_machine.specs.Variables.{frame_cells}
 use Rattle.hep_image.specs.Dummies.{dummy_arguments}
+use Rattle.hep_image.specs.Owners.{AreInOrder, frame_variables}
 use Rattle.hep_image.specs.Places.{array_of, arrays_of, loop_cells, variable_of}
 use Rattle.hep_image.specs.Private.{private_cells}
 use Rattle.hep_places.specs.declared.unit.UnitPlaces.{UnitPlaces}
@@ -20,3 +21,5 @@ pub record ArePlaces (program : Units) (unit : List Statement) (p : UnitPlaces) 
   pub private_are : p.private.items ≡ private_cells unit
   -- what must be known of its dummy arguments where it is called
   pub dummies : p.dummies.items ≡ dummy_arguments program unit
+  pub variables_are : p.frame_variables.items ≡ frame_variables unit
+  pub in_order : AreInOrder p.frame_variables.items

@@ -11,6 +11,7 @@ pub mod laws;
 mod loops;
 mod names;
 mod notes;
+mod owners;
 pub mod places;
 mod tables;
 pub mod unit;

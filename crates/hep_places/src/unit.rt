@@ -11,12 +11,14 @@ use crate::arrays::arrays_among;
 use crate::bounds::Known;
 use crate::dummies::dummy_arguments;
 use crate::laws::arrays_are_few;
+use crate::owners::variables_in_frame;
 use crate::places::Places;
 use crate::tables::tables_of;
 use crate::variables::{private_among, variables_among};
+use hep_accepted::names::names_are_given_once;
 use hep_accepted::values::arrays_have_shapes;
 use hep_common::CommonStarts;
-use hep_image::{Array, DummyArgument};
+use hep_image::{Array, DummyArgument, FrameVariable};
 use hep_placed::laws::constant_shapes;
 use hep_storage::constants::constants;
 use hep_symbols::Symbols;
@@ -35,6 +37,8 @@ pub struct UnitPlaces {
     pub private: Vec<u32>,
     /// What must be known of its dummy arguments where it is called, in their order.
     pub dummies: Vec<DummyArgument>,
+    /// The variables with cells in its frame, in the order of their cells.
+    pub frame_variables: Vec<FrameVariable>,
 }
 
 /// Where the variables, arrays and DOs of a unit of an accepted program are, by one pass over each row of its frame and
@@ -51,16 +55,24 @@ pub fn unit_places(
 ) -> Result<UnitPlaces, AllocError>
     ensures { IfOk result (λ places. (program : Units) (u : ℕ) → IsAccepted program → u < length program → symbols.now ≡ unit_at program u → AreStarts program common.now → common_cells program ≤ 16777216 → variables.frame_cells (unit_at program u) ≤ 16777216 → ArePlaces program (unit_at program u) places) }
 {
-    // What holds of the arrays of every accepted program.
+    // What holds of the arrays and the dummy arguments of every accepted program.
     arrays_are_few();
     constant_shapes();
     arrays_have_shapes();
+    names_are_given_once();
     let constants = constants(alloc, symbols)?;
     let tables = tables_of(alloc, symbols, &constants)?;
     let names = symbols.names().as_slice();
     let arrays = arrays_among(alloc, symbols, common, &constants, &tables, names)?;
     let variables = variables_among(alloc, symbols, common, &tables, names)?;
     let private = private_among(alloc, symbols, &tables, symbols.locals())?;
+    let frame_variables = variables_in_frame(
+        alloc,
+        symbols,
+        &tables,
+        symbols.dummies(),
+        symbols.locals(),
+    )?;
     let known = Known {
         symbols,
         common,
@@ -77,5 +89,6 @@ pub fn unit_places(
         cells: tables.cells,
         private,
         dummies,
+        frame_variables,
     })
 }

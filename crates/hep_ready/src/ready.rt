@@ -97,15 +97,18 @@ impl Ready {
         }
     }
 
-    // Of the ready processes with a greater number the least.
-    fn first_above(&self, last: u64) -> Option<u64>
-        ensures next { result ≡ first_above last self.now.ready None }
+    /// Of the ready processes with a greater number the least. None where there is none: unlike
+    /// `next`, this doesn't begin again with the least of all.
+    ///
+    /// This costs the logarithm of the room.
+    pub fn first_above(&self, p: u64) -> Option<u64>
+        ensures next { result ≡ first_above p self.now.ready None }
         ensures rising { AreRising 1 self.now.room self.now.ready }
     {
-        if last >= self.tree.size() as u64 {
+        if p >= self.tree.size() as u64 {
             return None;
         }
-        let at = self.tree.first_from(last as usize)?;
+        let at = self.tree.first_from(p as usize)?;
         Some(at as u64 + 1)
     }
 

@@ -121,7 +121,12 @@ impl Tree {
         self.marks[node] = marked;
         while node > 1 {
             node /= 2;
-            self.marks[node] = self.marks[2 * node] | self.marks[2 * node + 1];
+            let united = self.marks[2 * node] | self.marks[2 * node + 1];
+            if self.marks[node] == united {
+                // The nodes above it have their marks too.
+                return;
+            }
+            self.marks[node] = united;
         }
     }
 

@@ -1,5 +1,5 @@
 -- A history with one entry more.
-use Rattle.std.proofs.Common.{◌≡◌, ◌≢◌, inr, ℕ, zero, suc, ◌-◌, ◌<◌, ◌≤◌, List, [], ◌∷◌, ◌++◌, length, length-append, refl, sym, ap, ◌∙◌, subst, append_assoc, arith, Option, Some, None, replicate}
+use Rattle.std.proofs.Common.{◌≡◌, ◌≢◌, inl, inr, ℕ, true, zero, suc, ◌-◌, ◌<◌, ◌≤◌, List, [], ◌∷◌, ◌++◌, length, length-append, refl, sym, ap, ◌∙◌, subst, append_assoc, append-nil, arith, Option, Some, None, replicate}
 use Rattle.std.specs.Prelude.{IsSome, slice_get}
 use Rattle.std.proofs.lemmas.Option.{none-some, same_Some}
 use Rattle.std.specs.Option.{unwrap_or}
@@ -9,9 +9,10 @@ use Rattle.hep_machine.specs.Histories.{IsEntry, AreEntries, IsLegal}
 use Rattle.hep_machine.specs.Layout.{is_held, layout_of}
 use Rattle.hep_machine.specs.Opening.{opening}
 use Rattle.hep_machine.specs.Run.{run, run_from, schedule_of_entry, schedule_of, state_after, state_after_turn}
-use Rattle.hep_machine.specs.Schedules.{Progress, progress_after_entry, progress_from, progress_after, last_process}
+use Rattle.hep_machine.specs.Schedules.{Progress, progress_after_entry, progress_after_step, progress_from, progress_after, last_process}
 use Rattle.hep_machine.specs.State.{State}
-use Rattle.hep_machine.specs.Step.{step}
+use Rattle.hep_machine.specs.Step.{is_waiting, step}
+use Rattle.hep_frames.proofs.HeldFrames.{run-last}
 
 -- ---- the state
 
@@ -32,6 +33,10 @@ schedule-last (x ∷ es) e = ap (λ r. replicate x.steps x.process ++ r) (schedu
 -- an entry of one step is a turn
 pub schedule-stepped : (es : List Entry) (p : ℕ) → schedule_of (es ++ record { process = p; steps = 1 } ∷ []) ≡ schedule_of es ++ p ∷ []
 schedule-stepped es p = schedule-last es (record { process = p; steps = 1 })
+
+-- an entry without a step is no turn
+pub schedule-waited : (es : List Entry) (p : ℕ) → schedule_of (es ++ record { process = p; steps = 0 } ∷ []) ≡ schedule_of es
+schedule-waited es p = schedule-last es (record { process = p; steps = 0 }) ∙ append-nil (schedule_of es)
 
 pub state-is : (program : Units) (es : List Entry) → state_after program es ≡ run program (schedule_of es)
 unfolding state_after
@@ -57,26 +62,24 @@ unfolding progress_from
 progress_from-append program x [] fs = refl
 progress_from-append program x (e ∷ es) fs = progress_from-append program (progress_after_entry program x e e.steps) es fs
 
-unlisted : State → Progress
-unlisted s = record { state = s; listed = [] }
-
 opening-is : (program : Units) → state_after program [] ≡ opening program
 unfolding state_after run run_from schedule_of
 opening-is program = refl
 
-pub unlisted-none : (program : Units) → progress_after program [] ≡ record { state = state_after program []; listed = [] }
-unfolding progress_from unlisted
-unlisted-none program = ap unlisted (sym (opening-is program))
+pub progress-none : (program : Units) → progress_after program [] ≡ record { state = opening program; listed = [] }
+unfolding progress_from
+progress-none program = refl
 
--- where none is listed, none is after a step
-pub unlisted-stepped : (program : Units) (es : List Entry) (p : ℕ) (s : State) → progress_after program es ≡ record { state = state_after program es; listed = [] } → step program p (state_after program es) ≡ Some s → progress_after program (es ++ record { process = p; steps = 1 } ∷ []) ≡ record { state = state_after program (es ++ record { process = p; steps = 1 } ∷ []); listed = [] }
-unfolding progress_from unlisted
-unlisted-stepped program es p s h e =
-    let entry : Entry = record { process = p; steps = 1 } in
-    progress_from-append program (unlisted (opening program)) es (entry ∷ [])
-    ∙ ap (λ x. progress_after_entry program x entry 1) h
-    ∙ ap (λ o. unlisted (unwrap_or o (state_after program es))) e
-    ∙ ap unlisted (sym (state-stepped program es p s e))
+pub progress-last : (program : Units) (es : List Entry) (e : Entry) → progress_after program (es ++ e ∷ []) ≡ progress_after_entry program (progress_after program es) e e.steps
+unfolding progress_from
+progress-last program es e = progress_from-append program (record { state = opening program; listed = [] }) es (e ∷ [])
+
+-- an entry of one step, which leads from the state after the others to the next one
+pub progress-stepped : (program : Units) (es : List Entry) (p : ℕ) → (progress_after program es).state ≡ run program (schedule_of es)
+    → progress_after program (es ++ record { process = p; steps = 1 } ∷ []) ≡ progress_after_step program (progress_after program es) p (run program (schedule_of es ++ p ∷ []))
+progress-stepped program es p is =
+    progress-last program es (record { process = p; steps = 1 })
+    ∙ ap (progress_after_step program (progress_after program es) p) (ap (state_after_turn program p) is ∙ sym (run-last program (schedule_of es) p))
 
 -- ---- legal histories
 
@@ -100,6 +103,15 @@ legal-stepped program cells limit es p s h lt room e = record {
   room = room;
   entries = entries-last program es (record { process = p; steps = 1 }) (opening program) h.entries
       (inr (omega arith, omega arith, (some-step (step program p (run_from program (opening program) (schedule_of es))) s e, tt)));
+}
+
+-- an entry without a step, whose process waits
+pub legal-waited : (program : Units) (cells limit : ℕ) (es : List Entry) (p : ℕ) → IsLegal program cells limit es → length es < limit → is_waiting program (state_after program es) p ≡ true → IsLegal program cells limit (es ++ record { process = p; steps = 0 } ∷ [])
+unfolding state_after run
+legal-waited program cells limit es p h lt waits = record {
+  within = omega (arith, length-append es (record { process = p; steps = 0 } ∷ []));
+  room = subst (λ ps. IsSome (layout_of program cells is_held ps)) (sym (schedule-waited es p)) h.room;
+  entries = entries-last program es (record { process = p; steps = 0 }) (opening program) h.entries (inl (refl, waits));
 }
 
 -- ---- the process of the last entry

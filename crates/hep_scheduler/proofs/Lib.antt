@@ -1,8 +1,3 @@
-mod Histories
-mod Living
-mod Quiet
-mod Wants
-mod Dummies
-mod Found
-mod Views
-mod Kept
+pub mod Histories
+pub mod Kept
+pub mod Turning

@@ -1,12 +1,12 @@
 -- What a core keeps, and what is seen of it: docs/ARCHITECTURE.md, "Forms".
-use Rattle.std.specs.Prelude.{◌≡◌, ◌≤◌, ℕ, [], length, None}
+use Rattle.std.specs.Prelude.{◌≤◌, length}
 use Rattle.hep_machine.specs.Histories.{IsLegal}
-use Rattle.hep_machine.specs.Run.{schedule_of, state_after}
-use Rattle.hep_machine.specs.Schedules.{living_from, progress_after}
-use Rattle.hep_machine.specs.Step.{wanted_by}
+use Rattle.hep_machine.specs.Run.{schedule_of}
+use Rattle.hep_machine.specs.Schedules.{progress_after}
+use Rattle.hep_listed.specs.Listing.{AreListed}
 use Rattle.hep_state.specs.Rooms.{IsMachineAfter}
 use Rattle.hep_state.specs.Snapshots.{snapshot_of}
-use Rattle.hep_scheduler.specs.Seen.{machine_view}
+use Rattle.hep_views.specs.Seen.{machine_view}
 use Rattle.hep_scheduler.specs.Value.{CoreValue, IsStop}
 use Rattle.hep_scheduler.specs.declared.scheduler.Core.TheInside.{Inside}
 
@@ -21,14 +21,13 @@ core_value c =
       view = machine_view c.image (snapshot_of c.machine);
     }
 
--- the machine keeps the state after the history, which is legal, and each entry of which has one step at most; nobody waits, so that
--- those that live are ready, and each process that was made has room to be
+-- the machine keeps the state after the history, which is legal, and each entry of which has one step at most; those that wait are the
+-- listed ones and the others that live are ready, and each process that was made has room to be
 pub record CoreInvariant (c : Inside) : Type 0 where
   pub after : IsMachineAfter c.image c.cells (schedule_of c.history.items) c.machine
-  pub ready : c.ready.ready ≡ living_from 1 (state_after c.image c.history.items).processes
+  pub listed : AreListed c.image c.cells (schedule_of c.history.items) (progress_after c.image c.history.items) c.waits c.ready.ready
   pub numbers : length c.machine.processes.items ≤ c.ready.room
-  pub quiet : (p : ℕ) → wanted_by c.image p (state_after c.image c.history.items) ≡ None
-  pub unlisted : progress_after c.image c.history.items ≡ record { state = state_after c.image c.history.items; listed = [] }
+  pub waiting : length c.waits ≤ c.ready.room
   pub legal : IsLegal c.image c.cells c.limit c.history.items
   pub single : length (schedule_of c.history.items) ≤ length c.history.items
   pub named : IsStop c.image c.cells c.limit c.history.items c.stop

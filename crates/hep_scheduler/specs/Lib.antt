@@ -1,5 +1,2 @@
 pub mod Value
-pub mod Seen
-pub mod Quiet
-pub mod Noted
 pub mod Invariant

@@ -51,3 +51,14 @@ pub enum ChooseFault {
     #[error("no memory")]
     NoMemory,
 }
+
+impl From<AllocError> for ChooseFault {
+    ghost use Rattle.std.specs.Prelude.{◌≡◌};
+    ghost use Rattle.hep_scheduler.specs.declared.fault.ChooseFault.TheVariants.{NoMemory};
+
+    ghost from_gives = { λ _ e. e ≡ NoMemory };
+
+    fn from(_refused: AllocError) -> ChooseFault {
+        ChooseFault::NoMemory
+    }
+}

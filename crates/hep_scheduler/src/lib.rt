@@ -2,7 +2,7 @@
 #![tactic(auto)]
 
 pub mod fault;
-pub mod laws;
+mod lists;
 pub mod scheduler;
 pub mod stop;
 

@@ -3,19 +3,24 @@ ghost use Rattle.std.specs.Prelude.{◌≡◌, ◌≤◌, ◌<◌, ◌++◌, ◌
 ghost use Rattle.hep_machine.specs.Histories.{IsLegal};
 ghost use Rattle.hep_machine.specs.Layout.{is_held, opening_layout, used_cells};
 ghost use Rattle.hep_machine.specs.Views.{view_of};
-ghost use Rattle.hep_state.specs.Snapshots.{snapshot_of};
-ghost use Rattle.hep_scheduler.specs.Noted.{AreNoted};
 ghost use Rattle.hep_scheduler.specs.Value.{state_of, opening_of, IsNewFault, IsChoice, IsStop, verdict_of, next_ready_of};
 
 use crate::fault::{ChooseFault, NewFault};
-use crate::laws::{living_processes_are_quiet, views_are_of_states};
+use crate::lists::{note_ready, wait, wake};
 use crate::stop::{Stop, Turn, Verdict};
+use hep_blocked::Waits;
 use hep_frames::laws::layouts_have_what_is_held;
 use hep_image::Image;
+use hep_listed::laws::{
+    lists_are_those_of_definitions, lists_go_along_with_steps, openings_list_nobody,
+    waiting_processes_are_listed,
+};
 use hep_machine::{Entry, Fault, Record};
+use hep_needs::laws::waiting_processes_need_it;
 use hep_ready::Ready;
 use hep_state::laws::activations_are_few;
-use hep_state::{Machine, TurnFault, fits};
+use hep_state::{Machine, TurnFault, Turned, fits};
+use hep_views::laws::views_are_of_states;
 use std::alloc::Global;
 use std::marker::Model;
 
@@ -33,7 +38,9 @@ pub struct Core {
     history: Vec<Entry>,
     stop: Option<Stop>,
     machine: Machine,
-    // The processes that live and don't wait.
+    // The processes that were found waiting and wait since, and what they wait for.
+    waits: Waits,
+    // The others that live.
     ready: Ready,
 }
 
@@ -69,8 +76,8 @@ impl Core {
         ensures unmade { IfErr result (λ e. IsNewFault e image cells) }
     {
         image.is_runnable();
-        living_processes_are_quiet();
         views_are_of_states();
+        openings_list_nobody();
         if !fits(&image, cells) {
             return Err(NewFault::ArenaFull);
         }
@@ -86,6 +93,7 @@ impl Core {
             history: Vec::new(alloc),
             stop: None,
             machine,
+            waits: Waits::new(alloc),
             ready,
         })
     }
@@ -112,9 +120,11 @@ impl Core {
             return Err(ChooseFault::Stopped(Stop::StepLimit));
         }
         self.image.is_runnable();
-        living_processes_are_quiet();
         views_are_of_states();
         activations_are_few();
+        waiting_processes_are_listed();
+        lists_go_along_with_steps();
+        waiting_processes_need_it();
         let made = self.machine.processes.len();
         match self.machine.turn(
             self.alloc,
@@ -123,22 +133,32 @@ impl Core {
             &mut self.history,
             &mut self.ready,
         ) {
-            Ok(()) => {}
-            Err(TurnFault::NoMemory) => return Err(ChooseFault::NoMemory),
+            Ok(Turned::Stepped { changed }) => {
+                note(&mut self.history, p, 1);
+                note_ready(&mut self.ready, &self.machine, p, made);
+                wake(&mut self.waits, &mut self.ready, changed);
+                if self.machine.halted {
+                    self.stop = Some(Stop::Halted);
+                }
+                Ok(Turn {
+                    steps: 1,
+                    blocked: false,
+                })
+            }
+            Ok(Turned::Waits(want)) => {
+                wait(&mut self.waits, &mut self.ready, p, want)?;
+                note(&mut self.history, p, 0);
+                Ok(Turn {
+                    steps: 0,
+                    blocked: true,
+                })
+            }
+            Err(TurnFault::NoMemory) => Err(ChooseFault::NoMemory),
             Err(TurnFault::ArenaFull) => {
                 self.stop = Some(Stop::ArenaFull);
-                return Err(ChooseFault::Stopped(Stop::ArenaFull));
+                Err(ChooseFault::Stopped(Stop::ArenaFull))
             }
         }
-        note(&mut self.history, p);
-        note_ready(&mut self.ready, &self.machine, p, made);
-        if self.machine.halted {
-            self.stop = Some(Stop::Halted);
-        }
-        Ok(Turn {
-            steps: 1,
-            blocked: false,
-        })
     }
 
     /// Does nothing: its clauses say what every core is. What is seen of a core is what is seen of
@@ -159,6 +179,7 @@ impl Core {
     pub fn next_ready(&self) -> Option<u64>
         ensures { result ≡ next_ready_of self.now }
     {
+        lists_are_those_of_definitions();
         let last = self.history.last().map_or(0, |entry| entry.process);
         self.ready.next(last)
     }
@@ -167,10 +188,12 @@ impl Core {
     pub fn verdict(&self) -> Verdict
         ensures { result ≡ verdict_of self.now }
     {
+        lists_are_those_of_definitions();
         match self.stop {
             Some(stop) => Verdict::Stopped(stop),
-            None if self.ready.is_empty() => Verdict::Done,
-            None => Verdict::Running,
+            None if !self.ready.is_empty() => Verdict::Running,
+            None if self.waits.is_empty() => Verdict::Done,
+            None => Verdict::Waiting,
         }
     }
 
@@ -211,28 +234,10 @@ impl Core {
     }
 }
 
-// An entry of one step of process p, for which there is room.
-fn note(history: &mut Vec<Entry>, p: u64)
+// An entry of process p, which made so many steps, for which there is room.
+fn note(history: &mut Vec<Entry>, p: u64, steps: u32)
     requires { vec_len history.old < vec_capacity history.old }
-    ensures { history.new.items ≡ history.old.items ++ record { process = p; steps = 1 } ∷ [] }
+    ensures { history.new.items ≡ history.old.items ++ record { process = p; steps = steps } ∷ [] }
 {
-    let _ = history.push(Entry {
-        process: p,
-        steps: 1,
-    });
-}
-
-// After a turn of process p, before which so many processes were made: p isn't ready once it has ended, and a process that it made
-// is.
-fn note_ready(ready: &mut Ready, machine: &Machine, p: u64, made: usize)
-    requires { length machine.now.processes.items ≤ ready.old.room }
-    ensures ready { AreNoted p made (snapshot_of machine.now) ready.old.ready ready.new.ready }
-    ensures room { ready.new.room ≡ ready.old.room }
-{
-    if !machine.lives(p) {
-        ready.remove(p);
-    }
-    if made < machine.processes.len() {
-        ready.add(machine.processes.len() as u64);
-    }
+    let _ = history.push(Entry { process: p, steps });
 }

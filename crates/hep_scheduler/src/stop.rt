@@ -19,7 +19,7 @@ pub enum Stop {
 pub struct Turn {
     /// How many steps the process made: 1, or 0 where it waits.
     pub steps: u32,
-    /// Whether the process waits. So far none ever does.
+    /// Whether the process waits.
     pub blocked: bool,
 }
 
@@ -30,7 +30,7 @@ pub enum Verdict {
     Stopped(Stop),
     /// The run is over: no process lives.
     Done,
-    /// The run is over: all living processes wait. So far none ever does.
+    /// The run is over: all living processes wait.
     Waiting,
     /// A process can be chosen.
     Running,

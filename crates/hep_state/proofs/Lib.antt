@@ -13,7 +13,6 @@ pub mod Opened
 pub mod Stacked
 pub mod Advanced
 pub mod Processes
-pub mod Waiting
 pub mod Taken
 pub mod Givings
 pub mod MachineOpened
@@ -23,6 +22,7 @@ pub mod Gapped
 pub mod Callers
 pub mod Bindings
 pub mod Ahead
-pub mod Turned
+pub mod Unchanged
 pub mod AtCalls
 pub mod Reserved
+pub mod Touching

@@ -1,33 +1,43 @@
 -- The operation ahead of a process whose turn it is can be done, and what is left of the turn then.
-use Rattle.std.proofs.Common.{◌≡◌, ℕ, zero, suc, ◌-◌, ◌+◌, ◌<◌, ◌≤◌, List, [], ◌∷◌, ◌++◌, drop, length, refl, sym, ap, subst, arith}
-use Rattle.std.specs.Prelude.{slice_set}
+use Rattle.std.proofs.Common.{◌≡◌, ℕ, zero, suc, ◌-◌, ◌+◌, ◌<◌, ◌≤◌, Bool, true, false, List, [], ◌∷◌, ◌++◌, drop, length, Option, Some, None, refl, sym, ap, ◌∙◌, subst, arith}
+use Rattle.std.specs.Prelude.{if◌then◌else◌, slice_get, slice_set}
+use Rattle.std.specs.Option.{unwrap_or}
 use Rattle.hep_source.specs.declared.value.Value.{Value}
 use Rattle.hep_source.specs.Units.{Units, unit_at}
+use Rattle.hep_machine.specs.declared.slot.Slot.{Slot}
+use Rattle.hep_machine.specs.Access.{unset_cell}
+use Rattle.hep_machine.specs.Layout.{Layout}
 use Rattle.hep_machine.specs.Processes.{unit_of, with_numbered}
 use Rattle.hep_machine.specs.Run.{run}
-use Rattle.hep_machine.specs.State.{Level as SourceLevel, Process as SourceProcess}
-use Rattle.hep_machine.specs.Step.{Top}
+use Rattle.hep_machine.specs.State.{Level as SourceLevel, Location, Process as SourceProcess, State, Store}
+use Rattle.hep_machine.specs.Step.{Top, state_made, state_with_store, step_result_of, stepped, waiting}
 use Rattle.hep_code.specs.Ahead.{IsPastPushes, values_ahead}
 use Rattle.hep_code.specs.Depths.{deepest}
 use Rattle.hep_code.proofs.Depths.{room_for}
 use Rattle.hep_finding.specs.Within.{ArePlacedArrays}
+use Rattle.hep_frames.specs.Addresses.{address}
+use Rattle.hep_frames.proofs.HeldFrames.{run-last}
+use Rattle.hep_image.specs.Finding.{cells_in}
 use Rattle.hep_image.specs.Image.{most_cells}
+use Rattle.hep_reply.specs.Replies.{is_full_state}
 use Rattle.hep_step.specs.declared.effect.Effect.{Effect}
 use Rattle.hep_step.specs.Effects as effects
 use Rattle.hep_step.specs.Effects.{effect_at, fails, moves, prints, returns, stops, unsupported, waits}
 use Rattle.hep_step.specs.Performed as performed
-use Rattle.hep_step.specs.Performed.{performed as done, snapshot}
+use Rattle.hep_step.specs.Performed.{performed as done, snapshot, state_named}
 use Rattle.hep_step.specs.Ready.{IsReady, frame_in_arena}
 use Rattle.hep_step.specs.Simulation.{IsNotLeftOut, IsRunning, Simulates, unit_addressed, unit_arrays, unit_code}
 use Rattle.hep_step.proofs.Operations.{operation_simulated}
 use Rattle.hep_step.proofs.Ready.{is_ready}
 use Rattle.hep_state.specs.declared.machine.Level.{Level}
+use Rattle.hep_state.specs.Outcomes.{IsInState}
 use Rattle.hep_state.specs.Showing.{node_under}
 use Rattle.hep_state.specs.Snapshots.{Snapshot, Stack}
-use Rattle.hep_state.specs.Taking.{IsLeft, IsNoWait, IsSettled, stack_with}
+use Rattle.hep_state.specs.Taking.{IsLeft, IsSettled, stack_with}
 use Rattle.hep_state.specs.Tops.{IsTurning, frame_under, top_after, with_contents, with_stack}
-use Rattle.hep_state.specs.Turns.{HasStepped}
-use Rattle.hep_state.proofs.Moved.{moved-shown, printed-shown, standing-before, stopped-shown, unit-is}
+use Rattle.hep_state.specs.Turns.{HasStepped, HasWaited}
+use Rattle.hep_state.proofs.Moved.{moved-shown, printed-shown, standing-before, stopped-shown, unit-is, waited-shown}
+use Rattle.hep_state.proofs.Runs.{step-is, turned}
 use Rattle.hep_state.proofs.Settled.{settled}
 
 -- what is in a place twice is there as it was put last
@@ -94,20 +104,71 @@ module _ (program : Units) (cells : ℕ) (choices : List ℕ) (m : Snapshot) (p 
     twice : (k : Stack) → with_numbered settled-now.processes p k ≡ with_numbered m.processes p k
     twice k = set-twice m.processes (p - 1) (stack_with later ls operands) k
 
-    done-by : (e : effects.Effect) → Simulates program t again.after.layout (frame_under m.nodes l.key) m.arena.holes m.arena.contents e → IsNoWait e → length (done e before).1.contents ≡ length m.arena.contents → IsDone (done e before)
-    done-by (moves contents new next) sim quiet size =
+    -- a state that is named is the one that is meant
+    state-is : (full : Bool) → is_full_state (state_named full) ≡ full
+    state-is true = refl
+    state-is false = refl
+
+    done-by : (e : effects.Effect) → Simulates program t again.after.layout (frame_under m.nodes l.key) m.arena.holes m.arena.contents e → length (done e before).1.contents ≡ length m.arena.contents → IsDone (done e before)
+    done-by (moves contents new next) sim size =
         subst (HasStepped program cells choices p) (λ i. record (with_performed (snapshot contents new next)) { processes = twice (stack_with (record l { index = next }) ls new) i }) (
         moved-shown program cells choices settled-now p later ls operands top again contents new next size sim)
-    done-by (prints items next) sim quiet size =
+    done-by (prints items next) sim size =
         subst (HasStepped program cells choices p) (λ i. record (with_performed (snapshot m.arena.contents [] next)) { processes = twice (stack_with (record l { index = next }) ls []) i; records = m.records ++ items ∷ [] }) (
         printed-shown program cells choices settled-now p later ls operands top again items next sim)
-    done-by (fails line kind) sim quiet size = record { l = later; ls = ls; operands = operands; top = top; turning = again; simulated = sim }
-    done-by (waits at full) sim quiet size = absurd quiet
-    done-by returns sim quiet size = record { l = later; ls = ls; operands = operands; top = top; turning = again; simulated = sim }
-    done-by stops sim quiet size = stopped-shown program cells choices settled-now p later ls operands top again sim
-    done-by unsupported sim quiet size = absurd sim
+    done-by (fails line kind) sim size = record { l = later; ls = ls; operands = operands; top = top; turning = again; simulated = sim }
+    done-by (waits at full) sim size =
+        subst (λ b. HasWaited program cells choices p at b settled-now) (sym (state-is full)) (waited-shown program cells choices settled-now p later ls operands top again at full sim)
+    done-by returns sim size = record { l = later; ls = ls; operands = operands; top = top; turning = again; simulated = sim }
+    done-by stops sim size = stopped-shown program cells choices settled-now p later ls operands top again sim
+    done-by unsupported sim size = absurd sim
 
-    pub left-over : (e : effects.Effect) (effect : Effect) (after : performed.Snapshot) → Simulates program t again.after.layout (frame_under m.nodes l.key) m.arena.holes m.arena.contents e → IsNoWait e → length after.contents ≡ length m.arena.contents
+    pub left-over : (e : effects.Effect) (effect : Effect) (after : performed.Snapshot) → Simulates program t again.after.layout (frame_under m.nodes l.key) m.arena.holes m.arena.contents e → length after.contents ≡ length m.arena.contents
         → (effect, after) ≡ done e before → IsLeft program cells choices p (with_performed after) effect
-    left-over e effect after sim quiet size is =
-        subst IsDone (sym is) (done-by e sim quiet (subst (λ (x : Effect × performed.Snapshot). length x.1.contents ≡ length m.arena.contents) is size))
+    left-over e effect after sim size is =
+        subst IsDone (sym is) (done-by e sim (subst (λ (x : Effect × performed.Snapshot). length x.1.contents ≡ length m.arena.contents) is size))
+
+    -- ---- the storage unit that is kept in a cell
+
+    -- the store after the step, whatever its effect, and what is in the cell then
+    abbrev AreAlike : Effect × performed.Snapshot → Type 0
+    AreAlike x = (at : Location) (c : ℕ) → address program (run program choices) again.after.layout at ≡ Some c
+        → ((run program (choices ++ p ∷ [])).store at).full ≡ (cells_in x.1.contents c).full
+
+    -- a cell that holds what is stored there is as full as that
+    full-there : (store : Store) (contents : List Slot) (at : Location) (c : ℕ) → slice_get contents c ≡ Some (store at) → (store at).full ≡ (cells_in contents c).full
+    full-there store contents at c e = ap (λ o. (unwrap_or o unset_cell).full) (sym e)
+
+    next-is : (s : State) → step_result_of program p (run program choices) ≡ stepped s → run program (choices ++ p ∷ []) ≡ s
+    next-is s made = turned program choices p s (step-is program p (run program choices) s turning.running made)
+
+    stored-same : (s : State) → step_result_of program p (run program choices) ≡ stepped s → s.store ≡ (run program choices).store → (contents : List Slot) → contents ≡ m.arena.contents
+        → (at : Location) (c : ℕ) → address program (run program choices) again.after.layout at ≡ Some c → ((run program (choices ++ p ∷ [])).store at).full ≡ (cells_in contents c).full
+    stored-same s made same contents is at c there =
+        ap (λ (z : State). (z.store at).full) (next-is s made) ∙ (ap (λ (store : Store). (store at).full) same
+        ∙ (full-there (run program choices).store m.arena.contents at c (again.after.shows.keeps.memory.holds at c there) ∙ ap (λ cs. (cells_in cs c).full) (sym is)))
+
+    alike-by : (e : effects.Effect) → Simulates program t again.after.layout (frame_under m.nodes l.key) m.arena.holes m.arena.contents e → AreAlike (done e before)
+    alike-by (moves contents new next) sim at c there =
+        ap (λ (z : State). (z.store at).full) (next-is _ sim.2)
+        ∙ full-there sim.0 contents at c (sim.3.memory.holds at c there)
+    alike-by (prints items next) sim at c there = stored-same _ sim.1 refl m.arena.contents refl at c there
+    alike-by (fails line kind) sim at c there = stored-same _ sim.0 refl m.arena.contents refl at c there
+    alike-by (waits cell full) sim at c there =
+        ap (λ (z : State). (z.store at).full) (stays sim.1) ∙ full-there (run program choices).store m.arena.contents at c (again.after.shows.keeps.memory.holds at c there)
+      where
+        stays : step_result_of program p (run program choices) ≡ waiting (record { at = sim.0; full = full }) → run program (choices ++ p ∷ []) ≡ run program choices
+        stays is =
+            run-last program choices p
+            ∙ ap (λ o. unwrap_or o (run program choices)) (ap (λ b. if b then None else state_made (step_result_of program p (run program choices))) turning.running ∙ ap state_made is)
+    alike-by returns sim at c there = stored-same _ sim refl m.arena.contents refl at c there
+    alike-by stops sim at c there = stored-same _ sim refl m.arena.contents refl at c there
+    alike-by unsupported sim at c there = absurd sim
+
+    pub alike : (e : effects.Effect) (effect : Effect) (after : performed.Snapshot) → Simulates program t again.after.layout (frame_under m.nodes l.key) m.arena.holes m.arena.contents e → (effect, after) ≡ done e before
+        → (cell : Option ℕ) → IsInState program cells choices p cell (with_performed after)
+    alike e effect after sim is cell c layout at told laid there =
+        subst AreAlike (sym is) (alike-by e sim) at c (subst (λ (fs : Layout). address program (run program choices) fs at ≡ Some c) (same-layout (sym laid ∙ again.after.laid)) there)
+      where
+        same-layout : {a b : Layout} → Some a ≡ Some b → a ≡ b
+        same-layout e = cc

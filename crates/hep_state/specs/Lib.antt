@@ -9,3 +9,4 @@ pub mod Taking
 pub mod Givings
 pub mod CallsAhead
 pub mod Unturned
+pub mod Outcomes

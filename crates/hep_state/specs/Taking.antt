@@ -8,17 +8,19 @@ use Rattle.hep_arena.specs.Space.{Space}
 use Rattle.hep_code.specs.Ahead.{IsPastPushes}
 use Rattle.hep_code.specs.Standing.{Stands}
 use Rattle.hep_frames.specs.Tree.{Nodes}
+use Rattle.hep_reply.specs.Replies.{is_full_state}
 use Rattle.hep_step.specs.declared.effect.Effect.{Effect}
 use Rattle.hep_step.specs.declared.effect.Effect.TheVariants.{Moved, Printed, Failed, Waits, Returned, Stopped, Unsupported}
 use Rattle.hep_step.specs.Effects as effects
 use Rattle.hep_step.specs.Performed.{IsPerformed, snapshot}
 use Rattle.hep_step.specs.Ready.{IsReady, frame_in_arena}
 use Rattle.hep_step.specs.Simulation.{Simulates, unit_addressed, unit_arrays, unit_code}
+use Rattle.hep_state.specs.declared.advancing.Advanced.{Advanced}
 use Rattle.hep_state.specs.declared.machine.Level.{Level}
 use Rattle.hep_state.specs.Showing.{node_under}
 use Rattle.hep_state.specs.Snapshots.{Snapshot, Stack}
 use Rattle.hep_state.specs.Tops.{IsTurning, frame_under, snapshot_stopped, top_after}
-use Rattle.hep_state.specs.Turns.{HasStepped}
+use Rattle.hep_state.specs.Turns.{HasStepped, HasWaited}
 
 -- ---- stacks
 
@@ -48,11 +50,11 @@ pub record CanAdvance (program : Units) (k : Stack) (capacity : ℕ) (arena : Sp
   pub ready : IsReady (unit_code program l.unit) (unit_arrays program l.unit) arena (frame_in_arena (frame_under nodes l.key)) operands capacity l.index
 
 -- then the operation ahead was performed, which changed the cells and the stack; or memory was refused, which changed nothing more
-pub record IsAdvanced {E : Type 0} (program : Units) (nodes : Nodes) (l : Level) (ls : List Level) (operands : List Value) (before after : Space) (result : Result Effect E) (k : Stack) : Type 0 where
+pub record IsAdvanced {E : Type 0} (program : Units) (nodes : Nodes) (l : Level) (ls : List Level) (operands : List Value) (before after : Space) (result : Result Advanced E) (k : Stack) : Type 0 where
   pub next : ℕ
   pub left : List Value
   pub stack : k ≡ stack_with (record l { index = next }) ls left
-  pub performed : IfOk result (λ effect. IsPerformed (effects.effect_at (unit_code program l.unit) (unit_arrays program l.unit) (node_under nodes l.key).first before.contents operands l.index) (snapshot before.contents operands l.index) effect (snapshot after.contents left next))
+  pub performed : IfOk result (λ advanced. IsPerformed (effects.effect_at (unit_code program l.unit) (unit_arrays program l.unit) (node_under nodes l.key).first before.contents operands l.index) (snapshot before.contents operands l.index) advanced.effect (snapshot after.contents left next))
   pub refused : OnErr result (snapshot after.contents left next ≡ snapshot before.contents operands l.index)
 
 -- ---- what is left of a turn then
@@ -66,20 +68,16 @@ pub record IsEnding (program : Units) (cells : ℕ) (choices : List ℕ) (p : �
   pub turning : IsTurning program cells choices m p l ls operands top
   pub simulated : Simulates program (top_after program choices p top) turning.after.layout (frame_under m.nodes l.key) m.arena.holes m.arena.contents effect
 
--- once the operation was performed: the state after the turn is shown, with the record or the stop; or an activation is to end
+-- once the operation was performed: the state after the turn is shown, with the record or the stop; or the process waits; or an activation
+-- is to end
 abbrev pub IsLeft : Units → ℕ → List ℕ → ℕ → Snapshot → Effect → Type 0
 IsLeft program cells choices p m Moved = HasStepped program cells choices p m
 IsLeft program cells choices p m (Printed items) = HasStepped program cells choices p (record m { records = m.records ++ items ∷ [] })
 IsLeft program cells choices p m (Failed line kind) = IsEnding program cells choices p m (effects.fails line kind)
-IsLeft program cells choices p m (Waits at state) = ⊥
+IsLeft program cells choices p m (Waits at state) = HasWaited program cells choices p at (is_full_state state) m
 IsLeft program cells choices p m Returned = IsEnding program cells choices p m effects.returns
 IsLeft program cells choices p m Stopped = HasStepped program cells choices p (snapshot_stopped m)
 IsLeft program cells choices p m Unsupported = ⊥
-
--- an effect that isn't to wait
-abbrev pub IsNoWait : effects.Effect → Type 0
-IsNoWait (effects.waits at full) = ⊥
-IsNoWait _ = Unit {0}
 
 -- what is seen of two machines is the same, but for where processes stand
 pub record IsSeenSame (old new : Snapshot) : Type 0 where

@@ -1,13 +1,16 @@
 //! What stands ahead of a process: values are put behind the operands, and an operation is performed.
-ghost use Rattle.std.specs.Prelude.{◌≡◌, ◌≤◌, ◌<◌, ◌+◌, ℕ, List, drop, length, vec_len, vec_capacity};
+ghost use Rattle.std.specs.Prelude.{◌≡◌, ◌≤◌, ◌<◌, ◌+◌, ℕ, IfOk, IfSome, List, drop, length, vec_len, vec_capacity};
 ghost use Rattle.hep_source.specs.declared.value.Value.{Value as OperandValue};
 ghost use Rattle.hep_source.specs.Units.{Units};
+ghost use Rattle.hep_arena.specs.Holes.{IsOut};
 ghost use Rattle.hep_code.specs.Ahead.{values_ahead};
 ghost use Rattle.hep_proc.specs.Nodes.{nodes_of};
-ghost use Rattle.hep_step.specs.Simulation.{unit_code};
+ghost use Rattle.hep_step.specs.Simulation.{unit_arrays, unit_code};
 ghost use Rattle.hep_state.specs.declared.machine.Level.{Level as ALevel};
+ghost use Rattle.hep_state.specs.Showing.{node_under};
 ghost use Rattle.hep_state.specs.Snapshots.{stack_of};
 ghost use Rattle.hep_state.specs.Taking.{CanAdvance, IsAdvanced, IsSettled, stack_with};
+ghost use Rattle.hep_touched.specs.Touched.{touched_at};
 
 use crate::machine::{Level, Process};
 use hep_code::Instruction;
@@ -16,6 +19,7 @@ use hep_image::Image;
 use hep_proc::Frames;
 use hep_reply::Frame;
 use hep_step::{Effect, perform};
+use hep_touched::touched;
 use std::alloc::{AllocError, Global};
 
 impl Process {
@@ -49,6 +53,13 @@ impl Process {
     }
 }
 
+// What the operation ahead of a process came to, and the cell that it may have filled or emptied, if there is one.
+#[derive(Drop)]
+pub(crate) struct Advanced {
+    pub(crate) effect: Effect,
+    pub(crate) touched: Option<u32>,
+}
+
 // Performs the operation ahead of a process, in front of which no value stands.
 //
 // Fails only where memory was refused for a record; nothing is changed then.
@@ -57,9 +68,12 @@ pub(crate) fn advance(
     frames: &mut Frames,
     alloc: Global,
     image: &Image,
-) -> Result<Effect, AllocError>
+) -> Result<Advanced, AllocError>
     requires { CanAdvance image.now (stack_of process.old) (vec_capacity process.old.operands) frames.old.arena (nodes_of frames.old.nodes) }
     ensures advanced { (l : ALevel) (ls : List ALevel) (operands : List OperandValue) → stack_of process.old ≡ stack_with l ls operands → IsAdvanced image.now (nodes_of frames.old.nodes) l ls operands frames.old.arena frames.new.arena result (stack_of process.new) }
+    ensures touched { IfOk result (λ advanced. (l : ALevel) (ls : List ALevel) (operands : List OperandValue) → stack_of process.old ≡ stack_with l ls operands → advanced.touched ≡ touched_at (unit_code image.now l.unit) (unit_arrays image.now l.unit) (node_under (nodes_of frames.old.nodes) l.key).first frames.old.arena.contents operands l.index) }
+    ensures inside { IfOk result (λ advanced. IfSome advanced.touched (λ cell. cell < length frames.old.arena.contents)) }
+    ensures out { IfOk result (λ advanced. IfSome advanced.touched (λ cell. IsOut cell frames.old.arena.holes)) }
     ensures nodes { frames.new.nodes ≡ frames.old.nodes }
     ensures holes { frames.new.arena.holes ≡ frames.old.arena.holes }
     ensures cells { length frames.new.arena.contents ≡ length frames.old.arena.contents }
@@ -77,6 +91,7 @@ pub(crate) fn advance(
         first: frames.first(key),
         cells: frames.cells(key),
     };
+    let touched = touched(code, arrays, &frames.arena, frame, &process.operands, index);
     let performed = perform(
         alloc,
         code,
@@ -87,5 +102,8 @@ pub(crate) fn advance(
         &mut index,
     );
     process.stand_at(index);
-    performed
+    Ok(Advanced {
+        effect: performed?,
+        touched,
+    })
 }

@@ -1,5 +1,5 @@
 //! What a turn comes to once its operation was performed: a record, a fault, the end of an activation, or a stop.
-ghost use Rattle.std.specs.Prelude.{◌≡◌, ◌<◌, ◌++◌, ◌∷◌, ℕ, Bool, List, [], Some, length, reverse, vec_len, vec_capacity};
+ghost use Rattle.std.specs.Prelude.{◌≡◌, ◌<◌, ◌++◌, ◌∷◌, ℕ, Bool, List, [], MatchOption, Some, length, reverse, vec_len, vec_capacity};
 ghost use Rattle.hep_source.specs.declared.value.Value.{Value as OperandValue};
 ghost use Rattle.hep_source.specs.Units.{Units};
 ghost use Rattle.hep_machine.specs.Layout.{Layout};
@@ -14,9 +14,11 @@ ghost use Rattle.hep_state.specs.Rooms.{HaveRoom};
 ghost use Rattle.hep_state.specs.Snapshots.{snapshot_of, stack_of};
 ghost use Rattle.hep_state.specs.Taking.{IsEnding, IsLeft, stack_with};
 ghost use Rattle.hep_state.specs.Tops.{keys_of};
-ghost use Rattle.hep_state.specs.Turns.{HasStepped};
+ghost use Rattle.hep_state.specs.Turns.{HasStepped, HasWaited};
 
 use crate::machine::{Level, Machine, Process};
+use hep_blocked::Want;
+use hep_cells::CellState;
 use hep_machine::{Fault, Kind, Record};
 use hep_proc::Frames;
 use hep_step::Effect;
@@ -96,12 +98,12 @@ impl Machine {
         add_fault(&mut self.faults, fault);
     }
 
-    // Ends a turn of process p, whose operation came to this.
-    pub(crate) fn end_turn(&mut self, p: u64, effect: Effect)
+    // Ends a turn of process p, whose operation came to this; or answers what the process waits for.
+    pub(crate) fn end_turn(&mut self, p: u64, effect: Effect) -> Option<Want>
         requires left { (program : Units) × (cells : ℕ) × (choices : List ℕ) × IsLeft program cells choices p (snapshot_of self.old) effect }
         requires records { vec_len self.old.records < vec_capacity self.old.records }
         requires faults { vec_len self.old.faults < vec_capacity self.old.faults }
-        ensures stepped { (program : Units) (cells : ℕ) (choices : List ℕ) → IsLeft program cells choices p (snapshot_of self.old) effect → HasStepped program cells choices p (snapshot_of self.new) }
+        ensures ended { MatchOption result ((program : Units) (cells : ℕ) (choices : List ℕ) → IsLeft program cells choices p (snapshot_of self.old) effect → HasStepped program cells choices p (snapshot_of self.new)) (λ want. (program : Units) (cells : ℕ) (choices : List ℕ) → IsLeft program cells choices p (snapshot_of self.old) effect → HasWaited program cells choices p want.cell want.full (snapshot_of self.new)) }
         ensures rooms { (program : Units) (cells : ℕ) → HaveRoom program cells self.old → HaveRoom program cells self.new }
         ensures processes { length self.new.processes.items ≡ length self.old.processes.items }
     {
@@ -109,10 +111,15 @@ impl Machine {
             Effect::Moved => {}
             Effect::Printed(record) => add_record(&mut self.records, record),
             Effect::Failed { line, kind } => self.fail(p, line, kind),
+            Effect::Waits { at, state } => {
+                let full = state == CellState::Full;
+                return Some(Want { cell: at, full });
+            }
             Effect::Returned => self.finish(p),
             Effect::Stopped => self.halted = true,
-            // Nothing that runs waits, or isn't supported: `laws::supported_programs_never_wait`.
-            Effect::Waits { .. } | Effect::Unsupported => unreachable!(),
+            // Each operation of an accepted program that stands ahead here is supported.
+            Effect::Unsupported => unreachable!(),
         }
+        None
     }
 }

@@ -36,7 +36,7 @@ ghost use Rattle.hep_shaping.specs.Fitting.{AreShapable, are_fitting, longest_co
 ghost use Rattle.hep_reply.specs.Cells.{HasFrame};
 ghost use Rattle.hep_step.specs.Ready.{frame_in_arena};
 ghost use Rattle.hep_step.specs.Calls.{making};
-ghost use Rattle.hep_step.specs.Effects.{effect_at, fails, moves, prints, returns, stops, waits};
+ghost use Rattle.hep_step.specs.Effects.{fails, moves, prints, returns, stops, waits};
 ghost use Rattle.hep_step.specs.Simulation.{IsRunning, Simulates, is_left_out, unit_addressed, unit_arrays, unit_code};
 ghost use Rattle.hep_state.specs.declared.machine.Level.{Level};
 ghost use Rattle.hep_entering.specs.Calling.{state_called, state_created};
@@ -44,10 +44,11 @@ ghost use Rattle.hep_state.specs.Calls.{HasEntered, IsAfterCall, IsMaking, IsUni
 ghost use Rattle.hep_state.specs.Openings.{IsEntered, IsGiven, snapshot_opened, unset_opening};
 ghost use Rattle.hep_state.specs.Showing.{node_under};
 ghost use Rattle.hep_state.specs.Snapshots.{Snapshot};
-ghost use Rattle.hep_state.specs.Taking.{IsEnding, IsNoWait};
+ghost use Rattle.hep_state.specs.Taking.{IsEnding};
 ghost use Rattle.hep_state.specs.Tops.{IsTurning, frame_under, keys_of, snapshot_failed, snapshot_moved, snapshot_printed, snapshot_returned, snapshot_stopped, state_failed, state_returned, top_after, with_stack};
 ghost use Rattle.hep_state.specs.declared.passing.CallAhead.{CallAhead};
 ghost use Rattle.hep_state.specs.CallsAhead.{IsAtCall, IsWithoutCall, given_of};
+ghost use Rattle.hep_state.specs.Outcomes.{Touches};
 ghost use Rattle.hep_state.specs.Turns.{HasGaps, HasNoGap, HasStepped, HasWaited, IsAbsent, IsAfter};
 
 /// A process that has levels lives, and it is its turn where the processes weren't stopped; one that has none, or that isn't
@@ -69,14 +70,6 @@ pub fn tops_are_running()
     hep_placed::laws::arrays_are_there();
     hep_works::laws::programs_are_closed();
     hep_works::laws::activations_are_bound_in_runs();
-}
-
-/// An operation in the code of a program that can be run so far never waits: its variables are plain.
-pub fn supported_programs_never_wait()
-    ensures { (program : Units) (u first : ℕ) (contents : List Slot) (operands : List Value) (index : ℕ) → IsAccepted program → first_unsupported program ≡ None → u < length program → IsNoWait (effect_at (unit_code program u) (unit_arrays program u) first contents operands index) }
-{
-    hep_placed::laws::supported_code();
-    hep_placed::laws::tested_variables_are_asynchronous();
 }
 
 /// Of what calls, creates or purges only CALL and CREATE stand in a program that can be run so far.
@@ -155,6 +148,15 @@ pub fn calls_can_be_made()
     hep_placed::laws::arrays_are_there();
     hep_passing::laws::callers_can_pass();
     hep_step::laws::calls_are_ahead();
+    tops_are_running();
+}
+
+/// CALL and CREATE fill and empty nothing.
+pub fn calls_touch_nothing()
+    ensures { (program : Units) (cells : ℕ) (choices : List ℕ) (m : Snapshot) (p : ℕ) (call : CallAhead) → IsAccepted program → is_some (main_among program) ≡ true → IsAtCall program cells choices p m call → Touches program cells choices p None }
+{
+    hep_touched::laws::calls_and_purges_never_wait();
+    hep_touched::laws::purges_stand_ahead();
     tops_are_running();
 }
 

@@ -17,4 +17,4 @@ pub use calling::Called;
 pub use machine::{Level, Machine, Passing, Process};
 pub use opening::fits;
 pub use passing::CallAhead;
-pub use turn::TurnFault;
+pub use turn::{TurnFault, Turned};

@@ -1,28 +1,31 @@
 //! One turn of a process.
-ghost use Rattle.std.specs.Prelude.{◌≡◌, ◌≢◌, ◌<◌, ◌≤◌, ◌+◌, ◌^◌, ◌++◌, ◌∷◌, ◌-◌, ℕ, true, false, List, [], None, Some, IfOk, IfErr, OnErr, OnOk, length, slice_get, vec_len, vec_capacity};
+ghost use Rattle.std.specs.Prelude.{◌≡◌, ◌≢◌, ◌<◌, ◌≤◌, ◌+◌, ◌^◌, ◌++◌, ◌∷◌, ◌-◌, ℕ, true, false, List, [], None, Some, IfOk, IfErr, IfSome, OnErr, OnOk, length, slice_get, vec_len, vec_capacity};
 ghost use Rattle.std.specs.Option.{is_some};
 ghost use Rattle.slab.specs.Slab.{HasRoomFor};
 ghost use Rattle.hep_source.specs.Units.{Units};
 ghost use Rattle.hep_machine.specs.Processes.{living};
 ghost use Rattle.hep_machine.specs.Run.{run};
-ghost use Rattle.hep_machine.specs.Step.{step};
+ghost use Rattle.hep_arena.specs.Holes.{IsOut};
+ghost use Rattle.hep_image.specs.Image.{most_cells};
 ghost use Rattle.hep_state.specs.declared.machine.Process.{Process as AProcess};
 ghost use Rattle.hep_state.specs.CallsAhead.{IsAtCall, IsWithoutCall};
 ghost use Rattle.hep_state.specs.Rooms.{HaveRoom, IsMachineAfter};
 ghost use Rattle.hep_state.specs.Snapshots.{snapshot_of};
 ghost use Rattle.hep_state.specs.Taking.{HasLevels, IsLeft, IsSeenSame};
+ghost use Rattle.hep_state.specs.Outcomes.{HasTurned, IsInState, IsTold, Touches, cell_wanted};
 ghost use Rattle.hep_state.specs.Turns.{IsAfter};
 ghost use Rattle.hep_state.specs.Unturned.{IsUnturned};
 
-use crate::advancing::advance;
+use crate::advancing::{Advanced, advance};
 use crate::calling::Called;
 use crate::laws;
 use crate::machine::{Machine, Process};
 use crate::passing::CallAhead;
+use hep_blocked::Want;
 use hep_image::Image;
 use hep_machine::Entry;
 use hep_ready::Ready;
-use hep_step::Effect;
+use hep_touched::laws::{purges_stand_ahead, touched_units_are_in_touched_cells};
 use std::alloc::{AllocError, Global};
 
 /// Why a turn was not taken. The same state is shown then.
@@ -43,6 +46,15 @@ impl From<AllocError> for TurnFault {
     fn from(_refused: AllocError) -> TurnFault {
         TurnFault::NoMemory
     }
+}
+
+/// What a turn came to.
+#[derive(Clone, Copy, PartialEq, Eq)]
+pub enum Turned {
+    /// A step was made. It filled or emptied no cell for which others may wait but this one, if there is one, which is so now.
+    Stepped { changed: Option<Want> },
+    /// The process waits for a cell to be so. The same state is shown.
+    Waits(Want),
 }
 
 impl Machine {
@@ -133,11 +145,16 @@ impl Machine {
     }
 
     // Performs the operation ahead of process p, which is neither CALL nor CREATE.
-    fn advance(&mut self, alloc: Global, image: &Image, p: u64) -> Result<Effect, AllocError>
+    fn advance(&mut self, alloc: Global, image: &Image, p: u64) -> Result<Advanced, AllocError>
         requires after { (cells : ℕ) × (choices : List ℕ) × IsMachineAfter image.now cells choices self.old }
         requires running { self.old.halted ≡ false }
         requires plain { IsWithoutCall image.now p (snapshot_of self.old) }
-        ensures left { IfOk result (λ effect. (cells : ℕ) (choices : List ℕ) → IsMachineAfter image.now cells choices self.old → IsLeft image.now cells choices p (snapshot_of self.new) effect) }
+        ensures left { IfOk result (λ advanced. (cells : ℕ) (choices : List ℕ) → IsMachineAfter image.now cells choices self.old → IsLeft image.now cells choices p (snapshot_of self.new) advanced.effect) }
+        ensures touched { IfOk result (λ advanced. (cells : ℕ) (choices : List ℕ) → IsMachineAfter image.now cells choices self.old → Touches image.now cells choices p advanced.touched) }
+        ensures state { IfOk result (λ advanced. (cells : ℕ) (choices : List ℕ) → IsMachineAfter image.now cells choices self.old → IsInState image.now cells choices p advanced.touched (snapshot_of self.new)) }
+        ensures inside { IfOk result (λ advanced. IfSome advanced.touched (λ cell. cell < length self.new.frames.arena.contents)) }
+        ensures out { IfOk result (λ advanced. IfSome advanced.touched (λ cell. IsOut cell self.new.frames.arena.holes)) }
+        ensures cells { length self.new.frames.arena.contents ≡ length self.old.frames.arena.contents }
         ensures refused { OnErr result ((cells : ℕ) (choices : List ℕ) → IsAfter image.now cells choices (snapshot_of self.old) → IsAfter image.now cells choices (snapshot_of self.new)) }
         ensures same { OnErr result (IsSeenSame (snapshot_of self.old) (snapshot_of self.new)) }
         ensures rooms { (cells : ℕ) → HaveRoom image.now cells self.old → HaveRoom image.now cells self.new }
@@ -147,9 +164,25 @@ impl Machine {
     {
         image.is_runnable();
         laws::tops_are_running();
-        laws::supported_programs_never_wait();
+        touched_units_are_in_touched_cells();
+        purges_stand_ahead();
         let process = &mut self.processes[(p - 1) as usize];
         advance(process, &mut self.frames, alloc, image)
+    }
+
+    // How a cell is now for which others may wait, if there is one.
+    fn state_of(&self, cell: Option<u32>) -> Option<Want>
+        requires few { length self.now.frames.arena.contents ≤ most_cells }
+        requires inside { IfSome cell (λ cell. cell < length self.now.frames.arena.contents) }
+        requires out { IfSome cell (λ cell. IsOut cell self.now.frames.arena.holes) }
+        ensures cell { cell_wanted result ≡ cell }
+        ensures state { IsTold (snapshot_of self.now) result }
+    {
+        let cell = cell?;
+        Some(Want {
+            cell,
+            full: self.frames.arena.get(cell).full,
+        })
     }
 
     // A turn of process p, ahead of which neither CALL nor CREATE stands.
@@ -159,11 +192,11 @@ impl Machine {
         image: &Image,
         p: u64,
         history: &mut Vec<Entry>,
-    ) -> Result<(), AllocError>
+    ) -> Result<Turned, AllocError>
         requires after { (cells : ℕ) × (choices : List ℕ) × IsMachineAfter image.now cells choices self.old }
         requires running { self.old.halted ≡ false }
         requires plain { IsWithoutCall image.now p (snapshot_of self.old) }
-        ensures stepped { OnOk result ((cells : ℕ) (choices : List ℕ) → IsMachineAfter image.now cells choices self.old → (step image.now p (run image.now choices) ≢ None) × IsMachineAfter image.now cells (choices ++ p ∷ []) self.new) }
+        ensures turned { IfOk result (λ turned. (cells : ℕ) (choices : List ℕ) → IsMachineAfter image.now cells choices self.old → HasTurned image.now cells choices p turned self.new) }
         ensures refused { OnErr result ((cells : ℕ) (choices : List ℕ) → IsMachineAfter image.now cells choices self.old → IsMachineAfter image.now cells choices self.new) }
         ensures same { OnErr result (IsSeenSame (snapshot_of self.old) (snapshot_of self.new)) }
         ensures processes { length self.new.processes.items ≡ length self.old.processes.items }
@@ -172,9 +205,13 @@ impl Machine {
     {
         // What the turn may write has room before anything changes.
         self.reserve(history)?;
-        let effect = self.advance(alloc, image, p)?;
-        self.end_turn(p, effect);
-        Ok(())
+        let Advanced { effect, touched } = self.advance(alloc, image, p)?;
+        // The cell may be of a frame that is given back at the end of the turn.
+        let changed = self.state_of(touched);
+        match self.end_turn(p, effect) {
+            Some(want) => Ok(Turned::Waits(want)),
+            None => Ok(Turned::Stepped { changed }),
+        }
     }
 
     // A turn of process p, which is at a CALL or CREATE: an activation more, or a fault.
@@ -188,11 +225,11 @@ impl Machine {
         call: CallAhead,
         history: &mut Vec<Entry>,
         ready: &mut Ready,
-    ) -> Result<(), TurnFault>
+    ) -> Result<Turned, TurnFault>
         requires at { (cells : ℕ) × (choices : List ℕ) × IsMachineAfter image.now cells choices self.old × IsAtCall image.now cells choices p (snapshot_of self.old) call }
         requires countable { self.old.activations + 1 < 2 ^ 64 }
         requires numbers { length self.old.processes.items ≤ ready.old.room }
-        ensures stepped { OnOk result ((cells : ℕ) (choices : List ℕ) → IsMachineAfter image.now cells choices self.old → IsAtCall image.now cells choices p (snapshot_of self.old) call → (step image.now p (run image.now choices) ≢ None) × IsMachineAfter image.now cells (choices ++ p ∷ []) self.new) }
+        ensures turned { IfOk result (λ turned. (cells : ℕ) (choices : List ℕ) → IsMachineAfter image.now cells choices self.old → IsAtCall image.now cells choices p (snapshot_of self.old) call → HasTurned image.now cells choices p turned self.new) }
         ensures unturned { IfErr result (λ e. (cells : ℕ) (choices : List ℕ) → IsMachineAfter image.now cells choices self.old → IsAtCall image.now cells choices p (snapshot_of self.old) call → IsUnturned e image.now cells choices p) }
         ensures refused { OnErr result ((cells : ℕ) (choices : List ℕ) → IsMachineAfter image.now cells choices self.old → IsMachineAfter image.now cells choices self.new) }
         ensures same { OnErr result (IsSeenSame (snapshot_of self.old) (snapshot_of self.new)) }
@@ -200,16 +237,18 @@ impl Machine {
         ensures room { OnOk result (vec_len history.new < vec_capacity history.new) }
         ensures entries { history.new.items ≡ history.old.items }
         ensures numbers { length self.new.processes.items ≤ ready.new.room }
+        ensures grows { ready.old.room ≤ ready.new.room }
         ensures ready { ready.new.ready ≡ ready.old.ready }
     {
         image.is_runnable();
         laws::calls_can_be_made();
+        laws::calls_touch_nothing();
         laws::gaps_are_told();
         laws::supported_programs_purge_nothing();
         if let Err(kind) = self.give(image, p, call) {
             self.reserve(history)?;
             self.fail(p, call.line, kind);
-            return Ok(());
+            return Ok(Turned::Stepped { changed: None });
         }
         let unit = image.unit(call.unit as usize);
         if !self.frames.fits(unit.cells) {
@@ -227,11 +266,11 @@ impl Machine {
             self.reserve_activation(p, unit.operands, history)?;
             self.call(p, called, call.next as usize);
         }
-        Ok(())
+        Ok(Turned::Stepped { changed: None })
     }
 
-    /// One step of process p, which lives: the machine shows the state after the source machine's step. The history gets room
-    /// for the entry of the turn, and a process that is made has room to be ready; which ones are stays.
+    /// A turn of process p, which lives: the machine shows the state after the source machine's step, or the same state where the process
+    /// waits. The history gets room for the entry of the turn, and a process that is made has room to be ready; which ones are stays.
     ///
     /// # Errors
     ///
@@ -244,13 +283,13 @@ impl Machine {
         p: u64,
         history: &mut Vec<Entry>,
         ready: &mut Ready,
-    ) -> Result<(), TurnFault>
+    ) -> Result<Turned, TurnFault>
         requires after { (cells : ℕ) × (choices : List ℕ) × IsMachineAfter image.now cells choices self.old }
         requires running { self.old.halted ≡ false }
         requires living { HasLevels (snapshot_of self.old) p }
         requires countable { self.old.activations + 1 < 2 ^ 64 }
         requires numbers { length self.old.processes.items ≤ ready.old.room }
-        ensures stepped { OnOk result ((cells : ℕ) (choices : List ℕ) → IsMachineAfter image.now cells choices self.old → (step image.now p (run image.now choices) ≢ None) × IsMachineAfter image.now cells (choices ++ p ∷ []) self.new) }
+        ensures turned { IfOk result (λ turned. (cells : ℕ) (choices : List ℕ) → IsMachineAfter image.now cells choices self.old → HasTurned image.now cells choices p turned self.new) }
         ensures unturned { IfErr result (λ e. (cells : ℕ) (choices : List ℕ) → IsMachineAfter image.now cells choices self.old → IsUnturned e image.now cells choices p) }
         ensures refused { OnErr result ((cells : ℕ) (choices : List ℕ) → IsMachineAfter image.now cells choices self.old → IsMachineAfter image.now cells choices self.new) }
         ensures same { OnErr result (IsSeenSame (snapshot_of self.old) (snapshot_of self.new)) }
@@ -258,6 +297,7 @@ impl Machine {
         ensures room { OnOk result (vec_len history.new < vec_capacity history.new) }
         ensures entries { history.new.items ≡ history.old.items }
         ensures numbers { length self.new.processes.items ≤ ready.new.room }
+        ensures grows { ready.old.room ≤ ready.new.room }
         ensures ready { ready.new.ready ≡ ready.old.ready }
     {
         image.is_runnable();

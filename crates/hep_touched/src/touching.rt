@@ -1,6 +1,7 @@
 //! The cell that an operation may fill or empty.
 ghost use Rattle.std.specs.Prelude.{◌≡◌, ◌<◌, ℕ, IfSome, length};
 ghost use Rattle.std.specs.Option.{ForSome};
+ghost use Rattle.hep_arena.specs.Holes.{IsOut};
 ghost use Rattle.hep_code.specs.Replies as replies;
 ghost use Rattle.hep_reply.specs.Cells.{HasFrame};
 ghost use Rattle.hep_reply.specs.Replies.{accessed_by};
@@ -42,6 +43,7 @@ fn cell_of(
     requires ready { IsVariableReady arena.now arrays.now frame subscripts.now variable }
     ensures cell { result ≡ cells.cell_of arrays.now frame.first arena.now.contents variable subscripts.now }
     ensures inside { IfSome result (λ cell. cell < length arena.now.contents) }
+    ensures out { IfSome result (λ cell. IsOut cell arena.now.holes) }
 {
     match address(arena, frame, arrays, variable, subscripts) {
         Ok(cell) => Some(cell as u32),
@@ -79,6 +81,7 @@ fn touched_by_evaluation(
     requires ready { ForSome (accessed_by evaluation) (λ x. IsVariableReady arena.now arrays.now frame (ready.last_operands evaluation operands.now) x) }
     ensures cell { result ≡ cells.touched_by_evaluation arrays.now frame.first arena.now.contents evaluation (ready.last_operands evaluation operands.now) }
     ensures inside { IfSome result (λ cell. cell < length arena.now.contents) }
+    ensures out { IfSome result (λ cell. IsOut cell arena.now.holes) }
 {
     let variable = match evaluation {
         Evaluation::Load { variable, .. } if is_asynchronous(variable) => variable,
@@ -105,6 +108,7 @@ fn touched_by_store(
     requires ready { IsVariableReady arena.now arrays.now frame (subscripts_in operands.now) variable }
     ensures cell { result ≡ if_so (replies.is_asynchronous variable) (cells.cell_of arrays.now frame.first arena.now.contents variable (subscripts_in operands.now)) }
     ensures inside { IfSome result (λ cell. cell < length arena.now.contents) }
+    ensures out { IfSome result (λ cell. IsOut cell arena.now.holes) }
 {
     if !is_asynchronous(variable) {
         return None;
@@ -127,6 +131,7 @@ pub fn touched(
     requires { (capacity : ℕ) × IsReady code.now arrays.now arena.now frame operands.now capacity index }
     ensures touched { result ≡ touched_at code.now arrays.now frame.first arena.now.contents operands.now index }
     ensures inside { IfSome result (λ cell. cell < length arena.now.contents) }
+    ensures out { IfSome result (λ cell. IsOut cell arena.now.holes) }
 {
     let Some(Instruction::Step { operation, .. }) = code.get(index) else {
         return None;

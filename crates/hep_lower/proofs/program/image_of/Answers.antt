@@ -2,10 +2,12 @@ use Rattle.std.proofs.Common.{◌∙◌, ap, arith, subst, sym}
 use Rattle.std.specs.Option.{unwrap_or}
 use Rattle.hep_source.specs.Defaults.{no_unit}
 use Rattle.hep_source.specs.Units.{is_main, subroutine_name}
+use Rattle.hep_machine.specs.Declarations.{blocks_of}
 use Rattle.hep_image.proofs.Mains.{index-inside}
 use Rattle.hep_image.specs.Data.{AreInitial, AreOfUnits}
 use Rattle.hep_image.specs.Image.{IsImage}
 use Rattle.hep_image.specs.Names.{names_in_order}
+use Rattle.hep_lower.proofs.BlocksBegun.{begun-are}
 use Rattle.hep_lower.proofs.Told.{image-is}
 use Rattle.hep_lower.proofs.program.image_of.Goals as goal
 
@@ -22,8 +24,11 @@ overflow_cast-main c =
 pub new-requires : goal.new-requires
 new-requires c =
     let program = c.args.checked.now in
-    subst (λ p. IsImage p c.from.result c.args.main c.cells.result c.from-2.result c.from-3.result) (sym (c.in_ok-copy.ensures ∙ c.program-2.ensures)) (
+    let source = c.as_slice-source.ensures ∙ c.program.ensures in
+    let begun = begun-are program c.args.common.now c.from-4.result c.blocks-blocks.result.now c.requires.starts c.requires.small_common
+    (c.blocks-blocks.ensures ∙ (c.in_ok-listed.ensures.blocks ∙ ap blocks_of source)) (c.from-4.ensures ∙ c.in_ok-starts.ensures) in
+    subst (λ p. IsImage p c.from.result c.args.main c.cells.result c.from-2.result c.from-3.result c.from-4.result) (sym (c.in_ok-copy.ensures ∙ c.program-2.ensures)) (
     image-is program c.args.units c.requires.units c.requires.small_common c.requires.small_frames c.is_accepted.ensures c.requires.supported c.requires.shallow
-    c.from.result c.args.main c.cells.result c.from-2.result c.from-3.result c.from.ensures c.requires.main (c.cells.ensures.common program c.requires.starts)
+    c.from.result c.args.main c.cells.result c.from-2.result c.from-3.result c.from-4.result c.from.ensures c.requires.main (c.cells.ensures.common program c.requires.starts)
     (subst (AreInitial program) (sym c.from-2.ensures) c.in_ok-rows.ensures.initial) (subst (AreOfUnits program) (sym c.from-2.ensures) c.in_ok-rows.ensures.units)
-    (c.from-3.ensures ∙ (c.in_ok-names.ensures ∙ ap names_in_order (c.as_slice.ensures ∙ c.program.ensures))))
+    (c.from-3.ensures ∙ (c.in_ok-names.ensures ∙ ap names_in_order source)) begun)

@@ -3,6 +3,7 @@ use Rattle.hep_code.specs.Depths.{deepest, line_too_deep}
 use Rattle.hep_code.specs.Limits.{most_instructions}
 use Rattle.hep_code.specs.Stacks.{entry_index}
 use Rattle.hep_image.specs.Image.{most_cells}
+use Rattle.hep_image.specs.Owners.{AreInOrder}
 use Rattle.hep_lower.specs.Refusals.{RefusesCode}
 use Rattle.hep_lower.proofs.Placing.{addressed-is, code-there, none-there, refused-code}
 use Rattle.hep_lower.proofs.units.lower_numbered.Goals as goal
@@ -32,6 +33,8 @@ returns-clause-lowered c =
         few_cells = subst (λ n. n ≤ most_cells) (sym places.cells) c.requires.small_frame;
         dummies = c.from-3.ensures ∙ places.dummies;
         private_are = c.from-4.ensures ∙ places.private_are;
+        variables_are = c.from-5.ensures ∙ places.variables_are;
+        in_order = subst AreInOrder (sym c.from-5.ensures) places.in_order;
       },
       sym (c.in-Ok.ensures.too_deep ∙ ap line_too_deep made) ∙ shallow,
       subst (λ code. length code ≤ most_instructions) made c.in-Ok.ensures.short,

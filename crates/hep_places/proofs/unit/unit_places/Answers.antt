@@ -1,4 +1,4 @@
-use Rattle.std.proofs.Common.{◌≡◌, List, map, ap, subst, ◌∙◌}
+use Rattle.std.proofs.Common.{◌≡◌, List, map, ap, ap₂, subst, ◌∙◌}
 use Rattle.std.specs.List.{filter}
 use Rattle.std.specs.Option.{unwrap_or}
 use Rattle.indexmap.specs.IndexMap.{get}
@@ -13,6 +13,7 @@ use Rattle.hep_image.specs.Private.{is_private}
 use Rattle.hep_places.specs.declared.unit.UnitPlaces.{UnitPlaces}
 use Rattle.hep_places.specs.Dummies.{dummy_found, source_found, source_in}
 use Rattle.hep_places.specs.Found.{array_found, variable_among}
+use Rattle.hep_places.specs.Owners.{variables_found}
 use Rattle.hep_places.proofs.Accepted.{no-dummy, unit_there}
 use Rattle.hep_places.proofs.Final.{IsFound, found_start, places-right}
 use Rattle.hep_places.proofs.Right.{constant-is-fixed}
@@ -31,6 +32,7 @@ returns c = λ program u accepted inside same starts few small.
       cells = t.cells;
       private = c.in_ok-private.private;
       dummies = c.in_ok-dummies.dummies;
+      frame_variables = c.in_ok-frame_variables.frame_variables;
     } in
     let there = unit_there program u inside in
     let names : c.as_slice-names.result.now ≡ names_of now = c.as_slice-names.ensures.keys ∙ c.names.ensures in
@@ -40,6 +42,7 @@ returns c = λ program u accepted inside same starts few small.
       adjusted = λ x h found. constant-is-fixed unit x h found;
       own = λ x h i. let found = c.arrays_have_shapes.ensures.constant program u unit x accepted there h (no-dummy unit x i) in (found.0, found.1);
     })
+    (λ i j x f g. c.names_are_given_once.ensures.dummies program u i j unit x accepted there f g)
     (c.arrays_are_few.ensures program u accepted inside small few) small few starts
     (subst (λ (v : List Statement). IsFound v common t p) same (record {
       tables = c.in_ok-tables.ensures;
@@ -48,5 +51,6 @@ returns c = λ program u accepted inside same starts few small.
       arrays = c.in_ok-arrays.ensures ∙ ap (λ xs. map (array_found now (found_start now common t) (get name_eq t.bounds)) (filter (is_array now) xs)) names;
       cells = λ i. t.cells;
       private_are = c.in_ok-private.ensures ∙ ap (λ xs. map (λ (x : Name). unwrap_or (get name_eq t.locals x) 0) (filter (is_private now) xs)) c.locals.ensures;
-      dummies = c.in_ok-dummies.ensures ∙ ap (map (dummy_found now (source_found now (value_among c.in_ok-constants.constants) common (get name_eq t.offsets)))) c.dummies.ensures ∙ ap (λ (values : Values). map (dummy_found now (source_found now values common (get name_eq t.offsets))) (dummies_of now)) c.in_ok-constants.ensures;
+      dummies = c.in_ok-dummies.ensures ∙ ap (map (dummy_found now (source_found now (value_among c.in_ok-constants.constants) common (get name_eq t.offsets)))) c.dummies-2.ensures ∙ ap (λ (values : Values). map (dummy_found now (source_found now values common (get name_eq t.offsets))) (dummies_of now)) c.in_ok-constants.ensures;
+      in_frame = c.in_ok-frame_variables.ensures ∙ ap₂ (λ ds xs. variables_found now (get name_eq t.locals) ds xs) c.dummies.ensures c.locals-2.ensures;
     }))

@@ -3,6 +3,7 @@ use Rattle.hep_machine.specs.Processes.{is_number_among}
 use Rattle.hep_blocked.specs.declared.want.Want.{Want}
 use Rattle.hep_blocked.specs.Lists.{list_of}
 use Rattle.hep_blocked.specs.Waiting.{waiting_at}
+use Rattle.hep_blocked.proofs.Numbering.{numbers-woken}
 use Rattle.hep_blocked.proofs.Tying.{cleared-awake, cleared-waiting, tied-woken, woken-among, woken-known, woken-ready}
 use Rattle.hep_blocked.proofs.waits.Waits.wake.Goals as goal
 
@@ -17,7 +18,10 @@ invariant_of-self c =
     let ws = c.self.inside.wanted.items in
     let lists = list_of c.self.inside.lists in
     let woken = c.wake_each.ensures.wanted ∙ cleared-awake c.args.want c.deref.result.now ws lists c.self.invariant.0 listed in
-    (tied-woken c.args.want ws c.wake_each.new.wanted.items lists (list_of c.take.new.lists) c.self.invariant.0 woken c.in-Some.ensures.rest, c.in-Some.ensures.unique)
+    let tied = tied-woken c.args.want ws c.wake_each.new.wanted.items lists (list_of c.take.new.lists) c.self.invariant.0 woken c.in-Some.ensures.rest in
+    let left = numbers-woken c.args.want c.deref.result.now ws c.wake_each.new.wanted.items lists c.self.inside.numbers c.wake_each.new.numbers c.self.invariant.2 c.self.invariant.0 in
+    let numbers = left listed woken c.wake_each.ensures.numbers c.wake_each.ensures.places in
+    (tied, c.in-Some.ensures.unique, numbers)
 
 pub returns-in-Some-clause-woken : goal.returns-in-Some-clause-woken
 returns-in-Some-clause-woken c =

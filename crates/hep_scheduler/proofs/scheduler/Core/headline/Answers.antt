@@ -8,4 +8,4 @@ returns-clause-view c =
     let i = c.self.inside in
     let runs = c.is_runnable.ensures in
     let seen : AreSeen i.image i.cells = λ choices m. c.views_are_of_states.ensures i.image i.cells choices m runs.accepted (has-main i.image runs.supported) in
-    rw (← c.self.view_is) (view-is i.image i.cells i.history.items (snapshot_of i.machine) c.self.invariant.after.after seen c.self.invariant.quiet)
+    rw (← c.self.view_is) (view-is i.image i.cells i.history.items (snapshot_of i.machine) c.self.invariant.after.after seen)

@@ -1,19 +1,18 @@
-use Rattle.std.proofs.Common.{◌≡◌, ◌≤◌, ◌∙◌, ◌∷◌, ℕ, None, ap, arith, length, sym, subst, []}
+use Rattle.std.proofs.Common.{◌≡◌, ◌≤◌, ◌∙◌, ◌∷◌, ap, arith, length, sym, subst, []}
 use Rattle.hep_machine.specs.Histories.{IsLegal}
 use Rattle.hep_machine.specs.Layout.{is_held}
 use Rattle.hep_machine.specs.Run.{schedule_of, state_after}
-use Rattle.hep_machine.specs.Schedules.{living_from, progress_after}
+use Rattle.hep_machine.specs.Schedules.{progress_after}
 use Rattle.hep_machine.specs.Views.{view_of}
+use Rattle.hep_listed.specs.Listing.{AreListed}
 use Rattle.hep_ready.specs.Numbers.{with_number}
 use Rattle.hep_state.specs.Rooms.{IsMachineAfter}
-use Rattle.hep_machine.specs.Step.{wanted_by}
 use Rattle.hep_state.specs.Snapshots.{snapshot_of}
 use Rattle.hep_state.proofs.Tops.{has-main}
-use Rattle.hep_scheduler.specs.Quiet.{AreQuiet}
-use Rattle.hep_scheduler.specs.Seen.{machine_view}
+use Rattle.hep_views.specs.Seen.{machine_view}
 use Rattle.hep_scheduler.specs.Value.{opening_of}
-use Rattle.hep_scheduler.proofs.Histories.{legal-none, schedule-none, single-none, unlisted-none}
-use Rattle.hep_scheduler.proofs.Kept.{AreSeen, laid-out, opening-goes, opening-quiet, opening-ready, view-is}
+use Rattle.hep_scheduler.proofs.Histories.{legal-none, progress-none, schedule-none, single-none}
+use Rattle.hep_scheduler.proofs.Kept.{AreSeen, laid-out, opening-goes, view-is}
 use Rattle.hep_scheduler.proofs.scheduler.Core.new.Goals as goal
 
 pub invariant_of-result : goal.invariant_of-result
@@ -22,13 +21,17 @@ invariant_of-result c =
     let m = c.in_ok-machine.machine in
     let none = sym c.new.ensures.items in
     let after = subst (λ ps. IsMachineAfter program c.args.cells ps m) (sym schedule-none) c.in_ok-machine.ensures.opened in
-    let law : AreQuiet program c.args.cells = λ choices n q h going. c.living_processes_are_quiet.ensures program c.args.cells choices n q c.is_runnable.ensures.accepted c.is_runnable.ensures.supported h going in
+    let ready : c.add.new.self.ready ≡ 1 ∷ [] = c.add.ensures.ready ∙ ap (with_number 1) (c.in_ok-reserve.ensures.ready ∙ c.new-ready.ensures.ready) in
+    let listed : AreListed program c.args.cells (schedule_of []) (progress_after program []) [] (1 ∷ []) =
+    subst (λ ps. AreListed program c.args.cells ps (progress_after program []) [] (1 ∷ [])) (sym schedule-none) (
+    subst (λ x. AreListed program c.args.cells [] x [] (1 ∷ [])) (sym (progress-none program)) (c.openings_list_nobody.ensures program c.args.cells)) in
     record {
       after = subst (λ es. IsMachineAfter program c.args.cells (schedule_of es) m) none after;
-      ready = c.add.ensures.ready ∙ ap (with_number 1) (c.in_ok-reserve.ensures.ready ∙ c.new-ready.ensures.ready) ∙ subst (λ es. 1 ∷ [] ≡ living_from 1 (state_after program es).processes) none (opening-ready program);
+      listed = subst (λ es. AreListed program c.args.cells (schedule_of es) (progress_after program es) c.new-2.result c.add.new.self.ready) none (
+          subst (λ ws. AreListed program c.args.cells (schedule_of []) (progress_after program []) ws c.add.new.self.ready) (sym c.new-2.ensures) (
+          subst (AreListed program c.args.cells (schedule_of []) (progress_after program []) []) (sym ready) listed));
       numbers = omega (arith, c.in_ok-machine.ensures.alone, c.in_ok-reserve.ensures.room, c.add.ensures.room);
-      quiet = subst (λ es. (q : ℕ) → wanted_by program q (state_after program es) ≡ None) none (opening-quiet program c.args.cells law (snapshot_of m) after.after);
-      unlisted = subst (λ es. progress_after program es ≡ record { state = state_after program es; listed = [] }) none (unlisted-none program);
+      waiting = omega (arith, ap length c.new-2.ensures);
       legal = subst (IsLegal program c.args.cells c.args.steps) none (legal-none program c.args.cells c.args.steps (laid-out program c.args.cells [] (snapshot_of m) after.after));
       single = subst (λ es. length (schedule_of es) ≤ length es) none (single-none);
       named = subst (λ es. (state_after program es).halted ≡ _) none (opening-goes program);
@@ -40,7 +43,6 @@ returns-clause-made c =
     let m = c.in_ok-machine.machine in
     let none = c.new.ensures.items in
     let after = subst (λ ps. IsMachineAfter program c.args.cells ps m) (sym schedule-none) c.in_ok-machine.ensures.opened in
-    let law : AreQuiet program c.args.cells = λ choices n q h going. c.living_processes_are_quiet.ensures program c.args.cells choices n q c.is_runnable.ensures.accepted c.is_runnable.ensures.supported h going in
     let seen : AreSeen program c.args.cells = λ choices n. c.views_are_of_states.ensures program c.args.cells choices n c.is_runnable.ensures.accepted (has-main program c.is_runnable.ensures.supported) in
-    let view : machine_view program (snapshot_of m) ≡ view_of program is_held (state_after program []) = view-is program c.args.cells [] (snapshot_of m) after.after seen (opening-quiet program c.args.cells law (snapshot_of m) after.after) in
+    let view : machine_view program (snapshot_of m) ≡ view_of program is_held (state_after program []) = view-is program c.args.cells [] (snapshot_of m) after.after seen in
     λ j. record (opening_of program c.args.cells c.args.steps) { history = none j; view = view j }

@@ -2,9 +2,9 @@ use Rattle.std.proofs.Common.{◌≡◌, ◌∙◌, ◌-◌, ℕ, List, Option, 
 use Rattle.std.specs.Prelude.{slice_get}
 use Rattle.std.specs.Option.{option_copied}
 use Rattle.hep_machine.specs.declared.event.Entry.{Entry}
-use Rattle.hep_machine.specs.Schedules.{last_process}
+use Rattle.hep_machine.specs.Run.{schedule_of}
+use Rattle.hep_machine.specs.Schedules.{last_process, next_of_ready, progress_after}
 use Rattle.hep_scheduler.proofs.Histories.{last-none, last-some}
-use Rattle.hep_scheduler.proofs.Kept.{next-is}
 use Rattle.hep_scheduler.proofs.scheduler.Core.next_ready.Goals as goal
 
 -- the process of the last entry, where one is read, and else 0
@@ -19,4 +19,5 @@ returns c =
     let k = c.self.invariant in
     let read : option_copied c.last.result ≡ slice_get h (length h - 1) = c.last.ensures.value ∙ ap (λ (es : List Entry). slice_get es (length es - 1)) c.deref.ensures.value in
     let last = last-read h c.last.result c.map_or-last.result _ (λ e given. search rules) read c.map_or-last.ensures in
-    rw (← c.self.view_is) (c.next.ensures.next ∙ next-is i.image h i.ready.ready k.ready k.unlisted c.map_or-last.result last)
+    let ready = c.lists_are_those_of_definitions.ensures.ready i.image i.cells i.ready.room (schedule_of h) (progress_after i.image h) i.waits i.ready.ready k.listed c.next.ensures.rising in
+    rw (← c.self.view_is) (c.next.ensures.next ∙ (λ j. next_of_ready (last j) (ready j)))

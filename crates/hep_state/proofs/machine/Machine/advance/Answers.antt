@@ -1,7 +1,8 @@
-use Rattle.std.proofs.Common.{◌≡◌, ℕ, ◌-◌, ◌≤◌, List, ◌∷◌, length, refl, sym, ap, ◌∙◌, subst}
-use Rattle.std.specs.Prelude.{IfOk, OnErr, Result, Ok, Err, vec_capacity}
+use Rattle.std.proofs.Common.{◌≡◌, ℕ, ◌-◌, ◌≤◌, List, ◌∷◌, length, refl, sym, ap, ◌∙◌, subst, arith}
+use Rattle.std.specs.Prelude.{◌<◌, IfOk, IfSome, Option, Some, None, OnErr, Result, Ok, Err, vec_capacity}
 use Rattle.std.proofs.lemmas.List.{length-set}
 use Rattle.hep_source.specs.declared.value.Value.{Value}
+use Rattle.hep_arena.specs.Holes.{IsOut}
 use Rattle.hep_code.specs.Depths.{deepest}
 use Rattle.hep_proc.specs.Nodes.{nodes_of}
 use Rattle.hep_step.specs.Effects.{effect_at}
@@ -16,15 +17,16 @@ use Rattle.hep_state.specs.Rooms.{HasRoom}
 use Rattle.hep_state.specs.Showing.{node_under}
 use Rattle.hep_state.specs.Snapshots.{Snapshot, snapshot_of, stack_of}
 use Rattle.hep_state.specs.Taking.{IsLeft, stack_with}
-use Rattle.hep_state.specs.Tops.{with_contents, with_stack}
+use Rattle.hep_state.specs.Tops.{frame_under, top_after, with_contents, with_stack}
 use Rattle.hep_state.specs.Turns.{IsAfter}
 use Rattle.hep_state.proofs.Ahead.{as-settled}
 use Rattle.hep_state.proofs.Ended.{top-node}
 use Rattle.hep_state.proofs.Processes.{all-set, process-at, room-moved, stacks-set}
 use Rattle.hep_state.proofs.Settled.{turning}
 use Rattle.hep_state.proofs.Stacked.{last-there}
-use Rattle.hep_state.proofs.Taken.{again, ahead-simulated, inside, left-over, ready, settled-now, with_performed}
+use Rattle.hep_state.proofs.Taken.{again, ahead-simulated, alike, inside, left-over, ready, settled-now, with_performed}
 use Rattle.hep_state.proofs.Tops.{has-main}
+use Rattle.hep_state.proofs.Touching.{touches-only}
 use Rattle.hep_state.proofs.machine.Machine.advance.Goals as goal
 
 of-ok : {A E : Type 0} (r : Result A E) {P Q : A → Type 0} → IfOk r P → ((x : A) → P x → Q x) → IfOk r Q
@@ -97,15 +99,67 @@ returns-clause-left c =
     let shown = shown-now c.args.self.now p c.advance.new.process c.advance.new.frames l ls a.left a.next a.stack c.advance.ensures.holes c.advance.ensures.nodes in
     let accepted = c.is_runnable.ensures.accepted in
     let supported = c.is_runnable.ensures.supported in
-    of-ok c.advance.result a.performed (λ effect is cells choices h.
+    of-ok c.advance.result a.performed (λ advanced is cells choices h.
     let turn = turning program cells choices m p h.after l ls vs c.requires.running e.there in
     let here = inside program cells choices m p l ls vs turn.0 turn.1 in
     let next = again program cells choices m p l ls vs turn.0 turn.1 vs l.index (as-settled program l vs e.past) in
     let runs = c.tops_are_running.ensures.running program cells choices (settled-now program cells choices m p l ls vs turn.0 turn.1 vs l.index (as-settled program l vs e.past)) p l ls vs turn.0 accepted (has-main program supported) next in
     let simulated = ahead-simulated program cells choices m p l ls vs turn.0 turn.1 vs l.index (as-settled program l vs e.past) runs e.plain in
-    let quiet = c.supported_programs_never_wait.ensures program l.unit (node_under m.nodes l.key).first m.arena.contents vs l.index accepted supported here in
-    subst (λ (n : Snapshot). IsLeft program cells choices p n effect) (sym shown) (
-    left-over program cells choices m p l ls vs turn.0 turn.1 vs l.index (as-settled program l vs e.past) ahead effect after simulated quiet c.advance.ensures.cells is))
+    subst (λ (n : Snapshot). IsLeft program cells choices p n advanced.effect) (sym shown) (
+    left-over program cells choices m p l ls vs turn.0 turn.1 vs l.index (as-settled program l vs e.past) ahead advanced.effect after simulated c.advance.ensures.cells is))
+
+pub returns-clause-touched : goal.returns-clause-touched
+returns-clause-touched c =
+    let program = c.args.image.now in
+    let m = snapshot_of c.args.self.now in
+    let p = c.args.p in
+    let e = c.requires.plain in
+    let l = e.l in
+    let ls = e.ls in
+    let vs = e.operands in
+    let it = process-at c.args.self.now.processes.items p (stack_with l ls vs) c.index_mut-process.result.now e.there c.index_mut-process.ensures.value in
+    of-ok c.advance.result c.advance.ensures.touched (λ advanced is cells choices h.
+    let turn = turning program cells choices m p h.after l ls vs c.requires.running e.there in
+    let t = top_after program choices p turn.0 in
+    let f = frame_under m.nodes l.key in
+    let layout = turn.1.after.layout in
+    let runs = c.tops_are_running.ensures.running program cells choices m p l ls vs turn.0 c.is_runnable.ensures.accepted (has-main program c.is_runnable.ensures.supported) turn.1 in
+    touches-only program cells choices m p l ls vs turn.0 turn.1 runs e.past e.plain
+    (c.touched_units_are_in_touched_cells.ensures program t layout f m.arena.contents m.arena.holes vs l.index)
+    (c.purges_stand_ahead.ensures program t layout f m.arena.contents m.arena.holes vs l.index)
+    advanced.touched (is l ls vs it.stack))
+
+pub returns-clause-state : goal.returns-clause-state
+returns-clause-state c =
+    let program = c.args.image.now in
+    let m = snapshot_of c.args.self.now in
+    let p = c.args.p in
+    let e = c.requires.plain in
+    let l = e.l in
+    let ls = e.ls in
+    let vs = e.operands in
+    let it = process-at c.args.self.now.processes.items p (stack_with l ls vs) c.index_mut-process.result.now e.there c.index_mut-process.ensures.value in
+    let a = c.advance.ensures.advanced l ls vs it.stack in
+    let after = performed.snapshot c.advance.new.frames.arena.contents a.left a.next in
+    let ahead = effect_at (unit_code program l.unit) (unit_arrays program l.unit) (node_under m.nodes l.key).first m.arena.contents vs l.index in
+    of-ok c.advance.result a.performed (λ advanced is cells choices h.
+    let turn = turning program cells choices m p h.after l ls vs c.requires.running e.there in
+    let settles = as-settled program l vs e.past in
+    let next = again program cells choices m p l ls vs turn.0 turn.1 vs l.index settles in
+    let runs = c.tops_are_running.ensures.running program cells choices (settled-now program cells choices m p l ls vs turn.0 turn.1 vs l.index settles) p l ls vs turn.0 c.is_runnable.ensures.accepted (has-main program c.is_runnable.ensures.supported) next in
+    let simulated = ahead-simulated program cells choices m p l ls vs turn.0 turn.1 vs l.index settles runs e.plain in
+    alike program cells choices m p l ls vs turn.0 turn.1 vs l.index settles ahead advanced.effect after simulated is advanced.touched)
+
+pub returns-clause-inside : goal.returns-clause-inside
+returns-clause-inside c =
+    of-ok c.advance.result c.advance.ensures.inside (λ advanced inside. within advanced.touched inside c.advance.ensures.cells) where
+      within : {n m : ℕ} (o : Option ℕ) → IfSome o (λ cell. cell < n) → m ≡ n → IfSome o (λ cell. cell < m)
+      within None h e = tt
+      within (Some cell) h e = omega (arith, h, e)
+
+pub returns-clause-out : goal.returns-clause-out
+returns-clause-out c =
+    of-ok c.advance.result c.advance.ensures.out (λ advanced out. subst (λ holes. IfSome advanced.touched (λ cell. IsOut cell holes)) (sym c.advance.ensures.holes) out)
 
 pub returns-clause-refused : goal.returns-clause-refused
 returns-clause-refused c =

@@ -21,7 +21,7 @@ use Rattle.hep_state.proofs.Settled.{settled, turning}
 use Rattle.hep_state.proofs.Shown.{numbered-set}
 use Rattle.hep_state.proofs.Stacked.{last-there, some-levels}
 use Rattle.hep_state.proofs.Taken.{inside, room-ahead}
-use Rattle.hep_state.proofs.Turned.{option-then}
+use Rattle.hep_state.proofs.Unchanged.{option-then}
 use Rattle.hep_state.proofs.machine.Machine.call_ahead.Goals as goal
 
 -- where no CALL and no CREATE stands, and of what calls, creates or purges only they could

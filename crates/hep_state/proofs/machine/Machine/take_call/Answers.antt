@@ -1,5 +1,6 @@
-use Rattle.std.proofs.Common.{◌≡◌, ◌-◌, ◌<◌, ◌≤◌, ℕ, Bool, true, false, List, sym, ap, ◌∙◌, subst}
+use Rattle.std.proofs.Common.{◌≡◌, ◌<◌, ◌≤◌, ℕ, Bool, true, false, List, sym, ap, ◌∙◌, subst}
 use Rattle.std.specs.Prelude.{is_some, length, vec_capacity}
+use Rattle.std.proofs.lemmas.Option.{none-some}
 use Rattle.hep_source.specs.Units.{Units}
 use Rattle.hep_arena.specs.Holes.{first_fit}
 use Rattle.hep_code.specs.Depths.{deepest}
@@ -19,7 +20,7 @@ use Rattle.hep_state.specs.Taking.{IsEnding}
 use Rattle.hep_state.specs.Turns.{IsAfter}
 use Rattle.hep_state.specs.Unturned.{IsUnturned}
 use Rattle.hep_state.proofs.Tops.{has-main}
-use Rattle.hep_state.proofs.Turned.{machine-of, machine-written, none-of, on-err, rooms-of, shown-written, some-of, without-memory}
+use Rattle.hep_state.proofs.Unchanged.{machine-of, machine-written, none-of, on-err, rooms-of, shown-written, some-of, without-memory}
 use Rattle.hep_state.proofs.machine.Machine.take_call.Goals as goal
 
 -- why a turn was not taken, wherever a process is at a CALL
@@ -47,16 +48,17 @@ returns-in_err-reserve-clause-refused c =
     machine-written program cells choices c.give.new.self c.reserve.new.self c.reserve.ensures.others c.reserve.ensures.written.0 c.reserve.ensures.written.1 (
     given-after program cells choices c.args.self.now c.give.new.self c.give.ensures.others (c.give.ensures.rooms cells (rooms-of program cells choices c.args.self.now h)) h))
 
-pub returns-in-Err-clause-stepped : goal.returns-in-Err-clause-stepped
-returns-in-Err-clause-stepped c cells choices h at =
+pub returns-in-Err-clause-turned : goal.returns-in-Err-clause-turned
+returns-in-Err-clause-turned c cells choices h at =
     let program = c.args.image.now in
+    let untouched = c.calls_touch_nothing.ensures program cells choices (snapshot_of c.args.self.now) c.args.p c.args.call c.is_runnable.ensures.accepted (has-main program c.is_runnable.ensures.supported) at in
     let had = machine-written program cells choices c.give.new.self c.reserve.new.self c.reserve.ensures.others c.reserve.ensures.written.0 c.reserve.ensures.written.1 (
     given-after program cells choices c.args.self.now c.give.new.self c.give.ensures.others (c.give.ensures.rooms cells (rooms-of program cells choices c.args.self.now h)) h) in
     let shown = shown-written c.give.new.self c.reserve.new.self c.reserve.ensures.others c.reserve.ensures.written.0 c.reserve.ensures.written.1 ∙ ap snapshot_of c.give.ensures.others in
     let ending = subst (λ (n : Snapshot). IsEnding program cells choices c.args.p n (fails c.args.call.line c.in-Err.kind)) (sym shown) (c.in-Err.ensures.fault cells choices h at) in
     let stepped = c.fail.ensures.stepped program cells choices ending in
     let rooms = c.fail.ensures.rooms program cells (rooms-of program cells choices c.reserve.new.self had) in
-    (stepped.stepped, record { after = stepped.after; few = rooms.few; to_pass = rooms.to_pass; room = rooms.room })
+    (stepped.stepped, record { after = stepped.after; few = rooms.few; to_pass = rooms.to_pass; room = rooms.room }, untouched, λ w layout location is. absurd (none-some w is))
 
 pub unit-unit-requires : goal.unit-unit-requires
 unit-unit-requires c =
@@ -151,9 +153,10 @@ create-requires-clause-creating c =
       unit-of program u c.unit-unit.result.now inside c.unit-unit.ensures,
     )
 
-pub returns-in_ok-reserve_activation-clause-stepped : goal.returns-in_ok-reserve_activation-clause-stepped
-returns-in_ok-reserve_activation-clause-stepped c cells choices h at =
+pub returns-in_ok-reserve_activation-clause-turned : goal.returns-in_ok-reserve_activation-clause-turned
+returns-in_ok-reserve_activation-clause-turned c cells choices h at =
     let program = c.args.image.now in
+    let untouched = c.calls_touch_nothing.ensures program cells choices (snapshot_of c.args.self.now) c.args.p c.args.call c.is_runnable.ensures.accepted (has-main program c.is_runnable.ensures.supported) at in
     let u = c.args.call.unit in
     let unit = c.unit-unit.result.now in
     let inside = c.calls_can_be_made.ensures.inside program cells choices (snapshot_of c.args.self.now) c.args.p c.args.call c.is_runnable.ensures.accepted (has-main program c.is_runnable.ensures.supported) at in
@@ -164,11 +167,12 @@ returns-in_ok-reserve_activation-clause-stepped c cells choices h at =
     let deep : unit.operands ≡ deepest (unit_code program u) = c.unit-unit.ensures.operands ∙ ap deepest c.unit-unit.ensures.code in
     let rooms = c.call.ensures.rooms program cells (c.reserve_activation.ensures.rooms program cells (c.give.ensures.rooms cells (rooms-of program cells choices c.args.self.now h)))
     (λ q e. subst (λ n. n ≤ vec_capacity q.operands) deep (c.in_ok-reserve_activation.ensures.operands q e)) in
-    (stepped.stepped, record { after = stepped.after; few = rooms.few; to_pass = rooms.to_pass; room = rooms.room })
+    (stepped.stepped, record { after = stepped.after; few = rooms.few; to_pass = rooms.to_pass; room = rooms.room }, untouched, λ w layout location is. absurd (none-some w is))
 
-pub returns-in_ok-process-clause-stepped : goal.returns-in_ok-process-clause-stepped
-returns-in_ok-process-clause-stepped c cells choices h at =
+pub returns-in_ok-process-clause-turned : goal.returns-in_ok-process-clause-turned
+returns-in_ok-process-clause-turned c cells choices h at =
     let program = c.args.image.now in
+    let untouched = c.calls_touch_nothing.ensures program cells choices (snapshot_of c.args.self.now) c.args.p c.args.call c.is_runnable.ensures.accepted (has-main program c.is_runnable.ensures.supported) at in
     let u = c.args.call.unit in
     let unit = c.unit-unit.result.now in
     let inside = c.calls_can_be_made.ensures.inside program cells choices (snapshot_of c.args.self.now) c.args.p c.args.call c.is_runnable.ensures.accepted (has-main program c.is_runnable.ensures.supported) at in
@@ -179,4 +183,4 @@ returns-in_ok-process-clause-stepped c cells choices h at =
     let deep : unit.operands ≡ deepest (unit_code program u) = c.unit-unit.ensures.operands ∙ ap deepest c.unit-unit.ensures.code in
     let rooms = c.create.ensures.rooms program cells (c.reserve_process.ensures.rooms program cells (c.give.ensures.rooms cells (rooms-of program cells choices c.args.self.now h)))
     (subst (λ n. n ≤ vec_capacity c.in_ok-process.process.operands) deep c.in_ok-process.ensures.operands) in
-    (stepped.stepped, record { after = stepped.after; few = rooms.few; to_pass = rooms.to_pass; room = rooms.room })
+    (stepped.stepped, record { after = stepped.after; few = rooms.few; to_pass = rooms.to_pass; room = rooms.room }, untouched, λ w layout location is. absurd (none-some w is))

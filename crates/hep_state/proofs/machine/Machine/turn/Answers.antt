@@ -5,7 +5,7 @@ use Rattle.hep_state.specs.Rooms.{IsMachineAfter}
 use Rattle.hep_state.specs.Snapshots.{snapshot_of}
 use Rattle.hep_state.specs.Unturned.{IsUnturned}
 use Rattle.hep_state.proofs.Tops.{has-main}
-use Rattle.hep_state.proofs.Turned.{err-then, ok-then, on-err, without-memory}
+use Rattle.hep_state.proofs.Unchanged.{err-then, if-ok, on-err, without-memory}
 use Rattle.hep_state.proofs.machine.Machine.turn.Goals as goal
 
 -- why a turn was not taken, wherever a machine comes to
@@ -32,11 +32,11 @@ pub returns-in_err-take_operation-in-None-clause-refused : goal.returns-in_err-t
 returns-in_err-take_operation-in-None-clause-refused c =
     on-err c.from_residual.result c.from_residual.ensures.0 (λ cells choices h. c.in_err-take_operation-in-None.ensures.refused cells choices (c.in-None.ensures.after cells choices h))
 
-pub returns-in-Some-clause-stepped : goal.returns-in-Some-clause-stepped
-returns-in-Some-clause-stepped c = ok-then c.take_call.result c.take_call.ensures.stepped (λ stepped cells choices h. stepped cells choices (c.in-Some.ensures.after cells choices h) (c.in-Some.ensures.call cells choices h))
+pub returns-in-Some-clause-turned : goal.returns-in-Some-clause-turned
+returns-in-Some-clause-turned c = if-ok c.take_call.result c.take_call.ensures.turned (λ turned told cells choices h. told cells choices (c.in-Some.ensures.after cells choices h) (c.in-Some.ensures.call cells choices h))
 
 pub returns-in-Some-clause-refused : goal.returns-in-Some-clause-refused
 returns-in-Some-clause-refused c = err-then c.take_call.result c.take_call.ensures.refused (λ refused cells choices h. refused cells choices (c.in-Some.ensures.after cells choices h))
 
-pub returns-in_ok-take_operation-in-None-clause-stepped : goal.returns-in_ok-take_operation-in-None-clause-stepped
-returns-in_ok-take_operation-in-None-clause-stepped c cells choices h = c.in_ok-take_operation-in-None.ensures.stepped cells choices (c.in-None.ensures.after cells choices h)
+pub returns-in_ok-take_operation-in-None-clause-turned : goal.returns-in_ok-take_operation-in-None-clause-turned
+returns-in_ok-take_operation-in-None-clause-turned c cells choices h = c.in_ok-take_operation-in-None.ensures.turned cells choices (c.in-None.ensures.after cells choices h)

@@ -1,9 +1,7 @@
-use Rattle.std.proofs.Common.{◌≡◌, drop, length, sym, ap, ◌∙◌, subst, arith}
-use Rattle.std.specs.Prelude.{vec_len, vec_capacity}
+use Rattle.std.proofs.Common.{drop, length, sym, ap, ◌∙◌, arith}
 use Rattle.hep_code.specs.Ahead.{values_ahead}
 use Rattle.hep_step.specs.Simulation.{unit_code}
 use Rattle.hep_state.specs.declared.machine.Level.{Level}
-use Rattle.hep_state.specs.Taking.{stack_with}
 use Rattle.hep_state.proofs.Advanced.{settled-here}
 use Rattle.hep_state.proofs.Stacked.{operands-are, some-levels}
 use Rattle.hep_state.proofs.machine.Process.settle.Goals as goal

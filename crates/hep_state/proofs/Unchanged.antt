@@ -1,14 +1,16 @@
 -- A machine that keeps what it kept: where only room was made, or what a CALL gives was written.
 use Rattle.std.proofs.Common.{◌≡◌, ℕ, List, Result, Ok, Err, Option, Some, None, refl, sym, ap, ◌∙◌, subst}
-use Rattle.std.specs.Prelude.{true, false, IfErr, IsSome, MatchOption, OnErr, OnOk, is_some, slice_get}
+use Rattle.std.specs.Prelude.{true, false, IfErr, IfOk, IsSome, MatchOption, OnErr, OnOk, is_some, slice_get}
 use Rattle.std.specs.Result.{IsErr, IsErrAnd}
 use Rattle.std.proofs.lemmas.Result.{err_from_is_err_and}
 use Rattle.hep_source.specs.Units.{Units}
+use Rattle.hep_blocked.specs.declared.want.Want.{Want}
 use Rattle.hep_state.specs.declared.machine.Machine.{Machine}
 use Rattle.hep_state.specs.declared.turn.TurnFault.{TurnFault}
 use Rattle.hep_state.specs.declared.turn.TurnFault.TheVariants.{NoMemory}
+use Rattle.hep_state.specs.Outcomes.{IsInState, IsNow, IsTold, cell_wanted}
 use Rattle.hep_state.specs.Rooms.{HasRoomToPass, HaveRoom, IsMachineAfter}
-use Rattle.hep_state.specs.Snapshots.{snapshot_of}
+use Rattle.hep_state.specs.Snapshots.{Snapshot, snapshot_of}
 use Rattle.hep_state.specs.Turns.{IsAfter}
 
 -- ---- answers
@@ -21,9 +23,13 @@ pub on-err : {A E P : Type 0} (r : Result A E) → IsErr r → P → OnErr r P
 on-err (Err e) h given = given
 on-err (Ok x) h given = absurd cc
 
-pub ok-then : {A E P Q : Type 0} (r : Result A E) → OnOk r P → (P → Q) → OnOk r Q
-ok-then (Ok x) h f = f h
-ok-then (Err e) h f = h
+pub err-says : {A E : Type 0} (P : A → Type 0) (r : Result A E) → IsErr r → IfOk r P
+err-says P (Err e) h = tt
+err-says P (Ok x) h = absurd cc
+
+pub if-ok : {A E : Type 0} {P Q : A → Type 0} (r : Result A E) → IfOk r P → ((x : A) → P x → Q x) → IfOk r Q
+if-ok (Ok x) h f = f x h
+if-ok (Err e) h f = h
 
 pub err-then : {A E P Q : Type 0} (r : Result A E) → OnErr r P → (P → Q) → OnErr r Q
 err-then (Ok x) h f = h
@@ -67,3 +73,9 @@ pub machine-written : (program : Units) (cells : ℕ) (choices : List ℕ) (old 
     → IsMachineAfter program cells choices old → IsMachineAfter program cells choices new
 machine-written program cells choices old new others records faults =
     machine-same program cells choices old new (shown-written old new others records faults) (ap (λ (m : Machine). m.processes) others) (ap (λ (m : Machine). m.passing) others)
+
+-- ---- what a step touches
+
+-- the state that was told is that after the step
+pub now-told : (program : Units) (cells : ℕ) (choices : List ℕ) (p : ℕ) (cell : Option ℕ) (changed : Option Want) (m : Snapshot) → cell_wanted changed ≡ cell → IsTold m changed → IsInState program cells choices p cell m → IsNow program cells choices p changed
+now-told program cells choices p cell changed m is told state w layout at same laid there = state w.cell layout at (sym is ∙ ap cell_wanted same) laid there ∙ told w same

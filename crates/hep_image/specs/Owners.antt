@@ -1,0 +1,54 @@
+-- Whose a cell of a frame or of COMMON is: docs/MACHINE.md, "Variables and frames" and "Layout".
+use Rattle.std.specs.Prelude.{◌≡◌, ℕ, nat_le, if◌then◌else◌, List, [], ◌∷◌, ◌++◌, map, Option, Some, None, slice_get}
+use Rattle.std.specs.List.Sorted.{IsNonDecreasingBy}
+use Rattle.std.specs.Option.{option_or}
+use Rattle.hep_source.specs.declared.name.Name.{Name}
+use Rattle.hep_source.specs.declared.statement.Statement.{Statement}
+use Rattle.hep_source.specs.Units.{Units, dummies_of}
+use Rattle.hep_machine.specs.Declarations.{BlockName, blocks_of, is_array}
+use Rattle.hep_machine.specs.Variables.{locals_of}
+use Rattle.hep_frames.specs.Rows.{argument, variable, first_of_block, first_of_part}
+use Rattle.hep_image.specs.declared.owners.BlockStart.{BlockStart}
+use Rattle.hep_image.specs.declared.owners.FrameVariable.{FrameVariable}
+
+-- the last one that begins at a cell or before it, of things with their first cells
+abbrev pub last_before : {A : Type 0} → (A → ℕ) → List A → ℕ → Option A
+last_before first [] n = None
+last_before first (x ∷ xs) n = option_or (last_before first xs n) (if nat_le (first x) n then Some x else None)
+
+-- ---- frames
+
+abbrev pub argument_at : List Statement → Name → FrameVariable
+argument_at unit x = record { name = x; first = first_of_part unit (argument x); is_array = is_array unit x }
+
+abbrev pub variable_at : List Statement → Name → FrameVariable
+variable_at unit x = record { name = x; first = first_of_part unit (variable x); is_array = is_array unit x }
+
+-- the dummy arguments and the local variables of a unit, in the order of their cells
+abbrev pub frame_variables : List Statement → List FrameVariable
+frame_variables unit = map (argument_at unit) (dummies_of unit) ++ map (variable_at unit) (locals_of unit)
+
+-- the last of them that begins at a cell of the frame, or before it
+abbrev pub variable_before : List FrameVariable → ℕ → Option FrameVariable
+variable_before vs n = last_before (λ (v : FrameVariable). v.first) vs n
+
+-- no name stands twice, as none does among the dummy arguments of a unit of an accepted program: 15.6.1
+abbrev pub AreGivenOnce : List Name → Type 0
+AreGivenOnce xs = (i j : ℕ) (x : Name) → slice_get xs i ≡ Some x → slice_get xs j ≡ Some x → i ≡ j
+
+-- none begins before one in front of it
+abbrev pub AreInOrder : List FrameVariable → Type 0
+AreInOrder vs = IsNonDecreasingBy (λ (v : FrameVariable). v.first) vs
+
+-- ---- COMMON
+
+abbrev pub block_start : Units → BlockName → BlockStart
+block_start program b = record { block = b; first = first_of_block program b }
+
+-- the common blocks of a program, in the order of their cells
+abbrev pub block_starts : Units → List BlockStart
+block_starts program = map (block_start program) (blocks_of program)
+
+-- the last of them that begins at a cell of COMMON, or before it
+abbrev pub block_before : List BlockStart → ℕ → Option BlockStart
+block_before ss n = last_before (λ (s : BlockStart). s.first) ss n

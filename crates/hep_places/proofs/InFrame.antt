@@ -1,0 +1,36 @@
+-- What is found of the variables of a frame is what it has.
+use Rattle.std.proofs.Common.{◌≡◌, ◌+◌, ◌*◌, ◌≤◌, true, List, ◌++◌, Some, ap, ap₂, ◌∙◌}
+use Rattle.std.specs.Option.{unwrap_or}
+use Rattle.hep_source.specs.declared.name.Name.{Name}
+use Rattle.hep_source.specs.declared.statement.Statement.{Statement}
+use Rattle.hep_source.specs.Names.{is_among}
+use Rattle.hep_source.specs.Units.{dummies_of}
+use Rattle.hep_machine.specs.Declarations.{is_array}
+use Rattle.hep_machine.specs.Variables.{frame_cells, locals_of}
+use Rattle.hep_accepted.proofs.Members.{Has}
+use Rattle.hep_frames.specs.Rows.{first_of_part, variable}
+use Rattle.hep_image.specs.declared.owners.FrameVariable.{FrameVariable}
+use Rattle.hep_image.specs.Owners.{argument_at, frame_variables, variable_at}
+use Rattle.hep_common.specs.Starts.{narrowed}
+use Rattle.hep_places.specs.Found.{Table}
+use Rattle.hep_places.specs.Owners.{argument_found, local_found, variables_found}
+use Rattle.hep_places.proofs.Begins.{argument-at}
+use Rattle.hep_places.proofs.Named.{has_among}
+use Rattle.hep_places.proofs.Right.{index-there, map-same}
+
+module _ (unit : List Statement) (small : frame_cells unit ≤ 16777216) (locals : Table) (at : (x : Name) → is_among x (locals_of unit) ≡ true → locals x ≡ Some (first_of_part unit (variable x))) where
+  argument-right : (x : Name) → Has (dummies_of unit) x → argument_found unit x ≡ argument_at unit x
+  argument-right x h =
+      let found = index-there x (dummies_of unit) (has_among (dummies_of unit) x h) in
+      let begins = ap (λ o. narrowed (1 + 2 * unwrap_or o 0)) found.1 ∙ argument-at unit small x found.0 found.1 in
+      λ i. record { name = x; first = begins i; is_array = is_array unit x }
+
+  local-right : (x : Name) → Has (locals_of unit) x → local_found unit locals x ≡ variable_at unit x
+  local-right x h =
+      let begins = ap (λ o. unwrap_or o 0) (at x (has_among (locals_of unit) x h)) in
+      λ i. record { name = x; first = begins i; is_array = is_array unit x }
+
+  pub frame-right : variables_found unit locals (dummies_of unit) (locals_of unit) ≡ frame_variables unit
+  frame-right =
+      ap₂ (λ (vs ws : List FrameVariable). vs ++ ws) (map-same (argument_found unit) (argument_at unit) (dummies_of unit) argument-right)
+      (map-same (local_found unit locals) (variable_at unit) (locals_of unit) local-right)

@@ -1,0 +1,55 @@
+//! The variables with cells in a unit's frame (docs/MACHINE.md, "Variables and frames").
+ghost use Rattle.std.specs.Prelude.{◌≡◌, IfOk};
+ghost use Rattle.indexmap.specs.IndexMap.{get};
+ghost use Rattle.hep_source.specs.Names.{name_eq};
+ghost use Rattle.hep_source.specs.Units.{names_of_occurrences};
+ghost use Rattle.hep_places.specs.Owners as owners;
+
+use crate::cells::behind_pairs;
+use crate::tables::Tables;
+use hep_image::FrameVariable;
+use hep_source::{Name, Occurrence};
+use hep_symbols::Symbols;
+use std::alloc::{AllocError, Global};
+
+// A dummy argument: two cells behind the header for each one before it.
+fn argument(symbols: &Symbols, name: &Name) -> FrameVariable
+    ensures { result ≡ owners.argument_found symbols.now name.now }
+{
+    let position = symbols.dummy_position(name).unwrap_or(0);
+    FrameVariable {
+        name: *name,
+        first: behind_pairs(1, position),
+        is_array: symbols.is_array(name),
+    }
+}
+
+fn local(symbols: &Symbols, tables: &Tables, name: &Name) -> FrameVariable
+    ensures { result ≡ owners.local_found symbols.now (get name_eq tables.now.locals) name.now }
+{
+    FrameVariable {
+        name: *name,
+        first: tables.locals.get(name).copied().unwrap_or(0),
+        is_array: symbols.is_array(name),
+    }
+}
+
+// These dummy arguments, and behind them these local variables.
+pub(crate) fn variables_in_frame(
+    alloc: Global,
+    symbols: &Symbols,
+    tables: &Tables,
+    dummies: &[Occurrence],
+    locals: &[Name],
+) -> Result<Vec<FrameVariable>, AllocError>
+    ensures { IfOk result (λ variables. variables.items ≡ owners.variables_found symbols.now (get name_eq tables.now.locals) (names_of_occurrences dummies.now) locals.now) }
+{
+    let mut variables = Vec::new(alloc);
+    for dummy in dummies {
+        variables.push(argument(symbols, &dummy.name))?;
+    }
+    for name in locals {
+        variables.push(local(symbols, tables, name))?;
+    }
+    Ok(variables)
+}

@@ -1,0 +1,106 @@
+-- What a turn tells of what it touched, as the laws of lists ask for it.
+use Rattle.std.proofs.Common.{◌≡◌, ◌≤◌, ℕ, zero, suc, List, [], ◌∷◌, ◌++◌, Bool, true, false, length, Option, Some, None, refl, sym, ap, ◌∙◌, subst, arith, Result, Err}
+use Rattle.std.specs.Prelude.{◌||◌, if◌then◌else◌, is_some}
+use Rattle.std.proofs.lemmas.List.{length-map}
+use Rattle.std.specs.Result.{IsErrAnd}
+use Rattle.std.proofs.lemmas.Option.{none-some, slice_get_within}
+use Rattle.std.proofs.lemmas.Result.{err_from_is_err_and}
+use Rattle.hep_source.specs.Units.{Units}
+use Rattle.hep_machine.specs.Layout.{Layout, is_held, layout_of}
+use Rattle.hep_machine.specs.Processes.{is_number_among, living}
+use Rattle.hep_machine.specs.Run.{run}
+use Rattle.hep_machine.specs.State.{State}
+use Rattle.hep_machine.specs.Step.{StepResult, Wanted, absent, state_made, step, step_result_of, stepped, wanted_by, wanted_of}
+use Rattle.hep_machine.specs.Step as results
+use Rattle.hep_blocked.specs.declared.want.Want.{Want}
+use Rattle.hep_blocked.specs.Waiting.{waiting_at}
+use Rattle.hep_frames.specs.Addresses.{address}
+use Rattle.hep_listed.specs.Listing.{GoesAlong, IsBlocked, IsTold, awake_by, is_noted, is_woken}
+use Rattle.hep_needs.specs.Needs.{need_of}
+use Rattle.hep_state.specs.declared.machine.Machine.{Machine}
+use Rattle.hep_state.specs.Outcomes.{IsNow, Touches, cell_wanted}
+use Rattle.hep_state.specs.Snapshots.{Snapshot, snapshot_of, stack_of}
+use Rattle.hep_state.specs.Taking.{HasLevels}
+use Rattle.hep_state.specs.Turns.{HasWaited, IsAfter}
+use Rattle.hep_scheduler.specs.declared.fault.ChooseFault.{ChooseFault}
+use Rattle.hep_scheduler.specs.declared.fault.ChooseFault.TheVariants.{NoMemory}
+use Rattle.hep_scheduler.specs.declared.stop.Turn.{Turn}
+use Rattle.hep_scheduler.specs.Value.{CoreValue, IsChoice}
+
+-- a cell that is told is that of a want
+of-cell : (P : ℕ → Type 0) (changed : Option Want) (c : ℕ) → cell_wanted changed ≡ Some c → P c → (w : Want) × (changed ≡ Some w) × P w.cell
+of-cell P None c e h = absurd (none-some c e)
+of-cell P (Some w) c e h = (w, refl, subst P (same (sym e)) h) where
+  same : {a b : ℕ} → Some a ≡ Some b → a ≡ b
+  same f = cc
+
+pub told-to-lists : (program : Units) (cells : ℕ) (choices : List ℕ) (p : ℕ) (layout : Layout) (changed : Option Want) → layout_of program cells is_held choices ≡ Some layout
+    → Touches program cells choices p (cell_wanted changed) → IsNow program cells choices p changed → IsTold program choices p layout changed
+told-to-lists program cells choices p layout changed laid touches now =
+    record {
+      touched = λ at touched.
+          let found = touches.told layout at laid touched in
+          of-cell (λ c. address program (run program choices) layout at ≡ Some c) changed found.0 found.1 found.2;
+      now = λ w at is there. now w layout at is laid there;
+    }
+
+-- as many processes as the state has
+pub as-many : (program : Units) (cells : ℕ) (choices : List ℕ) (m : Machine) → IsAfter program cells choices (snapshot_of m) → length m.processes.items ≡ length (run program choices).processes
+as-many program cells choices m after = sym (length-map m.processes.items stack_of) ∙ after.shows.processes
+
+-- the lists once those are woken that waited, and the others are noted
+pub along : (program : Units) (choices : List ℕ) (p : ℕ) (changed : Option Want) (waiting after : List (Option Want)) (ready noted left : List ℕ) (before now : ℕ)
+    → before ≡ length (run program choices).processes → now ≡ length (run program (choices ++ p ∷ [])).processes
+    → ((q : ℕ) → waiting_at after q ≡ awake_by changed (waiting_at waiting q))
+    → ((q : ℕ) → is_number_among q noted ≡ is_noted p (is_some (living (run program (choices ++ p ∷ [])) p)) before now ready q)
+    → ((q : ℕ) → is_number_among q left ≡ (is_woken changed waiting q || is_number_among q noted))
+    → GoesAlong program choices p changed waiting after ready left
+along program choices p changed waiting after ready noted left before now counted many waits are woken =
+    record {
+      waits = waits;
+      are_ready = λ q.
+          woken q
+          ∙ (ap (λ b. is_woken changed waiting q || b) (are q)
+          ∙ λ i. is_woken changed waiting q || is_noted p (is_some (living (run program (choices ++ p ∷ [])) p)) (counted i) (many i) ready q);
+    }
+
+-- ---- a process that waits
+
+-- a step that waits leads to no state
+idle : (r : StepResult) (w : Wanted) → wanted_of r ≡ Some w → state_made r ≡ None
+idle (stepped s) w e = absurd (none-some w e)
+idle (results.waiting v) w e = refl
+idle absent w e = refl
+
+if-none : (b : Bool) (o : Option State) → o ≡ None → (if b then None else o) ≡ None
+if-none true o e = refl
+if-none false o e = e
+
+pub waits-unstepped : (program : Units) (p : ℕ) (s : State) (w : Wanted) → wanted_by program p s ≡ Some w → step program p s ≡ None
+waits-unstepped program p s w e = if-none s.halted (state_made (step_result_of program p s)) (idle (step_result_of program p s) w e)
+
+-- what a turn says of it is what the laws of lists ask for
+pub blocked-now : (program : Units) (cells : ℕ) (choices : List ℕ) (p : ℕ) (want : Want) (m : Snapshot) → (h : HasWaited program cells choices p want.cell want.full m)
+    → need_of program p (run program choices) ≡ Some h.wanted → IsBlocked program cells choices p want
+blocked-now program cells choices p want m h needed = (
+  record {
+    wanted = h.wanted;
+    needed = needed;
+    state = h.state;
+    kept = λ layout laid. subst (λ (fs : Layout). address program (run program choices) fs h.wanted.at ≡ Some want.cell) (same (sym h.after.laid ∙ laid)) h.found;
+  },
+  ap is_some h.waits,
+)
+  where
+    same : {a b : Layout} → Some a ≡ Some b → a ≡ b
+    same e = cc
+
+-- a process with levels is one of those that were made
+pub within : (m : Snapshot) (p : ℕ) → HasLevels m p → p ≤ length m.processes
+within m zero h = absurd (none-some _ h.3)
+within m (suc k) h = omega (arith, slice_get_within m.processes k _ h.3)
+
+-- ---- refused memory
+
+pub no-memory : (P : CoreValue) (p : ℕ) (r : Result Turn ChooseFault) (Q : CoreValue) → IsErrAnd r (λ e. e ≡ NoMemory) → IsChoice P p (Err NoMemory) Q → IsChoice P p r Q
+no-memory P p r Q h given = let told = err_from_is_err_and r h in subst (λ x. IsChoice P p x Q) (sym (told.1 ∙ ap Err told.2)) given

@@ -1,0 +1,8 @@
+use Rattle.std.proofs.Common.{ap, ◌∙◌}
+use Rattle.std.specs.Prelude.{nat_eq, not}
+use Rattle.hep_machine.specs.Processes.{is_number_among}
+use Rattle.hep_listed.proofs.Members.{among-filter}
+use Rattle.hep_scheduler.proofs.lists.wait.Goals as goal
+
+pub returns-clause-ready : goal.returns-clause-ready
+returns-clause-ready c q = ap (is_number_among q) c.remove.ensures.ready ∙ among-filter (λ r. not (nat_eq c.args.p r)) q c.args.ready.now.ready
