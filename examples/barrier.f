@@ -1,4 +1,3 @@
-C     Not supported yet: refused with 403, in line 4.
 C     A barrier: no process goes on before all three have come.
       PROGRAM BARRIE
       INTEGER $COUNT, $OPEN, $DONE

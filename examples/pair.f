@@ -1,4 +1,3 @@
-C     Not supported yet: refused with 403, in line 4.
 C     A producer and a consumer over one full/empty variable.
       PROGRAM PAIR
       INTEGER $BOX, $SUM

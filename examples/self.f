@@ -1,4 +1,3 @@
-C     Not supported yet: refused with 403, in line 4.
 C     A self-scheduled loop: each process takes the next iteration.
       PROGRAM SELF
       INTEGER $NEXT, $SUM, $DONE

@@ -1,15 +1,18 @@
 -- Worked lines of faults and of processes that wait.
-use Rattle.std.proofs.Common.{◌≡◌, ℕ, Bool, true, false, List, [], ◌∷◌, refl}
+use Rattle.std.proofs.Common.{◌≡◌, ℕ, Bool, true, false, List, [], ◌∷◌, Some, None, refl}
 use Rattle.std.specs.Prelude.{codes}
 use Rattle.std.specs.Fmt.{digits}
 use Rattle.hep_machine.specs.declared.event.Kind.TheVariants.{Undefined, Divide}
-use Rattle.hep_dump.specs.declared.waiting.Listed.{Listed}
+use Rattle.hep_source.specs.declared.name.Name.{Name}
+use Rattle.hep_waiting.specs.declared.listed.Listed.{Listed}
+use Rattle.hep_waiting.specs.declared.place.Place.{Place}
+use Rattle.hep_waiting.specs.declared.place.Place.TheVariants.{Common, Variable}
 use Rattle.hep_dump.specs.Faults.{faults_text}
-use Rattle.hep_dump.specs.Waiting.{waiting_text}
+use Rattle.hep_dump.specs.Waiting.{listed_text}
 
--- a main program, a subroutine, a variable, a block and blank COMMON
+-- a main program and a subroutine
 names : List (List ℕ)
-names = codes "QUOT" ∷ codes "SUB" ∷ codes "$I" ∷ codes "BLOCK" ∷ [] ∷ []
+names = codes "QUOT" ∷ codes "SUB" ∷ []
 
 -- ---- faults
 
@@ -26,21 +29,28 @@ unnamed_unit = refl
 
 -- ---- processes that wait
 
-waits : Bool → ℕ → ℕ → ℕ → Listed
-waits full owner name element = record { process = 3; unit = 1; line = 7; full = full; owner = owner; name = name; element = element }
+-- $I and BLOCK
+variable : Name
+variable = record { asynchronous = true; letters = 73 ∷ 32 ∷ 32 ∷ 32 ∷ 32 ∷ 32 ∷ [] }
 
-scalar : waiting_text names (waits true 2 2 0 ∷ []) ≡ codes "WAITING 3 SUB LINE 7 FOR FULL $I OF 2\n"
-unfolding digits names waits
+block : Name
+block = record { asynchronous = false; letters = 66 ∷ 76 ∷ 79 ∷ 67 ∷ 75 ∷ 32 ∷ [] }
+
+waits : Bool → Place → Listed
+waits full place = record { process = 3; unit = 1; line = 7; full = full; place = place }
+
+scalar : listed_text names (waits true (Variable variable 0 2)) ≡ codes "WAITING 3 SUB LINE 7 FOR FULL $I OF 2\n"
+unfolding digits names waits variable
 scalar = refl
 
-element_of_an_array : waiting_text names (waits false 10 2 4 ∷ []) ≡ codes "WAITING 3 SUB LINE 7 FOR EMPTY $I#4 OF 10\n"
-unfolding digits names waits
+element_of_an_array : listed_text names (waits false (Variable variable 4 10)) ≡ codes "WAITING 3 SUB LINE 7 FOR EMPTY $I#4 OF 10\n"
+unfolding digits names waits variable
 element_of_an_array = refl
 
-position_in_a_block : waiting_text names (waits false 0 3 1 ∷ []) ≡ codes "WAITING 3 SUB LINE 7 FOR EMPTY /BLOCK/#1\n"
-unfolding digits names waits
+position_in_a_block : listed_text names (waits false (Common (Some block) 1)) ≡ codes "WAITING 3 SUB LINE 7 FOR EMPTY /BLOCK/#1\n"
+unfolding digits names waits block
 position_in_a_block = refl
 
-position_in_blank_common : waiting_text names (waits true 0 4 12 ∷ waits true 2 2 0 ∷ []) ≡ codes "WAITING 3 SUB LINE 7 FOR FULL //#12\nWAITING 3 SUB LINE 7 FOR FULL $I OF 2\n"
+position_in_blank_common : listed_text names (waits true (Common None 12)) ≡ codes "WAITING 3 SUB LINE 7 FOR FULL //#12\n"
 unfolding digits names waits
 position_in_blank_common = refl

@@ -6,4 +6,4 @@ mod number;
 pub mod waiting;
 
 pub use faults::{append_fault, append_faults, fault_text};
-pub use waiting::{Listed, append_waiting, waiting_text};
+pub use waiting::{append_all_waiting, append_waiting};

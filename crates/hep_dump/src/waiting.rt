@@ -1,47 +1,48 @@
 //! The lines of processes that wait.
-ghost use Rattle.std.specs.Prelude.{◌≡◌, ◌++◌, IfOk, OnOk, slice_get};
-ghost use Rattle.hep_image.specs.Names.{names_in_order};
+ghost use Rattle.std.specs.Prelude.{◌≡◌, ◌++◌, OnOk, length};
+ghost use Rattle.hep_source.specs.Names.{spelling};
+ghost use Rattle.hep_image.specs.Names.{block_spelling, names_in_order};
+ghost use Rattle.hep_scheduler.specs.Value.{listed_after, state_of};
 ghost use Rattle.hep_dump.specs.Waiting as words;
 
 use crate::faults::unit_name;
 use crate::number::append_number;
 use hep_image::Image;
-use std::alloc::{AllocError, Global};
+use hep_scheduler::{Core, Listed, Place};
+use hep_source::Name;
+use std::alloc::AllocError;
 
-/// A process that waits, where, and for what.
-#[derive(Clone, Copy, Debug, PartialEq, Eq)]
-pub struct Listed {
-    pub process: u64,
-    /// The number of the unit among the names of an image, counted from 0.
-    pub unit: u32,
-    /// The initial line of the statement, counted from 1.
-    pub line: u32,
-    /// Whether it waits until the location is full, or else until it is empty.
-    pub full: bool,
-    /// The activation that owns the variable; 0 for COMMON.
-    pub owner: u64,
-    /// The number of the variable or the block among the names of an image, counted from 0. Blank COMMON
-    /// has a name without characters.
-    pub name: u32,
-    /// The element, counted from 1; 0 for a variable that is no array. In COMMON it is the position
-    /// in the block, counted from 1.
-    pub element: u32,
+// A name as it is written.
+fn append_name(text: &mut Vec<u8>, name: Name) -> Result<(), AllocError>
+    ensures { OnOk result (text.new.items ≡ text.old.items ++ spelling name) }
+{
+    if name.asynchronous {
+        text.push(b'$')?;
+    }
+    for letter in &name.letters {
+        if *letter != b' ' {
+            text.push(*letter)?;
+        }
+    }
+    Ok(())
 }
 
-// The name with this number, and no characters where there is none.
-fn name_of(image: &Image, number: u32) -> &[u8]
-    ensures { result.now ≡ words.name_or_none (slice_get (names_in_order image.now) number) }
+// The name of a block; blank COMMON has none.
+fn append_block(text: &mut Vec<u8>, block: Option<Name>) -> Result<(), AllocError>
+    ensures { OnOk result (text.new.items ≡ text.old.items ++ block_spelling block) }
 {
-    image.name(number).unwrap_or(b"")
+    match block {
+        Some(name) => append_name(text, name),
+        None => Ok(()),
+    }
 }
 
 // A position in COMMON: `/block/#k`.
-fn append_position(text: &mut Vec<u8>, block: &[u8], position: u32) -> Result<(), AllocError>
-    ensures { OnOk result (text.new.items
-        ≡ text.old.items ++ words.position_text block.now position) }
+fn append_position(text: &mut Vec<u8>, block: Option<Name>, position: u32) -> Result<(), AllocError>
+    ensures { OnOk result (text.new.items ≡ text.old.items ++ words.position_text block position) }
 {
     text.extend_from_slice(b"/")?;
-    text.extend_from_slice(block)?;
+    append_block(text, block)?;
     text.extend_from_slice(b"/#")?;
     append_number(text, position)?;
     Ok(())
@@ -50,14 +51,13 @@ fn append_position(text: &mut Vec<u8>, block: &[u8], position: u32) -> Result<()
 // A variable or an element of an activation: `name OF a` or `name#k OF a`.
 fn append_variable(
     text: &mut Vec<u8>,
-    name: &[u8],
+    name: Name,
     element: u32,
     owner: u64,
 ) -> Result<(), AllocError>
-    ensures { OnOk result (text.new.items
-        ≡ text.old.items ++ words.variable_text name.now element owner) }
+    ensures { OnOk result (text.new.items ≡ text.old.items ++ words.variable_text name element owner) }
 {
-    text.extend_from_slice(name)?;
+    append_name(text, name)?;
     if element != 0 {
         text.extend_from_slice(b"#")?;
         append_number(text, element)?;
@@ -67,15 +67,17 @@ fn append_variable(
     Ok(())
 }
 
-// The location that a process waits for.
-fn append_place(text: &mut Vec<u8>, name: &[u8], listed: &Listed) -> Result<(), AllocError>
-    ensures { OnOk result (text.new.items
-        ≡ text.old.items ++ words.place_text name.now listed.now) }
+// What a process waits for.
+fn append_place(text: &mut Vec<u8>, place: Place) -> Result<(), AllocError>
+    ensures { OnOk result (text.new.items ≡ text.old.items ++ words.place_text place) }
 {
-    if listed.owner == 0 {
-        append_position(text, name, listed.element)
-    } else {
-        append_variable(text, name, listed.element, listed.owner)
+    match place {
+        Place::Variable {
+            name,
+            element,
+            owner,
+        } => append_variable(text, name, element, owner),
+        Place::Common { block, position } => append_position(text, block, position),
     }
 }
 
@@ -85,20 +87,19 @@ fn state_text(full: bool) -> &'static [u8]
     if full { b"FULL" } else { b"EMPTY" }
 }
 
-// What a process waits for: ` FOR FULL location`, or ` FOR EMPTY`.
-fn append_wish(text: &mut Vec<u8>, image: &Image, listed: &Listed) -> Result<(), AllocError>
-    ensures { OnOk result (text.new.items
-        ≡ text.old.items ++ words.wish_text (names_in_order image.now) listed.now) }
+// What a process waits for: ` FOR FULL place`, or ` FOR EMPTY`.
+fn append_wish(text: &mut Vec<u8>, listed: &Listed) -> Result<(), AllocError>
+    ensures { OnOk result (text.new.items ≡ text.old.items ++ words.wish_text listed.now) }
 {
     text.extend_from_slice(b" FOR ")?;
     text.extend_from_slice(state_text(listed.full))?;
     text.extend_from_slice(b" ")?;
-    append_place(text, name_of(image, listed.name), listed)?;
+    append_place(text, listed.place)?;
     text.extend_from_slice(b"\n")?;
     Ok(())
 }
 
-/// Appends the line of a process that waits: `WAITING p unit LINE n FOR FULL location`, or
+/// Appends the line of a process that waits: `WAITING p unit LINE n FOR FULL place`, or
 /// `FOR EMPTY`.
 ///
 /// # Errors
@@ -114,22 +115,32 @@ pub fn append_waiting(text: &mut Vec<u8>, image: &Image, listed: &Listed) -> Res
     text.extend_from_slice(unit_name(image, listed.unit))?;
     text.extend_from_slice(b" LINE ")?;
     append_number(text, listed.line)?;
-    append_wish(text, image, listed)?;
+    append_wish(text, listed)?;
     Ok(())
 }
 
-/// The lines of processes that wait, in order.
+// The line of a process, where it waits.
+fn append_process(text: &mut Vec<u8>, core: &Core, process: u64) -> Result<(), AllocError>
+    ensures { OnOk result (text.new.items
+        ≡ text.old.items ++ words.process_text (names_in_order core.now.program) (listed_after core.now.program core.now.history process)) }
+{
+    match core.waiting(process) {
+        Some(listed) => append_waiting(text, core.image(), &listed),
+        None => Ok(()),
+    }
+}
+
+/// Appends the lines of all processes that were found waiting and wait since, by their numbers.
 ///
 /// # Errors
 ///
 /// Only where memory was refused.
-pub fn waiting_text(alloc: Global, image: &Image, waiting: &[Listed]) -> Result<Vec<u8>, AllocError>
-    ensures { IfOk result (λ text. text.items
-        ≡ words.waiting_text (names_in_order image.now) waiting.now) }
+pub fn append_all_waiting(text: &mut Vec<u8>, core: &Core) -> Result<(), AllocError>
+    ensures { OnOk result (text.new.items
+        ≡ text.old.items ++ words.waiting_text core.now.program core.now.history 1 (length (state_of core.now).processes)) }
 {
-    let mut text = Vec::new(alloc);
-    for listed in waiting {
-        append_waiting(&mut text, image, listed)?;
+    for process in 1..=core.processes() {
+        append_process(text, core, process)?;
     }
-    Ok(text)
+    Ok(())
 }

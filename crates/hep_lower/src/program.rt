@@ -151,7 +151,8 @@ fn lower_program(alloc: Global, checked: &Checked, main: usize) -> Result<Image,
 /// line, where COMMON or the frame of a unit would have more than 16,777,216 cells, or there would be more than
 /// 1,048,576 instructions in all units together. Else 402 with the line of the first statement that would have more
 /// than 256 operands at once (docs/LANGUAGE.md, 12). Else 403 with the line of the first statement that isn't
-/// supported (docs/LANGUAGE.md, 11). Or that memory was refused, which is asked for only where there is a main program.
+/// supported, which is a PURGE (docs/LANGUAGE.md, 11). Or that memory was refused, which is asked for only where there
+/// is a main program.
 pub fn lower(alloc: Global, checked: &Checked) -> Result<Image, LowerFault>
     // What is lowered is the program.
     ensures same { IfOk result (λ image. image ≡ checked.now) }

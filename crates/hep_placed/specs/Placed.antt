@@ -8,7 +8,6 @@ use Rattle.hep_machine.specs.Declarations.{is_array, named_constants}
 use Rattle.hep_code.specs.declared.instruction.Instruction.{Instruction}
 use Rattle.hep_code.specs.declared.variable.Variable.{Variable}
 use Rattle.hep_code.specs.declared.variable.Variable.TheVariants.{Absent}
-use Rattle.hep_code.specs.Replies.{is_asynchronous}
 use Rattle.hep_code.specs.Stacks.{addressed_unit}
 use Rattle.hep_code.specs.UnitCode.{code_of}
 use Rattle.hep_image.specs.declared.array.Start.{Start}
@@ -24,10 +23,6 @@ IsPlaced x = x ≢ Absent
 
 abbrev pub ArePlaced : List Variable → Type 0
 ArePlaced xs = (i : ℕ) (x : Variable) → slice_get xs i ≡ Some x → IsPlaced x
-
--- variables without `$`
-abbrev pub ArePlain : List Variable → Type 0
-ArePlain xs = (i : ℕ) (x : Variable) → slice_get xs i ≡ Some x → is_asynchronous x ≡ false
 
 -- no named constant has a `$`: docs/LANGUAGE.md, 3
 abbrev pub AreConstantsPlain : List Statement → Type 0

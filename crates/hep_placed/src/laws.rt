@@ -20,7 +20,7 @@ ghost use Rattle.hep_image.specs.declared.array.Start.{Start};
 ghost use Rattle.hep_image.specs.Places.{arrays_of, start_of, variable_of};
 ghost use Rattle.hep_image.specs.Supported.{first_unsupported};
 ghost use Rattle.hep_placed.specs.Instructions.{PurgesNothing, variables_in, variables_in_operation};
-ghost use Rattle.hep_placed.specs.Placed.{AreConstantsPlain, ArePlaced, ArePlain, IsArrayAt, IsCalledWith, IsPlaced, code_in};
+ghost use Rattle.hep_placed.specs.Placed.{AreConstantsPlain, ArePlaced, IsArrayAt, IsCalledWith, IsPlaced, code_in};
 
 use hep_check::laws;
 
@@ -35,12 +35,11 @@ pub fn variables_of_the_code_are_placed()
     laws::constants_agree();
 }
 
-/// Where a program has nothing that isn't supported, it has a main program; in its code nothing is purged, and each variable, passed
-/// ones too, has storage units and no `$`.
+/// Where a program has nothing that isn't supported, it has a main program; in its code nothing is purged, and each
+/// variable, passed ones too, has storage units.
 pub fn supported_code()
     ensures main { (program : Units) → first_unsupported program ≡ None → is_some (main_among program) ≡ true }
     ensures unpurged { (program : Units) (u i : ℕ) (x : Instruction) → IsAccepted program → first_unsupported program ≡ None → u < length program → slice_get (code_in program u) i ≡ Some x → PurgesNothing x }
-    ensures plain { (program : Units) (u i : ℕ) (x : Instruction) → IsAccepted program → first_unsupported program ≡ None → u < length program → slice_get (code_in program u) i ≡ Some x → ArePlain (variables_in x) }
     ensures placed { (program : Units) (u i : ℕ) (x : Instruction) → IsAccepted program → first_unsupported program ≡ None → u < length program → slice_get (code_in program u) i ≡ Some x → ArePlaced (variables_in x) }
 {
     laws::constants_agree();

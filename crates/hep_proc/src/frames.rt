@@ -227,6 +227,14 @@ impl Frames {
         self.nodes[key].unit
     }
 
+    /// The key of the frame of the activation's parent whose frame is under a key; none for the main program's.
+    pub fn parent(&self, key: usize) -> Option<usize>
+        requires { ContainsKey self.now.nodes key }
+        ensures { (n : TreeNode) → nodes_of self.now.nodes key ≡ Some n → result ≡ n.parent }
+    {
+        self.nodes[key].parent
+    }
+
     /// The slot of a cell that is out.
     pub fn get(&self, at: u32) -> Slot
         requires inside { at < length self.now.arena.contents }

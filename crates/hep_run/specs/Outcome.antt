@@ -4,19 +4,23 @@ use Rattle.hep_machine.specs.declared.event.Entry.{Entry}
 use Rattle.hep_machine.specs.declared.event.Fault.{Fault}
 use Rattle.hep_source.specs.Units.{Units}
 use Rattle.hep_machine.specs.Layout.{opening_layout}
-use Rattle.hep_machine.specs.Schedules.{next_ready}
+use Rattle.hep_machine.specs.Schedules.{living_from, next_ready, progress_after, ready_in}
 use Rattle.hep_machine.specs.Run.{schedule_of, state_after}
 use Rattle.hep_machine.specs.Histories.{IsLegal}
 use Rattle.hep_machine.specs.Processes.{living}
 use Rattle.hep_state.specs.Turns.{HasNoGap}
 use Rattle.hep_scheduler.specs.declared.stop.Stop.{Stop}
 use Rattle.hep_scheduler.specs.declared.stop.Stop.TheVariants.{Halted, ArenaFull, StepLimit}
+use Rattle.hep_scheduler.specs.declared.stop.Verdict.{Verdict}
+use Rattle.hep_scheduler.specs.declared.stop.Verdict.TheVariants as verdicts
+use Rattle.hep_scheduler.specs.Value.{verdict_by}
 use Rattle.hep_image.specs.Names.{names_in_order}
 use Rattle.hep_run.specs.declared.options.Options.{Options}
 use Rattle.hep_run.specs.declared.status.Status.{Status}
 use Rattle.hep_run.specs.declared.status.Status.TheVariants as statuses
 use Rattle.hep_output.specs.Records.{records_text}
 use Rattle.hep_dump.specs.Faults.{faults_text}
+use Rattle.hep_dump.specs.Waiting.{waiting_text}
 use Rattle.hep_run.specs.Sources.{IsRefusedSource, IsRunnableSource}
 use Rattle.hep_run.specs.Texts.{refusal_text, stop_text, choice_text}
 
@@ -93,18 +97,34 @@ abbrev pub status_by_faults : List Fault → Status
 status_by_faults [] = statuses.Done
 status_by_faults (f ∷ fs) = statuses.Faulted
 
-abbrev pub status_of : Option Stop → List Fault → Status
-status_of None faults = status_by_faults faults
-status_of (Some Halted) faults = status_by_faults faults
-status_of (Some ArenaFull) faults = statuses.ArenaFull
-status_of (Some StepLimit) faults = statuses.StepLimit
+abbrev pub status_of_waiting : List Fault → Status
+status_of_waiting [] = statuses.Waiting
+status_of_waiting (f ∷ fs) = statuses.Faulted
+
+abbrev pub status_of : Verdict → List Fault → Status
+status_of (verdicts.Stopped ArenaFull) faults = statuses.ArenaFull
+status_of (verdicts.Stopped StepLimit) faults = statuses.StepLimit
+status_of (verdicts.Stopped Halted) faults = status_by_faults faults
+status_of verdicts.Waiting faults = status_of_waiting faults
+status_of verdicts.Done faults = status_by_faults faults
+status_of verdicts.Running faults = status_by_faults faults
+
+-- whether a run with this history and this stop goes on
+abbrev pub verdict_after : Units → List Entry → Option Stop → Verdict
+verdict_after program history stop =
+    verdict_by stop (living_from 1 (state_after program history).processes) (ready_in (progress_after program history))
+
+-- the lines of the processes that wait, where all do that live
+abbrev pub dump_text : Units → List Entry → Verdict → List ℕ
+dump_text program history verdicts.Waiting = waiting_text program history 1 (length (state_after program history).processes)
+dump_text program history _ = []
 
 abbrev pub outcome_of_end : Units → List Entry → Option Stop → Outcome
 outcome_of_end program history stop =
     record {
       output = records_text (state_after program history).records;
-      messages = faults_text (names_in_order program) (state_after program history).faults ++ stop_text stop;
-      status = status_of stop (state_after program history).faults;
+      messages = faults_text (names_in_order program) (state_after program history).faults ++ dump_text program history (verdict_after program history stop) ++ stop_text stop;
+      status = status_of (verdict_after program history stop) (state_after program history).faults;
       history = history;
     }
 

@@ -14,7 +14,7 @@ use Rattle.hep_history.specs.Histories.{entry_text, IsAllowed}
 use Rattle.hep_history.specs.Replays.{replayed, ArePossible, IsFirstImpossible}
 use Rattle.hep_run.specs.declared.status.Status.TheVariants as statuses
 use Rattle.hep_run.specs.Sources.{IsRefusedSource, IsRunnableSource}
-use Rattle.hep_run.specs.Outcome.{Outcome, refused, outcome_of_full_arena, status_of}
+use Rattle.hep_run.specs.Outcome.{Outcome, dump_text, refused, outcome_of_full_arena, status_of}
 use Rattle.hep_run.specs.Texts.{refusal_text, stop_text}
 
 -- ---- outcomes
@@ -33,8 +33,8 @@ abbrev pub outcome_of_core : CoreValue → Outcome
 outcome_of_core core =
     record {
       output = records_text (state_of core).records;
-      messages = faults_text (names_in_order core.program) (state_of core).faults ++ stop_text core.stop ++ running_text (verdict_of core);
-      status = status_of core.stop (state_of core).faults;
+      messages = faults_text (names_in_order core.program) (state_of core).faults ++ dump_text core.program core.history (verdict_of core) ++ stop_text core.stop ++ running_text (verdict_of core);
+      status = status_of (verdict_of core) (state_of core).faults;
       history = core.history;
     }
 

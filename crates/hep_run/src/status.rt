@@ -11,8 +11,10 @@ pub enum Status {
     Refused,
     /// What was handed in beside the source can't be used: the words, the choices or a history.
     Usage,
-    /// The run is done, and a process ended by a fault.
+    /// The run is over, and a process ended by a fault.
     Faulted,
+    /// All processes that live wait, and none ended by a fault.
+    Waiting,
     /// A frame doesn't fit the arena.
     ArenaFull,
     /// The history is full.
@@ -33,6 +35,7 @@ impl Status {
             Status::Refused => 1,
             Status::Usage => 2,
             Status::Faulted => 3,
+            Status::Waiting => 4,
             Status::ArenaFull => 5,
             Status::StepLimit => 6,
             Status::NoMemory => 7,

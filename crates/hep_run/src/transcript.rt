@@ -1,5 +1,5 @@
 //! What a run writes, its status and its history.
-ghost use Rattle.std.specs.Prelude.{◌≡◌, ◌+◌, [], IfOk, length};
+ghost use Rattle.std.specs.Prelude.{◌≡◌, ◌+◌, ◌++◌, [], IfOk, OnOk, length};
 ghost use Rattle.hep_run.specs.Texts as texts;
 ghost use Rattle.hep_run.specs.Outcome as outcome;
 ghost use Rattle.hep_run.specs.Outcome.{outcome_of_end, outcome_of_refused_choice};
@@ -10,7 +10,7 @@ ghost use Rattle.hep_run.specs.Transcripts.{outcome_of};
 
 use crate::status::Status;
 use crate::texts::put_refusal;
-use hep_dump::append_faults;
+use hep_dump::{append_all_waiting, append_faults};
 use hep_history::History;
 use hep_output::append_records;
 use hep_scheduler::{Core, Fault, Stop, Verdict};
@@ -22,7 +22,7 @@ use std::alloc::{AllocError, Global};
 pub struct Transcript {
     /// The lines of the records.
     pub output: Vec<u8>,
-    /// The lines of the faults and of a stop, or that of a refusal.
+    /// The lines of the faults, of the processes that wait and of a stop, or that of a refusal.
     pub messages: Vec<u8>,
     /// What the run came to.
     pub status: Status,
@@ -57,14 +57,25 @@ fn stop_text(stop: Option<Stop>) -> &'static [u8]
     }
 }
 
-fn status_of(stop: Option<Stop>, faults: &[Fault]) -> Status
-    ensures { result ≡ outcome.status_of stop faults.now }
+fn status_of(verdict: Verdict, faults: &[Fault]) -> Status
+    ensures { result ≡ outcome.status_of verdict faults.now }
 {
-    match (stop, faults) {
-        (Some(Stop::ArenaFull), _) => Status::ArenaFull,
-        (Some(Stop::StepLimit), _) => Status::StepLimit,
-        (None | Some(Stop::Halted), []) => Status::Done,
-        (None | Some(Stop::Halted), [_, ..]) => Status::Faulted,
+    match (verdict, faults) {
+        (Verdict::Stopped(Stop::ArenaFull), _) => Status::ArenaFull,
+        (Verdict::Stopped(Stop::StepLimit), _) => Status::StepLimit,
+        (_, [_, ..]) => Status::Faulted,
+        (Verdict::Waiting, []) => Status::Waiting,
+        (Verdict::Stopped(Stop::Halted) | Verdict::Done | Verdict::Running, []) => Status::Done,
+    }
+}
+
+// The lines of the processes that wait, where all do that live.
+fn append_dump(text: &mut Vec<u8>, core: &Core, verdict: Verdict) -> Result<(), AllocError>
+    ensures { OnOk result (text.new.items ≡ text.old.items ++ outcome.dump_text core.now.program core.now.history verdict) }
+{
+    match verdict {
+        Verdict::Waiting => append_all_waiting(text, core),
+        Verdict::Stopped(_) | Verdict::Done | Verdict::Running => Ok(()),
     }
 }
 
@@ -94,16 +105,18 @@ pub fn ended_transcript(alloc: Global, core: &Core) -> Result<Transcript, AllocE
         outcome_of r ≡ outcome_of_end core.now.program core.now.history core.now.stop) }
 {
     let stop = stop_of(core);
+    let verdict = core.verdict();
     let history = history_of(alloc, core)?;
     let mut output = Vec::new(alloc);
     append_records(&mut output, core.output())?;
     let mut messages = Vec::new(alloc);
     append_faults(&mut messages, core.image(), core.faults())?;
+    append_dump(&mut messages, core, verdict)?;
     messages.extend_from_slice(stop_text(stop))?;
     Ok(Transcript {
         output,
         messages,
-        status: status_of(stop, core.faults()),
+        status: status_of(verdict, core.faults()),
         history,
     })
 }

@@ -8,8 +8,10 @@ use Rattle.hep_machine.specs.Run.{schedule_of, state_after}
 use Rattle.hep_machine.specs.Layout.{is_held, opening_layout}
 use Rattle.hep_machine.specs.Schedules.{living_from, next_ready, progress_after, ready_in}
 use Rattle.hep_machine.specs.Views.{View, view_of}
-use Rattle.hep_machine.specs.Processes.{living}
+use Rattle.hep_machine.specs.Processes.{is_number_among, living}
 use Rattle.hep_state.specs.Turns.{HasNoGap}
+use Rattle.hep_waiting.specs.declared.listed.Listed.{Listed}
+use Rattle.hep_waiting.specs.Listed.{listed_by}
 use Rattle.hep_scheduler.specs.declared.stop.Stop.{Stop}
 use Rattle.hep_scheduler.specs.declared.stop.Stop.TheVariants.{Halted, ArenaFull, StepLimit}
 use Rattle.hep_scheduler.specs.declared.stop.Turn.{Turn}
@@ -105,3 +107,10 @@ verdict_of core =
 
 abbrev pub next_ready_of : CoreValue → Option ℕ
 next_ready_of core = next_ready core.program core.history
+
+-- ---- processes that wait
+
+-- process p after a history, where it is listed
+abbrev pub listed_after : Units → List Entry → ℕ → Option Listed
+listed_after program history p =
+    if is_number_among p (progress_after program history).listed then listed_by program p (state_after program history) else None

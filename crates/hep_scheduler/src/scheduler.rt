@@ -3,7 +3,7 @@ ghost use Rattle.std.specs.Prelude.{◌≡◌, ◌≤◌, ◌<◌, ◌++◌, ◌
 ghost use Rattle.hep_machine.specs.Histories.{IsLegal};
 ghost use Rattle.hep_machine.specs.Layout.{is_held, opening_layout, used_cells};
 ghost use Rattle.hep_machine.specs.Views.{view_of};
-ghost use Rattle.hep_scheduler.specs.Value.{state_of, opening_of, IsNewFault, IsChoice, IsStop, verdict_of, next_ready_of};
+ghost use Rattle.hep_scheduler.specs.Value.{state_of, opening_of, IsNewFault, IsChoice, IsStop, listed_after, verdict_of, next_ready_of};
 
 use crate::fault::{ChooseFault, NewFault};
 use crate::lists::{note_ready, wait, wake};
@@ -21,6 +21,8 @@ use hep_ready::Ready;
 use hep_state::laws::activations_are_few;
 use hep_state::{Machine, TurnFault, Turned, fits};
 use hep_views::laws::views_are_of_states;
+use hep_waiting::Listed;
+use hep_waiting::finding::listed;
 use std::alloc::Global;
 use std::marker::Model;
 
@@ -195,6 +197,23 @@ impl Core {
             None if self.waits.is_empty() => Verdict::Done,
             None => Verdict::Waiting,
         }
+    }
+
+    /// How many processes were made.
+    pub fn processes(&self) -> u64
+        ensures { result ≡ length (state_of self.now).processes }
+    {
+        self.machine.processes.len() as u64
+    }
+
+    /// Process p, where it was found waiting and waits since: where it is, and for what it waits.
+    ///
+    /// This costs a step for each activation from the process's top one up to the one whose variable it waits for.
+    pub fn waiting(&self, p: u64) -> Option<Listed>
+        ensures { result ≡ listed_after self.now.program self.now.history p }
+    {
+        let want = self.waits.waiting(p)?;
+        Some(listed(&self.machine, &self.image, p, want))
     }
 
     /// How many cells of the arena are taken.

@@ -1,8 +1,6 @@
 //! Which statements of accepted programs can be run so far (docs/MACHINE.md, "The program").
 #![tactic(auto)]
 
-mod arrays;
-mod asynchronous;
 mod statements;
 pub mod supported;
 

@@ -34,19 +34,18 @@ pub fn main_index(program: &[Unit]) -> Option<usize>
 
 // The line of the first statement of a unit that isn't supported.
 fn first_unsupported_among(unit: &[Statement]) -> Option<u32>
-    ensures { result ≡ supported.first_unsupported_among unit.now unit.now }
+    ensures { result ≡ supported.first_unsupported_among unit.now }
 {
     for statement in unit {
-        if is_unsupported(unit, statement) {
+        if is_unsupported(statement) {
             return Some(statement.line);
         }
     }
     None
 }
 
-/// The line of the first statement, in the order of the source, that can't be run so far: a CREATE, a PURGE, or one with an
-/// asynchronous name; `None` where there is none. That a program has no main program, or that a unit has adjustable
-/// arrays, is for the caller to find out.
+/// The line of the first statement, in the order of the source, that can't be run so far, which is a PURGE; `None` where
+/// there is none. That a program has no main program is for the caller to find out.
 ///
 /// It takes no memory, and of an accepted program each statement is gone through once.
 pub fn first_unsupported_statement(program: &[Unit]) -> Option<u32>

@@ -1,7 +1,7 @@
 //! Texts of records, histories, choices and processes that wait, each public call once.
 
 use super::image_from;
-use hep_dump::{Listed, fault_text, waiting_text};
+use hep_dump::{append_all_waiting, fault_text};
 use hep_history::{read_choices, read_text, replay, write_text};
 use hep_machine::{Item, Record};
 use hep_output::{output_text, put_all, record_text};
@@ -54,7 +54,7 @@ fn replayed(alloc: Global, source: &[u8], steps: u32) -> Result<Core, Fail> {
     Ok(replay(alloc, image, 10, &entries)?)
 }
 
-// A run made again from its history, its faults, and the line of a process that would wait.
+// Runs made again from their histories, the faults of one, and the line of a process that waits.
 #[test]
 fn replays(rt: HostRuntime) -> Result<(), Fail> {
     let alloc = rt.alloc();
@@ -64,19 +64,12 @@ fn replays(rt: HostRuntime) -> Result<(), Fail> {
         faults.as_slice(),
         b"FAULT 1 MAIN LINE 1 DIVIDE\n".as_slice()
     );
-    let waiting = [Listed {
-        process: 2,
-        unit: 0,
-        line: 3,
-        full: true,
-        owner: 1,
-        name: 1,
-        element: 0,
-    }];
-    let lines = waiting_text(alloc, core.image(), &waiting)?;
+    let core = replayed(alloc, b"      I=$K\n      END\n", 0)?;
+    let mut lines = Vec::new(alloc);
+    append_all_waiting(&mut lines, &core)?;
     assert_eq!(rt;
         lines.as_slice(),
-        b"WAITING 2 MAIN LINE 3 FOR FULL I OF 1\n".as_slice()
+        b"WAITING 1 MAIN LINE 1 FOR FULL $K OF 1\n".as_slice()
     );
     Ok(())
 }

@@ -1,0 +1,127 @@
+-- From an activation upwards: whose parent is above it, and what a name stands for is of it or of one above it.
+use Rattle.std.proofs.Common.{◌≡◌, inl, inr, ℕ, ◌-◌, ◌||◌, Bool, true, false, true≢false, List, Option, Some, None, refl, sym, ap, ◌∙◌, subst}
+use Rattle.std.specs.Prelude.{Result, Ok, Err, nat_eq}
+use Rattle.std.proofs.lemmas.Bool.{eqb-true, eq-eqb}
+use Rattle.std.proofs.lemmas.Option.{none-some, same_Some}
+use Rattle.hep_source.specs.declared.function.StateFunction.{StateFunction}
+use Rattle.hep_source.specs.declared.function.StateFunction.TheVariants.{IsFull, IsEmpty, ValueOf, SetEmpty, WaitFull}
+use Rattle.hep_source.specs.declared.name.Name.{Name}
+use Rattle.hep_source.specs.declared.value.Value.{Value}
+use Rattle.hep_source.specs.Names.{index_among}
+use Rattle.hep_source.specs.Units.{Units, dummies_of, unit_at}
+use Rattle.hep_machine.specs.declared.event.Kind.{Kind}
+use Rattle.hep_machine.specs.Declarations.{BlockName, common_block}
+use Rattle.hep_machine.specs.Evaluation.{assigning, Next, does, wants, reading, testing, Reference, next_of}
+use Rattle.hep_machine.specs.Locations.{Scope, dummy_at, element_of, location_in, location_of_name, start_by_block, storage_by_dummy, storage_of}
+use Rattle.hep_machine.specs.Processes.{activation_of, living, parent_of, unit_of}
+use Rattle.hep_machine.specs.State.{Level, Location, Process, State, common, local}
+use Rattle.hep_machine.specs.Step.{Wanted, scope_of}
+use Rattle.hep_machine.specs.Storage.{further}
+use Rattle.hep_frames.specs.References.{IsAbove, IsOwnedAbove}
+use Rattle.hep_frames.proofs.Tree.{or-parts}
+use Rattle.hep_needs.specs.Needs.{if_so, named_location, need_of, need_of_next, need_of_test, on_top, wanted_at}
+
+-- ---- what is above an activation and isn't it is above its parent
+
+or-true : (b c : Bool) → c ≡ true → (b || c) ≡ true
+or-true true c e = refl
+or-true false c e = e
+
+or-left : (b c : Bool) → b ≡ true → (b || c) ≡ true
+or-left true c e = refl
+or-left false c e = absurd (true≢false (sym e))
+
+module _ (s : State) (above a : ℕ) (other : a ≡ above → ⊥) (is_above : IsAbove s above a) where
+  -- an activation has a parent, where another one is above it
+  lone : parent_of s a ≡ None → ⊥
+  lone none = other (sym (eqb-true above a (is_above (λ c. nat_eq c a) (eq-eqb a a refl) closed))) where
+    closed : (c b : ℕ) → nat_eq c a ≡ true → parent_of s c ≡ Some b → nat_eq b a ≡ true
+    closed c b t e = absurd (none-some b (sym none ∙ ap (parent_of s) (sym (eqb-true c a t)) ∙ e))
+
+  above-next : (b : ℕ) → parent_of s a ≡ Some b → IsAbove s above b
+  above-next b parent among here closed =
+      let with_a = or-left (nat_eq a a) (among a) (eq-eqb a a refl) in
+      elim (or-parts (nat_eq above a) (among above) (is_above (λ c. nat_eq c a || among c) with_a more)) [
+        | inl t ↦ absurd (other (sym (eqb-true above a t)))
+        | inr t ↦ t
+      ]
+    where
+      more : (c d : ℕ) → (nat_eq c a || among c) ≡ true → parent_of s c ≡ Some d → (nat_eq d a || among d) ≡ true
+      more c d t e = elim (or-parts (nat_eq c a) (among c) t) [
+        | inl same ↦
+            let next : b ≡ d = same_Some b d (sym parent ∙ ap (parent_of s) (sym (eqb-true c a same)) ∙ e) in
+            or-true (nat_eq d a) (among d) (ap among (sym next) ∙ here)
+        | inr inside ↦ or-true (nat_eq d a) (among d) (closed c d inside e)
+      ]
+
+  pub above-parent : (b : ℕ) × (parent_of s a ≡ Some b) × IsAbove s above b
+  above-parent = by_parent (parent_of s a) refl where
+    by_parent : (o : Option ℕ) → parent_of s a ≡ o → (b : ℕ) × (parent_of s a ≡ Some b) × IsAbove s above b
+    by_parent None e = absurd (lone e)
+    by_parent (Some b) e = (b, e, above-next b e)
+
+-- ---- what is needed has a name
+
+wanted-named : (asynchronous full : Bool) (at : Result Location Kind) (w : Wanted)
+    → if_so asynchronous (wanted_at full (named_location at)) ≡ Some w → at ≡ Ok w.at
+wanted-named false full at w e = absurd (none-some w e)
+wanted-named true full (Err k) w e = absurd (none-some w e)
+wanted-named true full (Ok at) w e = ap (λ (z : Wanted). Ok z.at) (same_Some (record { at = at; full = full }) w e)
+
+test-named : (f : StateFunction) (at : Result Location Kind) (w : Wanted) → need_of_test f (named_location at) ≡ Some w → at ≡ Ok w.at
+test-named IsFull at w e = absurd (none-some w e)
+test-named IsEmpty at w e = absurd (none-some w e)
+test-named ValueOf at w e = absurd (none-some w e)
+test-named SetEmpty at w e = absurd (none-some w e)
+test-named WaitFull at w e = wanted-named true true at w e
+
+need-named : (scope : Scope) (n : Next) (w : Wanted) → need_of_next scope n ≡ Some w
+    → (r : Reference) × (location_of_name scope r.0 r.1 ≡ Ok w.at)
+need-named scope (wants (reading r)) w e = (r, wanted-named r.0.asynchronous true (location_of_name scope r.0 r.1) w e)
+need-named scope (wants (testing f r)) w e = (r, test-named f (location_of_name scope r.0 r.1) w e)
+need-named scope (does (assigning r v)) w e = (r, wanted-named r.0.asynchronous false (location_of_name scope r.0 r.1) w e)
+need-named scope n w e = absurd (none-some w e)
+
+-- ---- what a name stands for
+
+owned-further : (s : State) (a n : ℕ) (start at : Location) → further start n ≡ at → IsOwnedAbove s a start → IsOwnedAbove s a at
+owned-further s a n (local b x i) at e h = subst (IsOwnedAbove s a) e h
+owned-further s a n (common block k) at e h = subst (IsOwnedAbove s a) e tt
+
+module _ (program : Units) (s : State) (a : ℕ)
+    (references : (k : ℕ) → IsOwnedAbove s a (dummy_at (activation_of s a).dummies k).start) where
+  abbrev scope : Scope
+  scope = scope_of program s a
+
+  own-above : (x : Name) (block : Option BlockName) → IsOwnedAbove s a (start_by_block scope x block)
+  own-above x None = λ among here closed. here
+  own-above x (Some block) = tt
+
+  storage-above : (x : Name) → IsOwnedAbove s a (storage_of scope x).start
+  storage-above x = by_index (index_among x (dummies_of scope.unit)) where
+    by_index : (o : Option ℕ) → IsOwnedAbove s a (storage_by_dummy scope x o).start
+    by_index None = own-above x (common_block scope.unit x)
+    by_index (Some k) = references k
+
+  named-above : (x : Name) (vs : List Value) (at : Location) → location_of_name scope x vs ≡ Ok at → IsOwnedAbove s a at
+  named-above x vs at e = by_number (element_of (storage_of scope x) vs) e where
+    by_number : (r : Result ℕ Kind) → location_in (storage_of scope x) r ≡ Ok at → IsOwnedAbove s a at
+    by_number (Err k) e = absurd cc
+    by_number (Ok n) e =
+        let same : further (storage_of scope x).start (n - 1) ≡ at = cc in
+        owned-further s a (n - 1) (storage_of scope x).start at same (storage-above x)
+
+-- ---- the next step of a process
+
+-- what it needs is of COMMON, of its top activation or of one above that
+pub need-above : (program : Units) (s : State) (p : ℕ) (w : Wanted)
+    → ((a k : ℕ) → IsOwnedAbove s a (dummy_at (activation_of s a).dummies k).start)
+    → need_of program p s ≡ Some w → (top : Level × Process) × (living s p ≡ Some top) × IsOwnedAbove s top.0.activation w.at
+need-above program s p w references needed = by_top (living s p) refl needed where
+  by_top : (o : Option (Level × Process)) → living s p ≡ o → on_top need_of_next program s o ≡ Some w
+      → (top : Level × Process) × (living s p ≡ Some top) × IsOwnedAbove s top.0.activation w.at
+  by_top None lives e = absurd (none-some w e)
+  by_top (Some top) lives e =
+      let a = top.0.activation in
+      let named = need-named (scope_of program s a) (next_of (unit_at program (unit_of s a)) top.0.work) w e in
+      (top, lives, named-above program s a (references a) named.0.0 named.0.1 w.at named.1)

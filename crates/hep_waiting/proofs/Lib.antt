@@ -1,0 +1,4 @@
+pub mod Above
+pub mod Holders
+pub mod Places
+pub mod Waiting

@@ -1,0 +1,159 @@
+//! From the cell for which a process waits to the storage unit that is kept there.
+ghost use Rattle.std.specs.Prelude.{◌≡◌, ◌+◌, ◌-◌, ◌<◌, ◌≤◌, ◌&&◌, ℕ, if◌then◌else◌, nat_le, nat_lt, IsSome, List, Some, drop};
+ghost use Rattle.slab.specs.Slab.{ContainsKey};
+ghost use Rattle.hep_source.specs.declared.value.Value.{Value};
+ghost use Rattle.hep_machine.specs.Processes.{numbered};
+ghost use Rattle.hep_machine.specs.Run.{run};
+ghost use Rattle.hep_machine.specs.State.{Location};
+ghost use Rattle.hep_code.specs.Depths as depths;
+ghost use Rattle.hep_frames.specs.Tree.{Node};
+ghost use Rattle.hep_image.specs.declared.owners.BlockStart.{BlockStart};
+ghost use Rattle.hep_image.specs.declared.owners.FrameVariable.{FrameVariable};
+ghost use Rattle.hep_image.specs.Image.{most_cells};
+ghost use Rattle.hep_image.specs.Owners.{AreInOrder, block_before, block_starts, variable_before};
+ghost use Rattle.hep_proc.specs.Nodes.{nodes_of};
+ghost use Rattle.hep_state.specs.declared.machine.Level.{Level as ALevel};
+ghost use Rattle.hep_state.specs.Rooms.{IsMachineAfter};
+ghost use Rattle.hep_state.specs.Snapshots.{snapshot_of};
+ghost use Rattle.hep_state.specs.Taking.{HasLevels, stack_with};
+ghost use Rattle.hep_listed.specs.Listing.{IsBlocked};
+ghost use Rattle.hep_waiting.specs.declared.place.Place.TheVariants.{Common, Variable};
+ghost use Rattle.hep_waiting.specs.Listed.{listed_by, place_of};
+ghost use Rattle.hep_waiting.specs.Sought.{IsSought, has_cell as frame_has_cell, holder_above};
+
+use crate::listed::Listed;
+use crate::place::Place;
+use hep_accepted::names::names_are_given_once;
+use hep_blocked::Want;
+use hep_code::Instruction;
+use hep_frames::laws::references_lead_upwards;
+use hep_image::laws::cells_tell_their_variables;
+use hep_image::{Image, UnitCode};
+use hep_needs::laws::waits_are_unmet_needs;
+use hep_proc::Frames;
+use hep_state::{Level, Machine};
+use hep_views::laws::cells_tell_their_units;
+use hep_works::laws::units_are_there;
+
+// The level of the top activation of process p.
+fn top(machine: &Machine, p: u64) -> Level
+    requires { HasLevels (snapshot_of machine.now) p }
+    ensures { (l : ALevel) (ls : List ALevel) (operands : List Value) → numbered (snapshot_of machine.now).processes p ≡ Some (stack_with l ls operands) → result ≡ l }
+{
+    let levels = &machine.processes[(p - 1) as usize].levels;
+    levels[levels.len() - 1]
+}
+
+// The line of the first operation from an index on.
+fn line_from(code: &[Instruction], index: usize) -> u32
+    ensures { result ≡ depths.line_ahead (drop index code.now) }
+{
+    let mut at = index;
+    while let Some(instruction) = code.get(at) {
+        if let Instruction::Step { line, .. } = instruction {
+            return *line;
+        }
+        at += 1;
+    }
+    0
+}
+
+// The frame under a key has a cell.
+fn has_cell(frames: &Frames, key: usize, cell: u32) -> bool
+    requires { ContainsKey frames.now.nodes key }
+    ensures { (n : Node) → nodes_of frames.now.nodes key ≡ Some n → result ≡ frame_has_cell n cell }
+{
+    let first = frames.first(key);
+    first <= cell && cell - first < frames.cells(key)
+}
+
+// The key of the node whose frame has a cell: the one under this key, its parent's, and so on, so many at most.
+fn holder(frames: &Frames, key: usize, cell: u32, most: u64) -> usize
+    requires { IsSome (holder_above (nodes_of frames.now.nodes) cell most key) }
+    ensures { holder_above (nodes_of frames.now.nodes) cell most key ≡ Some result }
+{
+    let mut at = key;
+    for _ in 0..most {
+        if has_cell(frames, at, cell) {
+            return at;
+        }
+        let Some(above) = frames.parent(at) else {
+            return at;
+        };
+        at = above;
+    }
+    at
+}
+
+// What COMMON keeps in a cell.
+fn in_common(image: &Image, cell: u32) -> Place
+    requires few { cell < most_cells }
+    requires there { (s : BlockStart) × (block_before (block_starts image.now) cell ≡ Some s) × (s.first ≤ cell) }
+    ensures { (s : BlockStart) → block_before (block_starts image.now) cell ≡ Some s → result ≡ Common s.block (cell - s.first + 1) }
+{
+    let start = image.block_at(cell).unwrap();
+    Place::Common {
+        block: start.block,
+        position: cell - start.first + 1,
+    }
+}
+
+// What the frame of an activation of a unit keeps in a cell, counted from the frame's first one.
+fn in_frame(unit: &UnitCode, cell: u32, owner: u64) -> Place
+    requires few { cell < most_cells }
+    requires order { AreInOrder unit.now.variables }
+    requires there { (v : FrameVariable) × (variable_before unit.now.variables cell ≡ Some v) × (v.first ≤ cell) }
+    ensures { (v : FrameVariable) → variable_before unit.now.variables cell ≡ Some v → result ≡ Variable v.name (if v.is_array then cell - v.first + 1 else 0) owner }
+{
+    let variable = unit.variable_at(cell).unwrap();
+    let element = if variable.is_array {
+        cell - variable.first + 1
+    } else {
+        0
+    };
+    Place::Variable {
+        name: variable.name,
+        element,
+        owner,
+    }
+}
+
+// The storage unit that is kept in a cell: of COMMON, or of the activation whose node is under a key or of one above it.
+fn place_at(machine: &Machine, image: &Image, key: usize, cell: u32) -> Place
+    requires { (cells : ℕ) × (choices : List ℕ) × (at : Location) × IsSought image.now cells choices machine.now key cell at }
+    ensures { (cells : ℕ) (choices : List ℕ) (at : Location) → IsSought image.now cells choices machine.now key cell at → result ≡ place_of image.now (run image.now choices) at }
+{
+    image.is_runnable();
+    cells_tell_their_units();
+    cells_tell_their_variables();
+    names_are_given_once();
+    units_are_there();
+    if cell < image.common() {
+        return in_common(image, cell);
+    }
+    let frames = &machine.frames;
+    let at = holder(frames, key, cell, machine.activations);
+    let unit = image.unit(frames.unit(at) as usize);
+    in_frame(unit, cell - frames.first(at), frames.activation(at))
+}
+
+/// Process p, which waits for a cell to be so, as a person reads of it.
+///
+/// This costs the logarithm of the variables of a unit, and a step for each activation from the process's top one up to the one whose
+/// variable it is.
+pub fn listed(machine: &Machine, image: &Image, p: u64, want: Want) -> Listed
+    requires { (cells : ℕ) × (choices : List ℕ) × IsMachineAfter image.now cells choices machine.now × IsBlocked image.now cells choices p want }
+    ensures { (cells : ℕ) (choices : List ℕ) → IsMachineAfter image.now cells choices machine.now → IsBlocked image.now cells choices p want → listed_by image.now p (run image.now choices) ≡ Some result }
+{
+    references_lead_upwards();
+    waits_are_unmet_needs();
+    let level = top(machine, p);
+    let unit = image.unit(level.unit as usize);
+    Listed {
+        process: p,
+        unit: level.unit,
+        line: line_from(unit.code.as_slice(), level.index),
+        full: want.full,
+        place: place_at(machine, image, level.key, want.cell),
+    }
+}
