@@ -1,0 +1,7 @@
+pub mod Cells
+pub mod Entries
+pub mod Reached
+pub mod Emptied
+pub mod Targets
+pub mod Purges
+mod Worked

@@ -1,0 +1,9 @@
+use Rattle.std.proofs.Common.{◌≡◌, ◌+◌, ◌-◌, length}
+use Rattle.hep_purging.specs.Purged.{purged_from}
+use Rattle.hep_purging.proofs.purging.purge_range.Given as goal
+
+abbrev pub invariant-loop-cell : goal.invariant-loop-cell
+invariant-loop-cell l =
+    (purged_from (l.range.cells - l.cell) (l.range.first + l.cell) l.arena.contents ≡ purged_from l.range.cells l.range.first l.fn.arena.contents)
+    × (l.arena.holes ≡ l.fn.arena.holes)
+    × (length l.arena.contents ≡ length l.fn.arena.contents)

@@ -1,0 +1,10 @@
+//! Cells that a PURGE empties.
+
+/// Cells of the arena that follow one another.
+#[derive(Clone, Copy, Debug, PartialEq, Eq)]
+pub struct Range {
+    /// The first one, counted from that of the arena.
+    pub first: u32,
+    /// How many there are.
+    pub cells: u32,
+}
