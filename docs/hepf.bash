@@ -40,7 +40,7 @@ _hepf() {
             mapfile -t COMPREPLY < <(compgen -W "check run replay list explain" -- "$word")
             ;;
         explain)
-            mapfile -t COMPREPLY < <(compgen -W "101 102 103 104 105 106 107 201 202 203 204 205 301 302 303 304 305 306 307 308 309 310 311 403 501 601 602 603" -- "$word")
+            mapfile -t COMPREPLY < <(compgen -W "101 102 103 104 105 106 107 201 202 203 204 205 301 302 303 304 305 306 307 308 309 310 311 401 402 501 601 602 603" -- "$word")
             ;;
     esac
 }

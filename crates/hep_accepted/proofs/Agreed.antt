@@ -1,5 +1,5 @@
 -- Calls and references of functions of accepted programs.
-use Rattle.std.proofs.Common.{◌≡◌, ◌⊎◌, inl, inr, ℕ, zero, suc, Bool, true, List, [], ◌∷◌, length, Option, Some, refl, sym, ap, subst, true≢false, arith, ◌++◌, ◌||◌}
+use Rattle.std.proofs.Common.{◌≡◌, ◌⊎◌, inl, inr, ℕ, zero, suc, Bool, true, false, List, [], ◌∷◌, length, Option, Some, refl, sym, ap, subst, true≢false, arith, ◌++◌, ◌||◌}
 use Rattle.std.specs.Prelude.{◌&&◌, not, slice_get, nat_eq, is_none}
 use Rattle.std.specs.List.{list_all}
 use Rattle.std.specs.Option.{unwrap_or}
@@ -13,7 +13,7 @@ use Rattle.hep_source.specs.declared.function.StateFunction.{StateFunction}
 use Rattle.hep_source.specs.declared.name.Name.{Name}
 use Rattle.hep_source.specs.declared.statement.Statement.{Statement}
 use Rattle.hep_source.specs.Units.{Units, dummies_of, is_named, subroutine_called, subroutine_name, unit_at}
-use Rattle.hep_machine.specs.Declarations.{is_array, is_nonempty}
+use Rattle.hep_machine.specs.Declarations.{is_array, is_constant_name, is_nonempty}
 use Rattle.hep_machine.specs.Functions.{pure, state, listed_meaning}
 use Rattle.hep_check.specs.Arguments.{actual_class, all_given, fit_dummies, fits_call, fits_dummy, fits_subroutine, is_purgeable, is_reference_given, is_test_typed, is_tested_typed}
 use Rattle.hep_check.specs.Conditions.{IsAccepted}
@@ -95,16 +95,25 @@ functions_take_their_arguments program u k i unit s r f accepted iu ik ir means 
 -- ---- what is purged
 
 purgeable : (program : Units) (u k i : ℕ) (unit : List Statement) (s : Statement) (t : Target) → IsAccepted program → slice_get program u ≡ Some unit → slice_get unit k ≡ Some s → slice_get (targets_purged s.form) i ≡ Some t
-    → (t.occurrence.name.asynchronous ≡ true) × ((not (is_nonempty t.subscripts) || is_array unit t.occurrence.name) ≡ true)
+    → (t.occurrence.name.asynchronous ≡ true) × (not (is_constant_name unit t.occurrence.name) ≡ true) × ((not (is_nonempty t.subscripts) || is_array unit t.occurrence.name) ≡ true)
 purgeable program u k i unit s t accepted iu ik it =
-    and_parts t.occurrence.name.asynchronous (not (is_nonempty t.subscripts) || is_array unit t.occurrence.name) (all-each (is_purgeable unit) (targets_purged s.form) i t (given program unit u k s accepted iu ik).2 it)
+    let both = and_parts t.occurrence.name.asynchronous (not (is_constant_name unit t.occurrence.name) && (not (is_nonempty t.subscripts) || is_array unit t.occurrence.name)) (all-each (is_purgeable unit) (targets_purged s.form) i t (given program unit u k s accepted iu ik).2 it) in
+    let rest = and_parts (not (is_constant_name unit t.occurrence.name)) (not (is_nonempty t.subscripts) || is_array unit t.occurrence.name) both.1 in
+    (both.0, rest.0, rest.1)
 
 pub purged_asynchronous : (program : Units) (u k i : ℕ) (unit : List Statement) (s : Statement) (t : Target) → IsAccepted program → slice_get program u ≡ Some unit → slice_get unit k ≡ Some s → slice_get (targets_purged s.form) i ≡ Some t → t.occurrence.name.asynchronous ≡ true
 purged_asynchronous program u k i unit s t accepted iu ik it = (purgeable program u k i unit s t accepted iu ik it).0
+
+no_constant : (b : Bool) → not b ≡ true → b ≡ false
+no_constant true e = absurd (true≢false (sym e))
+no_constant false e = refl
+
+pub purged_no_constant : (program : Units) (u k i : ℕ) (unit : List Statement) (s : Statement) (t : Target) → IsAccepted program → slice_get program u ≡ Some unit → slice_get unit k ≡ Some s → slice_get (targets_purged s.form) i ≡ Some t → is_constant_name unit t.occurrence.name ≡ false
+purged_no_constant program u k i unit s t accepted iu ik it = no_constant (is_constant_name unit t.occurrence.name) (purgeable program u k i unit s t accepted iu ik it).1
 
 empty_or : (ts : List Tree) (b : Bool) → (not (is_nonempty ts) || b) ≡ true → (ts ≡ []) ⊎ (b ≡ true)
 empty_or [] b e = inl refl
 empty_or (t ∷ ts) b e = inr e
 
 pub purged_element : (program : Units) (u k i : ℕ) (unit : List Statement) (s : Statement) (t : Target) → IsAccepted program → slice_get program u ≡ Some unit → slice_get unit k ≡ Some s → slice_get (targets_purged s.form) i ≡ Some t → (t.subscripts ≡ []) ⊎ (is_array unit t.occurrence.name ≡ true)
-purged_element program u k i unit s t accepted iu ik it = empty_or t.subscripts (is_array unit t.occurrence.name) (purgeable program u k i unit s t accepted iu ik it).1
+purged_element program u k i unit s t accepted iu ik it = empty_or t.subscripts (is_array unit t.occurrence.name) (purgeable program u k i unit s t accepted iu ik it).2

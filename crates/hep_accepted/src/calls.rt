@@ -5,7 +5,7 @@ ghost use Rattle.hep_source.specs.declared.function.PureFunction.{PureFunction};
 ghost use Rattle.hep_source.specs.declared.function.StateFunction.{StateFunction};
 ghost use Rattle.hep_source.specs.declared.statement.Statement.{Statement};
 ghost use Rattle.hep_source.specs.Units.{Units};
-ghost use Rattle.hep_machine.specs.Declarations.{is_array};
+ghost use Rattle.hep_machine.specs.Declarations.{is_array, is_constant_name};
 ghost use Rattle.hep_machine.specs.Functions.{pure, state, listed_meaning};
 ghost use Rattle.hep_check.specs.Conditions.{IsAccepted};
 ghost use Rattle.hep_check.specs.Counts.{count_of, takes};
@@ -28,8 +28,9 @@ pub fn functions_take_their_arguments()
     ensures { (program : Units) (u k i : ℕ) (unit : List Statement) (s : Statement) (r : NameWithList) (f : PureFunction) → IsAccepted program → slice_get program u ≡ Some unit → slice_get unit k ≡ Some s → slice_get (names_with_lists s) i ≡ Some r → listed_meaning unit r.occurrence.name ≡ pure f → takes f (count_of r.arguments) ≡ true }
 {}
 
-/// What is purged is asynchronous: a scalar or an array by itself, or an element of an array.
+/// What is purged is asynchronous and no named constant: a scalar or an array by itself, or an element of an array.
 pub fn purged_are_asynchronous()
     ensures asynchronous { (program : Units) (u k i : ℕ) (unit : List Statement) (s : Statement) (t : Target) → IsAccepted program → slice_get program u ≡ Some unit → slice_get unit k ≡ Some s → slice_get (targets_purged s.form) i ≡ Some t → t.occurrence.name.asynchronous ≡ true }
+    ensures variable { (program : Units) (u k i : ℕ) (unit : List Statement) (s : Statement) (t : Target) → IsAccepted program → slice_get program u ≡ Some unit → slice_get unit k ≡ Some s → slice_get (targets_purged s.form) i ≡ Some t → is_constant_name unit t.occurrence.name ≡ false }
     ensures element { (program : Units) (u k i : ℕ) (unit : List Statement) (s : Statement) (t : Target) → IsAccepted program → slice_get program u ≡ Some unit → slice_get unit k ≡ Some s → slice_get (targets_purged s.form) i ≡ Some t → (t.subscripts ≡ []) ⊎ (is_array unit t.occurrence.name ≡ true) }
 {}

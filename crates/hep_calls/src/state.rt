@@ -59,12 +59,14 @@ pub(crate) fn are_references_given(symbols: &Symbols, references: &[NameWithList
     true
 }
 
-// What is purged is an asynchronous variable, array or element.
+// What is purged is an asynchronous variable, array or element, and no named constant.
 fn is_purgeable(symbols: &Symbols, target: &Target) -> bool
     ensures { result ≡ conditions.is_purgeable symbols.now target.now }
 {
     let name = &target.occurrence.name;
-    name.asynchronous && (target.subscripts.as_slice().is_empty() || symbols.is_array(name))
+    name.asynchronous
+        && !symbols.is_constant_name(name)
+        && (target.subscripts.as_slice().is_empty() || symbols.is_array(name))
 }
 
 fn are_purgeable(symbols: &Symbols, targets: &[Target]) -> bool

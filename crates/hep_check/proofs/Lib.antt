@@ -2,3 +2,4 @@ mod Agreeing
 pub mod First
 pub mod Lines
 pub mod FrameCells
+mod Purged

@@ -20,7 +20,7 @@ pub const MOST_STEPS: u64 = 4_294_967_296;
 pub enum Job<'a> {
     /// To run the source on standard input with the defaults: there is no word.
     Standard,
-    /// To say why a source is refused or not supported, if it is.
+    /// To say why a source is refused, if it is.
     Check {
         file: &'a str,
     },

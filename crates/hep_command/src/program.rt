@@ -27,7 +27,7 @@ const REPLAY_EXAMPLE: &str = "Example: hepf replay examples/powers.f powers.hist
 
 const LIST_EXAMPLE: &str = "Example: hepf list examples/sort.f";
 
-const EXPLAIN_EXAMPLE: &str = "Example: hepf explain 403";
+const EXPLAIN_EXAMPLE: &str = "Example: hepf explain 304";
 
 // A word that has to be there.
 fn argument<'a>(alloc: Global, id: &'a str, name: &'a str) -> Arg<'a>

@@ -97,10 +97,6 @@ Declare shorter arrays, or write a shorter program.
 the value of an expression that waits for another one.
 Assign a part of it to a variable first.
 ",
-        403 => "The program breaks no rule, but this statement of it doesn't run yet: PURGE.
-What runs are programs without it. Where its value isn't needed, SETE empties a
-variable too.
-",
         501 => "This line of the file of choices names no living process.
 Take it and the lines after it out: a run goes on by itself after its choices.
 ",

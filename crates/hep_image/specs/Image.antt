@@ -14,7 +14,6 @@ use Rattle.hep_image.specs.Names.{names_in_order}
 use Rattle.hep_image.specs.Owners.{AreInOrder, block_starts, frame_variables}
 use Rattle.hep_image.specs.Places.{addresses_of, arrays_of, array_of}
 use Rattle.hep_image.specs.Private.{private_cells}
-use Rattle.hep_image.specs.Supported.{first_unsupported}
 use Rattle.hep_image.specs.declared.data.DataRow.{DataRow}
 use Rattle.hep_image.specs.declared.owners.BlockStart.{BlockStart}
 use Rattle.hep_image.specs.declared.unit.UnitCode.{UnitCode}
@@ -37,11 +36,10 @@ pub record IsUnitCode (program : Units) (u : ℕ) (unit : UnitCode) : Type 0 whe
   pub variables_are : unit.variables ≡ frame_variables (unit_at program u)
   pub in_order : AreInOrder unit.variables
 
--- an image of an accepted program that can be run has all of its units, the index of the main program, the cells of COMMON, what
+-- an image of an accepted program with a main program has all of its units, the index of the main program, the cells of COMMON, what
 -- DATA gives at the opening, the names, and where the common blocks begin
 pub record IsImage (program : Units) (units : List UnitCode) (main common : ℕ) (rows : List DataRow) (names : List (List ℕ)) (blocks : List BlockStart) : Type 0 where
   pub accepted : IsAccepted program
-  pub supported : first_unsupported program ≡ None
   pub all : length units ≡ length program
   pub units_are : (u : ℕ) (unit : UnitCode) → slice_get units u ≡ Some unit → IsUnitCode program u unit
   pub main_is : main_among program ≡ Some main

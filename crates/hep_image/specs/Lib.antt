@@ -3,7 +3,6 @@ pub mod Private
 pub mod Dummies
 pub mod Finding
 pub mod Within
-pub mod Supported
 pub mod Data
 pub mod Names
 pub mod Owners

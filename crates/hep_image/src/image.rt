@@ -1,5 +1,5 @@
 //! Images.
-ghost use Rattle.std.specs.Prelude.{◌≡◌, ◌↔◌, ◌≤◌, ◌<◌, None, Some, length, option_map, slice_get, IfOk, IsTrue};
+ghost use Rattle.std.specs.Prelude.{◌≡◌, ◌↔◌, ◌≤◌, ◌<◌, true, None, Some, is_some, length, option_map, slice_get, IfOk, IsTrue};
 ghost use Rattle.hep_check.specs.Conditions.{IsAccepted};
 ghost use Rattle.hep_machine.specs.Layout.{common_cells};
 ghost use Rattle.hep_source.specs.Units.{main_among};
@@ -8,7 +8,6 @@ ghost use Rattle.hep_image.specs.Image as spec;
 ghost use Rattle.hep_image.specs.Image.{IsImage, IsUnitCode};
 ghost use Rattle.hep_image.specs.Names.{names_in_order};
 ghost use Rattle.hep_image.specs.Owners.{block_before, block_starts};
-ghost use Rattle.hep_image.specs.Supported.{first_unsupported};
 
 use crate::data::DataRow;
 use crate::owners::BlockStart;
@@ -143,10 +142,10 @@ impl Image {
         }
     }
 
-    /// What is known of each image: its program is accepted, and all of it can be run.
+    /// What is known of each image: its program is accepted, and has a main program.
     pub fn is_runnable(&self)
         ensures accepted { IsAccepted self.now }
-        ensures supported { first_unsupported self.now ≡ None }
+        ensures main { is_some (main_among self.now) ≡ true }
     {
         let _ = &self.program;
     }

@@ -2,7 +2,7 @@
 use Rattle.std.proofs.Common.{◌≡◌, ◌≢◌, inl, inr, ℕ, ◌&&◌, ◌||◌, Bool, true, List, [], ◌∷◌, ◌++◌, length, Option, Some, None, refl, sym, ap, ◌∙◌, subst}
 use Rattle.std.specs.Prelude.{is_some, not, nat_eq}
 use Rattle.std.specs.Option.{unwrap_or}
-use Rattle.std.proofs.Math.Bool.{and-false, and-true, or-false}
+use Rattle.std.proofs.Math.Bool.{and-false, and-true, not-not, or-false}
 use Rattle.std.proofs.lemmas.Bool.{cases_eq}
 use Rattle.std.proofs.lemmas.Option.{none-some, same_Some}
 use Rattle.hep_source.specs.Units.{Units}
@@ -16,10 +16,16 @@ use Rattle.hep_blocked.specs.Waiting.{waiting_at}
 use Rattle.hep_blocked.proofs.Adding.{is_eq, not_eq}
 use Rattle.hep_needs.specs.Awaiting.{NeedsCell}
 use Rattle.hep_needs.proofs.Awaiting.{stepped}
-use Rattle.hep_listed.specs.Listing.{AreListed, GoesAlong, IsBlocked, IsReadyNoMore, WaitsNow, awake_by, is_noted, is_woken}
+use Rattle.hep_listed.specs.Listing.{AreListed, GoesAlong, GoesAlongEmptying, IsBlocked, IsReadyNoMore, WaitsNow, is_noted}
 use Rattle.hep_listed.proofs.Living.{is_new, lives-after, living-within, old-is, waits-apart, waits-live}
 use Rattle.hep_listed.proofs.Members.{among-filter, among-ready, among-without}
-use Rattle.hep_listed.proofs.Waking.{awake-none, awake-some, woken-none, woken-some}
+use Rattle.hep_listed.proofs.Waking.{awake-emptied, awake-made, awake-same, awake-unless, awake_if, is_emptied, is_made, passes, wants-emptied, woken-made}
+
+-- what is kept of who waits and who is ready goes along with a step that wakes those whose want passes a test
+pub record GoesAlongBy (program : Units) (choices : List ℕ) (p : ℕ) (test : Want → Bool) (waiting waiting_after : List (Option Want)) (ready ready_after : List ℕ) : Type 0 where
+  pub waits : (q : ℕ) → waiting_at waiting_after q ≡ awake_if test (waiting_at waiting q)
+  pub are_ready : (q : ℕ) → is_number_among q ready_after
+      ≡ (passes test (waiting_at waiting q) || is_noted p (is_some (living (run program (choices ++ p ∷ [])) p)) (length (run program choices).processes) (length (run program (choices ++ p ∷ [])).processes) ready q)
 
 module _ (program : Units) (cells : ℕ) (choices : List ℕ) (x : Progress) (waiting : List (Option Want)) (ready : List ℕ)
     (are : AreListed program cells choices x waiting ready) where
@@ -81,12 +87,13 @@ module _ (program : Units) (cells : ℕ) (choices : List ℕ) (x : Progress) (wa
 
   -- ---- process p made a step
 
-  module _ (waiting_after : List (Option Want)) (ready_after : List ℕ) (p : ℕ) (changed : Option Want)
+  module _ (waiting_after : List (Option Want)) (ready_after : List ℕ) (p : ℕ) (test : Want → Bool)
       (there : step program p (run program choices) ≢ None)
-      (goes : GoesAlong program choices p changed waiting waiting_after ready ready_after)
-      (needs : (q : ℕ) (v : Want) → waiting_at waiting q ≡ Some v → NeedsCell program cells (choices ++ p ∷ []) q v.cell v.full)
-      (waits : (q : ℕ) (v : Want) → waiting_at waiting q ≡ Some v
-      → is_waiting program (run program (choices ++ p ∷ [])) q ≡ is_some (awake_by changed (Some v))) where
+      (goes : GoesAlongBy program choices p test waiting waiting_after ready ready_after)
+      (still : (q cell : ℕ) (full : Bool) → NeedsCell program cells choices q cell full → p ≢ q
+      → NeedsCell program cells (choices ++ p ∷ []) q cell full)
+      (waits_on : (q : ℕ) (v : Want) → IsBlocked program cells choices q v → p ≢ q
+      → is_waiting program (run program (choices ++ p ∷ [])) q ≡ not (test v)) where
     abbrev s : State
     s = run program choices
 
@@ -102,6 +109,9 @@ module _ (program : Units) (cells : ℕ) (choices : List ℕ) (x : Progress) (wa
     other-waits : (q : ℕ) (v : Want) → waiting_at waiting q ≡ Some v → p ≢ q
     other-waits q v e = waits-apart program p q s (are.blocked q v e).1 there
 
+    waits : (q : ℕ) (v : Want) → waiting_at waiting q ≡ Some v → is_waiting program t q ≡ not (test v)
+    waits q v e = waits_on q v (are.blocked q v e) (other-waits q v e)
+
     turned-listed : (q : ℕ) → is_number_among q turned.listed ≡ is_some (waiting_at waiting_after q)
     turned-listed q =
         among-filter (is_waiting program t) q (without p x.listed)
@@ -110,19 +120,22 @@ module _ (program : Units) (cells : ℕ) (choices : List ℕ) (x : Progress) (wa
         ∙ (by_want (waiting_at waiting q) refl ∙ ap is_some (sym (goes.waits q))))
       where
         by_want : (o : Option Want) → waiting_at waiting q ≡ o
-            → (is_waiting program t q && (not (nat_eq p q) && is_some o)) ≡ is_some (awake_by changed o)
+            → (is_waiting program t q && (not (nat_eq p q) && is_some o)) ≡ is_some (awake_if test o)
         by_want None e =
-            ap (λ b. is_waiting program t q && b) (and-false (not (nat_eq p q)))
-            ∙ (and-false (is_waiting program t q) ∙ sym (ap is_some (awake-none changed)))
-        by_want (Some v) e = rw (not_eq p q (other-waits q v e)) (and-true (is_waiting program t q) ∙ waits q v e)
+            ap (λ b. is_waiting program t q && b) (and-false (not (nat_eq p q))) ∙ and-false (is_waiting program t q)
+        by_want (Some v) e =
+            rw (not_eq p q (other-waits q v e)) (
+            and-true (is_waiting program t q) ∙ (waits q v e ∙ sym (awake-unless test v)))
 
     turned-blocked : (q : ℕ) (u : Want) → waiting_at waiting_after q ≡ Some u → IsBlocked program cells (choices ++ p ∷ []) q u
     turned-blocked q u after = by_want (waiting_at waiting q) refl (sym (goes.waits q) ∙ after) where
-      by_want : (o : Option Want) → waiting_at waiting q ≡ o → awake_by changed o ≡ Some u → IsBlocked program cells (choices ++ p ∷ []) q u
-      by_want None e f = absurd (none-some u (sym (awake-none changed) ∙ f))
+      by_want : (o : Option Want) → waiting_at waiting q ≡ o → awake_if test o ≡ Some u → IsBlocked program cells (choices ++ p ∷ []) q u
+      by_want None e f = absurd (none-some u f)
       by_want (Some v) e f =
-          let one : v ≡ u = awake-some changed v u f in
-          (subst (λ (z : Want). NeedsCell program cells (choices ++ p ∷ []) q z.cell z.full) one (needs q v e), waits q v e ∙ ap is_some f)
+          let one : v ≡ u = awake-same test v u f in
+          let needs = still q v.cell v.full (are.blocked q v e).0 (other-waits q v e) in
+          let on = waits q v e ∙ (sym (awake-unless test v) ∙ ap is_some f) in
+          (subst (λ (z : Want). NeedsCell program cells (choices ++ p ∷ []) q z.cell z.full) one needs, on)
 
     -- beside those that are woken, those are ready that live and for which nothing was kept
     noted-is : (q : ℕ) (o : Option Want) → waiting_at waiting q ≡ o
@@ -142,20 +155,38 @@ module _ (program : Units) (cells : ℕ) (choices : List ℕ) (x : Progress) (wa
         noted = is_noted p (is_some (living t p)) (length s.processes) (length t.processes) ready q
 
         by_want : (o : Option Want) → waiting_at waiting q ≡ o
-            → (is_woken changed waiting q || noted) ≡ (not (is_some (awake_by changed o)) && is_some (living t q))
-        by_want None e =
-            ap (λ b. b || noted) (woken-none changed waiting q e)
-            ∙ (noted-is q None e
-            ∙ (sym (lives-after program p s t made q)
-            ∙ sym (ap (λ (o : Option Want). not (is_some o) && is_some (living t q)) (awake-none changed))))
+            → (passes test o || noted) ≡ (not (is_some (awake_if test o)) && is_some (living t q))
+        by_want None e = noted-is q None e ∙ sym (lives-after program p s t made q)
         by_want (Some v) e =
             let lived : is_some (living s q) ≡ true = waits-live program q s (are.blocked q v e).1 in
             let old = old-is program p s t made q (living-within s q lived) in
             let apart = not_eq p q (other-waits q v e) in
             let lives : is_some (living t q) ≡ true = lives-after program p s t made q ∙ rw (lived, apart) refl in
-            (λ i. woken-some changed waiting q v e i || (noted-is q (Some v) e ∙ old) i)
-            ∙ (or-false _ ∙ sym (ap (λ b. not (is_some (awake_by changed (Some v))) && b) lives ∙ and-true _))
+            (λ i. test v || (noted-is q (Some v) e ∙ old) i)
+            ∙ (or-false _ ∙ sym ((λ i. not (awake-unless test v i) && lives i) ∙ (and-true _ ∙ not-not (test v))))
 
     pub step-kept : AreListed program cells (choices ++ p ∷ []) turned waiting_after ready_after
     step-kept =
         record { state = refl; listed = turned-listed; blocked = turned-blocked; are_ready = turned-ready }
+
+-- ---- what a step is told to have changed
+
+module _ (program : Units) (choices : List ℕ) (p : ℕ) (waiting waiting_after : List (Option Want)) (ready ready_after : List ℕ) where
+  abbrev noted : ℕ → Bool
+  noted q = is_noted p (is_some (living (run program (choices ++ p ∷ [])) p)) (length (run program choices).processes) (length (run program (choices ++ p ∷ [])).processes) ready q
+
+  pub along-made : (changed : Option Want) → GoesAlong program choices p changed waiting waiting_after ready ready_after
+      → GoesAlongBy program choices p (is_made changed) waiting waiting_after ready ready_after
+  along-made changed goes =
+      record {
+        waits = λ q. goes.waits q ∙ awake-made changed (waiting_at waiting q);
+        are_ready = λ q. goes.are_ready q ∙ ap (λ b. b || noted q) (woken-made changed waiting q);
+      }
+
+  pub along-emptied : (emptied : ℕ → Bool) → GoesAlongEmptying program choices p emptied waiting waiting_after ready ready_after
+      → GoesAlongBy program choices p (is_emptied emptied) waiting waiting_after ready ready_after
+  along-emptied emptied goes =
+      record {
+        waits = λ q. goes.waits q ∙ awake-emptied emptied (waiting_at waiting q);
+        are_ready = λ q. goes.are_ready q ∙ ap (λ b. b || noted q) (wants-emptied emptied (waiting_at waiting q));
+      }

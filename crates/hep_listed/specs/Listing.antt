@@ -61,3 +61,30 @@ pub record GoesAlong (program : Units) (choices : List ℕ) (p : ℕ) (changed :
   pub waits : (q : ℕ) → waiting_at waiting_after q ≡ awake_by changed (waiting_at waiting q)
   pub are_ready : (q : ℕ) → is_number_among q ready_after
       ≡ (is_woken changed waiting q || is_noted p (is_some (living (run program (choices ++ p ∷ [])) p)) (length (run program choices).processes) (length (run program (choices ++ p ∷ [])).processes) ready q)
+
+-- ---- process p made a PURGE
+
+-- those wait no more that waited for one of these cells to be empty
+abbrev pub awake_where : (ℕ → Bool) → Option Want → Option Want
+awake_where emptied None = None
+awake_where emptied (Some w) = if not w.full && emptied w.cell then None else Some w
+
+-- what is waited for, if anything is, is that one of them is empty
+abbrev pub wants_emptied : (ℕ → Bool) → Option Want → Bool
+wants_emptied emptied None = false
+wants_emptied emptied (Some w) = not w.full && emptied w.cell
+
+-- process q waits for it
+abbrev pub is_woken_where : (ℕ → Bool) → List (Option Want) → ℕ → Bool
+is_woken_where emptied waiting q = wants_emptied emptied (waiting_at waiting q)
+
+-- the step leaves each storage unit as full as it was whose cell isn't among these, and those of these cells are empty after it
+pub record HasEmptied (program : Units) (choices : List ℕ) (p : ℕ) (layout : Layout) (emptied : ℕ → Bool) : Type 0 where
+  pub others : (at : Location) (c : ℕ) → address program (run program choices) layout at ≡ Some c → emptied c ≡ false → ((run program (choices ++ p ∷ [])).store at).full ≡ ((run program choices).store at).full
+  pub now : (at : Location) (c : ℕ) → address program (run program choices) layout at ≡ Some c → emptied c ≡ true → ((run program (choices ++ p ∷ [])).store at).full ≡ false
+
+-- what is kept of who waits and who is ready goes along with a step that empties these cells
+pub record GoesAlongEmptying (program : Units) (choices : List ℕ) (p : ℕ) (emptied : ℕ → Bool) (waiting waiting_after : List (Option Want)) (ready ready_after : List ℕ) : Type 0 where
+  pub waits : (q : ℕ) → waiting_at waiting_after q ≡ awake_where emptied (waiting_at waiting q)
+  pub are_ready : (q : ℕ) → is_number_among q ready_after
+      ≡ (is_woken_where emptied waiting q || is_noted p (is_some (living (run program (choices ++ p ∷ [])) p)) (length (run program choices).processes) (length (run program (choices ++ p ∷ [])).processes) ready q)

@@ -1,5 +1,5 @@
 //! Laws of lists of processes: what is kept of who waits and who is ready stays what the definitions say.
-ghost use Rattle.std.specs.Prelude.{◌≡◌, ◌≢◌, ◌++◌, ◌∷◌, ℕ, false, List, [], Option, Some, None};
+ghost use Rattle.std.specs.Prelude.{◌≡◌, ◌≢◌, ◌++◌, ◌∷◌, ℕ, Bool, false, List, [], Option, Some, None};
 ghost use Rattle.hep_source.specs.Units.{Units};
 ghost use Rattle.hep_machine.specs.Laws.{is_purge};
 ghost use Rattle.hep_machine.specs.Layout.{Layout, is_held, layout_of};
@@ -10,7 +10,7 @@ ghost use Rattle.hep_machine.specs.Step.{step};
 ghost use Rattle.hep_blocked.specs.declared.want.Want.{Want};
 ghost use Rattle.hep_blocked.specs.Waiting.{waiting_at};
 ghost use Rattle.hep_ready.specs.Numbers.{AreRising};
-ghost use Rattle.hep_listed.specs.Listing.{AreListed, GoesAlong, IsBlocked, IsReadyNoMore, IsTold, WaitsNow};
+ghost use Rattle.hep_listed.specs.Listing.{AreListed, GoesAlong, GoesAlongEmptying, HasEmptied, IsBlocked, IsReadyNoMore, IsTold, WaitsNow};
 
 use hep_machine::laws::parents_are_older;
 use hep_needs::laws::{needs_stay, others_need_the_same, waits_are_unmet_needs};
@@ -28,6 +28,16 @@ pub fn waiting_processes_are_listed()
 /// After a step just those are listed that still wait, and just those of the others are ready that live.
 pub fn lists_go_along_with_steps()
     ensures { (program : Units) (cells : ℕ) (choices : List ℕ) (x : Progress) (waiting waiting_after : List (Option Want)) (ready ready_after : List ℕ) (p : ℕ) (changed : Option Want) (layout after : Layout) → AreListed program cells choices x waiting ready → step program p (run program choices) ≢ None → is_purge program (run program choices) p ≡ false → layout_of program cells is_held choices ≡ Some layout → layout_of program cells is_held (choices ++ p ∷ []) ≡ Some after → IsTold program choices p layout changed → GoesAlong program choices p changed waiting waiting_after ready ready_after → AreListed program cells (choices ++ p ∷ []) (progress_after_step program x p (run program (choices ++ p ∷ []))) waiting_after ready_after }
+{
+    parents_are_older();
+    waits_are_unmet_needs();
+    needs_stay();
+    others_need_the_same();
+}
+
+/// After a step that empties cells, as a PURGE does, just those are listed that still wait, and just those of the others are ready that live.
+pub fn lists_go_along_with_purges()
+    ensures { (program : Units) (cells : ℕ) (choices : List ℕ) (x : Progress) (waiting waiting_after : List (Option Want)) (ready ready_after : List ℕ) (p : ℕ) (emptied : ℕ → Bool) (layout : Layout) → AreListed program cells choices x waiting ready → step program p (run program choices) ≢ None → layout_of program cells is_held choices ≡ Some layout → HasEmptied program choices p layout emptied → GoesAlongEmptying program choices p emptied waiting waiting_after ready ready_after → AreListed program cells (choices ++ p ∷ []) (progress_after_step program x p (run program (choices ++ p ∷ []))) waiting_after ready_after }
 {
     parents_are_older();
     waits_are_unmet_needs();

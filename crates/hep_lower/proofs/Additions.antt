@@ -1,14 +1,13 @@
 -- One unit more that was lowered.
-use Rattle.std.proofs.Common.{◌≡◌, ◌⊎◌, inl, inr, ℕ, zero, suc, ◌+◌, ◌<◌, ◌≤◌, List, [], ◌∷◌, ◌++◌, length, Option, Some, None, refl, sym, ap, ◌∙◌, subst, arith, length-append}
+use Rattle.std.proofs.Common.{◌≡◌, ◌⊎◌, inl, inr, ℕ, zero, suc, ◌+◌, ◌<◌, ◌≤◌, List, [], ◌∷◌, ◌++◌, length, Option, Some, None, sym, ap, ◌∙◌, subst, arith, length-append}
 use Rattle.std.specs.Prelude.{slice_get}
-use Rattle.std.specs.Option.{option_or}
 use Rattle.std.proofs.lemmas.Option.{same_Some, none-some}
 use Rattle.hep_source.specs.Units.{Units}
 use Rattle.hep_code.specs.Depths.{line_too_deep}
 use Rattle.hep_image.specs.declared.unit.UnitCode.{UnitCode}
 use Rattle.hep_image.specs.Image.{IsUnitCode}
 use Rattle.hep_placed.specs.Placed.{code_in}
-use Rattle.hep_lower.specs.declared.units.LoweredUnit.TheVariants.{Runnable, TooDeep}
+use Rattle.hep_lower.specs.declared.units.LoweredUnit.TheVariants.{Runnable}
 use Rattle.hep_lower.specs.declared.units.LoweredUnits.{LoweredUnits}
 use Rattle.hep_lower.specs.Refusals.{IsFirstDeep, instructions_in}
 use Rattle.hep_lower.specs.Units.{AreUnits, IsUnit}
@@ -75,17 +74,3 @@ module _ (program : Units) (n : ℕ) (before after : LoweredUnits) (known : AreU
               subst (λ v. IsUnitCode program v x) (sym last) (
               subst (IsUnitCode program n) (item-last before.codes.items unit x (ap (slice_get (before.codes.items ++ unit ∷ [])) (long ∙ sym last) ∙ there)) is.0)
         ]
-
-  pub added-deep :
-      (line instructions : ℕ)
-      → IsUnit program n (TooDeep line instructions) → after.too_deep ≡ option_or before.too_deep (Some line) → after.instructions ≡ before.instructions + instructions → AreUnits program (n + 1) after
-  added-deep line instructions is first total = record { deep = subst (IsFirstDeep program (n + 1)) (sym first) (by_deep before.too_deep known.deep); counted = more-counted total is.1; all = λ none. absurd (never none); each = λ none. absurd (never none) } where
-    by_deep : (o : Option ℕ) → IsFirstDeep program n o → IsFirstDeep program (n + 1) (option_or o (Some line))
-    by_deep None h = (n, omega arith, is.0, h)
-    by_deep (Some l) h = (h.0, omega (arith, h.1), h.2, h.3)
-
-    never : after.too_deep ≡ None → ⊥
-    never none = by_first before.too_deep (sym first ∙ none) where
-      by_first : (o : Option ℕ) → option_or o (Some line) ≡ None → ⊥
-      by_first None e = none-some line (sym e)
-      by_first (Some l) e = none-some l (sym e)

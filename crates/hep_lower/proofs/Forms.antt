@@ -7,11 +7,10 @@ use Rattle.hep_source.specs.declared.name.Name.{Name}
 use Rattle.hep_source.specs.declared.name.Occurrence.{Occurrence}
 use Rattle.hep_source.specs.declared.statement.Form.{Form}
 use Rattle.hep_source.specs.declared.statement.Form.TheVariants as form
-use Rattle.hep_source.specs.declared.statement.PrintItem.{PrintItem}
 use Rattle.hep_source.specs.declared.value.Value.{Value}
 use Rattle.hep_machine.specs.Functions.{Meaning, element, pure, state, unknown}
-use Rattle.hep_code.specs.declared.instruction.Instruction.TheVariants.{To, Pass, Show}
-use Rattle.hep_code.specs.ExpressionCode.{count, tree_code, trees_code, actual_code, actual_name_code, actual_listed_code, actuals_code, argument_of, argument_of_name, argument_of_listed, target_code, targets_code, argument_of_target, printed_of}
+use Rattle.hep_code.specs.declared.instruction.Instruction.TheVariants.{Pass}
+use Rattle.hep_code.specs.ExpressionCode.{count, tree_code, trees_code, actual_code, actual_name_code, actual_listed_code, actuals_code, argument_of, argument_of_name, argument_of_listed, target_code, targets_code, argument_of_target}
 use Rattle.hep_code.specs.StatementCode.{operands_code, operation_code, form_code}
 use Rattle.hep_code.specs.Tables.{NameTable, Table}
 use Rattle.hep_lower.specs.Limits.{subscripts_of, subscripts_of_actuals, subscripts_of_targets}
@@ -54,9 +53,6 @@ module _ (table : Table) (line k : ℕ) where
   store_long x t =
       omega (arith, form_long (form.Assign x t), trees_long table.names line x.subscripts, length-append (tree_code table.names line t) (target_code table.names line x))
 
-  pub choice_long : (labels : List ℕ) (t : Tree) → length labels ≤ length (form_code table line k (form.ComputedGoTo labels t))
-  choice_long labels t = omega (arith, form_long (form.ComputedGoTo labels t), length-map labels (λ l. To (table.labels l)))
-
   pub call_long : (p : Occurrence) (ts : List Tree) → length ts ≤ length (form_code table line k (form.Call p ts))
   call_long p ts = omega (arith, form_long (form.Call p ts), length-map ts (λ t. Pass (argument_of table.names t)))
 
@@ -74,6 +70,3 @@ module _ (table : Table) (line k : ℕ) where
 
   pub purge_subscripts : (ts : List Target) → subscripts_of_targets table.names ts ≤ length (form_code table line k (form.Purge ts))
   purge_subscripts ts = omega (arith, form_long (form.Purge ts), targets_long table.names line ts)
-
-  pub print_long : (is : List PrintItem) → length is ≤ length (form_code table line k (form.Print is))
-  print_long is = omega (arith, form_long (form.Print is), length-map is (λ i. Show (printed_of i)))

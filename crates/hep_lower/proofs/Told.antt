@@ -1,11 +1,11 @@
 -- What is told of a program that has no image, and what is known of one that has.
-use Rattle.std.proofs.Common.{◌≡◌, ◌≢◌, inl, inr, ℕ, ◌<◌, ◌≤◌, List, [], Option, Some, None, length, refl, sym, ◌∙◌, subst}
-use Rattle.std.specs.Prelude.{Result, Ok, Err, IfErr, if◌then◌else◌, is_some}
+use Rattle.std.proofs.Common.{◌≡◌, ◌≢◌, inl, inr, ℕ, ◌<◌, ◌≤◌, List, [], Some, None, length, refl, sym, ◌∙◌, subst}
+use Rattle.std.specs.Prelude.{Result, Ok, Err, IfErr}
 use Rattle.std.specs.Result.{IsErr, IsErrAnd}
 use Rattle.std.proofs.lemmas.Option.{none-some}
 use Rattle.hep_base.specs.declared.refusal.Refusal.{Refusal as LowerFault}
 use Rattle.hep_base.specs.declared.refusal.Refusal.TheVariants.{NoMemory, Refused}
-use Rattle.hep_source.specs.Units.{Units, line_at, main_among, unit_at}
+use Rattle.hep_source.specs.Units.{Units, main_among, unit_at}
 use Rattle.hep_machine.specs.Layout.{common_cells}
 use Rattle.hep_machine.specs.Variables.{frame_cells}
 use Rattle.hep_check.specs.Conditions.{IsAccepted}
@@ -17,7 +17,6 @@ use Rattle.hep_image.specs.Data.{AreInitial, AreOfUnits}
 use Rattle.hep_image.specs.Image.{IsImage, most_cells}
 use Rattle.hep_image.specs.Names.{names_in_order}
 use Rattle.hep_image.specs.Owners.{block_starts}
-use Rattle.hep_image.specs.Supported.{first_unsupported, first_unsupported_in}
 use Rattle.hep_lower.specs.declared.units.LoweredUnits.{LoweredUnits}
 use Rattle.hep_lower.specs.Refusals.{AreCellsBeyond, IsCodeBeyond, IsFirstDeep, IsLowered, IsWithinLimits, Refuses, RefusesCode}
 use Rattle.hep_lower.specs.Units.{AreUnits}
@@ -26,12 +25,6 @@ pub some-main : (program : Units) (main : ℕ) → main_among program ≡ Some m
 some-main program main e none = none-some main (sym none ∙ e)
 
 module _ (program : Units) (main : main_among program ≢ None) where
-  pub supported-with-main : first_unsupported program ≡ first_unsupported_in program
-  supported-with-main = by_main (main_among program) main where
-    by_main : (o : Option ℕ) → o ≢ None → (if is_some o then first_unsupported_in program else Some (line_at (unit_at program 0) 0)) ≡ first_unsupported_in program
-    by_main None other = absurd (other refl)
-    by_main (Some n) other = refl
-
   pub told-cells : (fault : LowerFault) → fault ≡ Refused 401 0 [] → AreCellsBeyond program → Refuses program fault
   told-cells fault is beyond = subst (Refuses program) (sym is) (inr (inl (refl, refl, main, inl beyond)), refl)
 
@@ -46,32 +39,22 @@ module _ (program : Units) (main : main_among program ≢ None) where
     by_fault (Refused number line name) code = (inr (inl (code.0, code.1, main, inr code.3)), code.2)
 
   pub told-deep : (fault : LowerFault) (line : ℕ) → fault ≡ Refused 402 line [] → IsWithinLimits program → IsFirstDeep program (length program) (Some line) → Refuses program fault
-  told-deep fault line is within deep = subst (Refuses program) (sym is) (inr (inr (inl (refl, main, within, deep))), refl)
-
-  pub told-unsupported :
-      (fault : LowerFault) (line : ℕ) → fault ≡ Refused 403 line [] → IsWithinLimits program → IsFirstDeep program (length program) None → first_unsupported program ≡ Some line
-      → Refuses program fault
-  told-unsupported fault line is within shallow first = subst (Refuses program) (sym is) (inr (inr (inr (refl, main, within, shallow, first))), refl)
-
-  pub told-memory : {A : Type 0} (r : Result A LowerFault) → IsErr r × IsErrAnd r (λ e. e ≡ NoMemory) → IfErr r (Refuses program)
-  told-memory (Ok x) h = tt
-  told-memory (Err e) h = subst (Refuses program) (sym h.1) main
+  told-deep fault line is within deep = subst (Refuses program) (sym is) (inr (inr (refl, main, within, deep)), refl)
 
 module _ (program : Units) (units : LoweredUnits) (known : AreUnits program (length program) units)
     (common : common_cells program ≤ most_cells) (frames : (u : ℕ) → u < length program → frame_cells (unit_at program u) ≤ most_cells) where
   pub within-limits : units.instructions ≤ most_instructions → IsWithinLimits program
   within-limits few = record { common = common; frames = frames; code = subst (λ n. n ≤ most_instructions) known.counted few }
 
-  pub lowered-is : units.instructions ≤ most_instructions → main_among program ≢ None → first_unsupported program ≡ None → units.too_deep ≡ None → IsLowered program
-  lowered-is few main none shallow =
-      record { main = main; within = within-limits few; shallow = subst (IsFirstDeep program (length program)) shallow known.deep; supported = none }
+  pub lowered-is : units.instructions ≤ most_instructions → main_among program ≢ None → units.too_deep ≡ None → IsLowered program
+  lowered-is few main shallow =
+      record { main = main; within = within-limits few; shallow = subst (IsFirstDeep program (length program)) shallow known.deep }
 
-  pub image-is : IsAccepted program → first_unsupported program ≡ None → units.too_deep ≡ None → (codes : List UnitCode) (main cells : ℕ) (rows : List DataRow) (names : List (List ℕ)) (blocks : List BlockStart)
+  pub image-is : IsAccepted program → units.too_deep ≡ None → (codes : List UnitCode) (main cells : ℕ) (rows : List DataRow) (names : List (List ℕ)) (blocks : List BlockStart)
       → codes ≡ units.codes.items → main_among program ≡ Some main → cells ≡ common_cells program → AreInitial program rows → AreOfUnits program rows → names ≡ names_in_order program → blocks ≡ block_starts program → IsImage program codes main cells rows names blocks
-  image-is accepted none shallow codes main cells rows names blocks same main_is size initial of_units named begun =
+  image-is accepted shallow codes main cells rows names blocks same main_is size initial of_units named begun =
       subst (λ us. IsImage program us main cells rows names blocks) (sym same) (record {
         accepted = accepted;
-        supported = none;
         all = known.all shallow;
         units_are = known.each shallow;
         main_is = main_is;

@@ -1,5 +1,5 @@
--- Which accepted programs have an image, and why the others have none: docs/LANGUAGE.md, "What is supported" and "Limits".
-use Rattle.std.specs.Prelude.{◌≡◌, ◌≢◌, ◌⊎◌, ℕ, zero, suc, ◌+◌, ◌<◌, ◌≤◌, List, [], length, Option, Some, None}
+-- Which accepted programs have an image, and why the others have none: docs/LANGUAGE.md, "Limits".
+use Rattle.std.specs.Prelude.{◌≡◌, ◌≢◌, ◌⊎◌, ℕ, zero, suc, ◌+◌, ◌<◌, ◌≤◌, [], length, Option, Some, None}
 use Rattle.hep_base.specs.declared.refusal.Refusal.{Refusal as LowerFault}
 use Rattle.hep_base.specs.declared.refusal.Refusal.TheVariants.{NoMemory, Refused}
 use Rattle.hep_source.specs.Units.{Units, main_among, unit_at}
@@ -8,7 +8,6 @@ use Rattle.hep_machine.specs.Variables.{frame_cells}
 use Rattle.hep_code.specs.Depths.{line_too_deep}
 use Rattle.hep_code.specs.Limits.{most_instructions}
 use Rattle.hep_image.specs.Image.{most_cells}
-use Rattle.hep_image.specs.Supported.{first_unsupported}
 use Rattle.hep_placed.specs.Placed.{code_in}
 use Rattle.hep_lower.specs.declared.fault.EmitFault.{EmitFault}
 use Rattle.hep_lower.specs.declared.fault.EmitFault.TheVariants as emit_fault
@@ -47,17 +46,14 @@ pub record IsLowered (program : Units) : Type 0 where
   pub main : main_among program ≢ None
   pub within : IsWithinLimits program
   pub shallow : IsFirstDeep program (length program) None
-  pub supported : first_unsupported program ≡ None
 
 -- it is refused: 204 without a line where it has no main program, as no program that was read from a text is; else 401 without a
--- line; else 402 at its first line that is too deep; else 403 at its first statement that isn't supported, or else at the first
--- statement of its first unit that has adjustable arrays
+-- line; else 402 at its first line that is too deep
 abbrev pub IsUnlowered : Units → ℕ → ℕ → Type 0
 IsUnlowered program number line =
     ((number ≡ 204) × (line ≡ 0) × (main_among program ≡ None))
     ⊎ (((number ≡ 401) × (line ≡ 0) × (main_among program ≢ None) × (AreCellsBeyond program ⊎ IsCodeBeyond program))
-    ⊎ (((number ≡ 402) × (main_among program ≢ None) × IsWithinLimits program × IsFirstDeep program (length program) (Some line))
-    ⊎ ((number ≡ 403) × (main_among program ≢ None) × IsWithinLimits program × IsFirstDeep program (length program) None × (first_unsupported program ≡ Some line))))
+    ⊎ ((number ≡ 402) × (main_among program ≢ None) × IsWithinLimits program × IsFirstDeep program (length program) (Some line)))
 
 -- the fault says why; memory is asked for only where there is a main program
 abbrev pub Refuses : Units → LowerFault → Type 0

@@ -1,5 +1,5 @@
 -- What is known of the units of a program that were lowered so far.
-use Rattle.std.specs.Prelude.{◌≡◌, ℕ, ◌+◌, ◌≤◌, None, Some, length, slice_get}
+use Rattle.std.specs.Prelude.{◌≡◌, ℕ, ◌≤◌, None, Some, length, slice_get}
 use Rattle.hep_source.specs.Units.{Units}
 use Rattle.hep_code.specs.Depths.{line_too_deep}
 use Rattle.hep_code.specs.Limits.{most_instructions}

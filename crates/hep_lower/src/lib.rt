@@ -9,6 +9,7 @@ mod fault;
 mod flow;
 mod lists;
 mod lowered;
+mod mains;
 mod names;
 mod operations;
 mod program;

@@ -7,11 +7,11 @@ ghost use Rattle.hep_common.specs.Starts.{AreStarts};
 ghost use Rattle.hep_image.specs.Data.{AreInitial, AreOfUnits};
 ghost use Rattle.hep_code.specs.Limits.{most_instructions};
 ghost use Rattle.hep_image.specs.Image.{most_cells};
-ghost use Rattle.hep_image.specs.Supported as supported;
 ghost use Rattle.hep_lower.specs.Refusals.{AreCellsBeyond, IsLowered, Refuses};
 ghost use Rattle.hep_lower.specs.Units.{AreUnits};
 
 use crate::blocks::starts_of;
+use crate::mains::main_index;
 use crate::spellings::names_in_order;
 use crate::unit::MOST_INSTRUCTIONS;
 use crate::units::{LoweredUnits, lower_units};
@@ -21,7 +21,6 @@ use hep_common::{CommonBlocks, CommonStarts};
 use hep_data::{MainFrame, data_rows};
 use hep_image::{DataRow, Image};
 use hep_places::unit_places;
-use hep_supported::{first_unsupported_statement, main_index};
 use hep_symbols::ProgramSymbols;
 use std::alloc::{AllocError, Global};
 
@@ -86,7 +85,6 @@ fn image_of(
 ) -> Result<Image, AllocError>
     requires main { main_among checked.now ≡ Some main }
     requires few { length checked.now ≤ most_instructions }
-    requires supported { supported.first_unsupported checked.now ≡ None }
     requires program { program.now ≡ checked.now }
     requires starts { AreStarts checked.now common.now }
     requires small_common { common_cells checked.now ≤ most_cells }
@@ -136,9 +134,6 @@ fn lower_program(alloc: Global, checked: &Checked, main: usize) -> Result<Image,
     if let Some(line) = units.too_deep {
         return Err(LowerFault::refused(alloc, 402, line));
     }
-    if let Some(line) = first_unsupported_statement(source) {
-        return Err(LowerFault::refused(alloc, 403, line));
-    }
     Ok(image_of(alloc, checked, main, &program, &common, units)?)
 }
 
@@ -150,13 +145,12 @@ fn lower_program(alloc: Global, checked: &Checked, main: usize) -> Result<Image,
 /// 204 without a line where there is no main program, as in no program that was read from a text. Else 401, without a
 /// line, where COMMON or the frame of a unit would have more than 16,777,216 cells, or there would be more than
 /// 1,048,576 instructions in all units together. Else 402 with the line of the first statement that would have more
-/// than 256 operands at once (docs/LANGUAGE.md, 12). Else 403 with the line of the first statement that isn't
-/// supported, which is a PURGE (docs/LANGUAGE.md, 11). Or that memory was refused, which is asked for only where there
-/// is a main program.
+/// than 256 operands at once (docs/LANGUAGE.md, 12). Or that memory was refused, which is asked for only where there is
+/// a main program.
 pub fn lower(alloc: Global, checked: &Checked) -> Result<Image, LowerFault>
     // What is lowered is the program.
     ensures same { IfOk result (λ image. image ≡ checked.now) }
-    // All of it is supported and within the limits where there is an image.
+    // It has a main program and is within the limits where there is an image.
     ensures lowered { OnOk result (IsLowered checked.now) }
     // Else the number and the line say why there is none.
     ensures refused { IfErr result (Refuses checked.now) }

@@ -21,13 +21,12 @@ use Rattle.hep_check.specs.Statements.{NameWithList, names_with_lists, targets_a
 use Rattle.hep_check.specs.Types.{is_plain_integer_scalar}
 use Rattle.hep_accepted.specs.Agreement.{IsOneAsynchronousScalar}
 use Rattle.hep_accepted.specs.Typing.{HasValue}
-use Rattle.hep_accepted.proofs.Agreed.{purged_asynchronous, tested_are_asynchronous}
+use Rattle.hep_accepted.proofs.Agreed.{purged_no_constant, tested_are_asynchronous}
 use Rattle.hep_accepted.proofs.Given.{constants_have_values}
 use Rattle.hep_accepted.proofs.Meant.{assigned_known, constant_is_scalar, constant_not_assigned, purged_known}
 use Rattle.hep_accepted.proofs.Members.{Has, among_has, map_at}
 use Rattle.hep_accepted.proofs.Nested.{held_is_allowed, loop_variable}
 use Rattle.hep_accepted.proofs.Valued.{ConstantsAgree}
-use Rattle.hep_placed.specs.Placed.{AreConstantsPlain}
 
 pub record Facts (unit : List Statement) : Type 0 where
   pub scalar : (x : Name) → is_constant_name unit x ≡ true → is_array unit x ≡ false
@@ -35,7 +34,7 @@ pub record Facts (unit : List Statement) : Type 0 where
   pub assigned_variable : (k i : ℕ) (s : Statement) (t : Target) → slice_get unit k ≡ Some s → slice_get (targets_assigned s.form) i ≡ Some t → is_constant_name unit t.occurrence.name ≡ false
   pub assigned_array : (k i : ℕ) (s : Statement) (t : Target) → slice_get unit k ≡ Some s → slice_get (targets_assigned s.form) i ≡ Some t → is_nonempty t.subscripts ≡ true → is_array unit t.occurrence.name ≡ true
   pub purged_array : (k i : ℕ) (s : Statement) (t : Target) → slice_get unit k ≡ Some s → slice_get (targets_purged s.form) i ≡ Some t → is_nonempty t.subscripts ≡ true → is_array unit t.occurrence.name ≡ true
-  pub purged_asynchronous : (k i : ℕ) (s : Statement) (t : Target) → slice_get unit k ≡ Some s → slice_get (targets_purged s.form) i ≡ Some t → t.occurrence.name.asynchronous ≡ true
+  pub purged_variable : (k i : ℕ) (s : Statement) (t : Target) → slice_get unit k ≡ Some s → slice_get (targets_purged s.form) i ≡ Some t → is_constant_name unit t.occurrence.name ≡ false
   pub tested : (k i : ℕ) (s : Statement) (r : NameWithList) (f : StateFunction) → slice_get unit k ≡ Some s → slice_get (names_with_lists s) i ≡ Some r → listed_meaning unit r.occurrence.name ≡ state f → IsOneAsynchronousScalar unit r.arguments
   pub loop_variable : (k : ℕ) (s : Statement) (c : DoControl) → slice_get unit k ≡ Some s → s.conditions ≡ [] → s.form ≡ form.Do c → is_plain_integer_scalar unit c.variable.name ≡ true
   pub held : (k : ℕ) (s : Statement) (t : Tree) (ts : List Tree) → slice_get unit k ≡ Some s → s.conditions ≡ t ∷ ts → is_not_held s.form ≡ false
@@ -51,7 +50,7 @@ facts_of agrees program u accepted h = record {
   assigned_variable = λ k i s t. constant_not_assigned program u k i (unit_at program u) s t accepted (unit_there program u h);
   assigned_array = λ k i s t. assigned_known program u k i (unit_at program u) s t accepted (unit_there program u h);
   purged_array = λ k i s t. purged_known program u k i (unit_at program u) s t accepted (unit_there program u h);
-  purged_asynchronous = λ k i s t. purged_asynchronous program u k i (unit_at program u) s t accepted (unit_there program u h);
+  purged_variable = λ k i s t. purged_no_constant program u k i (unit_at program u) s t accepted (unit_there program u h);
   tested = λ k i s r f. tested_are_asynchronous program u k i (unit_at program u) s r f accepted (unit_there program u h);
   loop_variable = λ k s c. loop_variable program u k (unit_at program u) s c accepted (unit_there program u h);
   held = λ k s t ts. held_is_allowed program u k (unit_at program u) s t ts accepted (unit_there program u h);
@@ -81,11 +80,6 @@ module _ (unit : List Statement) (facts : Facts unit) where
 
   pub array_no_constant : (x : Name) → is_array unit x ≡ true → is_constant_name unit x ≡ false
   array_no_constant x e = false_from_ne_true (is_constant_name unit x) (λ c. true≢false (sym e ∙ facts.scalar x c))
-
-  pub asynchronous_no_constant : (x : Name) → AreConstantsPlain unit → x.asynchronous ≡ true → is_constant_name unit x ≡ false
-  asynchronous_no_constant x plain e = false_from_ne_true (is_constant_name unit x) (λ d.
-      let c = named x d in
-      true≢false (sym e ∙ (ap (λ (y : Name). y.asynchronous) (sym c.2) ∙ plain (c.1).0 c.0 (c.1).1)))
 
   -- ---- DO
 

@@ -1,10 +1,8 @@
-mod Worked
 mod Coded
 pub mod Facts
 pub mod Starts
 mod Rights
 pub mod Placed
-pub mod Supported
 pub mod Values
 mod Shapes
 mod Arrays

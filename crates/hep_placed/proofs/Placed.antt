@@ -34,9 +34,9 @@ use Rattle.hep_image.specs.declared.array.Start.TheVariants as start
 use Rattle.hep_image.specs.Places.{addresses_of, scalar, start_of, variable_by, variable_of}
 use Rattle.hep_accepted.proofs.Members.{Has, has_one}
 use Rattle.hep_placed.specs.Instructions.{variables_in, variables_in_argument, variables_in_evaluation, variables_in_operation}
-use Rattle.hep_placed.specs.Placed.{AreConstantsPlain, ArePlaced, IsPlaced, code_in}
+use Rattle.hep_placed.specs.Placed.{ArePlaced, IsPlaced, code_in}
 use Rattle.hep_placed.proofs.Coded.{AllMeet, Meets, MeetsEvaluation, MeetsOperation, Wish, array_named, code_meets, element_is_array}
-use Rattle.hep_placed.proofs.Facts.{Facts, asynchronous_no_constant, without_value}
+use Rattle.hep_placed.proofs.Facts.{Facts, without_value}
 use Rattle.hep_placed.proofs.Rights.{AllNamed, actual_in_unit, purged_in_unit, resolved, right}
 use Rattle.hep_placed.proofs.Starts.{begins, begun_placed, name_of_unit}
 
@@ -158,10 +158,8 @@ module _ (program : Units) (u : ℕ) (facts : Facts (unit_at program u)) where
         purged = λ s t h g. tt;
       }))
 
-  all_placed : AreConstantsPlain (unit_at program u) → AllMeet (wishing IsPlaced) (code_in program u)
-  all_placed plain =
-      all_right (unit_of_program program u) facts IsPlaced placed (λ s t h g p.
-      placed t.occurrence p (asynchronous_no_constant (unit_at program u) facts t.occurrence.name plain (facts.purged_asynchronous h.0 g.0 s t h.1 g.1)))
+  all_placed : AllMeet (wishing IsPlaced) (code_in program u)
+  all_placed = all_right (unit_of_program program u) facts IsPlaced placed (λ s t h g p. placed t.occurrence p (facts.purged_variable h.0 g.0 s t h.1 g.1))
 
   pub variables_of_operations : (i line : ℕ) (o : Operation) → slice_get (code_in program u) i ≡ Some (Step line o) → ArePlaced (variables_in_operation o)
   variables_of_operations i line o e = of_operation placing o (operations_placed (Step line o) (i, e))
@@ -169,5 +167,5 @@ module _ (program : Units) (u : ℕ) (facts : Facts (unit_at program u)) where
   pub tested_variables : (i line n : ℕ) (f : StateFunction) (x : Variable) → slice_get (code_in program u) i ≡ Some (Step line (Evaluate (Test f x n))) → is_asynchronous x ≡ true
   tested_variables i line n f x e = (operations_placed (Step line (Evaluate (Test f x n))) (i, e)).1
 
-  pub variables_of_all : (i : ℕ) (x : Instruction) → AreConstantsPlain (unit_at program u) → slice_get (code_in program u) i ≡ Some x → ArePlaced (variables_in x)
-  variables_of_all i x plain e = of_instruction IsPlaced x (all_placed plain x (i, e))
+  pub variables_of_all : (i : ℕ) (x : Instruction) → slice_get (code_in program u) i ≡ Some x → ArePlaced (variables_in x)
+  variables_of_all i x e = of_instruction IsPlaced x (all_placed x (i, e))

@@ -7,7 +7,7 @@ use Rattle.hep_code.specs.declared.instruction.Evaluation.TheVariants.{Load, Tes
 use Rattle.hep_code.specs.declared.instruction.Instruction.{Instruction}
 use Rattle.hep_code.specs.declared.instruction.Instruction.TheVariants.{Step, Pass}
 use Rattle.hep_code.specs.declared.instruction.Operation.{Operation}
-use Rattle.hep_code.specs.declared.instruction.Operation.TheVariants.{Evaluate, Store, EnterLoop, EndLoop, Purge}
+use Rattle.hep_code.specs.declared.instruction.Operation.TheVariants.{Evaluate, Store, EnterLoop, EndLoop}
 use Rattle.hep_code.specs.declared.variable.Variable.{Variable}
 
 -- ---- variables
@@ -33,14 +33,3 @@ abbrev pub variables_in : Instruction → List Variable
 variables_in (Step line o) = variables_in_operation o
 variables_in (Pass a) = variables_in_argument a
 variables_in _ = []
-
--- ---- PURGE: docs/LANGUAGE.md, 9
-
-abbrev pub IsNoPurge : Operation → Type 0
-IsNoPurge (Purge n next) = ⊥
-IsNoPurge _ = Unit {0}
-
--- an instruction that purges nothing
-abbrev pub PurgesNothing : Instruction → Type 0
-PurgesNothing (Step line o) = IsNoPurge o
-PurgesNothing _ = Unit {0}

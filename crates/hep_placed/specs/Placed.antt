@@ -1,10 +1,9 @@
 -- The code of the units of a program, and where its variables are: docs/MACHINE.md, "Variables and frames".
 use Rattle.std.specs.Prelude.{◌≡◌, ◌≢◌, ◌<◌, ℕ, Bool, true, false, List, map, length, Some, slice_get}
-use Rattle.hep_source.specs.declared.declaration.NamedConstant.{NamedConstant}
 use Rattle.hep_source.specs.declared.name.Name.{Name}
 use Rattle.hep_source.specs.declared.statement.Statement.{Statement}
 use Rattle.hep_source.specs.Units.{Units, dummies_of, is_main, subroutine_name, unit_at}
-use Rattle.hep_machine.specs.Declarations.{is_array, named_constants}
+use Rattle.hep_machine.specs.Declarations.{is_array}
 use Rattle.hep_code.specs.declared.instruction.Instruction.{Instruction}
 use Rattle.hep_code.specs.declared.variable.Variable.{Variable}
 use Rattle.hep_code.specs.declared.variable.Variable.TheVariants.{Absent}
@@ -23,10 +22,6 @@ IsPlaced x = x ≢ Absent
 
 abbrev pub ArePlaced : List Variable → Type 0
 ArePlaced xs = (i : ℕ) (x : Variable) → slice_get xs i ≡ Some x → IsPlaced x
-
--- no named constant has a `$`: docs/LANGUAGE.md, 3
-abbrev pub AreConstantsPlain : List Statement → Type 0
-AreConstantsPlain unit = (i : ℕ) (c : NamedConstant) → slice_get (named_constants unit) i ≡ Some c → c.occurrence.name.asynchronous ≡ false
 
 -- ---- arrays
 

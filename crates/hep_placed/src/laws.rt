@@ -1,9 +1,9 @@
 //! Laws of the code of accepted programs: where the variables in it are, and what it calls.
-ghost use Rattle.std.specs.Prelude.{◌≡◌, ◌<◌, ℕ, Bool, true, List, Some, None, is_some, slice_get, length};
+ghost use Rattle.std.specs.Prelude.{◌≡◌, ◌<◌, ℕ, Bool, true, List, Some, slice_get, length};
 ghost use Rattle.hep_source.specs.declared.function.StateFunction.{StateFunction};
 ghost use Rattle.hep_source.specs.declared.name.Name.{Name};
 ghost use Rattle.hep_source.specs.declared.statement.Statement.{Statement};
-ghost use Rattle.hep_source.specs.Units.{Units, main_among, unit_at};
+ghost use Rattle.hep_source.specs.Units.{Units, unit_at};
 ghost use Rattle.hep_machine.specs.Constants.{adjustable_dimensions, constant_shape};
 ghost use Rattle.hep_machine.specs.Declarations.{is_array};
 ghost use Rattle.hep_machine.specs.Shapes.{Bounds, is_shape};
@@ -18,29 +18,17 @@ ghost use Rattle.hep_code.specs.declared.variable.Variable.TheVariants.{Array};
 ghost use Rattle.hep_code.specs.Replies.{is_asynchronous};
 ghost use Rattle.hep_image.specs.declared.array.Start.{Start};
 ghost use Rattle.hep_image.specs.Places.{arrays_of, start_of, variable_of};
-ghost use Rattle.hep_image.specs.Supported.{first_unsupported};
-ghost use Rattle.hep_placed.specs.Instructions.{PurgesNothing, variables_in, variables_in_operation};
-ghost use Rattle.hep_placed.specs.Placed.{AreConstantsPlain, ArePlaced, IsArrayAt, IsCalledWith, IsPlaced, code_in};
+ghost use Rattle.hep_placed.specs.Instructions.{variables_in, variables_in_operation};
+ghost use Rattle.hep_placed.specs.Placed.{ArePlaced, IsArrayAt, IsCalledWith, IsPlaced, code_in};
 
 use hep_check::laws;
 
-/// Each variable in the code has storage units, and so the name that it stands for begins somewhere. What is
-/// passed or purged has some where no named constant of the unit has a `$`, as none has that is read from a
-/// text (`docs/LANGUAGE.md`, 3): else PURGE could name one.
+/// Each variable in the code, passed and purged ones too, has storage units, and so the name that it stands for begins
+/// somewhere.
 pub fn variables_of_the_code_are_placed()
     ensures operations { (program : Units) (u i line : ℕ) (o : Operation) → IsAccepted program → u < length program → slice_get (code_in program u) i ≡ Some (Step line o) → ArePlaced (variables_in_operation o) }
-    ensures all { (program : Units) (u i : ℕ) (x : Instruction) → IsAccepted program → u < length program → AreConstantsPlain (unit_at program u) → slice_get (code_in program u) i ≡ Some x → ArePlaced (variables_in x) }
+    ensures all { (program : Units) (u i : ℕ) (x : Instruction) → IsAccepted program → u < length program → slice_get (code_in program u) i ≡ Some x → ArePlaced (variables_in x) }
     ensures begun { (program : Units) (unit : List Statement) (x : Name) → IsPlaced (variable_of program unit x) → (at : Start) × (start_of program unit x ≡ Some at) }
-{
-    laws::constants_agree();
-}
-
-/// Where a program has nothing that isn't supported, it has a main program; in its code nothing is purged, and each
-/// variable, passed ones too, has storage units.
-pub fn supported_code()
-    ensures main { (program : Units) → first_unsupported program ≡ None → is_some (main_among program) ≡ true }
-    ensures unpurged { (program : Units) (u i : ℕ) (x : Instruction) → IsAccepted program → first_unsupported program ≡ None → u < length program → slice_get (code_in program u) i ≡ Some x → PurgesNothing x }
-    ensures placed { (program : Units) (u i : ℕ) (x : Instruction) → IsAccepted program → first_unsupported program ≡ None → u < length program → slice_get (code_in program u) i ≡ Some x → ArePlaced (variables_in x) }
 {
     laws::constants_agree();
 }

@@ -1,5 +1,5 @@
 -- What a PURGE does to the cells of the arena: docs/LANGUAGE.md, 9, and docs/MACHINE.md, "Steps".
-use Rattle.std.specs.Prelude.{◌⊎◌, ℕ, zero, suc, ◌+◌, ◌<◌, ◌≤◌, List, [], ◌∷◌, Result, Ok, Err, slice_set}
+use Rattle.std.specs.Prelude.{ℕ, zero, suc, ◌+◌, ◌&&◌, ◌||◌, Bool, false, nat_le, nat_lt, List, [], ◌∷◌, Result, Ok, Err, slice_set}
 use Rattle.hep_machine.specs.declared.event.Kind.{Kind}
 use Rattle.hep_machine.specs.declared.slot.Slot.{Slot}
 use Rattle.hep_machine.specs.Access.{purged_cell}
@@ -24,13 +24,13 @@ purged (r ∷ rs) contents = purged rs (purged_from r.cells r.first contents)
 
 -- ---- which cells
 
-abbrev pub HasCell : Range → ℕ → Type 0
-HasCell r p = (r.first ≤ p) × (p < r.first + r.cells)
+abbrev pub has_cell : Range → ℕ → Bool
+has_cell r p = nat_le r.first p && nat_lt p (r.first + r.cells)
 
 -- one of the ranges has it
-abbrev pub HaveCell : List Range → ℕ → Type 0
-HaveCell [] p = ⊥
-HaveCell (r ∷ rs) p = HasCell r p ⊎ HaveCell rs p
+abbrev pub have_cell : List Range → ℕ → Bool
+have_cell [] p = false
+have_cell (r ∷ rs) p = has_cell r p || have_cell rs p
 
 -- ---- the operation
 

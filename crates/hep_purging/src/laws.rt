@@ -1,5 +1,5 @@
 //! Laws of PURGE: what it does to the cells of the arena is what the source machine does to the storage units.
-ghost use Rattle.std.specs.Prelude.{◌≡◌, ◌≤◌, ◌∷◌, ℕ, List, Some, drop, length, slice_get};
+ghost use Rattle.std.specs.Prelude.{◌≡◌, ◌≤◌, ◌∷◌, ℕ, true, false, List, Some, drop, length, slice_get};
 ghost use Rattle.hep_source.specs.declared.value.Value.{Value};
 ghost use Rattle.hep_source.specs.Units.{Units};
 ghost use Rattle.hep_machine.specs.declared.slot.Slot.{Slot};
@@ -20,7 +20,7 @@ ghost use Rattle.hep_step.specs.Ready.{frame_in_arena};
 ghost use Rattle.hep_step.specs.Simulation.{IsRunning, Simulates, arrays_on_top, code_on_top};
 ghost use Rattle.hep_purging.specs.declared.range.Range.{Range};
 ghost use Rattle.hep_purging.specs.Placed.{AreEntriesPlaced};
-ghost use Rattle.hep_purging.specs.Purged.{HaveCell, effect_of_purge, purged};
+ghost use Rattle.hep_purging.specs.Purged.{effect_of_purge, have_cell, purged};
 ghost use Rattle.hep_purging.specs.Ready.{AreOut};
 
 /// Where a PURGE stands ahead whose targets have storage units, the source machine empties just what is kept in the cells of
@@ -39,7 +39,7 @@ pub fn purges_are_ready()
 
 /// The cells of the ranges are empty, with the values that they had, and all other cells are as they were.
 pub fn ranges_are_emptied()
-    ensures within { (ranges : List Range) (contents : List Slot) (p : ℕ) (slot : Slot) → HaveCell ranges p → slice_get contents p ≡ Some slot → slice_get (purged ranges contents) p ≡ Some (purged_cell slot) }
-    ensures elsewhere { (ranges : List Range) (contents : List Slot) (p : ℕ) → (HaveCell ranges p → ⊥) → slice_get (purged ranges contents) p ≡ slice_get contents p }
+    ensures within { (ranges : List Range) (contents : List Slot) (p : ℕ) (slot : Slot) → have_cell ranges p ≡ true → slice_get contents p ≡ Some slot → slice_get (purged ranges contents) p ≡ Some (purged_cell slot) }
+    ensures elsewhere { (ranges : List Range) (contents : List Slot) (p : ℕ) → have_cell ranges p ≡ false → slice_get (purged ranges contents) p ≡ slice_get contents p }
     ensures cells { (ranges : List Range) (contents : List Slot) → length (purged ranges contents) ≡ length contents }
 {}

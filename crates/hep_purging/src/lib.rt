@@ -8,7 +8,9 @@ pub mod finding;
 pub mod laws;
 pub mod purging;
 pub mod range;
+pub mod room;
 
 pub use finding::find_ranges;
 pub use purging::purge;
 pub use range::Range;
+pub use room::most_targets;

@@ -16,7 +16,7 @@ IsCheckOutcome source o =
     ((number : ℕ) × (line : ℕ) × (name : List ℕ) × IsRefusedSource source number line name × (o ≡ refused number line name))
     ⊎ ((program : Units) × IsRunnableSource source program × (o ≡ outcome_of_text []))
 
--- what `list` comes to: why the source isn't accepted, or the lines of its units and common blocks; it may not be supported
+-- what `list` comes to: why the source isn't accepted, or the lines of its units and common blocks; it may pass a limit
 abbrev pub IsListOutcome : List ℕ → Outcome → Type 0
 IsListOutcome source o =
     ((number : ℕ) × (line : ℕ) × (name : List ℕ) × IsUnacceptedSource source number line name × (o ≡ refused number line name))

@@ -15,7 +15,7 @@ use Rattle.hep_lower.specs.Refusals.{IsLowered, IsUnlowered}
 abbrev pub IsViolatingProgram : Units → ℕ → ℕ → List ℕ → Type 0
 IsViolatingProgram program number line name = Refuses program (refusals.Refused number line name)
 
--- it violates no condition, but a statement isn't supported, or a limit is passed
+-- it violates no condition, but a limit is passed
 abbrev pub IsUnrunnableProgram : Units → ℕ → ℕ → List ℕ → Type 0
 IsUnrunnableProgram program number line name = IsAccepted program × IsUnlowered program number line × (name ≡ [])
 
@@ -34,7 +34,7 @@ IsRefusedFor Is source number line name =
 abbrev pub IsUnacceptedSource : List ℕ → ℕ → ℕ → List ℕ → Type 0
 IsUnacceptedSource source number line name = IsRefusedFor IsViolatingProgram source number line name
 
--- the source isn't run: it isn't accepted, not supported, or passes a limit
+-- the source isn't run: it isn't accepted, or passes a limit
 abbrev pub IsRefusedSource : List ℕ → ℕ → ℕ → List ℕ → Type 0
 IsRefusedSource source number line name = IsRefusedFor IsRefusedProgram source number line name
 
@@ -45,7 +45,7 @@ abbrev pub IsAcceptedSource : List ℕ → Units → Type 0
 IsAcceptedSource source program =
     (statements : List Stmt) × (statements_of source ≡ Ok statements) × IsProgram statements program × IsAccepted program
 
--- a core runs the program: it is accepted and supported, and within the limits
+-- a core runs the program: it is accepted and within the limits
 abbrev pub IsRunnable : Units → Type 0
 IsRunnable program = IsAccepted program × IsLowered program
 

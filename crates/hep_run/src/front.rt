@@ -26,12 +26,12 @@ pub fn checked_source(alloc: Global, source: &[u8]) -> Result<Checked, Refusal>
     check(alloc, program)
 }
 
-/// The image of a source that is accepted and supported, and within the limits.
+/// The image of a source that is accepted and within the limits.
 ///
 /// # Errors
 ///
-/// The first refusal of the source, as `checked_source` has it; or else of a statement that isn't supported, or of
-/// a limit that is passed; or `NoMemory`.
+/// The first refusal of the source, as `checked_source` has it; or else of a limit that is
+/// passed; or `NoMemory`.
 pub fn image_of_source(alloc: Global, source: &[u8]) -> Result<Image, Refusal>
     ensures made { IfOk result (IsRunnableSource source.now) }
     ensures refused { IfErr result (IsSourceRefusal source.now) }

@@ -43,7 +43,7 @@ fn check_bytes<W: Write, E: Write>(
     }
 }
 
-/// Checks a source: reads it, and writes to `messages` why it is refused or not supported, if it is. Where it
+/// Checks a source: reads it, and writes to `messages` why it is refused, if it is. Where it
 /// isn't, nothing is written, and `run_source` would run it.
 ///
 /// The answer is the code of a `Status`.
@@ -79,8 +79,8 @@ fn list_bytes<W: Write, E: Write>(
     }
 }
 
-/// Lists a source: reads it, and writes to `output` the lines of its units and common blocks, also where it isn't
-/// supported; or to `messages` why it is refused.
+/// Lists a source: reads it, and writes to `output` the lines of its units and common blocks, also where it
+/// passes a limit; or to `messages` why it is refused.
 ///
 /// The answer is the code of a `Status`.
 pub fn list_source<R: Read, W: Write, E: Write>(

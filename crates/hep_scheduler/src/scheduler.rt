@@ -6,14 +6,14 @@ ghost use Rattle.hep_machine.specs.Views.{view_of};
 ghost use Rattle.hep_scheduler.specs.Value.{state_of, opening_of, IsNewFault, IsChoice, IsStop, listed_after, verdict_of, next_ready_of};
 
 use crate::fault::{ChooseFault, NewFault};
-use crate::lists::{note_ready, wait, wake};
+use crate::lists::{note_ready, wait, wake_after};
 use crate::stop::{Stop, Turn, Verdict};
 use hep_blocked::Waits;
 use hep_frames::laws::layouts_have_what_is_held;
 use hep_image::Image;
 use hep_listed::laws::{
-    lists_are_those_of_definitions, lists_go_along_with_steps, openings_list_nobody,
-    waiting_processes_are_listed,
+    lists_are_those_of_definitions, lists_go_along_with_purges, lists_go_along_with_steps,
+    openings_list_nobody, waiting_processes_are_listed,
 };
 use hep_machine::{Entry, Fault, Record};
 use hep_needs::laws::waiting_processes_need_it;
@@ -126,6 +126,7 @@ impl Core {
         activations_are_few();
         waiting_processes_are_listed();
         lists_go_along_with_steps();
+        lists_go_along_with_purges();
         waiting_processes_need_it();
         let made = self.machine.processes.len();
         match self.machine.turn(
@@ -135,26 +136,29 @@ impl Core {
             &mut self.history,
             &mut self.ready,
         ) {
-            Ok(Turned::Stepped { changed }) => {
-                note(&mut self.history, p, 1);
-                note_ready(&mut self.ready, &self.machine, p, made);
-                wake(&mut self.waits, &mut self.ready, changed);
-                if self.machine.halted {
-                    self.stop = Some(Stop::Halted);
+            Ok(turned) => match turned {
+                Turned::Waits(want) => {
+                    wait(&mut self.waits, &mut self.ready, p, want)?;
+                    note(&mut self.history, p, 0);
+                    Ok(Turn {
+                        steps: 0,
+                        blocked: true,
+                    })
                 }
-                Ok(Turn {
-                    steps: 1,
-                    blocked: false,
-                })
-            }
-            Ok(Turned::Waits(want)) => {
-                wait(&mut self.waits, &mut self.ready, p, want)?;
-                note(&mut self.history, p, 0);
-                Ok(Turn {
-                    steps: 0,
-                    blocked: true,
-                })
-            }
+                _ => {
+                    note(&mut self.history, p, 1);
+                    note_ready(&mut self.ready, &self.machine, p, made);
+                    let emptied = &self.machine.passing.ranges;
+                    wake_after(&mut self.waits, &mut self.ready, turned, emptied);
+                    if self.machine.halted {
+                        self.stop = Some(Stop::Halted);
+                    }
+                    Ok(Turn {
+                        steps: 1,
+                        blocked: false,
+                    })
+                }
+            },
             Err(TurnFault::NoMemory) => Err(ChooseFault::NoMemory),
             Err(TurnFault::ArenaFull) => {
                 self.stop = Some(Stop::ArenaFull);

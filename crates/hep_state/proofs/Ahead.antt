@@ -23,7 +23,6 @@ use Rattle.hep_state.specs.Snapshots.{Snapshot}
 use Rattle.hep_state.specs.Taking.{IsSettled}
 use Rattle.hep_state.specs.Tops.{IsTurning, frame_under, top_after}
 use Rattle.hep_state.proofs.Runs.{layout-stays, step-is}
-use Rattle.hep_state.proofs.Settled.{turning}
 use Rattle.hep_state.proofs.Taken.{again, ahead-simulated}
 
 -- ---- the values that stand ahead

@@ -42,13 +42,13 @@ use Rattle.hep_works.specs.Actuals.{FitsDummy, IsVariableOf}
 use Rattle.hep_works.specs.Works.{IsCalledBy}
 use Rattle.hep_entering.specs.Calling.{ArePassed, IsPassed, IsPassing}
 use Rattle.hep_entering.specs.Giving.{AreDistinct}
-use Rattle.hep_state.specs.declared.passing.CallAhead.{CallAhead}
+use Rattle.hep_state.specs.declared.upcoming.CallAhead.{CallAhead}
 use Rattle.hep_state.specs.Calls.{IsAfterCall, IsMaking, state_made}
-use Rattle.hep_state.specs.CallsAhead.{IsAtCall, given_of}
+use Rattle.hep_state.specs.CallsAhead.{IsAtCall, given_of, operation_of}
 use Rattle.hep_state.specs.Snapshots.{Snapshot}
 use Rattle.hep_state.specs.Taking.{IsEnding}
 use Rattle.hep_state.specs.Tops.{frame_under, top_after}
-use Rattle.hep_state.proofs.Callers.{IsKnown, ahead-on-top, as-many, called-inside, caller-unit, calls, calls-so, from, passed-by, runs}
+use Rattle.hep_state.proofs.Callers.{IsKnown, any-running, ahead-on-top, as-many, called-inside, caller-unit, calls, calls-so, from, passed-by, runs}
 
 -- ---- lists that are as long
 
@@ -154,7 +154,7 @@ module _ (program : Units) (all : IsKnownToBind program) (cells : ℕ) (choices 
       let ahead = calls program all.known cells choices p m call at in
       let f = frame_under m.nodes at.l.key in
       passed-by program all.known cells choices p m call at (λ arrays passed. AreGivenAs program old layout (next_activation old) xs actuals (given_by (cells_in m.arena.contents) f.first arrays passed) bound) (
-      all.passed old layout m.arena.contents at.top.0.activation (next_activation old) f xs actuals ahead.more (calls-so program all.known cells choices p m call at) actuals-placed (sym (as-many program all.known cells choices p m call at)))
+      all.passed old layout m.arena.contents at.top.0.activation (next_activation old) f xs actuals ahead.more (calls-so program (any-running program all.known) cells choices p m call.line (operation_of call) at) actuals-placed (sym (as-many program all.known cells choices p m call at)))
 
   -- ---- a fault
 
@@ -174,7 +174,7 @@ module _ (program : Units) (all : IsKnownToBind program) (cells : ℕ) (choices 
         turning = at.turning;
         simulated =
             all.faults call.creates (top_after program choices p at.top) layout (frame_under m.nodes at.l.key) m.arena.contents m.arena.holes at.operands at.l.index call.line call.unit call.count call.next at.behind
-            (runs program all.known cells choices p m call at) (ahead-on-top program all.known cells choices p m call at) ahead k e;
+            (runs program (any-running program all.known) cells choices p m call.line (operation_of call) at) (ahead-on-top program (any-running program all.known) cells choices p m call.line (operation_of call) at) ahead k e;
       }
 
   -- ---- none
@@ -217,5 +217,5 @@ module _ (program : Units) (all : IsKnownToBind program) (cells : ℕ) (choices 
         shaped = shaped;
         passed = all-passed program old layout (scope_of program old at.top.0.activation) (next_activation old) xs actuals gs dummies.0 dummies.1 dummies.2;
         made = subst (λ u. step program p old ≡ Some (state_made call.creates program choices p at.top u b)) (sym ahead.unit) step_so;
-        after = subst (λ u. IsAfterCall program u at.top.0.statement call.next) (caller-unit program all.known cells choices p m call at) ahead.onward;
+        after = subst (λ u. IsAfterCall program u at.top.0.statement call.next) (caller-unit program (any-running program all.known) cells choices p m call.line (operation_of call) at) ahead.onward;
       }

@@ -15,6 +15,7 @@ use Rattle.hep_machine.specs.State.{Level as SourceLevel, Process, State, Work}
 use Rattle.hep_machine.specs.Step.{Top, unit_called}
 use Rattle.hep_arena.specs.Holes.{Hole}
 use Rattle.hep_code.specs.declared.instruction.Instruction.{Instruction}
+use Rattle.hep_code.specs.declared.instruction.Operation.{Operation}
 use Rattle.hep_code.specs.declared.instruction.Instruction.TheVariants.{Pass, Step}
 use Rattle.hep_code.specs.declared.variable.Variable.{Variable}
 use Rattle.hep_code.specs.Actions.{argument_of_actual, operands_of_actual}
@@ -27,8 +28,8 @@ use Rattle.hep_step.specs.Calls.{IsCallAhead, made_by, making}
 use Rattle.hep_step.specs.Simulation.{IsRunning, code_on_top, unit_arrays, unit_code}
 use Rattle.hep_works.specs.Works.{ComesFrom, IsCalledBy}
 use Rattle.hep_state.specs.declared.machine.Level.{Level}
-use Rattle.hep_state.specs.declared.passing.CallAhead.{CallAhead}
-use Rattle.hep_state.specs.CallsAhead.{IsAtCall, operation_of}
+use Rattle.hep_state.specs.declared.upcoming.CallAhead.{CallAhead}
+use Rattle.hep_state.specs.CallsAhead.{IsAtCall, IsAtStep, operation_of}
 use Rattle.hep_state.specs.Snapshots.{Snapshot}
 use Rattle.hep_state.specs.Tops.{IsTurning, frame_under, top_after}
 use Rattle.hep_state.proofs.Levels.{are-on}
@@ -52,6 +53,48 @@ pub record IsKnown (program : Units) : Type 0 where
   pub ahead : (creates : Bool) (t : Top) (layout : Layout) (f : Frame) (contents : List Slot) (holes : List Hole) (operands : List Value) (index line u count next : ℕ) (behind : List Instruction)
       → IsRunning program t layout f contents holes operands index → drop index (code_on_top program t) ≡ Step line (making creates u count next) ∷ behind → IsCallAhead creates program t operands u count next behind
 
+-- what of it is known of the top activation of a process at any operation
+pub record AreRunning (program : Units) : Type 0 where
+  pub closed : AreClosed program
+  pub units : (choices : List ℕ) (a : ℕ) → 1 ≤ a → a ≤ length (run program choices).activations → slice_get program (unit_of (run program choices) a) ≡ Some (unit_at program (unit_of (run program choices) a))
+  pub bound : (choices : List ℕ) (a : ℕ) → 1 ≤ a → a ≤ length (run program choices).activations → IsBound program (run program choices) a
+  pub running : (cells : ℕ) (choices : List ℕ) (m : Snapshot) (p : ℕ) (l : Level) (ls : List Level) (operands : List Value) (top : SourceLevel × Process)
+      → (turning : IsTurning program cells choices m p l ls operands top)
+      → IsRunning program (top_after program choices p top) turning.after.layout (frame_under m.nodes l.key) m.arena.contents m.arena.holes operands l.index
+
+pub any-running : (program : Units) → IsKnown program → AreRunning program
+any-running program known = record { closed = known.closed; units = known.units; bound = known.bound; running = known.running }
+
+-- at any operation
+module _ (program : Units) (known : AreRunning program) (cells : ℕ) (choices : List ℕ) (p : ℕ) (m : Snapshot) (line : ℕ) (o : Operation) (at : IsAtStep program cells choices p m line o) where
+  abbrev pub state : State
+  state = run program choices
+
+  -- the unit of its activation is its level's
+  pub caller-unit : unit_of state at.top.0.activation ≡ at.l.unit
+  caller-unit = unit-is program cells choices m p at.l at.ls at.operands at.top at.turning
+
+  pub runs : IsRunning program (top_after program choices p at.top) at.turning.after.layout (frame_under m.nodes at.l.key) m.arena.contents m.arena.holes at.operands at.l.index
+  runs = known.running cells choices m p at.l at.ls at.operands at.top at.turning
+
+  pub ahead-on-top : drop at.l.index (code_on_top program (top_after program choices p at.top)) ≡ Step line o ∷ at.behind
+  ahead-on-top = ap (λ u. drop at.l.index (unit_code program u)) caller-unit ∙ at.ahead
+
+  -- the caller
+  pub calls-so : IsCaller program state at.turning.after.layout m.arena.contents at.top.0.activation (frame_under m.nodes at.l.key)
+  calls-so =
+      let made = (standing-before program cells choices m p at.l at.ls at.operands at.top at.turning).0.here.made in
+      let stacked = (are-on program choices p (at.top.0 ∷ at.top.1) (there program cells choices m p at.l at.ls at.operands at.top at.turning)).1 in
+      record {
+        closed = known.closed;
+        unit = known.units choices at.top.0.activation made.0 made.1;
+        framed = runs.framed;
+        described = runs.described;
+        bound = known.bound choices at.top.0.activation made.0 made.1;
+        kept = at.turning.after.shows.kept at.top.0.activation stacked;
+      }
+
+-- at a CALL or CREATE
 module _ (program : Units) (known : IsKnown program) (cells : ℕ) (choices : List ℕ) (p : ℕ) (m : Snapshot) (call : CallAhead) (at : IsAtCall program cells choices p m call) where
   abbrev old : State
   old = run program choices
@@ -62,19 +105,12 @@ module _ (program : Units) (known : IsKnown program) (cells : ℕ) (choices : Li
   abbrev top : Top
   top = top_after program choices p at.top
 
-  -- the unit of the caller is its level's
-  pub caller-unit : unit_of old caller ≡ at.l.unit
-  caller-unit = unit-is program cells choices m p at.l at.ls at.operands at.top at.turning
-
-  pub runs : IsRunning program top at.turning.after.layout (frame_under m.nodes at.l.key) m.arena.contents m.arena.holes at.operands at.l.index
-  runs = known.running cells choices m p at.l at.ls at.operands at.top at.turning
-
-  pub ahead-on-top : drop at.l.index (code_on_top program top) ≡ Step call.line (operation_of call) ∷ at.behind
-  ahead-on-top = ap (λ u. drop at.l.index (unit_code program u)) caller-unit ∙ at.ahead
+  here-unit : unit_of old caller ≡ at.l.unit
+  here-unit = caller-unit program (any-running program known) cells choices p m call.line (operation_of call) at
 
   -- what is called, and by which statement
   pub calls : IsCallAhead call.creates program top at.operands call.unit call.count call.next at.behind
-  calls = known.ahead call.creates top at.turning.after.layout (frame_under m.nodes at.l.key) m.arena.contents m.arena.holes at.operands at.l.index call.line call.unit call.count call.next at.behind runs ahead-on-top
+  calls = known.ahead call.creates top at.turning.after.layout (frame_under m.nodes at.l.key) m.arena.contents m.arena.holes at.operands at.l.index call.line call.unit call.count call.next at.behind (runs program (any-running program known) cells choices p m call.line (operation_of call) at) (ahead-on-top program (any-running program known) cells choices p m call.line (operation_of call) at)
 
   pub from : IsCalledBy (unit_at program (unit_of old caller)) at.top.0.statement calls.name calls.actuals
   from = known.called call.creates (unit_at program (unit_of old caller)) at.top.0.statement at.top.0.work calls.name calls.actuals (known.works choices p at.top at.turning.lives) calls.does_so
@@ -86,20 +122,6 @@ module _ (program : Units) (known : IsKnown program) (cells : ℕ) (choices : Li
   pub as-many : length calls.actuals ≡ length (dummies_of (unit_at program call.unit))
   as-many = known.arguments (unit_of old caller) at.top.0.statement calls.name calls.actuals from ∙ ap (λ u. length (dummies_of (unit_at program u))) (sym calls.unit)
 
-  -- the caller
-  pub calls-so : IsCaller program old at.turning.after.layout m.arena.contents caller (frame_under m.nodes at.l.key)
-  calls-so =
-      let made = (standing-before program cells choices m p at.l at.ls at.operands at.top at.turning).0.here.made in
-      let stacked = (are-on program choices p (at.top.0 ∷ at.top.1) (there program cells choices m p at.l at.ls at.operands at.top at.turning)).1 in
-      record {
-        closed = known.closed;
-        unit = known.units choices caller made.0 made.1;
-        framed = runs.framed;
-        described = runs.described;
-        bound = known.bound choices caller made.0 made.1;
-        kept = at.turning.after.shows.kept caller stacked;
-      }
-
   -- what is passed, by the entries behind the CALL and the operands
   abbrev variables : Name → Variable
   variables = variable_of program (unit_at program (unit_of old caller))
@@ -110,4 +132,4 @@ module _ (program : Units) (known : IsKnown program) (cells : ℕ) (choices : Li
   passed-by P h =
       let passed : passed_from (length calls.actuals) (map (λ y. Pass (argument_of_actual variables y)) calls.actuals ++ calls.more) (flat_map operands_of_actual calls.actuals) ≡ passed_from call.count at.behind at.operands =
       λ i. passed_from (sym calls.counted i) (sym calls.entries i) (sym calls.operands_are i) in
-      subst (P (unit_arrays program at.l.unit)) passed (subst (λ u. P (unit_arrays program u) (passed_from (length calls.actuals) (map (λ y. Pass (argument_of_actual variables y)) calls.actuals ++ calls.more) (flat_map operands_of_actual calls.actuals))) caller-unit h)
+      subst (P (unit_arrays program at.l.unit)) passed (subst (λ u. P (unit_arrays program u) (passed_from (length calls.actuals) (map (λ y. Pass (argument_of_actual variables y)) calls.actuals ++ calls.more) (flat_map operands_of_actual calls.actuals))) here-unit h)

@@ -26,3 +26,4 @@ pub mod Unchanged
 pub mod AtCalls
 pub mod Reserved
 pub mod Touching
+pub mod Purging

@@ -10,7 +10,7 @@ use Rattle.hep_machine.specs.Layout.{Layout}
 use Rattle.hep_machine.specs.Processes.{unit_of, with_numbered}
 use Rattle.hep_machine.specs.Run.{run}
 use Rattle.hep_machine.specs.State.{Level as SourceLevel, Location, Process as SourceProcess, State, Store}
-use Rattle.hep_machine.specs.Step.{Top, state_made, state_with_store, step_result_of, stepped, waiting}
+use Rattle.hep_machine.specs.Step.{Top, state_made, step_result_of, stepped, waiting}
 use Rattle.hep_code.specs.Ahead.{IsPastPushes, values_ahead}
 use Rattle.hep_code.specs.Depths.{deepest}
 use Rattle.hep_code.proofs.Depths.{room_for}

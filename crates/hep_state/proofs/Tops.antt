@@ -1,6 +1,6 @@
 -- The top activation of a process whose turn it is runs as the laws of steps ask.
-use Rattle.std.proofs.Common.{◌≡◌, Bool, ◌≢◌, inl, ℕ, zero, suc, ◌<◌, ◌≤◌, true, false, List, [], ◌∷◌, drop, length, Some, None, refl, sym, ap, ◌∙◌, subst, arith}
-use Rattle.std.specs.Prelude.{◌||◌, if◌then◌else◌, is_some, slice_get}
+use Rattle.std.proofs.Common.{◌≡◌, Bool, ◌≢◌, inl, ℕ, zero, suc, ◌+◌, ◌<◌, ◌≤◌, true, false, List, [], ◌∷◌, drop, length, Some, None, refl, sym, ap, ◌∙◌, subst, arith}
+use Rattle.std.specs.Prelude.{◌||◌, if◌then◌else◌, slice_get}
 use Rattle.std.proofs.lemmas.Bool.{eq-eqb}
 use Rattle.std.proofs.lemmas.Option.{same_Some, none-some}
 use Rattle.hep_source.specs.declared.name.Name.{Name}
@@ -8,7 +8,7 @@ use Rattle.hep_source.specs.declared.value.Value.{Value}
 use Rattle.hep_source.specs.Names.{index_among, is_among, same_name}
 use Rattle.hep_source.proofs.NameTests.{equal_names}
 use Rattle.hep_machine.specs.Declarations.{is_array}
-use Rattle.hep_source.specs.Units.{Units, dummies_of, line_at, main_among, unit_at}
+use Rattle.hep_source.specs.Units.{Units, dummies_of, unit_at}
 use Rattle.hep_machine.specs.declared.slot.Slot.{Slot}
 use Rattle.hep_machine.specs.Layout.{Layout, activations_on}
 use Rattle.hep_machine.specs.Processes.{is_number_among, numbered, unit_of, with_numbered}
@@ -37,7 +37,6 @@ use Rattle.hep_finding.proofs.Reached.{any-addressed}
 use Rattle.hep_finding.proofs.Within.{few-dimensions}
 use Rattle.hep_finding.specs.Within.{ArePlacedArrays}
 use Rattle.hep_image.specs.Places.{arrays_of, start_of, variable_of}
-use Rattle.hep_image.specs.Supported.{first_unsupported, first_unsupported_in}
 use Rattle.hep_image.specs.declared.array.Start.{Start}
 use Rattle.hep_placed.specs.Instructions.{variables_in_operation}
 use Rattle.hep_placed.specs.Placed.{ArePlaced, code_in}
@@ -57,13 +56,6 @@ pub record IsKnown (program : Units) : Type 0 where
   pub closed : AreClosed program
   pub bound : (choices : List ℕ) (a : ℕ) → 1 ≤ a → a ≤ length (run program choices).activations → IsBound program (run program choices) a
 
--- a program in which nothing is unsupported has a main program
-pub has-main : (program : Units) → first_unsupported program ≡ None → is_some (main_among program) ≡ true
-has-main program = by_main (is_some (main_among program)) where
-  by_main : (b : Bool) → (if b then first_unsupported_in program else Some (line_at (unit_at program 0) 0)) ≡ None → b ≡ true
-  by_main true e = refl
-  by_main false e = absurd (none-some (line_at (unit_at program 0) 0) (sym e))
-
 -- ---- lists
 
 pub dropped-first : {A : Type 0} (xs : List A) (i : ℕ) (x : A) (behind : List A) → drop i xs ≡ x ∷ behind → slice_get xs i ≡ Some x
@@ -71,6 +63,16 @@ dropped-first [] zero x behind e = absurd cc
 dropped-first [] (suc i) x behind e = absurd cc
 dropped-first (y ∷ ys) zero x behind e = cc
 dropped-first (y ∷ ys) (suc i) x behind e = dropped-first ys i x behind e
+
+pub dropped-behind : {A : Type 0} (xs : List A) (i j : ℕ) (x : A) (behind : List A) (y : A) → drop i xs ≡ x ∷ behind → slice_get behind j ≡ Some y → slice_get xs (suc (i + j)) ≡ Some y
+dropped-behind [] zero j x behind y e h = absurd cc
+dropped-behind [] (suc i) j x behind y e h = absurd cc
+dropped-behind (z ∷ zs) zero j x behind y e h =
+    let same : 0 + j ≡ j = omega arith in
+    ap (slice_get zs) same ∙ (ap (λ l. slice_get l j) (ap (drop 1) e) ∙ h)
+dropped-behind (z ∷ zs) (suc i) j x behind y e h =
+    let same : suc i + j ≡ suc (i + j) = omega arith in
+    ap (slice_get zs) same ∙ dropped-behind zs i j x behind y e h
 
 pub unit-there : (program : Units) (u : ℕ) → u < length program → slice_get program u ≡ Some (unit_at program u)
 unit-there [] u h = absurd (omega (arith, h))

@@ -1,9 +1,9 @@
 -- What the operation ahead of a process may fill or empty is what its next step may.
-use Rattle.std.proofs.Common.{◌≡◌, ℕ, Bool, true, false, List, ◌∷◌, Option, Some, None, drop, refl, sym, ap, ◌∙◌, subst, true≢false}
+use Rattle.std.proofs.Common.{◌≡◌, ℕ, Bool, true, false, List, ◌∷◌, Option, Some, drop, refl, sym, ap, ◌∙◌, subst, true≢false}
 use Rattle.hep_source.specs.declared.value.Value.{Value}
 use Rattle.hep_source.specs.Units.{Units}
 use Rattle.hep_machine.specs.Laws.{is_purge}
-use Rattle.hep_machine.specs.Layout.{Layout, is_held, layout_of}
+use Rattle.hep_machine.specs.Layout.{Layout}
 use Rattle.hep_machine.specs.Processes.{unit_of}
 use Rattle.hep_machine.specs.Run.{run}
 use Rattle.hep_machine.specs.State.{Level as SourceLevel, Location, Process as SourceProcess}

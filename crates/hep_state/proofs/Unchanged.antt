@@ -1,6 +1,6 @@
 -- A machine that keeps what it kept: where only room was made, or what a CALL gives was written.
 use Rattle.std.proofs.Common.{◌≡◌, ℕ, List, Result, Ok, Err, Option, Some, None, refl, sym, ap, ◌∙◌, subst}
-use Rattle.std.specs.Prelude.{true, false, IfErr, IfOk, IsSome, MatchOption, OnErr, OnOk, is_some, slice_get}
+use Rattle.std.specs.Prelude.{true, false, IfErr, IfOk, IsSome, MatchOption, OnErr, is_some, slice_get}
 use Rattle.std.specs.Result.{IsErr, IsErrAnd}
 use Rattle.std.proofs.lemmas.Result.{err_from_is_err_and}
 use Rattle.hep_source.specs.Units.{Units}

@@ -1,5 +1,5 @@
 -- What a turn came to, and what others who wait must know of it: docs/MACHINE.md, "Which process comes next".
-use Rattle.std.specs.Prelude.{◌≡◌, ◌≢◌, ℕ, false, List, [], ◌∷◌, ◌++◌, Option, Some, None}
+use Rattle.std.specs.Prelude.{◌≡◌, ◌≢◌, ℕ, true, false, List, [], ◌∷◌, ◌++◌, Option, Some, None}
 use Rattle.hep_source.specs.Units.{Units}
 use Rattle.hep_machine.specs.Laws.{is_purge}
 use Rattle.hep_machine.specs.Layout.{Layout, is_held, layout_of}
@@ -10,9 +10,12 @@ use Rattle.hep_blocked.specs.declared.want.Want.{Want}
 use Rattle.hep_frames.specs.Addresses.{address}
 use Rattle.hep_image.specs.Finding.{cells_in}
 use Rattle.hep_needs.specs.Needs.{touched_by}
+use Rattle.hep_purging.specs.declared.range.Range.{Range}
+use Rattle.hep_purging.specs.Purged.{have_cell}
+use Rattle.hep_purging.specs.Ready.{AreReached}
 use Rattle.hep_state.specs.declared.machine.Machine.{Machine}
 use Rattle.hep_state.specs.declared.turn.Turned.{Turned}
-use Rattle.hep_state.specs.declared.turn.Turned.TheVariants.{Stepped, Waits}
+use Rattle.hep_state.specs.declared.turn.Turned.TheVariants.{Stepped, Purged, Waits}
 use Rattle.hep_state.specs.Rooms.{IsMachineAfter}
 use Rattle.hep_state.specs.Snapshots.{Snapshot, snapshot_of}
 use Rattle.hep_state.specs.Turns.{HasWaited}
@@ -44,10 +47,20 @@ IsNow program cells choices p changed =
 abbrev pub IsTold : Snapshot → Option Want → Type 0
 IsTold m changed = (w : Want) → changed ≡ Some w → (cells_in m.arena.contents w.cell).full ≡ w.full
 
--- after turns of these processes p made a step, which touched no other cell than this one, or it waits
+-- each storage unit that is kept in a cell of these ranges is empty after the step, and each other one is as full as before
+pub record HasPurged (program : Units) (cells : ℕ) (choices : List ℕ) (p : ℕ) (ranges : List Range) : Type 0 where
+  pub emptied : (layout : Layout) (at : Location) (c : ℕ) → layout_of program cells is_held choices ≡ Some layout → address program (run program choices) layout at ≡ Some c → have_cell ranges c ≡ true
+      → ((run program (choices ++ p ∷ [])).store at).full ≡ false
+  pub others : (layout : Layout) (at : Location) (c : ℕ) → layout_of program cells is_held choices ≡ Some layout → address program (run program choices) layout at ≡ Some c → have_cell ranges c ≡ false
+      → ((run program (choices ++ p ∷ [])).store at).full ≡ ((run program choices).store at).full
+
+-- after turns of these processes p made a step, which touched no other cell than this one, or emptied the cells of a PURGE; or it waits
 abbrev pub HasTurned : Units → ℕ → List ℕ → ℕ → Turned → Machine → Type 0
 HasTurned program cells choices p (Stepped changed) new =
     (step program p (run program choices) ≢ None) × IsMachineAfter program cells (choices ++ p ∷ []) new
     × Touches program cells choices p (cell_wanted changed) × IsNow program cells choices p changed
+HasTurned program cells choices p Purged new =
+    (step program p (run program choices) ≢ None) × IsMachineAfter program cells (choices ++ p ∷ []) new
+    × HasPurged program cells choices p new.passing.ranges.items × AreReached new.frames.arena new.passing.ranges.items
 HasTurned program cells choices p (Waits want) new =
     HasWaited program cells choices p want.cell want.full (snapshot_of new) × IsMachineAfter program cells choices new

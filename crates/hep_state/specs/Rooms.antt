@@ -1,6 +1,8 @@
 -- Room for operands in what a core keeps: docs/ARCHITECTURE.md, "Forms".
 use Rattle.std.specs.Prelude.{◌≡◌, ◌-◌, ◌<◌, ◌≤◌, ℕ, List, length, Some, slice_get, vec_capacity}
 use Rattle.hep_source.specs.Units.{Units, dummies_of, unit_at}
+use Rattle.hep_code.specs.declared.instruction.Instruction.TheVariants.{Step}
+use Rattle.hep_code.specs.declared.instruction.Operation.TheVariants.{Purge}
 use Rattle.hep_code.specs.Depths.{deepest}
 use Rattle.hep_image.specs.Dummies.{dummy_arguments}
 use Rattle.hep_image.specs.Image.{most_cells}
@@ -18,11 +20,12 @@ abbrev pub HasRoom : Units → Process → Type 0
 HasRoom program q = (i : ℕ) (l : Level) → slice_get q.levels.items i ≡ Some l → deepest (unit_code program l.unit) ≤ vec_capacity q.operands
 
 -- there is room for what is given to the dummy arguments of each unit, for their shapes, and for the values in the code of each, so no
--- CALL takes memory for it
+-- CALL takes memory for it; and for the targets of each PURGE
 pub record HasRoomToPass (program : Units) (r : Passing) : Type 0 where
   pub given : (u : ℕ) → length (dummies_of (unit_at program u)) ≤ vec_capacity r.given
   pub shapes : (u : ℕ) → length (dummies_of (unit_at program u)) ≤ vec_capacity r.shapes
   pub values : (u : ℕ) → u < length program → longest_code (dummy_arguments program (unit_at program u)) ≤ vec_capacity r.values
+  pub ranges : (u index line count next : ℕ) → u < length program → slice_get (unit_code program u) index ≡ Some (Step line (Purge count next)) → count ≤ vec_capacity r.ranges
 
 -- the operands of process p have room for the deepest stack of unit u
 abbrev pub HasRoomAt : Units → ℕ → ℕ → Machine → Type 0

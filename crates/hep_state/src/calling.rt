@@ -43,7 +43,7 @@ fn add_level(levels: &mut Vec<Level>, added: Level)
 }
 
 // Its top activation is to go on at an index.
-fn go_on(process: &mut Process, index: usize)
+pub(crate) fn go_on(process: &mut Process, index: usize)
     requires { 0 < vec_len process.old.levels }
     ensures stack { (l : ALevel) (ls : List ALevel) (operands : List OperandValue) → stack_of process.old ≡ stack_with l ls operands → stack_of process.new ≡ stack_with (record l { index = index }) ls [] }
     ensures count { vec_len process.new.levels ≡ vec_len process.old.levels }

@@ -82,6 +82,7 @@ impl Machine {
         requires ending { (program : Units) × (cells : ℕ) × (choices : List ℕ) × IsEnding program cells choices p (snapshot_of self.old) (fails line kind) }
         requires room { vec_len self.old.faults < vec_capacity self.old.faults }
         ensures stepped { (program : Units) (cells : ℕ) (choices : List ℕ) → IsEnding program cells choices p (snapshot_of self.old) (fails line kind) → HasStepped program cells choices p (snapshot_of self.new) }
+        ensures passing { self.new.passing ≡ self.old.passing }
         ensures rooms { (program : Units) (cells : ℕ) → HaveRoom program cells self.old → HaveRoom program cells self.new }
         ensures processes { length self.new.processes.items ≡ length self.old.processes.items }
     {

@@ -22,7 +22,6 @@ ghost use Rattle.hep_frames.specs.Tree.{Node, Nodes, but, is_stacked};
 ghost use Rattle.hep_finding.specs.Within.{ArePlacedArrays};
 ghost use Rattle.hep_image.specs.declared.data.DataRow.{DataRow};
 ghost use Rattle.hep_image.specs.Data.{AreInitial, AreOfUnits, first_frames};
-ghost use Rattle.hep_image.specs.Supported.{first_unsupported};
 ghost use Rattle.hep_proc.specs.Keeping.{AreKept, CanAllLeave, CanLeave, HasLeft, IsEnded, IsOpening, Keeps, LeadUpwards, all_but};
 ghost use Rattle.hep_arena.specs.Holes.{first_fit};
 ghost use Rattle.hep_code.specs.declared.instruction.Instruction.TheVariants.{Step};
@@ -32,6 +31,9 @@ ghost use Rattle.hep_image.specs.Dummies.{dummy_arguments};
 ghost use Rattle.hep_image.specs.Image.{most_cells};
 ghost use Rattle.hep_passing.specs.declared.given.Given.{Given};
 ghost use Rattle.hep_passing.specs.Ready.{ArePassable};
+ghost use Rattle.hep_purging.specs.declared.range.Range.{Range};
+ghost use Rattle.hep_purging.specs.Purged.{purged};
+ghost use Rattle.hep_purging.specs.Ready.{AreOut};
 ghost use Rattle.hep_shaping.specs.Fitting.{AreShapable, are_fitting, longest_code, shapes_of};
 ghost use Rattle.hep_reply.specs.Cells.{HasFrame};
 ghost use Rattle.hep_step.specs.Ready.{frame_in_arena};
@@ -46,9 +48,10 @@ ghost use Rattle.hep_state.specs.Showing.{node_under};
 ghost use Rattle.hep_state.specs.Snapshots.{Snapshot};
 ghost use Rattle.hep_state.specs.Taking.{IsEnding};
 ghost use Rattle.hep_state.specs.Tops.{IsTurning, frame_under, keys_of, snapshot_failed, snapshot_moved, snapshot_printed, snapshot_returned, snapshot_stopped, state_failed, state_returned, top_after, with_stack};
-ghost use Rattle.hep_state.specs.declared.passing.CallAhead.{CallAhead};
-ghost use Rattle.hep_state.specs.CallsAhead.{IsAtCall, IsWithoutCall, given_of};
-ghost use Rattle.hep_state.specs.Outcomes.{Touches};
+ghost use Rattle.hep_state.specs.declared.upcoming.CallAhead.{CallAhead};
+ghost use Rattle.hep_state.specs.declared.upcoming.PurgeAhead.{PurgeAhead};
+ghost use Rattle.hep_state.specs.CallsAhead.{IsAtCall, IsAtPurge, IsWithoutCall, given_of, ranges_ahead};
+ghost use Rattle.hep_state.specs.Outcomes.{HasPurged, Touches};
 ghost use Rattle.hep_state.specs.Turns.{HasGaps, HasNoGap, HasStepped, HasWaited, IsAbsent, IsAfter};
 
 /// A process that has levels lives, and it is its turn where the processes weren't stopped; one that has none, or that isn't
@@ -70,14 +73,6 @@ pub fn tops_are_running()
     hep_placed::laws::arrays_are_there();
     hep_works::laws::programs_are_closed();
     hep_works::laws::activations_are_bound_in_runs();
-}
-
-/// Of what calls, creates or purges only CALL and CREATE stand in a program that can be run so far.
-pub fn supported_programs_purge_nothing()
-    ensures call { (program : Units) (u index line : ℕ) (o : Operation) (behind : List Instruction) → IsAccepted program → first_unsupported program ≡ None → u < length program → drop index (unit_code program u) ≡ Step line o ∷ behind → is_left_out o ≡ true → (creates : Bool) × (v count next : ℕ) × (o ≡ making creates v count next) }
-    ensures main { (program : Units) → first_unsupported program ≡ None → is_some (main_among program) ≡ true }
-{
-    hep_placed::laws::supported_code();
 }
 
 /// A turn makes one activation at most, and the opening has one.
@@ -148,6 +143,40 @@ pub fn calls_can_be_made()
     hep_placed::laws::arrays_are_there();
     hep_passing::laws::callers_can_pass();
     hep_step::laws::calls_are_ahead();
+    tops_are_running();
+}
+
+/// Where a PURGE stands ahead of a process, its frame is there, what its targets name can be found, and is out.
+pub fn purges_can_be_made()
+    ensures framed { (program : Units) (cells : ℕ) (choices : List ℕ) (m : Snapshot) (p : ℕ) (purge : PurgeAhead) → IsAccepted program → is_some (main_among program) ≡ true → length m.arena.contents ≤ most_cells → (at : IsAtPurge program cells choices p m purge) → HasFrame m.arena (frame_in_arena (frame_under m.nodes at.l.key)) }
+    ensures passable { (program : Units) (cells : ℕ) (choices : List ℕ) (m : Snapshot) (p : ℕ) (purge : PurgeAhead) → IsAccepted program → is_some (main_among program) ≡ true → (at : IsAtPurge program cells choices p m purge) → ArePassable m.arena (unit_arrays program at.l.unit) (frame_in_arena (frame_under m.nodes at.l.key)) (passed_from purge.count at.behind at.operands) }
+    ensures out { (program : Units) (cells : ℕ) (choices : List ℕ) (m : Snapshot) (p : ℕ) (purge : PurgeAhead) → IsAccepted program → is_some (main_among program) ≡ true → (at : IsAtPurge program cells choices p m purge) → AreOut m.arena (unit_arrays program at.l.unit) (frame_in_arena (frame_under m.nodes at.l.key)) (passed_from purge.count at.behind at.operands) }
+{
+    hep_works::laws::programs_are_closed();
+    hep_works::laws::units_are_there();
+    hep_works::laws::activations_are_bound_in_runs();
+    hep_placed::laws::arrays_are_there();
+    hep_purging::laws::purges_are_ready();
+    tops_are_running();
+}
+
+/// Where the cells that its targets name are emptied and the process goes on behind the statement, the step of a PURGE was made: just the
+/// storage units in these cells are empty, and the others as full as before. Where a target isn't there, a fault ends the process, and
+/// nothing is emptied. In either case each frame has its gap.
+pub fn purges_are_shown()
+    ensures stepped { (program : Units) (cells : ℕ) (choices : List ℕ) (m : Snapshot) (p : ℕ) (purge : PurgeAhead) (ranges : List Range) → IsAccepted program → is_some (main_among program) ≡ true → (at : IsAtPurge program cells choices p m purge) → ranges_ahead program m purge at ≡ Ok ranges → HasStepped program cells choices p (snapshot_moved m p at.l at.ls (purged ranges m.arena.contents) [] purge.next) }
+    ensures purged { (program : Units) (cells : ℕ) (choices : List ℕ) (m : Snapshot) (p : ℕ) (purge : PurgeAhead) (ranges : List Range) → IsAccepted program → is_some (main_among program) ≡ true → (at : IsAtPurge program cells choices p m purge) → ranges_ahead program m purge at ≡ Ok ranges → HasPurged program cells choices p ranges }
+    ensures range { (program : Units) (cells : ℕ) (choices : List ℕ) (m : Snapshot) (p : ℕ) (purge : PurgeAhead) (kind : Kind) → IsAccepted program → is_some (main_among program) ≡ true → (at : IsAtPurge program cells choices p m purge) → ranges_ahead program m purge at ≡ Err kind → IsEnding program cells choices p m (fails purge.line kind) }
+    ensures nothing { (program : Units) (cells : ℕ) (choices : List ℕ) (m : Snapshot) (p line : ℕ) (kind : Kind) → IsEnding program cells choices p m (fails line kind) → HasPurged program cells choices p [] }
+    ensures gaps { (program : Units) (cells : ℕ) (choices : List ℕ) (m : Snapshot) (p : ℕ) (purge : PurgeAhead) → IsAccepted program → is_some (main_among program) ≡ true → IsAtPurge program cells choices p m purge → HasGaps program cells choices p }
+{
+    hep_works::laws::programs_are_closed();
+    hep_works::laws::units_are_there();
+    hep_works::laws::activations_are_bound_in_runs();
+    hep_placed::laws::variables_of_the_code_are_placed();
+    hep_purging::laws::purges_do_what_the_machine_does();
+    hep_purging::laws::ranges_are_emptied();
+    gaps_are_told();
     tops_are_running();
 }
 

@@ -6,15 +6,17 @@
 
 mod advancing;
 mod calling;
+mod emptying;
 mod ending;
 pub mod laws;
 mod machine;
 mod opening;
 mod passing;
 mod turn;
+mod upcoming;
 
 pub use calling::Called;
 pub use machine::{Level, Machine, Passing, Process};
 pub use opening::fits;
-pub use passing::CallAhead;
 pub use turn::{TurnFault, Turned};
+pub use upcoming::{CallAhead, PurgeAhead, StepAhead};

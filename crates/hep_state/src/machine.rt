@@ -2,6 +2,7 @@
 use hep_machine::{Fault, Record};
 use hep_passing::Given;
 use hep_proc::Frames;
+use hep_purging::Range;
 use hep_shape::Shape;
 use hep_source::Value;
 
@@ -21,7 +22,7 @@ pub struct Process {
     pub operands: Vec<Value>,
 }
 
-/// What the actual arguments of a CALL give, while it is made.
+/// What the actual arguments of a CALL give, and the targets of a PURGE name, while it is made.
 #[derive(Drop)]
 pub struct Passing {
     /// What each dummy argument stands for.
@@ -30,6 +31,8 @@ pub struct Passing {
     pub shapes: Vec<Option<Shape>>,
     /// The values of bounds, while shapes are found.
     pub values: Vec<Value>,
+    /// The cells that the last PURGE emptied.
+    pub ranges: Vec<Range>,
 }
 
 /// A state: the frames, the processes by number, counted from 1, how many activations were made, and what was written.
@@ -42,6 +45,7 @@ pub struct Machine {
     pub faults: Vec<Fault>,
     /// All processes were ended by a STOP.
     pub halted: bool,
-    /// It has room for the dummy arguments of each unit and for their bounds, so that no CALL takes memory for them.
+    /// It has room for the dummy arguments of each unit and for their bounds, so that no CALL takes memory for them, and for the targets of
+    /// each PURGE.
     pub passing: Passing,
 }

@@ -1,16 +1,19 @@
 //! A machine before its first turn: process 1 at the main program, whose frame is just behind COMMON, with what DATA
 //! gives (X3.9-1978, section 9).
-ghost use Rattle.std.specs.Prelude.{◌≡◌, ◌+◌, ◌<◌, ◌≤◌, ◌∷◌, ℕ, [], false, IfOk, IsSome, length, vec_capacity};
+ghost use Rattle.std.specs.Prelude.{◌≡◌, ◌+◌, ◌<◌, ◌≤◌, ◌∷◌, ℕ, [], false, Some, IfOk, IsSome, length, slice_get, vec_capacity};
 ghost use Rattle.std.specs.Option.{is_some};
 ghost use Rattle.slab.specs.Slab.{HasRoomFor};
 ghost use Rattle.hep_source.specs.Units.{dummies_of, main_unit, unit_at};
 ghost use Rattle.hep_machine.specs.Layout.{common_cells, opening_layout};
 ghost use Rattle.hep_arena.specs.Holes.{IsOut};
+ghost use Rattle.hep_code.specs.declared.instruction.Instruction.TheVariants.{Step};
+ghost use Rattle.hep_code.specs.declared.instruction.Operation.TheVariants.{Purge};
 ghost use Rattle.hep_image.specs.Dummies.{dummy_arguments};
 ghost use Rattle.hep_image.specs.Image.{IsUnitCode};
 ghost use Rattle.hep_proc.specs.Keeping.{IsUnused};
 ghost use Rattle.hep_proc.specs.Nodes.{nodes_of};
 ghost use Rattle.hep_shaping.specs.Fitting as shaping;
+ghost use Rattle.hep_step.specs.Simulation.{unit_code};
 ghost use Rattle.hep_state.specs.Givings.{AreOut};
 ghost use Rattle.hep_state.specs.Openings.{IsEntered, IsGiven};
 ghost use Rattle.hep_state.specs.Rooms.{HasRoomToPass, IsMachineAfter};
@@ -20,6 +23,7 @@ use crate::machine::{Level, Machine, Passing, Process};
 use hep_image::{DataRow, Image, UnitCode};
 use hep_machine::Slot;
 use hep_proc::Frames;
+use hep_purging::most_targets;
 use hep_shaping::longest_code;
 use hep_source::{Form, Statement, Unit, Value};
 use std::alloc::{AllocError, Global};
@@ -127,7 +131,19 @@ fn longest_code_of_all(image: &Image) -> usize
     longest
 }
 
-// Room for what is given to the dummy arguments of each unit, for their shapes, and for the values of bounds.
+// The most targets that a PURGE of a unit has.
+fn most_targets_of_all(image: &Image) -> usize
+    ensures { (u index line count next : ℕ) → u < length image.now → slice_get (unit_code image.now u) index ≡ Some (Step line (Purge count next)) → count ≤ result }
+{
+    let mut most = 0;
+    for unit in 0..image.program().as_slice().len() {
+        most = most.max(most_targets(image.unit(unit).code.as_slice()));
+    }
+    most
+}
+
+// Room for what is given to the dummy arguments of each unit, for their shapes, and for the values of bounds, and for the targets of
+// each PURGE.
 fn room_to_pass(alloc: Global, image: &Image) -> Result<Passing, AllocError>
     ensures { IfOk result (λ passing. HasRoomToPass image.now passing) }
 {
@@ -136,6 +152,7 @@ fn room_to_pass(alloc: Global, image: &Image) -> Result<Passing, AllocError>
         given: Vec::with_capacity(alloc, most)?,
         shapes: Vec::with_capacity(alloc, most)?,
         values: Vec::with_capacity(alloc, longest_code_of_all(image))?,
+        ranges: Vec::with_capacity(alloc, most_targets_of_all(image))?,
     })
 }
 

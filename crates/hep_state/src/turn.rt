@@ -8,7 +8,7 @@ ghost use Rattle.hep_machine.specs.Run.{run};
 ghost use Rattle.hep_arena.specs.Holes.{IsOut};
 ghost use Rattle.hep_image.specs.Image.{most_cells};
 ghost use Rattle.hep_state.specs.declared.machine.Process.{Process as AProcess};
-ghost use Rattle.hep_state.specs.CallsAhead.{IsAtCall, IsWithoutCall};
+ghost use Rattle.hep_state.specs.CallsAhead.{IsAtCall, IsAtPurge, IsWithoutCall};
 ghost use Rattle.hep_state.specs.Rooms.{HaveRoom, IsMachineAfter};
 ghost use Rattle.hep_state.specs.Snapshots.{snapshot_of};
 ghost use Rattle.hep_state.specs.Taking.{HasLevels, IsLeft, IsSeenSame};
@@ -20,7 +20,7 @@ use crate::advancing::{Advanced, advance};
 use crate::calling::Called;
 use crate::laws;
 use crate::machine::{Machine, Process};
-use crate::passing::CallAhead;
+use crate::upcoming::{CallAhead, PurgeAhead, StepAhead};
 use hep_blocked::Want;
 use hep_image::Image;
 use hep_machine::Entry;
@@ -53,6 +53,8 @@ impl From<AllocError> for TurnFault {
 pub enum Turned {
     /// A step was made. It filled or emptied no cell for which others may wait but this one, if there is one, which is so now.
     Stepped { changed: Option<Want> },
+    /// A PURGE was made, which emptied the cells in the machine's `passing` and changed no others; or it ended in a fault, and they are none.
+    Purged,
     /// The process waits for a cell to be so. The same state is shown.
     Waits(Want),
 }
@@ -214,6 +216,27 @@ impl Machine {
         }
     }
 
+    // A turn of process p, which is at a PURGE.
+    fn take_purge(
+        &mut self,
+        image: &Image,
+        p: u64,
+        purge: PurgeAhead,
+        history: &mut Vec<Entry>,
+    ) -> Result<Turned, AllocError>
+        requires at { (cells : ℕ) × (choices : List ℕ) × IsMachineAfter image.now cells choices self.old × IsAtPurge image.now cells choices p (snapshot_of self.old) purge }
+        ensures turned { IfOk result (λ turned. (cells : ℕ) (choices : List ℕ) → IsMachineAfter image.now cells choices self.old → IsAtPurge image.now cells choices p (snapshot_of self.old) purge → HasTurned image.now cells choices p turned self.new) }
+        ensures refused { OnErr result ((cells : ℕ) (choices : List ℕ) → IsMachineAfter image.now cells choices self.old → IsMachineAfter image.now cells choices self.new) }
+        ensures same { OnErr result (IsSeenSame (snapshot_of self.old) (snapshot_of self.new)) }
+        ensures processes { length self.new.processes.items ≡ length self.old.processes.items }
+        ensures room { OnOk result (vec_len history.new < vec_capacity history.new) }
+        ensures entries { history.new.items ≡ history.old.items }
+    {
+        self.reserve(history)?;
+        self.purge(image, p, purge);
+        Ok(Turned::Purged)
+    }
+
     // A turn of process p, which is at a CALL or CREATE: an activation more, or a fault.
     //
     // Whether the frame has a gap is found before memory is asked for.
@@ -244,7 +267,6 @@ impl Machine {
         laws::calls_can_be_made();
         laws::calls_touch_nothing();
         laws::gaps_are_told();
-        laws::supported_programs_purge_nothing();
         if let Err(kind) = self.give(image, p, call) {
             self.reserve(history)?;
             self.fail(p, call.line, kind);
@@ -302,9 +324,11 @@ impl Machine {
     {
         image.is_runnable();
         laws::other_steps_find_gaps();
-        match self.call_ahead(image, p) {
-            Some(call) => self.take_call(alloc, image, p, call, history, ready),
-            None => Ok(self.take_operation(alloc, image, p, history)?),
+        laws::purges_are_shown();
+        match self.step_ahead(image, p) {
+            StepAhead::Call(call) => self.take_call(alloc, image, p, call, history, ready),
+            StepAhead::Purge(purge) => Ok(self.take_purge(image, p, purge, history)?),
+            StepAhead::Other => Ok(self.take_operation(alloc, image, p, history)?),
         }
     }
 }

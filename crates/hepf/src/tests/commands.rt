@@ -55,7 +55,7 @@ fn words(rt: HostRuntime) -> Result<(), Fail> {
     );
     assert!(rt; job(alloc, &["hepf", "check", "a.f"])? == Job::Check { file: "a.f" });
     assert!(rt; job(alloc, &["hepf", "list", "a.f"])? == Job::List { file: "a.f" });
-    assert!(rt; job(alloc, &["hepf", "explain", "403"])? == Job::Explain { number: 403 });
+    assert!(rt; job(alloc, &["hepf", "explain", "304"])? == Job::Explain { number: 304 });
     let defaults = Options::defaults(alloc);
     assert!(rt; defaults.arena == ARENA && defaults.steps == STEPS);
     Ok(())

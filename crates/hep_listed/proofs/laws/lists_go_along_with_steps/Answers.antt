@@ -1,22 +1,20 @@
-use Rattle.std.proofs.Common.{◌≡◌, ℕ, [], ◌∷◌, ◌++◌, Some, ◌≢◌}
-use Rattle.std.specs.Prelude.{is_some}
+use Rattle.std.proofs.Common.{◌≡◌, ◌≢◌, ℕ, Bool, [], ◌∷◌, ◌++◌}
+use Rattle.std.specs.Prelude.{not}
 use Rattle.hep_machine.specs.Laws.{IsOnStack}
 use Rattle.hep_machine.specs.Run.{run}
 use Rattle.hep_machine.specs.State.{State}
 use Rattle.hep_machine.specs.Step.{is_waiting}
 use Rattle.hep_blocked.specs.declared.want.Want.{Want}
-use Rattle.hep_blocked.specs.Waiting.{waiting_at}
 use Rattle.hep_needs.specs.Awaiting.{NeedsCell}
 use Rattle.hep_needs.proofs.Awaiting.{need-after}
-use Rattle.hep_listed.specs.Listing.{awake_by}
-use Rattle.hep_listed.proofs.Keeping.{step-kept}
-use Rattle.hep_listed.proofs.Living.{waits-apart}
-use Rattle.hep_listed.proofs.Waking.{goes-on}
+use Rattle.hep_listed.specs.Listing.{IsBlocked}
+use Rattle.hep_listed.proofs.Keeping.{GoesAlongBy, along-made, step-kept}
+use Rattle.hep_listed.proofs.Waking.{goes-on, is_made}
 use Rattle.hep_listed.proofs.laws.lists_go_along_with_steps.Goals as goal
 
 pub returns : goal.returns
 returns c program cells choices x waiting waiting_after ready ready_after p changed layout after are there calm placed turned told goes =
-    step-kept program cells choices x waiting ready are waiting_after ready_after p changed there goes needs waits
+    step-kept program cells choices x waiting ready are waiting_after ready_after p (is_made changed) there along still waits
   where
     s : State
     s = run program choices
@@ -24,21 +22,17 @@ returns c program cells choices x waiting waiting_after ready ready_after p chan
     t : State
     t = run program (choices ++ p ∷ [])
 
-    apart : (q : ℕ) (v : Want) → waiting_at waiting q ≡ Some v → p ≢ q
-    apart q v e = waits-apart program p q s (are.blocked q v e).1 there
+    along : GoesAlongBy program choices p (is_made changed) waiting waiting_after ready ready_after
+    along = along-made program choices p waiting waiting_after ready ready_after changed goes
 
-    needs : (q : ℕ) (v : Want) → waiting_at waiting q ≡ Some v → NeedsCell program cells (choices ++ p ∷ []) q v.cell v.full
-    needs q v e =
-        let old = (are.blocked q v e).0 in
-        c.others_need_the_same.ensures.cell program cells choices p q v.cell v.full layout old there (apart q v e) placed
+    still : (q cell : ℕ) (full : Bool) → NeedsCell program cells choices q cell full → p ≢ q → NeedsCell program cells (choices ++ p ∷ []) q cell full
+    still q cell full needs other = c.others_need_the_same.ensures.cell program cells choices p q cell full layout needs there other placed
 
-    waits : (q : ℕ) (v : Want) → waiting_at waiting q ≡ Some v → is_waiting program t q ≡ is_some (awake_by changed (Some v))
-    waits q v e =
-        let old = (are.blocked q v e).0 in
+    waits : (q : ℕ) (v : Want) → IsBlocked program cells choices q v → p ≢ q → is_waiting program t q ≡ not (is_made changed v)
+    waits q v blocked other =
+        let needs = blocked.0 in
         let made = λ (a : ℕ) (on : IsOnStack s a). (c.parents_are_older.ensures.made program choices a on).1 in
-        let stays = c.needs_stay.ensures.step program p q in
-        let other = apart q v e in
-        let needed = need-after program choices p q old.wanted stays made there other old.needed in
+        let needed = need-after program choices p q needs.wanted (c.needs_stay.ensures.step program p q) made there other needs.needed in
         let unmet = c.waits_are_unmet_needs.ensures program q t in
-        let same = c.others_need_the_same.ensures.untouched program cells choices p q v.cell v.full layout old there other calm placed in
-        goes-on program cells choices p q layout changed v told old placed needed unmet (are.blocked q v e).1 same
+        let same = c.others_need_the_same.ensures.untouched program cells choices p q v.cell v.full layout needs there other calm placed in
+        goes-on program cells choices p q layout v needs placed needed unmet blocked.1 changed told same

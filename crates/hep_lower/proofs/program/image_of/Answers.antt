@@ -28,7 +28,7 @@ new-requires c =
     let begun = begun-are program c.args.common.now c.from-4.result c.blocks-blocks.result.now c.requires.starts c.requires.small_common
     (c.blocks-blocks.ensures ∙ (c.in_ok-listed.ensures.blocks ∙ ap blocks_of source)) (c.from-4.ensures ∙ c.in_ok-starts.ensures) in
     subst (λ p. IsImage p c.from.result c.args.main c.cells.result c.from-2.result c.from-3.result c.from-4.result) (sym (c.in_ok-copy.ensures ∙ c.program-2.ensures)) (
-    image-is program c.args.units c.requires.units c.requires.small_common c.requires.small_frames c.is_accepted.ensures c.requires.supported c.requires.shallow
+    image-is program c.args.units c.requires.units c.requires.small_common c.requires.small_frames c.is_accepted.ensures c.requires.shallow
     c.from.result c.args.main c.cells.result c.from-2.result c.from-3.result c.from-4.result c.from.ensures c.requires.main (c.cells.ensures.common program c.requires.starts)
     (subst (AreInitial program) (sym c.from-2.ensures) c.in_ok-rows.ensures.initial) (subst (AreOfUnits program) (sym c.from-2.ensures) c.in_ok-rows.ensures.units)
     (c.from-3.ensures ∙ (c.in_ok-names.ensures ∙ ap names_in_order source)) begun)

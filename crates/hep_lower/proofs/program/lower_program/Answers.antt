@@ -1,12 +1,11 @@
-use Rattle.std.proofs.Common.{◌∙◌, ◌<◌, arith, length, ap, subst, sym}
+use Rattle.std.proofs.Common.{◌∙◌, ◌<◌, arith, length, subst}
 use Rattle.hep_source.specs.Units.{Units}
 use Rattle.hep_code.specs.Limits.{most_instructions}
-use Rattle.hep_image.specs.Supported.{first_unsupported_in}
 use Rattle.hep_lower.specs.Refusals.{IsFirstDeep, RefusesCode}
 use Rattle.hep_lower.specs.Units.{AreUnits}
 use Rattle.hep_lower.proofs.Counts.{one-each}
 use Rattle.hep_lower.proofs.Placing.{none-there}
-use Rattle.hep_lower.proofs.Told.{lowered-is, some-main, supported-with-main, told-cells, told-code, told-deep, told-many, told-unsupported, within-limits}
+use Rattle.hep_lower.proofs.Told.{lowered-is, some-main, told-cells, told-code, told-deep, told-many, within-limits}
 use Rattle.hep_lower.proofs.program.lower_program.Goals as goal
 
 pub returns-then-exceeds_cells-clause-refused : goal.returns-then-exceeds_cells-clause-refused
@@ -35,17 +34,6 @@ returns-in-Some-clause-refused c =
     let within = within-limits program units known (c.exceeds_cells.ensures.common c.if-exceeds_cells.false) (c.exceeds_cells.ensures.frames c.if-exceeds_cells.false) c.in_ok-units.ensures.few in
     told-deep program (some-main program c.args.main c.requires) c.refused-in-Some.result c.in-Some.line c.refused-in-Some.ensures within (subst (IsFirstDeep program (length program)) c.in-Some.is known.deep)
 
-pub returns-in-Some-first_unsupported_statement-clause-refused : goal.returns-in-Some-first_unsupported_statement-clause-refused
-returns-in-Some-first_unsupported_statement-clause-refused c =
-    let program = c.args.checked.now in
-    let units = c.in_ok-units.units in
-    let source = c.as_slice-source.ensures ∙ c.program.ensures in
-    let known = subst (λ (p : Units). AreUnits p (length p) units) (c.in_ok-program.ensures ∙ source) c.in_ok-units.ensures.units in
-    let within = within-limits program units known (c.exceeds_cells.ensures.common c.if-exceeds_cells.false) (c.exceeds_cells.ensures.frames c.if-exceeds_cells.false) c.in_ok-units.ensures.few in
-    told-unsupported program (some-main program c.args.main c.requires) c.refused-in-Some-first_unsupported_statement.result c.in-Some-first_unsupported_statement.line c.refused-in-Some-first_unsupported_statement.ensures within
-    (subst (IsFirstDeep program (length program)) (none-there units.too_deep c.in_default.not-Some) known.deep)
-    (supported-with-main program (some-main program c.args.main c.requires) ∙ (sym (ap first_unsupported_in source) ∙ (sym c.first_unsupported_statement.ensures ∙ c.in-Some-first_unsupported_statement.is)))
-
 pub image_of-requires-clause-units : goal.image_of-requires-clause-units
 image_of-requires-clause-units c =
     let units = c.in_ok-units.units in
@@ -57,6 +45,4 @@ returns-clause-lowered c =
     let units = c.in_ok-units.units in
     let source = c.as_slice-source.ensures ∙ c.program.ensures in
     let known = subst (λ (p : Units). AreUnits p (length p) units) (c.in_ok-program.ensures ∙ source) c.in_ok-units.ensures.units in
-    let none = none-there c.first_unsupported_statement.result c.in_default-first_unsupported_statement.not-Some in
-    lowered-is program units known (c.exceeds_cells.ensures.common c.if-exceeds_cells.false) (c.exceeds_cells.ensures.frames c.if-exceeds_cells.false) c.in_ok-units.ensures.few (some-main program c.args.main c.requires)
-    (supported-with-main program (some-main program c.args.main c.requires) ∙ (sym (ap first_unsupported_in source) ∙ (sym c.first_unsupported_statement.ensures ∙ none))) (none-there units.too_deep c.in_default.not-Some)
+    lowered-is program units known (c.exceeds_cells.ensures.common c.if-exceeds_cells.false) (c.exceeds_cells.ensures.frames c.if-exceeds_cells.false) c.in_ok-units.ensures.few (some-main program c.args.main c.requires) (none-there units.too_deep c.in_default.not-Some)

@@ -1,4 +1,4 @@
-use Rattle.std.proofs.Common.{ℕ, ◌+◌, ◌<◌, ◌≤◌, arith, length, refl, subst, sym}
+use Rattle.std.proofs.Common.{◌+◌, ◌<◌, arith, length, refl, subst, sym}
 use Rattle.hep_source.specs.Units.{Units}
 use Rattle.hep_lower.specs.Refusals.{RefusesCode}
 use Rattle.hep_lower.proofs.Counts.{rising}

@@ -7,7 +7,7 @@ pub returns-clause-operations : goal.returns-clause-operations
 returns-clause-operations c = λ program u i line o accepted h e. variables_of_operations program u (facts_of c.constants_agree.ensures program u accepted h) i line o e
 
 pub returns-clause-all : goal.returns-clause-all
-returns-clause-all c = λ program u i x accepted h plain e. variables_of_all program u (facts_of c.constants_agree.ensures program u accepted h) i x plain e
+returns-clause-all c = λ program u i x accepted h e. variables_of_all program u (facts_of c.constants_agree.ensures program u accepted h) i x e
 
 pub returns-clause-begun : goal.returns-clause-begun
 returns-clause-begun c = placed_begins

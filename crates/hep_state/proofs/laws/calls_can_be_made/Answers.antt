@@ -13,7 +13,8 @@ use Rattle.hep_finding.specs.Within.{ArePlacedArrays}
 use Rattle.hep_passing.specs.Ready.{ArePassable}
 use Rattle.hep_step.specs.Ready.{frame_in_arena}
 use Rattle.hep_state.specs.Tops.{frame_under}
-use Rattle.hep_state.proofs.Callers.{IsKnown, as-many, called-inside, caller-unit, calls, calls-so, passed-by}
+use Rattle.hep_state.specs.CallsAhead.{operation_of}
+use Rattle.hep_state.proofs.Callers.{IsKnown, any-running, as-many, called-inside, caller-unit, calls, calls-so, passed-by}
 use Rattle.hep_state.proofs.laws.calls_can_be_made.Goals as goal
 
 from-made : goal.After-tops_are_running → (creates : Bool) (unit : List Statement) (k : ℕ) (work : Work) (x : Name) (actuals : List Actual) → ComesFrom unit k work → next_of unit work ≡ does (made_by creates x actuals) → IsCalledBy unit k x actuals
@@ -44,7 +45,7 @@ returns-clause-counted c program cells choices m p call accepted main at =
 
 pub returns-clause-framed : goal.returns-clause-framed
 returns-clause-framed c program cells choices m p call accepted main few at =
-    c.callers_can_pass.ensures.frame program (run program choices) at.turning.after.layout m.arena.contents m.arena.holes at.top.0.activation (frame_under m.nodes at.l.key) (calls-so program (known c program accepted main) cells choices p m call at) at.turning.after.shows.keeps.memory few
+    c.callers_can_pass.ensures.frame program (run program choices) at.turning.after.layout m.arena.contents m.arena.holes at.top.0.activation (frame_under m.nodes at.l.key) (calls-so program (any-running program (known c program accepted main)) cells choices p m call.line (operation_of call) at) at.turning.after.shows.keeps.memory few
 
 pub returns-clause-passable : goal.returns-clause-passable
 returns-clause-passable c program cells choices m p call accepted main at =
@@ -53,6 +54,6 @@ returns-clause-passable c program cells choices m p call accepted main at =
     let f = frame_under m.nodes at.l.key in
     let ahead = calls program k cells choices p m call at in
     let arrays = c.tops_are_running.ensures.arrays program cells choices m p at.l at.ls at.operands at.top accepted main at.turning in
-    let placed = subst (λ u. ArePlacedArrays program (unit_at program u)) (sym (caller-unit program k cells choices p m call at)) arrays in
+    let placed = subst (λ u. ArePlacedArrays program (unit_at program u)) (sym (caller-unit program (any-running program k) cells choices p m call.line (operation_of call) at)) arrays in
     passed-by program k cells choices p m call at (λ xs ps. ArePassable m.arena xs (frame_in_arena f) ps) (
-    c.callers_can_pass.ensures.actuals program s at.turning.after.layout m.arena.contents m.arena.holes at.top.0.activation f ahead.actuals ahead.more (calls-so program k cells choices p m call at) at.turning.after.shows.keeps.memory placed)
+    c.callers_can_pass.ensures.actuals program s at.turning.after.layout m.arena.contents m.arena.holes at.top.0.activation f ahead.actuals ahead.more (calls-so program (any-running program k) cells choices p m call.line (operation_of call) at) at.turning.after.shows.keeps.memory placed)

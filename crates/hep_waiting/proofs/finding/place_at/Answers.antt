@@ -8,7 +8,6 @@ use Rattle.hep_machine.specs.Processes.{unit_of}
 use Rattle.hep_machine.specs.Run.{run}
 use Rattle.hep_image.specs.Owners.{frame_variables, variable_before}
 use Rattle.hep_proc.proofs.Slabs.{some-value}
-use Rattle.hep_state.proofs.Tops.{has-main}
 use Rattle.hep_waiting.specs.declared.place.Place.TheVariants.{Variable}
 use Rattle.hep_waiting.proofs.Places.{Tells, at-holder, common-place, frame-place, in-common, in-frame, variable-of}
 use Rattle.hep_waiting.proofs.finding.place_at.Goals as goal
@@ -149,7 +148,7 @@ unit-unit-requires c =
     let f = in-frame program cells choices m key cell at h tells back in
     let there = at-holder program cells choices m key cell at f c.holder-at.result c.holder-at.ensures in
     let u = unit_of (run program choices) f.owner in
-    let main = has-main program c.is_runnable.ensures.supported in
+    let main = c.is_runnable.ensures.main in
     let inside = c.units_are_there.ensures program choices f.owner c.is_runnable.ensures.accepted main f.made.0 f.made.1 in
     let same : c.unit.result ≡ u = c.unit.ensures f.holder.node there ∙ f.unit in
     omega (arith, slice_get_within program u (unit_at program u) inside, same)
@@ -212,7 +211,7 @@ in_frame-requires-clause-there c =
     let f = in-frame program cells choices m key cell at h tells back in
     let there = at-holder program cells choices m key cell at f c.holder-at.result c.holder-at.ensures in
     let u = unit_of (run program choices) f.owner in
-    let main = has-main program c.is_runnable.ensures.supported in
+    let main = c.is_runnable.ensures.main in
     let inside = c.units_are_there.ensures program choices f.owner c.is_runnable.ensures.accepted main f.made.0 f.made.1 in
     let same : c.unit.result ≡ u = c.unit.ensures f.holder.node there ∙ f.unit in
     let unit = unit_at program u in
@@ -239,7 +238,7 @@ returns c cells choices at h =
     let f = in-frame program cells choices m key cell at h tells back in
     let there = at-holder program cells choices m key cell at f c.holder-at.result c.holder-at.ensures in
     let u = unit_of (run program choices) f.owner in
-    let main = has-main program c.is_runnable.ensures.supported in
+    let main = c.is_runnable.ensures.main in
     let inside = c.units_are_there.ensures program choices f.owner c.is_runnable.ensures.accepted main f.made.0 f.made.1 in
     let same : c.unit.result ≡ u = c.unit.ensures f.holder.node there ∙ f.unit in
     let unit = unit_at program u in

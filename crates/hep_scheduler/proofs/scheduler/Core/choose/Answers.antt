@@ -1,27 +1,31 @@
-use Rattle.std.proofs.Common.{◌≡◌, ◌<◌, ◌≤◌, List, ◌++◌, ◌∷◌, [], ◌∙◌, inl, inr, sym, ap, subst, rules, false, true, None, Some, length, arith, refl}
-use Rattle.std.specs.Prelude.{is_some}
+use Rattle.std.proofs.Common.{◌≡◌, ◌≢◌, ◌<◌, ◌≤◌, ℕ, List, ◌++◌, ◌∷◌, [], ◌∙◌, inl, inr, sym, ap, subst, rules, false, true, None, Some, length, arith, refl}
+use Rattle.std.specs.Prelude.{◌||◌, is_some}
 use Rattle.std.proofs.lemmas.List.{length-map}
 use Rattle.hep_machine.specs.declared.event.Entry.{Entry}
-use Rattle.hep_machine.specs.Processes.{living}
+use Rattle.hep_machine.specs.Processes.{is_number_among, living}
 use Rattle.hep_machine.specs.Run.{run, schedule_of, state_after}
 use Rattle.hep_machine.specs.Schedules.{progress_after, progress_after_step}
 use Rattle.hep_machine.specs.State.{State}
-use Rattle.hep_machine.specs.Step.{is_waiting}
+use Rattle.hep_machine.specs.Step.{is_waiting, step}
+use Rattle.hep_blocked.specs.Waiting.{waiting_at}
 use Rattle.hep_listed.specs.Listing.{AreListed, IsBlocked, IsReadyNoMore, is_noted}
+use Rattle.hep_purging.specs.Purged.{have_cell}
 use Rattle.hep_ready.specs.Numbers.{Numbers}
-use Rattle.hep_state.specs.declared.turn.Turned.TheVariants.{Stepped, Waits}
+use Rattle.hep_state.specs.declared.turn.Turned.{Turned}
+use Rattle.hep_state.specs.declared.turn.Turned.TheVariants.{Stepped, Purged, Waits}
 use Rattle.hep_state.specs.Outcomes.{HasTurned}
+use Rattle.hep_state.specs.Rooms.{IsMachineAfter}
 use Rattle.hep_state.specs.Snapshots.{snapshot_of, stack_of}
 use Rattle.hep_state.specs.Unturned.{IsUnturned}
-use Rattle.hep_state.proofs.Tops.{has-main}
 use Rattle.hep_scheduler.specs.Invariant.{core_value}
 use Rattle.hep_views.specs.Seen.{machine_view}
 use Rattle.hep_scheduler.specs.Value.{IsStop, stop_after}
+use Rattle.hep_scheduler.specs.Waking.{AreInArena, awake_after, is_woken_after}
 use Rattle.hep_scheduler.specs.declared.stop.Stop.TheVariants.{ArenaFull, Halted}
 use Rattle.hep_scheduler.proofs.Histories.{state-is}
 use Rattle.hep_scheduler.proofs.Kept.{AreSeen, halted-is, halted-next, named-left, next, none-of, some-of, state-next, stepped-kept, steps-on, unturned-kept, unturned-view, view-left, view-next, waited-kept}
-use Rattle.hep_scheduler.proofs.Turning.{along, as-many, blocked-now, no-memory, told-to-lists, waits-unstepped, within}
-use Rattle.hep_scheduler.proofs.scheduler.Core.choose.Goals.{After-wait, After-wake}
+use Rattle.hep_scheduler.proofs.Turning.{IsNoWait, along, along-emptying, as-many, blocked-now, emptied-to-lists, in-arena, made-step, no-memory, told-to-lists, waits-unstepped, within}
+use Rattle.hep_scheduler.proofs.scheduler.Core.choose.Goals.{After-wait, After-wake_after}
 use Rattle.hep_scheduler.proofs.scheduler.Core.choose.Goals as goal
 
 pub returns-then-not-lives : goal.returns-then-not-lives
@@ -78,7 +82,7 @@ returns-in-Err-NoMemory c =
     let lives : c.lives.result ≡ true = search rules in
     let alive = some-of (living (state_after i.image h) c.args.p) (ap (λ (s : State). is_some (living s c.args.p)) (state-is i.image h) ∙ sym (c.lives.ensures.lives i.image i.cells (schedule_of h) c.self.invariant.after.after) ∙ lives) in
     let lt : length h < i.limit = omega (arith, c.len.ensures) in
-    let seen : AreSeen i.image i.cells = λ choices n. c.views_are_of_states.ensures i.image i.cells choices n c.is_runnable.ensures.accepted (has-main i.image c.is_runnable.ensures.supported) in
+    let seen : AreSeen i.image i.cells = λ choices n. c.views_are_of_states.ensures i.image i.cells choices n c.is_runnable.ensures.accepted c.is_runnable.ensures.main in
     let after = c.in-Err-NoMemory.ensures.refused i.cells (schedule_of h) c.self.invariant.after in
     let gapped = subst (λ e. IsUnturned e i.image i.cells (schedule_of h) c.args.p) c.in-Err-NoMemory.field-0-is (c.in-Err-NoMemory.ensures.unturned i.cells (schedule_of h) c.self.invariant.after) in
     let view = unturned-view i c.self.invariant c.turn.new.history c.turn.new.self c.turn.new.ready c.turn.ensures.entries after c.turn.ensures.ready c.turn.ensures.numbers (omega (arith, c.self.invariant.waiting, c.turn.ensures.grows)) seen in
@@ -105,7 +109,7 @@ returns-in-Err-ArenaFull c =
     let lives : c.lives.result ≡ true = search rules in
     let alive = some-of (living (state_after i.image h) c.args.p) (ap (λ (s : State). is_some (living s c.args.p)) (state-is i.image h) ∙ sym (c.lives.ensures.lives i.image i.cells (schedule_of h) c.self.invariant.after.after) ∙ lives) in
     let lt : length h < i.limit = omega (arith, c.len.ensures) in
-    let seen : AreSeen i.image i.cells = λ choices n. c.views_are_of_states.ensures i.image i.cells choices n c.is_runnable.ensures.accepted (has-main i.image c.is_runnable.ensures.supported) in
+    let seen : AreSeen i.image i.cells = λ choices n. c.views_are_of_states.ensures i.image i.cells choices n c.is_runnable.ensures.accepted c.is_runnable.ensures.main in
     let after = c.in-Err-ArenaFull.ensures.refused i.cells (schedule_of h) c.self.invariant.after in
     let gap = subst (λ e. IsUnturned e i.image i.cells (schedule_of h) c.args.p) c.in-Err-ArenaFull.field-0-is (c.in-Err-ArenaFull.ensures.unturned i.cells (schedule_of h) c.self.invariant.after) in
     let view = unturned-view i c.self.invariant c.turn.new.history c.turn.new.self c.turn.new.ready c.turn.ensures.entries after c.turn.ensures.ready c.turn.ensures.numbers (omega (arith, c.self.invariant.waiting, c.turn.ensures.grows)) seen in
@@ -116,64 +120,102 @@ returns-in-Err-ArenaFull c =
 -- ---- a turn that made a step
 
 -- what is known once it is noted
-stepped-now : (c : After-wake) → HasTurned c.self.inside.image c.self.inside.cells (schedule_of c.self.inside.history.items) c.args.p (Stepped c.in-Ok-Stepped.changed) c.turn.new.self
+turned-now : (c : After-wake_after) → HasTurned c.self.inside.image c.self.inside.cells (schedule_of c.self.inside.history.items) c.args.p c.in-Ok.turned c.turn.new.self
+turned-now c =
+    let i = c.self.inside in
+    c.in-Ok.ensures.turned i.cells (schedule_of i.history.items) c.self.invariant.after
+
+no-wait : (c : After-wake_after) → IsNoWait c.in-Ok.turned
+no-wait c = c.in_default-turned.not-Waits
+
+stepped-now : (c : After-wake_after) → (step c.self.inside.image c.args.p (run c.self.inside.image (schedule_of c.self.inside.history.items)) ≢ None) × IsMachineAfter c.self.inside.image c.self.inside.cells (schedule_of c.self.inside.history.items ++ c.args.p ∷ []) c.turn.new.self
 stepped-now c =
     let i = c.self.inside in
-    subst (λ turned. HasTurned i.image i.cells (schedule_of i.history.items) c.args.p turned c.turn.new.self) c.in-Ok-Stepped.field-0-is (c.in-Ok-Stepped.ensures.turned i.cells (schedule_of i.history.items) c.self.invariant.after)
+    made-step i.image i.cells (schedule_of i.history.items) c.args.p c.in-Ok.turned c.turn.new.self (no-wait c) (turned-now c)
 
-entry-is : (c : After-wake) → c.note.new.history.items ≡ c.self.inside.history.items ++ record { process = c.args.p; steps = 1 } ∷ []
-entry-is c = c.note.ensures ∙ ap (λ (es : List Entry). es ++ record { process = c.args.p; steps = 1 } ∷ []) c.turn.ensures.entries
+entry-is : (c : After-wake_after) → c.note-in_default-turned.new.history.items ≡ c.self.inside.history.items ++ record { process = c.args.p; steps = 1 } ∷ []
+entry-is c = c.note-in_default-turned.ensures ∙ ap (λ (es : List Entry). es ++ record { process = c.args.p; steps = 1 } ∷ []) c.turn.ensures.entries
 
-lists-now : (c : After-wake) → AreListed c.self.inside.image c.self.inside.cells (schedule_of c.self.inside.history.items ++ c.args.p ∷ [])
-    (progress_after_step c.self.inside.image (progress_after c.self.inside.image c.self.inside.history.items) c.args.p (run c.self.inside.image (schedule_of c.self.inside.history.items ++ c.args.p ∷ []))) c.wake.new.waits c.wake.new.ready.ready
-lists-now c =
+counted-before : (c : After-wake_after) → c.len-made.result ≡ length (run c.self.inside.image (schedule_of c.self.inside.history.items)).processes
+counted-before c =
+    let i = c.self.inside in
+    omega (arith, c.len-made.ensures, i.machine.processes.ok.0, as-many i.image i.cells (schedule_of i.history.items) i.machine c.self.invariant.after.after)
+
+counted-after : (c : After-wake_after) → length c.turn.new.self.processes.items ≡ length (run c.self.inside.image (schedule_of c.self.inside.history.items ++ c.args.p ∷ [])).processes
+counted-after c =
+    let i = c.self.inside in
+    as-many i.image i.cells (schedule_of i.history.items ++ c.args.p ∷ []) c.turn.new.self (stepped-now c).1.after
+
+noted-now : (c : After-wake_after) (q : ℕ) → is_number_among q c.note_ready.new.ready.ready
+    ≡ is_noted c.args.p (is_some (living (run c.self.inside.image (schedule_of c.self.inside.history.items ++ c.args.p ∷ [])) c.args.p)) c.len-made.result (length c.turn.new.self.processes.items) c.self.inside.ready.ready q
+noted-now c q =
+    let i = c.self.inside in
+    let p = c.args.p in
+    let lives = is_some (living (run i.image (schedule_of i.history.items ++ p ∷ [])) p) in
+    c.note_ready.ensures.ready i.image i.cells (schedule_of i.history.items ++ p ∷ []) (stepped-now c).1.after q ∙ ap (λ ns. is_noted p lives c.len-made.result (length c.turn.new.self.processes.items) ns q) c.turn.ensures.ready
+
+-- the lists go along with what the turn came to
+lists-by : (c : After-wake_after) (turned : Turned) → IsNoWait turned → HasTurned c.self.inside.image c.self.inside.cells (schedule_of c.self.inside.history.items) c.args.p turned c.turn.new.self
+    → ((q : ℕ) → waiting_at c.wake_after.new.waits q ≡ awake_after turned c.turn.new.self.passing.ranges.items (waiting_at c.self.inside.waits q))
+    → ((q : ℕ) → is_number_among q c.wake_after.new.ready.ready ≡ (is_woken_after turned c.turn.new.self.passing.ranges.items c.self.inside.waits q || is_number_among q c.note_ready.new.ready.ready))
+    → AreListed c.self.inside.image c.self.inside.cells (schedule_of c.self.inside.history.items ++ c.args.p ∷ [])
+    (progress_after_step c.self.inside.image (progress_after c.self.inside.image c.self.inside.history.items) c.args.p (run c.self.inside.image (schedule_of c.self.inside.history.items ++ c.args.p ∷ []))) c.wake_after.new.waits c.wake_after.new.ready.ready
+lists-by c (Stepped changed) other done waits woken =
     let i = c.self.inside in
     let k = c.self.invariant in
-    let h = i.history.items in
     let p = c.args.p in
-    let choices = schedule_of h in
-    let changed = c.in-Ok-Stepped.changed in
-    let done = stepped-now c in
+    let choices = schedule_of i.history.items in
     let before = k.after.after in
-    let after = done.1.after in
-    let lives = is_some (living (run i.image (choices ++ p ∷ [])) p) in
-    let now = length c.turn.new.self.processes.items in
-    let counted : c.len-made.result ≡ length (run i.image choices).processes = omega (arith, c.len-made.ensures, i.machine.processes.ok.0, as-many i.image i.cells choices i.machine before) in
-    c.lists_go_along_with_steps.ensures i.image i.cells choices (progress_after i.image h) i.waits c.wake.new.waits i.ready.ready c.wake.new.ready.ready p changed before.layout after.layout
-    k.listed done.0 done.2.plain before.laid after.laid (told-to-lists i.image i.cells choices p before.layout changed before.laid done.2 done.3)
-    (along i.image choices p changed i.waits c.wake.new.waits i.ready.ready c.note_ready.new.ready.ready c.wake.new.ready.ready c.len-made.result now counted
-    (as-many i.image i.cells (choices ++ p ∷ []) c.turn.new.self after) c.wake.ensures.waits
-    (λ q. c.note_ready.ensures.ready i.image i.cells (choices ++ p ∷ []) after q ∙ ap (λ ns. is_noted p lives c.len-made.result now ns q) c.turn.ensures.ready)
-    c.wake.ensures.ready)
+    c.lists_go_along_with_steps.ensures i.image i.cells choices (progress_after i.image i.history.items) i.waits c.wake_after.new.waits i.ready.ready c.wake_after.new.ready.ready p changed before.layout done.1.after.layout
+    k.listed done.0 done.2.plain before.laid done.1.after.laid (told-to-lists i.image i.cells choices p before.layout changed before.laid done.2 done.3)
+    (along i.image choices p changed i.waits c.wake_after.new.waits i.ready.ready c.note_ready.new.ready.ready c.wake_after.new.ready.ready c.len-made.result (length c.turn.new.self.processes.items) (counted-before c) (counted-after c) waits (noted-now c) woken)
+lists-by c Purged other done waits woken =
+    let i = c.self.inside in
+    let k = c.self.invariant in
+    let p = c.args.p in
+    let choices = schedule_of i.history.items in
+    let ranges = c.turn.new.self.passing.ranges.items in
+    let before = k.after.after in
+    c.lists_go_along_with_purges.ensures i.image i.cells choices (progress_after i.image i.history.items) i.waits c.wake_after.new.waits i.ready.ready c.wake_after.new.ready.ready p (have_cell ranges) before.layout
+    k.listed done.0 before.laid (emptied-to-lists i.image i.cells choices p before.layout ranges before.laid done.2)
+    (along-emptying i.image choices p (have_cell ranges) i.waits c.wake_after.new.waits i.ready.ready c.note_ready.new.ready.ready c.wake_after.new.ready.ready c.len-made.result (length c.turn.new.self.processes.items) (counted-before c) (counted-after c) waits (noted-now c) woken)
+lists-by c (Waits want) other done waits woken = absurd (other want refl)
+
+lists-now : (c : After-wake_after) → AreListed c.self.inside.image c.self.inside.cells (schedule_of c.self.inside.history.items ++ c.args.p ∷ [])
+    (progress_after_step c.self.inside.image (progress_after c.self.inside.image c.self.inside.history.items) c.args.p (run c.self.inside.image (schedule_of c.self.inside.history.items ++ c.args.p ∷ []))) c.wake_after.new.waits c.wake_after.new.ready.ready
+lists-now c =
+    let same = c.deref.ensures.value in
+    lists-by c c.in-Ok.turned (no-wait c) (turned-now c) (subst (λ rs. (q : ℕ) → waiting_at c.wake_after.new.waits q ≡ awake_after c.in-Ok.turned rs (waiting_at c.self.inside.waits q)) same c.wake_after.ensures.waits)
+    (subst (λ rs. (q : ℕ) → is_number_among q c.wake_after.new.ready.ready ≡ (is_woken_after c.in-Ok.turned rs c.self.inside.waits q || is_number_among q c.note_ready.new.ready.ready)) same c.wake_after.ensures.ready)
 
 pub invariant_of-self-then-self : goal.invariant_of-self-then-self
 invariant_of-self-then-self c =
-    let at = (goal.at.invariant_of-self-then-self c).After-wake in
+    let at = (goal.at.invariant_of-self-then-self c).After-wake_after in
     let i = c.self.inside in
     let h = i.history.items in
     let p = c.args.p in
     let done = stepped-now at in
     let lt : length h < i.limit = omega (arith, c.len.ensures) in
-    stepped-kept i c.self.invariant p lt c.note.new.history (entry-is at) c.turn.new.self done.0 done.1 c.wake.new.waits c.wake.new.ready (lists-now at)
-    (omega (arith, c.turn.ensures.numbers, c.note_ready.ensures.room, c.wake.ensures.room)) (omega (arith, c.self.invariant.waiting, c.wake.ensures.size, c.turn.ensures.grows, c.note_ready.ensures.room, c.wake.ensures.room)) (Some Halted)
-    (ap (λ (s : State). s.halted) (state-next i.image i.cells h p c.note.new.history.items (entry-is at) done.0) ∙ sym (halted-next i.image i.cells h p c.note.new.history.items (entry-is at) done.0 c.turn.new.self done.1) ∙ c.if-self.true)
+    stepped-kept i c.self.invariant p lt c.note-in_default-turned.new.history (entry-is at) c.turn.new.self done.0 done.1 c.wake_after.new.waits c.wake_after.new.ready (lists-now at)
+    (omega (arith, c.turn.ensures.numbers, c.note_ready.ensures.room, c.wake_after.ensures.room)) (omega (arith, c.self.invariant.waiting, c.wake_after.ensures.size, c.turn.ensures.grows, c.note_ready.ensures.room, c.wake_after.ensures.room)) (Some Halted)
+    (ap (λ (s : State). s.halted) (state-next i.image i.cells h p c.note-in_default-turned.new.history.items (entry-is at) done.0) ∙ sym (halted-next i.image i.cells h p c.note-in_default-turned.new.history.items (entry-is at) done.0 c.turn.new.self done.1) ∙ c.if-self.true)
 
 pub invariant_of-self-else-self : goal.invariant_of-self-else-self
 invariant_of-self-else-self c =
-    let at = (goal.at.invariant_of-self-else-self c).After-wake in
+    let at = (goal.at.invariant_of-self-else-self c).After-wake_after in
     let i = c.self.inside in
     let h = i.history.items in
     let p = c.args.p in
     let done = stepped-now at in
     let none : i.stop ≡ None = search rules in
     let lt : length h < i.limit = omega (arith, c.len.ensures) in
-    stepped-kept i c.self.invariant p lt c.note.new.history (entry-is at) c.turn.new.self done.0 done.1 c.wake.new.waits c.wake.new.ready (lists-now at)
-    (omega (arith, c.turn.ensures.numbers, c.note_ready.ensures.room, c.wake.ensures.room)) (omega (arith, c.self.invariant.waiting, c.wake.ensures.size, c.turn.ensures.grows, c.note_ready.ensures.room, c.wake.ensures.room)) i.stop
-    (subst (IsStop i.image i.cells i.limit c.note.new.history.items) (sym none) (ap (λ (s : State). s.halted) (state-next i.image i.cells h p c.note.new.history.items (entry-is at) done.0) ∙ sym (halted-next i.image i.cells h p c.note.new.history.items (entry-is at) done.0 c.turn.new.self done.1) ∙ c.if-self.false))
+    stepped-kept i c.self.invariant p lt c.note-in_default-turned.new.history (entry-is at) c.turn.new.self done.0 done.1 c.wake_after.new.waits c.wake_after.new.ready (lists-now at)
+    (omega (arith, c.turn.ensures.numbers, c.note_ready.ensures.room, c.wake_after.ensures.room)) (omega (arith, c.self.invariant.waiting, c.wake_after.ensures.size, c.turn.ensures.grows, c.note_ready.ensures.room, c.wake_after.ensures.room)) i.stop
+    (subst (IsStop i.image i.cells i.limit c.note-in_default-turned.new.history.items) (sym none) (ap (λ (s : State). s.halted) (state-next i.image i.cells h p c.note-in_default-turned.new.history.items (entry-is at) done.0) ∙ sym (halted-next i.image i.cells h p c.note-in_default-turned.new.history.items (entry-is at) done.0 c.turn.new.self done.1) ∙ c.if-self.false))
 
 pub returns-then-self : goal.returns-then-self
 returns-then-self c =
-    let at = (goal.at.returns-then-self c).After-wake in
+    let at = (goal.at.returns-then-self c).After-wake_after in
     let i = c.self.inside in
     let h = i.history.items in
     let p = c.args.p in
@@ -182,16 +224,16 @@ returns-then-self c =
     let lt : length h < i.limit = omega (arith, c.len.ensures) in
     let none : i.stop ≡ None = search rules in
     let going = subst (IsStop i.image i.cells i.limit h) none c.self.invariant.named in
-    let s = next i.image i.cells h p c.note.new.history.items is done.0 in
-    let halted : s.halted ≡ true = sym (halted-next i.image i.cells h p c.note.new.history.items is done.0 c.turn.new.self done.1) ∙ c.if-self.true in
+    let s = next i.image i.cells h p c.note-in_default-turned.new.history.items is done.0 in
+    let halted : s.halted ≡ true = sym (halted-next i.image i.cells h p c.note-in_default-turned.new.history.items is done.0 c.turn.new.self done.1) ∙ c.if-self.true in
     let stop : Some Halted ≡ stop_after s = rw halted refl in
-    let seen : AreSeen i.image i.cells = λ choices n. c.views_are_of_states.ensures i.image i.cells choices n c.is_runnable.ensures.accepted (has-main i.image c.is_runnable.ensures.supported) in
-    let view = view-next i.image i.cells h p c.note.new.history.items is done.0 c.turn.new.self done.1 seen in
-    rw (← c.self.view_is) ((none, going), lt, (s, steps-on i.image i.cells h p c.note.new.history.items is done.0, λ j. record (core_value i) { history = is j; stop = stop j; view = view j }))
+    let seen : AreSeen i.image i.cells = λ choices n. c.views_are_of_states.ensures i.image i.cells choices n c.is_runnable.ensures.accepted c.is_runnable.ensures.main in
+    let view = view-next i.image i.cells h p c.note-in_default-turned.new.history.items is done.0 c.turn.new.self done.1 seen in
+    rw (← c.self.view_is) ((none, going), lt, (s, steps-on i.image i.cells h p c.note-in_default-turned.new.history.items is done.0, λ j. record (core_value i) { history = is j; stop = stop j; view = view j }))
 
 pub returns-else-self : goal.returns-else-self
 returns-else-self c =
-    let at = (goal.at.returns-else-self c).After-wake in
+    let at = (goal.at.returns-else-self c).After-wake_after in
     let i = c.self.inside in
     let h = i.history.items in
     let p = c.args.p in
@@ -200,90 +242,96 @@ returns-else-self c =
     let lt : length h < i.limit = omega (arith, c.len.ensures) in
     let none : i.stop ≡ None = search rules in
     let going = subst (IsStop i.image i.cells i.limit h) none c.self.invariant.named in
-    let s = next i.image i.cells h p c.note.new.history.items is done.0 in
-    let halted : s.halted ≡ false = sym (halted-next i.image i.cells h p c.note.new.history.items is done.0 c.turn.new.self done.1) ∙ c.if-self.false in
+    let s = next i.image i.cells h p c.note-in_default-turned.new.history.items is done.0 in
+    let halted : s.halted ≡ false = sym (halted-next i.image i.cells h p c.note-in_default-turned.new.history.items is done.0 c.turn.new.self done.1) ∙ c.if-self.false in
     let stop : i.stop ≡ stop_after s = none ∙ rw halted refl in
-    let seen : AreSeen i.image i.cells = λ choices n. c.views_are_of_states.ensures i.image i.cells choices n c.is_runnable.ensures.accepted (has-main i.image c.is_runnable.ensures.supported) in
-    let view = view-next i.image i.cells h p c.note.new.history.items is done.0 c.turn.new.self done.1 seen in
-    rw (← c.self.view_is) ((none, going), lt, (s, steps-on i.image i.cells h p c.note.new.history.items is done.0, λ j. record (core_value i) { history = is j; stop = stop j; view = view j }))
+    let seen : AreSeen i.image i.cells = λ choices n. c.views_are_of_states.ensures i.image i.cells choices n c.is_runnable.ensures.accepted c.is_runnable.ensures.main in
+    let view = view-next i.image i.cells h p c.note-in_default-turned.new.history.items is done.0 c.turn.new.self done.1 seen in
+    rw (← c.self.view_is) ((none, going), lt, (s, steps-on i.image i.cells h p c.note-in_default-turned.new.history.items is done.0, λ j. record (core_value i) { history = is j; stop = stop j; view = view j }))
+
+pub wake_after-requires-clause-few : goal.wake_after-requires-clause-few
+wake_after-requires-clause-few c =
+    let i = c.self.inside in
+    subst (AreInArena c.in-Ok.turned) (sym c.deref.ensures.value) (
+    in-arena i.image i.cells (schedule_of i.history.items) c.args.p c.in-Ok.turned c.turn.new.self (c.in-Ok.ensures.turned i.cells (schedule_of i.history.items) c.self.invariant.after))
 
 -- ---- a turn that found its process waiting
 
-waited-now : (c : After-wait) → HasTurned c.self.inside.image c.self.inside.cells (schedule_of c.self.inside.history.items) c.args.p (Waits c.in-Ok-Waits.want) c.turn.new.self
+waited-now : (c : After-wait) → HasTurned c.self.inside.image c.self.inside.cells (schedule_of c.self.inside.history.items) c.args.p (Waits c.in-Waits.want) c.turn.new.self
 waited-now c =
     let i = c.self.inside in
-    subst (λ turned. HasTurned i.image i.cells (schedule_of i.history.items) c.args.p turned c.turn.new.self) c.in-Ok-Waits.field-0-is (c.in-Ok-Waits.ensures.turned i.cells (schedule_of i.history.items) c.self.invariant.after)
+    subst (λ turned. HasTurned i.image i.cells (schedule_of i.history.items) c.args.p turned c.turn.new.self) c.in-Waits.is (c.in-Ok.ensures.turned i.cells (schedule_of i.history.items) c.self.invariant.after)
 
-is-blocked : (c : After-wait) → IsBlocked c.self.inside.image c.self.inside.cells (schedule_of c.self.inside.history.items) c.args.p c.in-Ok-Waits.want
+is-blocked : (c : After-wait) → IsBlocked c.self.inside.image c.self.inside.cells (schedule_of c.self.inside.history.items) c.args.p c.in-Waits.want
 is-blocked c =
     let i = c.self.inside in
     let choices = schedule_of i.history.items in
     let h = (waited-now c).0 in
-    blocked-now i.image i.cells choices c.args.p c.in-Ok-Waits.want (snapshot_of c.turn.new.self) h (c.waiting_processes_need_it.ensures i.image c.args.p (run i.image choices) h.wanted h.waits)
+    blocked-now i.image i.cells choices c.args.p c.in-Waits.want (snapshot_of c.turn.new.self) h (c.waiting_processes_need_it.ensures i.image c.args.p (run i.image choices) h.wanted h.waits)
 
-pub invariant_of-self-in_err-wait-in-Ok-Waits : goal.invariant_of-self-in_err-wait-in-Ok-Waits
-invariant_of-self-in_err-wait-in-Ok-Waits c =
+pub invariant_of-self-in_err-wait-in-Waits : goal.invariant_of-self-in_err-wait-in-Waits
+invariant_of-self-in_err-wait-in-Waits c =
     let i = c.self.inside in
     let k = c.self.invariant in
-    let done = waited-now (goal.at.invariant_of-self-in_err-wait-in-Ok-Waits c).After-wait in
-    let same = c.in_err-wait-in-Ok-Waits.ensures.refused in
+    let done = waited-now (goal.at.invariant_of-self-in_err-wait-in-Waits c).After-wait in
+    let same = c.in_err-wait-in-Waits.ensures.refused in
     unturned-kept i k c.turn.new.history c.turn.new.self c.wait.new.ready c.turn.ensures.entries done.1 (ap (λ (r : Numbers). r.ready) same.1 ∙ c.turn.ensures.ready) (omega (arith, c.turn.ensures.numbers, c.wait.ensures.room))
     (omega (arith, k.waiting, c.turn.ensures.grows, c.wait.ensures.room)) c.wait.new.waits same.0 i.stop k.named
 
-pub returns-in_err-wait-in-Ok-Waits : goal.returns-in_err-wait-in-Ok-Waits
-returns-in_err-wait-in-Ok-Waits c =
+pub returns-in_err-wait-in-Waits : goal.returns-in_err-wait-in-Waits
+returns-in_err-wait-in-Waits c =
     let i = c.self.inside in
     let h = i.history.items in
     let k = c.self.invariant in
-    let done = waited-now (goal.at.returns-in_err-wait-in-Ok-Waits c).After-wait in
-    let same = c.in_err-wait-in-Ok-Waits.ensures.refused in
+    let done = waited-now (goal.at.returns-in_err-wait-in-Waits c).After-wait in
+    let same = c.in_err-wait-in-Waits.ensures.refused in
     let none : i.stop ≡ None = search rules in
     let going = subst (IsStop i.image i.cells i.limit h) none k.named in
     let lives : c.lives.result ≡ true = search rules in
     let alive = some-of (living (state_after i.image h) c.args.p) (ap (λ (s : State). is_some (living s c.args.p)) (state-is i.image h) ∙ sym (c.lives.ensures.lives i.image i.cells (schedule_of h) k.after.after) ∙ lives) in
     let lt : length h < i.limit = omega (arith, c.len.ensures) in
-    let seen : AreSeen i.image i.cells = λ choices n. c.views_are_of_states.ensures i.image i.cells choices n c.is_runnable.ensures.accepted (has-main i.image c.is_runnable.ensures.supported) in
+    let seen : AreSeen i.image i.cells = λ choices n. c.views_are_of_states.ensures i.image i.cells choices n c.is_runnable.ensures.accepted c.is_runnable.ensures.main in
     let view = unturned-view i k c.turn.new.history c.turn.new.self c.wait.new.ready c.turn.ensures.entries done.1 (ap (λ (r : Numbers). r.ready) same.1 ∙ c.turn.ensures.ready) (omega (arith, c.turn.ensures.numbers, c.wait.ensures.room))
     (omega (arith, k.waiting, c.turn.ensures.grows, c.wait.ensures.room)) seen in
     let value : record (core_value i) { history = c.turn.new.history.items; view = machine_view i.image (snapshot_of c.turn.new.self) } ≡ core_value i = λ j. record (core_value i) { history = c.turn.ensures.entries j; view = view j } in
     let unstepped = waits-unstepped i.image c.args.p (run i.image (schedule_of h)) done.0.wanted done.0.waits in
     rw (← c.self.view_is) (no-memory (core_value i) c.args.p c.from_residual.result (record (core_value i) { history = c.turn.new.history.items; view = machine_view i.image (snapshot_of c.turn.new.self) }) c.from_residual.ensures.1 ((none, going), alive, lt, (λ gap. gap.stepped unstepped), value))
 
-pub invariant_of-self-in-Ok-Waits : goal.invariant_of-self-in-Ok-Waits
-invariant_of-self-in-Ok-Waits c =
-    let at = (goal.at.invariant_of-self-in-Ok-Waits c).After-wait in
+pub invariant_of-self-in-Waits : goal.invariant_of-self-in-Waits
+invariant_of-self-in-Waits c =
+    let at = (goal.at.invariant_of-self-in-Waits c).After-wait in
     let i = c.self.inside in
     let k = c.self.invariant in
     let h = i.history.items in
     let p = c.args.p in
     let done = waited-now at in
     let blocked = is-blocked at in
-    let is : c.note-in-Ok-Waits.new.history.items ≡ h ++ record { process = p; steps = 0 } ∷ [] = c.note-in-Ok-Waits.ensures ∙ ap (λ (es : List Entry). es ++ record { process = p; steps = 0 } ∷ []) c.turn.ensures.entries in
+    let is : c.note.new.history.items ≡ h ++ record { process = p; steps = 0 } ∷ [] = c.note.ensures ∙ ap (λ (es : List Entry). es ++ record { process = p; steps = 0 } ∷ []) c.turn.ensures.entries in
     let lt : length h < i.limit = omega (arith, c.len.ensures) in
     let none : i.stop ≡ None = search rules in
-    let listed = c.waiting_processes_are_listed.ensures i.image i.cells (schedule_of h) (progress_after i.image h) i.waits c.wait.new.waits i.ready.ready c.wait.new.ready.ready p c.in-Ok-Waits.want k.listed blocked
-    c.in_ok-wait-in-Ok-Waits.ensures.waits (subst (λ ns. IsReadyNoMore p ns c.wait.new.ready.ready) c.turn.ensures.ready c.in_ok-wait-in-Ok-Waits.ensures.ready) in
+    let listed = c.waiting_processes_are_listed.ensures i.image i.cells (schedule_of h) (progress_after i.image h) i.waits c.wait.new.waits i.ready.ready c.wait.new.ready.ready p c.in-Waits.want k.listed blocked
+    c.in_ok-wait-in-Waits.ensures.waits (subst (λ ns. IsReadyNoMore p ns c.wait.new.ready.ready) c.turn.ensures.ready c.in_ok-wait-in-Waits.ensures.ready) in
     let lives : c.lives.result ≡ true = search rules in
     let there = c.lives.ensures.levels lives in
     let many : length c.turn.new.self.processes.items ≡ length i.machine.processes.items = as-many i.image i.cells (schedule_of h) c.turn.new.self done.1.after ∙ sym (as-many i.image i.cells (schedule_of h) i.machine k.after.after) in
     let numbered : p ≤ length c.turn.new.self.processes.items = omega (arith, within (snapshot_of i.machine) p there, length-map i.machine.processes.items stack_of, many) in
     let numbers : length c.turn.new.self.processes.items ≤ c.wait.new.ready.room = omega (arith, c.turn.ensures.numbers, c.wait.ensures.room) in
-    let room : length c.wait.new.waits ≤ c.wait.new.ready.room = omega (arith, k.waiting, c.turn.ensures.grows, c.wait.ensures.room, c.in_ok-wait-in-Ok-Waits.ensures.size, numbered, numbers) in
-    waited-kept i k p lt c.note-in-Ok-Waits.new.history is c.turn.new.self done.1 blocked.1 c.wait.new.waits c.wait.new.ready listed numbers room i.stop
-    (subst (IsStop i.image i.cells i.limit c.note-in-Ok-Waits.new.history.items) (sym none) (named-left i k p lt c.note-in-Ok-Waits.new.history is c.turn.new.self done.1 blocked.1 c.wait.new.waits c.wait.new.ready listed numbers room (subst (IsStop i.image i.cells i.limit h) none k.named)))
+    let room : length c.wait.new.waits ≤ c.wait.new.ready.room = omega (arith, k.waiting, c.turn.ensures.grows, c.wait.ensures.room, c.in_ok-wait-in-Waits.ensures.size, numbered, numbers) in
+    waited-kept i k p lt c.note.new.history is c.turn.new.self done.1 blocked.1 c.wait.new.waits c.wait.new.ready listed numbers room i.stop
+    (subst (IsStop i.image i.cells i.limit c.note.new.history.items) (sym none) (named-left i k p lt c.note.new.history is c.turn.new.self done.1 blocked.1 c.wait.new.waits c.wait.new.ready listed numbers room (subst (IsStop i.image i.cells i.limit h) none k.named)))
 
-pub returns-in_ok-wait-in-Ok-Waits : goal.returns-in_ok-wait-in-Ok-Waits
-returns-in_ok-wait-in-Ok-Waits c =
-    let at = (goal.at.returns-in_ok-wait-in-Ok-Waits c).After-wait in
+pub returns-in_ok-wait-in-Waits : goal.returns-in_ok-wait-in-Waits
+returns-in_ok-wait-in-Waits c =
+    let at = (goal.at.returns-in_ok-wait-in-Waits c).After-wait in
     let i = c.self.inside in
     let h = i.history.items in
     let p = c.args.p in
     let done = waited-now at in
-    let is : c.note-in-Ok-Waits.new.history.items ≡ h ++ record { process = p; steps = 0 } ∷ [] = c.note-in-Ok-Waits.ensures ∙ ap (λ (es : List Entry). es ++ record { process = p; steps = 0 } ∷ []) c.turn.ensures.entries in
+    let is : c.note.new.history.items ≡ h ++ record { process = p; steps = 0 } ∷ [] = c.note.ensures ∙ ap (λ (es : List Entry). es ++ record { process = p; steps = 0 } ∷ []) c.turn.ensures.entries in
     let lt : length h < i.limit = omega (arith, c.len.ensures) in
     let none : i.stop ≡ None = search rules in
     let going = subst (IsStop i.image i.cells i.limit h) none c.self.invariant.named in
     let stop : i.stop ≡ stop_after (state_after i.image h) = none ∙ rw going refl in
-    let seen : AreSeen i.image i.cells = λ choices n. c.views_are_of_states.ensures i.image i.cells choices n c.is_runnable.ensures.accepted (has-main i.image c.is_runnable.ensures.supported) in
-    let view = view-left i.image i.cells h p c.note-in-Ok-Waits.new.history.items is c.turn.new.self done.1 seen in
+    let seen : AreSeen i.image i.cells = λ choices n. c.views_are_of_states.ensures i.image i.cells choices n c.is_runnable.ensures.accepted c.is_runnable.ensures.main in
+    let view = view-left i.image i.cells h p c.note.new.history.items is c.turn.new.self done.1 seen in
     rw (← c.self.view_is) ((none, going), lt, (ap (λ (s : State). is_waiting i.image s p) (state-is i.image h) ∙ (is-blocked at).1, λ j. record (core_value i) { history = is j; stop = stop j; view = view j }))

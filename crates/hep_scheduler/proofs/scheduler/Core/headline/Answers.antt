@@ -1,5 +1,4 @@
 use Rattle.hep_state.specs.Snapshots.{snapshot_of}
-use Rattle.hep_state.proofs.Tops.{has-main}
 use Rattle.hep_scheduler.proofs.Kept.{AreSeen, view-is}
 use Rattle.hep_scheduler.proofs.scheduler.Core.headline.Goals as goal
 
@@ -7,5 +6,5 @@ pub returns-clause-view : goal.returns-clause-view
 returns-clause-view c =
     let i = c.self.inside in
     let runs = c.is_runnable.ensures in
-    let seen : AreSeen i.image i.cells = λ choices m. c.views_are_of_states.ensures i.image i.cells choices m runs.accepted (has-main i.image runs.supported) in
+    let seen : AreSeen i.image i.cells = λ choices m. c.views_are_of_states.ensures i.image i.cells choices m runs.accepted runs.main in
     rw (← c.self.view_is) (view-is i.image i.cells i.history.items (snapshot_of i.machine) c.self.invariant.after.after seen)

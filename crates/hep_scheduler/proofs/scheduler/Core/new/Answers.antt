@@ -8,7 +8,6 @@ use Rattle.hep_listed.specs.Listing.{AreListed}
 use Rattle.hep_ready.specs.Numbers.{with_number}
 use Rattle.hep_state.specs.Rooms.{IsMachineAfter}
 use Rattle.hep_state.specs.Snapshots.{snapshot_of}
-use Rattle.hep_state.proofs.Tops.{has-main}
 use Rattle.hep_views.specs.Seen.{machine_view}
 use Rattle.hep_scheduler.specs.Value.{opening_of}
 use Rattle.hep_scheduler.proofs.Histories.{legal-none, progress-none, schedule-none, single-none}
@@ -43,6 +42,6 @@ returns-clause-made c =
     let m = c.in_ok-machine.machine in
     let none = c.new.ensures.items in
     let after = subst (λ ps. IsMachineAfter program c.args.cells ps m) (sym schedule-none) c.in_ok-machine.ensures.opened in
-    let seen : AreSeen program c.args.cells = λ choices n. c.views_are_of_states.ensures program c.args.cells choices n c.is_runnable.ensures.accepted (has-main program c.is_runnable.ensures.supported) in
+    let seen : AreSeen program c.args.cells = λ choices n. c.views_are_of_states.ensures program c.args.cells choices n c.is_runnable.ensures.accepted c.is_runnable.ensures.main in
     let view : machine_view program (snapshot_of m) ≡ view_of program is_held (state_after program []) = view-is program c.args.cells [] (snapshot_of m) after.after seen in
     λ j. record (opening_of program c.args.cells c.args.steps) { history = none j; view = view j }

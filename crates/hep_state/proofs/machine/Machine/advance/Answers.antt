@@ -25,7 +25,6 @@ use Rattle.hep_state.proofs.Processes.{all-set, process-at, room-moved, stacks-s
 use Rattle.hep_state.proofs.Settled.{turning}
 use Rattle.hep_state.proofs.Stacked.{last-there}
 use Rattle.hep_state.proofs.Taken.{again, ahead-simulated, alike, inside, left-over, ready, settled-now, with_performed}
-use Rattle.hep_state.proofs.Tops.{has-main}
 use Rattle.hep_state.proofs.Touching.{touches-only}
 use Rattle.hep_state.proofs.machine.Machine.advance.Goals as goal
 
@@ -53,7 +52,6 @@ advance-requires c =
     let it = process-at c.args.self.now.processes.items p (stack_with l ls vs) q e.there c.index_mut-process.ensures.value in
     let turn = turning program cells choices m p h.after l ls vs c.requires.running e.there in
     let accepted = c.is_runnable.ensures.accepted in
-    let supported = c.is_runnable.ensures.supported in
     let here = inside program cells choices m p l ls vs turn.0 turn.1 in
     let room : deepest (unit_code program l.unit) ≤ vec_capacity q.operands = h.room (p - 1) q it.there _ l (last-there q l ls vs it.stack) in
     record {
@@ -66,8 +64,8 @@ advance-requires c =
       ready =
           let settles = as-settled program l vs e.past in
           let next = again program cells choices m p l ls vs turn.0 turn.1 vs l.index settles in
-          let runs = c.tops_are_running.ensures.running program cells choices (settled-now program cells choices m p l ls vs turn.0 turn.1 vs l.index settles) p l ls vs turn.0 accepted (has-main program supported) next in
-          ready program cells choices m p l ls vs turn.0 turn.1 vs l.index settles runs (vec_capacity q.operands) (c.tops_are_running.ensures.arrays program cells choices m p l ls vs turn.0 accepted (has-main program supported) turn.1) h.few room;
+          let runs = c.tops_are_running.ensures.running program cells choices (settled-now program cells choices m p l ls vs turn.0 turn.1 vs l.index settles) p l ls vs turn.0 accepted c.is_runnable.ensures.main next in
+          ready program cells choices m p l ls vs turn.0 turn.1 vs l.index settles runs (vec_capacity q.operands) (c.tops_are_running.ensures.arrays program cells choices m p l ls vs turn.0 accepted c.is_runnable.ensures.main turn.1) h.few room;
     }
 
 -- what the machine shows, where a process has another stack and cells of the arena have changed
@@ -98,12 +96,11 @@ returns-clause-left c =
     let ahead = effect_at (unit_code program l.unit) (unit_arrays program l.unit) (node_under m.nodes l.key).first m.arena.contents vs l.index in
     let shown = shown-now c.args.self.now p c.advance.new.process c.advance.new.frames l ls a.left a.next a.stack c.advance.ensures.holes c.advance.ensures.nodes in
     let accepted = c.is_runnable.ensures.accepted in
-    let supported = c.is_runnable.ensures.supported in
     of-ok c.advance.result a.performed (λ advanced is cells choices h.
     let turn = turning program cells choices m p h.after l ls vs c.requires.running e.there in
     let here = inside program cells choices m p l ls vs turn.0 turn.1 in
     let next = again program cells choices m p l ls vs turn.0 turn.1 vs l.index (as-settled program l vs e.past) in
-    let runs = c.tops_are_running.ensures.running program cells choices (settled-now program cells choices m p l ls vs turn.0 turn.1 vs l.index (as-settled program l vs e.past)) p l ls vs turn.0 accepted (has-main program supported) next in
+    let runs = c.tops_are_running.ensures.running program cells choices (settled-now program cells choices m p l ls vs turn.0 turn.1 vs l.index (as-settled program l vs e.past)) p l ls vs turn.0 accepted c.is_runnable.ensures.main next in
     let simulated = ahead-simulated program cells choices m p l ls vs turn.0 turn.1 vs l.index (as-settled program l vs e.past) runs e.plain in
     subst (λ (n : Snapshot). IsLeft program cells choices p n advanced.effect) (sym shown) (
     left-over program cells choices m p l ls vs turn.0 turn.1 vs l.index (as-settled program l vs e.past) ahead advanced.effect after simulated c.advance.ensures.cells is))
@@ -123,7 +120,7 @@ returns-clause-touched c =
     let t = top_after program choices p turn.0 in
     let f = frame_under m.nodes l.key in
     let layout = turn.1.after.layout in
-    let runs = c.tops_are_running.ensures.running program cells choices m p l ls vs turn.0 c.is_runnable.ensures.accepted (has-main program c.is_runnable.ensures.supported) turn.1 in
+    let runs = c.tops_are_running.ensures.running program cells choices m p l ls vs turn.0 c.is_runnable.ensures.accepted c.is_runnable.ensures.main turn.1 in
     touches-only program cells choices m p l ls vs turn.0 turn.1 runs e.past e.plain
     (c.touched_units_are_in_touched_cells.ensures program t layout f m.arena.contents m.arena.holes vs l.index)
     (c.purges_stand_ahead.ensures program t layout f m.arena.contents m.arena.holes vs l.index)
@@ -146,7 +143,7 @@ returns-clause-state c =
     let turn = turning program cells choices m p h.after l ls vs c.requires.running e.there in
     let settles = as-settled program l vs e.past in
     let next = again program cells choices m p l ls vs turn.0 turn.1 vs l.index settles in
-    let runs = c.tops_are_running.ensures.running program cells choices (settled-now program cells choices m p l ls vs turn.0 turn.1 vs l.index settles) p l ls vs turn.0 c.is_runnable.ensures.accepted (has-main program c.is_runnable.ensures.supported) next in
+    let runs = c.tops_are_running.ensures.running program cells choices (settled-now program cells choices m p l ls vs turn.0 turn.1 vs l.index settles) p l ls vs turn.0 c.is_runnable.ensures.accepted c.is_runnable.ensures.main next in
     let simulated = ahead-simulated program cells choices m p l ls vs turn.0 turn.1 vs l.index settles runs e.plain in
     alike program cells choices m p l ls vs turn.0 turn.1 vs l.index settles ahead advanced.effect after simulated is advanced.touched)
 

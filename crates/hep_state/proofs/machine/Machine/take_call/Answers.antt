@@ -10,7 +10,7 @@ use Rattle.hep_step.specs.Effects.{fails}
 use Rattle.hep_step.specs.Simulation.{unit_code}
 use Rattle.hep_state.specs.declared.machine.Machine.{Machine}
 use Rattle.hep_state.specs.declared.machine.Passing.{Passing}
-use Rattle.hep_state.specs.declared.passing.CallAhead.{CallAhead}
+use Rattle.hep_state.specs.declared.upcoming.CallAhead.{CallAhead}
 use Rattle.hep_state.specs.declared.turn.TurnFault.{TurnFault}
 use Rattle.hep_state.specs.Calls.{IsMaking, IsUnit, state_made}
 use Rattle.hep_state.specs.CallsAhead.{IsAtCall}
@@ -19,7 +19,6 @@ use Rattle.hep_state.specs.Snapshots.{Snapshot, snapshot_of}
 use Rattle.hep_state.specs.Taking.{IsEnding}
 use Rattle.hep_state.specs.Turns.{IsAfter}
 use Rattle.hep_state.specs.Unturned.{IsUnturned}
-use Rattle.hep_state.proofs.Tops.{has-main}
 use Rattle.hep_state.proofs.Unchanged.{machine-of, machine-written, none-of, on-err, rooms-of, shown-written, some-of, without-memory}
 use Rattle.hep_state.proofs.machine.Machine.take_call.Goals as goal
 
@@ -51,7 +50,7 @@ returns-in_err-reserve-clause-refused c =
 pub returns-in-Err-clause-turned : goal.returns-in-Err-clause-turned
 returns-in-Err-clause-turned c cells choices h at =
     let program = c.args.image.now in
-    let untouched = c.calls_touch_nothing.ensures program cells choices (snapshot_of c.args.self.now) c.args.p c.args.call c.is_runnable.ensures.accepted (has-main program c.is_runnable.ensures.supported) at in
+    let untouched = c.calls_touch_nothing.ensures program cells choices (snapshot_of c.args.self.now) c.args.p c.args.call c.is_runnable.ensures.accepted c.is_runnable.ensures.main at in
     let had = machine-written program cells choices c.give.new.self c.reserve.new.self c.reserve.ensures.others c.reserve.ensures.written.0 c.reserve.ensures.written.1 (
     given-after program cells choices c.args.self.now c.give.new.self c.give.ensures.others (c.give.ensures.rooms cells (rooms-of program cells choices c.args.self.now h)) h) in
     let shown = shown-written c.give.new.self c.reserve.new.self c.reserve.ensures.others c.reserve.ensures.written.0 c.reserve.ensures.written.1 ∙ ap snapshot_of c.give.ensures.others in
@@ -64,14 +63,14 @@ pub unit-unit-requires : goal.unit-unit-requires
 unit-unit-requires c =
     let program = c.args.image.now in
     let h = c.requires.at in
-    c.calls_can_be_made.ensures.inside program h.0 h.1 (snapshot_of c.args.self.now) c.args.p c.args.call c.is_runnable.ensures.accepted (has-main program c.is_runnable.ensures.supported) h.3
+    c.calls_can_be_made.ensures.inside program h.0 h.1 (snapshot_of c.args.self.now) c.args.p c.args.call c.is_runnable.ensures.accepted c.is_runnable.ensures.main h.3
 
 pub returns-then-not-fits-clause-unturned : goal.returns-then-not-fits-clause-unturned
 returns-then-not-fits-clause-unturned c cells choices h at =
     let program = c.args.image.now in
     let u = c.args.call.unit in
     let unit = c.unit-unit.result.now in
-    let inside = c.calls_can_be_made.ensures.inside program cells choices (snapshot_of c.args.self.now) c.args.p c.args.call c.is_runnable.ensures.accepted (has-main program c.is_runnable.ensures.supported) at in
+    let inside = c.calls_can_be_made.ensures.inside program cells choices (snapshot_of c.args.self.now) c.args.p c.args.call c.is_runnable.ensures.accepted c.is_runnable.ensures.main at in
     c.gaps_are_told.ensures.none c.args.call.creates program cells choices (snapshot_of c.args.self.now) c.args.p u unit.cells unit.entry c.args.call.next c.give.new.self.passing.given.items c.give.new.self.passing.shapes.items (c.in_default.ensures.given cells choices h at) (unit-of program u unit inside c.unit-unit.ensures) (
     ap (λ (m : Machine). first_fit unit.cells m.frames.arena.holes) (sym c.give.ensures.others) ∙ none-of (first_fit unit.cells c.give.new.self.frames.arena.holes) (sym c.fits.ensures.fit ∙ c.if-not-fits.true))
 
@@ -81,7 +80,7 @@ returns-in_err-reserve_activation-clause-unturned c =
     let u = c.args.call.unit in
     let unit = c.unit-unit.result.now in
     without-memory (unturned-at program c.args.p c.args.call c.args.self.now) c.from_residual-in_err-reserve_activation.result c.from_residual-in_err-reserve_activation.ensures.1 (λ cells choices h at.
-    let inside = c.calls_can_be_made.ensures.inside program cells choices (snapshot_of c.args.self.now) c.args.p c.args.call c.is_runnable.ensures.accepted (has-main program c.is_runnable.ensures.supported) at in
+    let inside = c.calls_can_be_made.ensures.inside program cells choices (snapshot_of c.args.self.now) c.args.p c.args.call c.is_runnable.ensures.accepted c.is_runnable.ensures.main at in
     c.gaps_are_told.ensures.some c.args.call.creates program cells choices (snapshot_of c.args.self.now) c.args.p u unit.cells unit.entry c.args.call.next c.give.new.self.passing.given.items c.give.new.self.passing.shapes.items (c.in_default.ensures.given cells choices h at) (unit-of program u unit inside c.unit-unit.ensures) (
     some-of (first_fit unit.cells c.args.self.now.frames.arena.holes) (ap (λ (m : Machine). is_some (first_fit unit.cells m.frames.arena.holes)) (sym c.give.ensures.others) ∙ (sym c.fits.ensures.fit ∙ c.if-not-fits.false))))
 
@@ -98,7 +97,7 @@ returns-in_err-process-clause-unturned c =
     let u = c.args.call.unit in
     let unit = c.unit-unit.result.now in
     without-memory (unturned-at program c.args.p c.args.call c.args.self.now) c.from_residual-in_err-process.result c.from_residual-in_err-process.ensures.1 (λ cells choices h at.
-    let inside = c.calls_can_be_made.ensures.inside program cells choices (snapshot_of c.args.self.now) c.args.p c.args.call c.is_runnable.ensures.accepted (has-main program c.is_runnable.ensures.supported) at in
+    let inside = c.calls_can_be_made.ensures.inside program cells choices (snapshot_of c.args.self.now) c.args.p c.args.call c.is_runnable.ensures.accepted c.is_runnable.ensures.main at in
     c.gaps_are_told.ensures.some c.args.call.creates program cells choices (snapshot_of c.args.self.now) c.args.p u unit.cells unit.entry c.args.call.next c.give.new.self.passing.given.items c.give.new.self.passing.shapes.items (c.in_default.ensures.given cells choices h at) (unit-of program u unit inside c.unit-unit.ensures) (
     some-of (first_fit unit.cells c.args.self.now.frames.arena.holes) (ap (λ (m : Machine). is_some (first_fit unit.cells m.frames.arena.holes)) (sym c.give.ensures.others) ∙ (sym c.fits.ensures.fit ∙ c.if-not-fits.false))))
 
@@ -128,7 +127,7 @@ call-requires-clause-calling c =
     let program = c.args.image.now in
     let u = c.args.call.unit in
     let h = c.requires.at in
-    let inside = c.calls_can_be_made.ensures.inside program h.0 h.1 (snapshot_of c.args.self.now) c.args.p c.args.call c.is_runnable.ensures.accepted (has-main program c.is_runnable.ensures.supported) h.3 in (
+    let inside = c.calls_can_be_made.ensures.inside program h.0 h.1 (snapshot_of c.args.self.now) c.args.p c.args.call c.is_runnable.ensures.accepted c.is_runnable.ensures.main h.3 in (
       program,
       h.0,
       h.1,
@@ -143,7 +142,7 @@ create-requires-clause-creating c =
     let program = c.args.image.now in
     let u = c.args.call.unit in
     let h = c.requires.at in
-    let inside = c.calls_can_be_made.ensures.inside program h.0 h.1 (snapshot_of c.args.self.now) c.args.p c.args.call c.is_runnable.ensures.accepted (has-main program c.is_runnable.ensures.supported) h.3 in (
+    let inside = c.calls_can_be_made.ensures.inside program h.0 h.1 (snapshot_of c.args.self.now) c.args.p c.args.call c.is_runnable.ensures.accepted c.is_runnable.ensures.main h.3 in (
       program,
       h.0,
       h.1,
@@ -156,10 +155,10 @@ create-requires-clause-creating c =
 pub returns-in_ok-reserve_activation-clause-turned : goal.returns-in_ok-reserve_activation-clause-turned
 returns-in_ok-reserve_activation-clause-turned c cells choices h at =
     let program = c.args.image.now in
-    let untouched = c.calls_touch_nothing.ensures program cells choices (snapshot_of c.args.self.now) c.args.p c.args.call c.is_runnable.ensures.accepted (has-main program c.is_runnable.ensures.supported) at in
+    let untouched = c.calls_touch_nothing.ensures program cells choices (snapshot_of c.args.self.now) c.args.p c.args.call c.is_runnable.ensures.accepted c.is_runnable.ensures.main at in
     let u = c.args.call.unit in
     let unit = c.unit-unit.result.now in
-    let inside = c.calls_can_be_made.ensures.inside program cells choices (snapshot_of c.args.self.now) c.args.p c.args.call c.is_runnable.ensures.accepted (has-main program c.is_runnable.ensures.supported) at in
+    let inside = c.calls_can_be_made.ensures.inside program cells choices (snapshot_of c.args.self.now) c.args.p c.args.call c.is_runnable.ensures.accepted c.is_runnable.ensures.main at in
     let calling = made-as false c.args.call.creates program cells choices c.args.p u c.args.call.next c.reserve_activation.new.self c.if-call.false
     (making-moved c.args.call.creates program cells choices c.args.p u c.args.call.next c.args.self.now c.reserve_activation.new.self c.give.new.self.passing (c.reserve_activation.ensures.shown ∙ ap snapshot_of c.give.ensures.others) c.reserve_activation.ensures.passing
     (c.in_default.ensures.given cells choices h at)) in
@@ -172,10 +171,10 @@ returns-in_ok-reserve_activation-clause-turned c cells choices h at =
 pub returns-in_ok-process-clause-turned : goal.returns-in_ok-process-clause-turned
 returns-in_ok-process-clause-turned c cells choices h at =
     let program = c.args.image.now in
-    let untouched = c.calls_touch_nothing.ensures program cells choices (snapshot_of c.args.self.now) c.args.p c.args.call c.is_runnable.ensures.accepted (has-main program c.is_runnable.ensures.supported) at in
+    let untouched = c.calls_touch_nothing.ensures program cells choices (snapshot_of c.args.self.now) c.args.p c.args.call c.is_runnable.ensures.accepted c.is_runnable.ensures.main at in
     let u = c.args.call.unit in
     let unit = c.unit-unit.result.now in
-    let inside = c.calls_can_be_made.ensures.inside program cells choices (snapshot_of c.args.self.now) c.args.p c.args.call c.is_runnable.ensures.accepted (has-main program c.is_runnable.ensures.supported) at in
+    let inside = c.calls_can_be_made.ensures.inside program cells choices (snapshot_of c.args.self.now) c.args.p c.args.call c.is_runnable.ensures.accepted c.is_runnable.ensures.main at in
     let creating = made-as true c.args.call.creates program cells choices c.args.p u c.args.call.next c.reserve_process.new.self c.if-call.true
     (making-moved c.args.call.creates program cells choices c.args.p u c.args.call.next c.args.self.now c.reserve_process.new.self c.give.new.self.passing (c.reserve_process.ensures.shown ∙ ap snapshot_of c.give.ensures.others) c.reserve_process.ensures.passing
     (c.in_default.ensures.given cells choices h at)) in

@@ -1,0 +1,92 @@
+//! A PURGE: the cells that its targets name are found, and then all of them are emptied (docs/LANGUAGE.md, 9).
+ghost use Rattle.std.specs.Prelude.{◌≡◌, ◌<◌, ◌≤◌, ℕ, List, [], Some, Ok, IfErr, OnOk, length, vec_len, vec_capacity};
+ghost use Rattle.hep_source.specs.declared.value.Value.{Value as OperandValue};
+ghost use Rattle.hep_source.specs.Units.{Units};
+ghost use Rattle.hep_image.specs.Image.{most_cells};
+ghost use Rattle.hep_machine.specs.Processes.{numbered};
+ghost use Rattle.hep_purging.specs.Purged.{purged};
+ghost use Rattle.hep_purging.specs.Ready.{AreReached};
+ghost use Rattle.hep_step.specs.Effects.{fails};
+ghost use Rattle.hep_state.specs.declared.machine.Level.{Level as ALevel};
+ghost use Rattle.hep_state.specs.declared.turn.Turned.TheVariants.{Purged};
+ghost use Rattle.hep_state.specs.CallsAhead.{IsAtPurge, ranges_ahead};
+ghost use Rattle.hep_state.specs.Outcomes.{HasTurned};
+ghost use Rattle.hep_state.specs.Rooms.{HaveRoom, IsMachineAfter};
+ghost use Rattle.hep_state.specs.Snapshots.{snapshot_of};
+ghost use Rattle.hep_state.specs.Taking.{HasLevels, IsEnding, stack_with};
+ghost use Rattle.hep_state.specs.Tops.{snapshot_moved};
+
+use crate::calling::go_on;
+use crate::laws;
+use crate::machine::{Level, Machine};
+use crate::upcoming::PurgeAhead;
+use hep_image::Image;
+use hep_machine::Kind;
+use hep_purging::find_ranges;
+use hep_reply::Frame;
+
+impl Machine {
+    // The cells that the targets of the PURGE ahead of process p name, into `passing`.
+    //
+    // Fails with Range where one of them isn't there. Nothing but `passing` changes.
+    fn find_targets(&mut self, image: &Image, p: u64, purge: PurgeAhead) -> Result<(), Kind>
+        requires at { (cells : ℕ) × (choices : List ℕ) × IsMachineAfter image.now cells choices self.old × IsAtPurge image.now cells choices p (snapshot_of self.old) purge }
+        ensures found { OnOk result ((cells : ℕ) (choices : List ℕ) → (at : IsAtPurge image.now cells choices p (snapshot_of self.old) purge) → ranges_ahead image.now (snapshot_of self.old) purge at ≡ Ok self.new.passing.ranges.items) }
+        ensures reached { OnOk result (AreReached self.old.frames.arena self.new.passing.ranges.items) }
+        ensures fault { IfErr result (λ kind. (cells : ℕ) (choices : List ℕ) → IsAtPurge image.now cells choices p (snapshot_of self.old) purge → IsEnding image.now cells choices p (snapshot_of self.old) (fails purge.line kind)) }
+        ensures others { self.new ≡ record self.old { passing = self.new.passing } }
+        ensures rooms { (cells : ℕ) → HaveRoom image.now cells self.old → HaveRoom image.now cells self.new }
+    {
+        image.is_runnable();
+        laws::purges_can_be_made();
+        laws::purges_are_shown();
+        let process = &self.processes[(p - 1) as usize];
+        let Level { key, unit, index } = process.top();
+        let unit = image.unit(unit as usize);
+        let frame = Frame {
+            first: self.frames.first(key),
+            cells: self.frames.cells(key),
+        };
+        find_ranges(
+            &unit.code.as_slice()[index + 1..],
+            purge.count as usize,
+            &process.operands,
+            unit.arrays.as_slice(),
+            &self.frames.arena,
+            frame,
+            &mut self.passing.ranges,
+        )
+    }
+
+    // Process p empties the cells in `passing` and is to go on at an index.
+    fn empty_targets(&mut self, p: u64, index: usize)
+        requires living { HasLevels (snapshot_of self.old) p }
+        requires reached { AreReached self.old.frames.arena self.old.passing.ranges.items }
+        requires few { length self.old.frames.arena.contents ≤ most_cells }
+        ensures moved { (l : ALevel) (ls : List ALevel) (operands : List OperandValue) → numbered (snapshot_of self.old).processes p ≡ Some (stack_with l ls operands) → snapshot_of self.new ≡ snapshot_moved (snapshot_of self.old) p l ls (purged self.old.passing.ranges.items self.old.frames.arena.contents) [] index }
+        ensures passing { self.new.passing ≡ self.old.passing }
+        ensures rooms { (program : Units) (cells : ℕ) → HaveRoom program cells self.old → HaveRoom program cells self.new }
+        ensures processes { length self.new.processes.items ≡ length self.old.processes.items }
+    {
+        hep_purging::purge(&mut self.frames.arena, &self.passing.ranges);
+        go_on(&mut self.processes[(p - 1) as usize], index);
+    }
+
+    // Makes the PURGE ahead of process p, or ends the process with a fault. The cells that were emptied are in `passing`.
+    pub(crate) fn purge(&mut self, image: &Image, p: u64, purge: PurgeAhead)
+        requires at { (cells : ℕ) × (choices : List ℕ) × IsMachineAfter image.now cells choices self.old × IsAtPurge image.now cells choices p (snapshot_of self.old) purge }
+        requires room { vec_len self.old.faults < vec_capacity self.old.faults }
+        ensures purged { (cells : ℕ) (choices : List ℕ) → IsMachineAfter image.now cells choices self.old → IsAtPurge image.now cells choices p (snapshot_of self.old) purge → HasTurned image.now cells choices p Purged self.new }
+        ensures processes { length self.new.processes.items ≡ length self.old.processes.items }
+    {
+        image.is_runnable();
+        laws::purges_are_shown();
+        match self.find_targets(image, p, purge) {
+            Ok(()) => self.empty_targets(p, purge.next as usize),
+            Err(kind) => {
+                self.passing.ranges.clear();
+                self.fail(p, purge.line, kind);
+            }
+        }
+    }
+}

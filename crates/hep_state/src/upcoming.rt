@@ -1,0 +1,103 @@
+//! What stands ahead of a process: a CALL or CREATE, a PURGE, or another operation (X3.9-1978, 15.6.2, and docs/LANGUAGE.md, 9).
+ghost use Rattle.std.specs.Prelude.{◌≡◌, ◌∷◌, ℕ, List, false, drop};
+ghost use Rattle.hep_code.specs.declared.instruction.Instruction.{Instruction as AnInstruction};
+ghost use Rattle.hep_code.specs.declared.instruction.Instruction.TheVariants.{Step};
+ghost use Rattle.hep_state.specs.CallsAhead.{IsAhead, IsInFront};
+ghost use Rattle.hep_state.specs.Rooms.{IsMachineAfter};
+ghost use Rattle.hep_state.specs.Snapshots.{snapshot_of};
+ghost use Rattle.hep_state.specs.Taking.{HasLevels, IsSeenSame};
+
+use crate::machine::{Level, Machine};
+use hep_code::{Instruction, Operation};
+use hep_image::Image;
+
+/// A CALL or CREATE that stands ahead of a process.
+#[derive(Clone, Copy, Debug)]
+pub struct CallAhead {
+    /// The initial line of its statement.
+    pub line: u32,
+    /// Whether it is CREATE.
+    pub creates: bool,
+    /// The index in the program of the unit that it makes an activation of.
+    pub unit: u32,
+    /// How many actual arguments it has.
+    pub count: u32,
+    /// The index in the code at which the one that makes it goes on.
+    pub next: u32,
+}
+
+/// A PURGE that stands ahead of a process.
+#[derive(Clone, Copy, Debug)]
+pub struct PurgeAhead {
+    /// The initial line of its statement.
+    pub line: u32,
+    /// How many targets it has.
+    pub count: u32,
+    /// The index in the code at which its process goes on.
+    pub next: u32,
+}
+
+/// What stands ahead of a process.
+#[derive(Clone, Copy, Debug)]
+pub enum StepAhead {
+    /// A CALL or CREATE.
+    Call(CallAhead),
+    /// A PURGE.
+    Purge(PurgeAhead),
+    /// None of them.
+    Other,
+}
+
+// What an operation is that stands ahead, in a statement with this initial line.
+fn as_ahead(line: u32, operation: Operation) -> StepAhead
+    ensures { (behind : List AnInstruction) → IsInFront (Step line operation ∷ behind) result }
+{
+    match operation {
+        Operation::Call { unit, count, next } => StepAhead::Call(CallAhead {
+            line,
+            creates: false,
+            unit,
+            count,
+            next,
+        }),
+        Operation::Create { unit, count, next } => StepAhead::Call(CallAhead {
+            line,
+            creates: true,
+            unit,
+            count,
+            next,
+        }),
+        Operation::Purge { count, next } => StepAhead::Purge(PurgeAhead { line, count, next }),
+        _ => StepAhead::Other,
+    }
+}
+
+// What stands at an index of a unit's code.
+fn ahead_at(code: &[Instruction], index: usize) -> StepAhead
+    ensures { IsInFront (drop index code.now) result }
+{
+    match code.get(index) {
+        Some(Instruction::Step { line, operation }) => as_ahead(*line, *operation),
+        _ => StepAhead::Other,
+    }
+}
+
+impl Machine {
+    // What stands ahead of process p, once the values in front of it are operands.
+    pub(crate) fn step_ahead(&mut self, image: &Image, p: u64) -> StepAhead
+        requires after { (cells : ℕ) × (choices : List ℕ) × IsMachineAfter image.now cells choices self.old }
+        requires running { self.old.halted ≡ false }
+        requires living { HasLevels (snapshot_of self.old) p }
+        ensures ahead { IsAhead image.now p self.old (snapshot_of self.new) result }
+        ensures after { (cells : ℕ) (choices : List ℕ) → IsMachineAfter image.now cells choices self.old → IsMachineAfter image.now cells choices self.new }
+        ensures same { IsSeenSame (snapshot_of self.old) (snapshot_of self.new) }
+        ensures living { HasLevels (snapshot_of self.new) p }
+    {
+        image.is_runnable();
+        let process = &mut self.processes[(p - 1) as usize];
+        let Level { unit, .. } = process.top();
+        let code = image.unit(unit as usize).code.as_slice();
+        process.settle(code);
+        ahead_at(code, process.top().index)
+    }
+}
