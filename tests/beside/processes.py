@@ -166,9 +166,9 @@ class AsynchronousMaker(Maker):
         place, name = self.place(self.pick(numbers)), self.pick(self.scalars).name
         return [Line(f"{name}={place}"), *self.block(depth, []), Line(f"{place}={name}{self.pick(['', '+1'])}")]
 
-    def signal(self, logical):
+    def signal(self, logical, depth=1):
         """Mostly without waiting, since nobody may come."""
-        return super().signal(logical) if logical or self.chance(0.12) else self.constant()
+        return super().signal(logical, depth) if logical or self.chance(0.12) else self.constant()
 
     def assignment(self):
         text = super().assignment()

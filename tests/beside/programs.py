@@ -271,8 +271,8 @@ class Expressions(Declarations):
     def element(self, array, depth=1):
         return f"{array.name}({','.join(self.subscript(lower, upper, depth) for lower, upper in array.bounds)})"
 
-    def place(self, variable):
-        return self.element(variable) if variable.bounds else variable.name
+    def place(self, variable, depth=1):
+        return self.element(variable, depth) if variable.bounds else variable.name
 
     def constant(self):
         if self.is_risky():
@@ -290,10 +290,10 @@ class Expressions(Declarations):
             arguments[1] = str(self.number(1, 9))
         return f"{name}({','.join(arguments)})"
 
-    def signal(self, logical):
+    def signal(self, logical, depth=1):
         """A function of an asynchronous variable, or the variable itself."""
         signal = self.pick(self.signals)
-        place = self.place(signal)
+        place = self.place(signal, depth)
         if logical:
             return self.pick([f"FULL({place})", f"EMPTY({place})"])
         if signal.logical:
@@ -316,7 +316,7 @@ class Expressions(Declarations):
             case "given":
                 return self.pick(self.integers_given()).name
             case "signal":
-                return self.signal(False)
+                return self.signal(False, depth - 1)
         return self.pick(self.turns if self.chance(0.1) and self.turns else [*self.scalars, *self.active]).name
 
     def factor(self, depth):
