@@ -1,20 +1,24 @@
-C     Three philosophers at a table, with a fork between two of them.
-C     Each takes the fork on the left and then the one on the right, eats,
-C     and puts them back; a fork that is in someone's hand is empty.
-C     Whether all of them come to eat depends on the order of steps.
+C     Three philosophers at a round table, with a fork between any two:
+C     each takes its left fork, then its right one. They may starve.
       PROGRAM PHILOS
-      INTEGER $FORK(3)
-      DO 10 I = 1, 3
-   10   $FORK(I) = I
-      DO 20 I = 1, 3
-   20   CREATE DINES((I), $FORK(I), $FORK(MOD(I, 3) + 1))
+      PARAMETER (N=3)
+      INTEGER $FORK(N), $MEALS
+      DO 10 I = 1, N
+   10 $FORK(I) = I
+      DO 20 I = 1, N
+   20 CREATE DINE($FORK(I), $FORK(MOD(I,N)+1), $MEALS)
+      M = 0
+      DO 30 I = 1, N
+   30 M = M+$MEALS
+      PRINT *, 'MEALS: ', M
       END
-
-      SUBROUTINE DINES(N, $LEFT, $RIGHT)
-      INTEGER $LEFT, $RIGHT
+C     Who has both forks eats, and puts them back.
+      SUBROUTINE DINE($LEFT, $RIGHT, $MEALS)
+      INTEGER $LEFT, $RIGHT, $MEALS
+      DO 10 K = 1, 2
       I = $LEFT
-      K = $RIGHT
-      PRINT *, 'PHILOSOPHER ', N, ' EATS WITH ', I, ' AND ', K
-      $RIGHT = K
+      J = $RIGHT
       $LEFT = I
+   10 $RIGHT = J
+      $MEALS = K-1
       END
