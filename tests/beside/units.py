@@ -400,7 +400,11 @@ class UnitMaker(Maker):
                 return self.pick(given).name
         if logical:
             return self.pick([truth(self.chance(0.5)), self.logical(1)])
-        return self.pick([self.constant(), f"-{self.number(1, 9)}", self.sum(1), self.small()])
+        value = self.sum(1)
+        if value.startswith("$"):
+            # (by itself it would be passed, and not its value)
+            value = f"({value})"
+        return self.pick([self.constant(), f"-{self.number(1, 9)}", value, self.small()])
 
     def array_passed(self, size, logical, arrays):
         """An array of these that has so many elements left from its first one on, or from one that is named; None where there is no
