@@ -1,12 +1,9 @@
 -- Worked rows: each access to a cell that is empty without a value, empty with a value, and full.
-use Rattle.std.specs.Prelude.{◌≡◌, pos, true, false, [], ◌∷◌, Some, None, refl}
+use Rattle.std.specs.Prelude.{◌≡◌, pos, true, false, Some, None, refl}
 use Rattle.hep_machine.specs.declared.slot.Slot.{Slot}
 use Rattle.hep_source.specs.declared.value.Value.{Value}
 use Rattle.hep_source.specs.declared.value.Value.TheVariants.{Int}
-use Rattle.hep_machine.specs.Access.{purged_cell, reading, reading_asynchronous, setting_empty, unset_cell, waiting_full, writing, writing_asynchronous}
-use Rattle.hep_cells.specs.declared.access.Access.TheVariants.{Done, Wait, Undefined}
-use Rattle.hep_cells.specs.declared.access.CellState.TheVariants.{Full, Empty}
-use Rattle.hep_cells.specs.Answers.{answer_for, slots_after}
+use Rattle.hep_machine.specs.Access.{gives, makes, waits, undefined, purged_cell, reading, reading_asynchronous, setting_empty, unset_cell, waiting_full, writing, writing_asynchronous}
 
 abbrev seven : Value
 seven = Int (pos 7)
@@ -22,52 +19,40 @@ full_with value = record { value = Some value; full = true }
 
 -- ---- without a value
 
-read_unset : answer_for reading (unset_cell ∷ []) 0 ≡ Undefined
+read_unset : reading unset_cell ≡ undefined
 read_unset = refl
 
-read_unset_asynchronous : answer_for reading_asynchronous (unset_cell ∷ []) 0 ≡ Wait Full
+read_unset_asynchronous : reading_asynchronous unset_cell ≡ waits true
 read_unset_asynchronous = refl
 
-wait_unset : answer_for waiting_full (unset_cell ∷ []) 0 ≡ Wait Full
+wait_unset : waiting_full unset_cell ≡ waits true
 wait_unset = refl
 
-empty_unset : answer_for setting_empty (unset_cell ∷ []) 0 ≡ Undefined
+empty_unset : setting_empty unset_cell ≡ undefined
 empty_unset = refl
 
-empty_unset_stays : slots_after setting_empty (unset_cell ∷ []) 0 ≡ unset_cell ∷ []
-empty_unset_stays = refl
-
-write_unset : slots_after (writing seven) (unset_cell ∷ []) 0 ≡ empty_with seven ∷ []
+write_unset : writing seven unset_cell ≡ makes seven (empty_with seven)
 write_unset = refl
 
-fill_unset : slots_after (writing_asynchronous seven) (unset_cell ∷ []) 0 ≡ full_with seven ∷ []
+fill_unset : writing_asynchronous seven unset_cell ≡ makes seven (full_with seven)
 fill_unset = refl
 
 -- full, without a value
-read_full_unset : answer_for reading_asynchronous (record { value = None; full = true } ∷ []) 0 ≡ Undefined
+read_full_unset : reading_asynchronous (record { value = None; full = true }) ≡ undefined
 read_full_unset = refl
 
 -- ---- full
 
-read_full : answer_for reading_asynchronous (full_with seven ∷ []) 0 ≡ Done seven
+read_full : reading_asynchronous (full_with seven) ≡ makes seven (empty_with seven)
 read_full = refl
 
-read_full_empties : slots_after reading_asynchronous (full_with seven ∷ []) 0 ≡ empty_with seven ∷ []
-read_full_empties = refl
-
-wait_full : answer_for waiting_full (full_with seven ∷ []) 0 ≡ Done seven
+wait_full : waiting_full (full_with seven) ≡ gives seven
 wait_full = refl
 
-wait_full_stays : slots_after waiting_full (full_with seven ∷ []) 0 ≡ full_with seven ∷ []
-wait_full_stays = refl
-
-fill_full : answer_for (writing_asynchronous eight) (full_with seven ∷ []) 0 ≡ Wait Empty
+fill_full : writing_asynchronous eight (full_with seven) ≡ waits false
 fill_full = refl
 
-fill_full_stays : slots_after (writing_asynchronous eight) (full_with seven ∷ []) 0 ≡ full_with seven ∷ []
-fill_full_stays = refl
-
-write_full : slots_after (writing eight) (full_with seven ∷ []) 0 ≡ full_with eight ∷ []
+write_full : writing eight (full_with seven) ≡ makes eight (full_with eight)
 write_full = refl
 
 purge_full : purged_cell (full_with seven) ≡ empty_with seven
@@ -75,16 +60,11 @@ purge_full = refl
 
 -- ---- empty with a value
 
-value_of_empty : answer_for reading (empty_with seven ∷ []) 0 ≡ Done seven
+value_of_empty : reading (empty_with seven) ≡ gives seven
 value_of_empty = refl
 
-empty_again : answer_for setting_empty (empty_with seven ∷ []) 0 ≡ Done seven
+empty_again : setting_empty (empty_with seven) ≡ makes seven (empty_with seven)
 empty_again = refl
 
-fill_empty : slots_after (writing_asynchronous eight) (empty_with seven ∷ []) 0 ≡ full_with eight ∷ []
+fill_empty : writing_asynchronous eight (empty_with seven) ≡ makes eight (full_with eight)
 fill_empty = refl
-
--- ---- the second of three cells: the others stay
-
-read_second : slots_after reading_asynchronous (full_with eight ∷ full_with seven ∷ full_with eight ∷ []) 1 ≡ full_with eight ∷ empty_with seven ∷ full_with eight ∷ []
-read_second = refl

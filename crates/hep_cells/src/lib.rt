@@ -1,9 +1,9 @@
 //! Accesses to cells: reading, assignment, the functions of full and empty, and PURGE.
 //!
-//! Nothing here takes memory.
+//! Nothing here takes memory or changes a cell: each function tells what an access comes to.
 #![tactic(auto)]
 
-pub mod access;
 pub mod cells;
+mod outcome;
 
-pub use access::{Access, CellState};
+pub use outcome::{AccessOutcome, CellState};

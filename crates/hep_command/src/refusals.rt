@@ -63,30 +63,35 @@ Write as many as its SUBROUTINE statement or its definition has.
 ",
         304 => "An argument doesn't fit what it is given to: by its type, array or scalar, $ or
 plain. FULL, EMPTY, VALUE, SETE, WAITF and PURGE want names that begin with $.
+Give what the subroutine or function declares: its type, an array for an array,
+and a name with $ for one with $.
 ",
-        305 => "The unit has a common block of another length, or with other types, than a unit
-before it. Give the block the same length and the same types in each unit.
+        305 => "The unit has a common block with other types than a unit before it, or with a
+name with $ where that one is plain; or it has a named block of another length.
+Give the block the same types and $ in each unit, and a named one the same
+length.
 ",
         306 => "A label that the statement uses is on no executable statement of the unit, or
 the statement has a label that another one has too.
 Put each label on one executable statement.
 ",
-        307 => "A DO or a block IF isn't closed, or isn't nested as it must be; or a logical IF
-or the end of a DO is a statement that can't stand there.
-Close each DO and each IF within the one around it.
+        307 => "A DO or a block IF isn't closed, or isn't nested as it must be; a DO variable is
+no plain integer scalar, or is that of a DO around it; or a statement ends a DO,
+or stands in a logical IF, that may not. Close each DO and each IF within the
+one around it, give each DO a variable of its own, and end a DO with CONTINUE.
 ",
         308 => "The statement jumps into a DO or into a block of an IF, or to an ELSE or ELSE
 IF. Jump to its DO or its IF, or to a statement around it.
 ",
-        309 => "A name stands for two things, or is given its type, bounds or value twice; or
-IMPLICIT names a letter twice. The line is the later one of the two.
-Take another name, or take one of the two out.
+        309 => "A name stands for two things, or is given its type, bounds, value or place in
+COMMON twice; or IMPLICIT names a letter twice. The line is the later one of the
+two. Take another name, or take one of the two out.
 ",
         310 => "A name is no subroutine, array or function, but is used so; the line has the
 name. Write the subroutine, or declare the array.
 ",
         311 => "DATA stands where there may be none, or has too few or too many values, a wrong
-value, or one for what has a value already.
+value or repeat count, or one for what has a value already or isn't there.
 Give each element of the main program's own variables one value of its type.
 ",
         401 => "The program is too large: COMMON or the variables of a unit take more than
@@ -107,7 +112,7 @@ Take what `run --history` wrote.
 ",
         602 => "This line of the file of choices isn't a process: a number from 1 without a zero
 in front. Each line ends with a line feed, the last one too. At line 0 the file
-has more than 150,000,000 bytes.
+has more than 150,000,000 bytes. Write one number a line, as 1 or 12.
 ",
         603 => "This entry of the history isn't possible after those before it.
 The history is of another source, or was changed. Take the one that

@@ -18,8 +18,8 @@ use std::convert::AsStr;
 // checked what a command needs, but promises it of a program without commands only.
 const MISTAKE: &str = "error: these words have no meaning\n";
 
-// What is said where the history would be written to a file that is read.
-const SAME_FILE: &str = "error: --history names a file that is read\n";
+/// What is said where the history would be written to a file that is read.
+pub const SAME_FILE: &str = "error: --history names a file that is read\n";
 
 // The number that a text of decimal digits writes, where it lies in the range. `clap` has checked
 // this before; it is read anew from the text, so that the job's number is the word's.

@@ -1,19 +1,56 @@
--- Processes that are left, one after the other.
-use Rattle.std.proofs.Common.{◌≡◌, ℕ, suc, ◌+◌, ◌-◌, ◌<◌, ◌≤◌, List, ◌++◌, length, ap, sym, ◌∙◌, arith, add-one}
+-- Processes that are listed, one after the other.
+use Rattle.std.proofs.Common.{◌≡◌, ℕ, zero, suc, ◌+◌, ◌-◌, ◌<◌, ◌≤◌, List, [], ◌++◌, Option, Some, None, refl, sym, ap, ◌∙◌, arith}
+use Rattle.std.specs.Option.{option_or}
 use Rattle.hep_machine.specs.declared.event.Entry.{Entry}
 use Rattle.hep_source.specs.Units.{Units}
 use Rattle.hep_image.specs.Names.{names_in_order}
-use Rattle.hep_scheduler.specs.Value.{listed_after}
+use Rattle.hep_waiting.specs.declared.listed.Listed.{Listed}
+use Rattle.hep_scheduler.proofs.Following.{number-listed}
+use Rattle.hep_scheduler.specs.Value.{first_listed, listed_after}
 use Rattle.hep_dump.specs.Waiting as words
 
--- the one ahead is the first of those left
-first_left : (p e : ℕ) → p ≤ e → e + 1 - p ≡ suc (e + 1 - (p + 1))
-first_left p e h = omega (arith, h)
+or-none : (o r : Option Listed) → option_or o r ≡ None → (o ≡ None) × (r ≡ None)
+or-none None r e = (refl, e)
+or-none (Some l) r e = absurd cc
 
--- its line is the first of the lines left
-pub first_line : (program : Units) → (history : List Entry) → (p e : ℕ) → p ≤ e
-    → words.process_text (names_in_order program) (listed_after program history p) ++ words.waiting_text program history (p + 1) (e + 1 - (p + 1))
-    ≡ words.waiting_text program history p (e + 1 - p)
-first_line program history p e h =
-    ap (λ q. words.process_text (names_in_order program) (listed_after program history p) ++ words.waiting_text program history q (e + 1 - (p + 1))) (add-one p)
-    ∙ sym (ap (λ n. words.waiting_text program history p n) (first_left p e h))
+module _ (program : Units) (history : List Entry) where
+  -- where nobody of so many is listed, there are no lines
+  pub no-lines : (p n : ℕ) → first_listed program history p n ≡ None → words.waiting_text program history p n ≡ []
+  no-lines p zero none = refl
+  no-lines p (suc n) none =
+      let both = or-none (listed_after program history p) (first_listed program history (suc p) n) none in
+      ap (λ o. words.process_text (names_in_order program) o ++ words.waiting_text program history (suc p) n) both.0
+      ∙ no-lines (suc p) n both.1
+
+  -- the first of so many that is listed, with the lines from it on
+  pub record IsFirst (p n : ℕ) (l : Listed) : Type 0 where
+    pub least : p ≤ l.process
+    pub most : l.process < p + n
+    pub lines : words.waiting_text program history p n
+        ≡ words.listed_text (names_in_order program) l ++ words.waiting_text program history (suc l.process) (p + n - suc l.process)
+
+  pub first-of : (p n : ℕ) (l : Listed) → first_listed program history p n ≡ Some l → IsFirst p n l
+  first-of p zero l is = absurd cc
+  first-of p (suc n) l is = by (listed_after program history p) refl is (λ later. first-of (suc p) n l later) where
+    by : (o : Option Listed) → listed_after program history p ≡ o → option_or o (first_listed program history (suc p) n) ≡ Some l → (first_listed program history (suc p) n ≡ Some l → IsFirst (suc p) n l) → IsFirst p (suc n) l
+    by None here later further =
+        let rest = further later in
+        record {
+          least = omega (arith, rest.least);
+          most = omega (arith, rest.most);
+          lines =
+              ap (λ o. words.process_text (names_in_order program) o ++ words.waiting_text program history (suc p) n) here
+              ∙ rest.lines
+              ∙ ap (λ m. words.listed_text (names_in_order program) l ++ words.waiting_text program history (suc l.process) (m - suc l.process)) (omega arith);
+        }
+    by (Some k) here now further =
+        let it : listed_after program history p ≡ Some l = here ∙ now in
+        let number : l.process ≡ p = number-listed program history p l it in
+        let left : n ≡ p + suc n - suc l.process = omega (arith, number) in
+        record {
+          least = omega (arith, number);
+          most = omega (arith, number);
+          lines =
+              ap (λ o. words.process_text (names_in_order program) o ++ words.waiting_text program history (suc p) n) it
+              ∙ (λ j. words.listed_text (names_in_order program) l ++ words.waiting_text program history (suc (sym number j)) (left j));
+        }

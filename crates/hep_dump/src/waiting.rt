@@ -2,7 +2,7 @@
 ghost use Rattle.std.specs.Prelude.{◌≡◌, ◌++◌, OnOk, length};
 ghost use Rattle.hep_source.specs.Names.{spelling};
 ghost use Rattle.hep_image.specs.Names.{block_spelling, names_in_order};
-ghost use Rattle.hep_scheduler.specs.Value.{listed_after, state_of};
+ghost use Rattle.hep_scheduler.specs.Value.{state_of};
 ghost use Rattle.hep_dump.specs.Waiting as words;
 
 use crate::faults::unit_name;
@@ -119,17 +119,6 @@ pub fn append_waiting(text: &mut Vec<u8>, image: &Image, listed: &Listed) -> Res
     Ok(())
 }
 
-// The line of a process, where it waits.
-fn append_process(text: &mut Vec<u8>, core: &Core, process: u64) -> Result<(), AllocError>
-    ensures { OnOk result (text.new.items
-        ≡ text.old.items ++ words.process_text (names_in_order core.now.program) (listed_after core.now.program core.now.history process)) }
-{
-    match core.waiting(process) {
-        Some(listed) => append_waiting(text, core.image(), &listed),
-        None => Ok(()),
-    }
-}
-
 /// Appends the lines of all processes that were found waiting and wait since, by their numbers.
 ///
 /// # Errors
@@ -139,8 +128,10 @@ pub fn append_all_waiting(text: &mut Vec<u8>, core: &Core) -> Result<(), AllocEr
     ensures { OnOk result (text.new.items
         ≡ text.old.items ++ words.waiting_text core.now.program core.now.history 1 (length (state_of core.now).processes)) }
 {
-    for process in 1..=core.processes() {
-        append_process(text, core, process)?;
+    let mut last = 0;
+    while let Some(listed) = core.waiting_after(last) {
+        append_waiting(text, core.image(), &listed)?;
+        last = listed.process;
     }
     Ok(())
 }

@@ -9,7 +9,7 @@ ghost use Rattle.hep_purging.specs.Ready.{AreReached, IsRangeReached};
 
 use crate::range::Range;
 use hep_arena::Arena;
-use hep_cells::cells;
+use hep_cells::cells::purged;
 
 // Empties a cell.
 fn purge_cell(arena: &mut Arena, at: u32)
@@ -19,9 +19,8 @@ fn purge_cell(arena: &mut Arena, at: u32)
     ensures holes { arena.new.holes ≡ arena.old.holes }
     ensures cells { length arena.new.contents ≡ length arena.old.contents }
 {
-    let mut cell = [arena.get(at)];
-    cells::purge(&mut cell, 0);
-    arena.set(at, cell[0]);
+    let slot = arena.get(at);
+    arena.set(at, purged(slot));
 }
 
 // Empties the cells of a range.

@@ -5,10 +5,9 @@
 
 pub mod finding;
 pub mod frame;
-pub mod outcome;
+mod outcome;
 pub mod reply;
 
 pub use finding::address;
 pub use frame::{Frame, counts};
-pub use outcome::Outcome;
 pub use reply::{Reply, reply_of, reply_to_store};

@@ -2,6 +2,8 @@
 use Rattle.std.specs.Prelude.{◌≡◌, ◌⊎◌, ℕ, ◌<◌, ◌≤◌, List, [], ◌++◌, codes, length, take, Option, Some, None}
 use Rattle.std.specs.Io.KnownBytes.{Appends, Keeps, Consumes, IsAtEnd}
 use Rattle.hep_machine.specs.declared.event.Entry.{Entry}
+use Rattle.hep_run.specs.declared.input.ReadFault.{ReadFault}
+use Rattle.hep_run.specs.declared.input.ReadFault.TheVariants as unread
 use Rattle.hep_run.specs.declared.options.Run.{Run}
 use Rattle.hep_run.specs.declared.status.Status.{Status}
 use Rattle.hep_run.specs.declared.status.Status.TheVariants.{NoMemory, DeviceFailed}
@@ -80,10 +82,13 @@ most_source_bytes = 4194304
 abbrev pub HasRead : Option (List ℕ) → Option (List ℕ) → Type 0
 HasRead source source' = (bytes : List ℕ) × Consumes source source' bytes × (length bytes ≤ most_source_bytes → IsAtEnd source')
 
--- memory was refused for an input, or its reader failed
+-- why an input couldn't be read: memory was refused for it, or its reader failed
+abbrev pub SaysUnread : ReadFault → ℕ → Option (List ℕ) → Option (List ℕ) → Type 0
+SaysUnread unread.NoMemory code messages messages' = SaysLines (codes "NO MEMORY\n") NoMemory code messages messages'
+SaysUnread unread.Failed code messages messages' = SaysLines (codes "READ FAULT\n") DeviceFailed code messages messages'
+
 abbrev pub CannotRead : ℕ → Option (List ℕ) → Option (List ℕ) → Type 0
-CannotRead code messages messages' =
-    SaysLines (codes "NO MEMORY\n") NoMemory code messages messages' ⊎ SaysLines (codes "READ FAULT\n") DeviceFailed code messages messages'
+CannotRead code messages messages' = (fault : ReadFault) × SaysUnread fault code messages messages'
 
 -- All that may be left of a reader's bytes that have these outcomes: they couldn't be read, and no record is written; or they were.
 abbrev pub LeavesOfSource : (List ℕ → Outcome → Type 0) → Option (List ℕ) → Option (List ℕ) → Run → Option (List ℕ) → Option (List ℕ) → Option (List ℕ) → Option (List ℕ) → Type 0

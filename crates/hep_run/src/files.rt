@@ -4,7 +4,7 @@
 //! why, so that nothing more is to be written.
 ghost use Rattle.std.specs.Prelude.{◌≡◌, codes, IfOk, IfErr, Ok, Err};
 ghost use Rattle.std.specs.Io.KnownBytes.{Keeps};
-ghost use Rattle.hep_run.specs.Delivery.{CannotRead, SaysLines, SomeOf};
+ghost use Rattle.hep_run.specs.Delivery.{CannotRead, SaysLines, SaysUnread, SomeOf};
 ghost use Rattle.hep_run.specs.Files.{HasReadText, KeepsHistory, PutsText, ReadsChoices, SaysRefusal};
 ghost use Rattle.hep_run.specs.Texts.{write_fault_text};
 ghost use Rattle.hep_run.specs.declared.status.Status.TheVariants.{NoMemory, Usage};
@@ -24,7 +24,7 @@ use std::io::{Read, Write};
 /// Says why an input couldn't be read, and gives the exit status. A file that can't be opened has
 /// `Failed`.
 pub fn say_unread<E: Write>(messages: &mut E, fault: ReadFault) -> u8
-    ensures { CannotRead result (E.contents messages.old) (E.contents messages.new) }
+    ensures { SaysUnread fault result (E.contents messages.old) (E.contents messages.new) }
 {
     match fault {
         ReadFault::NoMemory => say(messages, NO_MEMORY, Status::NoMemory),

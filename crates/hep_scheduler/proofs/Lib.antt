@@ -1,3 +1,4 @@
+pub mod Following
 pub mod Histories
 pub mod Kept
 pub mod Turning

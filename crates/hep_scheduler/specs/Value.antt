@@ -1,5 +1,6 @@
 -- What a core is to its callers, and what a choice makes of it: docs/MACHINE.md, "Histories" and "Which process comes next".
-use Rattle.std.specs.Prelude.{◌≡◌, ◌≢◌, ◌⊎◌, ℕ, zero, suc, ◌<◌, Bool, true, false, if◌then◌else◌, List, [], ◌∷◌, ◌++◌, Option, Some, None, IsSome, Result, Ok, Err, length}
+use Rattle.std.specs.Prelude.{◌≡◌, ◌≢◌, ◌⊎◌, ℕ, zero, suc, ◌-◌, ◌<◌, Bool, true, false, if◌then◌else◌, List, [], ◌∷◌, ◌++◌, Option, Some, None, IsSome, Result, Ok, Err, length}
+use Rattle.std.specs.Option.{option_or}
 use Rattle.hep_machine.specs.declared.event.Entry.{Entry}
 use Rattle.hep_source.specs.Units.{Units}
 use Rattle.hep_machine.specs.State.{State}
@@ -114,3 +115,12 @@ next_ready_of core = next_ready core.program core.history
 abbrev pub listed_after : Units → List Entry → ℕ → Option Listed
 listed_after program history p =
     if is_number_among p (progress_after program history).listed then listed_by program p (state_after program history) else None
+
+-- of so many processes, of which the first one has this number, the first one that is listed
+abbrev pub first_listed : Units → List Entry → ℕ → ℕ → Option Listed
+first_listed program history p zero = None
+first_listed program history p (suc n) = option_or (listed_after program history p) (first_listed program history (suc p) n)
+
+-- of the processes that were made and have numbers above p the first one that is listed
+abbrev pub next_listed_of : CoreValue → ℕ → Option Listed
+next_listed_of core p = first_listed core.program core.history (suc p) (length (state_of core).processes - p)

@@ -3,7 +3,7 @@ ghost use Rattle.std.specs.Prelude.{◌≡◌, ◌≤◌, ◌<◌, ◌++◌, ◌
 ghost use Rattle.hep_machine.specs.Histories.{IsLegal};
 ghost use Rattle.hep_machine.specs.Layout.{is_held, opening_layout, used_cells};
 ghost use Rattle.hep_machine.specs.Views.{view_of};
-ghost use Rattle.hep_scheduler.specs.Value.{state_of, opening_of, IsNewFault, IsChoice, IsStop, listed_after, verdict_of, next_ready_of};
+ghost use Rattle.hep_scheduler.specs.Value.{state_of, opening_of, IsNewFault, IsChoice, IsStop, next_listed_of, verdict_of, next_ready_of};
 
 use crate::fault::{ChooseFault, NewFault};
 use crate::lists::{note_ready, wait, wake_after};
@@ -203,21 +203,17 @@ impl Core {
         }
     }
 
-    /// How many processes were made.
-    pub fn processes(&self) -> u64
-        ensures { result ≡ length (state_of self.now).processes }
-    {
-        self.machine.processes.len() as u64
-    }
-
-    /// Process p, where it was found waiting and waits since: where it is, and for what it waits.
+    /// Of the processes that were found waiting and wait since the one with the least number above p: where it is, and for what it
+    /// waits.
     ///
-    /// This costs a step for each activation from the process's top one up to the one whose variable it waits for.
-    pub fn waiting(&self, p: u64) -> Option<Listed>
-        ensures { result ≡ listed_after self.now.program self.now.history p }
+    /// This costs the logarithm of how many processes were made, and a step for each activation from the process's top one up to the
+    /// one whose variable it waits for.
+    pub fn waiting_after(&self, p: u64) -> Option<Listed>
+        ensures { result ≡ next_listed_of self.now p }
     {
-        let want = self.waits.waiting(p)?;
-        Some(listed(&self.machine, &self.image, p, want))
+        let next = self.waits.next_after(p)?;
+        let want = self.waits.waiting(next)?;
+        Some(listed(&self.machine, &self.image, next, want))
     }
 
     /// How many cells of the arena are taken.

@@ -16,7 +16,7 @@ use Rattle.hep_code.specs.declared.instruction.Instruction.{Instruction}
 use Rattle.hep_code.specs.declared.instruction.Instruction.TheVariants.{Pass, Push, Show, Step, To}
 use Rattle.hep_code.specs.Ahead.{IsPastPushes}
 use Rattle.hep_code.proofs.Ahead.{drop_one_more, pushed}
-use Rattle.hep_step.specs.Effects.{Effect, fails, moves, prints, returns, stops, unsupported, waits}
+use Rattle.hep_step.specs.Effects.{Effect, fails, moves, prints, returns, stops, left_out, waits}
 use Rattle.hep_step.specs.Simulation.{IsNotLeftOut, IsRunning, Simulates, state_with_record, unit_addressed, unit_code}
 use Rattle.hep_state.specs.declared.machine.Level.{Level}
 use Rattle.hep_state.specs.Snapshots.{Snapshot}
@@ -93,7 +93,7 @@ module _ (program : Units) (t : Top) (layout : Layout) (f : Frame) (holes : List
   activations-stay (waits cell full) (at, is, found) = unturned-same program t.process t.state _ is refl
   activations-stay returns is = turned-same program t.process t.state (with_process t.state t.process (stack_after_return program t.state t.below)) running is refl
   activations-stay stops is = turned-same program t.process t.state (record t.state { halted = true }) running is refl
-  activations-stay unsupported h = absurd h
+  activations-stay left_out h = absurd h
 
 module _ (program : Units) (cells : ℕ) (choices : List ℕ) (m : Snapshot) (p : ℕ) (l : Level) (ls : List Level) (vs : List Value) (top : SourceLevel × Process) (turning : IsTurning program cells choices m p l ls vs top)
     (new : List Value) (after : ℕ) (settles : IsSettled program l.unit vs l.index new after) where

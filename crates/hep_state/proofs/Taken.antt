@@ -19,10 +19,10 @@ use Rattle.hep_frames.specs.Addresses.{address}
 use Rattle.hep_frames.proofs.HeldFrames.{run-last}
 use Rattle.hep_image.specs.Finding.{cells_in}
 use Rattle.hep_image.specs.Image.{most_cells}
-use Rattle.hep_reply.specs.Replies.{is_full_state}
+use Rattle.hep_cells.specs.Outcomes.{is_full_state}
 use Rattle.hep_step.specs.declared.effect.Effect.{Effect}
 use Rattle.hep_step.specs.Effects as effects
-use Rattle.hep_step.specs.Effects.{effect_at, fails, moves, prints, returns, stops, unsupported, waits}
+use Rattle.hep_step.specs.Effects.{effect_at, fails, moves, prints, returns, stops, left_out, waits}
 use Rattle.hep_step.specs.Performed as performed
 use Rattle.hep_step.specs.Performed.{performed as done, snapshot, state_named}
 use Rattle.hep_step.specs.Ready.{IsReady, frame_in_arena}
@@ -121,7 +121,7 @@ module _ (program : Units) (cells : ℕ) (choices : List ℕ) (m : Snapshot) (p 
         subst (λ b. HasWaited program cells choices p at b settled-now) (sym (state-is full)) (waited-shown program cells choices settled-now p later ls operands top again at full sim)
     done-by returns sim size = record { l = later; ls = ls; operands = operands; top = top; turning = again; simulated = sim }
     done-by stops sim size = stopped-shown program cells choices settled-now p later ls operands top again sim
-    done-by unsupported sim size = absurd sim
+    done-by left_out sim size = absurd sim
 
     pub left-over : (e : effects.Effect) (effect : Effect) (after : performed.Snapshot) → Simulates program t again.after.layout (frame_under m.nodes l.key) m.arena.holes m.arena.contents e → length after.contents ≡ length m.arena.contents
         → (effect, after) ≡ done e before → IsLeft program cells choices p (with_performed after) effect
@@ -163,7 +163,7 @@ module _ (program : Units) (cells : ℕ) (choices : List ℕ) (m : Snapshot) (p 
             ∙ ap (λ o. unwrap_or o (run program choices)) (ap (λ b. if b then None else state_made (step_result_of program p (run program choices))) turning.running ∙ ap state_made is)
     alike-by returns sim at c there = stored-same _ sim refl m.arena.contents refl at c there
     alike-by stops sim at c there = stored-same _ sim refl m.arena.contents refl at c there
-    alike-by unsupported sim at c there = absurd sim
+    alike-by left_out sim at c there = absurd sim
 
     pub alike : (e : effects.Effect) (effect : Effect) (after : performed.Snapshot) → Simulates program t again.after.layout (frame_under m.nodes l.key) m.arena.holes m.arena.contents e → (effect, after) ≡ done e before
         → (cell : Option ℕ) → IsInState program cells choices p cell (with_performed after)

@@ -8,9 +8,9 @@ use Rattle.hep_arena.specs.Space.{Space}
 use Rattle.hep_code.specs.Ahead.{IsPastPushes}
 use Rattle.hep_code.specs.Standing.{Stands}
 use Rattle.hep_frames.specs.Tree.{Nodes}
-use Rattle.hep_reply.specs.Replies.{is_full_state}
+use Rattle.hep_cells.specs.Outcomes.{is_full_state}
 use Rattle.hep_step.specs.declared.effect.Effect.{Effect}
-use Rattle.hep_step.specs.declared.effect.Effect.TheVariants.{Moved, Printed, Failed, Waits, Returned, Stopped, Unsupported}
+use Rattle.hep_step.specs.declared.effect.Effect.TheVariants.{Moved, Printed, Failed, Waits, Returned, Stopped, LeftOut}
 use Rattle.hep_step.specs.Effects as effects
 use Rattle.hep_step.specs.Performed.{IsPerformed, snapshot}
 use Rattle.hep_step.specs.Ready.{IsReady, frame_in_arena}
@@ -77,7 +77,7 @@ IsLeft program cells choices p m (Failed line kind) = IsEnding program cells cho
 IsLeft program cells choices p m (Waits at state) = HasWaited program cells choices p at (is_full_state state) m
 IsLeft program cells choices p m Returned = IsEnding program cells choices p m effects.returns
 IsLeft program cells choices p m Stopped = HasStepped program cells choices p (snapshot_stopped m)
-IsLeft program cells choices p m Unsupported = ⊥
+IsLeft program cells choices p m LeftOut = ⊥
 
 -- what is seen of two machines is the same, but for where processes stand
 pub record IsSeenSame (old new : Snapshot) : Type 0 where

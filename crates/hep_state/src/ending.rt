@@ -118,8 +118,8 @@ impl Machine {
             }
             Effect::Returned => self.finish(p),
             Effect::Stopped => self.halted = true,
-            // Each operation of an accepted program that stands ahead here is supported.
-            Effect::Unsupported => unreachable!(),
+            // CALL, CREATE and PURGE have turns of their own.
+            Effect::LeftOut => unreachable!(),
         }
         None
     }

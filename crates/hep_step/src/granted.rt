@@ -2,15 +2,16 @@
 ghost use Rattle.std.specs.Prelude.{◌≡◌, ◌<◌, ◌≤◌, length};
 ghost use Rattle.hep_arena.specs.Holes.{IsOut};
 ghost use Rattle.hep_image.specs.Image.{most_cells};
-ghost use Rattle.hep_reply.specs.Replies.{outcome_meant, reply_meant};
+ghost use Rattle.hep_cells.specs.Outcomes.{outcome_meant};
+ghost use Rattle.hep_reply.specs.Replies.{reply_meant};
 ghost use Rattle.hep_step.specs.Performed.{access_made, effect_of_obstacle, reply_made};
 ghost use Rattle.hep_step.specs.Ready.{IsReplyReached};
 
 use crate::effect::Effect;
 use hep_arena::Arena;
-use hep_cells::CellState;
+use hep_cells::{AccessOutcome, CellState};
 use hep_machine::Kind;
-use hep_reply::{Outcome, Reply};
+use hep_reply::Reply;
 use hep_source::Value;
 
 /// Why an operation has no value.
@@ -34,7 +35,7 @@ impl Obstacle {
 }
 
 // Makes an access to the cell at an address, which has to be out, where it gives a value.
-fn accessed(arena: &mut Arena, at: u32, outcome: Outcome) -> Result<Value, Obstacle>
+fn accessed(arena: &mut Arena, at: u32, outcome: AccessOutcome) -> Result<Value, Obstacle>
     requires inside { at < length arena.old.contents }
     requires out { IsOut at arena.old.holes }
     ensures made { (arena.new.contents, result) ≡ access_made arena.old.contents at (outcome_meant outcome) }
@@ -42,13 +43,13 @@ fn accessed(arena: &mut Arena, at: u32, outcome: Outcome) -> Result<Value, Obsta
     ensures cells { length arena.new.contents ≡ length arena.old.contents }
 {
     match outcome {
-        Outcome::Gives(value) => Ok(value),
-        Outcome::Makes { value, slot } => {
+        AccessOutcome::Gives(value) => Ok(value),
+        AccessOutcome::Makes { value, slot } => {
             arena.set(at, slot);
             Ok(value)
         }
-        Outcome::Waits(state) => Err(Obstacle::Wait { at, state }),
-        Outcome::Undefined => Err(Obstacle::Fault(Kind::Undefined)),
+        AccessOutcome::Waits(state) => Err(Obstacle::Wait { at, state }),
+        AccessOutcome::Undefined => Err(Obstacle::Fault(Kind::Undefined)),
     }
 }
 

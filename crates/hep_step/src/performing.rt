@@ -73,7 +73,7 @@ pub fn perform(
         },
     ) = operation_at(code, *index)
     else {
-        return Ok(Effect::Unsupported);
+        return Ok(Effect::LeftOut);
     };
     let storage = &Storage { arrays, frame };
     match operation {
@@ -115,7 +115,7 @@ pub fn perform(
         Operation::Return => Ok(Effect::Returned),
         Operation::Stop => Ok(Effect::Stopped),
         Operation::Call { .. } | Operation::Create { .. } | Operation::Purge { .. } => {
-            Ok(Effect::Unsupported)
+            Ok(Effect::LeftOut)
         }
         Operation::Jump { .. }
         | Operation::Choose { .. }

@@ -19,7 +19,7 @@ use Rattle.hep_frames.proofs.Descriptors.{wanted-same as wanted-alike}
 use Rattle.hep_frames.proofs.Memory.{address-same, memory-same}
 use Rattle.hep_finding.specs.Bound.{AreKept}
 use Rattle.hep_image.specs.Places.{addresses_of}
-use Rattle.hep_step.specs.Effects.{Effect, fails, moves, prints, returns, stops, unsupported, waits}
+use Rattle.hep_step.specs.Effects.{Effect, fails, moves, prints, returns, stops, left_out, waits}
 use Rattle.hep_step.specs.Simulation.{unit_arrays, unit_code}
 use Rattle.hep_state.specs.declared.machine.Level.{Level}
 use Rattle.hep_state.specs.Showing.{Shows, code_levels, node_under}
@@ -111,7 +111,7 @@ module _ (program : Units) (m : Snapshot) (b : Bool) where
   effect-halted (fails line kind) = refl
   effect-halted returns = refl
   effect-halted stops = refl
-  effect-halted unsupported = refl
+  effect-halted left_out = refl
 
   levels-halted : (ls : List Level) (operands : List Value)
       → wanted_by_levels program n ls operands ≡ wanted_by_levels program m ls operands

@@ -21,7 +21,7 @@ use Rattle.hep_code.specs.Standing.{Stands}
 use Rattle.hep_frames.specs.Addresses.{address}
 use Rattle.hep_frames.proofs.Stacks.{top-numbered}
 use Rattle.hep_image.specs.declared.array.Array.{Array}
-use Rattle.hep_step.specs.Effects.{Effect, effect_ahead, effect_at, effect_of, fails, moves, prints, returns, stops, unsupported, waits}
+use Rattle.hep_step.specs.Effects.{Effect, effect_ahead, effect_at, effect_of, fails, moves, prints, returns, stops, left_out, waits}
 use Rattle.hep_step.specs.Simulation.{IsNotLeftOut, IsRunning, Simulates, arrays_on_top, code_on_top, is_left_out, unit_addressed, unit_arrays, unit_code}
 use Rattle.hep_state.specs.declared.machine.Level.{Level}
 use Rattle.hep_state.specs.Showing.{Shows}
@@ -61,7 +61,7 @@ pub record IsKnown (program : Units) (cells : ℕ) : Type 0 where
 
 -- one that is left out has no effect that is seen
 left-out-seen : (code : List Instruction) (arrays : List Array) (first : ℕ) (line : ℕ) (o : Operation) (behind : List Instruction)
-    (contents : List Slot) (operands : List Value) (index : ℕ) → is_left_out o ≡ true → effect_of code arrays first line o behind contents operands index ≡ unsupported
+    (contents : List Slot) (operands : List Value) (index : ℕ) → is_left_out o ≡ true → effect_of code arrays first line o behind contents operands index ≡ left_out
 left-out-seen code arrays first line (Call u count next) behind contents operands index left = refl
 left-out-seen code arrays first line (Create u count next) behind contents operands index left = refl
 left-out-seen code arrays first line (Purge count next) behind contents operands index left = refl
@@ -138,7 +138,7 @@ module _ (program : Units) (cells : ℕ) (known : IsKnown program cells) (choice
   by-effect (waits cell full) (at, is, found) = ap wanted_in is ∙ sym (unit-kept at cell full found)
   by-effect returns is = ap wanted_in is
   by-effect stops is = ap wanted_in is
-  by-effect unsupported none = absurd none
+  by-effect left_out none = absurd none
 
   by-operation : IsNotLeftOut code j → IsSeen
   by-operation others =
@@ -150,7 +150,7 @@ module _ (program : Units) (cells : ℕ) (known : IsKnown program cells) (choice
   by-left-out : (line : ℕ) (o : Operation) (behind : List Instruction) → drop j code ≡ Step line o ∷ behind → is_left_out o ≡ true → IsSeen
   by-left-out line o behind e left =
       let there = subst (λ u. drop j (unit_code program u) ≡ Step line o ∷ behind) (sym unit-is) e in
-      let none : effect ≡ unsupported =
+      let none : effect ≡ left_out =
       ap (λ is. effect_ahead code (unit_arrays program l.unit) f.first is m.arena.contents ahead.new j) e
       ∙ left-out-seen code (unit_arrays program l.unit) f.first line o behind m.arena.contents ahead.new j left in
       left-out-waits-not program t next.after.layout f m.arena.contents m.arena.holes ahead.new j runs line o behind there left ∙ sym (ap (wanted_for program m) none)

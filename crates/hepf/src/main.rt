@@ -10,7 +10,7 @@ mod tests;
 ghost use Rattle.std.specs.Prelude.{◌≤◌};
 ghost use Rattle.hep_command.specs.Jobs.{IsInRange};
 
-use hep_command::{Job, explain, read_words};
+use hep_command::{Job, SAME_FILE, explain, read_words};
 use hep_history::Choices;
 use hep_run::{
     Options, ReadFault, Run, answer, check_source, choices_of, history_text, list_source, put_text,
@@ -18,8 +18,9 @@ use hep_run::{
 };
 use std::fs::File;
 use std::io::ErrorKind;
+use std::os::unix::fs::MetadataExt;
 use std::process::ExitCode;
-use std::{env, io};
+use std::{env, fs, io};
 
 // Each function here gives the exit status, or what it is named after or else the exit status.
 
@@ -40,6 +41,29 @@ fn file_choices(rt: &HostRuntime, path: Option<&str>) -> Result<Choices, u8> {
         }
         None => Ok(Choices::from(Vec::new(rt.alloc()))),
     }
+}
+
+// Both paths are of one regular file, whatever their spellings. A device may be read and written.
+fn is_one_file(rt: &HostRuntime, path: &str, other: &str) -> bool {
+    match (fs::metadata(rt, path), fs::metadata(rt, other)) {
+        (Ok(one), Ok(other)) => {
+            one.is_file() && one.dev() == other.dev() && one.ino() == other.ino()
+        }
+        _ => false,
+    }
+}
+
+// The history would take the place of a file that is read. `read_words` has compared the names.
+fn is_over_read(
+    rt: &HostRuntime,
+    history: Option<&str>,
+    file: &str,
+    choices: Option<&str>,
+) -> bool {
+    let Some(history) = history else {
+        return false;
+    };
+    is_one_file(rt, history, file) || choices.is_some_and(|path| is_one_file(rt, history, path))
 }
 
 fn write_history(rt: &HostRuntime, run: &Run, path: &str) -> u8 {
@@ -139,6 +163,10 @@ fn done(rt: &HostRuntime, job: Job<'_>) -> Result<u8, u8>
             choices,
             history,
         } => {
+            if is_over_read(rt, history, file, choices) {
+                let text = SAME_FILE.as_bytes();
+                return Err(answer(2, text, &mut rt.stdout(), &mut rt.stderr()));
+            }
             let choices = file_choices(rt, choices)?;
             let options = Options {
                 arena,

@@ -212,6 +212,35 @@ impl Write for Slow {
     }
 }
 
+// Takes so many bytes, fails once, and takes everything after that.
+#[derive(Drop)]
+struct Once {
+    taken: Vec<u8>,
+    before: usize,
+    has_failed: bool,
+}
+
+impl Write for Once {
+    fn write(&mut self, buf: &[u8]) -> io::Result<usize> {
+        let left = self.before.saturating_sub(self.taken.len());
+        if self.has_failed {
+            self.taken.extend_from_slice(buf)?;
+            return Ok(buf.len());
+        }
+        if left == 0 {
+            self.has_failed = true;
+            return Err(Error::from(ErrorKind::Other));
+        }
+        let count = buf.len().min(left);
+        self.taken.extend_from_slice(&buf[..count])?;
+        Ok(count)
+    }
+
+    fn flush(&mut self) -> io::Result<()> {
+        Ok(())
+    }
+}
+
 const FIRST: &[u8] = b"      PRINT *,'A=',1+2*3,.TRUE.\n      END\n";
 
 // Reads from this reader: the messages and the status.
@@ -317,5 +346,30 @@ fn writers(rt: HostRuntime) {
         &mut silent,
     );
     assert_eq!(rt; silent.taken.as_slice(), b"REFUS".as_slice());
+    assert_eq!(rt; run.status, 8);
+}
+
+// Where only one write of a line fails, the next line says how far the messages came.
+#[test]
+fn one_failed_write(rt: HostRuntime) {
+    let alloc = rt.alloc();
+    let mut reader = b"".as_slice();
+    let mut output = Vec::new(alloc);
+    let mut messages = Once {
+        taken: Vec::new(alloc),
+        before: 5,
+        has_failed: false,
+    };
+    let run = run_source(
+        alloc,
+        &mut reader,
+        &Options::defaults(alloc),
+        &mut output,
+        &mut messages,
+    );
+    assert_eq!(rt;
+        messages.taken.as_slice(),
+        b"REFUSWRITE FAULT AFTER 5\n".as_slice()
+    );
     assert_eq!(rt; run.status, 8);
 }

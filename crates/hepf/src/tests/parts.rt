@@ -1,6 +1,6 @@
 //! The parts by themselves, through their public calls.
 
-use super::{FIRST, UNDEFINED, chosen, core_of, image_from, is_single_steps};
+use super::{FIRST, UNDEFINED, chosen, core_of, image_from, is_single_steps, source_of};
 use hep_arena::Arena;
 use hep_run::{Options, run_source};
 use hep_scheduler::{ChooseFault, Core, NewFault, Stop, Verdict};
@@ -58,6 +58,62 @@ fn full_history(rt: HostRuntime) -> Result<(), Fail> {
         assert_eq!(rt; core.verdict(), Verdict::Stopped(Stop::StepLimit));
         assert!(rt; is_single_steps(core.history(), 3));
     }
+    Ok(())
+}
+
+// A creates B, which outlives it, and C comes after A.
+const OUTLIVED: [&[u8]; 13] = [
+    b"      PROGRAM P",
+    b"      CALL A",
+    b"      CALL C",
+    b"      END",
+    b"      SUBROUTINE A",
+    b"      CREATE B(K)",
+    b"      END",
+    b"      SUBROUTINE B(J)",
+    b"      J=7",
+    b"      END",
+    b"      SUBROUTINE C",
+    b"      PRINT *,M",
+    b"      END",
+];
+
+// A's frame stays until B has ended, whose dummy argument is a variable of A.
+#[test]
+fn held_frames(rt: HostRuntime) -> Result<(), Fail> {
+    let alloc = rt.alloc();
+    let source = source_of(alloc, &OUTLIVED)?;
+    let mut core = Core::new(alloc, image_from(alloc, &source)?, 64, 100)?;
+    for process in [99, 2] {
+        assert_eq!(rt;
+            chosen(&mut core, process).err(),
+            Some(ChooseFault::NoSuchProcess)
+        );
+    }
+    assert_eq!(rt; core.used(), 1);
+    for (process, used) in [(1, 3), (1, 6), (1, 6), (1, 8), (2, 8), (1, 6), (2, 0)] {
+        let _turn = chosen(&mut core, process)?;
+        assert_eq!(rt; core.used(), used);
+    }
+    assert_eq!(rt; core.verdict(), Verdict::Done);
+    Ok(())
+}
+
+// Who was found waiting, and who comes after it.
+#[test]
+fn waiting_processes(rt: HostRuntime) -> Result<(), Fail> {
+    let alloc = rt.alloc();
+    let mut core = core_of(alloc, b"      INTEGER $Q\n      I=$Q\n      END\n", 100)?;
+    assert!(rt; core.waiting_after(0).is_none());
+    assert!(rt; chosen(&mut core, 1)?.blocked);
+    assert_eq!(rt; core.verdict(), Verdict::Waiting);
+    assert_eq!(rt; core.next_ready(), None);
+    let found = core.waiting_after(0).ok_or("nobody waits")?;
+    assert_eq!(rt;
+        (found.process, found.unit, found.line, found.full),
+        (1, 0, 2, true)
+    );
+    assert!(rt; core.waiting_after(1).is_none());
     Ok(())
 }
 

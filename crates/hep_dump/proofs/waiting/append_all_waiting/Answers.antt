@@ -1,22 +1,47 @@
-use Rattle.std.proofs.Common.{◌≡◌, ◌++◌, length, ℕ, ◌+◌, ◌-◌, ◌≤◌, List, sym, ap, ◌∙◌, append_assoc, arith}
+use Rattle.std.proofs.Common.{◌≡◌, suc, ◌++◌, ◌+◌, ◌-◌, List, ℕ, Option, Some, None, refl, length, sym, ap, ◌∙◌, append_assoc, append-nil, arith}
+use Rattle.hep_source.specs.Units.{Units}
 use Rattle.hep_image.specs.Names.{names_in_order}
-use Rattle.hep_scheduler.specs.Value.{listed_after, state_of}
+use Rattle.hep_waiting.specs.declared.listed.Listed.{Listed}
+use Rattle.hep_scheduler.specs.Value.{state_of}
 use Rattle.hep_dump.specs.Waiting as words
-use Rattle.hep_dump.proofs.Counting.{first_line}
+use Rattle.hep_dump.proofs.Counting.{first-of, no-lines}
 use Rattle.hep_dump.proofs.waiting.append_all_waiting.Goals as goal
 
--- src/waiting.rt:142:5
-pub loop-process-preserved : goal.loop-process-preserved
-loop-process-preserved c =
-    let program = c.args.core.now.program in
-    let history = c.args.core.now.history in
-    let p = c.loop-process.process in
-    let e = length (state_of c.args.core.now).processes in
-    let old = c.loop-process.text.items in
-    let line = words.process_text (names_in_order program) (listed_after program history p) in
-    let rest = words.waiting_text program history (p + 1) (e + 1 - (p + 1)) in
-    let ahead : p ≤ e = omega (arith, c.loop-process-test.true, c.processes-process-end.ensures) in
-    ap (λ (xs : List ℕ). xs ++ rest) c.in_ok-append_process.ensures
+nobody : (o : Option Listed) → ((l : Listed) → o ≡ Some l → ⊥) → o ≡ None
+nobody None not = refl
+nobody (Some l) not = absurd (not l refl)
+
+pub loop-listed-smaller : goal.loop-listed-smaller
+loop-listed-smaller c =
+    let core = c.args.core.now in
+    let n = length (state_of core).processes in
+    let last = c.loop-listed.last in
+    let first = first-of core.program core.history (suc last) (n - last) c.in-Some.listed (sym c.in-Some.ensures) in
+    omega (arith, first.least, first.most)
+
+pub loop-listed-preserved : goal.loop-listed-preserved
+loop-listed-preserved c =
+    let core = c.args.core.now in
+    let n = length (state_of core).processes in
+    let last = c.loop-listed.last in
+    let listed = c.in-Some.listed in
+    let old = c.loop-listed.text.items in
+    let line : List ℕ = words.listed_text (names_in_order core.program) listed in
+    let rest = words.waiting_text core.program core.history (suc listed.process) (n - listed.process) in
+    let first = first-of core.program core.history (suc last) (n - last) listed (sym c.in-Some.ensures) in
+    let left : suc last + (n - last) - suc listed.process ≡ n - listed.process = omega (arith, first.least, first.most) in
+    let appended = c.in_ok-append_waiting.ensures ∙ ap (λ (program : Units). old ++ words.listed_text (names_in_order program) listed) c.image.ensures in
+    ap (λ (xs : List ℕ). xs ++ rest) appended
     ∙ append_assoc old line rest
-    ∙ ap (λ (ys : List ℕ). old ++ ys) (first_line program history p e ahead)
-    ∙ c.loop-process.invariant
+    ∙ ap (λ (ys : List ℕ). old ++ ys) (sym (first.lines ∙ ap (λ m. line ++ words.waiting_text core.program core.history (suc listed.process) m) left))
+    ∙ c.loop-listed.invariant
+
+pub returns : goal.returns
+returns c =
+    let core = c.args.core.now in
+    let n = length (state_of core).processes in
+    let last = c.loop-listed.last in
+    let none = no-lines core.program core.history (suc last) (n - last) (sym c.waiting_after.ensures ∙ nobody c.waiting_after.result c.in_default.not-Some) in
+    sym (append-nil c.loop-listed.text.items)
+    ∙ ap (λ (ys : List ℕ). c.loop-listed.text.items ++ ys) (sym none)
+    ∙ c.loop-listed.invariant

@@ -16,4 +16,4 @@ returns-in-Ok g c =
     source_left IsListOutcome list_goes _ _ c.in-Ok.bytes.items run o o' m m' c.in-Ok.ensures.first c.in-Ok.ensures.all left
 
 pub returns-in-Err : goal.returns-in-Err
-returns-in-Err g c = inl (Keeps-refl _, refl, c.say_unread.ensures)
+returns-in-Err g c = inl (Keeps-refl _, refl, (_, c.say_unread.ensures))

@@ -15,4 +15,4 @@ returns-in-Ok g c =
     source_left (IsReplayOutcome c.args.history.now c.args.cells) (replay_goes c.args.history.now c.args.cells) _ _ c.in-Ok.bytes.items c.replay_bytes.result o o' m m' c.in-Ok.ensures.first c.in-Ok.ensures.all left
 
 pub returns-in-Err : goal.returns-in-Err
-returns-in-Err g c = inl (Keeps-refl _, c.from.ensures ∙ c.new.ensures.items, c.say_unread.ensures)
+returns-in-Err g c = inl (Keeps-refl _, c.from.ensures ∙ c.new.ensures.items, (_, c.say_unread.ensures))

@@ -15,4 +15,4 @@ returns-in-Ok g c =
     source_left (IsOutcome c.args.options.now) (run_goes c.args.options.now) _ _ c.in-Ok.bytes.items c.run_bytes.result o o' m m' c.in-Ok.ensures.first c.in-Ok.ensures.all left
 
 pub returns-in-Err : goal.returns-in-Err
-returns-in-Err g c = inl (Keeps-refl _, c.from.ensures ∙ c.new.ensures.items, c.say_unread.ensures)
+returns-in-Err g c = inl (Keeps-refl _, c.from.ensures ∙ c.new.ensures.items, (_, c.say_unread.ensures))
