@@ -23,7 +23,7 @@ eq-swap p q = elim (cases_eq p q) [
   | inr ne ↦ not_eq p q ne ∙ sym (not_eq q p (λ e. ne (sym e)))
 ]
 
-among-without : (q p : ℕ) (xs : List ℕ) → is_number_among q (without p xs) ≡ (not (nat_eq p q) && is_number_among q xs)
+pub among-without : (q p : ℕ) (xs : List ℕ) → is_number_among q (without p xs) ≡ (not (nat_eq p q) && is_number_among q xs)
 among-without q p xs =
     any-filter_same (nat_eq q) (λ k. not (nat_eq p k)) (not (nat_eq p q)) (λ k e. ap (λ (n : ℕ). not (nat_eq p n)) (sym (eq_is q k e))) xs
 

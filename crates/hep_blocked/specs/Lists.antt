@@ -25,6 +25,10 @@ with_process want p lists w = if want_eq want w then lists w ++ p ∷ [] else li
 abbrev pub without_list : Want → (Want → List ℕ) → Want → List ℕ
 without_list want lists w = if want_eq want w then [] else lists w
 
+-- the lists, with a process less in the one under a want
+abbrev pub without_process : Want → ℕ → (Want → List ℕ) → Want → List ℕ
+without_process want p lists w = if want_eq want w then without p (lists w) else lists w
+
 -- no number is there twice
 abbrev pub AreApart : List ℕ → Type 0
 AreApart [] = Unit {0}

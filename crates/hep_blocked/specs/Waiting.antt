@@ -26,6 +26,11 @@ waits_for want waiting p = wants want (waiting_at waiting p)
 abbrev pub with_want : ℕ → Want → List (Option Want) → List (Option Want)
 with_want p want waiting = slice_set (waiting ++ replicate (p - length waiting) None) (p - 1) (Some want)
 
+-- process p waits for nothing
+abbrev pub without_want : ℕ → List (Option Want) → List (Option Want)
+without_want zero waiting = waiting
+without_want (suc k) waiting = slice_set waiting k None
+
 -- what is still waited for, once there is what was wanted
 abbrev pub awake : Want → Option Want → Option Want
 awake want waiting = if wants want waiting then None else waiting

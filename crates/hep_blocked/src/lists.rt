@@ -3,7 +3,7 @@ ghost use Rattle.std.specs.Prelude.{◌≡◌, ℕ, ◌≤◌, ◌-◌, ◌++◌
 ghost use Rattle.indexmap.specs.IndexMap.{IsUnique, get};
 ghost use Rattle.hep_machine.specs.Processes.{is_number_among};
 ghost use Rattle.hep_blocked.specs.declared.want.Want.{Want as PureWant};
-ghost use Rattle.hep_blocked.specs.Lists.{cleared, items_of, list_of, with_process, without_list, without_numbers};
+ghost use Rattle.hep_blocked.specs.Lists.{cleared, items_of, list_of, with_process, without_list, without_numbers, without_process};
 ghost use Rattle.hep_blocked.specs.Waiting.{want_eq, with_numbers};
 
 use crate::want::Want;
@@ -59,6 +59,17 @@ pub(crate) fn take(lists: &mut Lists, want: Want) -> Option<Vec<u64>>
     ensures unique { IsUnique want_eq lists.new }
 {
     lists.swap_remove(&want)
+}
+
+/// Takes a process out of the list under a want.
+pub(crate) fn take_out(lists: &mut Lists, want: Want, p: u64)
+    requires unique { IsUnique want_eq lists.old }
+    ensures unique { IsUnique want_eq lists.new }
+    ensures left { (w : PureWant) → list_of lists.new w ≡ without_process want p (list_of lists.old) w }
+{
+    if let Some(list) = lists.get_mut(&want) {
+        list.retain(|q| *q != p);
+    }
 }
 
 /// Makes room for so many processes; those that are added wait for nothing. Fails where memory

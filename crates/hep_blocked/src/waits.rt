@@ -1,9 +1,10 @@
 //! The processes that wait.
 ghost use Rattle.std.specs.Prelude.{◌≡◌, ◌≢◌, ℕ, ◌<◌, ◌≤◌, ◌||◌, [], None, Some, IfNone, IfSome, OnErr, OnOk, false, if◌then◌else◌, is_none, length, max, map, nat_eq, true};
 ghost use Rattle.hep_machine.specs.Processes.{is_number_among};
-ghost use Rattle.hep_blocked.specs.Waiting.{awake, next_waiting, numbers_waiting, waiting_at, waits_for, with_numbers, with_want};
+ghost use Rattle.hep_blocked.specs.Waiting.{awake, next_waiting, numbers_waiting, waiting_at, waits_for};
+ghost use Rattle.hep_blocked.specs.Waiting.{with_numbers, with_want, without_want};
 
-use crate::lists::{Lists, add, grow, take, wake_each};
+use crate::lists::{Lists, add, grow, take, take_out, wake_each};
 use crate::want::Want;
 use hep_ready::Ready;
 use indexmap::IndexMap;
@@ -109,6 +110,23 @@ impl Waits {
         if let Some(processes) = take(&mut self.lists, want) {
             wake_each(&processes, &mut self.wanted, &mut self.numbers, ready);
         }
+    }
+
+    /// A process waits for nothing any more; the others wait as before.
+    ///
+    /// This takes no memory. It costs the length of the list on which the process stands, and the logarithm of the greatest number that has
+    /// waited.
+    pub fn remove(&mut self, p: u64)
+        ensures removed { self.new ≡ without_want p self.old }
+        ensures waiting { (q : ℕ) → waiting_at self.new q ≡ (if nat_eq p q then None else waiting_at self.old q) }
+        ensures size { length self.new ≡ length self.old }
+    {
+        let Some(want) = self.waiting(p) else {
+            return;
+        };
+        take_out(&mut self.lists, want, p);
+        self.wanted[p as usize - 1] = None;
+        self.numbers.remove(p);
     }
 
     /// What a process waits for.

@@ -6,7 +6,7 @@ ghost use Rattle.hep_machine.specs.Shapes.{counted_element, elements};
 ghost use Rattle.hep_image.specs.Finding as finding;
 ghost use Rattle.hep_image.specs.Finding.{address_of, base_at, bounds_at, cells_in};
 ghost use Rattle.hep_image.specs.Within.{AreExtentsIn, IsStartIn, LiesIn};
-ghost use Rattle.hep_reply.specs.Cells.{HasFrame};
+ghost use Rattle.hep_reply.specs.Cells.{HasFrame, IsReached};
 
 use crate::frame::{Frame, base, bounds, rest};
 use arrayvec::ArrayVec;
@@ -28,7 +28,9 @@ pub struct Numbered {
     pub is_open: bool,
 }
 
-/// The cell of a variable, or of its element with these subscripts, in a unit with these arrays.
+/// The address of the cell of a variable, or of its element with these subscripts, in a unit with these arrays.
+///
+/// Where there is one, that cell has to be out.
 ///
 /// # Errors
 ///
@@ -39,9 +41,10 @@ pub fn address(
     arrays: &[Array],
     variable: Variable,
     subscripts: &[Value],
-) -> Result<usize, Kind>
+) -> Result<u32, Kind>
     requires frame { HasFrame arena.now frame }
     requires inside { LiesIn frame.cells arrays.now variable }
+    requires reached { IsReached arena.now (address_of (cells_in arena.now.contents) frame.first arrays.now variable subscripts.now) }
     ensures { result ≡ address_of (cells_in arena.now.contents) frame.first arrays.now variable subscripts.now }
 {
     match variable {
@@ -57,27 +60,24 @@ pub fn address(
 }
 
 // That of a scalar, which has no subscripts.
-fn of_scalar(arena: &Arena, frame: Frame, start: Start, subscripts: &[Value]) -> Result<usize, Kind>
+fn of_scalar(arena: &Arena, frame: Frame, start: Start, subscripts: &[Value]) -> Result<u32, Kind>
     requires frame { HasFrame arena.now frame }
     requires inside { IsStartIn frame.cells start }
+    requires reached { IsReached arena.now (finding.address_of_scalar (cells_in arena.now.contents) frame.first (base_at (cells_in arena.now.contents) frame.first start) subscripts.now) }
     ensures { result ≡ finding.address_of_scalar (cells_in arena.now.contents) frame.first (base_at (cells_in arena.now.contents) frame.first start) subscripts.now }
 {
     match subscripts {
-        [] => Ok(base(arena, frame, start) as usize),
+        [] => Ok(base(arena, frame, start) as u32),
         _ => Err(Kind::Range),
     }
 }
 
 // That of an element. Where the last bound is open, no element is past those that the call tells of.
-fn of_element(
-    arena: &Arena,
-    frame: Frame,
-    array: &Array,
-    subscripts: &[Value],
-) -> Result<usize, Kind>
+fn of_element(arena: &Arena, frame: Frame, array: &Array, subscripts: &[Value]) -> Result<u32, Kind>
     requires frame { HasFrame arena.now frame }
     requires start { IsStartIn frame.cells array.now.start }
     requires extents { AreExtentsIn frame.cells array.now.extents }
+    requires reached { IsReached arena.now (finding.address_in_array (cells_in arena.now.contents) frame.first (Some array.now) subscripts.now) }
     ensures { result ≡ finding.address_in_array (cells_in arena.now.contents) frame.first (Some array.now) subscripts.now }
 {
     let numbered = number_in(arena, frame, &array.extents, subscripts);
@@ -88,7 +88,7 @@ fn of_element(
     if numbered.is_open && rest(arena, frame, array.start) < number {
         return Err(Kind::Range);
     }
-    Ok((base(arena, frame, array.start) + (number - 1)) as usize)
+    Ok((base(arena, frame, array.start) + (number - 1)) as u32)
 }
 
 /// The element that these subscripts name (X3.9-1978, 5.4), in an array with such bounds.

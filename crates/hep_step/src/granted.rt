@@ -64,6 +64,6 @@ pub(crate) fn granted(arena: &mut Arena, reply: Reply) -> Result<Value, Obstacle
     match reply {
         Reply::Result(Ok(value)) => Ok(value),
         Reply::Result(Err(kind)) => Err(Obstacle::Fault(kind)),
-        Reply::Accessed { at, outcome } => accessed(arena, at as u32, outcome),
+        Reply::Accessed { at, outcome } => accessed(arena, at, outcome),
     }
 }

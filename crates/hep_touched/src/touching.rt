@@ -46,7 +46,7 @@ fn cell_of(
     ensures out { IfSome result (λ cell. IsOut cell arena.now.holes) }
 {
     match address(arena, frame, arrays, variable, subscripts) {
-        Ok(cell) => Some(cell as u32),
+        Ok(cell) => Some(cell),
         Err(_) => None,
     }
 }
