@@ -8,7 +8,7 @@ use Rattle.hep_arena.specs.declared.holes.Between.{Between}
 use Rattle.hep_arena.specs.declared.holes.Link.{Link}
 use Rattle.hep_arena.specs.Chain.{IsChain, Leads, link_at, link_of_slot}
 use Rattle.hep_arena.specs.Holes.{Hole, AreHoles, IsOut, joined, given}
-use Rattle.hep_arena.specs.Search.{AreAbove, AreBelow, IsAfter, IsBetween, last_place}
+use Rattle.hep_arena.specs.Search.{AreAbove, BeginBelow, IsAfter, IsBetween, last_place}
 use Rattle.hep_arena.proofs.Chains.{last-fits, last-inside, last-not_out, leads-append, leads-kept}
 use Rattle.hep_arena.proofs.Lists.{if_some}
 
@@ -45,7 +45,7 @@ free-out at n [] t k low high = tt
 free-out at n (h ∷ hs) t k low high = (elim t.0 [ inl u ↦ inl (omega (arith, u)) | inr u ↦ inr (omega (arith, u)) ], free-out at n hs t.1 k low high)
 
 -- the holes in front of the cells, and those after them
-front-apart : (low high at n : ℕ) (front back : List Hole) → AreHoles low high (front ++ back) → AreBelow at front → IsFree (at, n) (front ++ back) → 0 < n → AreHoles low at front
+front-apart : (low high at n : ℕ) (front back : List Hole) → AreHoles low high (front ++ back) → BeginBelow at front → IsFree (at, n) (front ++ back) → 0 < n → AreHoles low at front
 front-apart low high at n [] back t below free some = tt
 front-apart low high at n (h ∷ front) back t below free some =
     (t.0, t.1, elim free.0 [ inl u ↦ omega (arith, below.0, u) | inr u ↦ u ], front-apart (h.0 + h.1 + 1) high at n front back t.3 below.1 free.1 some)

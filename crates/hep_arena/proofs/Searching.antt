@@ -6,7 +6,7 @@ use Rattle.hep_machine.specs.declared.slot.Slot.{Slot}
 use Rattle.hep_arena.specs.declared.holes.Found.{Found}
 use Rattle.hep_arena.specs.Chain.{IsChain, Leads, link_at}
 use Rattle.hep_arena.specs.Holes.{Hole, AreHoles, first_fit}
-use Rattle.hep_arena.specs.Search.{AreAbove, AreBelow, AreShort, IsBetween, IsFound, last_place}
+use Rattle.hep_arena.specs.Search.{AreAbove, BeginBelow, AreShort, IsBetween, IsFound, last_place}
 use Rattle.hep_arena.proofs.Chains.{last-snoc, leads-snoc}
 
 -- ---- a walk along the chain
@@ -121,13 +121,13 @@ module _ (s : List Slot) (head n : ℕ) (hs : List Hole) (at : ℕ) (before : Op
 -- the holes that were passed begin below it
 pub record IsApproach (s : List Slot) (head at : ℕ) (hs : List Hole) (next : ℕ) (before : Option ℕ) : Type 0 where
   pub walk : IsWalk s head hs next before
-  pub below : AreBelow at walk.front
+  pub below : BeginBelow at walk.front
 
 pub approach-begins : (s : List Slot) (head at : ℕ) (hs : List Hole) → IsChain s head hs → IsApproach s head at hs head None
 unfolding walk-begins
 approach-begins s head at hs chain = record { walk = walk-begins s head hs chain; below = tt }
 
-below-snoc : (at : ℕ) (front : List Hole) (h : Hole) → AreBelow at front → h.0 < at → AreBelow at (front ++ h ∷ [])
+below-snoc : (at : ℕ) (front : List Hole) (h : Hole) → BeginBelow at front → h.0 < at → BeginBelow at (front ++ h ∷ [])
 below-snoc at [] h t less = (less, tt)
 below-snoc at (k ∷ front) h t less = (t.0, below-snoc at front h t.1 less)
 

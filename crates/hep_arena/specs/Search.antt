@@ -19,9 +19,9 @@ AreShort n [] = Unit {0}
 AreShort n (h ∷ hs) = (h.1 < n) × AreShort n hs
 
 -- all begin below an index
-abbrev pub AreBelow : ℕ → List Hole → Type 0
-AreBelow at [] = Unit {0}
-AreBelow at (h ∷ hs) = (h.0 < at) × AreBelow at hs
+abbrev pub BeginBelow : ℕ → List Hole → Type 0
+BeginBelow at [] = Unit {0}
+BeginBelow at (h ∷ hs) = (h.0 < at) × BeginBelow at hs
 
 -- none begins below an index
 abbrev pub AreAbove : ℕ → List Hole → Type 0
@@ -44,7 +44,7 @@ pub record IsBetween (slots : List Slot) (head at : ℕ) (hs : List Hole) (found
   pub front : List Hole
   pub back : List Hole
   pub all : hs ≡ front ++ back
-  pub below : AreBelow at front
+  pub below : BeginBelow at front
   pub above : AreAbove at back
   pub before : Leads slots head front found.next
   pub rest_after : Leads slots found.next back (length slots)

@@ -1,3 +1,4 @@
+pub mod Indexes
 pub mod Entries
 pub mod Tables
 pub mod Singles

@@ -1,13 +1,21 @@
 -- Where common blocks begin: X3.9-1978, 8.3.3, and docs/MACHINE.md, "Layout".
-use Rattle.std.specs.Prelude.{◌≡◌, ℕ, true, nat_le, if◌then◌else◌, unwrap_or}
+use Rattle.std.specs.Prelude.{◌≡◌, ℕ, ◌<◌, ◌^◌, true, nat_le, if◌then◌else◌, unwrap_or}
 use Rattle.std.specs.Option.{option_eq}
 use Rattle.indexmap.specs.IndexMap.{get}
 use Rattle.hep_source.specs.Names.{name_eq}
 use Rattle.hep_source.specs.Units.{Units}
 use Rattle.hep_machine.specs.Declarations.{BlockName, blocks_of, is_block_among}
-use Rattle.hep_machine.specs.Layout.{common_cells}
+use Rattle.hep_machine.specs.Layout.{block_cells, common_cells}
 use Rattle.hep_frames.specs.Rows.{first_of_block}
+use Rattle.hep_common.specs.Lengths.{greatest_length}
+use Rattle.hep_common.specs.declared.common.CommonBlocks.{CommonBlocks}
 use Rattle.hep_common.specs.declared.starts.CommonStarts.{CommonStarts}
+
+-- the blocks of a program, in order of first appearance, each at its greatest length (8.3.3)
+pub record AreBlocks (program : Units) (c : CommonBlocks) : Type 0 where
+  pub blocks_are : c.blocks.keys ≡ blocks_of program
+  pub lengths_are : (b : BlockName) → greatest_length (get (option_eq name_eq) c.lengths b) ≡ block_cells program b
+  pub bounded : common_cells program < 2 ^ 96
 
 -- a number in 32 bits: the greatest of them where it has more
 abbrev pub narrowed : ℕ → ℕ

@@ -1,8 +1,8 @@
 //! The common blocks of a program and their greatest lengths (X3.9-1978, 8.3.3).
 ghost use Rattle.std.specs.Prelude.{◌≡◌, ◌+◌, ◌<◌, ◌≤◌, ◌^◌, ◌++◌, [], ℕ, Some, None, max, map, if◌then◌else◌, IfOk, OnOk};
-ghost use Rattle.std.specs.Option.{option_eq};
+ghost use Rattle.std.specs.Option.{option_eq, unwrap_or};
 ghost use Rattle.indexmap.specs.IndexMap.{get};
-ghost use Rattle.hep_source.specs.Names.{name_eq};
+ghost use Rattle.hep_source.specs.Names.{index_where, name_eq};
 ghost use Rattle.hep_machine.specs.Constants.{value_among, constant_value, cells_of_all};
 ghost use Rattle.hep_machine.specs.Declarations as declarations;
 ghost use Rattle.hep_machine.specs.Declarations.{BlockName, same_block};
@@ -267,6 +267,13 @@ impl CommonBlocks {
         ensures { result.now ≡ self.now.blocks.keys }
     {
         self.blocks.as_slice()
+    }
+
+    /// The index of a block among them; 0 for one that the program doesn't have.
+    pub fn index(&self, block: Option<Name>) -> usize
+        ensures { result ≡ unwrap_or (index_where (same_block block) self.now.blocks.keys) 0 }
+    {
+        self.blocks.get_index_of(&block).unwrap_or(0)
     }
 
     /// The cells of a block, at its greatest length.

@@ -3,10 +3,10 @@ ghost use Rattle.std.specs.Prelude.{◌≡◌, ◌+◌, ◌<◌, ◌^◌, if◌t
 ghost use Rattle.hep_source.specs.Units.{Units};
 ghost use Rattle.hep_machine.specs.Declarations.{BlockName, same_block};
 ghost use Rattle.hep_machine.specs.Layout.{common_cells};
-ghost use Rattle.hep_common.specs.Starts.{AreStarts, narrowed, start_in};
+ghost use Rattle.hep_common.specs.Starts.{AreBlocks, AreStarts, narrowed, start_in};
 
 use crate::common::CommonBlocks;
-use hep_source::{Name, Unit};
+use hep_source::Name;
 use indexmap::IndexMap;
 use std::alloc::{AllocError, Global};
 
@@ -53,15 +53,15 @@ impl CommonStarts {
         Ok(())
     }
 
-    /// The starts of the common blocks of a program.
+    /// The starts of the common blocks of a program, which are these.
     ///
     /// # Errors
     ///
     /// Only where memory was refused.
-    pub fn of_program(alloc: Global, program: &[Unit]) -> Result<CommonStarts, AllocError>
-        ensures { IfOk result (AreStarts program.now) }
+    pub fn of_blocks(alloc: Global, common: &CommonBlocks) -> Result<CommonStarts, AllocError>
+        requires { (program : Units) × AreBlocks program common.now }
+        ensures { IfOk result (λ starts. (program : Units) → AreBlocks program common.now → AreStarts program starts) }
     {
-        let common = CommonBlocks::of_program(alloc, program)?;
         let mut starts = CommonStarts::new(alloc);
         for block in common.blocks() {
             starts.add(*block, common.cells(*block))?;

@@ -1,4 +1,4 @@
--- The names of units in lines: docs/MACHINE.md, "Names and units".
+-- The names of units, variables and blocks in lines: docs/MACHINE.md, "Names and units".
 use Rattle.std.specs.Prelude.{ℕ, List, Option, Some, None}
 use Rattle.hep_source.specs.Units.{main_name}
 

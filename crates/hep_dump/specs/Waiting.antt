@@ -2,51 +2,50 @@
 use Rattle.std.specs.Prelude.{ℕ, zero, suc, Bool, true, false, List, [], ◌++◌, codes, Option, Some, None, slice_get}
 use Rattle.std.specs.Fmt.{decimal}
 use Rattle.hep_machine.specs.declared.event.Entry.{Entry}
-use Rattle.hep_source.specs.declared.name.Name.{Name}
-use Rattle.hep_source.specs.Names.{spelling}
 use Rattle.hep_source.specs.Units.{Units}
-use Rattle.hep_image.specs.Names.{block_spelling, names_in_order}
-use Rattle.hep_machine.specs.Declarations.{BlockName}
+use Rattle.hep_image.specs.Names.{names_in_order}
 use Rattle.hep_waiting.specs.declared.listed.Listed.{Listed}
-use Rattle.hep_waiting.specs.declared.place.Place.{Place}
-use Rattle.hep_waiting.specs.declared.place.Place.TheVariants.{Common, Variable}
 use Rattle.hep_scheduler.specs.Value.{listed_after}
 use Rattle.hep_dump.specs.Names.{name_found}
 
 -- ---- places
 
--- a position of a common block
-abbrev pub position_text : BlockName → ℕ → List ℕ
-position_text block k = codes "/" ++ block_spelling block ++ codes "/#" ++ decimal k
+-- a position of a common block of this name
+abbrev pub position_text : List ℕ → ℕ → List ℕ
+position_text block k = codes "/" ++ block ++ codes "/#" ++ decimal k
 
 -- an element by its number, and nothing for a variable that is no array
 abbrev pub element_text : ℕ → List ℕ
 element_text zero = []
 element_text (suc k) = codes "#" ++ decimal (suc k)
 
--- a variable, or an element of it, of an activation
-abbrev pub variable_text : Name → ℕ → ℕ → List ℕ
-variable_text name element owner = spelling name ++ element_text element ++ codes " OF " ++ decimal owner
+-- a variable of this name, or an element of it, of an activation
+abbrev pub variable_text : List ℕ → ℕ → ℕ → List ℕ
+variable_text name element owner = name ++ element_text element ++ codes " OF " ++ decimal owner
 
-abbrev pub place_text : Place → List ℕ
-place_text (Variable name element owner) = variable_text name element owner
-place_text (Common block position) = position_text block position
+-- COMMON has no activation as its owner
+abbrev pub owned_text : List ℕ → ℕ → ℕ → List ℕ
+owned_text name element zero = position_text name element
+owned_text name element (suc a) = variable_text name element (suc a)
+
+abbrev pub place_text : List (List ℕ) → Listed → List ℕ
+place_text names l = owned_text (name_found (slice_get names l.name)) l.element l.owner
 
 abbrev pub state_text : Bool → List ℕ
 state_text true = codes "FULL"
 state_text false = codes "EMPTY"
 
 -- what the process waits for
-abbrev pub wish_text : Listed → List ℕ
-wish_text l = codes " FOR " ++ state_text l.full ++ codes " " ++ place_text l.place ++ codes "\n"
+abbrev pub wish_text : List (List ℕ) → Listed → List ℕ
+wish_text names l = codes " FOR " ++ state_text l.full ++ codes " " ++ place_text names l ++ codes "\n"
 
 -- ---- lines
 
--- of a process that waits, where units have these names by number
+-- of a process that waits, where units, variables and blocks have these names by number
 abbrev pub listed_text : List (List ℕ) → Listed → List ℕ
 listed_text names l =
     codes "WAITING " ++ decimal l.process ++ codes " " ++ name_found (slice_get names l.unit) ++ codes " LINE " ++ decimal l.line
-    ++ wish_text l
+    ++ wish_text names l
 
 -- of one that may wait
 abbrev pub process_text : List (List ℕ) → Option Listed → List ℕ

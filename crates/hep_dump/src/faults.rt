@@ -54,8 +54,8 @@ pub fn append_fault(text: &mut Vec<u8>, unit: &[u8], fault: &Fault) -> Result<()
     Ok(())
 }
 
-// The name of a unit, by its number.
-pub(crate) fn unit_name(image: &Image, number: u32) -> &[u8]
+// The name with this number.
+pub(crate) fn name_of(image: &Image, number: u32) -> &[u8]
     ensures { result.now ≡ name_found (slice_get (names_in_order image.now) number) }
 {
     match image.name(number) {
@@ -74,7 +74,7 @@ pub fn append_faults(text: &mut Vec<u8>, image: &Image, faults: &[Fault]) -> Res
         ≡ text.old.items ++ words.faults_text (names_in_order image.now) faults.now) }
 {
     for fault in faults {
-        append_fault(text, unit_name(image, fault.unit), fault)?;
+        append_fault(text, name_of(image, fault.unit), fault)?;
     }
     Ok(())
 }

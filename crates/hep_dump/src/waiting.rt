@@ -1,63 +1,36 @@
 //! The lines of processes that wait.
 ghost use Rattle.std.specs.Prelude.{◌≡◌, ◌++◌, OnOk, length};
-ghost use Rattle.hep_source.specs.Names.{spelling};
-ghost use Rattle.hep_image.specs.Names.{block_spelling, names_in_order};
+ghost use Rattle.hep_image.specs.Names.{names_in_order};
 ghost use Rattle.hep_scheduler.specs.Value.{state_of};
 ghost use Rattle.hep_dump.specs.Waiting as words;
 
-use crate::faults::unit_name;
+use crate::faults::name_of;
 use crate::number::append_number;
 use hep_image::Image;
-use hep_scheduler::{Core, Listed, Place};
-use hep_source::Name;
+use hep_scheduler::{Core, Listed};
 use std::alloc::AllocError;
 
-// A name as it is written.
-fn append_name(text: &mut Vec<u8>, name: Name) -> Result<(), AllocError>
-    ensures { OnOk result (text.new.items ≡ text.old.items ++ spelling name) }
-{
-    if name.asynchronous {
-        text.push(b'$')?;
-    }
-    for letter in &name.letters {
-        if *letter != b' ' {
-            text.push(*letter)?;
-        }
-    }
-    Ok(())
-}
-
-// The name of a block; blank COMMON has none.
-fn append_block(text: &mut Vec<u8>, block: Option<Name>) -> Result<(), AllocError>
-    ensures { OnOk result (text.new.items ≡ text.old.items ++ block_spelling block) }
-{
-    match block {
-        Some(name) => append_name(text, name),
-        None => Ok(()),
-    }
-}
-
-// A position in COMMON: `/block/#k`.
-fn append_position(text: &mut Vec<u8>, block: Option<Name>, position: u32) -> Result<(), AllocError>
-    ensures { OnOk result (text.new.items ≡ text.old.items ++ words.position_text block position) }
+// A position of a common block of this name: `/block/#k`.
+fn append_position(text: &mut Vec<u8>, block: &[u8], position: u32) -> Result<(), AllocError>
+    ensures { OnOk result (text.new.items ≡ text.old.items ++ words.position_text block.now position) }
 {
     text.extend_from_slice(b"/")?;
-    append_block(text, block)?;
+    text.extend_from_slice(block)?;
     text.extend_from_slice(b"/#")?;
     append_number(text, position)?;
     Ok(())
 }
 
-// A variable or an element of an activation: `name OF a` or `name#k OF a`.
+// A variable of this name, or an element of it, of an activation: `name OF a` or `name#k OF a`.
 fn append_variable(
     text: &mut Vec<u8>,
-    name: Name,
+    name: &[u8],
     element: u32,
     owner: u64,
 ) -> Result<(), AllocError>
-    ensures { OnOk result (text.new.items ≡ text.old.items ++ words.variable_text name element owner) }
+    ensures { OnOk result (text.new.items ≡ text.old.items ++ words.variable_text name.now element owner) }
 {
-    append_name(text, name)?;
+    text.extend_from_slice(name)?;
     if element != 0 {
         text.extend_from_slice(b"#")?;
         append_number(text, element)?;
@@ -68,16 +41,14 @@ fn append_variable(
 }
 
 // What a process waits for.
-fn append_place(text: &mut Vec<u8>, place: Place) -> Result<(), AllocError>
-    ensures { OnOk result (text.new.items ≡ text.old.items ++ words.place_text place) }
+fn append_place(text: &mut Vec<u8>, image: &Image, listed: &Listed) -> Result<(), AllocError>
+    ensures { OnOk result (text.new.items ≡ text.old.items ++ words.place_text (names_in_order image.now) listed.now) }
 {
-    match place {
-        Place::Variable {
-            name,
-            element,
-            owner,
-        } => append_variable(text, name, element, owner),
-        Place::Common { block, position } => append_position(text, block, position),
+    let name = name_of(image, listed.name);
+    if listed.owner == 0 {
+        append_position(text, name, listed.element)
+    } else {
+        append_variable(text, name, listed.element, listed.owner)
     }
 }
 
@@ -88,13 +59,13 @@ fn state_text(full: bool) -> &'static [u8]
 }
 
 // What a process waits for: ` FOR FULL place`, or ` FOR EMPTY`.
-fn append_wish(text: &mut Vec<u8>, listed: &Listed) -> Result<(), AllocError>
-    ensures { OnOk result (text.new.items ≡ text.old.items ++ words.wish_text listed.now) }
+fn append_wish(text: &mut Vec<u8>, image: &Image, listed: &Listed) -> Result<(), AllocError>
+    ensures { OnOk result (text.new.items ≡ text.old.items ++ words.wish_text (names_in_order image.now) listed.now) }
 {
     text.extend_from_slice(b" FOR ")?;
     text.extend_from_slice(state_text(listed.full))?;
     text.extend_from_slice(b" ")?;
-    append_place(text, listed.place)?;
+    append_place(text, image, listed)?;
     text.extend_from_slice(b"\n")?;
     Ok(())
 }
@@ -112,10 +83,10 @@ pub fn append_waiting(text: &mut Vec<u8>, image: &Image, listed: &Listed) -> Res
     text.extend_from_slice(b"WAITING ")?;
     append_number(text, listed.process)?;
     text.extend_from_slice(b" ")?;
-    text.extend_from_slice(unit_name(image, listed.unit))?;
+    text.extend_from_slice(name_of(image, listed.unit))?;
     text.extend_from_slice(b" LINE ")?;
     append_number(text, listed.line)?;
-    append_wish(text, listed)?;
+    append_wish(text, image, listed)?;
     Ok(())
 }
 

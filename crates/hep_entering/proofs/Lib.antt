@@ -16,4 +16,3 @@ mod Shaped
 pub mod AllShaped
 mod Blocks
 pub mod Nodes
-mod Levels

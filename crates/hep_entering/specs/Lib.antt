@@ -2,4 +2,3 @@ pub mod Giving
 pub mod Writing
 pub mod Calling
 pub mod Shapes
-pub mod Levels

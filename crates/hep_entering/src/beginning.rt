@@ -11,7 +11,7 @@ ghost use Rattle.hep_machine.specs.Step.{scope_of};
 ghost use Rattle.hep_arena.specs.Holes.{first_fit};
 ghost use Rattle.hep_frames.specs.Descriptors.{wanted_of};
 ghost use Rattle.hep_frames.specs.Tree.{Node as TreeNode, is_stacked, new_node, with_node};
-ghost use Rattle.hep_proc.specs.Keeping.{AreKept, Keeps};
+ghost use Rattle.hep_proc.specs.Keeping.{AreOfSomeState, Keeps};
 ghost use Rattle.hep_proc.specs.Nodes.{CanCount, nodes_of};
 ghost use Rattle.hep_entering.specs.Calling.{ArePassed, IsPassing, IsWritten, state_begun, unit_begun};
 ghost use Rattle.hep_entering.specs.Shapes.{cells_to_locals};
@@ -37,7 +37,7 @@ pub fn begin(
     requires many { 1 + 2 * length given.now ≤ cells }
     requires gap { IsSome (first_fit cells frames.old.arena.holes) }
     requires there { ContainsKey frames.old.nodes parent }
-    requires kept { AreKept frames.old.arena (nodes_of frames.old.nodes) }
+    requires kept { AreOfSomeState frames.old.arena (nodes_of frames.old.nodes) }
     requires children { CanCount (nodes_of frames.old.nodes) parent }
     ensures vacant { nodes_of frames.old.nodes result ≡ None }
     ensures nodes { (first : ℕ) → first_fit cells frames.old.arena.holes ≡ Some first → nodes_of frames.new.nodes ≡ with_node (nodes_of frames.old.nodes) result (new_node activation unit first cells parent) parent }

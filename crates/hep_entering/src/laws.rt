@@ -15,7 +15,7 @@ ghost use Rattle.hep_machine.specs.Processes.{activation_of, living, unit_of};
 ghost use Rattle.hep_machine.specs.Run.{run};
 ghost use Rattle.hep_machine.specs.Shapes.{Bounds};
 ghost use Rattle.hep_machine.specs.State.{Activation, Dummy, Level, Process, State, Store, local};
-ghost use Rattle.hep_machine.specs.Step.{Top, entry_level, next_activation, scope_of, stack_after_return, step, unit_called, with_activation};
+ghost use Rattle.hep_machine.specs.Step.{scope_of, step, unit_called};
 ghost use Rattle.hep_machine.specs.Variables.{adjustable_dimensions_of_all, frame_cells};
 ghost use Rattle.hep_arena.specs.Gaps.{frame_among};
 ghost use Rattle.hep_arena.specs.Space.{Space};
@@ -26,7 +26,6 @@ ghost use Rattle.hep_proc.specs.Keeping.{IsBegun, Keeps, with_unset};
 ghost use Rattle.hep_passing.specs.declared.given.Given.{Given};
 ghost use Rattle.hep_entering.specs.Calling.{AreAllKept, ArePassed, IsAllWritten, IsKeptIn, IsPassing, IsWritten, called_activation, layout_with, state_begun, state_called, state_created, unit_begun};
 ghost use Rattle.hep_entering.specs.Giving.{IsGiven, with_given, with_one_given};
-ghost use Rattle.hep_entering.specs.Levels.{AreBelow, AreLevels, Standing, after_call, entered};
 ghost use Rattle.hep_entering.specs.Shapes.{IsBoundPut, IsShaping, cells_to_bounds_of, cells_to_locals};
 ghost use Rattle.hep_entering.specs.Writing.{IsBinding, IsPut, wanted_up_to, with_stored};
 
@@ -75,13 +74,4 @@ pub fn frames_are_entered()
 pub fn references_are_kept()
     ensures called { (program : Units) (choices : List ℕ) (p : ℕ) (top : Level × Process) (u : ℕ) (actuals : List Actual) (b : Binding) (layout : Layout) (first cells : ℕ) (given : List Given) → IsPassing program choices p top u actuals b → ArePassed program (run program choices) layout (scope_of program (run program choices) top.0.activation) actuals given → IsLaid program (run program choices) cells layout → AreAllKept program (run program choices) layout → AreAllKept program (state_called program choices p top u b) (layout_with program (state_called program choices p top u b) layout first) }
     ensures created { (program : Units) (choices : List ℕ) (p : ℕ) (top : Level × Process) (u : ℕ) (actuals : List Actual) (b : Binding) (layout : Layout) (first cells : ℕ) (given : List Given) → IsPassing program choices p top u actuals b → ArePassed program (run program choices) layout (scope_of program (run program choices) top.0.activation) actuals given → IsLaid program (run program choices) cells layout → AreAllKept program (run program choices) layout → AreAllKept program (state_created program choices p top u b) (layout_with program (state_created program choices p top u b) layout first) }
-{}
-
-/// The levels of a process stay in the code as its top makes an activation, by CALL or CREATE, as other processes make one, and as
-/// its top ends. Each below the top is at a CALL of the unit above it.
-pub fn levels_await_the_unit_above()
-    ensures called { (program : Units) (top : Top) (u : ℕ) (b : Binding) (x : Name) (actuals : List Actual) (f : Standing) (fs : List Standing) → u ≡ unit_called program x → next_of (unit_at program f.unit) top.level.work ≡ does (calling x actuals) → AreLevels program top.state (f ∷ fs) (top.level ∷ top.below) → AreLevels program (with_activation top u b) (entered program (next_activation top.state) u ∷ (after_call program f top.level ∷ fs)) (entry_level (unit_at program u) (next_activation top.state) ∷ (top.level ∷ top.below)) }
-    ensures created { (program : Units) (top : Top) (u : ℕ) (b : Binding) → AreLevels program (with_activation top u b) (entered program (next_activation top.state) u ∷ []) (entry_level (unit_at program u) (next_activation top.state) ∷ []) }
-    ensures others { (program : Units) (s t : State) (x : Activation) (fs : List Standing) (levels : Process) → t.activations ≡ s.activations ++ x ∷ [] → AreLevels program s fs levels → AreLevels program t fs levels }
-    ensures returned { (program : Units) (s : State) (u : ℕ) (fs : List Standing) (levels : Process) → AreBelow program s u fs levels → AreLevels program s fs (stack_after_return program s levels) }
 {}

@@ -11,7 +11,7 @@ ghost use Rattle.hep_arena.specs.Gaps.{frame_among};
 ghost use Rattle.hep_arena.specs.Holes.{IsOut};
 ghost use Rattle.hep_frames.specs.Descriptors.{Wanted};
 ghost use Rattle.hep_frames.specs.Tree.{Node as TreeNode};
-ghost use Rattle.hep_proc.specs.Keeping.{AreKept, Keeps};
+ghost use Rattle.hep_proc.specs.Keeping.{AreOfSomeState, Keeps};
 ghost use Rattle.hep_proc.specs.Nodes.{nodes_of};
 ghost use Rattle.hep_entering.specs.Shapes.{AreShaping, IsBoundPut, IsFramedBy, IsShaping, cells_of_shape, cells_of_shapes, cells_to_bounds_of};
 ghost use Rattle.hep_entering.specs.Writing.{wanted_up_to};
@@ -125,7 +125,7 @@ fn shape_from(frames: &mut Frames, at: u32, shapes: &[Option<Shape>])
 pub fn shape_all(frames: &mut Frames, key: usize, shapes: &[Option<Shape>])
     requires few { length frames.old.arena.contents ≤ 16777216 }
     requires there { ContainsKey frames.old.nodes key }
-    requires kept { AreKept frames.old.arena (nodes_of frames.old.nodes) }
+    requires kept { AreOfSomeState frames.old.arena (nodes_of frames.old.nodes) }
     requires many { (n : TreeNode) → nodes_of frames.old.nodes key ≡ Some n → cells_of_shapes shapes.now ≤ n.cells }
     ensures shaped { (program : Units) (s : State) (on out : ℕ → Bool) (layout : Layout) (wanted : Wanted) (a : ℕ) (n : TreeNode) → Keeps program s on out layout (wanted_up_to program s layout a (cells_to_bounds_of (unit_at program (unit_of s a)) 0) wanted) frames.old.arena (nodes_of frames.old.nodes) → nodes_of frames.old.nodes key ≡ Some n → IsFramedBy program s layout a n → AreShaping program s a shapes.now → Keeps program s on out layout (wanted_up_to program s layout a (frame_cells (unit_at program (unit_of s a))) wanted) frames.new.arena (nodes_of frames.new.nodes) }
     ensures nodes { nodes_of frames.new.nodes ≡ nodes_of frames.old.nodes }

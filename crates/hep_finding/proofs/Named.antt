@@ -5,7 +5,7 @@ use Rattle.std.specs.List.{filter, flat_map, list_all, list_any}
 use Rattle.std.specs.Option.{option_map, option_map_or, unwrap_or}
 use Rattle.std.proofs.lemmas.Bool.{and_parts}
 use Rattle.std.proofs.lemmas.List.Folds.{list_any-append}
-use Rattle.std.proofs.lemmas.Option.{same_Some, none-some}
+use Rattle.std.proofs.lemmas.Option.{same_Some, none-some, slice_get-map}
 use Rattle.hep_source.specs.declared.declaration.CommonBlock.{CommonBlock}
 use Rattle.hep_source.specs.declared.declaration.Declarator.{Declarator}
 use Rattle.hep_source.specs.declared.declaration.Dimension.{Dimension}
@@ -17,7 +17,7 @@ use Rattle.hep_source.specs.declared.statement.Form.{Form}
 use Rattle.hep_source.specs.declared.statement.Form.TheVariants as form
 use Rattle.hep_source.specs.declared.statement.Statement.{Statement}
 use Rattle.hep_source.specs.declared.value.Value.{Value}
-use Rattle.hep_source.specs.Names.{same_name, is_among, index_among, with_name, with_names}
+use Rattle.hep_source.specs.Names.{same_name, is_among, index_among}
 use Rattle.hep_source.specs.Tree.{Tree}
 use Rattle.hep_source.specs.Units.{names_of_occurrences}
 use Rattle.hep_source.proofs.NameTests.{equal_names, same_name-turned}
@@ -27,6 +27,7 @@ use Rattle.hep_machine.specs.Declarations.{declarator_among, declarators_in, dec
 use Rattle.hep_machine.specs.Shapes.{Bounds, is_shape}
 use Rattle.hep_machine.specs.Variables.{names_of, occurrences_in_block, occurrences_in_declarator, occurrences_in_dimension, occurrences_in_form, occurrences_in_statement, occurrences_of, occurrences_in}
 use Rattle.hep_image.specs.Places.{arrays_of}
+use Rattle.hep_image.proofs.Members.{among-added, among-passing, indexed}
 
 -- ---- tests of lists
 
@@ -105,79 +106,16 @@ module _ (x : Name) where
         any-all names (occurrences_in_statement unit) unit
         ∙ any-more (λ (s : Statement). list_any declares (declarators_in s.form)) (λ s. list_any names (occurrences_in_statement unit s)) unit named-statement (sym (any-all declares (λ (s : Statement). declarators_in s.form) unit) ∙ dimensioned (declarators_of unit) h)
 
-  -- ---- lists of names
-
-  among-behind : (xs ys : List Name) → is_among x ys ≡ true → is_among x (xs ++ ys) ≡ true
-  among-behind [] ys h = h
-  among-behind (y ∷ xs) ys h = by_test (same_name x y) (among-behind xs ys h) where
-    by_test : (b : Bool) → is_among x (xs ++ ys) ≡ true → (if b then true else is_among x (xs ++ ys)) ≡ true
-    by_test true rest = refl
-    by_test false rest = rest
-
-  among-before : (xs ys : List Name) → is_among x xs ≡ true → is_among x (xs ++ ys) ≡ true
-  among-before [] ys h = absurd cc
-  among-before (y ∷ xs) ys h = by_test (among-before xs ys) (same_name x y) h where
-    by_test : (is_among x xs ≡ true → is_among x (xs ++ ys) ≡ true) → (b : Bool) → (if b then true else is_among x xs) ≡ true → (if b then true else is_among x (xs ++ ys)) ≡ true
-    by_test rest true h = refl
-    by_test rest false h = rest h
-
-  among-one : (xs : List Name) (y : Name) → is_among x xs ≡ true → is_among x (with_name xs y) ≡ true
-  among-one xs y h = by_test (is_among y xs) where
-    by_test : (b : Bool) → is_among x (if b then xs else xs ++ y ∷ []) ≡ true
-    by_test true = h
-    by_test false = among-before xs (y ∷ []) h
-
-  among-itself : (xs : List Name) (y : Name) → same_name x y ≡ true → is_among x (with_name xs y) ≡ true
-  among-itself xs y same = by_test (is_among y xs) refl where
-    here : is_among x (y ∷ []) ≡ true
-    here = rw same refl
-
-    by_test : (b : Bool) → is_among y xs ≡ b → is_among x (if b then xs else xs ++ y ∷ []) ≡ true
-    by_test true t = ap (λ z. is_among z xs) (equal_names x y same) ∙ t
-    by_test false t = among-behind xs (y ∷ []) here
-
-  among-kept : (xs ys : List Name) → is_among x xs ≡ true → is_among x (with_names xs ys) ≡ true
-  among-kept xs [] h = h
-  among-kept xs (y ∷ ys) h = among-kept (with_name xs y) ys (among-one xs y h)
-
-  among-added : (xs ys : List Name) → is_among x ys ≡ true → is_among x (with_names xs ys) ≡ true
-  among-added xs [] h = absurd cc
-  among-added xs (y ∷ ys) h = by_test (among-added (with_name xs y) ys) (same_name x y) refl h where
-    by_test : (is_among x ys ≡ true → is_among x (with_names (with_name xs y) ys) ≡ true) → (b : Bool) → same_name x y ≡ b → (if b then true else is_among x ys) ≡ true → is_among x (with_names (with_name xs y) ys) ≡ true
-    by_test rest true t h = among-kept (with_name xs y) ys (among-itself xs y t)
-    by_test rest false t h = rest h
-
-  among-passing : (test : Name → Bool) (xs : List Name) → test x ≡ true → is_among x xs ≡ true → is_among x (filter test xs) ≡ true
-  among-passing test [] t h = absurd cc
-  among-passing test (y ∷ ys) t h = by_name (among-passing test ys t) (same_name x y) refl h where
-    here : same_name x y ≡ true → is_among x (y ∷ filter test ys) ≡ true
-    here same = rw same refl
-
-    behind : (b : Bool) → is_among x (filter test ys) ≡ true → is_among x (if b then y ∷ filter test ys else filter test ys) ≡ true
-    behind true h = among-behind (y ∷ []) (filter test ys) h
-    behind false h = h
-
-    by_name : (is_among x ys ≡ true → is_among x (filter test ys) ≡ true) → (b : Bool) → same_name x y ≡ b → (if b then true else is_among x ys) ≡ true → is_among x (if test y then y ∷ filter test ys else filter test ys) ≡ true
-    by_name rest true same h =
-        let passes : test y ≡ true = ap test (sym (equal_names x y same)) ∙ t in
-        rw passes (here same)
-    by_name rest false same h = behind (test y) (rest h)
-
   pub array-listed : (unit : List Statement) → is_array unit x ≡ true → is_among x (arrays_of unit) ≡ true
   array-listed unit h =
-      among-passing (is_array unit) (names_of unit) h (among-added [] (names_of_occurrences (occurrences_of unit)) (among-any (occurrences_of unit) ∙ named-statements unit h))
+      among-passing x (is_array unit) (names_of unit) h (among-added x [] (names_of_occurrences (occurrences_of unit)) (among-any (occurrences_of unit) ∙ named-statements unit h))
 
   -- ---- what stands at the index of a name
 
   pub at-index : {B : Type 0} (g : Name → B) (xs : List Name) → is_among x xs ≡ true → slice_get (map g xs) (unwrap_or (index_among x xs) 0) ≡ Some (g x)
-  at-index g xs h = let found = indexed xs h in ap (λ o. slice_get (map g xs) (unwrap_or o 0)) found.1 ∙ found.2 where
-    indexed : (xs : List Name) → is_among x xs ≡ true → (i : ℕ) × (index_among x xs ≡ Some i) × (slice_get (map g xs) i ≡ Some (g x))
-    indexed [] h = absurd cc
-    indexed (y ∷ ys) h = by_test (indexed ys) (same_name x y) refl h where
-      by_test : (is_among x ys ≡ true → (i : ℕ) × (index_among x ys ≡ Some i) × (slice_get (map g ys) i ≡ Some (g x))) → (b : Bool) → same_name x y ≡ b → (if b then true else is_among x ys) ≡ true
-          → (i : ℕ) × ((if b then Some 0 else option_map suc (index_among x ys)) ≡ Some i) × (slice_get (g y ∷ map g ys) i ≡ Some (g x))
-      by_test rest true t h = (0, refl, ap (λ z. Some (g z)) (sym (equal_names x y t)))
-      by_test rest false t h = let found = rest h in (suc found.0, ap (option_map suc) found.1, found.2)
+  at-index g xs h =
+      let found = indexed x xs h in
+      ap (λ o. slice_get (map g xs) (unwrap_or o 0)) found.1 ∙ (slice_get-map g xs found.0 ∙ ap (option_map g) found.2)
 
 -- ---- an array of constant shape is not adjustable
 

@@ -10,9 +10,10 @@ use Rattle.hep_machine.proofs.Locations.{equal_blocks}
 use Rattle.hep_frames.specs.Rows.{Row, common_row, first_in, owner_in}
 use Rattle.hep_frames.proofs.Rows.{has_key}
 use Rattle.hep_image.specs.declared.owners.BlockStart.{BlockStart}
-use Rattle.hep_image.specs.Owners.{block_before, block_start, block_starts, last_before}
-use Rattle.hep_image.proofs.Distinct.{AreDistinct, blocks_distinct, is_in}
-use Rattle.hep_image.proofs.RowOwners.{AreApart, AreFrom, from-firsts, from-found, from-rising, made}
+use Rattle.hep_image.specs.Owners.{IsBlockTold, block_start, block_starts, last_before}
+use Rattle.hep_image.proofs.Distinct.{AreDistinct, block_in, blocks_distinct, is_in}
+use Rattle.hep_image.proofs.Numbers.{block-inside}
+use Rattle.hep_image.proofs.RowOwners.{AreApart, AreFrom, from-firsts, from-found, from-rising, made, owner_key}
 
 self : (b : BlockName) → same_block b b ≡ true
 self None = refl
@@ -46,15 +47,20 @@ module _ (program : Units) where
       zero_more n = omega arith
 
   pub tells_block : (b : BlockName) (i n : ℕ) → owner_in (common_row program) n ≡ Some (b, i)
-      → (s : BlockStart) × (block_before (block_starts program) n ≡ Some s) × (s.block ≡ b) × (s.first + i ≡ n)
+      → IsBlockTold program n b i
   tells_block b i n e =
       let found = from-found (block_start program) first_of 0 n i b (common_row program) blocks_from e in
-      let same : 0 + n ≡ n = omega arith in (
-        block_start program b,
-        ap₂ (λ ss m. last_before first_of ss m) (sym (made_blocks (blocks_of program))) (sym same) ∙ found.0,
-        refl,
-        found.1 ∙ same,
-      )
+      let same : 0 + n ≡ n = omega arith in
+      let listed = owner_key same_block self (common_row program) n i b e in
+      let among = sym (block_in b (blocks_of program)) ∙ (sym (in_row b (blocks_of program)) ∙ listed) in
+      record {
+        found = block_start program b;
+        before = ap₂ (λ ss m. last_before first_of ss m) (sym (made_blocks (blocks_of program))) (sym same) ∙ found.0;
+        index = refl;
+        named = among;
+        inside = block-inside program b among;
+        behind = found.1 ∙ same;
+      }
 
   pub blocks_rise : IsNonDecreasingBy first_of (block_starts program)
   blocks_rise = subst (IsNonDecreasingBy first_of) (made_blocks (blocks_of program)) (from-rising (block_start program) first_of 0 (common_row program) blocks_from)

@@ -99,7 +99,7 @@ same_block-turned None (Some y) = refl
 same_block-turned (Some x) None = refl
 same_block-turned (Some x) (Some y) = same_name-turned x y
 
-block_in : (b : BlockName) (bs : List BlockName) → is_in same_block b bs ≡ is_block_among b bs
+pub block_in : (b : BlockName) (bs : List BlockName) → is_in same_block b bs ≡ is_block_among b bs
 block_in b [] = refl
 block_in b (c ∷ cs) = ap (λ t. if same_block b c then true else t) (block_in b cs) ∙ by (same_block b c) (is_block_among b cs) where
   by : (s t : Bool) → (if s then true else t) ≡ (s || t)

@@ -8,16 +8,16 @@ use Rattle.hep_source.specs.declared.statement.Statement.{Statement}
 use Rattle.hep_source.specs.Names.{is_among, same_name}
 use Rattle.hep_source.specs.Units.{dummies_of}
 use Rattle.hep_source.proofs.NameTests.{same_name-self}
-use Rattle.hep_machine.specs.Declarations.{is_array}
 use Rattle.hep_machine.specs.Defaults.{no_name}
 use Rattle.hep_machine.specs.Variables.{is_do, locals_of}
 use Rattle.hep_frames.specs.Rows.{FramePart, Row, header, argument, variable, iteration, bounds, arguments_row, bounds_row, cells_in, first_in, frame_row, iterations_row, owner_in, same_part, variables_row}
 use Rattle.hep_frames.proofs.FrameRows.{equal_parts}
 use Rattle.hep_frames.proofs.Rows.{first-behind, first-within, has_key}
 use Rattle.hep_image.specs.declared.owners.FrameVariable.{FrameVariable}
-use Rattle.hep_image.specs.Owners.{AreGivenOnce, AreInOrder, argument_at, frame_variables, last_before, variable_at, variable_before}
+use Rattle.hep_image.specs.Owners.{AreGivenOnce, AreInOrder, IsTold, argument_at, frame_variables, last_before, variable_at}
 use Rattle.hep_image.proofs.Distinct.{AreDistinct, distinct_by_index, locals_distinct}
-use Rattle.hep_image.proofs.RowOwners.{AreApart, AreFrom, from-append, from-firsts, from-found, from-rising, made, owner_back, owner_front}
+use Rattle.hep_image.proofs.Numbers.{dummy-named, local-named, variable-inside}
+use Rattle.hep_image.proofs.RowOwners.{AreApart, AreFrom, from-append, from-firsts, from-found, from-rising, made, owner_back, owner_front, owner_key}
 
 self : (p : FramePart) → same_part p p ≡ true
 self header = refl
@@ -145,7 +145,7 @@ module _ (unit : List Statement) where
   -- ---- whose a cell is
 
   pub tells_variable : (x : Name) (i n : ℕ) → owner_in (frame_row unit) n ≡ Some (variable x, i)
-      → (v : FrameVariable) × (variable_before (frame_variables unit) n ≡ Some v) × (v.name ≡ x) × (v.first + i ≡ n) × (v.is_array ≡ is_array unit x)
+      → IsTold unit n x i
   tells_variable x i n e =
       let there = owner_back same_part self front (variables ++ others) n i (variable x) (no_argument (variable x) (dummies_of unit) (λ y. refl)) e in
       let none = no_others (variable x) (λ d. refl) (λ y. refl) in
@@ -153,16 +153,20 @@ module _ (unit : List Statement) where
       let found = from-found made_for first_of (cells_in front) (n - cells_in front) i (variable x) variables variables_from mine in
       let back : cells_in front + (n - cells_in front) ≡ n = omega (arith, there.0) in
       let last : last_before first_of (map (variable_at unit) (locals_of unit)) n ≡ Some (variable_at unit x)
-      = ap₂ (λ vs m. last_before first_of vs m) (sym (made_variables (locals_of unit))) (sym back) ∙ found.0 in (
-        variable_at unit x,
-        last-append first_of (map (argument_at unit) (dummies_of unit)) (map (variable_at unit) (locals_of unit)) n (variable_at unit x) last,
-        refl,
-        found.1 ∙ back,
-        refl,
-      )
+      = ap₂ (λ vs m. last_before first_of vs m) (sym (made_variables (locals_of unit))) (sym back) ∙ found.0 in
+      let local = sym (in_variables unit x (locals_of unit)) ∙ owner_key same_part self variables (n - cells_in front) i (variable x) mine in
+      record {
+        found = variable_at unit x;
+        before = last-append first_of (map (argument_at unit) (dummies_of unit)) (map (variable_at unit) (locals_of unit)) n (variable_at unit x) last;
+        index = refl;
+        named = local-named unit x local;
+        inside = variable-inside unit x (local-named unit x local);
+        behind = found.1 ∙ back;
+        array = refl;
+      }
 
   pub tells_argument : (x : Name) (i n : ℕ) → AreGivenOnce (dummies_of unit) → owner_in (frame_row unit) n ≡ Some (argument x, i)
-      → (v : FrameVariable) × (variable_before (frame_variables unit) n ≡ Some v) × (v.name ≡ x) × (v.first + i ≡ n) × (v.is_array ≡ is_array unit x)
+      → IsTold unit n x i
   tells_argument x i n once e =
       let dummies = arguments_row (dummies_of unit) in
       let there = owner_back same_part self ((header, 1) ∷ []) (dummies ++ (variables ++ others)) n i (argument x) refl e in
@@ -172,13 +176,19 @@ module _ (unit : List Statement) where
       let mine = owner_front same_part self (dummies ++ variables) others (n - 1) i (argument x) none together in
       let from = both_from (distinct_by_index (dummies_of unit) once) in
       let found = from-found made_for first_of 1 (n - 1) i (argument x) (dummies ++ variables) from mine in
-      let back : 1 + (n - 1) ≡ n = omega (arith, there.0) in (
-        argument_at unit x,
-        ap₂ (λ vs m. last_before first_of vs m) (sym (made_both (dummies_of unit) (locals_of unit))) (sym back) ∙ found.0,
-        refl,
-        found.1 ∙ back,
-        refl,
-      )
+      let back : 1 + (n - 1) ≡ n = omega (arith, there.0) in
+      let apart = no_variable (argument x) unit (locals_of unit) (λ y. refl) in
+      let own = owner_front same_part self dummies variables (n - 1) i (argument x) apart mine in
+      let given = sym (in_arguments x (dummies_of unit)) ∙ owner_key same_part self dummies (n - 1) i (argument x) own in
+      record {
+        found = argument_at unit x;
+        before = ap₂ (λ vs m. last_before first_of vs m) (sym (made_both (dummies_of unit) (locals_of unit))) (sym back) ∙ found.0;
+        index = refl;
+        named = dummy-named unit x given;
+        inside = variable-inside unit x (dummy-named unit x given);
+        behind = found.1 ∙ back;
+        array = refl;
+      }
 
   pub in_order : AreGivenOnce (dummies_of unit) → AreInOrder (frame_variables unit)
   in_order once =

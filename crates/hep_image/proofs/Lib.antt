@@ -5,3 +5,5 @@ pub mod Distinct
 pub mod RowOwners
 pub mod FrameOwners
 pub mod BlockOwners
+pub mod Members
+pub mod Numbers

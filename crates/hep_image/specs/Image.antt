@@ -1,5 +1,5 @@
 -- What an image has of a program: docs/ARCHITECTURE.md, "Forms".
-use Rattle.std.specs.Prelude.{◌≡◌, ℕ, ◌≤◌, List, None, map, length, slice_get, Some}
+use Rattle.std.specs.Prelude.{◌≡◌, ℕ, ◌≤◌, List, map, length, slice_get, Some}
 use Rattle.hep_source.specs.Units.{Units, main_among, unit_at}
 use Rattle.hep_machine.specs.Layout.{common_cells}
 use Rattle.hep_machine.specs.Variables.{frame_cells}
@@ -10,11 +10,12 @@ use Rattle.hep_code.specs.Stacks.{addressed_unit, entry_index}
 use Rattle.hep_code.specs.UnitCode.{code_of}
 use Rattle.hep_image.specs.Data.{AreInitial, AreOfUnits}
 use Rattle.hep_image.specs.Dummies.{dummy_arguments}
-use Rattle.hep_image.specs.Names.{names_in_order}
+use Rattle.hep_image.specs.Names.{AreNames}
 use Rattle.hep_image.specs.Owners.{AreInOrder, block_starts, frame_variables}
 use Rattle.hep_image.specs.Places.{addresses_of, arrays_of, array_of}
 use Rattle.hep_image.specs.Private.{private_cells}
 use Rattle.hep_image.specs.declared.data.DataRow.{DataRow}
+use Rattle.hep_image.specs.declared.names.ProgramNames.{ProgramNames}
 use Rattle.hep_image.specs.declared.owners.BlockStart.{BlockStart}
 use Rattle.hep_image.specs.declared.unit.UnitCode.{UnitCode}
 
@@ -38,7 +39,7 @@ pub record IsUnitCode (program : Units) (u : ℕ) (unit : UnitCode) : Type 0 whe
 
 -- an image of an accepted program with a main program has all of its units, the index of the main program, the cells of COMMON, what
 -- DATA gives at the opening, the names, and where the common blocks begin
-pub record IsImage (program : Units) (units : List UnitCode) (main common : ℕ) (rows : List DataRow) (names : List (List ℕ)) (blocks : List BlockStart) : Type 0 where
+pub record IsImage (program : Units) (units : List UnitCode) (main common : ℕ) (rows : List DataRow) (names : ProgramNames) (blocks : List BlockStart) : Type 0 where
   pub accepted : IsAccepted program
   pub all : length units ≡ length program
   pub units_are : (u : ℕ) (unit : UnitCode) → slice_get units u ≡ Some unit → IsUnitCode program u unit
@@ -47,5 +48,5 @@ pub record IsImage (program : Units) (units : List UnitCode) (main common : ℕ)
   pub few_cells : common ≤ most_cells
   pub initial : AreInitial program rows
   pub of_units : AreOfUnits program rows
-  pub named : names ≡ names_in_order program
+  pub named : AreNames program names
   pub blocks_are : blocks ≡ block_starts program

@@ -1,19 +1,23 @@
 //! Images.
-ghost use Rattle.std.specs.Prelude.{◌≡◌, ◌↔◌, ◌≤◌, ◌<◌, true, None, Some, is_some, length, option_map, slice_get, IfOk, IsTrue};
+ghost use Rattle.std.specs.Prelude.{◌≡◌, ◌↔◌, ◌≤◌, ◌<◌, ◌+◌, true, None, Some, is_some, length, option_map, slice_get, IfOk, IsTrue};
 ghost use Rattle.hep_check.specs.Conditions.{IsAccepted};
+ghost use Rattle.hep_machine.specs.Declarations.{blocks_of};
 ghost use Rattle.hep_machine.specs.Layout.{common_cells};
-ghost use Rattle.hep_source.specs.Units.{main_among};
+ghost use Rattle.hep_machine.specs.Variables.{names_of};
+ghost use Rattle.hep_source.specs.Units.{main_among, unit_at};
 ghost use Rattle.hep_image.specs.Data.{AreInitial, AreOfUnits};
 ghost use Rattle.hep_image.specs.Image as spec;
 ghost use Rattle.hep_image.specs.Image.{IsImage, IsUnitCode};
+ghost use Rattle.hep_image.specs.Names as names;
 ghost use Rattle.hep_image.specs.Names.{names_in_order};
 ghost use Rattle.hep_image.specs.Owners.{block_before, block_starts};
 
 use crate::data::DataRow;
-use crate::owners::BlockStart;
+use crate::names::ProgramNames;
+use crate::owners::{BlockStart, FrameVariable};
 use crate::unit::UnitCode;
 use hep_base::Sequence;
-use hep_source::{Program, Syntax, Text};
+use hep_source::{Program, Syntax};
 use std::alloc::{AllocError, Global};
 use std::marker::Model;
 
@@ -29,7 +33,7 @@ pub struct Image {
     /// What DATA gives the cells of COMMON and of the main program's frame, which is just behind it.
     rows: Sequence<DataRow>,
     /// The names of the units, the variables and the common blocks.
-    names: Sequence<Text>,
+    names: ProgramNames,
     /// The common blocks, in the order of their cells.
     blocks: Sequence<BlockStart>,
 }
@@ -59,7 +63,7 @@ impl Image {
         main: u32,
         common: u32,
         rows: Sequence<DataRow>,
-        names: Sequence<Text>,
+        names: ProgramNames,
         blocks: Sequence<BlockStart>,
     ) -> Image
         requires { IsImage program units main common rows names blocks }
@@ -124,8 +128,25 @@ impl Image {
         ensures { option_map (λ name. name.now) result
             ≡ slice_get (names_in_order self.now) number }
     {
-        let name = self.names.as_slice().get(number as usize)?;
+        let name = self.names.spelled.as_slice().get(number as usize)?;
         Some(name.as_slice())
+    }
+
+    /// The number of the name of a variable of a unit, by which [`Image::name`] tells it.
+    pub fn variable_number(&self, unit: usize, variable: FrameVariable) -> u32
+        requires unit { unit < length self.now }
+        requires variable { variable.index < length (names_of (unit_at self.now unit)) }
+        ensures { result ≡ names.first_variable self.now unit + variable.index }
+    {
+        (self.names.variables.as_slice()[unit] as usize + variable.index) as u32
+    }
+
+    /// The number of the name of a common block, by which [`Image::name`] tells it.
+    pub fn block_number(&self, block: BlockStart) -> u32
+        requires { block.index < length (blocks_of self.now) }
+        ensures { result ≡ names.first_block self.now + block.index }
+    {
+        (self.names.blocks as usize + block.index) as u32
     }
 
     /// The last common block that begins at this cell or before it, counted from that of the arena: the one whose

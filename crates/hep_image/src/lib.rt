@@ -1,7 +1,7 @@
 //! Images: a checked program as a core runs it, with its tree, the code of its units, and where their variables are.
 //!
 //! Where variables are stands in `specs/Places`, how their storage units are found from the cells of the arena in
-//! `specs/Finding`, and whose a cell is in `specs/Owners`.
+//! `specs/Finding`, whose a cell is in `specs/Owners`, and which number a name has in `specs/Names`.
 #![tactic(auto)]
 
 pub mod array;
@@ -9,6 +9,7 @@ pub mod data;
 pub mod dummy;
 pub mod image;
 pub mod laws;
+pub mod names;
 pub mod owners;
 pub mod unit;
 
@@ -16,5 +17,6 @@ pub use array::{Array, Extents, Start};
 pub use data::DataRow;
 pub use dummy::DummyArgument;
 pub use image::Image;
+pub use names::ProgramNames;
 pub use owners::{BlockStart, FrameVariable};
 pub use unit::UnitCode;

@@ -1,22 +1,24 @@
 //! Whose the cells of a frame and of COMMON are.
 
-use hep_source::{Name, Syntax};
+use hep_source::Syntax;
 use std::alloc::{AllocError, Global};
 
 /// A variable whose storage units are in a frame: a dummy argument, whose first cell has the value where it stands
 /// for an expression (X3.9-1978, 15.9.3), or a local variable.
 #[derive(Clone, Copy, Debug, PartialEq, Eq)]
 pub struct FrameVariable {
-    pub name: Name,
+    /// The index of its name among the names of its unit, in order of first appearance.
+    pub index: usize,
     /// Its first cell, counted from the frame's first one.
     pub first: u32,
     pub is_array: bool,
 }
 
-/// A common block; blank COMMON has no name (8.3).
+/// A common block.
 #[derive(Clone, Copy, Debug, PartialEq, Eq)]
 pub struct BlockStart {
-    pub block: Option<Name>,
+    /// Its index among the common blocks of the program, in order of first appearance.
+    pub index: usize,
     /// Its first cell, counted from that of the arena, in front of which COMMON stands.
     pub first: u32,
 }

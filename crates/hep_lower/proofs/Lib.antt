@@ -9,3 +9,4 @@ pub mod Counts
 pub mod Placing
 pub mod Told
 pub mod BlocksBegun
+pub mod Numbers

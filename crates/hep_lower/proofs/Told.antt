@@ -1,28 +1,42 @@
 -- What is told of a program that has no image, and what is known of one that has.
-use Rattle.std.proofs.Common.{◌≡◌, ◌≢◌, inl, inr, ℕ, ◌<◌, ◌≤◌, List, [], Some, None, length, refl, sym, ◌∙◌, subst}
+use Rattle.std.proofs.Common.{◌≡◌, ◌≢◌, inl, inr, ℕ, ◌<◌, ◌≤◌, ◌^◌, List, [], Some, None, length, refl, sym, ◌∙◌, subst}
 use Rattle.std.specs.Prelude.{Result, Ok, Err, IfErr}
+use Rattle.std.specs.Option.{option_eq}
 use Rattle.std.specs.Result.{IsErr, IsErrAnd}
 use Rattle.std.proofs.lemmas.Option.{none-some}
 use Rattle.hep_base.specs.declared.refusal.Refusal.{Refusal as LowerFault}
 use Rattle.hep_base.specs.declared.refusal.Refusal.TheVariants.{NoMemory, Refused}
+use Rattle.indexmap.specs.IndexMap.{get}
+use Rattle.hep_source.specs.Names.{name_eq}
 use Rattle.hep_source.specs.Units.{Units, main_among, unit_at}
-use Rattle.hep_machine.specs.Layout.{common_cells}
+use Rattle.hep_machine.specs.Declarations.{BlockName, blocks_of}
+use Rattle.hep_machine.specs.Layout.{block_cells, common_cells}
 use Rattle.hep_machine.specs.Variables.{frame_cells}
 use Rattle.hep_check.specs.Conditions.{IsAccepted}
 use Rattle.hep_code.specs.Limits.{most_instructions}
 use Rattle.hep_image.specs.declared.data.DataRow.{DataRow}
+use Rattle.hep_image.specs.declared.names.ProgramNames.{ProgramNames}
 use Rattle.hep_image.specs.declared.owners.BlockStart.{BlockStart}
 use Rattle.hep_image.specs.declared.unit.UnitCode.{UnitCode}
 use Rattle.hep_image.specs.Data.{AreInitial, AreOfUnits}
 use Rattle.hep_image.specs.Image.{IsImage, most_cells}
-use Rattle.hep_image.specs.Names.{names_in_order}
+use Rattle.hep_image.specs.Names.{AreNames}
 use Rattle.hep_image.specs.Owners.{block_starts}
+use Rattle.hep_common.specs.Lengths.{greatest_length}
+use Rattle.hep_common.specs.Starts.{AreBlocks}
+use Rattle.hep_common.specs.declared.common.CommonBlocks.{CommonBlocks}
 use Rattle.hep_lower.specs.declared.units.LoweredUnits.{LoweredUnits}
 use Rattle.hep_lower.specs.Refusals.{AreCellsBeyond, IsCodeBeyond, IsFirstDeep, IsLowered, IsWithinLimits, Refuses, RefusesCode}
 use Rattle.hep_lower.specs.Units.{AreUnits}
 
 pub some-main : (program : Units) (main : ℕ) → main_among program ≡ Some main → main_among program ≢ None
 some-main program main e none = none-some main (sym none ∙ e)
+
+-- the common blocks of a program, by what is known of the one that was read
+pub blocks-are : (source program : Units) (c : CommonBlocks) → source ≡ program → c.blocks.keys ≡ blocks_of source
+    → ((b : BlockName) → greatest_length (get (option_eq name_eq) c.lengths b) ≡ block_cells source b) → common_cells source < 2 ^ 96 → AreBlocks program c
+blocks-are source program c same keys lengths bounded =
+    subst (λ (p : Units). AreBlocks p c) same (record { blocks_are = keys; lengths_are = lengths; bounded = bounded })
 
 module _ (program : Units) (main : main_among program ≢ None) where
   pub told-cells : (fault : LowerFault) → fault ≡ Refused 401 0 [] → AreCellsBeyond program → Refuses program fault
@@ -50,8 +64,8 @@ module _ (program : Units) (units : LoweredUnits) (known : AreUnits program (len
   lowered-is few main shallow =
       record { main = main; within = within-limits few; shallow = subst (IsFirstDeep program (length program)) shallow known.deep }
 
-  pub image-is : IsAccepted program → units.too_deep ≡ None → (codes : List UnitCode) (main cells : ℕ) (rows : List DataRow) (names : List (List ℕ)) (blocks : List BlockStart)
-      → codes ≡ units.codes.items → main_among program ≡ Some main → cells ≡ common_cells program → AreInitial program rows → AreOfUnits program rows → names ≡ names_in_order program → blocks ≡ block_starts program → IsImage program codes main cells rows names blocks
+  pub image-is : IsAccepted program → units.too_deep ≡ None → (codes : List UnitCode) (main cells : ℕ) (rows : List DataRow) (names : ProgramNames) (blocks : List BlockStart)
+      → codes ≡ units.codes.items → main_among program ≡ Some main → cells ≡ common_cells program → AreInitial program rows → AreOfUnits program rows → AreNames program names → blocks ≡ block_starts program → IsImage program codes main cells rows names blocks
   image-is accepted shallow codes main cells rows names blocks same main_is size initial of_units named begun =
       subst (λ us. IsImage program us main cells rows names blocks) (sym same) (record {
         accepted = accepted;

@@ -1,8 +1,12 @@
 -- Where a common block begins, by the starts that are kept.
-use Rattle.hep_machine.specs.Declarations.{BlockName}
+use Rattle.std.specs.Option.{unwrap_or}
+use Rattle.hep_source.specs.Names.{index_where}
+use Rattle.hep_machine.specs.Declarations.{BlockName, same_block}
 use Rattle.hep_image.specs.declared.owners.BlockStart.{BlockStart}
 use Rattle.hep_common.specs.Starts.{start_in}
+use Rattle.hep_common.specs.declared.common.CommonBlocks.{CommonBlocks}
 use Rattle.hep_common.specs.declared.starts.CommonStarts.{CommonStarts}
 
-abbrev pub block_begun : CommonStarts → BlockName → BlockStart
-block_begun common b = record { block = b; first = start_in common b }
+abbrev pub block_begun : CommonBlocks → CommonStarts → BlockName → BlockStart
+block_begun blocks starts b =
+    record { index = unwrap_or (index_where (same_block b) blocks.blocks.keys) 0; first = start_in starts b }

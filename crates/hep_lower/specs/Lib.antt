@@ -7,3 +7,4 @@ pub mod Asked
 pub mod Refusals
 pub mod Units
 pub mod Blocks
+pub mod Numbers

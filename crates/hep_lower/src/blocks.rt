@@ -2,29 +2,27 @@
 ghost use Rattle.std.specs.Prelude.{◌≡◌, map, IfOk};
 ghost use Rattle.hep_lower.specs.Blocks.{block_begun};
 
-use hep_common::CommonStarts;
+use hep_common::{CommonBlocks, CommonStarts};
 use hep_image::BlockStart;
-use hep_source::Name;
 use std::alloc::{AllocError, Global};
 
-/// These blocks with their first cells.
+/// The common blocks with their first cells, which are these.
 ///
 /// # Errors
 ///
 /// Only where memory was refused.
 pub(crate) fn starts_of(
     alloc: Global,
-    common: &CommonStarts,
-    blocks: &[Option<Name>],
+    blocks: &CommonBlocks,
+    first_cells: &CommonStarts,
 ) -> Result<Vec<BlockStart>, AllocError>
-    ensures { IfOk result (λ starts. starts.items ≡ map (block_begun common.now) blocks.now) }
+    ensures { IfOk result (λ starts. starts.items ≡ map (block_begun blocks.now first_cells.now) blocks.now.blocks.keys) }
 {
     let mut starts = Vec::new(alloc);
-    for block in blocks {
-        let first = common.start(*block);
+    for block in blocks.blocks() {
         starts.push(BlockStart {
-            block: *block,
-            first,
+            index: blocks.index(*block),
+            first: first_cells.start(*block),
         })?;
     }
     Ok(starts)

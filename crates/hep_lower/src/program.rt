@@ -3,7 +3,7 @@ ghost use Rattle.std.specs.Prelude.{◌≡◌, ◌≤◌, ◌<◌, ℕ, Some, No
 ghost use Rattle.hep_source.specs.Units.{main_among, main_unit, unit_at};
 ghost use Rattle.hep_machine.specs.Layout.{common_cells};
 ghost use Rattle.hep_machine.specs.Variables.{frame_cells};
-ghost use Rattle.hep_common.specs.Starts.{AreStarts};
+ghost use Rattle.hep_common.specs.Starts.{AreBlocks, AreStarts};
 ghost use Rattle.hep_image.specs.Data.{AreInitial, AreOfUnits};
 ghost use Rattle.hep_code.specs.Limits.{most_instructions};
 ghost use Rattle.hep_image.specs.Image.{most_cells};
@@ -80,12 +80,14 @@ fn image_of(
     checked: &Checked,
     main: usize,
     program: &ProgramSymbols,
+    blocks: &CommonBlocks,
     common: &CommonStarts,
     units: LoweredUnits,
 ) -> Result<Image, AllocError>
     requires main { main_among checked.now ≡ Some main }
     requires few { length checked.now ≤ most_instructions }
     requires program { program.now ≡ checked.now }
+    requires blocks { AreBlocks checked.now blocks.now }
     requires starts { AreStarts checked.now common.now }
     requires small_common { common_cells checked.now ≤ most_cells }
     requires small_frames { (u : ℕ) → u < length checked.now → frame_cells (unit_at checked.now u) ≤ most_cells }
@@ -96,10 +98,8 @@ fn image_of(
     checked.is_accepted();
     let rows = initial_rows(alloc, checked, main, program, common)?;
     let source = checked.program().as_slice();
-    let listed = CommonBlocks::of_program(alloc, source)?;
-    let blocks = listed.blocks();
-    let names = names_in_order(alloc, source, program, blocks)?;
-    let starts = starts_of(alloc, common, blocks)?;
+    let names = names_in_order(alloc, source, program, blocks.blocks())?;
+    let starts = starts_of(alloc, blocks, common)?;
     let copy = checked.program().copy(alloc)?;
     Ok(Image::new(
         copy,
@@ -107,7 +107,7 @@ fn image_of(
         main as u32,
         common.cells() as u32,
         Sequence::from(rows),
-        Sequence::from(names),
+        names,
         Sequence::from(starts),
     ))
 }
@@ -126,7 +126,8 @@ fn lower_program(alloc: Global, checked: &Checked, main: usize) -> Result<Image,
         return Err(LowerFault::refused(alloc, 401, 0));
     }
     let program = ProgramSymbols::new(alloc, source)?;
-    let common = CommonStarts::of_program(alloc, source)?;
+    let blocks = CommonBlocks::of_program(alloc, source)?;
+    let common = CommonStarts::of_blocks(alloc, &blocks)?;
     if exceeds_cells(checked, &common) {
         return Err(LowerFault::refused(alloc, 401, 0));
     }
@@ -134,7 +135,7 @@ fn lower_program(alloc: Global, checked: &Checked, main: usize) -> Result<Image,
     if let Some(line) = units.too_deep {
         return Err(LowerFault::refused(alloc, 402, line));
     }
-    Ok(image_of(alloc, checked, main, &program, &common, units)?)
+    Ok(image_of(alloc, checked, main, &program, &blocks, &common, units)?)
 }
 
 /// The image of a checked program: the code of its units, where their variables are, what DATA gives at the

@@ -1,11 +1,14 @@
 //! The names of a program, in the order in which an image has them.
-ghost use Rattle.std.specs.Prelude.{◌≡◌, ◌++◌, map, IfOk, OnOk};
+ghost use Rattle.std.specs.Prelude.{◌≡◌, ◌<◌, ◌^◌, ◌++◌, map, length, IfOk, OnOk};
 ghost use Rattle.std.specs.List.{flat_map};
 ghost use Rattle.hep_source.specs.Names.{spelling};
 ghost use Rattle.hep_source.specs.Units as units;
 ghost use Rattle.hep_machine.specs.Declarations.{blocks_of};
 ghost use Rattle.hep_image.specs.Names as words;
+ghost use Rattle.hep_lower.specs.Numbers.{numbers_from};
 
+use hep_base::Sequence;
+use hep_image::ProgramNames;
 use hep_source::{Name, Text, Unit};
 use hep_symbols::{ProgramSymbols, Symbols};
 use std::alloc::{AllocError, Global};
@@ -29,14 +32,32 @@ fn add_spellings(alloc: Global, names: &mut Vec<Text>, list: &[Name]) -> Result<
     Ok(())
 }
 
-// The names of the variables of these units.
-fn add_variables(alloc: Global, names: &mut Vec<Text>, list: &[Symbols]) -> Result<(), AllocError>
-    ensures { OnOk result (names.new.items ≡ names.old.items ++ flat_map words.spellings_of list.now) }
+// The number of the name that comes next. A name's number has 32 bits: there is no memory for more.
+fn next_number(names: &Vec<Text>) -> Result<u32, AllocError>
+    ensures number { IfOk result (λ number. number ≡ length names.now.items) }
+    ensures few { IfOk result (λ number. length names.now.items < 2 ^ 32) }
 {
+    match u32::try_from(names.len()) {
+        Ok(number) => Ok(number),
+        Err(_) => Err(AllocError),
+    }
+}
+
+// The names of the variables of these units, and for each unit the number of the first one.
+fn add_variables(
+    alloc: Global,
+    names: &mut Vec<Text>,
+    list: &[Symbols],
+) -> Result<Vec<u32>, AllocError>
+    ensures names { OnOk result (names.new.items ≡ names.old.items ++ flat_map words.spellings_of list.now) }
+    ensures numbers { IfOk result (λ numbers. numbers.items ≡ numbers_from (length names.old.items) list.now) }
+{
+    let mut numbers = Vec::new(alloc);
     for symbols in list {
+        numbers.push(next_number(names)?)?;
         add_spellings(alloc, names, symbols.names().as_slice())?;
     }
-    Ok(())
+    Ok(numbers)
 }
 
 // How a block is spelled; blank COMMON has no name.
@@ -62,20 +83,26 @@ fn add_blocks(alloc: Global, names: &mut Vec<Text>, list: &[Option<Name>]) -> Re
 ///
 /// # Errors
 ///
-/// Only where memory was refused.
+/// Only where memory was refused, as it is for more than 4,294,967,295 names.
 pub(crate) fn names_in_order(
     alloc: Global,
     list: &[Unit],
     program: &ProgramSymbols,
     blocks: &[Option<Name>],
-) -> Result<Vec<Text>, AllocError>
+) -> Result<ProgramNames, AllocError>
     requires program { program.now ≡ list.now }
     requires blocks { blocks.now ≡ blocks_of list.now }
-    ensures { IfOk result (λ names. names.items ≡ words.names_in_order list.now) }
+    ensures { IfOk result (words.AreNames list.now) }
 {
     let mut names = Vec::new(alloc);
     add_unit_names(alloc, &mut names, list)?;
-    add_variables(alloc, &mut names, program.units())?;
+    let variables = add_variables(alloc, &mut names, program.units())?;
+    let first_block = next_number(&names)?;
     add_blocks(alloc, &mut names, blocks)?;
-    Ok(names)
+    next_number(&names)?;
+    Ok(ProgramNames {
+        spelled: Sequence::from(names),
+        variables: Sequence::from(variables),
+        blocks: first_block,
+    })
 }

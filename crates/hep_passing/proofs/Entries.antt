@@ -10,7 +10,7 @@ use Rattle.hep_code.specs.declared.instruction.Instruction.{Instruction}
 use Rattle.hep_code.specs.declared.instruction.Instruction.TheVariants.{Push, Step, To, Pass, Show}
 use Rattle.hep_code.specs.Passing.{Passed, by_value, by_reference, passed_from}
 use Rattle.hep_image.specs.declared.array.Array.{Array}
-use Rattle.hep_reply.specs.declared.frame.Frame.{Frame}
+use Rattle.hep_step.specs.declared.frame.Frame.{Frame}
 use Rattle.hep_passing.specs.declared.given.Given.{Given}
 use Rattle.hep_passing.specs.Entries.{given_ahead, given_and, passed_ahead, passed_in}
 use Rattle.hep_passing.specs.Passing.{given_before, given_by, given_for}

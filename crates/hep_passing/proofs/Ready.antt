@@ -41,8 +41,8 @@ use Rattle.hep_finding.proofs.Found.{IsFound}
 use Rattle.hep_finding.proofs.Named.{array-listed, at-index, constant-shape}
 use Rattle.hep_finding.proofs.Reached.{frame-reached}
 use Rattle.hep_finding.proofs.Within.{variable-within}
-use Rattle.hep_reply.specs.declared.frame.Frame as arena
-use Rattle.hep_reply.specs.Cells.{HasFrame}
+use Rattle.hep_step.specs.declared.frame.Frame as arena
+use Rattle.hep_step.specs.Cells.{HasFrame}
 use Rattle.hep_passing.specs.Agreement.{IsCaller, IsPassedAs, arrays_at}
 use Rattle.hep_passing.specs.Passing.{passed_at}
 use Rattle.hep_passing.specs.Ready.{ArePassable, AreUnitsIn, HasShape, IsPassable, IsShaped}

@@ -11,7 +11,7 @@ use Rattle.hep_code.specs.Passing.{Passed, by_value, by_reference}
 use Rattle.hep_image.specs.declared.array.Array.{Array}
 use Rattle.hep_image.specs.Finding.{bounds_at, cells_in}
 use Rattle.hep_image.specs.Within.{LiesIn}
-use Rattle.hep_reply.specs.declared.frame.Frame.{Frame}
+use Rattle.hep_step.specs.declared.frame.Frame.{Frame}
 use Rattle.hep_passing.specs.Passing.{passed_at}
 
 -- the bounds of an array are a shape

@@ -2,7 +2,7 @@
 ghost use Rattle.std.specs.Prelude.{◌≡◌, ◌≤◌, Ok, Err, IfOk, IfErr, drop, length, option_map, take, vec_capacity};
 ghost use Rattle.hep_code.specs.Passing.{passed_from};
 ghost use Rattle.hep_image.specs.Finding.{cells_in};
-ghost use Rattle.hep_reply.specs.Cells.{HasFrame};
+ghost use Rattle.hep_step.specs.Cells.{HasFrame};
 ghost use Rattle.hep_passing.specs.Entries as entries;
 ghost use Rattle.hep_passing.specs.Entries.{passed_ahead, passed_in};
 ghost use Rattle.hep_passing.specs.Passing.{given_by};
@@ -14,8 +14,8 @@ use hep_arena::Arena;
 use hep_code::{Argument, Instruction};
 use hep_image::Array;
 use hep_machine::Kind;
-use hep_reply::Frame;
 use hep_source::Value;
+use hep_step::Frame;
 
 // The first so many entries.
 fn first_of(entries: &[Instruction], count: usize) -> &[Instruction]

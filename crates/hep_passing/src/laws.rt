@@ -23,7 +23,7 @@ ghost use Rattle.hep_image.specs.Finding.{cells_in};
 ghost use Rattle.hep_image.specs.Image.{most_cells};
 ghost use Rattle.hep_image.specs.Places.{variable_of};
 ghost use Rattle.hep_finding.specs.Within.{ArePlacedArrays};
-ghost use Rattle.hep_reply.specs.Cells.{HasFrame};
+ghost use Rattle.hep_step.specs.Cells.{HasFrame};
 ghost use Rattle.hep_passing.specs.Agreement.{AreGivenAs, ArePlaced, IsCaller, IsPassedAs, arrays_at};
 ghost use Rattle.hep_passing.specs.Passing.{given_by, passed_at};
 ghost use Rattle.hep_passing.specs.Ready.{ArePassable, IsPassable};

@@ -3,7 +3,7 @@ ghost use Rattle.std.specs.Prelude.{◌≡◌, ◌<◌, ◌≤◌, ◌^◌, true
 ghost use Rattle.hep_machine.specs.Shapes.{elements, is_shape};
 ghost use Rattle.hep_image.specs.Finding.{base_at, bounds_at, cells_in};
 ghost use Rattle.hep_image.specs.Within.{AreExtentsIn, IsStartIn};
-ghost use Rattle.hep_reply.specs.Cells.{HasFrame};
+ghost use Rattle.hep_step.specs.Cells.{HasFrame};
 ghost use Rattle.hep_passing.specs.declared.given.Given.TheVariants as given;
 ghost use Rattle.hep_passing.specs.Passing as definitions;
 ghost use Rattle.hep_passing.specs.Passing.{given_units, passed_at, passed_of_array, passed_of_scalar};
@@ -14,11 +14,10 @@ use hep_arena::Arena;
 use hep_code::Variable;
 use hep_image::{Array, Extents, Start};
 use hep_machine::Kind;
-use hep_reply::Frame;
-use hep_reply::finding::number_in;
-use hep_reply::frame::{base, bounds, rest};
 use hep_shape::Shape;
 use hep_source::Value;
+use hep_step::finding::number_in;
+use hep_step::frame::{Frame, base, bounds, rest};
 
 /// What a variable, a whole array or the element with these subscripts gives to a dummy argument, in a unit with these
 /// arrays: a whole array from its first element on, and an element with those behind it.

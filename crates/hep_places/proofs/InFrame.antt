@@ -9,6 +9,7 @@ use Rattle.hep_machine.specs.Declarations.{is_array}
 use Rattle.hep_machine.specs.Variables.{frame_cells, locals_of}
 use Rattle.hep_accepted.proofs.Members.{Has}
 use Rattle.hep_frames.specs.Rows.{first_of_part, variable}
+use Rattle.hep_image.specs.Names.{variable_index}
 use Rattle.hep_image.specs.declared.owners.FrameVariable.{FrameVariable}
 use Rattle.hep_image.specs.Owners.{argument_at, frame_variables, variable_at}
 use Rattle.hep_common.specs.Starts.{narrowed}
@@ -23,12 +24,12 @@ module _ (unit : List Statement) (small : frame_cells unit ≤ 16777216) (locals
   argument-right x h =
       let found = index-there x (dummies_of unit) (has_among (dummies_of unit) x h) in
       let begins = ap (λ o. narrowed (1 + 2 * unwrap_or o 0)) found.1 ∙ argument-at unit small x found.0 found.1 in
-      λ i. record { name = x; first = begins i; is_array = is_array unit x }
+      λ i. record { index = variable_index unit x; first = begins i; is_array = is_array unit x }
 
   local-right : (x : Name) → Has (locals_of unit) x → local_found unit locals x ≡ variable_at unit x
   local-right x h =
       let begins = ap (λ o. unwrap_or o 0) (at x (has_among (locals_of unit) x h)) in
-      λ i. record { name = x; first = begins i; is_array = is_array unit x }
+      λ i. record { index = variable_index unit x; first = begins i; is_array = is_array unit x }
 
   pub frame-right : variables_found unit locals (dummies_of unit) (locals_of unit) ≡ frame_variables unit
   frame-right =

@@ -3,6 +3,7 @@ ghost use Rattle.std.specs.Prelude.{◌≡◌, IfOk};
 ghost use Rattle.indexmap.specs.IndexMap.{get};
 ghost use Rattle.hep_source.specs.Names.{name_eq};
 ghost use Rattle.hep_source.specs.Units.{names_of_occurrences};
+ghost use Rattle.hep_image.specs.Names.{variable_index};
 ghost use Rattle.hep_places.specs.Owners as owners;
 
 use crate::cells::behind_pairs;
@@ -12,13 +13,20 @@ use hep_source::{Name, Occurrence};
 use hep_symbols::Symbols;
 use std::alloc::{AllocError, Global};
 
+// The index of a name of the unit among all that it has.
+fn index_of(symbols: &Symbols, name: &Name) -> usize
+    ensures { result ≡ variable_index symbols.now name.now }
+{
+    symbols.names().get_index_of(name).unwrap_or(0)
+}
+
 // A dummy argument: two cells behind the header for each one before it.
 fn argument(symbols: &Symbols, name: &Name) -> FrameVariable
     ensures { result ≡ owners.argument_found symbols.now name.now }
 {
     let position = symbols.dummy_position(name).unwrap_or(0);
     FrameVariable {
-        name: *name,
+        index: index_of(symbols, name),
         first: behind_pairs(1, position),
         is_array: symbols.is_array(name),
     }
@@ -28,7 +36,7 @@ fn local(symbols: &Symbols, tables: &Tables, name: &Name) -> FrameVariable
     ensures { result ≡ owners.local_found symbols.now (get name_eq tables.now.locals) name.now }
 {
     FrameVariable {
-        name: *name,
+        index: index_of(symbols, name),
         first: tables.locals.get(name).copied().unwrap_or(0),
         is_array: symbols.is_array(name),
     }

@@ -25,7 +25,7 @@ use Rattle.hep_frames.proofs.Memory.{frame-is-out, memory-left}
 use Rattle.hep_frames.proofs.Tree.{but-parts, node-wanted, parent-apart, parent-counts, parent-kept, parent-out, tree-left, wanted-all, wanted-left}
 use Rattle.hep_frames.proofs.TreeSteps.{filter-without, framed-ended, framed-left, tree-ended, wanted-ended}
 use Rattle.hep_frames.proofs.Wants.{wanted-left as wanted_of-left}
-use Rattle.hep_proc.specs.Nodes.{IsCounted}
+use Rattle.hep_proc.specs.Nodes.{IsCountedAbove}
 use Rattle.hep_proc.specs.Keeping.{frames_of, HasLeft, Keeps, KeysStay, LeadUpwards}
 use Rattle.hep_proc.proofs.Slabs.{swapped}
 
@@ -120,7 +120,7 @@ module _ (program : Units) (s : State) (on out : ℕ → Bool) (layout : Layout)
   pub giving-block : (p : ℕ) → n.first ≤ p → p < n.first + n.cells → IsOut p now.holes
   giving-block p low high = frame-is-out program s g.left now.contents now.holes n.activation p frame g.memory framed-here low high
 
-  pub giving-counted : n.children ≡ 0 → IsCounted nodes k
+  pub giving-counted : n.children ≡ 0 → IsCountedAbove nodes k
   giving-counted alone m above e f =
       let it : m ≡ n = same_Some m n (sym e ∙ at) in
       let owner : n.parent ≡ Some above = ap (λ (z : Node). z.parent) (sym it) ∙ f in

@@ -8,7 +8,7 @@ use Rattle.std.proofs.lemmas.Option.{same_Some, none-some}
 use Rattle.slab.specs.Slab.{Slab, get, Updates}
 use Rattle.hep_frames.specs.Tree.{first_nodes, is_just, Node as TreeNode, Nodes, with_node, with_one_less, with_one_more, without_node}
 use Rattle.hep_proc.specs.declared.nodes.Node.{Node}
-use Rattle.hep_proc.specs.Nodes.{HasChildren, IsCounted, nodes_of, shown, with_fewer, with_more}
+use Rattle.hep_proc.specs.Nodes.{HasChildren, IsCountedAbove, nodes_of, shown, with_fewer, with_more}
 
 pub swapped : (a b : ℕ) → nat_eq a b ≡ nat_eq b a
 swapped a b = grind (arith, nat_tests)
@@ -35,7 +35,7 @@ removed-other old mid k l u e = ap (λ o. option_map shown o) (u.others l (eqb-f
 removed-there : (old mid : Slab Node) (k : ℕ) → Updates old mid k None → nodes_of mid k ≡ None
 removed-there old mid k u = ap (λ o. option_map shown o) u.changed
 
-pub removed-counts : (old mid : Slab Node) (k above : ℕ) (r : Node) → get old k ≡ Some r → Updates old mid k None → r.parent ≡ Some above → IsCounted (nodes_of old) k → HasChildren (nodes_of mid) above
+pub removed-counts : (old mid : Slab Node) (k above : ℕ) (r : Node) → get old k ≡ Some r → Updates old mid k None → r.parent ≡ Some above → IsCountedAbove (nodes_of old) k → HasChildren (nodes_of mid) above
 removed-counts old mid k above r e u f h n g =
     let both = h (shown r) above (shown-at old k r e) f in
     both.1 n (sym (removed-other old mid k above u both.0) ∙ g)

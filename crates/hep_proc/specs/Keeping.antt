@@ -33,8 +33,8 @@ pub record Keeps (program : Units) (s : State) (on out : ℕ → Bool) (layout :
   pub described : Describes program s layout wanted arena.contents
 
 -- they are those of some state
-abbrev pub AreKept : Space → Nodes → Type 0
-AreKept arena nodes =
+abbrev pub AreOfSomeState : Space → Nodes → Type 0
+AreOfSomeState arena nodes =
     (program : Units) × (s : State) × (on : ℕ → Bool) × (out : ℕ → Bool) × (layout : Layout) × (wanted : Wanted) × Keeps program s on out layout wanted arena nodes
 
 -- before the main program begins: COMMON has so many cells at the arena's front, all unset, and no frame is out

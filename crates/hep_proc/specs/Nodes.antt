@@ -30,5 +30,5 @@ abbrev pub CanCount : Nodes → ℕ → Type 0
 CanCount nodes key = (n : TreeNode) → nodes key ≡ Some n → n.children + 1 < 2 ^ 64
 
 -- the parent of the node under a key is under another key, and has counted it
-abbrev pub IsCounted : Nodes → ℕ → Type 0
-IsCounted nodes key = (n : TreeNode) (above : ℕ) → nodes key ≡ Some n → n.parent ≡ Some above → (nat_eq above key ≡ false) × HasChildren nodes above
+abbrev pub IsCountedAbove : Nodes → ℕ → Type 0
+IsCountedAbove nodes key = (n : TreeNode) (above : ℕ) → nodes key ≡ Some n → n.parent ≡ Some above → (nat_eq above key ≡ false) × HasChildren nodes above

@@ -15,8 +15,8 @@ ghost use Rattle.hep_frames.specs.Addresses.{address, frame_address, frame_from}
 ghost use Rattle.hep_frames.specs.Descriptors.{Wanted, is_descriptor, wanted_of};
 ghost use Rattle.hep_frames.specs.Rows.{FramePart};
 ghost use Rattle.hep_frames.specs.Tree.{Node as TreeNode, also, but, first_nodes, is_stacked, new_node, with_node, without_node};
-ghost use Rattle.hep_proc.specs.Nodes.{CanCount, IsCounted, nodes_of};
-ghost use Rattle.hep_proc.specs.Keeping.{AreKept, CanAllLeave, CanLeave, HasLeft, IsBegun, IsEnded, IsOpening, IsTaken, IsUnused, Keeps, LeadUpwards, all_but, with_unset};
+ghost use Rattle.hep_proc.specs.Nodes.{CanCount, IsCountedAbove, nodes_of};
+ghost use Rattle.hep_proc.specs.Keeping.{AreOfSomeState, CanAllLeave, CanLeave, HasLeft, IsBegun, IsEnded, IsOpening, IsTaken, IsUnused, Keeps, LeadUpwards, all_but, with_unset};
 
 use crate::nodes::{self, Node};
 use hep_arena::Arena;
@@ -144,7 +144,7 @@ impl Frames {
     /// upwards.
     pub fn leave(&mut self, key: usize)
         requires there { ContainsKey self.old.nodes key }
-        requires kept { AreKept self.old.arena (nodes_of self.old.nodes) }
+        requires kept { AreOfSomeState self.old.arena (nodes_of self.old.nodes) }
         ensures left { (program : Units) (s : State) (on out : ℕ → Bool) (layout : Layout) (n : TreeNode) → Keeps program s on out layout (wanted_of program s layout) self.old.arena (nodes_of self.old.nodes) → nodes_of self.old.nodes key ≡ Some n → LeadUpwards s → HasLeft program s (but n.activation on) out layout self.old.arena self.new.arena (nodes_of self.old.nodes) (nodes_of self.new.nodes) }
         ensures ended { (program : Units) (s t : State) (out : ℕ → Bool) (layout : Layout) (n : TreeNode) → Keeps program s (is_stacked s) out layout (wanted_of program s layout) self.old.arena (nodes_of self.old.nodes) → nodes_of self.old.nodes key ≡ Some n → IsEnded program layout (but n.activation (is_stacked s)) s t → LeadUpwards t → HasLeft program t (is_stacked t) out layout self.old.arena self.new.arena (nodes_of self.old.nodes) (nodes_of self.new.nodes) }
         ensures cells { length self.new.arena.contents ≡ length self.old.arena.contents }
@@ -178,7 +178,7 @@ impl Frames {
         requires there { ContainsKey self.old.nodes key }
         requires inside { (n : TreeNode) → nodes_of self.old.nodes key ≡ Some n → n.first + n.cells ≤ length self.old.arena.contents }
         requires out { (n : TreeNode) (p : ℕ) → nodes_of self.old.nodes key ≡ Some n → n.first ≤ p → p < n.first + n.cells → IsOut p self.old.arena.holes }
-        requires counted { IsCounted (nodes_of self.old.nodes) key }
+        requires counted { IsCountedAbove (nodes_of self.old.nodes) key }
         ensures parent { (n : TreeNode) → nodes_of self.old.nodes key ≡ Some n → result ≡ n.parent }
         ensures nodes { (n : TreeNode) → nodes_of self.old.nodes key ≡ Some n → (k : ℕ) → nodes_of self.new.nodes k ≡ without_node (nodes_of self.old.nodes) key n k }
         ensures len { slab_len self.new.nodes + 1 ≡ slab_len self.old.nodes }

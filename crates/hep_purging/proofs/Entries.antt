@@ -12,7 +12,7 @@ use Rattle.hep_code.specs.Passing.{Passed, by_value, by_reference}
 use Rattle.hep_image.specs.declared.array.Array.{Array}
 use Rattle.hep_passing.specs.Entries.{passed_ahead, passed_in}
 use Rattle.hep_passing.specs.Ready.{ArePassable}
-use Rattle.hep_reply.specs.declared.frame.Frame.{Frame}
+use Rattle.hep_step.specs.declared.frame.Frame.{Frame}
 use Rattle.hep_purging.specs.declared.range.Range.{Range}
 use Rattle.hep_purging.specs.Entries.{range_ahead, range_and}
 use Rattle.hep_purging.specs.Ranges.{range_before, range_for, ranges_of}

@@ -16,7 +16,7 @@ use Rattle.hep_image.specs.declared.array.Array.{Array}
 use Rattle.hep_image.specs.Finding.{base_at, bounds_at, cells_in}
 use Rattle.hep_passing.specs.Passing.{count_of, passed_at, passed_from_element, passed_of_array, passed_of_scalar}
 use Rattle.hep_passing.specs.Ready.{ArePassable, AreUnitsIn}
-use Rattle.hep_reply.specs.declared.frame.Frame.{Frame}
+use Rattle.hep_step.specs.declared.frame.Frame.{Frame}
 use Rattle.hep_purging.specs.declared.range.Range.{Range}
 use Rattle.hep_purging.specs.Ranges.{is_whole, range_before, range_for, range_in, ranges_of}
 use Rattle.hep_purging.specs.Ready.{AreOut, AreReached, AreUnitsOut, IsRangeReached}

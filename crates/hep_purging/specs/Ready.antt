@@ -7,7 +7,7 @@ use Rattle.hep_code.specs.Passing.{Passed, by_value, by_reference}
 use Rattle.hep_image.specs.declared.array.Array.{Array}
 use Rattle.hep_image.specs.Finding.{cells_in}
 use Rattle.hep_passing.specs.Passing.{passed_at}
-use Rattle.hep_reply.specs.declared.frame.Frame.{Frame}
+use Rattle.hep_step.specs.declared.frame.Frame.{Frame}
 use Rattle.hep_purging.specs.declared.range.Range.{Range}
 
 -- ---- what is named

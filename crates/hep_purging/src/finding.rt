@@ -5,7 +5,7 @@ ghost use Rattle.hep_image.specs.Finding.{cells_in};
 ghost use Rattle.hep_passing.specs.Entries.{passed_ahead, passed_in};
 ghost use Rattle.hep_passing.specs.Passing.{passed_at};
 ghost use Rattle.hep_passing.specs.Ready.{ArePassable, IsAheadPassable, IsPassable};
-ghost use Rattle.hep_reply.specs.Cells.{HasFrame};
+ghost use Rattle.hep_step.specs.Cells.{HasFrame};
 ghost use Rattle.hep_purging.specs.Entries as entries;
 ghost use Rattle.hep_purging.specs.Ranges as definitions;
 ghost use Rattle.hep_purging.specs.Ranges.{range_in, ranges_of};
@@ -17,8 +17,8 @@ use hep_code::{Argument, Instruction, Variable};
 use hep_image::Array;
 use hep_machine::Kind;
 use hep_passing::{Given, passed};
-use hep_reply::Frame;
 use hep_source::Value;
+use hep_step::Frame;
 
 // No cells.
 const NONE: Range = Range { first: 0, cells: 0 };

@@ -13,7 +13,7 @@ ghost use Rattle.hep_code.specs.declared.instruction.Operation.TheVariants.{Purg
 ghost use Rattle.hep_code.specs.Passing.{passed_from};
 ghost use Rattle.hep_image.specs.Image.{most_cells};
 ghost use Rattle.hep_finding.specs.Within.{ArePlacedArrays};
-ghost use Rattle.hep_reply.specs.Cells.{HasFrame};
+ghost use Rattle.hep_step.specs.Cells.{HasFrame};
 ghost use Rattle.hep_passing.specs.Agreement.{IsCaller};
 ghost use Rattle.hep_passing.specs.Ready.{ArePassable};
 ghost use Rattle.hep_step.specs.Ready.{frame_in_arena};

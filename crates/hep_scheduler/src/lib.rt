@@ -8,6 +8,6 @@ pub mod stop;
 
 pub use fault::{ChooseFault, NewFault};
 pub use hep_machine::{Entry, Fault};
-pub use hep_waiting::{Listed, Place};
+pub use hep_waiting::Listed;
 pub use scheduler::Core;
 pub use stop::{Stop, Turn, Verdict};

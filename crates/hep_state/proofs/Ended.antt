@@ -24,7 +24,7 @@ use Rattle.hep_frames.proofs.StackChanges.{stacks-emptied, stacks-ended}
 use Rattle.hep_frames.proofs.Stacks.{once, times_on-numbered}
 use Rattle.hep_frames.proofs.Tree.{on-stacked}
 use Rattle.hep_finding.specs.Bound.{AreKept as kept_of}
-use Rattle.hep_proc.specs.Keeping.{AreKept, CanAllLeave, CanLeave, HasLeft, IsEnded, Keeps, LeadUpwards, all_but, frames_of}
+use Rattle.hep_proc.specs.Keeping.{AreOfSomeState, CanAllLeave, CanLeave, HasLeft, IsEnded, Keeps, LeadUpwards, all_but, frames_of}
 use Rattle.hep_step.specs.Effects.{fails, returns}
 use Rattle.hep_step.specs.Simulation.{Simulates}
 use Rattle.hep_state.specs.declared.machine.Level.{Level}
@@ -103,7 +103,7 @@ module _ (program : Units) (cells : ℕ) (choices : List ℕ) (m : Snapshot) (p 
   abbrev layout : Layout
   layout = h.after.layout
 
-  pub kept-now : AreKept m.arena m.nodes
+  pub kept-now : AreOfSomeState m.arena m.nodes
   kept-now = (program, old, is_stacked old, is_held old, layout, wanted_of program old layout, h.after.shows.keeps)
 
   pub top-node : m.nodes l.key ≡ Some (node_under m.nodes l.key)

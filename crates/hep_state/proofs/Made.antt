@@ -21,7 +21,7 @@ use Rattle.hep_arena.specs.Space.{Space}
 use Rattle.hep_frames.specs.Descriptors.{wanted_of}
 use Rattle.hep_frames.specs.Tree.{Node, Nodes, also, is_stacked}
 use Rattle.hep_frames.proofs.Memory.{activation-last}
-use Rattle.hep_proc.specs.Keeping.{AreKept as ArenaKept}
+use Rattle.hep_proc.specs.Keeping.{AreOfSomeState as ArenaKept}
 use Rattle.hep_passing.specs.declared.given.Given.{Given}
 use Rattle.hep_passing.specs.Shapes.{AreShapesOf}
 use Rattle.hep_state.specs.declared.machine.Level.{Level}

@@ -17,8 +17,7 @@ use hep_code::Instruction;
 use hep_code::operands::settle;
 use hep_image::Image;
 use hep_proc::Frames;
-use hep_reply::Frame;
-use hep_step::{Effect, perform};
+use hep_step::{Effect, Frame, perform};
 use hep_touched::touched;
 use std::alloc::{AllocError, Global};
 

@@ -23,7 +23,7 @@ use crate::upcoming::PurgeAhead;
 use hep_image::Image;
 use hep_machine::Kind;
 use hep_purging::find_ranges;
-use hep_reply::Frame;
+use hep_step::Frame;
 
 impl Machine {
     // The cells that the targets of the PURGE ahead of process p name, into `passing`.

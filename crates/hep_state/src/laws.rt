@@ -22,7 +22,7 @@ ghost use Rattle.hep_frames.specs.Tree.{Node, Nodes, but, is_stacked};
 ghost use Rattle.hep_finding.specs.Within.{ArePlacedArrays};
 ghost use Rattle.hep_image.specs.declared.data.DataRow.{DataRow};
 ghost use Rattle.hep_image.specs.Data.{AreInitial, AreOfUnits, first_frames};
-ghost use Rattle.hep_proc.specs.Keeping.{AreKept, CanAllLeave, CanLeave, HasLeft, IsEnded, IsOpening, Keeps, LeadUpwards, all_but};
+ghost use Rattle.hep_proc.specs.Keeping.{AreOfSomeState, CanAllLeave, CanLeave, HasLeft, IsEnded, IsOpening, Keeps, LeadUpwards, all_but};
 ghost use Rattle.hep_arena.specs.Holes.{first_fit};
 ghost use Rattle.hep_code.specs.declared.instruction.Instruction.TheVariants.{Step};
 ghost use Rattle.hep_code.specs.declared.instruction.Operation.{Operation};
@@ -35,7 +35,7 @@ ghost use Rattle.hep_purging.specs.declared.range.Range.{Range};
 ghost use Rattle.hep_purging.specs.Purged.{purged};
 ghost use Rattle.hep_purging.specs.Ready.{AreOut};
 ghost use Rattle.hep_shaping.specs.Fitting.{AreShapable, are_fitting, longest_code, shapes_of};
-ghost use Rattle.hep_reply.specs.Cells.{HasFrame};
+ghost use Rattle.hep_step.specs.Cells.{HasFrame};
 ghost use Rattle.hep_step.specs.Ready.{frame_in_arena};
 ghost use Rattle.hep_step.specs.Calls.{making};
 ghost use Rattle.hep_step.specs.Effects.{fails, moves, prints, returns, stops, waits};
@@ -108,7 +108,7 @@ pub fn waiting_is_shown()
 
 /// The frames of the top activation, or of all activations of a process, can leave.
 pub fn frames_can_leave()
-    ensures kept { (program : Units) (cells : ℕ) (choices : List ℕ) (m : Snapshot) (p : ℕ) (l : Level) (ls : List Level) (operands : List Value) (top : SourceLevel × SourceProcess) → IsTurning program cells choices m p l ls operands top → AreKept m.arena m.nodes }
+    ensures kept { (program : Units) (cells : ℕ) (choices : List ℕ) (m : Snapshot) (p : ℕ) (l : Level) (ls : List Level) (operands : List Value) (top : SourceLevel × SourceProcess) → IsTurning program cells choices m p l ls operands top → AreOfSomeState m.arena m.nodes }
     ensures there { (program : Units) (cells : ℕ) (choices : List ℕ) (m : Snapshot) (p : ℕ) (l : Level) (ls : List Level) (operands : List Value) (top : SourceLevel × SourceProcess) → IsTurning program cells choices m p l ls operands top → m.nodes l.key ≡ Some (node_under m.nodes l.key) }
     ensures returned { (program : Units) (cells : ℕ) (choices : List ℕ) (m : Snapshot) (p : ℕ) (l : Level) (ls : List Level) (operands : List Value) (top : SourceLevel × SourceProcess) → (turning : IsTurning program cells choices m p l ls operands top) → IsEnded program turning.after.layout (but (node_under m.nodes l.key).activation (is_stacked (run program choices))) (run program choices) (state_returned program choices p top) × LeadUpwards (state_returned program choices p top) }
     ensures all { (program : Units) (cells : ℕ) (choices : List ℕ) (m : Snapshot) (p : ℕ) (l : Level) (ls : List Level) (operands : List Value) (top : SourceLevel × SourceProcess) → IsTurning program cells choices m p l ls operands top → CanAllLeave m.arena m.nodes (keys_of (l ∷ ls)) × CanLeave m.nodes (is_stacked (run program choices)) (keys_of (l ∷ ls)) (activations_on (top.0 ∷ top.1)) }

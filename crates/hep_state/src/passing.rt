@@ -13,8 +13,8 @@ use crate::upcoming::CallAhead;
 use hep_image::Image;
 use hep_machine::Kind;
 use hep_passing::give_actuals;
-use hep_reply::Frame;
 use hep_shaping::find_shapes;
+use hep_step::Frame;
 
 impl Machine {
     // What the actual arguments of the CALL or CREATE ahead of process p give.

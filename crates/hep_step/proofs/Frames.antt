@@ -2,8 +2,8 @@
 use Rattle.std.proofs.Common.{◌≡◌, length, sym, subst, arith}
 use Rattle.hep_arena.specs.Holes.{IsOut}
 use Rattle.hep_arena.specs.Space.{Space}
-use Rattle.hep_reply.specs.declared.frame.Frame.{Frame}
-use Rattle.hep_reply.specs.Cells.{HasFrame}
+use Rattle.hep_step.specs.declared.frame.Frame.{Frame}
+use Rattle.hep_step.specs.Cells.{HasFrame}
 
 pub frame_stays : (old new : Space) (frame : Frame) → length new.contents ≡ length old.contents → new.holes ≡ old.holes → HasFrame old frame → HasFrame new frame
 frame_stays old new frame cells holes h =

@@ -1,7 +1,9 @@
+pub mod Elements
+mod Worked
 pub mod Accesses
 pub mod Assignments
 pub mod Calls
-pub mod Counts
+pub mod IterationCounts
 pub mod Endings
 pub mod Evaluations
 pub mod Frames

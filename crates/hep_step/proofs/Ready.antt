@@ -35,8 +35,8 @@ use Rattle.hep_image.specs.Within.{LiesIn}
 use Rattle.hep_finding.specs.Within.{ArePlacedArrays}
 use Rattle.hep_finding.proofs.Reached.{frame-reached, reached}
 use Rattle.hep_finding.proofs.Within.{loop-within, variable-within}
-use Rattle.hep_reply.specs.Cells.{HasFrame, IsReached}
-use Rattle.hep_reply.specs.Replies.{accessed_by}
+use Rattle.hep_step.specs.Cells.{HasFrame, IsReached}
+use Rattle.hep_step.specs.Replies.{accessed_by}
 use Rattle.hep_step.specs.Effects.{subscripts_in}
 use Rattle.hep_step.specs.Ready.{IsAheadReady, IsEvaluationReady, IsLoopReady, IsOperationReady, IsReady, IsVariableReady, frame_in_arena, last_operands}
 use Rattle.hep_step.specs.Simulation.{IsRunning, addressed_on_top, arrays_on_top, code_on_top, variable_in}

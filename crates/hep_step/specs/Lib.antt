@@ -1,3 +1,5 @@
+pub mod Cells
+pub mod Replies
 pub mod Effects
 pub mod Items
 pub mod Performed

@@ -3,15 +3,15 @@ ghost use Rattle.std.specs.Prelude.{◌≡◌, ◌<◌, ◌≤◌, length};
 ghost use Rattle.hep_arena.specs.Holes.{IsOut};
 ghost use Rattle.hep_image.specs.Image.{most_cells};
 ghost use Rattle.hep_cells.specs.Outcomes.{outcome_meant};
-ghost use Rattle.hep_reply.specs.Replies.{reply_meant};
+ghost use Rattle.hep_step.specs.Replies.{reply_meant};
 ghost use Rattle.hep_step.specs.Performed.{access_made, effect_of_obstacle, reply_made};
 ghost use Rattle.hep_step.specs.Ready.{IsReplyReached};
 
 use crate::effect::Effect;
+use crate::reply::Reply;
 use hep_arena::Arena;
 use hep_cells::{AccessOutcome, CellState};
 use hep_machine::Kind;
-use hep_reply::Reply;
 use hep_source::Value;
 
 /// Why an operation has no value.

@@ -6,6 +6,7 @@ ghost use Rattle.hep_step.specs.Performed.{HasNoStep, HasPrint, IsPerformed, sna
 ghost use Rattle.hep_step.specs.Ready.{IsReady};
 
 use crate::effect::Effect;
+use crate::frame::Frame;
 use crate::iterating::{Loop, end_loop, enter_loop};
 use crate::moving::jump;
 use crate::printing::print;
@@ -14,7 +15,6 @@ use crate::values::{evaluate, store};
 use hep_arena::Arena;
 use hep_code::{Instruction, Operation};
 use hep_image::Array;
-use hep_reply::Frame;
 use hep_source::Value;
 use std::alloc::{AllocError, Global};
 

@@ -1,7 +1,7 @@
 //! Where an activation's variables are.
 
+use crate::frame::Frame;
 use hep_image::Array;
-use hep_reply::Frame;
 
 /// By what the code of an activation finds its variables, beside the cells themselves.
 #[derive(Clone, Copy)]

@@ -2,17 +2,17 @@
 ghost use Rattle.std.specs.Prelude.{◌≡◌, ◌+◌, ◌<◌, ◌≤◌, ◌^◌, ◌++◌, ◌∷◌, [], length, take, vec_len, vec_capacity};
 ghost use Rattle.hep_code.specs.declared.instruction.Operation.TheVariants.{Store};
 ghost use Rattle.hep_code.specs.Moves.{first_operand};
-ghost use Rattle.hep_reply.specs.Cells.{HasFrame};
+ghost use Rattle.hep_step.specs.Cells.{HasFrame};
 ghost use Rattle.hep_step.specs.Effects.{effect_of, effect_of_evaluation, subscripts_in};
 ghost use Rattle.hep_step.specs.Performed.{IsPerformed, snapshot};
 ghost use Rattle.hep_step.specs.Ready.{IsEvaluationReady, IsVariableReady};
 
 use crate::effect::Effect;
 use crate::granted::granted;
+use crate::reply::{reply_of, reply_to_store};
 use crate::storage::Storage;
 use hep_arena::Arena;
 use hep_code::{Evaluation, Variable};
-use hep_reply::{reply_of, reply_to_store};
 use hep_source::Value;
 
 // Puts a value in the place of all operands but so many, for which there is room.

@@ -3,8 +3,8 @@ ghost use Rattle.std.specs.Prelude.{◌≡◌, ◌<◌, ℕ, IfSome, length};
 ghost use Rattle.std.specs.Option.{ForSome};
 ghost use Rattle.hep_arena.specs.Holes.{IsOut};
 ghost use Rattle.hep_code.specs.Replies as replies;
-ghost use Rattle.hep_reply.specs.Cells.{HasFrame};
-ghost use Rattle.hep_reply.specs.Replies.{accessed_by};
+ghost use Rattle.hep_step.specs.Cells.{HasFrame};
+ghost use Rattle.hep_step.specs.Replies.{accessed_by};
 ghost use Rattle.hep_needs.specs.Needs.{if_so};
 ghost use Rattle.hep_step.specs.Effects.{subscripts_in};
 ghost use Rattle.hep_step.specs.Ready as ready;
@@ -15,8 +15,8 @@ ghost use Rattle.hep_touched.specs.Touched.{touched_at};
 use hep_arena::Arena;
 use hep_code::{Evaluation, Instruction, Operation, Variable};
 use hep_image::Array;
-use hep_reply::{Frame, address};
 use hep_source::{StateFunction, Value};
+use hep_step::{Frame, address};
 
 // Whether a variable has `$`.
 fn is_asynchronous(variable: Variable) -> bool

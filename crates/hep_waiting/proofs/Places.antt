@@ -1,11 +1,10 @@
 -- The cell of a storage unit that is sought tells its place.
 use Rattle.std.proofs.Common.{◌≡◌, inl, inr, ◌⊎◌, ℕ, zero, suc, ◌+◌, ◌-◌, ◌<◌, ◌≤◌, List, length, Option, Some, None, refl, sym, ap, ◌∙◌, arith}
-use Rattle.std.specs.Prelude.{if◌then◌else◌}
 use Rattle.std.proofs.lemmas.Option.{none-some, same_Some}
 use Rattle.hep_source.specs.declared.name.Name.{Name}
 use Rattle.hep_source.specs.declared.statement.Statement.{Statement}
 use Rattle.hep_source.specs.Units.{Units, dummies_of, unit_at}
-use Rattle.hep_machine.specs.Declarations.{BlockName, is_array}
+use Rattle.hep_machine.specs.Declarations.{BlockName}
 use Rattle.hep_machine.specs.Layout.{Frame, Layout, common_cells, frame_of, is_held}
 use Rattle.hep_machine.specs.Processes.{parent_of, unit_of}
 use Rattle.hep_machine.specs.Run.{run}
@@ -16,16 +15,13 @@ use Rattle.hep_frames.specs.Addresses.{IsLaid, address}
 use Rattle.hep_frames.specs.Rows.{FramePart, argument, common_row, frame_row, owner_in, variable}
 use Rattle.hep_frames.specs.Tree.{is_stacked}
 use Rattle.hep_frames.proofs.Frames.{among}
-use Rattle.hep_image.specs.declared.owners.BlockStart.{BlockStart}
-use Rattle.hep_image.specs.declared.owners.FrameVariable.{FrameVariable}
 use Rattle.hep_image.specs.Image.{most_cells}
-use Rattle.hep_image.specs.Owners.{AreGivenOnce, block_before, block_starts, frame_variables, variable_before}
+use Rattle.hep_image.specs.Owners.{AreGivenOnce, IsBlockTold, IsTold}
 use Rattle.hep_proc.specs.Nodes.{nodes_of}
 use Rattle.hep_state.specs.declared.machine.Machine.{Machine}
 use Rattle.hep_views.specs.Waited.{unit_in_common, unit_in_frame, unit_of_block, unit_of_part}
 use Rattle.hep_waiting.specs.declared.place.Place.{Place}
-use Rattle.hep_waiting.specs.declared.place.Place.TheVariants.{Common, Variable}
-use Rattle.hep_waiting.specs.Listed.{place_of}
+use Rattle.hep_waiting.specs.Listed.{block_place, place_of, variable_place}
 use Rattle.hep_waiting.specs.Sought.{IsSought, holder_above}
 use Rattle.hep_waiting.proofs.Holders.{IsHolder, framed-so, holder-found}
 
@@ -43,15 +39,10 @@ FrameTold program s layout =
     × (unit_in_frame a (unit_at program (unit_of s a)) (c - f.first) ≡ Some (local a x i))
 
 abbrev pub BlockTold : Units → Type 0
-BlockTold program =
-    (b : BlockName) (i n : ℕ) → owner_in (common_row program) n ≡ Some (b, i)
-    → (s : BlockStart) × (block_before (block_starts program) n ≡ Some s) × (s.block ≡ b) × (s.first + i ≡ n)
+BlockTold program = (b : BlockName) (i n : ℕ) → owner_in (common_row program) n ≡ Some (b, i) → IsBlockTold program n b i
 
 abbrev pub VariableTold : List Statement → (Name → FramePart) → Type 0
-VariableTold unit part =
-    (x : Name) (i n : ℕ) → owner_in (frame_row unit) n ≡ Some (part x, i)
-    → (v : FrameVariable) × (variable_before (frame_variables unit) n ≡ Some v) × (v.name ≡ x) × (v.first + i ≡ n)
-    × (v.is_array ≡ is_array unit x)
+VariableTold unit part = (x : Name) (i n : ℕ) → owner_in (frame_row unit) n ≡ Some (part x, i) → IsTold unit n x i
 
 -- what a cell tells, whatever is kept in it
 pub record Tells (program : Units) : Type 0 where
@@ -87,35 +78,14 @@ part-unit a (Some (argument y, zero)) x i e =
 part-unit a _ x i e = absurd (none-some (local a x i) e)
 
 -- the variable that is found by a cell of a frame
-pub record IsVariable (unit : List Statement) (n : ℕ) (x : Name) (i : ℕ) : Type 0 where
-  pub found : FrameVariable
-  pub before : variable_before (frame_variables unit) n ≡ Some found
-  pub within : found.first ≤ n
-  pub name : found.name ≡ x
-  pub array : found.is_array ≡ is_array unit x
-  pub element : n - found.first + 1 ≡ i
-
 pub variable-told : (a : ℕ) (unit : List Statement) (n : ℕ) (x : Name) (i : ℕ) → VariableTold unit variable → VariableTold unit argument
-    → unit_in_frame a unit n ≡ Some (local a x i) → IsVariable unit n x i
+    → unit_in_frame a unit n ≡ Some (local a x i) → (j : ℕ) × (i ≡ suc j) × IsTold unit n x j
 variable-told a unit n x i variables arguments e = by_part (part-unit a (owner_in (frame_row unit) n) x i e) where
-  by_variable : (j : ℕ) → i ≡ suc j
-      → (v : FrameVariable) × (variable_before (frame_variables unit) n ≡ Some v) × (v.name ≡ x) × (v.first + j ≡ n)
-      × (v.is_array ≡ is_array unit x) → IsVariable unit n x i
-  by_variable j index v =
-      record {
-        found = v.0;
-        before = v.1;
-        within = omega (arith, v.3);
-        name = v.2;
-        array = v.4;
-        element = omega (arith, v.3, index);
-      }
-
   by_part : (j : ℕ) × (i ≡ suc j) × ((owner_in (frame_row unit) n ≡ Some (variable x, j)) ⊎ (owner_in (frame_row unit) n ≡ Some (argument x, j)))
-      → IsVariable unit n x i
+      → (j : ℕ) × (i ≡ suc j) × IsTold unit n x j
   by_part p = elim p.2 [
-    | inl own ↦ by_variable p.0 p.1 (variables x p.0 n own)
-    | inr own ↦ by_variable p.0 p.1 (arguments x p.0 n own)
+    | inl own ↦ (p.0, p.1, variables x p.0 n own)
+    | inr own ↦ (p.0, p.1, arguments x p.0 n own)
   ]
 
 -- ---- what is sought
@@ -132,24 +102,17 @@ module _ (program : Units) (cells : ℕ) (choices : List ℕ) (m : Machine) (key
     pub block : BlockName
     pub index : ℕ
     pub is : at ≡ common block (suc index)
-    pub start : BlockStart
-    pub before : block_before (block_starts program) cell ≡ Some start
-    pub named : start.block ≡ block
-    pub behind : start.first + index ≡ cell
+    pub told : IsBlockTold program cell block index
 
   pub in-common : (at : Location) → IsSought program cells choices m key cell at → Tells program → cell < common_cells program → IsInCommon at
   in-common (common b i) h tells front =
       let told = tells.commons s h.after.layout b i cell h.kept in
       let unit = block-unit (owner_in (common_row program) cell) b i told.1 in
-      let start = tells.blocks b unit.0 cell unit.2 in
       record {
         block = b;
         index = unit.0;
         is = ap (λ n. common b n) unit.1;
-        start = start.0;
-        before = start.1;
-        named = start.2;
-        behind = start.3;
+        told = tells.blocks b unit.0 cell unit.2;
       }
   in-common (local a x i) h tells front =
       absurd (
@@ -210,7 +173,7 @@ module _ (program : Units) (cells : ℕ) (choices : List ℕ) (m : Machine) (key
   pub variable-of : (at : Location) (f : IsInFrame at) → VariableTold (unit_at program (unit_of s f.owner)) variable
       → (AreGivenOnce (dummies_of (unit_at program (unit_of s f.owner))) → VariableTold (unit_at program (unit_of s f.owner)) argument)
       → AreGivenOnce (dummies_of (unit_at program (unit_of s f.owner)))
-      → IsVariable (unit_at program (unit_of s f.owner)) (cell - f.holder.node.first) f.name f.index
+      → (j : ℕ) × (f.index ≡ suc j) × IsTold (unit_at program (unit_of s f.owner)) (cell - f.holder.node.first) f.name j
   variable-of at f variables arguments once =
       variable-told f.owner (unit_at program (unit_of s f.owner)) (cell - f.holder.node.first) f.name f.index variables (arguments once) f.told
 
@@ -218,19 +181,15 @@ module _ (program : Units) (cells : ℕ) (choices : List ℕ) (m : Machine) (key
 
 -- the place of what is sought in COMMON
 pub common-place : (program : Units) (cells : ℕ) (choices : List ℕ) (m : Machine) (key cell : ℕ) (at : Location)
-    → (f : IsInCommon program cells choices m key cell at) → (result : Place)
-    → ((t : BlockStart) → block_before (block_starts program) cell ≡ Some t → result ≡ Common t.block (cell - t.first + 1))
+    → (f : IsInCommon program cells choices m key cell at) → (result : Place) → result ≡ block_place program f.block (f.index + 1)
     → result ≡ place_of program (run program choices) at
 common-place program cells choices m key cell at f result is =
-    let index : cell - f.start.first + 1 ≡ suc f.index = omega (arith, f.behind) in
-    is f.start f.before ∙ ((λ i. Common (f.named i) (index i)) ∙ sym (ap (place_of program (run program choices)) f.is))
+    let next : f.index + 1 ≡ suc f.index = omega arith in
+    is ∙ (ap (block_place program f.block) next ∙ sym (ap (place_of program (run program choices)) f.is))
 
 -- and in a frame
-pub frame-place : (program : Units) (s : State) (a : ℕ) (n : ℕ) (x : Name) (i : ℕ) (at : Location) → at ≡ local a x i
-    → (v : IsVariable (unit_at program (unit_of s a)) n x i) → (result : Place) (owner : ℕ) → owner ≡ a
-    → ((w : FrameVariable) → variable_before (frame_variables (unit_at program (unit_of s a))) n ≡ Some w
-    → result ≡ Variable w.name (if w.is_array then n - w.first + 1 else 0) owner)
-    → result ≡ place_of program s at
-frame-place program s a n x i at is v result owner same told =
-    told v.found v.before
-    ∙ ((λ j. Variable (v.name j) (if v.array j then v.element j else 0) (same j)) ∙ sym (ap (place_of program s) is))
+pub frame-place : (program : Units) (s : State) (a : ℕ) (x : Name) (i j : ℕ) (at : Location) → at ≡ local a x i → i ≡ suc j
+    → (result : Place) (u owner : ℕ) → u ≡ unit_of s a → owner ≡ a → result ≡ variable_place program u x (j + 1) owner → result ≡ place_of program s at
+frame-place program s a x i j at is index result u owner unit own told =
+    let next : j + 1 ≡ i = omega (arith, index) in
+    told ∙ ((λ k. variable_place program (unit k) x (next k) (own k)) ∙ sym (ap (place_of program s) is))

@@ -165,10 +165,19 @@ module _ (program : Units) (cells : ℕ) (choices : List ℕ) (m : Machine) (h :
 
   pub listed-is : (p : ℕ) (want : Want) (w : Waits p want) (level : Level) (line : ℕ) (place : Place) → level ≡ w.is_top.l
       → line ≡ line_ahead (drop level.index (unit_code program level.unit)) → place ≡ place_of program s w.wanted.at
-      → listed_by program p s ≡ Some (record { process = p; unit = level.unit; line = line; full = want.full; place = place })
+      → listed_by program p s ≡ Some (record { process = p; unit = level.unit; line = line; full = want.full; owner = place.owner; name = place.name; element = place.element })
   listed-is p want w level line place level_is line_is place_is =
       let unit : unit_of s w.top.0.activation ≡ level.unit = w.is_top.unit ∙ sym (ap (λ (l : Level). l.unit) level_is) in
       let at : line_at (unit_at program (unit_of s w.top.0.activation)) w.top.0.statement ≡ line =
       sym (line_is ∙ (ap (λ (l : Level). line_ahead (drop l.index (unit_code program l.unit))) level_is ∙ w.is_top.line)) in
       (λ i. listed_with program s p (w.lives i) (w.waits i))
-      ∙ (λ i. Some (record { process = p; unit = unit i; line = at i; full = w.full i; place = sym place_is i }))
+      ∙ (λ i. Some (
+      record {
+        process = p;
+        unit = unit i;
+        line = at i;
+        full = w.full i;
+        owner = (sym place_is i).owner;
+        name = (sym place_is i).name;
+        element = (sym place_is i).element;
+      }))

@@ -1,24 +1,24 @@
 //! From the cell for which a process waits to the storage unit that is kept there.
-ghost use Rattle.std.specs.Prelude.{◌≡◌, ◌+◌, ◌-◌, ◌<◌, ◌≤◌, ◌&&◌, ℕ, if◌then◌else◌, nat_le, nat_lt, IsSome, List, Some, drop};
+ghost use Rattle.std.specs.Prelude.{◌≡◌, ◌+◌, ◌-◌, ◌<◌, ◌≤◌, ◌&&◌, ℕ, if◌then◌else◌, nat_le, nat_lt, IsSome, List, Some, drop, length};
 ghost use Rattle.slab.specs.Slab.{ContainsKey};
+ghost use Rattle.hep_source.specs.declared.name.Name.{Name};
 ghost use Rattle.hep_source.specs.declared.value.Value.{Value};
+ghost use Rattle.hep_source.specs.Units.{unit_at};
+ghost use Rattle.hep_machine.specs.Declarations.{BlockName};
 ghost use Rattle.hep_machine.specs.Processes.{numbered};
 ghost use Rattle.hep_machine.specs.Run.{run};
 ghost use Rattle.hep_machine.specs.State.{Location};
 ghost use Rattle.hep_code.specs.Depths as depths;
 ghost use Rattle.hep_frames.specs.Tree.{Node};
-ghost use Rattle.hep_image.specs.declared.owners.BlockStart.{BlockStart};
-ghost use Rattle.hep_image.specs.declared.owners.FrameVariable.{FrameVariable};
 ghost use Rattle.hep_image.specs.Image.{most_cells};
-ghost use Rattle.hep_image.specs.Owners.{AreInOrder, block_before, block_starts, variable_before};
+ghost use Rattle.hep_image.specs.Owners.{IsBlockTold, IsTold};
 ghost use Rattle.hep_proc.specs.Nodes.{nodes_of};
 ghost use Rattle.hep_state.specs.declared.machine.Level.{Level as ALevel};
 ghost use Rattle.hep_state.specs.Rooms.{IsMachineAfter};
 ghost use Rattle.hep_state.specs.Snapshots.{snapshot_of};
 ghost use Rattle.hep_state.specs.Taking.{HasLevels, stack_with};
 ghost use Rattle.hep_listed.specs.Listing.{IsBlocked};
-ghost use Rattle.hep_waiting.specs.declared.place.Place.TheVariants.{Common, Variable};
-ghost use Rattle.hep_waiting.specs.Listed.{listed_by, place_of};
+ghost use Rattle.hep_waiting.specs.Listed.{block_place, listed_by, place_of, variable_place};
 ghost use Rattle.hep_waiting.specs.Sought.{IsSought, has_cell as frame_has_cell, holder_above};
 
 use crate::listed::Listed;
@@ -27,8 +27,8 @@ use hep_accepted::names::names_are_given_once;
 use hep_blocked::Want;
 use hep_code::Instruction;
 use hep_frames::laws::references_lead_upwards;
+use hep_image::Image;
 use hep_image::laws::cells_tell_their_variables;
-use hep_image::{Image, UnitCode};
 use hep_needs::laws::waits_are_unmet_needs;
 use hep_proc::Frames;
 use hep_state::{Level, Machine};
@@ -88,33 +88,34 @@ fn holder(frames: &Frames, key: usize, cell: u32, most: u64) -> usize
 // What COMMON keeps in a cell.
 fn in_common(image: &Image, cell: u32) -> Place
     requires few { cell < most_cells }
-    requires there { (s : BlockStart) × (block_before (block_starts image.now) cell ≡ Some s) × (s.first ≤ cell) }
-    ensures { (s : BlockStart) → block_before (block_starts image.now) cell ≡ Some s → result ≡ Common s.block (cell - s.first + 1) }
+    requires there { (b : BlockName) × (i : ℕ) × IsBlockTold image.now cell b i }
+    ensures { (b : BlockName) (i : ℕ) → IsBlockTold image.now cell b i → result ≡ block_place image.now b (i + 1) }
 {
     let start = image.block_at(cell).unwrap();
-    Place::Common {
-        block: start.block,
-        position: cell - start.first + 1,
+    Place {
+        owner: 0,
+        name: image.block_number(start),
+        element: cell - start.first + 1,
     }
 }
 
-// What the frame of an activation of a unit keeps in a cell, counted from the frame's first one.
-fn in_frame(unit: &UnitCode, cell: u32, owner: u64) -> Place
+// What the frame of an activation of the unit of this number keeps in a cell, counted from the frame's first one.
+fn in_frame(image: &Image, unit: usize, cell: u32, owner: u64) -> Place
     requires few { cell < most_cells }
-    requires order { AreInOrder unit.now.variables }
-    requires there { (v : FrameVariable) × (variable_before unit.now.variables cell ≡ Some v) × (v.first ≤ cell) }
-    ensures { (v : FrameVariable) → variable_before unit.now.variables cell ≡ Some v → result ≡ Variable v.name (if v.is_array then cell - v.first + 1 else 0) owner }
+    requires unit { unit < length image.now }
+    requires there { (x : Name) × (i : ℕ) × IsTold (unit_at image.now unit) cell x i }
+    ensures { (x : Name) (i : ℕ) → IsTold (unit_at image.now unit) cell x i → result ≡ variable_place image.now unit x (i + 1) owner }
 {
-    let variable = unit.variable_at(cell).unwrap();
+    let variable = image.unit(unit).variable_at(cell).unwrap();
     let element = if variable.is_array {
         cell - variable.first + 1
     } else {
         0
     };
-    Place::Variable {
-        name: variable.name,
-        element,
+    Place {
         owner,
+        name: image.variable_number(unit, variable),
+        element,
     }
 }
 
@@ -133,8 +134,12 @@ fn place_at(machine: &Machine, image: &Image, key: usize, cell: u32) -> Place
     }
     let frames = &machine.frames;
     let at = holder(frames, key, cell, machine.activations);
-    let unit = image.unit(frames.unit(at) as usize);
-    in_frame(unit, cell - frames.first(at), frames.activation(at))
+    in_frame(
+        image,
+        frames.unit(at) as usize,
+        cell - frames.first(at),
+        frames.activation(at),
+    )
 }
 
 /// Process p, which waits for a cell to be so, as a person reads of it.
@@ -149,11 +154,15 @@ pub fn listed(machine: &Machine, image: &Image, p: u64, want: Want) -> Listed
     waits_are_unmet_needs();
     let level = top(machine, p);
     let unit = image.unit(level.unit as usize);
+    let line = line_from(unit.code.as_slice(), level.index);
+    let place = place_at(machine, image, level.key, want.cell);
     Listed {
         process: p,
         unit: level.unit,
-        line: line_from(unit.code.as_slice(), level.index),
+        line,
         full: want.full,
-        place: place_at(machine, image, level.key, want.cell),
+        owner: place.owner,
+        name: place.name,
+        element: place.element,
     }
 }

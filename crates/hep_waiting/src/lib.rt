@@ -6,4 +6,3 @@ mod listed;
 mod place;
 
 pub use listed::Listed;
-pub use place::Place;

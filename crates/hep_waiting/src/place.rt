@@ -1,19 +1,12 @@
-//! Storage units as a person names them.
+//! Where storage units are, as a person names them.
 
-use hep_source::Name;
-
-/// Where a storage unit is.
+/// A variable of an activation or its element, or a position of a common block.
 #[derive(Clone, Copy, Debug, PartialEq, Eq)]
-pub enum Place {
-    /// The variable of an activation, counted from 1, or its element, counted from 1; the element is 0 for a variable that is no array.
-    Variable {
-        name: Name,
-        element: u32,
-        owner: u64,
-    },
-    /// A position of a common block, counted from 1. Blank COMMON has no name (X3.9-1978, 8.3).
-    Common {
-        block: Option<Name>,
-        position: u32,
-    },
+pub(crate) struct Place {
+    // The activation whose variable it is, counted from 1, and 0 for COMMON.
+    pub(crate) owner: u64,
+    // The number of the name of the variable or of the common block.
+    pub(crate) name: u32,
+    // The element or the position, counted from 1, and 0 for a variable that is no array.
+    pub(crate) element: u32,
 }

@@ -99,7 +99,7 @@ fn held_frames(rt: HostRuntime) -> Result<(), Fail> {
     Ok(())
 }
 
-// Who was found waiting, and who comes after it.
+// Who was found waiting, for what, and who comes after it.
 #[test]
 fn waiting_processes(rt: HostRuntime) -> Result<(), Fail> {
     let alloc = rt.alloc();
@@ -113,6 +113,9 @@ fn waiting_processes(rt: HostRuntime) -> Result<(), Fail> {
         (found.process, found.unit, found.line, found.full),
         (1, 0, 2, true)
     );
+    assert_eq!(rt; (found.owner, found.element), (1, 0));
+    let name = core.image().name(found.name).ok_or("no name")?;
+    assert!(rt; name == b"$Q".as_slice());
     assert!(rt; core.waiting_after(1).is_none());
     Ok(())
 }

@@ -1,11 +1,11 @@
-use Rattle.std.proofs.Common.{◌∙◌, ◌<◌, arith, length, subst}
+use Rattle.std.proofs.Common.{◌∙◌, ◌<◌, arith, length, subst, sym}
 use Rattle.hep_source.specs.Units.{Units}
 use Rattle.hep_code.specs.Limits.{most_instructions}
 use Rattle.hep_lower.specs.Refusals.{IsFirstDeep, RefusesCode}
 use Rattle.hep_lower.specs.Units.{AreUnits}
 use Rattle.hep_lower.proofs.Counts.{one-each}
 use Rattle.hep_lower.proofs.Placing.{none-there}
-use Rattle.hep_lower.proofs.Told.{lowered-is, some-main, told-cells, told-code, told-deep, told-many, within-limits}
+use Rattle.hep_lower.proofs.Told.{blocks-are, lowered-is, some-main, told-cells, told-code, told-deep, told-many, within-limits}
 use Rattle.hep_lower.proofs.program.lower_program.Goals as goal
 
 pub returns-then-exceeds_cells-clause-refused : goal.returns-then-exceeds_cells-clause-refused
@@ -33,6 +33,38 @@ returns-in-Some-clause-refused c =
     let known = subst (λ (p : Units). AreUnits p (length p) units) same c.in_ok-units.ensures.units in
     let within = within-limits program units known (c.exceeds_cells.ensures.common c.if-exceeds_cells.false) (c.exceeds_cells.ensures.frames c.if-exceeds_cells.false) c.in_ok-units.ensures.few in
     told-deep program (some-main program c.args.main c.requires) c.refused-in-Some.result c.in-Some.line c.refused-in-Some.ensures within (subst (IsFirstDeep program (length program)) c.in-Some.is known.deep)
+
+pub of_blocks-requires : goal.of_blocks-requires
+of_blocks-requires c =
+    let known = c.in_ok-blocks.ensures in
+    let source = c.as_slice-source.result.now in
+    (source, record { blocks_are = known.blocks; lengths_are = known.lengths; bounded = known.bounded })
+
+pub exceeds_cells-requires : goal.exceeds_cells-requires
+exceeds_cells-requires c =
+    let known = c.in_ok-blocks.ensures in
+    let program = c.args.checked.now in
+    c.in_ok-common.ensures program (
+    blocks-are c.as_slice-source.result.now program c.in_ok-blocks.blocks (c.as_slice-source.ensures ∙ c.program.ensures) known.blocks known.lengths known.bounded)
+
+pub lower_units-requires-clause-starts : goal.lower_units-requires-clause-starts
+lower_units-requires-clause-starts c =
+    let known = c.in_ok-blocks.ensures in
+    let program = c.in_ok-program.program in
+    c.in_ok-common.ensures program (
+    blocks-are c.as_slice-source.result.now program c.in_ok-blocks.blocks (sym c.in_ok-program.ensures) known.blocks known.lengths known.bounded)
+
+pub image_of-requires-clause-blocks : goal.image_of-requires-clause-blocks
+image_of-requires-clause-blocks c =
+    let known = c.in_ok-blocks.ensures in
+    blocks-are c.as_slice-source.result.now c.args.checked.now c.in_ok-blocks.blocks (c.as_slice-source.ensures ∙ c.program.ensures) known.blocks known.lengths known.bounded
+
+pub image_of-requires-clause-starts : goal.image_of-requires-clause-starts
+image_of-requires-clause-starts c =
+    let known = c.in_ok-blocks.ensures in
+    let program = c.args.checked.now in
+    c.in_ok-common.ensures program (
+    blocks-are c.as_slice-source.result.now program c.in_ok-blocks.blocks (c.as_slice-source.ensures ∙ c.program.ensures) known.blocks known.lengths known.bounded)
 
 pub image_of-requires-clause-units : goal.image_of-requires-clause-units
 image_of-requires-clause-units c =

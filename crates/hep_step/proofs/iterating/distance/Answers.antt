@@ -1,6 +1,6 @@
 use Rattle.std.proofs.Common.{◌<◌, ◌^◌, ◌+ℤ◌, ◌-ℤ◌, nat_abs, sym, subst, arith}
 use Rattle.std.proofs.lemmas.Int.{ints}
-use Rattle.hep_step.proofs.Counts.{is_small}
+use Rattle.hep_step.proofs.IterationCounts.{is_small}
 use Rattle.hep_step.proofs.iterating.distance.Goals as goal
 
 pub returns-clause-value : goal.returns-clause-value

@@ -37,8 +37,8 @@ unit-unit-requires c =
     let top : c.top-level.result ≡ w.is_top.l = c.top-level.ensures w.is_top.l w.is_top.ls w.is_top.operands w.is_top.kept in
     subst (λ (l : Level). l.unit < length program) (sym top) w.is_top.inside
 
-pub place_at-requires : goal.place_at-requires
-place_at-requires c =
+pub place_at-place-requires : goal.place_at-place-requires
+place_at-place-requires c =
     let program = c.args.image.now in
     let m = c.args.machine.now in
     let p = c.args.p in
@@ -66,6 +66,6 @@ returns c cells choices h blocked =
     let top : c.top-level.result ≡ w.is_top.l = c.top-level.ensures w.is_top.l w.is_top.ls w.is_top.operands w.is_top.kept in
     let sought = subst (λ (l : Level). IsSought program cells choices m l.key want.cell w.wanted.at) (sym top) w.sought in
     let code = c.as_slice.ensures ∙ c.unit-unit.ensures.code in
-    let line = c.line_from.ensures ∙ ap (λ is. line_ahead (drop c.top-level.result.index is)) code in
-    listed-is program cells choices m h p want w c.top-level.result c.line_from.result c.place_at.result top line (
-    c.place_at.ensures cells choices w.wanted.at sought)
+    let line = c.line_from-line.ensures ∙ ap (λ is. line_ahead (drop c.top-level.result.index is)) code in
+    listed-is program cells choices m h p want w c.top-level.result c.line_from-line.result c.place_at-place.result top line (
+    c.place_at-place.ensures cells choices w.wanted.at sought)

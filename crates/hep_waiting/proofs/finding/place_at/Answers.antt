@@ -1,14 +1,13 @@
-use Rattle.std.proofs.Common.{◌≡◌, ℕ, ◌+◌, ◌-◌, ◌<◌, ◌≤◌, refl, sym, ap, ◌∙◌, subst, arith}
-use Rattle.std.specs.Prelude.{if◌then◌else◌, IsSome}
+use Rattle.std.proofs.Common.{◌≡◌, ℕ, ◌-◌, ◌<◌, ◌≤◌, refl, sym, ap, ◌∙◌, subst, arith}
+use Rattle.std.specs.Prelude.{IsSome}
 use Rattle.std.proofs.lemmas.Option.{slice_get_within}
 use Rattle.hep_source.specs.declared.name.Name.{Name}
 use Rattle.hep_source.specs.Units.{unit_at}
 use Rattle.hep_machine.specs.Layout.{common_cells}
 use Rattle.hep_machine.specs.Processes.{unit_of}
 use Rattle.hep_machine.specs.Run.{run}
-use Rattle.hep_image.specs.Owners.{frame_variables, variable_before}
+use Rattle.hep_image.specs.Owners.{IsTold}
 use Rattle.hep_proc.proofs.Slabs.{some-value}
-use Rattle.hep_waiting.specs.declared.place.Place.TheVariants.{Variable}
 use Rattle.hep_waiting.proofs.Places.{Tells, at-holder, common-place, frame-place, in-common, in-frame, variable-of}
 use Rattle.hep_waiting.proofs.finding.place_at.Goals as goal
 
@@ -31,7 +30,7 @@ in_common-requires-clause-there c =
     } in
     let front : cell < common_cells program = omega (arith, c.if-cell-common.true, c.common.ensures.common) in
     let f = in-common program cells choices m key cell at h tells front in
-    (f.start, f.before, omega (arith, f.behind))
+    (f.block, f.index, f.told)
 
 pub returns-then-cell-common : goal.returns-then-cell-common
 returns-then-cell-common c cells choices at h =
@@ -46,7 +45,7 @@ returns-then-cell-common c cells choices at h =
     } in
     let front : cell < common_cells program = omega (arith, c.if-cell-common.true, c.common.ensures.common) in
     let f = in-common program cells choices m key cell at h tells front in
-    common-place program cells choices m key cell at f c.in_common.result c.in_common.ensures
+    common-place program cells choices m key cell at f c.in_common.result (c.in_common.ensures f.block f.index f.told)
 
 -- ---- behind COMMON
 
@@ -129,8 +128,8 @@ activation-requires c =
     let there = at-holder program cells choices m key cell at f c.holder-at.result c.holder-at.ensures in
     some-value m.frames.nodes c.holder-at.result f.holder.node there
 
-pub unit-unit-requires : goal.unit-unit-requires
-unit-unit-requires c =
+pub in_frame-requires-clause-unit : goal.in_frame-requires-clause-unit
+in_frame-requires-clause-unit c =
     let program = c.args.image.now in
     let m = c.args.machine.now in
     let key = c.args.key in
@@ -219,9 +218,8 @@ in_frame-requires-clause-there c =
     let once = λ (i j : ℕ) (x : Name). c.names_are_given_once.ensures.dummies program u i j unit x c.is_runnable.ensures.accepted inside in
     let v = variable-of program cells choices m key cell at f (c.cells_tell_their_variables.ensures.variable unit) (λ given x i n.
     c.cells_tell_their_variables.ensures.argument unit x i n given) once in
-    let variables : c.unit-unit.result.now.variables ≡ frame_variables unit =
-    c.unit-unit.ensures.variables_are ∙ ap (λ n. frame_variables (unit_at program n)) same in
-    (v.found, (λ i. variable_before (variables i) (cell - first i)) ∙ v.before, omega (arith, v.within, first))
+    let told = subst (λ n. IsTold unit n f.name v.0) (ap (λ k. cell - k) (sym first)) v.2 in
+    (f.name, v.0, subst (λ k. IsTold (unit_at program k) (cell - c.first.result) f.name v.0) (sym same) told)
 
 pub returns : goal.returns
 returns c cells choices at h =
@@ -246,10 +244,7 @@ returns c cells choices at h =
     let once = λ (i j : ℕ) (x : Name). c.names_are_given_once.ensures.dummies program u i j unit x c.is_runnable.ensures.accepted inside in
     let v = variable-of program cells choices m key cell at f (c.cells_tell_their_variables.ensures.variable unit) (λ given x i n.
     c.cells_tell_their_variables.ensures.argument unit x i n given) once in
-    let variables : c.unit-unit.result.now.variables ≡ frame_variables unit =
-    c.unit-unit.ensures.variables_are ∙ ap (λ n. frame_variables (unit_at program n)) same in
-    let owner = c.activation.ensures f.holder.node there ∙ f.holder.activation in
-    frame-place program (run program choices) f.owner (cell - f.holder.node.first) f.name f.index at f.is v c.in_frame.result c.activation.result
-    owner (λ w before.
-    c.in_frame.ensures w ((λ i. variable_before (variables i) (cell - first i)) ∙ before)
-    ∙ (λ i. Variable w.name (if w.is_array then cell - first i - w.first + 1 else 0) c.activation.result))
+    let told = subst (λ n. IsTold unit n f.name v.0) (ap (λ k. cell - k) (sym first)) v.2 in
+    let own = c.activation.ensures f.holder.node there ∙ f.holder.activation in
+    frame-place program (run program choices) f.owner f.name f.index v.0 at f.is v.1 c.in_frame.result c.unit.result c.activation.result same own (
+    c.in_frame.ensures f.name v.0 (subst (λ k. IsTold (unit_at program k) (cell - c.first.result) f.name v.0) (sym same) told))

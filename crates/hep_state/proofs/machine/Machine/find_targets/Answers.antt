@@ -11,8 +11,8 @@ use Rattle.hep_passing.specs.Ready.{ArePassable}
 use Rattle.hep_purging.specs.declared.range.Range.{Range}
 use Rattle.hep_purging.specs.Ranges.{ranges_of}
 use Rattle.hep_purging.specs.Ready.{AreOut}
-use Rattle.hep_reply.specs.declared.frame.Frame.{Frame}
-use Rattle.hep_reply.specs.Cells.{HasFrame}
+use Rattle.hep_step.specs.declared.frame.Frame.{Frame}
+use Rattle.hep_step.specs.Cells.{HasFrame}
 use Rattle.hep_step.specs.Ready.{frame_in_arena}
 use Rattle.hep_step.specs.Simulation.{unit_arrays}
 use Rattle.hep_state.specs.declared.machine.Level.{Level}

@@ -11,8 +11,8 @@ use Rattle.hep_passing.specs.declared.given.Given.{Given}
 use Rattle.hep_passing.specs.Passing.{given_by}
 use Rattle.hep_passing.specs.Ready.{ArePassable}
 use Rattle.hep_shaping.specs.Fitting.{AreShapable, are_fitting, shapes_of}
-use Rattle.hep_reply.specs.declared.frame.Frame.{Frame}
-use Rattle.hep_reply.specs.Cells.{HasFrame}
+use Rattle.hep_step.specs.declared.frame.Frame.{Frame}
+use Rattle.hep_step.specs.Cells.{HasFrame}
 use Rattle.hep_step.specs.Effects.{fails}
 use Rattle.hep_step.specs.Ready.{frame_in_arena}
 use Rattle.hep_step.specs.Simulation.{unit_arrays}
