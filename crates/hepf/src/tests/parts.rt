@@ -5,8 +5,10 @@ use hep_arena::Arena;
 use hep_run::{Options, run_source};
 use hep_scheduler::{ChooseFault, Core, NewFault, Stop, Verdict};
 use hep_text::{Span, statements};
+use std::alloc::Global;
 use std::io;
 use std::io::{Error, ErrorKind, Read};
+use std::process::Abort;
 use std::test::Fail;
 
 // ---- the text
@@ -78,11 +80,28 @@ const OUTLIVED: [&[u8]; 13] = [
     b"      END",
 ];
 
-// A's frame stays until B has ended, whose dummy argument is a variable of A.
-#[test]
-fn held_frames(rt: HostRuntime) -> Result<(), Fail> {
-    let alloc = rt.alloc();
-    let source = source_of(alloc, &OUTLIVED)?;
+// The frame of S has the bounds of A.
+const SHAPED: [&[u8]; 9] = [
+    b"      INTEGER X(6)",
+    b"      X(4)=8",
+    b"      CALL S(X,3)",
+    b"      END",
+    b"      SUBROUTINE S(A,N)",
+    b"      INTEGER A(N,2)",
+    b"      N=1",
+    b"      PRINT *,A(1,2)",
+    b"      END",
+];
+
+// How many cells are out at first, and after each choice of these processes, with which the run is done.
+fn follow(
+    rt: &impl Abort,
+    alloc: Global,
+    lines: &[&[u8]],
+    first: u32,
+    choices: &[(u64, u32)],
+) -> Result<(), Fail> {
+    let source = source_of(alloc, lines)?;
     let mut core = Core::new(alloc, image_from(alloc, &source)?, 64, 100)?;
     for process in [99, 2] {
         assert_eq!(rt;
@@ -90,13 +109,22 @@ fn held_frames(rt: HostRuntime) -> Result<(), Fail> {
             Some(ChooseFault::NoSuchProcess)
         );
     }
-    assert_eq!(rt; core.used(), 1);
-    for (process, used) in [(1, 3), (1, 6), (1, 6), (1, 8), (2, 8), (1, 6), (2, 0)] {
-        let _turn = chosen(&mut core, process)?;
-        assert_eq!(rt; core.used(), used);
+    assert_eq!(rt; core.used(), first);
+    for (process, used) in choices {
+        let _turn = chosen(&mut core, *process)?;
+        assert_eq!(rt; core.used(), *used);
     }
     assert_eq!(rt; core.verdict(), Verdict::Done);
     Ok(())
+}
+
+// Frames are given back in the step that ends them; A's stays until B has ended, whose dummy argument is a variable of A.
+#[test]
+fn held_frames(rt: HostRuntime) -> Result<(), Fail> {
+    let outlived = [(1, 3), (1, 6), (1, 6), (1, 8), (2, 8), (1, 6), (2, 0)];
+    follow(&rt, rt.alloc(), &OUTLIVED, 1, &outlived)?;
+    let shaped = [(1, 7), (1, 16), (1, 16), (1, 16), (1, 16), (1, 7), (1, 0)];
+    follow(&rt, rt.alloc(), &SHAPED, 7, &shaped)
 }
 
 // Who was found waiting, for what, and who comes after it.
