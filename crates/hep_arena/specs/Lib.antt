@@ -3,7 +3,6 @@ pub mod Lending
 pub mod Leases
 pub mod Holes
 pub mod Space
-pub mod Chain
-pub mod Search
+pub mod Lengths
 pub mod Lent
 pub mod Gaps

@@ -6,7 +6,7 @@ ghost use Rattle.hep_machine.specs.Access.{unset_cell};
 ghost use Rattle.hep_arena.specs.Holes.{AreHoles, IsOut, first_fit, free_cells, given, taken};
 
 use crate::block::Block;
-use crate::holes;
+use crate::holes::Holes;
 use crate::region::{Lease, Region, parted, rejoined};
 use hep_machine::Slot;
 use std::alloc::{AllocError, Global};
@@ -18,23 +18,21 @@ use std::marker::Model;
 pub struct Arena {
     region: Region,
     lease: Lease,
-    // Where the first hole is; where there is none, the number of cells.
-    head: u32,
-    cells: u32,
+    holes: Holes,
     used: u32,
 }
 
 impl Model for Arena {
     ghost use Rattle.std.specs.Prelude.{◌≡◌, ◌<◌};
     ghost use Rattle.std_alloc.specs.Vec.{vec_ptr, vec_len, vec_capacity};
-    ghost use Rattle.hep_arena.specs.Chain.{IsArena, space_of};
+    ghost use Rattle.hep_arena.specs.Lengths.{IsArena, space_of};
     ghost use Rattle.hep_arena.specs.Space.{Space};
 
     ghost Value = { Space };
 
-    ghost view = { λ a. space_of a.region.slots a.head };
+    ghost view = { λ a. space_of a.region.slots a.holes };
 
-    ghost invariant = { λ a. IsArena a.region.slots a.head a.cells a.used × (a.region.memory ≡ vec_ptr a.lease) × (a.region.cells ≡ vec_len a.lease) × (0 < vec_capacity a.lease) };
+    ghost invariant = { λ a. IsArena a.region.slots a.holes a.used × (a.region.memory ≡ vec_ptr a.lease) × (a.region.cells ≡ vec_len a.lease) × (0 < vec_capacity a.lease) };
 }
 
 impl Drop for Arena {
@@ -42,11 +40,28 @@ impl Drop for Arena {
         let Arena {
             region,
             lease,
-            head: _,
-            cells: _,
+            holes,
             used: _,
         } = self;
+        drop(holes);
         drop(rejoined(region, lease));
+    }
+}
+
+// A cell without a value.
+const UNSET: Slot = Slot {
+    value: None,
+    full: false,
+};
+
+// Makes n cells empty, without values.
+fn clear(slots: &mut [Slot], at: u32, n: u32)
+    requires { at + n ≤ length slots.old }
+    ensures cleared { (k : ℕ) → at ≤ k → k < at + n → slice_get slots.new k ≡ Some unset_cell }
+    ensures kept { (k : ℕ) → (k < at) ⊎ (at + n ≤ k) → slice_get slots.new k ≡ slice_get slots.old k }
+{
+    for place in at as usize..at as usize + n as usize {
+        slots[place] = UNSET;
     }
 }
 
@@ -62,23 +77,23 @@ impl Arena {
 
     /// An arena of so many cells, all of them free.
     ///
-    /// There is one cell at least, and no more than 16,777,216. Fails where memory was refused.
+    /// There is one cell at least, and no more than 16,777,216. Fails where memory was refused. This
+    /// costs a linear time, and no other call takes memory.
     pub fn new(alloc: Global, cells: u32) -> Result<Arena, AllocError>
         requires some { 1 ≤ cells }
         requires few { cells ≤ 16777216 }
         ensures cells { IfOk result (λ arena. length arena.contents ≡ cells) }
         ensures holes { IfOk result (λ arena. arena.holes ≡ (0, cells) ∷ []) }
     {
-        let mut vec = Vec::from_elem(alloc, holes::UNSET, cells as usize)?;
-        holes::clear_all(&mut vec, cells);
+        let holes = Holes::new(alloc, cells)?;
+        let mut vec = Vec::from_elem(alloc, UNSET, cells as usize)?;
         let memory = vec.as_mut_ptr();
         let len = vec.len();
         let (region, lease) = parted(vec, memory, len);
         Ok(Arena {
             region,
             lease,
-            head: 0,
-            cells,
+            holes,
             used: 0,
         })
     }
@@ -90,7 +105,7 @@ impl Arena {
         sendable(self)
     }
 
-    /// How many cells are out.
+    /// How many cells are out. This costs a constant time.
     pub fn used(&self) -> u32
         ensures used { result + free_cells self.now.holes ≡ length self.now.contents }
         ensures holes { AreHoles 0 (length self.now.contents) self.now.holes }
@@ -98,17 +113,19 @@ impl Arena {
         self.used
     }
 
-    /// Some hole has n cells, so that a block of n can be taken.
+    /// Some hole has n cells, so that a block of n can be taken. This costs the logarithm of how many
+    /// cells there are.
     pub fn fits(&self, n: u32) -> bool
         ensures { result ≡ is_some (first_fit n self.now.holes) }
     {
-        holes::find(self.region.slots(), self.head, n).is_some()
+        self.holes.fits(n)
     }
 
     /// Takes a block of n cells, one at least, from the front of the lowest hole that has so many. The
     /// hole keeps the rest. The block's cells are empty, and have no values.
     ///
-    /// None where no hole has n cells.
+    /// None where no hole has n cells. This costs the logarithm of how many cells there are, and a time
+    /// for each cell of the block.
     pub fn take(&mut self, n: u32) -> Option<Block>
         requires { 1 ≤ n }
         ensures block { MatchOption result (first_fit n self.old.holes ≡ None) (λ b. (first_fit n self.old.holes ≡ Some b.at) × (b.len ≡ n)) }
@@ -117,15 +134,15 @@ impl Arena {
         ensures kept { (k : ℕ) → IsOut k self.old.holes → slice_get self.new.contents k ≡ slice_get self.old.contents k }
         ensures cells { length self.new.contents ≡ length self.old.contents }
     {
-        let taken = holes::take(self.region.slots_mut(), self.head, n)?;
-        self.head = taken.head;
+        let at = self.holes.take(n)?;
+        clear(self.region.slots_mut(), at, n);
         self.used += n;
-        Some(Block::new(taken.at, n))
+        Some(Block::new(at, n))
     }
 
     /// Gives a block back: its cells are free, and one hole with those that they touch.
     ///
-    /// The block has to be out.
+    /// The block has to be out. This costs the logarithm of how many cells there are.
     pub fn give(&mut self, block: Block)
         requires inside { block.at + block.len ≤ length self.old.contents }
         requires out { (k : ℕ) → block.at ≤ k → k < block.at + block.len → IsOut k self.old.holes }
@@ -134,7 +151,7 @@ impl Arena {
         ensures cells { length self.new.contents ≡ length self.old.contents }
     {
         let (at, len) = (block.at(), block.len());
-        self.head = holes::give(self.region.slots_mut(), self.head, at, len);
+        self.holes.give(at, len);
         self.used -= len;
     }
 

@@ -1,5 +1,6 @@
 -- A number is written, and then those of the nodes above it one after the other.
-use Rattle.std.proofs.Common.{◌≡◌, ◌≢◌, ℕ, ◌+◌, ◌*◌, ◌/◌, ◌<◌, ◌≤◌, max, List, length, set, sym, subst, ◌∙◌, inl, inr, arith, get_or-set_same, get_or-set_other, length-set}
+use Rattle.std.proofs.Common.{◌≡◌, ◌≢◌, ◌⊎◌, ℕ, ◌+◌, ◌*◌, ◌/◌, ◌<◌, ◌≤◌, max, List, length, set, sym, ap, subst, ◌∙◌, inl, inr, arith, get_or-set_same, get_or-set_other, length-set}
+use Rattle.std.proofs.Math.Nat.{max_comm}
 use Rattle.std.proofs.lemmas.Bool.{cases_eq}
 use Rattle.hep_lengths.specs.Trees.{IsTop, number}
 
@@ -41,3 +42,17 @@ mended-step numbers size node value m more is = record {
     | inr ne ↦ others numbers size (node / 2) value i ne apart (m.tops i low high ne)
   ];
 }
+
+-- the greater one of the numbers of the two nodes below a node, one of which is at hand
+pub sides-max : (numbers : List ℕ) (node other up top x : ℕ) → number numbers node ≡ top → number numbers other ≡ x → ((2 * up ≡ node) × (2 * up + 1 ≡ other)) ⊎ ((2 * up ≡ other) × (2 * up + 1 ≡ node))
+    → max top x ≡ max (number numbers (2 * up)) (number numbers (2 * up + 1))
+sides-max numbers node other up top x here there sides = elim sides [
+  | inl s ↦
+      let left : top ≡ number numbers (2 * up) = sym here ∙ ap (number numbers) (sym s.0) in
+      let right : x ≡ number numbers (2 * up + 1) = sym there ∙ ap (number numbers) (sym s.1) in
+      (λ i. max (left i) (right i))
+  | inr s ↦
+      let left : x ≡ number numbers (2 * up) = sym there ∙ ap (number numbers) (sym s.0) in
+      let right : top ≡ number numbers (2 * up + 1) = sym here ∙ ap (number numbers) (sym s.1) in
+      max_comm top x ∙ (λ i. max (left i) (right i))
+]

@@ -45,6 +45,13 @@ impl Lengths {
         Ok(Lengths { tree, places })
     }
 
+    /// How many places there are. This costs a constant time.
+    pub fn len(&self) -> u32
+        ensures places { result ≡ length self.now }
+    {
+        self.places
+    }
+
     /// The number at a place. This costs a constant time.
     pub fn get(&self, at: u32) -> u32
         requires inside { at < length self.now }
@@ -53,7 +60,8 @@ impl Lengths {
         self.tree.get(at as usize)
     }
 
-    /// Gives a place another number. This costs the logarithm of how many places there are.
+    /// Gives a place another number. This costs the logarithm of how many places there are, at the
+    /// most: it ends below the first node that keeps its number.
     pub fn set(&mut self, at: u32, number: u32)
         requires inside { at < length self.old }
         ensures numbers { self.new ≡ slice_set self.old at number }
@@ -63,7 +71,7 @@ impl Lengths {
 
     /// The first place with at least this number, none where there is none.
     ///
-    /// This costs the logarithm of how many places there are.
+    /// This costs the logarithm of how many places there are, and a constant time where there is none.
     pub fn first_of(&self, least: u32) -> Option<u32>
         requires some { 1 ≤ least }
         ensures first { result ≡ first_from 0 least self.now }
@@ -74,7 +82,7 @@ impl Lengths {
 
     /// The last place before this one whose number isn't 0, none where there is none.
     ///
-    /// This costs the logarithm of how many places there are.
+    /// This costs the logarithm of how many places there are, and a constant time where all are 0.
     pub fn last_before(&self, at: u32) -> Option<u32>
         requires inside { at ≤ length self.now }
         ensures last { result ≡ last_from 0 (take at self.now) None }

@@ -1,5 +1,5 @@
 //! A tree of numbers.
-ghost use Rattle.std.specs.Prelude.{◌≡◌, ◌≢◌, ℕ, ◌+◌, ◌*◌, ◌^◌, ◌<◌, ◌≤◌, replicate, slice_set, IfOk};
+ghost use Rattle.std.specs.Prelude.{◌≡◌, ◌≢◌, ◌⊎◌, ℕ, ◌+◌, ◌*◌, ◌/◌, ◌^◌, ◌<◌, ◌≤◌, replicate, slice_set, IfOk};
 ghost use Rattle.hep_lengths.specs.Trees.{IsFirst, IsLast, IsNext, IsTree, leaves_of, leftmost, number};
 
 use std::alloc::{AllocError, Global};
@@ -28,6 +28,15 @@ fn full_size(leaves: usize) -> (usize, usize)
         levels += 1;
     }
     (size, levels)
+}
+
+// The other one of the two nodes below the same node.
+fn other_side(node: usize) -> usize
+    requires some { 2 ≤ node }
+    requires few { node < 2 ^ 26 }
+    ensures { ((2 * (node / 2) ≡ node) × (2 * (node / 2) + 1 ≡ result)) ⊎ ((2 * (node / 2) ≡ result) × (2 * (node / 2) + 1 ≡ node)) }
+{
+    if node % 2 == 0 { node + 1 } else { node - 1 }
 }
 
 impl Tree {
@@ -66,12 +75,16 @@ impl Tree {
         ensures size { self.new.size ≡ self.old.size }
     {
         let mut node = self.size + at;
-        self.greatest[node] = number;
+        let mut top = number;
+        self.greatest[node] = top;
         while node > 1 {
+            top = top.max(self.greatest[other_side(node)]);
             node /= 2;
-            let left = self.greatest[2 * node];
-            let right = self.greatest[2 * node + 1];
-            self.greatest[node] = left.max(right);
+            if self.greatest[node] == top {
+                // The nodes above it stay as they are, too.
+                return;
+            }
+            self.greatest[node] = top;
         }
     }
 
@@ -115,6 +128,9 @@ impl Tree {
         ensures { IsLast (leaves_of self.now) at result }
     {
         if at == 0 {
+            return None;
+        }
+        if self.greatest[1] == 0 {
             return None;
         }
         let mut node = self.size + at - 1;

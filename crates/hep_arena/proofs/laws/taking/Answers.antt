@@ -1,6 +1,6 @@
 use Rattle.hep_arena.proofs.Blocks.{block-new, block-out, fit-inside, out-taken}
 use Rattle.hep_arena.proofs.Counting.{taken-cells}
-use Rattle.hep_arena.proofs.Spaces.{taken-apart}
+use Rattle.hep_arena.proofs.Taking.{taken-apart}
 use Rattle.hep_arena.proofs.laws.taking.Goals as goal
 
 pub returns-clause-others : goal.returns-clause-others
