@@ -10,3 +10,6 @@ pub mod Placing
 pub mod Told
 pub mod BlocksBegun
 pub mod Numbers
+pub mod FewInstructions
+pub mod FewOperands
+mod Worked

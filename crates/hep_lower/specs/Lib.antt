@@ -5,6 +5,7 @@ pub mod Limits
 pub mod Starts
 pub mod Asked
 pub mod Refusals
+pub mod Parts
 pub mod Units
 pub mod Blocks
 pub mod Numbers

@@ -7,6 +7,7 @@ mod emit;
 mod expressions;
 mod fault;
 mod flow;
+pub mod laws;
 mod lists;
 mod lowered;
 mod mains;

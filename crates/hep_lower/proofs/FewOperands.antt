@@ -1,0 +1,402 @@
+-- In the code of a statement there are at most so many operands as the statement has names and constants.
+use Rattle.std.proofs.Common.{◌≡◌, ◌⊎◌, inl, inr, ℕ, suc, ◌+◌, ◌-◌, ◌<◌, ◌≤◌, Bool, true, false, List, [], ◌∷◌, ◌++◌, map, take, length, Option, Some, None, refl, ap, sym, ◌∙◌, subst, arith, append_assoc, nat_lt, if◌then◌else◌}
+use Rattle.std.specs.List.{flat_map, sum_by}
+use Rattle.std.proofs.lemmas.Bool.Decides.{nat_tests}
+use Rattle.std.proofs.lemmas.List.Sums.{sum_by-cons}
+use Rattle.std.proofs.lemmas.Option.{same_Some, none-some}
+use Rattle.hep_source.specs.Tree.{Tree, Trees, constant, occurrence, with_list, parenthesized, signed, negated, binary, no_trees, trees, trees_of}
+use Rattle.hep_source.specs.declared.declaration.Target.{Target}
+use Rattle.hep_source.specs.declared.name.Name.{Name}
+use Rattle.hep_source.specs.declared.statement.DoControl.{DoControl}
+use Rattle.hep_source.specs.declared.statement.Form.{Form}
+use Rattle.hep_source.specs.declared.statement.Form.TheVariants as form
+use Rattle.hep_source.specs.declared.statement.PrintItem.{PrintItem}
+use Rattle.hep_source.specs.declared.statement.PrintItem.TheVariants as item
+use Rattle.hep_source.specs.declared.statement.Statement.{Statement}
+use Rattle.hep_source.specs.declared.value.Value.{Value}
+use Rattle.hep_source.specs.Units.{Units}
+use Rattle.hep_machine.specs.Defaults.{no_value}
+use Rattle.hep_machine.specs.Evaluation.{increment_of}
+use Rattle.hep_machine.specs.Functions.{Meaning, element, pure, state, unknown}
+use Rattle.hep_code.specs.declared.instruction.Evaluation.{Evaluation}
+use Rattle.hep_code.specs.declared.instruction.Evaluation.TheVariants.{Load, Sign, Not, Combine, Apply, Test}
+use Rattle.hep_code.specs.declared.instruction.Instruction.{Instruction}
+use Rattle.hep_code.specs.declared.instruction.Instruction.TheVariants.{Push, Step}
+use Rattle.hep_code.specs.declared.instruction.Operation.{Operation}
+use Rattle.hep_code.specs.declared.instruction.Operation.TheVariants.{Store, Choose, BySign, Condition, Branch, EnterLoop, Call, Create, Purge, Print}
+use Rattle.hep_code.specs.Actions.{arity}
+use Rattle.hep_code.specs.Depths.{operands_passed, operands_shown, operands_of_entry, operands_of_entries, operands_by, operands_before, operands_ahead, line_ahead, line_too_deep}
+use Rattle.hep_code.specs.ExpressionCode.{count, evaluating, name_code, asked, asked_listed, asked_listed_code, listed_code, tree_code, trees_code, asked_code, actual_name_code, actual_listed_code, actual_code, actuals_code, argument_of, argument_of_name, argument_of_listed, target_code, item_code, printed_of, control_code}
+use Rattle.hep_code.specs.Limits.{most_operands}
+use Rattle.hep_code.specs.Stacks.{addressed_unit}
+use Rattle.hep_code.specs.StatementCode.{operands_code, operation_code, conditions_code, loop_end_code, statement_code, statements_code}
+use Rattle.hep_code.specs.Tables.{NameTable, Table}
+use Rattle.hep_code.specs.UnitCode.{AddressedUnit, code_of, table_of}
+use Rattle.hep_image.specs.Places.{addresses_of}
+use Rattle.hep_lower.specs.Parts.{HasLongStatement, IsOfLongStatement, in_tree, in_trees, in_list, in_optional, in_target, in_control, in_item, in_form, names_and_constants}
+use Rattle.hep_lower.specs.Refusals.{IsFirstDeep}
+use Rattle.hep_lower.proofs.FewInstructions.{list_is, leading, passing, purging, showing}
+
+-- ---- code that gives values
+
+-- in front of each of these instructions, with those behind them, there are at most m operands, and this line is ahead
+abbrev AreWithin : ℕ → ℕ → List Instruction → List Instruction → Type 0
+AreWithin line m behind [] = Unit {0}
+AreWithin line m behind (i ∷ is) =
+    (operands_ahead (i ∷ (is ++ behind)) ≤ m) × (line_ahead (i ∷ (is ++ behind)) ≡ line) × AreWithin line m behind is
+
+raised : (line m n : ℕ) (behind is : List Instruction) → m ≤ n → AreWithin line m behind is → AreWithin line n behind is
+raised line m n behind [] le h = tt
+raised line m n behind (i ∷ is) le h = (omega (arith, le, h.0), h.1, raised line m n behind is le h.2)
+
+joined : (line m : ℕ) (behind is js : List Instruction) → AreWithin line m (js ++ behind) is → AreWithin line m behind js
+    → AreWithin line m behind (is ++ js)
+joined line m behind [] js h k = k
+joined line m behind (i ∷ is) js h k =
+    let e = append_assoc is js behind in
+    let rest = joined line m behind is js h.2 k in
+    (omega (arith, h.0, ap (λ all. operands_ahead (i ∷ all)) e), ap (λ all. line_ahead (i ∷ all)) e ∙ h.1, rest)
+
+-- code of a statement with this line that gives so many values, and has so many names and constants
+record Gives (line : ℕ) (code : List Instruction) (values words : ℕ) : Type 0 where
+  few : values ≤ words
+  ahead : (behind : List Instruction) → line_ahead behind ≡ line → operands_ahead (code ++ behind) ≡ operands_ahead behind - values
+  lined : (behind : List Instruction) → line_ahead behind ≡ line → line_ahead (code ++ behind) ≡ line
+  within : (behind : List Instruction) → line_ahead behind ≡ line → AreWithin line ((operands_ahead behind - values) + words) behind code
+
+nothing : {line words : ℕ} → Gives line [] 0 words
+nothing = record { few = omega arith; ahead = λ behind h. omega arith; lined = λ behind h. h; within = λ behind h. tt }
+
+pushed : {line : ℕ} (v : Value) → Gives line (Push v ∷ []) 1 1
+pushed v =
+    record { few = omega arith; ahead = λ behind h. refl; lined = λ behind h. h; within = λ behind h. (omega arith, h, tt) }
+
+more : {line v m n : ℕ} {c : List Instruction} → m ≤ n → Gives line c v m → Gives line c v n
+more {line = line} {v = v} {m = m} {n = n} {c = c} le g =
+    record {
+      few = omega (arith, le, g.few);
+      ahead = g.ahead;
+      lined = g.lined;
+      within = λ behind h.
+          let k = operands_ahead behind - v in raised line (k + m) (k + n) behind c (omega (arith, le)) (g.within behind h);
+    }
+
+both : {line v w x y : ℕ} {c d : List Instruction} → Gives line c v w → Gives line d x y → Gives line (c ++ d) (v + x) (w + y)
+both {line = line} {v = v} {w = w} {x = x} {y = y} {c = c} {d = d} g h =
+    record {
+      few = omega (arith, g.few, h.few);
+      ahead = λ behind is.
+          let e = ap operands_ahead (append_assoc c d behind) in
+          omega (arith, e, g.ahead (d ++ behind) (h.lined behind is), h.ahead behind is);
+      lined = λ behind is. ap line_ahead (append_assoc c d behind) ∙ g.lined (d ++ behind) (h.lined behind is);
+      within = λ behind is.
+          let all = d ++ behind in
+          let m = (operands_ahead behind - (v + x)) + (w + y) in
+          let first = g.within all (h.lined behind is) in
+          let less : (operands_ahead all - v) + w ≤ m = omega (arith, h.ahead behind is, h.few) in
+          let last : (operands_ahead behind - x) + y ≤ m = omega (arith, g.few) in
+          joined line m behind c d (raised line _ m all c less first) (raised line _ m behind d last (h.within behind is));
+    }
+
+-- what is done with all of them gives one value
+evaluated : {line v w n : ℕ} {c : List Instruction} (e : Evaluation) → arity e ≡ v → w ≤ n → 1 ≤ n → Gives line c v w
+    → Gives line (c ++ evaluating line e) 1 n
+evaluated {line = line} {v = v} {w = w} {n = n} {c = c} e same le some g =
+    let last = evaluating line e in
+    record {
+      few = some;
+      ahead = λ behind is. omega (arith, ap operands_ahead (append_assoc c last behind), g.ahead (last ++ behind) refl, same);
+      lined = λ behind is. ap line_ahead (append_assoc c last behind) ∙ g.lined (last ++ behind) refl;
+      within = λ behind is.
+          let all = last ++ behind in
+          let m = (operands_ahead behind - 1) + n in
+          let less : (operands_ahead all - v) + w ≤ m = omega (arith, same, le) in
+          joined line m behind c last (raised line _ m all c less (g.within all refl)) (omega (arith, same, g.few, le), refl, tt);
+    }
+
+each_gives : {A : Type 0} {line : ℕ} (f : A → List Instruction) (v w : A → ℕ) → ((x : A) → Gives line (f x) (v x) (w x))
+    → (xs : List A) → Gives line (flat_map f xs) (sum_by v xs) (sum_by w xs)
+each_gives f v w h [] = nothing
+each_gives {line = line} f v w h (x ∷ xs) =
+    let code = f x ++ flat_map f xs in
+    let words = sum_by w (x ∷ xs) in
+    subst (λ n. Gives line code n words) (sym (sum_by-cons v x xs))
+    (subst (λ n. Gives line code (v x + sum_by v xs) n) (sym (sum_by-cons w x xs)) (both (h x) (each_gives f v w h xs)))
+
+-- ---- expressions
+
+module _ (names : NameTable) (line : ℕ) where
+  abbrev code : Tree → List Instruction
+  code t = tree_code names line t
+
+  abbrev codes : Trees → List Instruction
+  codes ts = trees_code names line ts
+
+  abbrev TreesGive : Trees → Type 0
+  TreesGive ts = Gives line (codes ts) (count ts) (in_trees 0 ts)
+
+  abbrev AskedGives : Trees → Type 0
+  AskedGives ts = Gives line (asked_code names line ts) (asked names ts).1 (in_trees 0 ts)
+
+  name_gives : (o : Option Value) (x : Name) → Gives line (name_code names line o x) 1 1
+  name_gives None x = evaluated (Load (names.variables x) 0) refl (omega arith) (omega arith) (nothing {words = 0})
+  name_gives (Some v) x = pushed v
+
+  asked_listed_gives : (m : Meaning) (x : Name) (ts : Trees) (n : ℕ) → in_trees 0 ts ≤ n → TreesGive ts
+      → Gives line (asked_listed_code m (codes ts)) (asked_listed m x (count ts)).1 n
+  asked_listed_gives element x ts n le g = more le g
+  asked_listed_gives (pure f) x ts n le g = nothing
+  asked_listed_gives (state f) x ts n le g = nothing
+  asked_listed_gives unknown x ts n le g = nothing
+
+  listed_gives : (m : Meaning) (x : Name) (ts : Trees) → TreesGive ts → AskedGives ts
+      → Gives line (listed_code names m line x ts (codes ts) (asked_code names line ts)) 1 (1 + in_trees 0 ts)
+  listed_gives element x ts g h = evaluated (Load (names.variables x) (count ts)) refl (omega arith) (omega arith) g
+  listed_gives (pure f) x ts g h = evaluated (Apply f (count ts)) refl (omega arith) (omega arith) g
+  listed_gives (state f) x ts g h =
+      evaluated (Test f (names.variables (asked names ts).0) (asked names ts).1) refl (omega arith) (omega arith) h
+  listed_gives unknown x ts g h = more (omega arith) (pushed no_value)
+
+  mutual
+    tree_gives : (t : Tree) → Gives line (code t) 1 (in_tree 0 t)
+    tree_gives (constant v) = pushed v
+    tree_gives (occurrence p) = name_gives (names.constants p.name) p.name
+    tree_gives (with_list p ts) = listed_gives (names.meanings p.name) p.name ts (trees_give ts) (asked_gives ts)
+    tree_gives (parenthesized t) = tree_gives t
+    tree_gives (signed s t) = let g = tree_gives t in evaluated (Sign s) refl (omega arith) (omega (arith, g.few)) g
+    tree_gives (negated t) = let g = tree_gives t in evaluated Not refl (omega arith) (omega (arith, g.few)) g
+    tree_gives (binary o a b) =
+        let g = both (tree_gives a) (tree_gives b) in evaluated (Combine o) refl (omega arith) (omega (arith, g.few)) g
+
+    trees_give : (ts : Trees) → TreesGive ts
+    trees_give no_trees = nothing
+    trees_give (trees t ts) =
+        let e : 1 + count ts ≡ suc (count ts) = omega arith in
+        subst (λ n. Gives line (code t ++ codes ts) n (in_trees 0 (trees t ts))) e (both (tree_gives t) (trees_give ts))
+
+    asked_gives : (ts : Trees) → AskedGives ts
+    asked_gives (trees (with_list p us) no_trees) =
+        asked_listed_gives (names.meanings p.name) p.name us (in_trees 0 (trees (with_list p us) no_trees)) (omega arith) (trees_give us)
+    asked_gives (trees (with_list p us) (trees t ts)) = nothing
+    asked_gives (trees (occurrence p) no_trees) = nothing
+    asked_gives (trees (occurrence p) (trees t ts)) = nothing
+    asked_gives _ = nothing
+
+  -- ---- actual arguments, targets and items
+
+  abbrev passed : Tree → ℕ
+  passed t = operands_passed (argument_of names t)
+
+  actual_name_gives : (o : Option Value) (x : Name) → Gives line (actual_name_code o) (operands_passed (argument_of_name names o x)) 1
+  actual_name_gives None x = nothing
+  actual_name_gives (Some v) x = pushed v
+
+  actual_listed_gives : (m : Meaning) (x : Name) (ts : Trees) (value : List Instruction) → Gives line value 1 (1 + in_trees 0 ts)
+      → Gives line (actual_listed_code m (codes ts) value) (operands_passed (argument_of_listed names m x (count ts))) (1 + in_trees 0 ts)
+  actual_listed_gives element x ts value g = more (omega arith) (trees_give ts)
+  actual_listed_gives (pure f) x ts value g = g
+  actual_listed_gives (state f) x ts value g = g
+  actual_listed_gives unknown x ts value g = g
+
+  actual_gives : (t : Tree) → Gives line (actual_code names line t) (passed t) (in_tree 0 t)
+  actual_gives (occurrence p) = actual_name_gives (names.constants p.name) p.name
+  actual_gives (with_list p ts) =
+      let t = with_list p ts in actual_listed_gives (names.meanings p.name) p.name ts (code t) (tree_gives t)
+  actual_gives (constant v) = tree_gives (constant v)
+  actual_gives (parenthesized t) = tree_gives (parenthesized t)
+  actual_gives (signed s t) = tree_gives (signed s t)
+  actual_gives (negated t) = tree_gives (negated t)
+  actual_gives (binary o a b) = tree_gives (binary o a b)
+
+  actuals_give : (ts : List Tree) → Gives line (actuals_code names line ts) (sum_by passed ts) (1 + in_list 0 ts)
+  actuals_give ts = more (omega arith) (each_gives (actual_code names line) passed (in_tree 0) actual_gives ts)
+
+  target_gives : (t : Target) → Gives line (target_code names line t) (count (trees_of t.subscripts)) (in_target 0 t)
+  target_gives t = more (omega (arith, list_is 0 t.subscripts)) (trees_give (trees_of t.subscripts))
+
+  item_gives : (i : PrintItem) → Gives line (item_code names line i) (operands_shown (printed_of i)) (in_item 0 i)
+  item_gives (item.Expression t) = tree_gives t
+  item_gives (item.Characters cs) = nothing
+
+  -- where a DO has no increment, its variable counts for the 1
+  increment_gives : (o : Option Tree) → Gives line (code (increment_of o)) 1 (1 + in_optional 0 o)
+  increment_gives None = pushed _
+  increment_gives (Some t) = more (omega arith) (tree_gives t)
+
+  control_gives : (c : DoControl) → Gives line (control_code names line c) 3 (in_control 0 c)
+  control_gives c =
+      more (omega arith) (both (tree_gives c.initial) (both (tree_gives c.limit) (increment_gives c.increment)))
+
+-- ---- the first line that is too deep
+
+-- it is that of what stands behind, or this line, of a statement with so many names and constants
+abbrev IsTold : ℕ → ℕ → Option ℕ → Option ℕ → Type 0
+IsTold line m first behind = (first ≡ behind) ⊎ ((first ≡ Some line) × (most_operands < m))
+
+module _ (line : ℕ) where
+  same_told : (m : ℕ) {a b c : Option ℕ} → a ≡ b → IsTold line m b c → IsTold line m a c
+  same_told m e (inl f) = inl (e ∙ f)
+  same_told m e (inr f) = inr (e ∙ f.0, f.1)
+
+  told_more : (m n : ℕ) {a b : Option ℕ} → m ≤ n → IsTold line m a b → IsTold line n a b
+  told_more m n le (inl e) = inl e
+  told_more m n le (inr e) = inr (e.0, omega (arith, le, e.1))
+
+  told_both : (k m n : ℕ) {a b c : Option ℕ} → k ≤ n → m ≤ n → IsTold line k a b → IsTold line m b c → IsTold line n a c
+  told_both k m n le less (inl e) h = same_told n e (told_more m n less h)
+  told_both k m n le less (inr e) h = inr (e.0, omega (arith, le, e.1))
+
+  told_by : (t : Bool) (m n l : ℕ) (rest behind : Option ℕ) → nat_lt most_operands n ≡ t → n ≤ m → l ≡ line
+      → IsTold line m rest behind → IsTold line m (if t then Some l else rest) behind
+  told_by true m n l rest behind e le is h = inr (ap Some is, grind (arith, nat_tests))
+  told_by false m n l rest behind e le is h = h
+
+  within_told : (m : ℕ) (is behind : List Instruction) → AreWithin line m behind is
+      → IsTold line m (line_too_deep (is ++ behind)) (line_too_deep behind)
+  within_told m [] behind h = inl refl
+  within_told m (i ∷ is) behind h =
+      let all = is ++ behind in
+      let n = operands_ahead (i ∷ all) in
+      let rest = within_told m is behind h.2 in
+      told_by (nat_lt most_operands n) m n (line_ahead (i ∷ all)) (line_too_deep all) (line_too_deep behind) refl h.0 h.1 rest
+
+  -- operands, and an operation that takes all of them
+  performed : {v w : ℕ} {c : List Instruction} (o : Operation) (behind : List Instruction) → Gives line c v w
+      → operands_by o (operands_ahead behind) behind ≡ v → IsTold line w (line_too_deep (c ++ Step line o ∷ behind)) (line_too_deep behind)
+  performed {v = v} {w = w} {c = c} o behind g same =
+      let all = Step line o ∷ behind in
+      let less : (operands_ahead all - v) + w ≤ w = omega (arith, same) in
+      told_both w w w (omega arith) (omega arith) (within_told w c all (raised line _ w all c less (g.within all refl)))
+      (within_told w (Step line o ∷ []) behind (omega (arith, same, g.few), refl, tt))
+
+-- ---- entries
+
+abbrev AreEntries : {A : Type 0} → (A → Instruction) → Type 0
+AreEntries {A = A} entry = (x : A) (n : ℕ) (is : List Instruction) → operands_before (entry x) n is ≡ 0
+
+entries_told : {A : Type 0} (entry : A → Instruction) → AreEntries entry → (xs : List A) (behind : List Instruction)
+    → line_too_deep (map entry xs ++ behind) ≡ line_too_deep behind
+entries_told entry h [] behind = refl
+entries_told entry h (x ∷ xs) behind =
+    let is = map entry xs ++ behind in
+    let here = h x (operands_ahead is) is in
+    ap (λ n. if nat_lt most_operands n then Some (line_ahead (entry x ∷ is)) else line_too_deep is) here ∙ entries_told entry h xs behind
+
+entries_take : {A : Type 0} (entry : A → Instruction) (xs : List A) (behind : List Instruction)
+    → operands_of_entries (take (length xs) (map entry xs ++ behind)) ≡ sum_by (λ x. operands_of_entry (entry x)) xs
+entries_take entry [] behind = refl
+entries_take entry (x ∷ xs) behind =
+    omega (arith, sum_by-cons (λ x. operands_of_entry (entry x)) x xs, entries_take entry xs behind)
+
+-- ---- statements
+
+abbrev subscripts_of : Target → ℕ
+subscripts_of t = count (trees_of t.subscripts)
+
+abbrev shown : PrintItem → ℕ
+shown i = operands_shown (printed_of i)
+
+module _ (table : Table) where
+  -- operands, an operation that takes all of them, and entries
+  listed_told : {A : Type 0} {v w : ℕ} {c : List Instruction} (line : ℕ) (o : Operation) (entry : A → Instruction) → AreEntries entry
+      → (xs : List A) (behind : List Instruction) → Gives line c v w
+      → operands_by o (operands_ahead (map entry xs ++ behind)) (map entry xs ++ behind) ≡ v
+      → IsTold line w (line_too_deep (c ++ Step line o ∷ (map entry xs ++ behind))) (line_too_deep behind)
+  listed_told {w = w} {c = c} line o entry h xs behind g same =
+      let all = map entry xs ++ behind in
+      let first = line_too_deep (c ++ Step line o ∷ all) in
+      subst (IsTold line w first) (entries_told entry h xs behind) (performed line o all g same)
+
+  abbrev FormTold : ℕ → ℕ → Form → List Instruction → Type 0
+  FormTold line k f behind =
+      let all = operands_code table line f ++ (operation_code table line k f ++ behind) in
+      IsTold line (in_form 0 f) (line_too_deep all) (line_too_deep behind)
+
+  form_told : (line k : ℕ) (f : Form) (behind : List Instruction) → FormTold line k f behind
+  form_told line k (form.Assign x t) behind =
+      let g = both (tree_gives table.names line t) (target_gives table.names line x) in
+      let o = Store (table.names.variables x.occurrence.name) (subscripts_of x) (table.flows k).next in
+      performed line o behind (more (omega arith) g) refl
+  form_told line k (form.ComputedGoTo labels t) behind =
+      let o = Choose (length labels) (table.flows k).next in
+      listed_told line o (leading table) (λ l n is. refl) labels behind (tree_gives table.names line t) refl
+  form_told line k (form.ArithmeticIf t labels) behind =
+      let o = BySign (table.labels labels.negative) (table.labels labels.zero) (table.labels labels.positive) in
+      performed line o behind (tree_gives table.names line t) refl
+  form_told line k (form.IfThen t) behind =
+      performed line (Branch (table.flows k).inside (table.flows k).otherwise) behind (tree_gives table.names line t) refl
+  form_told line k (form.ElseIf t) behind =
+      performed line (Branch (table.flows k).inside (table.flows k).otherwise) behind (tree_gives table.names line t) refl
+  form_told line k (form.Do c) behind =
+      let flow = table.flows k in
+      let o = EnterLoop (table.names.variables c.variable.name) flow.cells flow.inside flow.behind in
+      performed line o behind (control_gives table.names line c) refl
+  form_told line k (form.Call p ts) behind =
+      let o = Call (table.subroutines p.name) (length ts) (table.flows k).next in
+      let entry = passing table.names in
+      listed_told line o entry (λ t n is. refl) ts behind (actuals_give table.names line ts) (entries_take entry ts behind)
+  form_told line k (form.Create p ts) behind =
+      let o = Create (table.subroutines p.name) (length ts) (table.flows k).next in
+      let entry = passing table.names in
+      listed_told line o entry (λ t n is. refl) ts behind (actuals_give table.names line ts) (entries_take entry ts behind)
+  form_told line k (form.Purge targets) behind =
+      let o = Purge (length targets) (table.flows k).next in
+      let entry = purging table.names in
+      let g = each_gives (target_code table.names line) subscripts_of (in_target 0) (target_gives table.names line) targets in
+      listed_told line o entry (λ t n is. refl) targets behind g (entries_take entry targets behind)
+  form_told line k (form.Print items) behind =
+      let o = Print (length items) (table.flows k).next in
+      let g = each_gives (item_code table.names line) shown (in_item 0) (item_gives table.names line) items in
+      listed_told line o showing (λ i n is. refl) items behind g (entries_take showing items behind)
+  form_told line k _ behind = inl refl
+
+  conditions_told : (line k : ℕ) (ts : List Tree) (f : Form) (behind : List Instruction)
+      → IsTold line (in_list 0 ts + in_form 0 f) (line_too_deep (conditions_code table line k ts f ++ behind)) (line_too_deep behind)
+  conditions_told line k [] f behind =
+      let e = append_assoc (operands_code table line f) (operation_code table line k f) behind in
+      told_more line (in_form 0 f) (in_list 0 [] + in_form 0 f) (omega arith)
+      (same_told line (in_form 0 f) (ap line_too_deep e) (form_told line k f behind))
+  conditions_told line k (t ∷ ts) f behind =
+      let o = Condition (table.flows k).next in
+      let rest = conditions_code table line k ts f in
+      let m = in_list 0 ts + in_form 0 f in
+      let n = in_list 0 (t ∷ ts) + in_form 0 f in
+      let e = append_assoc (tree_code table.names line t) (Step line o ∷ rest) behind in
+      let here = performed line o (rest ++ behind) (tree_gives table.names line t) refl in
+      let sum = sum_by-cons (in_tree 0) t ts in
+      same_told line n (ap line_too_deep e)
+      (told_both line (in_tree 0 t) m n (omega (arith, sum)) (omega (arith, sum)) here (conditions_told line k ts f behind))
+
+  loop_end_told : (d : ℕ) (f : Form) (behind : List Instruction) → line_too_deep (loop_end_code table d f ++ behind) ≡ line_too_deep behind
+  loop_end_told d (form.Do c) behind = refl
+  loop_end_told d _ behind = refl
+
+  statement_told : (k : ℕ) (s : Statement) (behind : List Instruction)
+      → IsTold s.line (names_and_constants s) (line_too_deep (statement_code table k s ++ behind)) (line_too_deep behind)
+  statement_told k s behind =
+      let n = names_and_constants s in
+      let c = conditions_code table s.line k s.conditions s.form in
+      let e = loop_end_code table k s.form in
+      let told = conditions_told s.line k s.conditions s.form (e ++ behind) in
+      same_told s.line n (ap line_too_deep (append_assoc c e behind))
+      (subst (IsTold s.line n (line_too_deep (c ++ (e ++ behind)))) (loop_end_told k s.form behind) told)
+
+  later : (s : Statement) (ss : List Statement) (line : ℕ) → HasLongStatement ss line → HasLongStatement (s ∷ ss) line
+  later s ss line h = (suc h.0, h.1, h.2, h.3, h.4)
+
+  statements_long : (k : ℕ) (ss : List Statement) (line : ℕ)
+      → line_too_deep (statements_code table k ss) ≡ Some line → HasLongStatement ss line
+  statements_long k [] line e = absurd (none-some line e)
+  statements_long k (s ∷ ss) line e = elim (statement_told k s (statements_code table (suc k) ss)) [
+    | inl same ↦ later s ss line (statements_long (suc k) ss line (sym same ∙ e))
+    | inr here ↦ (0, s, refl, same_Some s.line line (sym here.0 ∙ e), here.1)
+  ]
+
+-- ---- units
+
+code_long : (addressed : AddressedUnit) (line : ℕ) → line_too_deep (code_of addressed) ≡ Some line → HasLongStatement addressed.unit line
+unfolding code_of
+code_long addressed line e = statements_long (table_of addressed) 0 addressed.unit line e
+
+pub deep_is_long : (program : Units) (line : ℕ) → IsFirstDeep program (length program) (Some line) → IsOfLongStatement program line
+deep_is_long program line h = (h.0, h.1, h.2, code_long (addressed_unit program (addresses_of program) h.0) line h.2)
