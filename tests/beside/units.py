@@ -399,12 +399,11 @@ class UnitMaker(Maker):
             case "given":
                 return self.pick(given).name
         if logical:
-            return self.pick([truth(self.chance(0.5)), self.logical(1)])
-        value = self.sum(1)
-        if value.startswith("$"):
-            # (by itself it would be passed, and not its value)
-            value = f"({value})"
-        return self.pick([self.constant(), f"-{self.number(1, 9)}", value, self.small()])
+            value = self.pick([truth(self.chance(0.5)), self.logical(1)])
+        else:
+            value = self.pick([self.constant(), f"-{self.number(1, 9)}", self.sum(1), self.small()])
+        # (by itself an asynchronous variable would be passed, and not its value)
+        return f"({value})" if value.startswith("$") else value
 
     def array_passed(self, size, logical, arrays):
         """An array of these that has so many elements left from its first one on, or from one that is named; None where there is no
