@@ -22,7 +22,6 @@ use std::alloc::{AllocError, Global};
 use std::marker::Model;
 
 /// A checked program as a core runs it. Contracts see the program.
-#[derive(Drop)]
 pub struct Image {
     program: Program,
     units: Sequence<UnitCode>,
@@ -36,6 +35,21 @@ pub struct Image {
     names: ProgramNames,
     /// The common blocks, in the order of their cells.
     blocks: Sequence<BlockStart>,
+}
+
+// Written out, so that a caller's proof has one call of it at each exit.
+impl Drop for Image {
+    fn drop(self) {
+        let Image {
+            program,
+            units,
+            main,
+            common,
+            rows,
+            names,
+            blocks,
+        } = self;
+    }
 }
 
 impl Model for Image {

@@ -31,7 +31,6 @@ const FIRST_PROCESS: u64 = 1;
 
 /// A run of an image. Contracts see the program, the cells of the arena, the longest history, the
 /// history, the stop, and what is seen of the state.
-#[derive(Drop)]
 pub struct Core {
     alloc: Global,
     image: Image,
@@ -44,6 +43,23 @@ pub struct Core {
     waits: Waits,
     // The others that live.
     ready: Ready,
+}
+
+// Written out, so that a caller's proof has one call of it at each exit.
+impl Drop for Core {
+    fn drop(self) {
+        let Core {
+            alloc,
+            image,
+            cells,
+            limit,
+            history,
+            stop,
+            machine,
+            waits,
+            ready,
+        } = self;
+    }
 }
 
 impl Model for Core {

@@ -23,7 +23,6 @@ pub struct Process {
 }
 
 /// What the actual arguments of a CALL give, and the targets of a PURGE name, while it is made.
-#[derive(Drop)]
 pub struct Passing {
     /// What each dummy argument stands for.
     pub given: Vec<Given>,
@@ -35,8 +34,19 @@ pub struct Passing {
     pub ranges: Vec<Range>,
 }
 
+// Written out, so that a caller's proof has one call of it at each exit.
+impl Drop for Passing {
+    fn drop(self) {
+        let Passing {
+            given,
+            shapes,
+            values,
+            ranges,
+        } = self;
+    }
+}
+
 /// A state: the frames, the processes by number, counted from 1, how many activations were made, and what was written.
-#[derive(Drop)]
 pub struct Machine {
     pub frames: Frames,
     pub processes: Vec<Process>,
@@ -48,4 +58,19 @@ pub struct Machine {
     /// It has room for the dummy arguments of each unit and for their bounds, so that no CALL takes memory for them, and for the targets of
     /// each PURGE.
     pub passing: Passing,
+}
+
+// Written out, so that a caller's proof has one call of it at each exit.
+impl Drop for Machine {
+    fn drop(self) {
+        let Machine {
+            frames,
+            processes,
+            activations,
+            records,
+            faults,
+            halted,
+            passing,
+        } = self;
+    }
 }
