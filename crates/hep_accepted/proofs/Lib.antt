@@ -12,3 +12,4 @@ pub mod Shaped
 mod Assigned
 mod Fitted
 pub mod Given
+pub mod Named

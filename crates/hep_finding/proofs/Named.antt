@@ -1,7 +1,7 @@
 -- Arrays: each is among the names of its unit, and found among its arrays; its bounds are constant where it has a constant shape.
-use Rattle.std.proofs.Common.{◌≡◌, ◌⊎◌, inl, inr, ℕ, suc, Bool, true, false, List, [], ◌∷◌, ◌++◌, length, Option, Some, None, refl, sym, ap, ◌∙◌}
+use Rattle.std.proofs.Common.{◌≡◌, ◌⊎◌, inl, inr, Bool, true, false, List, [], ◌∷◌, length, Option, Some, None, refl, sym, ap, ◌∙◌}
 use Rattle.std.specs.Prelude.{◌&&◌, ◌||◌, if◌then◌else◌, is_some, ℤ, map, slice_get}
-use Rattle.std.specs.List.{filter, flat_map, list_all, list_any}
+use Rattle.std.specs.List.{flat_map, list_all, list_any}
 use Rattle.std.specs.Option.{option_map, option_map_or, unwrap_or}
 use Rattle.std.proofs.lemmas.Bool.{and_parts}
 use Rattle.std.proofs.lemmas.List.Folds.{list_any-append}
@@ -20,7 +20,7 @@ use Rattle.hep_source.specs.declared.value.Value.{Value}
 use Rattle.hep_source.specs.Names.{same_name, is_among, index_among}
 use Rattle.hep_source.specs.Tree.{Tree}
 use Rattle.hep_source.specs.Units.{names_of_occurrences}
-use Rattle.hep_source.proofs.NameTests.{equal_names, same_name-turned}
+use Rattle.hep_source.proofs.NameTests.{same_name-turned}
 use Rattle.hep_machine.specs.Arithmetic.{integer_of}
 use Rattle.hep_machine.specs.Constants.{adjustable_dimensions, bound_before, bound_of, bounds_of, constant_shape, constant_value, if_shape, is_constant_dimension, is_constant_lower, is_constant_upper, lower_value, upper_value, value_of}
 use Rattle.hep_machine.specs.Declarations.{declarator_among, declarators_in, declarators_of, dimensions_among, dimensions_of, is_array, is_nonempty}

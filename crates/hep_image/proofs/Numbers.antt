@@ -76,7 +76,7 @@ at-flat f (v ∷ vs) rest (suc u) n i x a there own at =
 
 -- ---- names
 
-unit-there : (program : Units) (u : ℕ) → u < length program → slice_get program u ≡ Some (unit_at program u)
+pub unit-there : (program : Units) (u : ℕ) → u < length program → slice_get program u ≡ Some (unit_at program u)
 unit-there [] u h = absurd (omega (arith, h))
 unit-there (unit ∷ units) zero h = refl
 unit-there (unit ∷ units) (suc u) h = unit-there units u (omega (arith, h))

@@ -30,7 +30,7 @@ use Rattle.hep_frames.proofs.Rows.{owned-by, place-at}
 use Rattle.hep_frames.proofs.Runs.{common-size}
 use Rattle.hep_places.proofs.Begins.{key-among}
 use Rattle.hep_places.proofs.InBlocks.{key-in-block}
-use Rattle.hep_places.proofs.Named.{has_among}
+use Rattle.hep_accepted.proofs.Named.{has_among}
 
 -- ---- names that are each there once are no more than others of which they are some
 

@@ -16,7 +16,7 @@ use Rattle.hep_common.specs.Starts.{narrowed}
 use Rattle.hep_places.specs.Found.{Table}
 use Rattle.hep_places.specs.Owners.{argument_found, local_found, variables_found}
 use Rattle.hep_places.proofs.Begins.{argument-at}
-use Rattle.hep_places.proofs.Named.{has_among}
+use Rattle.hep_accepted.proofs.Named.{has_among}
 use Rattle.hep_places.proofs.Right.{index-there, map-same}
 
 module _ (unit : List Statement) (small : frame_cells unit ≤ 16777216) (locals : Table) (at : (x : Name) → is_among x (locals_of unit) ≡ true → locals x ≡ Some (first_of_part unit (variable x))) where

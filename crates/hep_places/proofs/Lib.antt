@@ -5,7 +5,6 @@ mod Lengths
 mod Extents
 mod InBlocks
 mod Begins
-mod Named
 mod Right
 mod Few
 mod Accepted

@@ -33,7 +33,7 @@ use Rattle.hep_storage.proofs.CellCounts.{adjustable}
 use Rattle.hep_common.specs.Starts.{narrowed}
 use Rattle.hep_places.specs.Found.{Table, array_found, arrays_with, constant_extents, extents_found, variable_among, variable_found}
 use Rattle.hep_places.proofs.InBlocks.{held-by}
-use Rattle.hep_places.proofs.Named.{has_among, name_of_unit}
+use Rattle.hep_accepted.proofs.Named.{has_among, name_of_unit}
 use Rattle.hep_places.proofs.Narrowed.{narrowed-more, narrowed-small, narrowed-zero}
 
 -- ---- lists

@@ -38,6 +38,8 @@ use Rattle.hep_finding.proofs.Within.{few-dimensions}
 use Rattle.hep_finding.specs.Within.{ArePlacedArrays}
 use Rattle.hep_image.specs.Places.{arrays_of, start_of, variable_of}
 use Rattle.hep_image.specs.declared.array.Start.{Start}
+use Rattle.hep_image.proofs.Members.{indexed}
+use Rattle.hep_image.proofs.Numbers.{unit-there}
 use Rattle.hep_placed.specs.Instructions.{variables_in_operation}
 use Rattle.hep_placed.specs.Placed.{ArePlaced, code_in}
 use Rattle.hep_step.specs.Simulation.{IsRunning, counts_in, found_in, unit_addressed, unit_code, variable_in}
@@ -74,11 +76,6 @@ dropped-behind (z ∷ zs) (suc i) j x behind y e h =
     let same : suc i + j ≡ suc (i + j) = omega arith in
     ap (slice_get zs) same ∙ dropped-behind zs i j x behind y e h
 
-pub unit-there : (program : Units) (u : ℕ) → u < length program → slice_get program u ≡ Some (unit_at program u)
-unit-there [] u h = absurd (omega (arith, h))
-unit-there (unit ∷ units) zero h = refl
-unit-there (unit ∷ units) (suc u) h = unit-there units u (omega (arith, h))
-
 -- ---- operations
 
 none_absent : (line : ℕ) (o : Operation) → ArePlaced (variables_in_operation o) → variable_in o ≢ Some Absent
@@ -92,11 +89,7 @@ none_absent line _ h e = absurd cc
 -- ---- arrays
 
 among-at : (x : Name) (xs : List Name) → is_among x xs ≡ true → (i : ℕ) × (slice_get xs i ≡ Some x)
-among-at x [] h = absurd cc
-among-at x (y ∷ ys) h = by_test (among-at x ys) (same_name x y) refl h where
-  by_test : (is_among x ys ≡ true → (i : ℕ) × (slice_get ys i ≡ Some x)) → (b : Bool) → same_name x y ≡ b → (if b then true else is_among x ys) ≡ true → (i : ℕ) × (slice_get (y ∷ ys) i ≡ Some x)
-  by_test rest true t h = (0, ap (λ (z : Name). Some z) (sym (equal_names x y t)))
-  by_test rest false t h = let found = rest h in (suc found.0, found.1)
+among-at x xs h = let found = indexed x xs h in (found.0, found.2)
 
 -- one that is no dummy argument has a constant shape
 own-shaped : (program : Units) → AreClosed program → (u : ℕ) → u < length program → (x : Name) → index_among x (dummies_of (unit_at program u)) ≡ None → HasConstantShape (unit_at program u) x

@@ -1,4 +1,4 @@
-use Rattle.std.proofs.Common.{◌+◌, ◌∙◌, Some, refl, sym, ap, subst, arith}
+use Rattle.std.proofs.Common.{◌∙◌, Some, refl, sym, ap, subst, arith}
 use Rattle.std.proofs.lemmas.Option.{slice_get-get_or}
 use Rattle.hep_arena.specs.Holes.{IsOut}
 use Rattle.hep_proc.specs.Nodes.{nodes_of}

@@ -1,4 +1,4 @@
-use Rattle.std.proofs.Common.{◌≡◌, ◌+◌, ◌*◌, length, drop, ◌≤◌}
+use Rattle.std.proofs.Common.{◌≡◌, ◌+◌, length, drop, ◌≤◌}
 use Rattle.hep_proc.specs.Nodes.{nodes_of}
 use Rattle.hep_entering.specs.Shapes.{cells_of_shapes}
 use Rattle.hep_entering.proofs.AllShaped.{AreAllShaped}

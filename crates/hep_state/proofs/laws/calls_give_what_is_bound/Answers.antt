@@ -19,7 +19,7 @@ use Rattle.hep_image.specs.Dummies.{dummy_arguments}
 use Rattle.hep_shaping.specs.Fitting.{shapes_of}
 use Rattle.hep_state.proofs.Bindings.{IsKnownToBind, actuals, called-so, dummies-given, fault-ends, frameless, range-bound}
 use Rattle.hep_state.proofs.Callers.{IsKnown, called-inside}
-use Rattle.hep_state.proofs.Tops.{unit-there}
+use Rattle.hep_image.proofs.Numbers.{unit-there}
 use Rattle.hep_state.proofs.laws.calls_give_what_is_bound.Goals as goal
 
 from-made : goal.After-tops_are_running → (creates : Bool) (unit : List Statement) (k : ℕ) (work : Work) (x : Name) (actuals : List Actual) → ComesFrom unit k work → next_of unit work ≡ does (made_by creates x actuals) → IsCalledBy unit k x actuals
