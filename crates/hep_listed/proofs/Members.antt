@@ -62,7 +62,7 @@ rising-from : (low high greatest : ℕ) (ps : List ℕ) → low ≤ high → Are
 rising-from low high greatest [] le rising = tt
 rising-from low high greatest (p ∷ ps) le rising = (omega (arith, rising.0), rising.1, rising.2)
 
-rising-filter : (test : ℕ → Bool) (least greatest : ℕ) (ps : List ℕ) → AreRising least greatest ps
+pub rising-filter : (test : ℕ → Bool) (least greatest : ℕ) (ps : List ℕ) → AreRising least greatest ps
     → AreRising least greatest (filter test ps)
 rising-filter test least greatest [] rising = tt
 rising-filter test least greatest (p ∷ ps) rising = elim (cases_Bool (test p)) [

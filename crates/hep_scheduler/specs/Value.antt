@@ -1,9 +1,12 @@
 -- What a core is to its callers, and what a choice makes of it: docs/MACHINE.md, "Histories" and "Which process comes next".
-use Rattle.std.specs.Prelude.{◌≡◌, ◌≢◌, ◌⊎◌, ℕ, zero, suc, ◌-◌, ◌<◌, Bool, true, false, if◌then◌else◌, List, [], ◌∷◌, ◌++◌, Option, Some, None, IsSome, Result, Ok, Err, length}
+use Rattle.std.specs.Prelude.{◌≡◌, ◌≢◌, ◌⊎◌, ℕ, zero, suc, ◌+◌, ◌-◌, ◌<◌, Bool, true, false, if◌then◌else◌, List, [], ◌∷◌, ◌++◌, Option, Some, None, IsSome, Result, Ok, Err, length}
 use Rattle.std.specs.Option.{option_or}
 use Rattle.hep_machine.specs.declared.event.Entry.{Entry}
 use Rattle.hep_source.specs.Units.{Units}
-use Rattle.hep_machine.specs.State.{State}
+use Rattle.hep_machine.specs.declared.slot.Slot.{Slot}
+use Rattle.hep_machine.specs.Declarations.{BlockName}
+use Rattle.hep_machine.specs.State.{State, common}
+use Rattle.hep_frames.specs.Rows.{place_of_block}
 use Rattle.hep_machine.specs.Step.{step, is_waiting}
 use Rattle.hep_machine.specs.Run.{schedule_of, state_after}
 use Rattle.hep_machine.specs.Layout.{is_held, opening_layout}
@@ -93,6 +96,11 @@ IsStop program cells limit history (Some StepLimit) = ((state_after program hist
 IsStop program cells limit history (Some ArenaFull) =
     ((state_after program history).halted ≡ false) × ((p : ℕ) × HasNoGap program cells (schedule_of history) p)
 
+-- the history of a core without a stop is full, and that is its stop now; or it isn't full, and nothing has changed
+abbrev pub IsStoppedWhereFull : CoreValue → Bool → CoreValue → Type 0
+IsStoppedWhereFull old true new = (length old.history ≡ old.limit) × (new ≡ record old { stop = Some StepLimit })
+IsStoppedWhereFull old false new = (length old.history < old.limit) × (new ≡ old)
+
 -- nothing lives, or all that lives is listed as waiting, or something is ready
 abbrev pub verdict_by : Option Stop → List ℕ → List ℕ → Verdict
 verdict_by (Some stop) alive ready = Stopped stop
@@ -106,8 +114,19 @@ verdict_of core =
 
 -- ---- the process that comes next by itself
 
+-- the living processes that aren't listed, by rising numbers
+abbrev pub ready_of : CoreValue → List ℕ
+ready_of core = ready_in (progress_after core.program core.history)
+
 abbrev pub next_ready_of : CoreValue → Option ℕ
 next_ready_of core = next_ready core.program core.history
+
+-- ---- COMMON
+
+-- the cell is that of the storage unit of COMMON at this position
+abbrev pub IsAtPosition : CoreValue → ℕ → Slot → Type 0
+IsAtPosition core at slot =
+    (b : BlockName) (i : ℕ) → place_of_block core.program b i ≡ Some at → slot ≡ (state_of core).store (common b (i + 1))
 
 -- ---- processes that wait
 

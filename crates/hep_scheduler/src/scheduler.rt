@@ -1,9 +1,12 @@
 //! The core: a run of an image, one choice at a time, with its history.
-ghost use Rattle.std.specs.Prelude.{◌≡◌, ◌≤◌, ◌<◌, ◌++◌, ◌∷◌, [], None, Some, IsSome, IfOk, OnOk, IfErr, length, vec_len, vec_capacity};
+ghost use Rattle.std.specs.Prelude.{◌≡◌, ◌≤◌, ◌<◌, ◌++◌, ◌∷◌, [], None, Some, IsSome, IfNone, IfSome, IfOk, OnOk, IfErr, is_some, length, nat_lt, vec_len, vec_capacity};
 ghost use Rattle.hep_machine.specs.Histories.{IsLegal};
-ghost use Rattle.hep_machine.specs.Layout.{is_held, opening_layout, used_cells};
+ghost use Rattle.hep_machine.specs.Layout.{common_cells, is_held, opening_layout, used_cells};
+ghost use Rattle.hep_machine.specs.Processes.{living};
+ghost use Rattle.hep_machine.specs.Schedules.{first_above, last_process};
 ghost use Rattle.hep_machine.specs.Views.{view_of};
-ghost use Rattle.hep_scheduler.specs.Value.{state_of, opening_of, IsNewFault, IsChoice, IsStop, next_listed_of, verdict_of, next_ready_of};
+ghost use Rattle.hep_scheduler.specs.Value.{state_of, opening_of, IsNewFault, IsChoice, HasNoStop, IsStop, IsStoppedWhereFull};
+ghost use Rattle.hep_scheduler.specs.Value.{IsAtPosition, next_listed_of, verdict_of, next_ready_of, ready_of};
 
 use crate::fault::{ChooseFault, NewFault};
 use crate::lists::{note_ready, wait, wake_after};
@@ -15,7 +18,7 @@ use hep_listed::laws::{
     lists_are_those_of_definitions, lists_go_along_with_purges, lists_go_along_with_steps,
     openings_list_nobody, waiting_processes_are_listed,
 };
-use hep_machine::{Entry, Fault, Record};
+use hep_machine::{Entry, Fault, Record, Slot};
 use hep_needs::laws::waiting_processes_need_it;
 use hep_ready::Ready;
 use hep_state::laws::activations_are_few;
@@ -196,14 +199,56 @@ impl Core {
         views_are_of_states();
     }
 
+    /// The stop that the core is at.
+    pub fn stop(&self) -> Option<Stop>
+        ensures stop { result ≡ self.now.stop }
+        ensures none { IfNone result (HasNoStop self.now) }
+    {
+        self.stop
+    }
+
+    /// Sets the stop `StepLimit`, and says so, where the history has as many entries as it may have. The core has to be at no stop.
+    pub fn stop_where_full(&mut self) -> bool
+        requires { self.old.stop ≡ None }
+        ensures { IsStoppedWhereFull self.old result self.new }
+    {
+        let full = self.limit <= self.history.len() as u64;
+        if full {
+            self.stop = Some(Stop::StepLimit);
+        }
+        full
+    }
+
+    /// Process p was made and hasn't ended.
+    pub fn lives(&self, p: u64) -> bool
+        ensures { result ≡ is_some (living (state_of self.now) p) }
+    {
+        self.machine.lives(p)
+    }
+
+    /// Of the processes that live and don't wait the one with the least number above p. None where there is none: unlike
+    /// `next_ready`, this doesn't begin again with the least of all.
+    pub fn ready_above(&self, p: u64) -> Option<u64>
+        ensures { result ≡ first_above p (ready_of self.now) None }
+    {
+        lists_are_those_of_definitions();
+        self.ready.first_above(p)
+    }
+
     /// The process that comes next by itself: of those that live and don't wait the least above
     /// that of the last entry, else the least.
     pub fn next_ready(&self) -> Option<u64>
         ensures { result ≡ next_ready_of self.now }
     {
         lists_are_those_of_definitions();
-        let last = self.history.last().map_or(0, |entry| entry.process);
-        self.ready.next(last)
+        self.ready.next(self.last_process())
+    }
+
+    /// The process of the last entry of the history, 0 where there is none.
+    pub fn last_process(&self) -> u64
+        ensures { result ≡ last_process self.now.history }
+    {
+        self.history.last().map_or(0, |entry| entry.process)
     }
 
     /// Whether the run goes on.
@@ -240,6 +285,18 @@ impl Core {
         self.machine.frames.used()
     }
 
+    /// The cell at a position of COMMON, counted from 0, where the common blocks stand one behind the other in the order in which they
+    /// appear first, each at its greatest length. None past the end of COMMON.
+    pub fn common(&self, at: u32) -> Option<Slot>
+        ensures inside { is_some result ≡ nat_lt at (common_cells self.now.program) }
+        ensures cell { IfSome result (IsAtPosition self.now at) }
+    {
+        if self.image.common() <= at {
+            return None;
+        }
+        Some(self.machine.frames.arena.get(at))
+    }
+
     /// The records so far.
     pub fn output(&self) -> &[Record]
         ensures { result.now ≡ (state_of self.now).records }
@@ -259,6 +316,20 @@ impl Core {
         ensures { result.now ≡ self.now.history }
     {
         &self.history
+    }
+
+    /// How many cells the arena has.
+    pub fn cells(&self) -> u32
+        ensures { result ≡ self.now.cells }
+    {
+        self.cells
+    }
+
+    /// How many entries the history may have.
+    pub fn limit(&self) -> u64
+        ensures { result ≡ self.now.limit }
+    {
+        self.limit
     }
 
     /// The image that runs.

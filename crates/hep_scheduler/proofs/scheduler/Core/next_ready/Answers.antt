@@ -1,23 +1,14 @@
-use Rattle.std.proofs.Common.{◌≡◌, ◌∙◌, ◌-◌, ℕ, List, Option, Some, None, MatchOption, Bor, ap, length, rules, sym}
-use Rattle.std.specs.Prelude.{slice_get}
-use Rattle.std.specs.Option.{option_copied}
-use Rattle.hep_machine.specs.declared.event.Entry.{Entry}
+use Rattle.std.proofs.Common.{◌≡◌, ◌∙◌, ap, sym}
 use Rattle.hep_machine.specs.Run.{schedule_of}
 use Rattle.hep_machine.specs.Schedules.{last_process, next_of_ready, progress_after}
-use Rattle.hep_scheduler.proofs.Histories.{last-none, last-some}
+use Rattle.hep_scheduler.specs.Value.{CoreValue}
 use Rattle.hep_scheduler.proofs.scheduler.Core.next_ready.Goals as goal
-
--- the process of the last entry, where one is read, and else 0
-last-read : (es : List Entry) (o : Option (Bor Entry)) (p : ℕ) (P : Bor Entry → Type 0) → ((e : Bor Entry) → P e → p ≡ e.now.process) → option_copied o ≡ slice_get es (length es - 1) → MatchOption o (p ≡ 0) P → p ≡ last_process es
-last-read es None p P by read is = is ∙ sym (last-none es (sym read))
-last-read es (Some e) p P by read is = by e is ∙ sym (last-some es e.now (sym read))
 
 pub returns : goal.returns
 returns c =
     let i = c.self.inside in
     let h = i.history.items in
     let k = c.self.invariant in
-    let read : option_copied c.last.result ≡ slice_get h (length h - 1) = c.last.ensures.value ∙ ap (λ (es : List Entry). slice_get es (length es - 1)) c.deref.ensures.value in
-    let last = last-read h c.last.result c.map_or-last.result _ (λ e given. search rules) read c.map_or-last.ensures in
+    let last : c.last_process.result ≡ last_process h = c.last_process.ensures ∙ ap (λ (core : CoreValue). last_process core.history) (sym c.self.view_is) in
     let ready = c.lists_are_those_of_definitions.ensures.ready i.image i.cells i.ready.room (schedule_of h) (progress_after i.image h) i.waits i.ready.ready k.listed c.next.ensures.rising in
     rw (← c.self.view_is) (c.next.ensures.next ∙ (λ j. next_of_ready (last j) (ready j)))

@@ -1,0 +1,14 @@
+use Rattle.std.proofs.Common.{ap, sym, ◌∙◌}
+use Rattle.std.specs.Prelude.{is_some}
+use Rattle.hep_machine.specs.Processes.{living}
+use Rattle.hep_machine.specs.Run.{schedule_of}
+use Rattle.hep_machine.specs.State.{State}
+use Rattle.hep_scheduler.proofs.Histories.{state-is}
+use Rattle.hep_scheduler.proofs.scheduler.Core.lives.Goals as goal
+
+pub returns : goal.returns
+returns c =
+    let i = c.self.inside in
+    rw (← c.self.view_is) (
+    c.lives.ensures.lives i.image i.cells (schedule_of i.history.items) c.self.invariant.after.after
+    ∙ ap (λ (s : State). is_some (living s c.args.p)) (sym (state-is i.image i.history.items)))

@@ -1,0 +1,12 @@
+use Rattle.std.proofs.Common.{ap, ◌∙◌, None}
+use Rattle.hep_machine.specs.Run.{schedule_of}
+use Rattle.hep_machine.specs.Schedules.{first_above, progress_after}
+use Rattle.hep_scheduler.proofs.scheduler.Core.ready_above.Goals as goal
+
+pub returns : goal.returns
+returns c =
+    let i = c.self.inside in
+    let h = i.history.items in
+    let k = c.self.invariant in
+    let ready = c.lists_are_those_of_definitions.ensures.ready i.image i.cells i.ready.room (schedule_of h) (progress_after i.image h) i.waits i.ready.ready k.listed c.first_above.ensures.rising in
+    rw (← c.self.view_is) (c.first_above.ensures.next ∙ ap (λ ns. first_above c.args.p ns None) ready)

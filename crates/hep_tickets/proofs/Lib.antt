@@ -1,0 +1,3 @@
+mod Free
+mod Outs
+mod Staying

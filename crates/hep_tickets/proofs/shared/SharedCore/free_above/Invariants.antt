@@ -1,0 +1,15 @@
+use Rattle.std.proofs.Common.{◌≡◌, ◌-◌, ◌≤◌, None, Some, length}
+use Rattle.std.specs.Prelude.{if◌then◌else◌, not}
+use Rattle.hep_machine.specs.Schedules.{first_above, progress_after}
+use Rattle.hep_tickets.specs.Shared.{free_of}
+use Rattle.hep_tickets.specs.Tickets.{is_out}
+use Rattle.hep_tickets.proofs.shared.SharedCore.free_above.Given as goal
+
+-- the one that comes next is this one, unless it is out, and then it is above it
+abbrev pub invariant-loop-self : goal.invariant-loop-self
+invariant-loop-self l =
+    (first_above l.p (free_of l.self) None ≡ (if not (is_out l.next l.self.out) then Some l.next else first_above l.next (free_of l.self) None))
+    × (l.next ≤ length (progress_after l.self.core.program l.self.core.history).state.processes)
+
+abbrev pub decreases-loop-self : goal.decreases-loop-self
+decreases-loop-self l = length (progress_after l.self.core.program l.self.core.history).state.processes - l.next

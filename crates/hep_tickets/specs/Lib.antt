@@ -1,0 +1,4 @@
+pub mod Tickets
+pub mod Segments
+pub mod Shared
+pub mod Invariant
