@@ -1,0 +1,6 @@
+use Rattle.std.proofs.Common.{◌≡◌, drop}
+use Rattle.hep_workers.specs.Marks.{marked}
+use Rattle.hep_workers.proofs.report.mark_log.Given as goal
+
+abbrev pub invariant-loop-receipt : goal.invariant-loop-receipt
+invariant-loop-receipt l = marked l.history l.named.items (drop l.receipt-index l.receipts) ≡ marked l.fn.history l.fn.named.items l.fn.receipts

@@ -1,0 +1,5 @@
+pub mod Faults
+pub mod Receipts
+pub mod Marks
+pub mod Turns
+pub mod Reports

@@ -1,0 +1,59 @@
+//! What workers share may go from thread to thread. The calls here do nothing: their clauses say it of the types of a program, so that
+//! a caller's proof need not look into them again.
+ghost use Rattle.std.specs.Thread.{IsSend, IsSync};
+ghost use Rattle.hep_image.specs.contracts.image.Image as image;
+ghost use Rattle.hep_source.specs.contracts.expression.Expr as expression;
+ghost use Rattle.hep_source.specs.contracts.program.Program as program;
+ghost use Rattle.hep_tickets.specs.contracts.shared.SharedCore as shared;
+
+use hep_blocked::Waits;
+use hep_image::{BlockStart, DataRow, UnitCode};
+use hep_ready::Ready;
+use hep_source::{Expr, Sequence, Text};
+use hep_state::Machine;
+
+fn cross<T: Send + Sync>()
+    ensures send { IsSend T.row }
+    ensures sync { IsSync T.row }
+{}
+
+fn pass<T: Send>()
+    ensures send { IsSend T.row }
+{}
+
+fn expressions_cross()
+    ensures send { IsSend expression.the_row }
+    ensures sync { IsSync expression.the_row }
+{
+    cross::<Expr>();
+}
+
+fn programs_cross()
+    ensures send { IsSend program.the_row }
+    ensures sync { IsSync program.the_row }
+{
+    expressions_cross();
+}
+
+/// An image may be sent to another thread, and be read by several.
+pub(crate) fn images_cross()
+    ensures send { IsSend image.the_row }
+    ensures sync { IsSync image.the_row }
+{
+    programs_cross();
+    cross::<Sequence<UnitCode>>();
+    cross::<Sequence<DataRow>>();
+    cross::<Sequence<Text>>();
+    cross::<Sequence<u32>>();
+    cross::<Sequence<BlockStart>>();
+}
+
+/// A shared core may be sent to another thread.
+pub(crate) fn cores_cross()
+    ensures send { IsSend shared.the_row }
+{
+    images_cross();
+    pass::<Machine>();
+    pass::<Waits>();
+    pass::<Ready>();
+}

@@ -1,0 +1,136 @@
+//! Why there is no report.
+ghost use Rattle.std.specs.Prelude.{◌≡◌};
+ghost use Rattle.hep_workers.specs.Faults.{number_of};
+
+use hep_scheduler::NewFault;
+use std::alloc::AllocError;
+use thiserror::Error;
+
+/// Why a core and the logs of its workers make no report: the first by number, and want of memory before all.
+#[derive(Clone, Copy, Debug, PartialEq, Eq, Error)]
+pub enum CloseFault {
+    /// Memory was refused.
+    #[error("no memory")]
+    NoMemory,
+    /// The receipts aren't the history's entries, each once.
+    #[error("701: the receipts are not the entries of the history, each once")]
+    NotTheEntries,
+    /// The indexes of a log don't rise.
+    #[error("702: the indexes of a log do not rise")]
+    NotRising,
+    /// The core isn't of the image, the arena size and the step limit handed in.
+    #[error("703: the core is not of what was handed in")]
+    NotTheRun,
+    /// The run could go on.
+    #[error("705: the run goes on")]
+    StillRunning,
+}
+
+/// Why the workers gave up.
+#[derive(Clone, Copy, Debug, PartialEq, Eq, Error)]
+pub enum CrewFault {
+    /// Memory was refused.
+    #[error("no memory")]
+    NoMemory,
+    /// All tickets were given.
+    #[error("506: no ticket is left")]
+    NoTicket,
+    /// A thread couldn't be started, which may be for want of memory.
+    #[error("704: a thread could not be started")]
+    NoThread,
+}
+
+impl From<AllocError> for CrewFault {
+    ghost use Rattle.std.specs.Prelude.{◌≡◌};
+    ghost use Rattle.hep_workers.specs.declared.fault.CrewFault.TheVariants.{NoMemory};
+
+    ghost from_gives = { λ _ e. e ≡ NoMemory };
+
+    fn from(_refused: AllocError) -> CrewFault {
+        CrewFault::NoMemory
+    }
+}
+
+/// Why a run by workers leaves no report.
+#[derive(Clone, Copy, Debug, PartialEq, Eq, Error)]
+pub enum WorkFault {
+    /// Memory was refused before the workers began.
+    #[error("no memory")]
+    NoMemory,
+    /// The main program's frame doesn't fit the arena.
+    #[error("arena full")]
+    ArenaFull,
+    /// The workers gave up.
+    #[error("the workers gave up")]
+    Crew(CrewFault),
+    /// There is no report of what the workers left.
+    #[error("there is no report")]
+    Close(CloseFault),
+}
+
+impl WorkFault {
+    /// The number of the line `WORKERS REFUSED`. None where memory was refused, or the arena is full.
+    pub fn number(self) -> Option<u16>
+        ensures { result ≡ number_of self }
+    {
+        match self {
+            WorkFault::NoMemory
+            | WorkFault::ArenaFull
+            | WorkFault::Crew(CrewFault::NoMemory)
+            | WorkFault::Close(CloseFault::NoMemory) => None,
+            WorkFault::Crew(CrewFault::NoTicket) => Some(506),
+            WorkFault::Crew(CrewFault::NoThread) => Some(704),
+            WorkFault::Close(CloseFault::NotTheEntries) => Some(701),
+            WorkFault::Close(CloseFault::NotRising) => Some(702),
+            WorkFault::Close(CloseFault::NotTheRun) => Some(703),
+            WorkFault::Close(CloseFault::StillRunning) => Some(705),
+        }
+    }
+}
+
+impl From<AllocError> for WorkFault {
+    ghost use Rattle.std.specs.Prelude.{◌≡◌};
+    ghost use Rattle.hep_workers.specs.declared.fault.WorkFault.TheVariants.{NoMemory};
+
+    ghost from_gives = { λ _ e. e ≡ NoMemory };
+
+    fn from(_refused: AllocError) -> WorkFault {
+        WorkFault::NoMemory
+    }
+}
+
+impl From<NewFault> for WorkFault {
+    ghost use Rattle.std.specs.Prelude.{◌≡◌};
+    ghost use Rattle.hep_workers.specs.Faults.{of_new};
+
+    ghost from_gives = { λ fault e. e ≡ of_new fault };
+
+    fn from(fault: NewFault) -> WorkFault {
+        match fault {
+            NewFault::NoMemory => WorkFault::NoMemory,
+            NewFault::ArenaFull => WorkFault::ArenaFull,
+        }
+    }
+}
+
+impl From<CrewFault> for WorkFault {
+    ghost use Rattle.std.specs.Prelude.{◌≡◌};
+    ghost use Rattle.hep_workers.specs.declared.fault.WorkFault.TheVariants.{Crew};
+
+    ghost from_gives = { λ fault e. e ≡ Crew fault };
+
+    fn from(fault: CrewFault) -> WorkFault {
+        WorkFault::Crew(fault)
+    }
+}
+
+impl From<CloseFault> for WorkFault {
+    ghost use Rattle.std.specs.Prelude.{◌≡◌};
+    ghost use Rattle.hep_workers.specs.declared.fault.WorkFault.TheVariants.{Close};
+
+    ghost from_gives = { λ fault e. e ≡ Close fault };
+
+    fn from(fault: CloseFault) -> WorkFault {
+        WorkFault::Close(fault)
+    }
+}
