@@ -4,7 +4,7 @@ _hepf() {
     local word=${COMP_WORDS[COMP_CWORD]} before=${COMP_WORDS[COMP_CWORD - 1]}
     COMPREPLY=()
     case $before in
-        --arena | --steps) return ;;
+        --arena | --steps | --workers) return ;;
         --choices | --history)
             mapfile -t COMPREPLY < <(compgen -f -- "$word")
             return
@@ -17,7 +17,7 @@ _hepf() {
     case ${COMP_WORDS[1]} in
         run)
             if [[ $word == -* ]]; then
-                mapfile -t COMPREPLY < <(compgen -W "--arena --steps --choices --history --help" -- "$word")
+                mapfile -t COMPREPLY < <(compgen -W "--arena --steps --workers --choices --history --help" -- "$word")
             else
                 mapfile -t COMPREPLY < <(compgen -f -- "$word")
             fi
@@ -40,7 +40,7 @@ _hepf() {
             mapfile -t COMPREPLY < <(compgen -W "check run replay list explain" -- "$word")
             ;;
         explain)
-            mapfile -t COMPREPLY < <(compgen -W "101 102 103 104 105 106 107 201 202 203 204 205 301 302 303 304 305 306 307 308 309 310 311 401 402 501 601 602 603" -- "$word")
+            mapfile -t COMPREPLY < <(compgen -W "101 102 103 104 105 106 107 201 202 203 204 205 301 302 303 304 305 306 307 308 309 310 311 401 402 501 506 601 602 603 701 702 703 704 705" -- "$word")
             ;;
     esac
 }

@@ -44,9 +44,14 @@ no_word = refl
 
 run_with_all : asked (codes "hepf" ∷ codes "run" ∷ codes "--history" ∷ codes "h" ∷ codes "a.f" ∷ codes "--steps=4294967296"
     ∷ codes "--choices" ∷ codes "c" ∷ codes "--arena" ∷ codes "9" ∷ [])
-    ≡ Some (run (codes "a.f") 9 4294967296 (Some (codes "c")) (Some (codes "h")))
+    ≡ Some (run (codes "a.f") 9 4294967296 None (Some (codes "c")) (Some (codes "h")))
 unfolding asked clap_on_literals
 run_with_all = refl
+
+run_by_workers : asked (codes "hepf" ∷ codes "run" ∷ codes "a.f" ∷ codes "--workers" ∷ codes "16" ∷ [])
+    ≡ Some (run (codes "a.f") 65536 10000000 (Some 16) None None)
+unfolding asked clap_on_literals
+run_by_workers = refl
 
 replay_with_defaults : asked (codes "hepf" ∷ codes "replay" ∷ codes "a.f" ∷ codes "h" ∷ [])
     ≡ Some (replay (codes "a.f") (codes "h") 65536)

@@ -12,7 +12,7 @@ use Rattle.hep_command.specs.declared.job.Job.TheVariants.{Standard, Check, Run,
 pub data Asked : Type 0 where
   standard : Asked
   check : Text → Asked
-  run : Text → ℕ → ℕ → Option Text → Option Text → Asked
+  run : Text → ℕ → ℕ → Option ℕ → Option Text → Option Text → Asked
   replay : Text → Text → ℕ → Asked
   list : Text → Asked
   explain : ℕ → Asked
@@ -23,7 +23,7 @@ texts = option_map (λ path. path.now)
 abbrev pub asked_by : Job → Asked
 asked_by Standard = standard
 asked_by (Check file) = check file.now
-asked_by (Run file arena steps choices history) = run file.now arena steps (texts choices) (texts history)
+asked_by (Run file arena steps workers choices history) = run file.now arena steps workers (texts choices) (texts history)
 asked_by (Replay file history arena) = replay file.now history.now arena
 asked_by (List file) = list file.now
 asked_by (Explain number) = explain number
@@ -41,14 +41,22 @@ arena_in rows = option_number 16777216 65536 (first_of (codes "arena") rows)
 abbrev pub steps_in : ListOf Row → Option ℕ
 steps_in rows = option_number 4294967296 10000000 (first_of (codes "steps") rows)
 
+-- how many workers there are, where their option is given
+abbrev pub workers_by : Option Text → Option (Option ℕ)
+workers_by None = Some None
+workers_by (Some text) = option_map Some (number_within 1 16 text)
+
+abbrev pub workers_in : ListOf Row → Option (Option ℕ)
+workers_in rows = workers_by (first_of (codes "workers") rows)
+
 abbrev pub check_in : ListOf Row → Option Asked
 check_in rows = option_map check (first_of (codes "file") rows)
 
 abbrev pub run_in : ListOf Row → Option Asked
 run_in rows =
-    option_and_then (λ file. option_and_then (λ arena. option_map
-    (λ steps. run file arena steps (first_of (codes "choices") rows) (first_of (codes "history") rows))
-    (steps_in rows)) (arena_in rows)) (first_of (codes "file") rows)
+    option_and_then (λ file. option_and_then (λ arena. option_and_then (λ steps. option_map
+    (λ workers. run file arena steps workers (first_of (codes "choices") rows) (first_of (codes "history") rows))
+    (workers_in rows)) (steps_in rows)) (arena_in rows)) (first_of (codes "file") rows)
 
 abbrev pub replay_in : ListOf Row → Option Asked
 replay_in rows =

@@ -12,11 +12,15 @@ IsArena cells = (1 ≤ cells) × (cells ≤ 16777216)
 abbrev pub IsSteps : ℕ → Type 0
 IsSteps entries = (1 ≤ entries) × (entries ≤ 4294967296)
 
+abbrev pub AreWorkers : Option ℕ → Type 0
+AreWorkers None = Unit {0}
+AreWorkers (Some workers) = (1 ≤ workers) × (workers ≤ 16)
+
 -- the numbers of the job are those that its options allow
 abbrev pub IsInRange : Job → Type 0
 IsInRange Standard = Unit {0}
 IsInRange (Check file) = Unit {0}
-IsInRange (Run file arena steps choices history) = IsArena arena × IsSteps steps
+IsInRange (Run file arena steps workers choices history) = IsArena arena × IsSteps steps × AreWorkers workers
 IsInRange (Replay file history arena) = IsArena arena
 IsInRange (List file) = Unit {0}
 IsInRange (Explain number) = Unit {0}
@@ -27,8 +31,13 @@ IsNoPath None other = Unit {0}
 IsNoPath (Some path) other = path.now ≢ other.now
 
 abbrev pub IsWrittenApart : Job → Type 0
-IsWrittenApart (Run file arena steps choices (Some history)) = (file.now ≢ history.now) × IsNoPath choices history
+IsWrittenApart (Run file arena steps workers choices (Some history)) = (file.now ≢ history.now) × IsNoPath choices history
 IsWrittenApart _ = Unit {0}
+
+-- who steps first is said by the choices, or else by the workers
+abbrev pub IsOneOrder : Job → Type 0
+IsOneOrder (Run file arena steps (Some workers) (Some choices) history) = ⊥
+IsOneOrder _ = Unit {0}
 
 -- a text was asked for, the words are wrong, or memory was refused
 abbrev pub IsUsageStatus : ℕ → Type 0

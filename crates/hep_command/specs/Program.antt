@@ -34,6 +34,9 @@ arena_option = number_option (codes "arena") 16777216
 abbrev pub steps_option : Rule
 steps_option = number_option (codes "steps") 4294967296
 
+abbrev pub workers_option : Rule
+workers_option = number_option (codes "workers") 16
+
 abbrev pub choices_option : Rule
 choices_option = file_option (codes "choices")
 
@@ -45,8 +48,8 @@ check_command = with_rule (new_app (codes "check")) source_word
 
 abbrev pub run_command : App
 run_command =
-    with_rule (with_rule (with_rule (with_rule (with_rule (new_app (codes "run")) source_word)
-    arena_option) steps_option) choices_option) history_option
+    with_rule (with_rule (with_rule (with_rule (with_rule (with_rule (new_app (codes "run")) source_word)
+    arena_option) steps_option) workers_option) choices_option) history_option
 
 abbrev pub replay_command : App
 replay_command =
@@ -79,7 +82,7 @@ unfoldable pub asked : List Text → Option Asked
 asked words = job_in (subcommand_of hepf words)
 
 -- the status where the words get no job: that of a fault which they have, and 2 where they have none, as where the
--- history would be written to a file that is read
+-- history would be written to a file that is read, or both choices and workers are given
 unfoldable pub IsStatusFor : List Text → ℕ → Type 0
 IsStatusFor words status = ((fault_of hepf words ≡ []) × (status ≡ 2))
     ⊎ ((kind : ErrorKind) × IsAmong kind (fault_of hepf words) × (status ≡ usage_status kind))

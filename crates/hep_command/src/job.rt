@@ -15,6 +15,9 @@ pub const STEPS: u64 = 10_000_000;
 /// The most entries that an option allows a history.
 pub const MOST_STEPS: u64 = 4_294_967_296;
 
+/// The most workers that an option allows a run.
+pub const MOST_WORKERS: u64 = 16;
+
 /// What a command line asks for. Files go by their paths.
 #[derive(Clone, Copy, Debug, PartialEq, Eq)]
 pub enum Job<'a> {
@@ -31,7 +34,9 @@ pub enum Job<'a> {
         arena: u32,
         /// The entries that the history may have, 1 to 4,294,967,296.
         steps: u64,
-        /// The file of the choices.
+        /// How many workers run it, 1 to 16; without them the run is serial.
+        workers: Option<u32>,
+        /// The file of the choices, which only a serial run has.
         choices: Option<&'a str>,
         /// The file that gets the history.
         history: Option<&'a str>,

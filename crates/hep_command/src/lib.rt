@@ -9,4 +9,4 @@ pub mod words;
 
 pub use job::{Job, Usage};
 pub use refusals::{explain, explanation};
-pub use words::{SAME_FILE, read_words};
+pub use words::{SAME_FILE, TWO_ORDERS, read_words};

@@ -5,7 +5,7 @@ ghost use Rattle.clap.specs.Words.{App, Rule, with_rule, with_subcommand};
 ghost use Rattle.hep_command.specs.Program.{IsArgument, IsCommand};
 ghost use Rattle.hep_command.specs.Program as spec;
 
-use crate::job::{MOST_ARENA, MOST_STEPS};
+use crate::job::{MOST_ARENA, MOST_STEPS, MOST_WORKERS};
 use clap::builder::ValueParser;
 use clap::{Arg, Command};
 use std::alloc::{AllocError, Global};
@@ -106,6 +106,12 @@ fn steps_option<'a>(alloc: Global) -> Arg<'a>
     )
 }
 
+fn workers_option<'a>(alloc: Global) -> Arg<'a>
+    ensures { IsArgument spec.workers_option result }
+{
+    number_option(alloc, "workers", MOST_WORKERS).help("Run by so many threads, 1 to 16")
+}
+
 fn choices_option<'a>(alloc: Global) -> Arg<'a>
     ensures { IsArgument spec.choices_option result }
 {
@@ -127,6 +133,7 @@ fn run_command<'a>(alloc: Global) -> Result<Command<'a>, AllocError>
         .arg(source_argument(alloc));
     let run = with_arg(run, arena_option(alloc));
     let run = with_arg(run, steps_option(alloc));
+    let run = with_arg(run, workers_option(alloc));
     let run = with_arg(run, choices_option(alloc));
     with_arg(run, history_option(alloc))
 }
@@ -165,7 +172,7 @@ fn explain_command<'a>(alloc: Global) -> Result<Command<'a>, AllocError>
 {
     let number = argument(alloc, "number", "NUMBER")
         .value_parser(ValueParser::unsigned(0, u64::from(u16::MAX)))
-        .help("The number of a line REFUSED");
+        .help("The number of a line REFUSED or WORKERS REFUSED");
     Command::new(alloc, "explain")
         .about("Say what a refusal means and what to do about it")
         .after_help(EXPLAIN_EXAMPLE)

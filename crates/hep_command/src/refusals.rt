@@ -105,6 +105,9 @@ Assign a part of it to a variable first.
         501 => "This line of the file of choices names no living process.
 Take it and the lines after it out: a run goes on by itself after its choices.
 ",
+        506 => "The workers have used up all tickets of the run.
+Take fewer steps.
+",
         601 => "This line of the history isn't a process, one blank and a number of steps up to
 1024. Numbers have no zero in front and each line ends with a line feed, the
 last one too. At line 0 the file has more than 150,000,000 bytes.
@@ -117,6 +120,21 @@ has more than 150,000,000 bytes. Write one number a line, as 1 or 12.
         603 => "This entry of the history isn't possible after those before it.
 The history is of another source, or was changed. Take the one that
 `run --history` wrote.
+",
+        701 => "The receipts of the workers aren't the entries of the history, each once.
+Report it: this is a mistake in hepf, or of the machine below.
+",
+        702 => "The receipts of a worker aren't in the order of the history.
+Report it: this is a mistake in hepf, or of the machine below.
+",
+        703 => "The workers ran something else than they were given.
+Report it: this is a mistake in hepf, or of the machine below.
+",
+        704 => "A thread couldn't be started, which may be for want of memory.
+Take fewer workers, or end other programs.
+",
+        705 => "The workers ended before the run was over.
+Report it: this is a mistake in hepf, or of the machine below.
 ",
         _ => return None,
     };

@@ -4,10 +4,10 @@ ghost use Rattle.clap.specs.Words.{kind_of, subcommand_rows_of};
 ghost use Rattle.hep_command.specs.Program.{IsStatusFor, asked};
 ghost use Rattle.hep_command.specs.Numbers.{number_within, option_number};
 ghost use Rattle.hep_command.specs.Asked.{asked_by, arena_in, check_in, command_in, explain_in, job_in, list_in};
-ghost use Rattle.hep_command.specs.Asked.{replay_in, run_in, steps_in, word_of, words_found};
-ghost use Rattle.hep_command.specs.Jobs.{IsInRange, IsNoPath, IsUsageStatus, IsWrittenApart, usage_status};
+ghost use Rattle.hep_command.specs.Asked.{replay_in, run_in, steps_in, word_of, words_found, workers_in};
+ghost use Rattle.hep_command.specs.Jobs.{IsInRange, IsNoPath, IsOneOrder, IsUsageStatus, IsWrittenApart, usage_status};
 
-use crate::job::{ARENA, Job, MOST_ARENA, MOST_STEPS, STEPS, Usage};
+use crate::job::{ARENA, Job, MOST_ARENA, MOST_STEPS, MOST_WORKERS, STEPS, Usage};
 use crate::program::program;
 use clap::error::ErrorKind;
 use clap::{ArgMatches, Error};
@@ -20,6 +20,9 @@ const MISTAKE: &str = "error: these words have no meaning\n";
 
 /// What is said where the history would be written to a file that is read.
 pub const SAME_FILE: &str = "error: --history names a file that is read\n";
+
+/// What is said where both the choices and the workers are given: who steps first would be said twice.
+pub const TWO_ORDERS: &str = "USAGE: --choices excludes --workers\n";
 
 // The number that a text of decimal digits writes, where it lies in the range. `clap` has checked
 // this before; it is read anew from the text, so that the job's number is the word's.
@@ -66,6 +69,18 @@ fn steps_of(found: &ArgMatches<'_>) -> Option<u64>
     number_of(found, "steps", MOST_STEPS, STEPS)
 }
 
+// How many workers there are, where the option is given.
+fn workers_of(found: &ArgMatches<'_>) -> Option<Option<u32>>
+    ensures range { IfSome result (λ workers. IfSome workers (λ n. (1 ≤ n) × (n ≤ 16))) }
+    ensures number { result ≡ workers_in (words_found found.now) }
+{
+    let Some(text) = word_of(found, "workers") else {
+        return Some(None);
+    };
+    let workers = number_within(text, 1, MOST_WORKERS)?;
+    Some(Some(workers as u32))
+}
+
 fn check_job<'a>(found: &ArgMatches<'a>) -> Option<Job<'a>>
     ensures range { IfSome result IsInRange }
     ensures job { option_map asked_by result ≡ check_in (words_found found.now) }
@@ -83,6 +98,7 @@ fn run_job<'a>(found: &ArgMatches<'a>) -> Option<Job<'a>>
         file: word_of(found, "file")?,
         arena: arena_of(found)?,
         steps: steps_of(found)?,
+        workers: workers_of(found)?,
         choices: word_of(found, "choices"),
         history: word_of(found, "history"),
     })
@@ -178,6 +194,21 @@ fn is_overwriting(job: &Job<'_>) -> bool
     }
 }
 
+// Whether both the choices and the workers are given.
+fn has_two_orders(job: &Job<'_>) -> bool
+    ensures one { result ≡ false → IsOneOrder job.now }
+    ensures two { result ≡ true → ¬ (IsOneOrder job.now) }
+{
+    match job {
+        Job::Run {
+            workers,
+            choices,
+            ..
+        } => workers.is_some() && choices.is_some(),
+        _ => false,
+    }
+}
+
 // What is said where `clap` gave no matches: its own text.
 fn usage_of(alloc: Global, error: &Error) -> Usage
     ensures range { IsUsageStatus result.status }
@@ -199,12 +230,14 @@ fn usage_of(alloc: Global, error: &Error) -> Usage
 /// # Errors
 ///
 /// What is to be written in the place of a job: help, the version, or what is wrong with the words,
-/// in the words of `clap`, or that the history would be written to a file that is read. The status
-/// is 0 for help and the version, 2 for words that are wrong, and 7 where memory was refused.
+/// in the words of `clap`, or that the history would be written to a file that is read, or that both
+/// the choices and the workers are given. The status is 0 for help and the version, 2 for words that
+/// are wrong, and 7 where memory was refused.
 pub fn read_words<'a, S: AsStr>(alloc: Global, words: &'a [S]) -> Result<Job<'a>, Usage>
     ensures job { IfOk result IsInRange }
     ensures asked { IfOk result (λ job. asked (map S.text words.entry.now) ≡ Some (asked_by job)) }
     ensures apart { IfOk result IsWrittenApart }
+    ensures order { IfOk result IsOneOrder }
     ensures usage { IfErr result (λ usage. IsUsageStatus usage.status) }
     ensures status { IfErr result (λ usage.
         (usage.status ≡ 7) ⊎ IsStatusFor (map S.text words.entry.now) usage.status) }
@@ -216,6 +249,7 @@ pub fn read_words<'a, S: AsStr>(alloc: Global, words: &'a [S]) -> Result<Job<'a>
     match program.try_get_matches_from(words) {
         Ok(matches) => match job_of(&matches) {
             Some(job) if is_overwriting(&job) => Err(Usage::of_text(alloc, 2, SAME_FILE)),
+            Some(job) if has_two_orders(&job) => Err(Usage::of_text(alloc, 2, TWO_ORDERS)),
             Some(job) => Ok(job),
             None => Err(Usage::of_text(alloc, 2, MISTAKE)),
         },

@@ -12,6 +12,8 @@ use Rattle.hep_run.specs.Outcome.{Outcome, IsOutcome}
 use Rattle.hep_run.specs.declared.options.Run.{Run}
 use Rattle.hep_run.specs.Replay.{IsReplayOutcome}
 use Rattle.hep_run.specs.Checks.{IsCheckOutcome, IsListOutcome}
+use Rattle.hep_workers.specs.declared.options.WorkOptions.{WorkOptions}
+use Rattle.hep_run.specs.Workers.{IsWorkOutcome}
 use Rattle.hep_run.specs.Delivery.{IsOutcomeOf, LeavesOneOf, LeavesOfSource}
 
 long : (n : ℕ) → 4194304 < n → nat_lt 4194304 n ≡ true
@@ -37,6 +39,10 @@ run_goes options s t o same (inr (p, (ss, e, program, runnable), is)) = inr (p, 
 pub replay_goes : (text : List ℕ) (cells : ℕ) → GoesByStatements (IsReplayOutcome text cells)
 replay_goes text cells s t o same (inl (number, line, name, r, is)) = inl (number, line, name, refused_too IsRefusedProgram s t number line name same r, is)
 replay_goes text cells s t o same (inr (p, (ss, e, program, runnable), is)) = inr (p, (ss, same ∙ e, program, runnable), is)
+
+pub work_goes : (options : WorkOptions) → GoesByStatements (IsWorkOutcome options)
+work_goes options s t o same (inl (number, line, name, r, is)) = inl (number, line, name, refused_too IsRefusedProgram s t number line name same r, is)
+work_goes options s t o same (inr (p, (ss, e, program, runnable), is)) = inr (p, (ss, same ∙ e, program, runnable), is)
 
 pub check_goes : GoesByStatements IsCheckOutcome
 check_goes s t o same (inl (number, line, name, r, is)) = inl (number, line, name, refused_too IsRefusedProgram s t number line name same r, is)

@@ -4,3 +4,4 @@ mod Fronts
 mod Accepted
 mod Outcomes
 mod Lowered
+mod Worked

@@ -3,6 +3,7 @@ pub mod Statuses
 pub mod Sources
 pub mod Outcome
 pub mod Replay
+pub mod Workers
 pub mod Checks
 pub mod Refusals
 pub mod Transcripts

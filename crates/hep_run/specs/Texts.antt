@@ -22,6 +22,10 @@ stop_text (Some Halted) = []
 stop_text (Some ArenaFull) = codes "STOPPED ARENA FULL\n"
 stop_text (Some StepLimit) = codes "STOPPED STEP LIMIT\n"
 
+-- the workers gave up, or left no report, for this reason
+abbrev pub workers_text : ℕ → List ℕ
+workers_text number = codes "WORKERS REFUSED " ++ decimal number ++ codes "\n"
+
 -- the refusal of the k-th choice has k for its line
 abbrev pub choice_text : ℕ → List ℕ
 choice_text k = refusal_text 501 k []

@@ -14,9 +14,12 @@ pub mod source;
 pub mod status;
 pub mod texts;
 pub mod transcript;
+pub mod workers;
 
 pub use deliver::put_text;
 pub use files::{answer, choices_of, history_text, read_text_file, say_unread, say_unwritten};
+pub use hep_workers::{Gate, NoGate, WorkOptions};
 pub use input::ReadFault;
 pub use options::{Options, Run};
 pub use source::{check_source, list_source, replay_bytes, replay_source, run_bytes, run_source};
+pub use workers::work_source;

@@ -7,12 +7,13 @@ ghost use Rattle.hep_run.specs.Checks.{outcome_of_text};
 ghost use Rattle.hep_run.specs.Replay as replay;
 ghost use Rattle.hep_run.specs.Replay.{outcome_of_core, outcome_of_refused_history};
 ghost use Rattle.hep_run.specs.Transcripts.{outcome_of};
+ghost use Rattle.hep_run.specs.Workers.{outcome_of_refused_workers};
 
 use crate::status::Status;
 use crate::texts::put_refusal;
 use hep_dump::{append_all_waiting, append_faults};
 use hep_history::History;
-use hep_output::append_records;
+use hep_output::{append_number, append_records};
 use hep_scheduler::{Core, Fault, Stop, Verdict};
 use hep_source::Text;
 use std::alloc::{AllocError, Global};
@@ -162,6 +163,22 @@ pub fn choice_transcript(
     let mut messages = Vec::new(alloc);
     put_refusal(&mut messages, 501, choice as u64, b"")?;
     Ok(Transcript::silent(alloc, messages, Status::Usage, history))
+}
+
+/// What workers leave that gave up, or left no report, for the reason with this number.
+///
+/// # Errors
+///
+/// Only where memory was refused.
+pub fn workers_transcript(alloc: Global, number: u16) -> Result<Transcript, AllocError>
+    ensures { IfOk result (λ r. outcome_of r ≡ outcome_of_refused_workers number) }
+{
+    let mut messages = Vec::new(alloc);
+    messages.extend_from_slice(b"WORKERS REFUSED ")?;
+    append_number(&mut messages, number)?;
+    messages.extend_from_slice(b"\n")?;
+    let history = History::from(Vec::new(alloc));
+    Ok(Transcript::silent(alloc, messages, Status::NoMemory, history))
 }
 
 /// What a history leaves that is refused at this line of its text, or at this entry.

@@ -13,13 +13,16 @@ ghost use Rattle.hep_command.specs.Jobs.{IsInRange};
 use hep_command::{Job, SAME_FILE, explain, read_words};
 use hep_history::Choices;
 use hep_run::{
-    Options, ReadFault, Run, answer, check_source, choices_of, history_text, list_source, put_text,
-    read_text_file, replay_source, run_source, say_unread, say_unwritten,
+    NoGate, Options, ReadFault, Run, WorkOptions, answer, check_source, choices_of, history_text,
+    list_source, put_text, read_text_file, replay_source, run_source, say_unread, say_unwritten,
+    work_source,
 };
 use std::fs::File;
 use std::io::ErrorKind;
 use std::os::unix::fs::MetadataExt;
 use std::process::ExitCode;
+use std::sync::Wait;
+use std::thread::Threads;
 use std::{env, fs, io};
 
 // Each function here gives the exit status, or what it is named after or else the exit status.
@@ -122,8 +125,39 @@ fn run_file(rt: &HostRuntime, file: &str, options: &Options, history: Option<&st
         }
         Err(_) => return say_unread(&mut messages, ReadFault::Failed),
     };
+    end_run(rt, &run, history)
+}
+
+// `threads` is the runtime itself, which may start threads where it is handed on as such.
+fn work_file<H: Threads + Wait + Sync>(
+    rt: &HostRuntime,
+    threads: &H,
+    file: &str,
+    options: WorkOptions,
+    history: Option<&str>,
+) -> u8 {
+    let mut messages = rt.stderr();
+    let run = match File::open(rt, file) {
+        Ok(mut source) => {
+            work_source(
+                threads,
+                rt.alloc(),
+                &mut source,
+                options,
+                &NoGate,
+                &mut rt.stdout(),
+                &mut messages,
+            )
+        }
+        Err(_) => return say_unread(&mut messages, ReadFault::Failed),
+    };
+    end_run(rt, &run, history)
+}
+
+// Writes the history of a run that is over, where its file is named.
+fn end_run(rt: &HostRuntime, run: &Run, history: Option<&str>) -> u8 {
     match history {
-        Some(path) => write_history(rt, &run, path),
+        Some(path) => write_history(rt, run, path),
         None => run.status,
     }
 }
@@ -150,7 +184,7 @@ fn replay_file(rt: &HostRuntime, file: &str, history: &[u8], arena: u32) -> u8
     }
 }
 
-fn done(rt: &HostRuntime, job: Job<'_>) -> Result<u8, u8>
+fn done<H: Threads + Wait + Sync>(rt: &HostRuntime, threads: &H, job: Job<'_>) -> Result<u8, u8>
     requires { IsInRange job }
 {
     let status = match job {
@@ -160,12 +194,21 @@ fn done(rt: &HostRuntime, job: Job<'_>) -> Result<u8, u8>
             file,
             arena,
             steps,
+            workers,
             choices,
             history,
         } => {
             if is_over_read(rt, history, file, choices) {
                 let text = SAME_FILE.as_bytes();
                 return Err(answer(2, text, &mut rt.stdout(), &mut rt.stderr()));
+            }
+            if let Some(workers) = workers {
+                let options = WorkOptions {
+                    arena,
+                    steps,
+                    workers,
+                };
+                return Ok(work_file(rt, threads, file, options, history));
             }
             let choices = file_choices(rt, choices)?;
             let options = Options {
@@ -200,7 +243,7 @@ fn words_of(rt: &HostRuntime) -> io::Result<Vec<String>> {
     Ok(words.collect(rt.alloc())?)
 }
 
-fn status_of(rt: &HostRuntime) -> Result<u8, u8> {
+fn status_of<H: Threads + Wait + Sync>(rt: &HostRuntime, threads: &H) -> Result<u8, u8> {
     let (output, messages) = (&mut rt.stdout(), &mut rt.stderr());
     let words = match words_of(rt) {
         Ok(words) => words,
@@ -210,13 +253,13 @@ fn status_of(rt: &HostRuntime) -> Result<u8, u8> {
         Err(_) => return Err(answer(2, b"error: a word isn't UTF-8\n", output, messages)),
     };
     match read_words(rt.alloc(), &words) {
-        Ok(job) => done(rt, job),
+        Ok(job) => done(rt, threads, job),
         Err(usage) => Err(answer(usage.status, &usage.text, output, messages)),
     }
 }
 
 fn main(rt: HostRuntime) -> ExitCode {
-    match status_of(&rt) {
+    match status_of(&rt, &rt) {
         Ok(status) | Err(status) => ExitCode::from(status),
     }
 }

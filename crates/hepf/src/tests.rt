@@ -5,6 +5,7 @@ mod commands;
 mod lowering;
 mod parts;
 mod texts;
+mod workers;
 
 use hep_checked::check;
 use hep_image::Image;

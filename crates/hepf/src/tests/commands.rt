@@ -18,6 +18,7 @@ fn words(rt: HostRuntime) -> Result<(), Fail> {
         file: "a.f",
         arena: ARENA,
         steps: STEPS,
+        workers: None,
         choices: None,
         history: None,
     };
@@ -38,6 +39,7 @@ fn words(rt: HostRuntime) -> Result<(), Fail> {
         file: "a.f",
         arena: 3,
         steps: 4,
+        workers: None,
         choices: Some("c"),
         history: Some("h"),
     };

@@ -14,8 +14,11 @@ to_arena = with_rule to_source spec.arena_option
 abbrev to_steps : App
 to_steps = with_rule to_arena spec.steps_option
 
+abbrev to_workers : App
+to_workers = with_rule to_steps spec.workers_option
+
 abbrev to_choices : App
-to_choices = with_rule to_steps spec.choices_option
+to_choices = with_rule to_workers spec.choices_option
 
 pub returns : goal.returns
 returns c =
@@ -25,5 +28,6 @@ returns c =
     IfOk-weaker c.arg-run.result _ _ (λ r h. h.shape source.1 ∙ ap₂ with_rule bare source.0) c.arg-run.ensures in
     let with_arena = c.with_arg-run.ensures to_source spec.arena_option with_source c.arena_option.ensures in
     let with_steps = c.with_arg-run-2.ensures to_arena spec.steps_option with_arena c.steps_option.ensures in
-    let with_choices = c.with_arg-run-3.ensures to_steps spec.choices_option with_steps c.choices_option.ensures in
+    let with_workers = c.with_arg-run-3.ensures to_steps spec.workers_option with_steps c.workers_option.ensures in
+    let with_choices = c.with_arg-run-4.ensures to_workers spec.choices_option with_workers c.choices_option.ensures in
     c.with_arg.ensures to_choices spec.history_option with_choices c.history_option.ensures

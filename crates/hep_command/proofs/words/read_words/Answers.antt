@@ -2,8 +2,8 @@ use Rattle.std.proofs.Common.{◌∙◌, map, sym}
 use Rattle.hep_command.proofs.ProgramLemmas.{firsts, job_in-asked, refused_status, taken_status}
 use Rattle.hep_command.proofs.words.read_words.Goals as goal
 
-pub returns-in-Some-2-clause-asked : goal.returns-in-Some-2-clause-asked
-returns-in-Some-2-clause-asked g c =
+pub returns-in-Some-3-clause-asked : goal.returns-in-Some-3-clause-asked
+returns-in-Some-3-clause-asked g c =
     let words = map g.S.AsStr.text c.args.words.now in
     let found = c.in-Ok-try_get_matches_from in
     sym (c.in-Some.ensures.job ∙ job_in-asked c.in-Ok.program found.matches words c.in-Ok.ensures found.ensures.matches)
@@ -13,6 +13,12 @@ returns-in-Some-clause-status g c =
     let words = map g.S.AsStr.text c.args.words.now in
     taken_status c.in-Ok.program words c.of_text.result.status c.in-Ok.ensures
     c.in-Ok-try_get_matches_from.ensures.kinds (firsts c.of_text.ensures)
+
+pub returns-in-Some-2-clause-status : goal.returns-in-Some-2-clause-status
+returns-in-Some-2-clause-status g c =
+    let words = map g.S.AsStr.text c.args.words.now in
+    taken_status c.in-Ok.program words c.of_text-in-Some-2.result.status c.in-Ok.ensures
+    c.in-Ok-try_get_matches_from.ensures.kinds (firsts c.of_text-in-Some-2.ensures)
 
 pub returns-in-Ok-try_get_matches_from-clause-status : goal.returns-in-Ok-try_get_matches_from-clause-status
 returns-in-Ok-try_get_matches_from-clause-status g c =

@@ -1,0 +1,51 @@
+-- What workers leave.
+use Rattle.std.proofs.Common.{◌≡◌, ℕ, Bool, true, List, Option, Some, None, inr, refl, sym, ap, ◌∙◌, subst}
+use Rattle.hep_machine.specs.Histories.{IsLegal}
+use Rattle.hep_source.specs.Units.{Units}
+use Rattle.hep_scheduler.specs.Value.{CoreValue, IsStop}
+use Rattle.hep_workers.specs.declared.fault.CloseFault.TheVariants as close
+use Rattle.hep_workers.specs.declared.fault.CrewFault.TheVariants as crew
+use Rattle.hep_workers.specs.declared.fault.WorkFault.{WorkFault}
+use Rattle.hep_workers.specs.declared.fault.WorkFault.TheVariants.{NoMemory, ArenaFull, Crew, Close}
+use Rattle.hep_workers.specs.declared.options.WorkOptions.{WorkOptions}
+use Rattle.hep_workers.specs.declared.receipt.Receipt.{Receipt}
+use Rattle.hep_workers.specs.Faults.{number_of}
+use Rattle.hep_workers.specs.Reports.{IsReport}
+use Rattle.hep_run.specs.Outcome.{Outcome, outcome_of_end, verdict_after}
+use Rattle.hep_run.specs.Workers.{IsImageWorked, is_refusal_of_workers}
+
+pub outcome-worked : (program : Units) (options : WorkOptions) (core : CoreValue) (logs : List (List Receipt)) (o : Outcome)
+    → IsReport core program options logs → IsLegal core.program core.cells core.limit core.history → IsStop core.program core.cells core.limit core.history core.stop
+    → o ≡ outcome_of_end core.program core.history core.stop → IsImageWorked program options o
+outcome-worked program options core logs o report legal named is =
+    let h = core.history in
+    let (same, cells, limit) = report.run in
+    inr (inr (
+      h,
+      core.stop,
+      record {
+        legal = subst (λ (p : Units). IsLegal p options.arena options.steps h) same (subst (λ n. IsLegal core.program options.arena n h) limit (subst (λ n. IsLegal core.program n core.limit h) cells legal));
+        stopped = subst (λ (p : Units). IsStop p options.arena options.steps h core.stop) same (subst (λ n. IsStop core.program options.arena n h core.stop) limit (subst (λ n. IsStop core.program n core.limit h core.stop) cells named));
+        over = λ running. report.over (ap (λ (p : Units). verdict_after p h core.stop) same ∙ running);
+      },
+      is ∙ ap (λ (p : Units). outcome_of_end p h core.stop) same,
+    ))
+
+abbrev is_some_refusal : Option ℕ → Bool
+is_some_refusal None = true
+is_some_refusal (Some number) = is_refusal_of_workers number
+
+some-refusal : (fault : WorkFault) → is_some_refusal (number_of fault) ≡ true
+some-refusal NoMemory = refl
+some-refusal ArenaFull = refl
+some-refusal (Crew crew.NoMemory) = refl
+some-refusal (Crew crew.NoTicket) = refl
+some-refusal (Crew crew.NoThread) = refl
+some-refusal (Close close.NoMemory) = refl
+some-refusal (Close close.NotTheEntries) = refl
+some-refusal (Close close.NotRising) = refl
+some-refusal (Close close.NotTheRun) = refl
+some-refusal (Close close.StillRunning) = refl
+
+pub is-refusal : (fault : WorkFault) (number : ℕ) → number_of fault ≡ Some number → is_refusal_of_workers number ≡ true
+is-refusal fault number is = ap is_some_refusal (sym is) ∙ some-refusal fault

@@ -1,0 +1,41 @@
+-- What a run by workers comes to, from the bytes of a source to the bytes that it writes: docs/MACHINE.md, "Workers".
+use Rattle.std.specs.Prelude.{◌≡◌, ◌≢◌, ◌⊎◌, ℕ, true, Bool, nat_eq, List, [], ◌∷◌, Option, None}
+use Rattle.std.specs.List.{list_any}
+use Rattle.hep_machine.specs.declared.event.Entry.{Entry}
+use Rattle.hep_machine.specs.Histories.{IsLegal}
+use Rattle.hep_machine.specs.Layout.{opening_layout}
+use Rattle.hep_source.specs.Units.{Units}
+use Rattle.hep_scheduler.specs.declared.stop.Stop.{Stop}
+use Rattle.hep_scheduler.specs.declared.stop.Verdict.TheVariants.{Running}
+use Rattle.hep_scheduler.specs.Value.{IsStop}
+use Rattle.hep_workers.specs.declared.options.WorkOptions.{WorkOptions}
+use Rattle.hep_run.specs.declared.status.Status.TheVariants as statuses
+use Rattle.hep_run.specs.Outcome.{Outcome, outcome_of_end, outcome_of_full_arena, refused, verdict_after}
+use Rattle.hep_run.specs.Sources.{IsRefusedSource, IsRunnableSource}
+use Rattle.hep_run.specs.Texts.{workers_text}
+
+-- the workers' history is a legal one of the program by these options, with the stop that it says, after which the run is over
+pub record IsWorked (program : Units) (options : WorkOptions) (history : List Entry) (stop : Option Stop) : Type 0 where
+  pub legal : IsLegal program options.arena options.steps history
+  pub stopped : IsStop program options.arena options.steps history stop
+  pub over : verdict_after program history stop ≢ Running
+
+-- the numbers by which workers give up, or leave no report
+abbrev pub is_refusal_of_workers : ℕ → Bool
+is_refusal_of_workers number = list_any (nat_eq number) (506 ∷ 701 ∷ 702 ∷ 703 ∷ 704 ∷ 705 ∷ [])
+
+abbrev pub outcome_of_refused_workers : ℕ → Outcome
+outcome_of_refused_workers number = record { output = []; messages = workers_text number; status = statuses.NoMemory; history = [] }
+
+-- an accepted program
+abbrev pub IsImageWorked : Units → WorkOptions → Outcome → Type 0
+IsImageWorked program options o =
+    ((opening_layout program options.arena ≡ None) × (o ≡ outcome_of_full_arena))
+    ⊎ ((number : ℕ) × (is_refusal_of_workers number ≡ true) × (o ≡ outcome_of_refused_workers number))
+    ⊎ ((history : List Entry) × (stop : Option Stop) × IsWorked program options history stop × (o ≡ outcome_of_end program history stop))
+
+-- what a run of a source by workers comes to by these options
+abbrev pub IsWorkOutcome : WorkOptions → List ℕ → Outcome → Type 0
+IsWorkOutcome options source o =
+    ((number : ℕ) × (line : ℕ) × (name : List ℕ) × IsRefusedSource source number line name × (o ≡ refused number line name))
+    ⊎ ((program : Units) × IsRunnableSource source program × IsImageWorked program options o)

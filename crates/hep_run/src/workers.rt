@@ -1,0 +1,112 @@
+//! A source's run by workers.
+ghost use Rattle.std.specs.Prelude.{◌≡◌, IfOk};
+ghost use Rattle.hep_run.specs.Delivery.{LeavesOneOf, LeavesOfSource};
+ghost use Rattle.hep_run.specs.Transcripts.{outcome_of};
+ghost use Rattle.hep_run.specs.Workers.{IsImageWorked, IsWorkOutcome};
+
+use crate::deliver::{deliver, write_messages};
+use crate::files::say_unread;
+use crate::front::image_of_source;
+use crate::input::read_input;
+use crate::options::Run;
+use crate::source::{MOST_BYTES, NO_MEMORY};
+use crate::status::Status;
+use crate::transcript::{
+    Transcript, ended_transcript, full_transcript, refused_transcript, workers_transcript,
+};
+use hep_base::Refusal;
+use hep_history::History;
+use hep_image::Image;
+use hep_workers::{Gate, WorkFault, WorkOptions, run_workers};
+use std::alloc::{AllocError, Global};
+use std::io::{Read, Write};
+use std::sync::Wait;
+use std::thread::Threads;
+
+// What the run of an accepted program by workers comes to.
+fn image_transcript<H: Threads + Wait + Sync, G: Gate + Sync>(
+    rt: &H,
+    alloc: Global,
+    image: &Image,
+    options: WorkOptions,
+    gate: &G,
+) -> Result<Transcript, AllocError>
+    ensures { IfOk result (λ r. IsImageWorked image.now options (outcome_of r)) }
+{
+    match run_workers(rt, alloc, image, options, gate) {
+        Ok(report) => {
+            report.core.headline();
+            ended_transcript(alloc, &report.core)
+        }
+        Err(WorkFault::ArenaFull) => full_transcript(alloc),
+        Err(fault) => match fault.number() {
+            Some(number) => workers_transcript(alloc, number),
+            None => Err(AllocError),
+        },
+    }
+}
+
+// All that a run of a source by workers comes to, before a byte of it is written.
+fn work_transcript<H: Threads + Wait + Sync, G: Gate + Sync>(
+    rt: &H,
+    alloc: Global,
+    source: &[u8],
+    options: WorkOptions,
+    gate: &G,
+) -> Result<Transcript, AllocError>
+    ensures { IfOk result (λ r. IsWorkOutcome options source.now (outcome_of r)) }
+{
+    match image_of_source(alloc, source) {
+        Ok(image) => image_transcript(rt, alloc, &image, options, gate),
+        Err(Refusal::NoMemory) => Err(AllocError),
+        Err(Refusal::Refused { number, line, name }) => {
+            refused_transcript(alloc, number, line, &name)
+        }
+    }
+}
+
+fn work_bytes<H: Threads + Wait + Sync, G: Gate + Sync, W: Write, E: Write>(
+    rt: &H,
+    alloc: Global,
+    source: &[u8],
+    options: WorkOptions,
+    gate: &G,
+    output: &mut W,
+    messages: &mut E,
+) -> Run
+    ensures { LeavesOneOf (IsWorkOutcome options source.now) result
+        (W.contents output.old) (W.contents output.new)
+        (E.contents messages.old) (E.contents messages.new) }
+{
+    let none = History::from(Vec::new(alloc));
+    match work_transcript(rt, alloc, source, options, gate) {
+        Ok(transcript) => deliver(transcript, output, messages),
+        Err(_) => write_messages(messages, NO_MEMORY, Status::NoMemory, none),
+    }
+}
+
+/// Runs a source by workers: reads it, checks it, has threads take its steps, and then writes as `run_source` does, or `WORKERS REFUSED`
+/// with a number to `messages` where the workers gave up.
+///
+/// The run's status is the code of a `Status`. It may wait, and what it promises holds if it returns.
+pub fn work_source<H: Threads + Wait + Sync, G: Gate + Sync, R: Read, W: Write, E: Write>(
+    rt: &H,
+    alloc: Global,
+    source: &mut R,
+    options: WorkOptions,
+    gate: &G,
+    output: &mut W,
+    messages: &mut E,
+) -> Run
+    ensures { LeavesOfSource (IsWorkOutcome options) (R.remaining source.old) (R.remaining source.new)
+        result (W.contents output.old) (W.contents output.new)
+        (E.contents messages.old) (E.contents messages.new) }
+{
+    match read_input(alloc, source, MOST_BYTES) {
+        Ok(bytes) => work_bytes(rt, alloc, &bytes, options, gate, output, messages),
+        Err(fault) => Run {
+            status: say_unread(messages, fault),
+            history: History::from(Vec::new(alloc)),
+        },
+    }
+}

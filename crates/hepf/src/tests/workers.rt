@@ -1,0 +1,256 @@
+//! Tickets, and workers that take turns.
+ghost use Rattle.std.specs.Prelude.{◌≤◌};
+
+use super::{core_of, image_from, source_of};
+use hep_image::Image;
+use hep_scheduler::{Core, Stop, Verdict};
+use hep_source::Value;
+use hep_tickets::{CommitFault, Segment, ShareFault, SharedCore, Ticket, compute};
+use hep_workers::{
+    CloseFault, Gate, Log, NoGate, Receipt, Report, WorkOptions, close, run_workers, worker_turn,
+};
+use std::alloc::{AllocError, Global};
+use std::sync::atomic::{AtomicU32, AtomicU64, Ordering};
+use std::test::Fail;
+use std::thread::sleep;
+use std::time::{Clock, Duration};
+
+const WAITING: &[u8] = b"      PROGRAM P\n      INTEGER $A\n      I=$A\n      END\n";
+
+fn options_of(steps: u64, workers: u32) -> WorkOptions
+    requires one { 1 ≤ workers }
+    requires hands { workers ≤ 16 }
+{
+    WorkOptions {
+        arena: 65_536,
+        steps,
+        workers,
+    }
+}
+
+// A process that is out is neither chosen nor checked out, and comes next no more; of two segments of a ticket one is committed.
+#[test]
+fn tickets(rt: HostRuntime) -> Result<(), Fail> {
+    let alloc = rt.alloc();
+    let image = image_from(alloc, WAITING)?;
+    let mut shared = SharedCore::new(alloc, Core::new(alloc, image.copy(alloc)?, 3, 3)?);
+    assert_eq!(rt; shared.check_out(2).err(), Some(ShareFault::NoSuchProcess));
+    assert_eq!(rt; shared.next_ready(), Some(1));
+    let cancelled = shared.check_out(1)?;
+    assert_eq!(rt; shared.next_ready(), None);
+    assert_eq!(rt; shared.core().verdict(), Verdict::Running);
+    shared.cancel(&cancelled)?;
+    assert_eq!(rt; shared.cancel(&cancelled).err(), Some(CommitFault::Stale));
+    assert_eq!(rt;
+        shared.commit(&compute(&image, &cancelled)).err(),
+        Some(CommitFault::Stale)
+    );
+    let ticket = shared.check_out(1)?;
+    assert_eq!(rt; ticket.id().number, 2);
+    assert_eq!(rt; shared.choose(1).err(), Some(ShareFault::IsOut));
+    assert_eq!(rt; shared.check_out(1).err(), Some(ShareFault::IsOut));
+    let first = compute(&image, &ticket);
+    let second = compute(&image, &ticket);
+    let turn = shared.commit(&first)?;
+    assert_eq!(rt; (turn.steps, turn.blocked), (0, true));
+    assert_eq!(rt; shared.commit(&second).err(), Some(CommitFault::Stale));
+    assert_eq!(rt; shared.core().history().len(), 1);
+    assert_eq!(rt; shared.core().verdict(), Verdict::Waiting);
+    Ok(())
+}
+
+// A history that is full stops a check-out, and a stop is reported before all else.
+#[test]
+fn full_histories(rt: HostRuntime) -> Result<(), Fail> {
+    let alloc = rt.alloc();
+    let image = image_from(alloc, WAITING)?;
+    let mut shared = SharedCore::new(alloc, Core::new(alloc, image.copy(alloc)?, 3, 1)?);
+    shared.choose(1)?;
+    assert_eq!(rt;
+        shared.check_out(1).err(),
+        Some(ShareFault::Stopped(Stop::StepLimit))
+    );
+    assert_eq!(rt;
+        shared.check_out(7).err(),
+        Some(ShareFault::Stopped(Stop::StepLimit))
+    );
+    assert_eq!(rt;
+        shared.choose(7).err(),
+        Some(ShareFault::Stopped(Stop::StepLimit))
+    );
+    Ok(())
+}
+
+// Why there is no report, each by itself.
+#[test]
+fn closing(rt: HostRuntime) -> Result<(), Fail> {
+    let alloc = rt.alloc();
+    let options = WorkOptions {
+        arena: 3,
+        steps: 7,
+        workers: 1,
+    };
+    let source = b"      I=1\n      END\n";
+    let image = image_from(alloc, source)?;
+    let opening = close(
+        alloc,
+        core_of(alloc, source, 7)?,
+        &image,
+        options,
+        Vec::new(alloc),
+    );
+    assert_eq!(rt; opening.err(), Some(CloseFault::StillRunning));
+    let other = image_from(alloc, WAITING)?;
+    let other = close(
+        alloc,
+        core_of(alloc, source, 7)?,
+        &other,
+        options,
+        Vec::new(alloc),
+    );
+    assert_eq!(rt; other.err(), Some(CloseFault::NotTheRun));
+    let shorter = close(
+        alloc,
+        core_of(alloc, source, 6)?,
+        &image,
+        options,
+        Vec::new(alloc),
+    );
+    assert_eq!(rt; shorter.err(), Some(CloseFault::NotTheRun));
+
+    let mut shared = SharedCore::new(alloc, core_of(alloc, source, 7)?);
+    let ticket = shared.check_out(1)?;
+    let receipt = worker_turn(&mut shared, 1, &compute(&image, &ticket))?;
+    assert_eq!(rt;
+        receipt,
+        Receipt {
+            index: 0,
+            process: 1,
+            worker: 1,
+            steps: 1,
+        }
+    );
+    let core = shared.into_core();
+    assert_eq!(rt;
+        close(alloc, core, &image, options, Vec::new(alloc)).err(),
+        Some(CloseFault::NotTheEntries)
+    );
+    Ok(())
+}
+
+// Holds the first worker that calls it after 20 calls, until the other one has called it twice more.
+#[derive(Drop)]
+struct Holding<'a, R> {
+    rt: &'a R,
+    calls: AtomicU64,
+    held: AtomicU32,
+    calls_of_other: AtomicU64,
+    polls: AtomicU64,
+}
+
+const MOST_POLLS: u64 = 100_000;
+
+impl<'a, R: Clock> Holding<'a, R> {
+    fn new(rt: &'a R) -> Self {
+        Holding {
+            rt,
+            calls: AtomicU64::new(0),
+            held: AtomicU32::new(0),
+            calls_of_other: AtomicU64::new(0),
+            polls: AtomicU64::new(0),
+        }
+    }
+
+    fn is_first_late_call(&self, worker: u32) -> bool {
+        20 <= self.calls.fetch_add(1, Ordering::SeqCst)
+            && self
+                .held
+                .compare_exchange(0, worker, Ordering::SeqCst, Ordering::SeqCst)
+                .is_ok()
+    }
+
+    fn hold(&self) {
+        for _poll in 0..MOST_POLLS {
+            if 2 <= self.calls_of_other.load(Ordering::SeqCst) {
+                return;
+            }
+            self.polls.fetch_add(1, Ordering::SeqCst);
+            sleep(self.rt, Duration::from_micros(100));
+        }
+    }
+}
+
+impl<R: Clock> Gate for Holding<'_, R> {
+    fn segment(&self, worker: u32, _turn: u64, image: &Image, ticket: &Ticket) -> Segment {
+        let segment = compute(image, ticket);
+        let held = self.held.load(Ordering::SeqCst);
+        if held != 0 && held != worker {
+            self.calls_of_other.fetch_add(1, Ordering::SeqCst);
+        }
+        if self.is_first_late_call(worker) {
+            self.hold();
+        }
+        segment
+    }
+}
+
+// A main program that creates two processes, which store into COMMON a thousand times each.
+const STORING: [&[u8]; 8] = [
+    b"      PROGRAM P",
+    b"      CREATE S",
+    b"      CREATE S",
+    b"      END",
+    b"      SUBROUTINE S",
+    b"      COMMON N",
+    b"      DO 10 I=1,1000",
+    b"   10 N=I",
+];
+
+fn storing(alloc: Global) -> Result<Vec<u8>, AllocError> {
+    let mut source = source_of(alloc, &STORING)?;
+    source.extend_from_slice(b"      END\n")?;
+    Ok(source)
+}
+
+fn receipts_in(logs: &[Log]) -> usize {
+    logs.iter().fold(
+        0usize,
+        |count, log| count.saturating_add(log.receipts().len()),
+    )
+}
+
+#[test]
+fn two_workers_take_turns(rt: HostRuntime) -> Result<(), Fail> {
+    let alloc = rt.alloc();
+    let image = image_from(alloc, &storing(alloc)?)?;
+    let gate = Holding::new(&rt);
+    let Report { core, logs } = run_workers(&rt, alloc, &image, options_of(10_000, 2), &gate)?;
+    assert!(rt; gate.polls.load(Ordering::SeqCst) < MOST_POLLS);
+    assert!(rt; 2 <= gate.calls_of_other.load(Ordering::SeqCst));
+    assert_eq!(rt; core.verdict(), Verdict::Done);
+    assert_eq!(rt; core.output().len(), 0);
+    assert_eq!(rt; core.faults().len(), 0);
+    assert_eq!(rt; core.used(), 1);
+    assert_eq!(rt; core.history().len(), 6_007);
+    let stored = core.common(0).and_then(|slot| slot.value);
+    assert_eq!(rt; stored, Some(Value::Int(1_000)));
+    assert_eq!(rt; core.common(1), None);
+    assert_eq!(rt; logs.len(), 2);
+    assert_eq!(rt; receipts_in(&logs), 6_007);
+    assert_eq!(rt; gate.calls.load(Ordering::SeqCst), 6_007);
+    Ok(())
+}
+
+#[test]
+fn any_number_of_workers(rt: HostRuntime) -> Result<(), Fail> {
+    let alloc = rt.alloc();
+    let image = image_from(alloc, &storing(alloc)?)?;
+    for workers in 1..17u32 {
+        let report = run_workers(&rt, alloc, &image, options_of(10_000, workers), &NoGate)?;
+        assert_eq!(rt; report.core.history().len(), 6_007);
+        let stopped = run_workers(&rt, alloc, &image, options_of(50, workers), &NoGate)?;
+        assert_eq!(rt; stopped.core.verdict(), Verdict::Stopped(Stop::StepLimit));
+        assert_eq!(rt; stopped.core.history().len(), 50);
+    }
+    Ok(())
+}
