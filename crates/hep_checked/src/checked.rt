@@ -1,6 +1,7 @@
 //! Which programs are accepted.
-ghost use Rattle.std.specs.Prelude.{◌≡◌, IfOk, IfErr, OnOk};
-ghost use Rattle.hep_check.specs.Conditions.{IsAccepted};
+ghost use Rattle.std.specs.Prelude.{◌≡◌, Some, None, map, IfOk, IfErr, OnOk};
+ghost use Rattle.hep_machine.specs.Variables.{frame_cells};
+ghost use Rattle.hep_check.specs.Conditions.{IsAccepted, first_violation};
 ghost use Rattle.hep_checked.specs.Faults.{Refuses, Reports};
 
 use crate::frames::frames;
@@ -8,7 +9,8 @@ use crate::program::first_violation;
 use hep_base::Refusal as CheckFault;
 use hep_check::{Checked, Violation};
 use hep_source::Program;
-use std::alloc::Global;
+use hep_symbols::ProgramSymbols;
+use std::alloc::{AllocError, Global};
 
 // A violation as it is reported.
 fn fault_of(alloc: Global, violation: Violation) -> CheckFault
@@ -21,6 +23,19 @@ fn fault_of(alloc: Global, violation: Violation) -> CheckFault
             Ok(name) => CheckFault::Refused { number, line, name },
             Err(_) => CheckFault::NoMemory,
         },
+    }
+}
+
+// The cells of the frames of a program that violates nothing, or else its first violation.
+fn judged(alloc: Global, program: &Program) -> Result<Result<Vec<u128>, Violation>, AllocError>
+    ensures accepted { IfOk result (λ found. OnOk found (first_violation program.now ≡ None)) }
+    ensures counted { IfOk result (λ found. IfOk found (λ frames. frames.items ≡ map frame_cells program.now)) }
+    ensures violated { IfOk result (λ found. IfErr found (λ violation. first_violation program.now ≡ Some violation)) }
+{
+    let symbols = ProgramSymbols::new(alloc, program.as_slice())?;
+    match first_violation(alloc, &symbols)? {
+        None => Ok(Ok(frames(alloc, &symbols)?)),
+        Some(violation) => Ok(Err(violation)),
     }
 }
 
@@ -38,11 +53,8 @@ pub fn check(alloc: Global, program: Program) -> Result<Checked, CheckFault>
     // What is reported is the first violation.
     ensures refused { IfErr result (Refuses program) }
 {
-    match first_violation(alloc, &program)? {
-        None => {
-            let frames = frames(alloc, program.as_slice())?;
-            Ok(Checked::new(program, frames))
-        }
-        Some(violation) => Err(fault_of(alloc, violation)),
+    match judged(alloc, &program)? {
+        Ok(frames) => Ok(Checked::new(program, frames)),
+        Err(violation) => Err(fault_of(alloc, violation)),
     }
 }

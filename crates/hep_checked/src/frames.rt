@@ -4,10 +4,10 @@ ghost use Rattle.hep_source.specs.Units.{dummies_of};
 ghost use Rattle.hep_machine.specs.Constants.{value_among, constant_value, cells_of_all};
 ghost use Rattle.hep_machine.specs.Variables as variables;
 
-use hep_source::{Form, Name, Statement, Unit};
+use hep_source::{Form, Name, Statement};
 use hep_storage::constants::constants;
 use hep_storage::{adjustable_dimensions, cells_of};
-use hep_symbols::Symbols;
+use hep_symbols::{ProgramSymbols, Symbols};
 use hep_types::Constants;
 use std::alloc::{AllocError, Global};
 
@@ -80,24 +80,17 @@ fn frame_cells(alloc: Global, symbols: &Symbols) -> Result<u128, AllocError>
     Ok(1 + (2 * dummies + (locals + (2 * loops + 2 * dimensions))))
 }
 
-fn frame_cells_of(alloc: Global, unit: &Unit) -> Result<u128, AllocError>
-    ensures { IfOk result (λ cells. cells ≡ variables.frame_cells unit.now) }
-{
-    let symbols = Symbols::new(alloc, unit.as_slice())?;
-    frame_cells(alloc, &symbols)
-}
-
 /// The cells of the frame of each unit, in the order of the source.
 ///
 /// # Errors
 ///
 /// Only where memory was refused.
-pub(crate) fn frames(alloc: Global, program: &[Unit]) -> Result<Vec<u128>, AllocError>
+pub(crate) fn frames(alloc: Global, program: &ProgramSymbols) -> Result<Vec<u128>, AllocError>
     ensures { IfOk result (λ frames. frames.items ≡ map variables.frame_cells program.now) }
 {
     let mut frames = Vec::new(alloc);
-    for unit in program {
-        frames.push(frame_cells_of(alloc, unit)?)?;
+    for symbols in program.units() {
+        frames.push(frame_cells(alloc, symbols)?)?;
     }
     Ok(frames)
 }

@@ -9,6 +9,7 @@ ghost use Rattle.hep_checked.specs.Listing as words;
 use hep_check::Checked;
 use hep_common::CommonBlocks;
 use hep_source::{Name, Text};
+use hep_symbols::ProgramSymbols;
 use itoa::Buffer;
 use std::alloc::{AllocError, Global};
 
@@ -66,7 +67,8 @@ fn append_units(alloc: Global, text: &mut Vec<u8>, checked: &Checked) -> Result<
 fn append_blocks(alloc: Global, text: &mut Vec<u8>, checked: &Checked) -> Result<(), AllocError>
     ensures { OnOk result (text.new.items ≡ text.old.items ++ flat_map (words.block_line checked.now) (blocks_of checked.now)) }
 {
-    let common = CommonBlocks::of_program(alloc, checked.program().as_slice())?;
+    let program = ProgramSymbols::new(alloc, checked.program().as_slice())?;
+    let common = CommonBlocks::of_program(alloc, &program)?;
     for block in common.blocks() {
         let name = block_name(alloc, *block)?;
         append_block(text, name.as_slice(), common.cells(*block))?;

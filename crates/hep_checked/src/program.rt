@@ -8,7 +8,6 @@ ghost use Rattle.hep_check.specs.Violations.{first_of};
 use crate::unit::{first_found, unit_violation};
 use hep_check::Violation;
 use hep_check::reported::first_of_two;
-use hep_source::Program;
 use hep_storage::common_violation;
 use hep_symbols::ProgramSymbols;
 use hep_uses::{ambiguous_unit_violation, ambiguous_violation};
@@ -46,16 +45,15 @@ fn ambiguity_violation(
 /// Only where memory was refused.
 pub(crate) fn first_violation(
     alloc: Global,
-    program: &Program,
+    program: &ProgramSymbols,
 ) -> Result<Option<Violation>, AllocError>
     ensures { IfOk result (λ violation. violation ≡ conditions.first_violation program.now) }
 {
-    let program = ProgramSymbols::new(alloc, program.as_slice())?;
     let found = [
-        units_violation(alloc, &program)?,
-        common_violation(alloc, &program)?,
-        ambiguous_unit_violation(alloc, &program)?,
-        ambiguity_violation(alloc, &program)?,
+        units_violation(alloc, program)?,
+        common_violation(alloc, program)?,
+        ambiguous_unit_violation(alloc, program)?,
+        ambiguity_violation(alloc, program)?,
     ];
     Ok(first_found(&found))
 }

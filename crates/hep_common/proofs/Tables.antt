@@ -99,6 +99,10 @@ start-longest g s h = omega (arith, h)
 pub start-few : (s : ℕ) → s ≡ 0 → s ≤ 2 ^ 32 * 0
 start-few s h = omega (arith, h)
 
+-- the blocks once no entry is left
+pub end-blocks : (bs whole : List BlockName) (i : ℕ) (es : List Entry) → length es ≤ i → with_blocks_of bs (drop i es) ≡ whole → bs ≡ whole
+end-blocks bs whole i es k h = ap (with_blocks_of bs) (sym (drop_all i es k)) ∙ h
+
 -- the cells of a block once no entry is left
 pub end-cells : (unit : List Statement) (b : BlockName) (s i : ℕ) (es : List Entry) → length es ≤ i → s + cells_in_block unit b (drop i es) ≡ cells_in_block unit b es → s ≡ cells_in_block unit b es
 end-cells unit b s i es k h =

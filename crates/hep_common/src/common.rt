@@ -10,10 +10,10 @@ ghost use Rattle.hep_machine.specs.Layout.{block_cells, common_cells};
 ghost use Rattle.hep_common.specs.Lengths as reading;
 ghost use Rattle.hep_common.specs.Lengths.{IsUnread};
 
-use hep_source::{CommonBlock, Declarator, Form, Name, Statement, Unit};
+use hep_source::{CommonBlock, Declarator, Form, Name, Statement};
 use hep_storage::cells_of;
 use hep_storage::constants::constants;
-use hep_symbols::Symbols;
+use hep_symbols::{ProgramSymbols, Symbols};
 use hep_types::Constants;
 use indexmap::{IndexMap, IndexSet};
 use std::alloc::{AllocError, Global};
@@ -198,18 +198,19 @@ impl CommonBlocks {
         Ok(())
     }
 
-    // What the COMMON statements of the unit of this number say, of which nothing was read.
-    fn read_entries(
+    // The COMMON statements of the unit of this number, of which nothing was read; the entries are all that they say.
+    fn read_unit(
         &mut self,
         alloc: Global,
         symbols: &Symbols,
         unit: usize,
         entries: &[Entry],
     ) -> Result<(), AllocError>
-        requires { IsUnread unit (get (option_eq name_eq) self.old.lengths) }
-        ensures blocks { OnOk result (self.new.blocks.keys ≡ reading.with_blocks_of self.old.blocks.keys entries.now) }
+        requires unread { IsUnread unit (get (option_eq name_eq) self.old.lengths) }
+        requires entries { entries.now ≡ reading.entries_of symbols.now }
+        ensures blocks { OnOk result (self.new.blocks.keys ≡ declarations.with_blocks self.old.blocks.keys (declarations.blocks_of_unit symbols.now)) }
         ensures lengths { OnOk result ((b : BlockName) → reading.greatest_length (get (option_eq name_eq) self.new.lengths b)
-            ≡ max (reading.greatest_length (get (option_eq name_eq) self.old.lengths b)) (reading.cells_in_block symbols.now b entries.now)) }
+            ≡ max (reading.greatest_length (get (option_eq name_eq) self.old.lengths b)) (cells_of_all symbols.now (declarations.names_in_block symbols.now b))) }
         ensures unread { OnOk result (IsUnread (unit + 1) (get (option_eq name_eq) self.new.lengths)) }
     {
         let constants = constants(alloc, symbols)?;
@@ -220,32 +221,12 @@ impl CommonBlocks {
         Ok(())
     }
 
-    // The COMMON statements of the unit of this number, of which the entries are all that they say.
-    fn read_unit(
-        &mut self,
-        alloc: Global,
-        unit: usize,
-        statements: &[Statement],
-        entries: &[Entry],
-    ) -> Result<(), AllocError>
-        requires unread { IsUnread unit (get (option_eq name_eq) self.old.lengths) }
-        requires entries { entries.now ≡ reading.entries_of statements.now }
-        ensures blocks { OnOk result (self.new.blocks.keys ≡ declarations.with_blocks self.old.blocks.keys (declarations.blocks_of_unit statements.now)) }
-        ensures lengths { OnOk result ((b : BlockName) → reading.greatest_length (get (option_eq name_eq) self.new.lengths b)
-            ≡ max (reading.greatest_length (get (option_eq name_eq) self.old.lengths b)) (cells_of_all statements.now (declarations.names_in_block statements.now b))) }
-        ensures unread { OnOk result (IsUnread (unit + 1) (get (option_eq name_eq) self.new.lengths)) }
-    {
-        let symbols = Symbols::new(alloc, statements)?;
-        self.read_entries(alloc, &symbols, unit, entries)?;
-        Ok(())
-    }
-
     /// The common blocks of a program. Where memory held all that its COMMON statements say, their cells fit 96 bits.
     ///
     /// # Errors
     ///
     /// Only where memory was refused.
-    pub fn of_program(alloc: Global, program: &[Unit]) -> Result<CommonBlocks, AllocError>
+    pub fn of_program(alloc: Global, program: &ProgramSymbols) -> Result<CommonBlocks, AllocError>
         ensures blocks { IfOk result (λ common. common.blocks.keys ≡ declarations.blocks_of program.now) }
         ensures lengths { IfOk result (λ common. (b : BlockName) → reading.greatest_length (get (option_eq name_eq) common.lengths b) ≡ block_cells program.now b) }
         ensures bounded { IfOk result (λ common. common_cells program.now < 2 ^ 96) }
@@ -253,11 +234,10 @@ impl CommonBlocks {
         let mut common = CommonBlocks::new(alloc);
         // All units' entries stay in one row: each has at most 2^20 cells, so those of all blocks fit 128 bits.
         let mut entries = Vec::new(alloc);
-        for (number, unit) in program.iter().enumerate() {
-            let statements = unit.as_slice();
+        for (number, symbols) in program.units().iter().enumerate() {
             let read = entries.len();
-            add_entries(&mut entries, statements)?;
-            common.read_unit(alloc, number, statements, &entries[read..])?;
+            add_entries(&mut entries, symbols.statements())?;
+            common.read_unit(alloc, symbols, number, &entries[read..])?;
         }
         Ok(common)
     }

@@ -126,7 +126,7 @@ fn lower_program(alloc: Global, checked: &Checked, main: usize) -> Result<Image,
         return Err(LowerFault::refused(alloc, 401, 0));
     }
     let program = ProgramSymbols::new(alloc, source)?;
-    let blocks = CommonBlocks::of_program(alloc, source)?;
+    let blocks = CommonBlocks::of_program(alloc, &program)?;
     let common = CommonStarts::of_blocks(alloc, &blocks)?;
     if exceeds_cells(checked, &common) {
         return Err(LowerFault::refused(alloc, 401, 0));

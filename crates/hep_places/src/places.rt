@@ -7,10 +7,18 @@ use hep_source::Name;
 use indexmap::IndexMap;
 
 /// Where each variable of a unit is, and of each DO the first of its two cells, by the index of its statement.
-#[derive(Drop)]
 pub struct Places {
     pub variables: IndexMap<Name, Variable>,
     pub loop_cells: Vec<u32>,
+}
+
+impl Drop for Places {
+    fn drop(self) {
+        let Places {
+            variables,
+            loop_cells,
+        } = self;
+    }
 }
 
 impl Places {

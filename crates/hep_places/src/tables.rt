@@ -23,7 +23,6 @@ use indexmap::IndexMap;
 use std::alloc::{AllocError, Global};
 
 // What a unit's frame has, and where its names in COMMON are in their blocks.
-#[derive(Drop)]
 pub(crate) struct Tables {
     pub(crate) offsets: IndexMap<Name, u32>,
     pub(crate) locals: IndexMap<Name, u32>,
@@ -31,6 +30,18 @@ pub(crate) struct Tables {
     pub(crate) loop_cells: Vec<u32>,
     // How many cells the frame has.
     pub(crate) cells: u32,
+}
+
+impl Drop for Tables {
+    fn drop(self) {
+        let Tables {
+            offsets,
+            locals,
+            bounds,
+            loop_cells,
+            cells,
+        } = self;
+    }
 }
 
 // Dummy arguments come behind the header, two cells each, then local variables, DOs and bounds.

@@ -23,6 +23,7 @@ use hep_placed::laws::constant_shapes;
 use hep_storage::constants::constants;
 use hep_symbols::Symbols;
 use std::alloc::{AllocError, Global};
+use std::mem::replace;
 
 /// Where a unit's variables, arrays and DOs are.
 #[derive(Drop)]
@@ -61,10 +62,13 @@ pub fn unit_places(
     arrays_have_shapes();
     names_are_given_once();
     let constants = constants(alloc, symbols)?;
-    let tables = tables_of(alloc, symbols, &constants)?;
+    let mut tables = tables_of(alloc, symbols, &constants)?;
     let names = symbols.names().as_slice();
+    let places = Places {
+        variables: variables_among(alloc, symbols, common, &tables, names)?,
+        loop_cells: replace(&mut tables.loop_cells, Vec::new(alloc)),
+    };
     let arrays = arrays_among(alloc, symbols, common, &constants, &tables, names)?;
-    let variables = variables_among(alloc, symbols, common, &tables, names)?;
     let private = private_among(alloc, symbols, &tables, symbols.locals())?;
     let frame_variables = variables_in_frame(
         alloc,
@@ -81,10 +85,7 @@ pub fn unit_places(
     };
     let dummies = dummy_arguments(alloc, &known, symbols.dummies())?;
     Ok(UnitPlaces {
-        places: Places {
-            variables,
-            loop_cells: tables.loop_cells,
-        },
+        places,
         arrays,
         cells: tables.cells,
         private,

@@ -1,14 +1,13 @@
 -- What is known of the common blocks of a unit: X3.9-1978, 8.3.
 use Rattle.std.specs.Prelude.{◌≡◌, ℕ, Bool, true, false, if◌then◌else◌, List, [], ◌++◌, map, Option, Some, None}
-use Rattle.std.specs.Option.{option_map}
+use Rattle.std.specs.Option.{option_map, option_map_or}
 use Rattle.std.specs.List.{list_any}
-use Rattle.indexmap.specs.IndexSet.{contains}
 use Rattle.hep_source.specs.declared.declaration.CommonBlock.{CommonBlock}
 use Rattle.hep_source.specs.declared.name.Name.{Name}
 use Rattle.hep_source.specs.declared.statement.Statement.{Statement}
-use Rattle.hep_source.specs.Names.{is_among, name_eq}
+use Rattle.hep_source.specs.Names.{is_among, same_name}
 use Rattle.hep_machine.specs.Data.{Repeated}
-use Rattle.hep_machine.specs.Declarations.{BlockName, same_block, block_of, entries_under, names_declared}
+use Rattle.hep_machine.specs.Declarations.{BlockName, same_block, block_of, common_block, entries_under, names_declared}
 use Rattle.hep_check.specs.Common as conditions
 use Rattle.hep_check.specs.Known.{Known as Items}
 use Rattle.hep_storage.specs.declared.blocks.Contents.{Contents}
@@ -68,14 +67,34 @@ block_in unit b = option_map (λ line. record { list = known_places (conditions.
 
 -- ---- one pass
 
+-- a name's first block is this one
+abbrev pub is_first_block : List Statement → BlockName → Name → Bool
+is_first_block unit b x = option_map_or (same_block b) (common_block unit x) false
+
+-- which names are noted after one more in a block: each where its first block is
+abbrev pub with_noted : List Statement → BlockName → Name → (Name → Bool) → Name → Bool
+with_noted unit b y noted x = if is_first_block unit b y then (if noted x then true else same_name x y) else noted x
+
+-- of the names whose first block this is, those are noted that were read in it
+abbrev pub AreNoted : List Statement → BlockName → List Name → (Name → Bool) → Type 0
+AreNoted unit b xs noted = (x : Name) → is_first_block unit b x ≡ true → noted x ≡ is_among x xs
+
+-- those of the names in a block that stand in another one: all, where both are one
+abbrev pub names_into : BlockName → BlockName → List Name → List Name
+names_into k b xs = if same_block k b then xs else []
+
 -- what is known after these names of a block
 abbrev pub Holds : List Statement → BlockName → List Name → Contents → Type 0
-Holds unit b xs c = (known c.known ≡ places_of_names unit b xs) × ((x : Name) → contains name_eq c.names x ≡ is_among x xs)
+Holds unit b xs c = known c.known ≡ places_of_names unit b xs
 
 -- what a table has of a block after these names of it, which was last named at this line
-abbrev pub Has : List Statement → BlockName → List Name → Option ℕ → Option Contents → Type 0
-Has unit b xs line None = (xs ≡ []) × (line ≡ None)
-Has unit b xs line (Some c) = Holds unit b xs c × (line ≡ Some c.line)
+abbrev pub HasContents : List Statement → BlockName → List Name → Option ℕ → Option Contents → Type 0
+HasContents unit b xs line None = (xs ≡ []) × (line ≡ None)
+HasContents unit b xs line (Some c) = Holds unit b xs c × (line ≡ Some c.line)
+
+-- with the names that are noted
+abbrev pub Has : List Statement → (Name → Bool) → BlockName → List Name → Option ℕ → Option Contents → Type 0
+Has unit noted b xs line o = HasContents unit b xs line o × AreNoted unit b xs noted
 
 -- the names that some COMMON lists add to a block
 abbrev pub names_under : BlockName → List CommonBlock → List Name

@@ -7,7 +7,7 @@ ghost use Rattle.hep_source.specs.Names.{name_eq, same_name};
 ghost use Rattle.hep_source.specs.declared.name.Name.{Name as PureName};
 ghost use Rattle.hep_source.specs.declared.statement.Statement.{Statement as PureStatement};
 ghost use Rattle.hep_machine.specs.Declarations as declarations;
-ghost use Rattle.hep_machine.specs.Declarations.{BlockName, same_block, common_block, names_declared};
+ghost use Rattle.hep_machine.specs.Declarations.{BlockName, same_block, names_declared};
 ghost use Rattle.hep_machine.specs.Shapes.{elements};
 ghost use Rattle.hep_storage.specs.Blocks as blocks;
 ghost use Rattle.hep_storage.specs.Runs.{positions_in};
@@ -27,12 +27,13 @@ pub(crate) struct Contents {
     pub(crate) known: Known,
     /// The line of the last statement that names the block.
     pub(crate) line: u32,
-    // The names that stand in it.
-    names: IndexSet<Name>,
 }
 
 /// What a unit has in each of its blocks.
 pub(crate) type Blocks = IndexMap<Option<Name>, Contents>;
+
+// The names that were read, each in the first block in which it is.
+type Noted = IndexSet<Name>;
 
 // How many elements there are; none where that isn't known.
 fn element_count(shape: KnownShape) -> Option<u32>
@@ -143,7 +144,7 @@ fn is_same_block(first: Option<Name>, second: Option<Name>) -> bool
 
 // The first block in which a name is.
 fn is_held(symbols: &Symbols, block: Option<Name>, name: &Name) -> bool
-    ensures { result ≡ option_map_or (same_block block) (common_block symbols.now name.now) false }
+    ensures { result ≡ blocks.is_first_block symbols.now block name.now }
 {
     match symbols.common_block(name) {
         Some(first) => is_same_block(block, first),
@@ -151,10 +152,27 @@ fn is_held(symbols: &Symbols, block: Option<Name>, name: &Name) -> bool
     }
 }
 
+// Notes a name, and says whether its first place in COMMON is here.
+fn note_name(
+    noted: &mut Noted,
+    symbols: &Symbols,
+    block: Option<Name>,
+    name: &Name,
+) -> Result<bool, AllocError>
+    ensures first { IfOk result (λ is_first. is_first
+        ≡ (blocks.is_first_block symbols.now block name.now && not (contains name_eq noted.old name.now))) }
+    ensures noted { OnOk result ((x : PureName) → contains name_eq noted.new x
+        ≡ blocks.with_noted symbols.now block name.now (contains name_eq noted.old) x) }
+{
+    if !is_held(symbols, block, name) {
+        return Ok(false);
+    }
+    Ok(noted.insert(*name)?)
+}
+
 impl Contents {
     fn new(alloc: Global, line: u32) -> Contents
         ensures known { blocks.known result.known ≡ blocks.no_run }
-        ensures names { (x : PureName) → contains name_eq result.names x ≡ false }
         ensures line { result.line ≡ line }
     {
         Contents {
@@ -163,42 +181,26 @@ impl Contents {
                 is_whole: true,
             },
             line,
-            names: IndexSet::new(alloc),
         }
-    }
-
-    // Notes a name, and says whether its first place in COMMON is here.
-    fn note_name(
-        &mut self,
-        symbols: &Symbols,
-        block: Option<Name>,
-        name: &Name,
-    ) -> Result<bool, AllocError>
-        ensures first { IfOk result (λ is_first. is_first
-            ≡ (option_map_or (same_block block) (common_block symbols.now name.now) false && not (contains name_eq self.old.names name.now))) }
-        ensures names { OnOk result ((x : PureName) → contains name_eq self.new.names x
-            ≡ if contains name_eq self.old.names x then true else same_name x name.now) }
-        ensures known { OnOk result (self.new.known ≡ self.old.known) }
-        ensures line { OnOk result (self.new.line ≡ self.old.line) }
-    {
-        let is_new = self.names.insert(*name)?;
-        Ok(is_held(symbols, block, name) && is_new)
     }
 
     // One name more. A second place of a name in COMMON doesn't hold.
     fn add_name(
         &mut self,
+        noted: &mut Noted,
         symbols: &Symbols,
         shapes: &Shapes,
         block: Option<Name>,
         name: &Name,
     ) -> Result<(), AllocError>
         requires { shapes.now ≡ symbols.now }
-        ensures known { OnOk result ((xs : List PureName) → blocks.Holds symbols.now block xs self.old
-            → blocks.Holds symbols.now block (xs ++ name.now ∷ []) self.new) }
+        ensures known { OnOk result ((xs : List PureName) → blocks.AreNoted symbols.now block xs (contains name_eq noted.old)
+            → blocks.Holds symbols.now block xs self.old → blocks.Holds symbols.now block (xs ++ name.now ∷ []) self.new) }
+        ensures noted { OnOk result ((x : PureName) → contains name_eq noted.new x
+            ≡ blocks.with_noted symbols.now block name.now (contains name_eq noted.old) x) }
         ensures line { OnOk result (self.new.line ≡ self.old.line) }
     {
-        if self.note_name(symbols, block, name)? {
+        if note_name(noted, symbols, block, name)? {
             add_run(&mut self.known, run_of_name(symbols, shapes, name))?;
         }
         Ok(())
@@ -206,18 +208,21 @@ impl Contents {
 
     fn add_names(
         &mut self,
+        noted: &mut Noted,
         symbols: &Symbols,
         shapes: &Shapes,
         block: Option<Name>,
         entries: &[Declarator],
     ) -> Result<(), AllocError>
         requires { shapes.now ≡ symbols.now }
-        ensures known { OnOk result ((xs : List PureName) → blocks.Holds symbols.now block xs self.old
-            → blocks.Holds symbols.now block (xs ++ names_declared entries.now) self.new) }
+        ensures known { OnOk result ((xs : List PureName) → blocks.AreNoted symbols.now block xs (contains name_eq noted.old)
+            → blocks.Holds symbols.now block xs self.old → blocks.Holds symbols.now block (xs ++ names_declared entries.now) self.new) }
+        ensures noted { OnOk result ((b : BlockName) (xs : List PureName) → blocks.AreNoted symbols.now b xs (contains name_eq noted.old)
+            → blocks.AreNoted symbols.now b (xs ++ blocks.names_into block b (names_declared entries.now)) (contains name_eq noted.new)) }
         ensures line { OnOk result (self.new.line ≡ self.old.line) }
     {
         for entry in entries {
-            self.add_name(symbols, shapes, block, &entry.occurrence.name)?;
+            self.add_name(noted, symbols, shapes, block, &entry.occurrence.name)?;
         }
         Ok(())
     }
@@ -225,7 +230,7 @@ impl Contents {
 
 // What a table has in a block, taken out of it to be named at a line.
 fn take_contents(alloc: Global, table: &mut Blocks, block: Option<Name>, line: u32) -> Contents
-    ensures known { (unit : List PureStatement) (xs : List PureName) (before : Option ℕ) → blocks.Has unit block xs before (get (option_eq name_eq) table.old block)
+    ensures known { (unit : List PureStatement) (xs : List PureName) (before : Option ℕ) → blocks.HasContents unit block xs before (get (option_eq name_eq) table.old block)
         → blocks.Holds unit block xs result }
     ensures line { result.line ≡ line }
     ensures others { (b : BlockName) → same_block block b ≡ false → get (option_eq name_eq) table.new b ≡ get (option_eq name_eq) table.old b }
@@ -252,16 +257,17 @@ fn note_block(
     symbols: &Symbols,
     shapes: &Shapes,
     table: &mut Blocks,
+    noted: &mut Noted,
     line: u32,
     list: &CommonBlock,
 ) -> Result<(), AllocError>
     requires { shapes.now ≡ symbols.now }
-    ensures { OnOk result ((b : BlockName) (xs : List PureName) (before : Option ℕ) → blocks.Has symbols.now b xs before (get (option_eq name_eq) table.old b)
-        → blocks.Has symbols.now b (xs ++ blocks.names_under b (list.now ∷ [])) (blocks.later_line b before line (list.now ∷ [])) (get (option_eq name_eq) table.new b)) }
+    ensures { OnOk result ((b : BlockName) (xs : List PureName) (before : Option ℕ) → blocks.Has symbols.now (contains name_eq noted.old) b xs before (get (option_eq name_eq) table.old b)
+        → blocks.Has symbols.now (contains name_eq noted.new) b (xs ++ blocks.names_under b (list.now ∷ [])) (blocks.later_line b before line (list.now ∷ [])) (get (option_eq name_eq) table.new b)) }
 {
     let block = block_of(list);
     let mut contents = take_contents(alloc, table, block, line);
-    contents.add_names(symbols, shapes, block, list.entries.as_slice())?;
+    contents.add_names(noted, symbols, shapes, block, list.entries.as_slice())?;
     table.insert(block, contents)?;
     Ok(())
 }
@@ -271,15 +277,16 @@ fn note_blocks(
     symbols: &Symbols,
     shapes: &Shapes,
     table: &mut Blocks,
+    noted: &mut Noted,
     line: u32,
     lists: &[CommonBlock],
 ) -> Result<(), AllocError>
     requires { shapes.now ≡ symbols.now }
-    ensures { OnOk result ((b : BlockName) (xs : List PureName) (before : Option ℕ) → blocks.Has symbols.now b xs before (get (option_eq name_eq) table.old b)
-        → blocks.Has symbols.now b (xs ++ blocks.names_under b lists.now) (blocks.later_line b before line lists.now) (get (option_eq name_eq) table.new b)) }
+    ensures { OnOk result ((b : BlockName) (xs : List PureName) (before : Option ℕ) → blocks.Has symbols.now (contains name_eq noted.old) b xs before (get (option_eq name_eq) table.old b)
+        → blocks.Has symbols.now (contains name_eq noted.new) b (xs ++ blocks.names_under b lists.now) (blocks.later_line b before line lists.now) (get (option_eq name_eq) table.new b)) }
 {
     for list in lists {
-        note_block(alloc, symbols, shapes, table, line, list)?;
+        note_block(alloc, symbols, shapes, table, noted, line, list)?;
     }
     Ok(())
 }
@@ -303,9 +310,10 @@ pub(crate) fn blocks_of(alloc: Global, symbols: &Symbols) -> Result<Blocks, Allo
 {
     let shapes = Shapes::new(alloc, symbols)?;
     let mut table = IndexMap::new(alloc);
+    let mut noted = IndexSet::new(alloc);
     for statement in symbols.statements() {
-        let lists = lists_in(&statement.form);
-        note_blocks(alloc, symbols, &shapes, &mut table, statement.line, lists)?;
+        let (line, lists) = (statement.line, lists_in(&statement.form));
+        note_blocks(alloc, symbols, &shapes, &mut table, &mut noted, line, lists)?;
     }
     Ok(table)
 }
@@ -318,12 +326,7 @@ pub(crate) fn take_block(table: &mut Blocks) -> Option<(Option<Name>, Contents)>
     ensures none { IfNone result ((b : BlockName) → get (option_eq name_eq) table.old b ≡ None) }
     ensures fewer { index_map_len table.new + (if is_some result then 1 else 0) ≡ index_map_len table.old }
 {
-    let block = match table.get_index(0) {
-        Some((block, _)) => *block,
-        None => return None,
-    };
-    match table.swap_remove(&block) {
-        Some(contents) => Some((block, contents)),
-        None => None,
-    }
+    let last = table.len().checked_sub(1)?;
+    let _ = table.get_index(last);
+    table.swap_remove_index(last)
 }

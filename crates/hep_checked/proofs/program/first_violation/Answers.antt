@@ -1,16 +1,15 @@
-use Rattle.std.proofs.Common.{ap, ◌∙◌}
+use Rattle.std.proofs.Common.{◌∙◌}
 use Rattle.std.specs.List.{flat_map}
 use Rattle.hep_check.specs.Common.{common_violations}
-use Rattle.hep_check.specs.Conditions.{violations_in, first_violation}
+use Rattle.hep_check.specs.Conditions.{violations_in}
 use Rattle.hep_check.specs.Names.{ambiguous_in, ambiguous_units}
 use Rattle.hep_checked.proofs.Gathering.{four}
 use Rattle.hep_checked.proofs.program.first_violation.Goals as goal
 
 pub returns : goal.returns
 returns c =
-    let program = c.in_ok-program.program in
+    let program = c.args.program.now in
     c.first_found.ensures
-    ∙ (four c.in_ok-units_violation.field-0 c.in_ok-common_violation.field-0 c.in_ok-ambiguous_unit_violation.field-0 c.in_ok-ambiguity_violation.field-0
+    ∙ four c.in_ok-units_violation.field-0 c.in_ok-common_violation.field-0 c.in_ok-ambiguous_unit_violation.field-0 c.in_ok-ambiguity_violation.field-0
     (flat_map (violations_in program) program) (common_violations program) (ambiguous_units program) (flat_map ambiguous_in program)
     c.in_ok-units_violation.ensures c.in_ok-common_violation.ensures c.in_ok-ambiguous_unit_violation.ensures c.in_ok-ambiguity_violation.ensures
-    ∙ ap first_violation (c.in_ok-program.ensures ∙ c.as_slice.ensures))

@@ -1,4 +1,4 @@
-use Rattle.std.proofs.Common.{◌∙◌, ◌<◌, arith, length, subst, sym}
+use Rattle.std.proofs.Common.{◌∙◌, ◌<◌, arith, length, refl, subst, sym}
 use Rattle.hep_source.specs.Units.{Units}
 use Rattle.hep_code.specs.Limits.{most_instructions}
 use Rattle.hep_lower.specs.Refusals.{IsFirstDeep, RefusesCode}
@@ -37,34 +37,33 @@ returns-in-Some-clause-refused c =
 pub of_blocks-requires : goal.of_blocks-requires
 of_blocks-requires c =
     let known = c.in_ok-blocks.ensures in
-    let source = c.as_slice-source.result.now in
-    (source, record { blocks_are = known.blocks; lengths_are = known.lengths; bounded = known.bounded })
+    (c.in_ok-program.program, record { blocks_are = known.blocks; lengths_are = known.lengths; bounded = known.bounded })
 
 pub exceeds_cells-requires : goal.exceeds_cells-requires
 exceeds_cells-requires c =
     let known = c.in_ok-blocks.ensures in
     let program = c.args.checked.now in
     c.in_ok-common.ensures program (
-    blocks-are c.as_slice-source.result.now program c.in_ok-blocks.blocks (c.as_slice-source.ensures ∙ c.program.ensures) known.blocks known.lengths known.bounded)
+    blocks-are c.in_ok-program.program program c.in_ok-blocks.blocks (c.in_ok-program.ensures ∙ (c.as_slice-source.ensures ∙ c.program.ensures)) known.blocks known.lengths known.bounded)
 
 pub lower_units-requires-clause-starts : goal.lower_units-requires-clause-starts
 lower_units-requires-clause-starts c =
     let known = c.in_ok-blocks.ensures in
     let program = c.in_ok-program.program in
     c.in_ok-common.ensures program (
-    blocks-are c.as_slice-source.result.now program c.in_ok-blocks.blocks (sym c.in_ok-program.ensures) known.blocks known.lengths known.bounded)
+    blocks-are program program c.in_ok-blocks.blocks refl known.blocks known.lengths known.bounded)
 
 pub image_of-requires-clause-blocks : goal.image_of-requires-clause-blocks
 image_of-requires-clause-blocks c =
     let known = c.in_ok-blocks.ensures in
-    blocks-are c.as_slice-source.result.now c.args.checked.now c.in_ok-blocks.blocks (c.as_slice-source.ensures ∙ c.program.ensures) known.blocks known.lengths known.bounded
+    blocks-are c.in_ok-program.program c.args.checked.now c.in_ok-blocks.blocks (c.in_ok-program.ensures ∙ (c.as_slice-source.ensures ∙ c.program.ensures)) known.blocks known.lengths known.bounded
 
 pub image_of-requires-clause-starts : goal.image_of-requires-clause-starts
 image_of-requires-clause-starts c =
     let known = c.in_ok-blocks.ensures in
     let program = c.args.checked.now in
     c.in_ok-common.ensures program (
-    blocks-are c.as_slice-source.result.now program c.in_ok-blocks.blocks (c.as_slice-source.ensures ∙ c.program.ensures) known.blocks known.lengths known.bounded)
+    blocks-are c.in_ok-program.program program c.in_ok-blocks.blocks (c.in_ok-program.ensures ∙ (c.as_slice-source.ensures ∙ c.program.ensures)) known.blocks known.lengths known.bounded)
 
 pub image_of-requires-clause-units : goal.image_of-requires-clause-units
 image_of-requires-clause-units c =

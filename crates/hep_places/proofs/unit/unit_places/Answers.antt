@@ -27,7 +27,7 @@ returns c = λ program u accepted inside same starts few small.
     let common = c.args.common.now in
     let t = c.in_ok-tables.tables in
     let p : UnitPlaces = record {
-      places = record { variables = c.in_ok-variables.variables; loop_cells = t.loop_cells };
+      places = record { variables = c.in_ok-variables_among.field-0; loop_cells = c.replace.result };
       arrays = c.in_ok-arrays.arrays;
       cells = t.cells;
       private = c.in_ok-private.private;
@@ -46,8 +46,8 @@ returns c = λ program u accepted inside same starts few small.
     (c.arrays_are_few.ensures program u accepted inside small few) small few starts
     (subst (λ (v : List Statement). IsFound v common t p) same (record {
       tables = c.in_ok-tables.ensures;
-      variables = λ x. c.in_ok-variables.ensures x ∙ ap (λ xs. variable_among now (found_start now common t) 0 xs x) names;
-      loops = λ i. t.loop_cells.items;
+      variables = λ x. c.in_ok-variables_among.ensures x ∙ ap (λ xs. variable_among now (found_start now common t) 0 xs x) names;
+      loops = λ i. (c.replace.ensures.value i).items;
       arrays = c.in_ok-arrays.ensures ∙ ap (λ xs. map (array_found now (found_start now common t) (get name_eq t.bounds)) (filter (is_array now) xs)) names;
       cells = λ i. t.cells;
       private_are = c.in_ok-private.ensures ∙ ap (λ xs. map (λ (x : Name). unwrap_or (get name_eq t.locals x) 0) (filter (is_private now) xs)) c.locals.ensures;

@@ -1,12 +1,11 @@
-use Rattle.std.proofs.Common.{◌≤◌, ◌+◌, ◌++◌, ◌∙◌, ap, drop, max, length, arith}
+use Rattle.std.proofs.Common.{◌≡◌, ◌<◌, ◌≤◌, ◌+◌, ◌++◌, ◌∙◌, ap, drop, get_or, length, arith}
 use Rattle.std.specs.List.{flat_map}
 use Rattle.std.specs.Option.{option_eq}
 use Rattle.indexmap.specs.IndexMap.{get}
 use Rattle.hep_source.specs.Names.{name_eq}
 use Rattle.hep_symbols.proofs.Firsts.{ahead}
-use Rattle.hep_machine.specs.Constants.{cells_of_all}
-use Rattle.hep_machine.specs.Declarations.{blocks_of_unit, names_in_block, with_blocks}
-use Rattle.hep_common.specs.Lengths.{entries_of, entries_of_program, greatest_length}
+use Rattle.hep_machine.specs.Declarations.{blocks_of_unit, with_blocks}
+use Rattle.hep_common.specs.Lengths.{entries_of, entries_of_program}
 use Rattle.hep_common.proofs.Tables.{row-next, row-end, blocks-next, lengths-next, start-length, start-unread, end-length}
 use Rattle.hep_common.proofs.Totals.{common-few}
 use Rattle.hep_common.proofs.common.CommonBlocks.of_program.Goals as goal
@@ -24,27 +23,28 @@ pub loop-number-preserved : goal.loop-number-preserved
 loop-number-preserved c =
     let us = c.args.program.now in
     let i = c.loop-number.number in
-    let unit = c.index-program-number.result in
+    let unit = c.symbols-item.result in
+    let items = c.units-symbols-items.ensures in
+    let within : i < length us = omega (arith, c.loop-number-test.true, ap length items) in
+    let is : unit ≡ get_or us i unit = c.symbols-item.is ∙ ap (λ vs. get_or vs i unit) items in
     let keys = c.loop-number.common.blocks.keys in
     let old = get (option_eq name_eq) c.loop-number.common.lengths in
     let new = get (option_eq name_eq) c.read_unit.new.self.lengths in
-    let next = ahead us i unit c.loop-number-test.true c.index-program-number.is in
+    let next = ahead us i unit within is in
     record {
-      blocks = blocks-next keys c.read_unit.new.self.blocks.keys _ unit (drop i us) (drop (i + 1) us) c.loop-number.invariant.blocks next
-          (c.in_ok-read_unit.ensures.blocks ∙ ap (λ ss. with_blocks keys (blocks_of_unit ss)) c.as_slice-statements.ensures);
-      lengths = λ b. lengths-next b unit (drop i us) (drop (i + 1) us) (old b) (new b) _ (c.loop-number.invariant.lengths b) next
-          (c.in_ok-read_unit.ensures.lengths b ∙ ap (λ ss. max (greatest_length (old b)) (cells_of_all ss (names_in_block ss b))) c.as_slice-statements.ensures);
+      blocks = blocks-next keys c.read_unit.new.self.blocks.keys _ unit (drop i us) (drop (i + 1) us) c.loop-number.invariant.blocks next c.in_ok-read_unit.ensures.blocks;
+      lengths = λ b. lengths-next b unit (drop i us) (drop (i + 1) us) (old b) (new b) _ (c.loop-number.invariant.lengths b) next (c.in_ok-read_unit.ensures.lengths b);
       entries = row-next c.loop-number.entries.items _ _ unit (drop i us) (drop (i + 1) us) c.loop-number.invariant.entries next
-          (c.in_ok-add_entries.ensures ∙ ap (λ ss. c.loop-number.entries.items ++ entries_of ss) c.as_slice-statements.ensures);
+          (c.in_ok-add_entries.ensures ∙ ap (λ ss. c.loop-number.entries.items ++ entries_of ss) c.statements.ensures);
       unread = c.in_ok-read_unit.ensures.unread;
     }
 
 pub returns-clause-lengths : goal.returns-clause-lengths
 returns-clause-lengths c = λ b.
-    let k : length c.args.program.now ≤ c.loop-number.number = omega arith in
+    let k : length c.args.program.now ≤ c.loop-number.number = omega (arith, ap length c.units-symbols-items.ensures) in
     end-length b _ c.loop-number.number c.args.program.now k (c.loop-number.invariant.lengths b)
 
 pub returns-clause-bounded : goal.returns-clause-bounded
 returns-clause-bounded c =
-    let k : length c.args.program.now ≤ c.loop-number.number = omega arith in
+    let k : length c.args.program.now ≤ c.loop-number.number = omega (arith, ap length c.units-symbols-items.ensures) in
     common-few c.args.program.now (length c.loop-number.entries.items) (row-end c.loop-number.entries.items c.loop-number.number c.args.program.now k c.loop-number.invariant.entries) (omega arith)

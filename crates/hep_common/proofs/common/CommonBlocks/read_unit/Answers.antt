@@ -1,20 +1,61 @@
-use Rattle.std.proofs.Common.{ap, max, ◌∙◌}
+use Rattle.std.proofs.Common.{◌≡◌, ◌≤◌, ◌+◌, ◌∙◌, Some, None, refl, ap, drop, get_or, max, length, arith, if◌then◌else◌}
+use Rattle.std.proofs.lemmas.List.{drop_more}
 use Rattle.std.specs.Option.{option_eq}
 use Rattle.indexmap.specs.IndexMap.{get}
 use Rattle.hep_source.specs.Names.{name_eq}
-use Rattle.hep_common.specs.Lengths.{cells_in_block, greatest_length, with_blocks_of}
+use Rattle.hep_machine.specs.Declarations.{BlockName, same_block}
+use Rattle.hep_common.specs.Lengths.{cells_in_block, greatest_length, lengthened, with_blocks_of}
 use Rattle.hep_common.proofs.Entries.{unit-blocks, unit-cells}
+use Rattle.hep_common.proofs.Tables.{lengthened-at, blocks-entry, cells-next, longest-next, unread-next, bounded-next, start-cells, start-longest, start-few, end-blocks, end-cells}
 use Rattle.hep_common.proofs.common.CommonBlocks.read_unit.Goals as goal
+
+pub loop-entry-init : goal.loop-entry-init
+loop-entry-init c =
+    record {
+      blocks = refl;
+      cells = λ b. start-cells _ _ (c.requires.unread b c.args.unit (omega arith));
+      longest = λ b. start-longest _ _ (c.requires.unread b c.args.unit (omega arith));
+      unread = λ b v lt. c.requires.unread b v (omega (arith, lt));
+      bounded = λ b. start-few _ (c.requires.unread b c.args.unit (omega arith));
+    }
+
+pub lengthen-requires : goal.lengthen-requires
+lengthen-requires c =
+    let i = c.loop-entry.entry-index in
+    let few = c.loop-entry.invariant.bounded (get_or c.args.entries.now i (record { block = None; name = None })).block in
+    omega (arith, few, c.loop-entry-test.true)
+
+pub loop-entry-preserved : goal.loop-entry-preserved
+loop-entry-preserved c =
+    let es = c.args.entries.now in
+    let i = c.loop-entry.entry-index in
+    let n = c.in_ok-count.count in
+    let e = get_or es i (record { block = None; name = None }) in
+    let old = get (option_eq name_eq) c.loop-entry.self.lengths in
+    let new = get (option_eq name_eq) c.lengthen.new.self.lengths in
+    let turned : (b : BlockName) → new b ≡ (if same_block e.block b then Some (lengthened (old b) c.args.unit n) else old b) = λ b. lengthened-at c.args.unit n _ b old new (c.in_ok-lengthen.ensures.lengths b) in
+    let ahead = drop_more es i (record { block = None; name = None }) c.loop-entry-test.true in
+    record {
+      blocks = blocks-entry _ _ _ _ (drop i es) (drop (i + 1) es) c.loop-entry.invariant.blocks ahead c.in_ok-lengthen.ensures.blocks;
+      cells = λ b. cells-next c.args.symbols.now c.args.unit n b _ (drop i es) (drop (i + 1) es) (old b) (new b) _ (c.loop-entry.invariant.cells b) ahead c.in_ok-count.ensures (turned b);
+      longest = λ b. longest-next c.args.unit n _ _ (old b) (new b) (c.loop-entry.invariant.longest b) (turned b);
+      unread = λ b v lt. unread-next c.args.unit n v _ (old b) (new b) lt (c.loop-entry.invariant.unread b v lt) (turned b);
+      bounded = λ b. bounded-next c.args.unit n i _ (old b) (new b) (c.loop-entry.invariant.bounded b) (omega arith) (turned b);
+    }
 
 pub returns-clause-blocks : goal.returns-clause-blocks
 returns-clause-blocks c =
+    let es = c.args.entries.now in
     let keys = c.args.self.now.blocks.keys in
-    c.in_ok-read_entries.ensures.blocks ∙ (ap (with_blocks_of keys) c.requires.entries ∙ unit-blocks keys c.args.statements.now)
+    let k : length es ≤ c.loop-entry.entry-index = omega arith in
+    end-blocks c.loop-entry.self.blocks.keys _ c.loop-entry.entry-index es k c.loop-entry.invariant.blocks
+    ∙ (ap (with_blocks_of keys) c.requires.entries ∙ unit-blocks keys c.args.symbols.now)
 
 pub returns-clause-lengths : goal.returns-clause-lengths
 returns-clause-lengths c = λ b.
-    let unit = c.args.statements.now in
-    let old = greatest_length (get (option_eq name_eq) c.args.self.now.lengths b) in
-    c.in_ok-read_entries.ensures.lengths b
-    ∙ (ap (λ ss. max old (cells_in_block ss b c.args.entries.now)) c.in_ok-symbols.ensures
-    ∙ ap (max old) (ap (cells_in_block unit b) c.requires.entries ∙ unit-cells unit b))
+    let es = c.args.entries.now in
+    let unit = c.args.symbols.now in
+    let k : length es ≤ c.loop-entry.entry-index = omega arith in
+    let counted = end-cells unit b _ c.loop-entry.entry-index es k (c.loop-entry.invariant.cells b) in
+    c.loop-entry.invariant.longest b
+    ∙ ap (max (greatest_length (get (option_eq name_eq) c.args.self.now.lengths b))) (counted ∙ (ap (cells_in_block unit b) c.requires.entries ∙ unit-cells unit b))

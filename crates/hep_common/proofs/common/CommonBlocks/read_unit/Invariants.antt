@@ -4,7 +4,7 @@ use Rattle.indexmap.specs.IndexMap.{get}
 use Rattle.hep_source.specs.Names.{name_eq}
 use Rattle.hep_machine.specs.Declarations.{BlockName}
 use Rattle.hep_common.specs.Lengths.{cells_in_block, cells_so_far, greatest_length, with_blocks_of, IsUnread}
-use Rattle.hep_common.proofs.common.CommonBlocks.read_entries.Given as goal
+use Rattle.hep_common.proofs.common.CommonBlocks.read_unit.Given as goal
 
 abbrev pub invariant-loop-entry : goal.invariant-loop-entry
 invariant-loop-entry l =
