@@ -9,8 +9,8 @@ use Rattle.hep_machine.specs.Declarations.{BlockName, same_block, blocks_of, is_
 use Rattle.hep_machine.specs.Layout.{block_cells, cells_of_blocks, common_cells}
 use Rattle.hep_frames.specs.Rows.{Row, cells_in, common_row, first_in, first_of_block}
 use Rattle.hep_frames.proofs.CommonRows.{common_row-cells}
-use Rattle.hep_storage.proofs.BlockTables.{changed}
-use Rattle.hep_storage.proofs.Pairs.{block-equal, block-self}
+use Rattle.hep_values.proofs.BlockNames.{changed}
+use Rattle.hep_values.proofs.BlockNames.{block-equal, block-self}
 use Rattle.hep_common.specs.Starts.{AreStarts, narrowed, start_in}
 use Rattle.hep_common.specs.declared.starts.CommonStarts.{CommonStarts}
 use Rattle.hep_common.proofs.Singles.{AreSingle, program-single, single-apart, single-rest}

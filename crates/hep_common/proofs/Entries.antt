@@ -7,8 +7,8 @@ use Rattle.hep_source.specs.declared.name.Name.{Name}
 use Rattle.hep_source.specs.declared.statement.Statement.{Statement}
 use Rattle.hep_machine.specs.Constants.{cells_of, cells_of_all}
 use Rattle.hep_machine.specs.Declarations.{BlockName, same_block, block_of, blocks_in, blocks_of_unit, names_in_block, entries_under, names_declared, is_block_among, with_blocks}
-use Rattle.hep_storage.proofs.BlockTables.{names-append}
-use Rattle.hep_storage.proofs.Pairs.{block-self, or-true}
+use Rattle.hep_values.proofs.BlockNames.{names-append}
+use Rattle.hep_values.proofs.BlockNames.{block-self, or-true}
 use Rattle.hep_common.specs.declared.common.Entry.{Entry}
 use Rattle.hep_common.specs.Lengths.{entry_of, entries_in_list, entries_in_lists, entries_of, cells_of_entry, cells_in_block, with_block, with_blocks_of}
 

@@ -4,7 +4,7 @@ use Rattle.std.specs.List.{flat_map}
 use Rattle.hep_source.specs.Units.{Units}
 use Rattle.hep_source.specs.declared.declaration.CommonBlock.{CommonBlock}
 use Rattle.hep_machine.specs.Declarations.{BlockName, same_block, block_of, blocks_of_unit, blocks_of, is_block_among, with_blocks}
-use Rattle.hep_storage.proofs.Pairs.{block-equal}
+use Rattle.hep_values.proofs.BlockNames.{block-equal}
 use Rattle.hep_common.specs.Lengths.{with_block}
 
 abbrev pub occurrences : BlockName → List BlockName → ℕ

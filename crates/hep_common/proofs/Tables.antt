@@ -11,8 +11,8 @@ use Rattle.hep_source.specs.declared.statement.Statement.{Statement}
 use Rattle.hep_machine.specs.Constants.{cells_of_all}
 use Rattle.hep_machine.specs.Declarations.{BlockName, same_block, blocks_of_unit, names_in_block, is_block_among, with_blocks}
 use Rattle.hep_machine.specs.Layout.{block_cells}
-use Rattle.hep_storage.proofs.BlockTables.{block_eq-is}
-use Rattle.hep_storage.proofs.Pairs.{block-equal}
+use Rattle.hep_values.proofs.BlockNames.{block_eq-is}
+use Rattle.hep_values.proofs.BlockNames.{block-equal}
 use Rattle.hep_common.specs.declared.common.Entry.{Entry}
 use Rattle.hep_common.specs.declared.common.Length.{Length}
 use Rattle.hep_common.specs.Lengths.{entries_of, entries_of_program, cells_of_entry, cells_in_block, with_block, with_blocks_of, cells_so_far, greatest_length, lengthened}

@@ -11,10 +11,9 @@ ghost use Rattle.hep_common.specs.Lengths as reading;
 ghost use Rattle.hep_common.specs.Lengths.{IsUnread};
 
 use hep_source::{CommonBlock, Declarator, Form, Name, Statement};
-use hep_storage::cells_of;
-use hep_storage::constants::constants;
 use hep_symbols::{ProgramSymbols, Symbols};
-use hep_types::Constants;
+use hep_values::given::constants;
+use hep_values::{Constants, cells_of};
 use indexmap::{IndexMap, IndexSet};
 use std::alloc::{AllocError, Global};
 

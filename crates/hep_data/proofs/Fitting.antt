@@ -31,7 +31,7 @@ use Rattle.hep_code.specs.declared.variable.Variable.TheVariants as variables
 use Rattle.hep_frames.specs.Rows.{Row, cells_in, first_in, bounds, first_of_part, frame_row, same_part, size_in, variable}
 use Rattle.hep_frames.proofs.FrameRows.{frame_row-cells, variable-first}
 use Rattle.hep_frames.proofs.Runs.{local-index, not-true}
-use Rattle.hep_storage.proofs.Elements.{number-within}
+use Rattle.hep_values.proofs.Elements.{number-within}
 use Rattle.hep_accepted.specs.Typing.{HasShape}
 use Rattle.hep_accepted.proofs.Meant.{data_known}
 use Rattle.hep_accepted.proofs.Members.{Has, flat_has, has_filter, has_flat, image_at}

@@ -12,8 +12,7 @@ use hep_code::Variable;
 use hep_image::{Array, Extents, Start};
 use hep_shape::Shape;
 use hep_source::Target;
-use hep_storage::integers;
-use hep_types::Constants;
+use hep_values::{Constants, integers};
 use std::alloc::{AllocError, Global};
 
 /// Cells of the arena, one after the other.

@@ -4,7 +4,7 @@ ghost use Rattle.hep_machine.specs.Data as machine;
 ghost use Rattle.hep_symbols.specs.Statements.{rest_after};
 
 use hep_source::{DataGroup, Statement};
-use hep_types::declarators::groups_in;
+use hep_values::statements::groups_in;
 use std::alloc::{AllocError, Global};
 
 type Found<'a> = Vec<&'a DataGroup>;

@@ -14,7 +14,7 @@ use crate::main_frame::MainFrame;
 use crate::values::Values;
 use hep_image::DataRow;
 use hep_source::{DataGroup, Target};
-use hep_types::Constants;
+use hep_values::Constants;
 use std::alloc::{AllocError, Global};
 
 // Adds a row for the first of these cells, as many as get the next value: the cells that are left, of which there are none

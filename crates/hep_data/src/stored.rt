@@ -15,7 +15,7 @@ use crate::rows::add_group;
 use hep_accepted::initial::places_are_local;
 use hep_check::laws;
 use hep_image::DataRow;
-use hep_storage::constants::constants;
+use hep_values::given::constants;
 use std::alloc::{AllocError, Global};
 
 // The rows of all groups, those of the last group first: what a later group gives is what is stored.

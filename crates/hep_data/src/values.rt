@@ -8,8 +8,7 @@ ghost use Rattle.hep_data.specs.Given.{all_values};
 ghost use Rattle.hep_data.specs.Left.{AreNone, AreSame, left, left_by, repeated};
 
 use hep_source::{DataValue, Value};
-use hep_storage::{repeat_of, value_of_constant};
-use hep_types::Constants;
+use hep_values::{Constants, repeat_of, value_of_constant};
 
 /// The values of a group that are left. What stands often is counted down and not written out.
 #[derive(Drop)]

@@ -5,7 +5,7 @@ use Rattle.hep_source.specs.Names.{index_where}
 use Rattle.hep_source.specs.Units.{Units}
 use Rattle.hep_machine.specs.Declarations.{BlockName, blocks_of, is_block_among, same_block}
 use Rattle.hep_machine.specs.Layout.{common_cells}
-use Rattle.hep_storage.proofs.Pairs.{block-self}
+use Rattle.hep_values.proofs.BlockNames.{block-self}
 use Rattle.hep_image.specs.declared.owners.BlockStart.{BlockStart}
 use Rattle.hep_image.specs.Image.{most_cells}
 use Rattle.hep_image.specs.Owners.{block_start, block_starts}

@@ -1,9 +1,3 @@
-pub mod Flows
-pub mod Lengths
-pub mod Indexes
-pub mod Asked
-pub mod Refusals
-pub mod Forms
 pub mod Additions
 pub mod Counts
 pub mod Placing

@@ -20,14 +20,14 @@ use Rattle.hep_image.specs.Places.{addresses_of, loop_cells, variable_of}
 use Rattle.hep_data.specs.Frame.{IsMainFrame}
 use Rattle.hep_places.specs.declared.unit.UnitPlaces.{UnitPlaces}
 use Rattle.hep_places.specs.Unit.{ArePlaces}
-use Rattle.hep_places.specs.declared.places.Places.{Places}
-use Rattle.hep_places.specs.Places.{cells_in, variable_in}
+use Rattle.hep_variables.specs.declared.places.Places.{Places}
+use Rattle.hep_variables.specs.Places.{cells_in, variable_in}
 use Rattle.hep_placed.specs.Placed.{code_in}
-use Rattle.hep_lower.specs.declared.fault.EmitFault.{EmitFault}
-use Rattle.hep_lower.specs.declared.fault.EmitFault.TheVariants as emit_fault
-use Rattle.hep_lower.specs.Limits.{IsOverLimit}
+use Rattle.hep_emit.specs.declared.fault.EmitFault.{EmitFault}
+use Rattle.hep_emit.specs.declared.fault.EmitFault.TheVariants as emit_fault
+use Rattle.hep_emit.specs.Limits.{IsOverLimit}
 use Rattle.hep_lower.specs.Refusals.{RefusesCode, fault_by}
-use Rattle.hep_lower.specs.Tables.{addressed_by}
+use Rattle.hep_emit.specs.Tables.{addressed_by}
 use Rattle.hep_lower.proofs.Counts.{as-many}
 
 module _ (program : Units) (u : ℕ) (unit : List Statement) (places : Places) (same : unit ≡ unit_at program u)

@@ -1,9 +1,3 @@
-pub mod Destinations
-pub mod Beginnings
-pub mod Tables
-pub mod Limits
-pub mod Starts
-pub mod Asked
 pub mod Refusals
 pub mod Parts
 pub mod Units

@@ -9,8 +9,8 @@ use Rattle.hep_code.specs.Depths.{line_too_deep}
 use Rattle.hep_code.specs.Limits.{most_instructions}
 use Rattle.hep_image.specs.Image.{most_cells}
 use Rattle.hep_placed.specs.Placed.{code_in}
-use Rattle.hep_lower.specs.declared.fault.EmitFault.{EmitFault}
-use Rattle.hep_lower.specs.declared.fault.EmitFault.TheVariants as emit_fault
+use Rattle.hep_emit.specs.declared.fault.EmitFault.{EmitFault}
+use Rattle.hep_emit.specs.declared.fault.EmitFault.TheVariants as emit_fault
 
 -- ---- 401: COMMON and frames of at most 16,777,216 cells, and at most 1,048,576 instructions in all units together
 

@@ -13,7 +13,7 @@ ghost use Rattle.hep_lower.specs.Units.{AreUnits};
 use crate::blocks::starts_of;
 use crate::mains::main_index;
 use crate::spellings::names_in_order;
-use crate::unit::MOST_INSTRUCTIONS;
+use hep_emit::MOST_INSTRUCTIONS;
 use crate::units::{LoweredUnits, lower_units};
 use hep_base::{Refusal as LowerFault, Sequence};
 use hep_check::Checked;

@@ -8,12 +8,12 @@ ghost use Rattle.hep_code.specs.Limits.{most_instructions};
 ghost use Rattle.hep_image.specs.Image.{most_cells};
 ghost use Rattle.hep_common.specs.Starts.{AreStarts};
 ghost use Rattle.hep_lower.specs.Refusals.{RefusesCode, fault_by};
-ghost use Rattle.hep_lower.specs.Tables.{greatest};
+ghost use Rattle.hep_emit.specs.Tables.{greatest};
 ghost use Rattle.hep_lower.specs.Units.{AreUnits, IsUnit};
 
-use crate::fault::EmitFault;
-use crate::lowered::lower_unit;
-use crate::unit::MOST_INSTRUCTIONS;
+use hep_emit::EmitFault;
+use hep_emit::lower_unit;
+use hep_emit::MOST_INSTRUCTIONS;
 use hep_base::{Refusal as LowerFault, Sequence};
 use hep_code::Instruction;
 use hep_common::CommonStarts;

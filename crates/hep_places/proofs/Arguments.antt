@@ -21,7 +21,7 @@ use Rattle.hep_bounds.specs.Sources.{source_by, source_of}
 use Rattle.hep_image.specs.declared.dummy.DummyArgument.{DummyArgument}
 use Rattle.hep_image.specs.declared.dummy.DummyArgument.TheVariants.{Scalar, Array, Adjustable}
 use Rattle.hep_image.specs.Dummies.{common_cell, common_cell_by, dummy_of}
-use Rattle.hep_storage.proofs.CellCounts.{adjustable}
+use Rattle.hep_values.proofs.CellCounts.{adjustable}
 use Rattle.hep_common.specs.Starts.{AreStarts}
 use Rattle.hep_common.specs.declared.starts.CommonStarts.{CommonStarts}
 use Rattle.hep_places.specs.Dummies.{array_found, cell_by, constant_array, dummy_found, source_found}

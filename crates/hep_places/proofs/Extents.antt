@@ -11,7 +11,7 @@ use Rattle.hep_machine.specs.Declarations.{dimensions_of, is_array, is_nonempty}
 use Rattle.hep_machine.specs.Shapes.{Bounds}
 use Rattle.hep_image.specs.declared.array.Extents.{Extents}
 use Rattle.hep_image.specs.declared.array.Extents.TheVariants.{Adjustable}
-use Rattle.hep_storage.proofs.CellCounts.{adjustable}
+use Rattle.hep_values.proofs.CellCounts.{adjustable}
 use Rattle.hep_common.specs.Starts.{narrowed}
 use Rattle.hep_places.specs.Found.{Table, constant_extents, extents_found}
 

@@ -13,7 +13,7 @@ use Rattle.hep_source.specs.Units.{Units}
 use Rattle.hep_machine.specs.Constants.{cells_of}
 use Rattle.hep_machine.specs.Declarations.{BlockName, block_holding, block_of, blocks_of, blocks_of_unit, common_block, entries_under, is_block_among, names_declared, same_block, with_blocks}
 use Rattle.hep_accepted.proofs.Members.{Has, has_flat, has_more}
-use Rattle.hep_storage.proofs.Pairs.{block-self}
+use Rattle.hep_values.proofs.BlockNames.{block-self}
 use Rattle.hep_frames.specs.Rows.{Row, block_row, first_in}
 use Rattle.hep_frames.proofs.Rows.{has_key}
 use Rattle.hep_common.specs.Starts.{narrowed}

@@ -2,7 +2,7 @@
 use Rattle.std.proofs.Common.{◌≡◌, ℕ, ◌+◌, Bool, true, false, Option, Some, refl, ap, ◌∙◌, if◌then◌else◌}
 use Rattle.std.specs.Option.{unwrap_or}
 use Rattle.hep_machine.specs.Declarations.{BlockName, same_block}
-use Rattle.hep_storage.proofs.Pairs.{block-equal}
+use Rattle.hep_values.proofs.BlockNames.{block-equal}
 use Rattle.hep_common.specs.Starts.{narrowed}
 
 pub length-set : (lengths : BlockName → Option ℕ) (k b : BlockName) (n v : ℕ) → v ≡ narrowed (unwrap_or (lengths k) 0 + n)

@@ -1,4 +1,3 @@
-pub mod Places
 pub mod Found
 pub mod Unit
 pub mod Dummies

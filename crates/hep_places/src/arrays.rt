@@ -15,9 +15,8 @@ use hep_image::{Array, Extents, Start};
 use hep_machine::Bound;
 use hep_shape::Shape;
 use hep_source::Name;
-use hep_storage::bounds_of;
 use hep_symbols::Symbols;
-use hep_types::Constants;
+use hep_values::{Constants, bounds_of};
 use std::alloc::{AllocError, Global};
 
 // Bounds that are all constant. No array of an accepted program has some that make no shape.

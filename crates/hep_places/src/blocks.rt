@@ -14,9 +14,8 @@ ghost use Rattle.hep_places.specs.Found as found;
 use crate::cells::further;
 use crate::notes::note;
 use hep_source::{CommonBlock, Declarator, Form, Name, Statement};
-use hep_storage::cells_of;
 use hep_symbols::Symbols;
-use hep_types::Constants;
+use hep_values::{Constants, cells_of};
 use indexmap::IndexMap;
 use std::alloc::{AllocError, Global};
 

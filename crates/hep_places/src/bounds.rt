@@ -13,7 +13,7 @@ use hep_bounds::BoundOperation;
 use hep_common::CommonStarts;
 use hep_source::{Dimension, Expr, Name, Node, UpperBound, Value};
 use hep_symbols::{Meaning, Symbols};
-use hep_types::Constants;
+use hep_values::Constants;
 use std::alloc::AllocError;
 
 // What is known of the names of a unit. The constants are all those of the unit.

@@ -11,7 +11,7 @@ use hep_image::DummyArgument;
 use hep_machine::Bound;
 use hep_shape::Shape;
 use hep_source::{Dimension, Name, Occurrence};
-use hep_storage::bounds_of;
+use hep_values::bounds_of;
 use std::alloc::{AllocError, Global};
 
 // An array whose bounds are all constant. No array of an accepted program has some that make no shape.

@@ -12,10 +12,8 @@ mod loops;
 mod names;
 mod notes;
 mod owners;
-pub mod places;
 mod tables;
 pub mod unit;
 mod variables;
 
-pub use places::Places;
 pub use unit::{UnitPlaces, unit_places};

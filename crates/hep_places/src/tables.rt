@@ -18,7 +18,7 @@ use hep_common::CommonStarts;
 use hep_image::Start;
 use hep_source::Name;
 use hep_symbols::Symbols;
-use hep_types::Constants;
+use hep_values::Constants;
 use indexmap::IndexMap;
 use std::alloc::{AllocError, Global};
 

@@ -12,7 +12,6 @@ use crate::bounds::Known;
 use crate::dummies::dummy_arguments;
 use crate::laws::arrays_are_few;
 use crate::owners::variables_in_frame;
-use crate::places::Places;
 use crate::tables::tables_of;
 use crate::variables::{private_among, variables_among};
 use hep_accepted::names::names_are_given_once;
@@ -20,8 +19,9 @@ use hep_accepted::values::arrays_have_shapes;
 use hep_common::CommonStarts;
 use hep_image::{Array, DummyArgument, FrameVariable};
 use hep_placed::laws::constant_shapes;
-use hep_storage::constants::constants;
 use hep_symbols::Symbols;
+use hep_values::given::constants;
+use hep_variables::Places;
 use std::alloc::{AllocError, Global};
 use std::mem::replace;
 

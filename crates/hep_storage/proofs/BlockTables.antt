@@ -10,30 +10,11 @@ use Rattle.hep_source.specs.declared.declaration.Declarator.{Declarator}
 use Rattle.hep_source.specs.declared.name.Name.{Name}
 use Rattle.hep_source.specs.declared.statement.Statement.{Statement}
 use Rattle.hep_source.specs.Names.{name_eq}
-use Rattle.hep_source.proofs.NameTests.{name_eq-is}
 use Rattle.hep_machine.specs.Declarations.{BlockName, same_block, block_of, blocks_in, blocks_of_unit, names_in_block, entries_under, names_declared}
 use Rattle.hep_check.specs.Common as conditions
+use Rattle.hep_values.proofs.BlockNames.{block-equal, block-self, changed, names-append, other-kept}
 use Rattle.hep_storage.specs.Blocks.{AreNoted, KnownPlaces, Holds, Has, HasContents, known, no_run, block, block_in, names_into, places_of_names, names_under, later_line}
 use Rattle.hep_storage.specs.declared.blocks.Contents.{Contents}
-use Rattle.hep_storage.proofs.Pairs.{block-equal, block-self}
-
--- ---- the test that a table of blocks makes is the definitions' test
-
-pub block_eq-is : (k b : BlockName) → option_eq name_eq k b ≡ same_block k b
-block_eq-is None None = refl
-block_eq-is None (Some y) = refl
-block_eq-is (Some x) None = refl
-block_eq-is (Some x) (Some y) = name_eq-is x y
-
-pub changed : {A : Type 0} (k b : BlockName) (new old : A) → cond (option_eq name_eq k b) new old ≡ (if same_block k b then new else old)
-changed k b new old = ap (λ t. cond t new old) (block_eq-is k b) ∙ by (same_block k b)
-  where
-    by : (t : Bool) → cond t new old ≡ (if t then new else old)
-    by true = refl
-    by false = refl
-
-pub other-kept : {A : Type 0} (k b : BlockName) (new old : A) → same_block k b ≡ false → cond (option_eq name_eq k b) new old ≡ old
-other-kept k b new old h = changed k b new old ∙ ap (λ t. if t then new else old) h
 
 -- what is seen at an index of a table is what is taken from there
 pub shown-taken : {A : Type 0} (f : BlockName → Option A) (seen : Option (Bor BlockName × Bor A)) → IfSome seen (λ p. f p.0.now ≡ Some p.1.now) → IfSome {T = BlockName × A} (option_map (λ p. (p.0.now, p.1.now)) seen) (λ p. f p.0 ≡ Some p.1)
@@ -45,10 +26,6 @@ some-then None h f = h
 some-then (Some x) h f = f x h
 
 -- ---- lists of COMMON
-
-pub names-append : (ds es : List Declarator) → names_declared (ds ++ es) ≡ names_declared ds ++ names_declared es
-names-append [] es = refl
-names-append (d ∷ ds) es = ap (λ xs. d.occurrence.name ∷ xs) (names-append ds es)
 
 pub names-next : (ds : List Declarator) (i : ℕ) (d e : Declarator) (xs : List Name) → i < length ds → e ≡ get_or ds i d
     → (xs ++ names_declared (take i ds)) ++ e.occurrence.name ∷ [] ≡ xs ++ names_declared (take (i + 1) ds)

@@ -10,14 +10,7 @@ use Rattle.hep_source.specs.Units.{Units}
 use Rattle.hep_machine.specs.Declarations.{BlockName, same_block, block_of, blocks_in, blocks_of_unit, blocks_of, with_blocks, is_block_among}
 use Rattle.hep_check.specs.Common as conditions
 use Rattle.hep_storage.specs.Blocks.{Block, block_in, known_places}
-use Rattle.hep_storage.proofs.Pairs.{block-equal, block-self}
-
-either-true : (a b : Bool) → a ≡ true → (a || b) ≡ true
-either-true a b h = ap (λ c. c || b) h
-
-or-true : (a b : Bool) → b ≡ true → (a || b) ≡ true
-or-true true b h = refl
-or-true false b h = h
+use Rattle.hep_values.proofs.BlockNames.{block-equal, block-self, either-true, or-true}
 
 any-append : {A : Type 0} (test : A → Bool) (xs ys : List A) → list_any test (xs ++ ys) ≡ (list_any test xs || list_any test ys)
 any-append test [] ys = refl

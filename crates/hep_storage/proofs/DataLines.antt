@@ -1,26 +1,22 @@
 -- The line that is reported of DATA, statement by statement.
-use Rattle.std.proofs.Common.{◌≡◌, Bool, true, false, not, ◌&&◌, ◌||◌, if◌then◌else◌, List, [], ◌∷◌, ◌++◌, Option, Some, None, is_some, refl, ap, sym, ◌∙◌, true≢false}
+use Rattle.std.proofs.Common.{◌≡◌, Bool, true, false, not, ◌&&◌, ◌||◌, List, [], ◌∷◌, ◌++◌, is_some, refl, ap, sym, ◌∙◌}
 use Rattle.std.specs.Prelude.{option_to_list}
 use Rattle.std.specs.List.{flat_map, list_any}
-use Rattle.std.specs.Option.{option_map, option_or}
-use Rattle.hep_source.specs.Names.{same_name}
+use Rattle.std.specs.Option.{option_map}
 use Rattle.hep_source.specs.Tree.{trees_of}
 use Rattle.hep_source.specs.declared.declaration.DataGroup.{DataGroup}
 use Rattle.hep_source.specs.declared.declaration.DataValue.{DataValue}
-use Rattle.hep_source.specs.declared.declaration.NamedConstant.{NamedConstant}
 use Rattle.hep_source.specs.declared.declaration.Target.{Target}
-use Rattle.hep_source.specs.declared.name.Name.{Name}
 use Rattle.hep_source.specs.declared.statement.Statement.{Statement}
-use Rattle.hep_source.specs.declared.value.Value.{Value}
-use Rattle.hep_machine.specs.Constants.{Constants, value_among, with_constant, given_by, value_of, values_of, constant_shape}
+use Rattle.hep_machine.specs.Constants.{Constants, value_among, given_by, values_of, constant_shape}
 use Rattle.hep_machine.specs.Data.{Stretch, groups_in, elements_named, repeat_of, value_of_constant, values_given}
-use Rattle.hep_machine.specs.Declarations.{is_nonempty, is_array, constants_in, named_constants}
+use Rattle.hep_machine.specs.Declarations.{is_nonempty, is_array, constants_in}
 use Rattle.hep_check.specs.Data.{name_repeated, known_targets, known_values, has_type, is_forbidden, is_outside, is_target_outside, is_value, is_wrong_group, is_misplaced, wrong_groups_from, share_element, elements_in, is_given_twice, given_twice_from, data_violations}
 use Rattle.hep_check.specs.Known.{known_before, same_length, holds_at_each_place}
 use Rattle.hep_check.specs.Reported.{reported, least_line, line_when}
 use Rattle.hep_check.specs.Violations.{first_of, at_line, when}
 use Rattle.hep_check.proofs.Lines.{reported-when, reported-append}
-use Rattle.hep_source.proofs.NameTests.{equal_names}
+use Rattle.hep_values.proofs.GivenInTurn.{given-same}
 use Rattle.hep_storage.specs.Given.{given_after}
 use Rattle.hep_storage.specs.Groups.{is_wrong, wrong_line, twice_line}
 
@@ -47,50 +43,6 @@ data-lines unit =
     (wrong-lines unit [] unit) (twice-lines unit [] [] unit)
 
 -- ---- constants that are the same for each name
-
-value_if : Bool → Value → Option Value
-value_if b v = if b then Some v else None
-
-appended : (cs : Constants) (x : Name) (v : Value) (y : Name) → value_among (cs ++ (x, v) ∷ []) y ≡ option_or (value_among cs y) (value_if (same_name x y) v)
-unfolding value_if
-appended [] x v y = refl
-appended (c ∷ cs) x v y = by (same_name c.0 y) (appended cs x v y)
-  where
-    by : (b : Bool) → value_among (cs ++ (x, v) ∷ []) y ≡ option_or (value_among cs y) (if same_name x y then Some v else None)
-        → (if b then Some c.1 else value_among (cs ++ (x, v) ∷ []) y) ≡ option_or (if b then Some c.1 else value_among cs y) (if same_name x y then Some v else None)
-    by true h = refl
-    by false h = h
-
-with-same : (k m : Constants) (x : Name) (v : Option Value) → value_among k ≡ value_among m → value_among (with_constant k x v) ≡ value_among (with_constant m x v)
-with-same k m x None h = h
-with-same k m x (Some v) h = λ i y. at y i
-  where
-    at : (y : Name) → value_among (k ++ (x, v) ∷ []) y ≡ value_among (m ++ (x, v) ∷ []) y
-    at y = appended k x v y ∙ (ap (λ (values : Name → Option Value). option_or (values y) (value_if (same_name x y) v)) h ∙ sym (appended m x v y))
-
-pub given-same : (unit : List Statement) (cs : List NamedConstant) (k m : Constants) → value_among k ≡ value_among m → value_among (given_by unit k cs) ≡ value_among (given_by unit m cs)
-given-same unit [] k m h = h
-given-same unit (c ∷ cs) k m h =
-    given-same unit cs (with_constant k c.occurrence.name (value_of unit (value_among k) c.value)) (with_constant m c.occurrence.name (value_of unit (value_among m) c.value))
-    (with-same k m c.occurrence.name (value_of unit (value_among k) c.value) h
-    ∙ ap (λ (values : Name → Option Value). value_among (with_constant m c.occurrence.name (value_of unit values c.value))) h)
-
--- a name that has a value keeps it
-pub added-same : (k : Constants) (x : Name) (v : Value) → value_among (if is_some (value_among k x) then k else with_constant k x (Some v)) ≡ value_among (with_constant k x (Some v))
-unfolding value_if
-added-same k x v = by (is_some (value_among k x)) refl
-  where
-    kept : is_some (value_among k x) ≡ true → (y : Name) → value_among k y ≡ value_among (k ++ (x, v) ∷ []) y
-    kept h y = by_test (value_among k y) refl (same_name x y) refl ∙ sym (appended k x v y)
-      where
-        by_test : (o : Option Value) → value_among k y ≡ o → (b : Bool) → same_name x y ≡ b → value_among k y ≡ option_or (value_among k y) (value_if (same_name x y) v)
-        by_test (Some w) e b f = e ∙ sym (ap (λ p. option_or p (value_if (same_name x y) v)) e)
-        by_test None e false f = e ∙ sym (ap (λ p. option_or p (value_if (same_name x y) v)) e ∙ ap (λ t. value_if t v) f)
-        by_test None e true f = absurd (true≢false (sym h ∙ ap is_some (ap (value_among k) (equal_names x y f) ∙ e)))
-
-    by : (b : Bool) → is_some (value_among k x) ≡ b → value_among (if b then k else with_constant k x (Some v)) ≡ value_among (with_constant k x (Some v))
-    by true e = λ i y. kept e y i
-    by false e = refl
 
 module _ (unit : List Statement) (k m : Constants) (h : value_among k ≡ value_among m) where
   targets-same : (ts : List Target) → known_targets unit k ts ≡ known_targets unit m ts
@@ -185,28 +137,3 @@ twice-reordered unit (s ∷ ss) known given others h =
     let here = twice-of-same given others es h in
     let more = twice-reordered unit ss (given_by unit known (constants_in s.form)) (es ++ given) (es ++ others) (λ e. any-append-same (share_element e) es given others (h e)) in
     λ i. least_line (line_when (here i) s.line) (more i)
-
--- ---- constants that are given in turn
-
-pub give-turn : (unit : List Statement) (cs more : List NamedConstant) (c : NamedConstant) (k m : Constants) (all : Name → Option Value) → cs ≡ c ∷ more
-    → value_among (given_by unit k cs) ≡ all → value_among m ≡ value_among (with_constant k c.occurrence.name (value_of unit (value_among k) c.value))
-    → value_among (given_by unit m more) ≡ all
-give-turn unit cs more c k m all next so_far e =
-    given-same unit more m (with_constant k c.occurrence.name (value_of unit (value_among k) c.value)) e
-    ∙ (ap (λ ds. value_among (given_by unit k ds)) (sym next) ∙ so_far)
-
-given-append : (unit : List Statement) (k : Constants) (cs ds : List NamedConstant) → given_by unit k (cs ++ ds) ≡ given_by unit (given_by unit k cs) ds
-given-append unit k [] ds = refl
-given-append unit k (c ∷ cs) ds = given-append unit (with_constant k c.occurrence.name (value_of unit (value_among k) c.value)) cs ds
-
-pub constants-turn : (unit ss more : List Statement) (s : Statement) (cs : List NamedConstant) (k m : Constants) (all : Name → Option Value) → ss ≡ s ∷ more
-    → value_among (given_by unit k (named_constants ss)) ≡ all → cs ≡ constants_in s.form → value_among m ≡ value_among (given_by unit k cs)
-    → value_among (given_by unit m (named_constants more)) ≡ all
-constants-turn unit ss more s cs k m all next so_far here e =
-    given-same unit (named_constants more) m (given_by unit k (constants_in s.form)) (e ∙ ap (λ ds. value_among (given_by unit k ds)) here)
-    ∙ (ap value_among (sym (given-append unit k (constants_in s.form) (named_constants more)))
-    ∙ (ap (λ us. value_among (given_by unit k (named_constants us))) (sym next) ∙ so_far))
-
-pub added-here : (k m : Constants) (x : Name) (v : Value) (o : Option Value) → o ≡ Some v → m ≡ (if is_some (value_among k x) then k else with_constant k x (Some v))
-    → value_among m ≡ value_among (with_constant k x o)
-added-here k m x v o e h = ap value_among h ∙ (added-same k x v ∙ ap (λ w. value_among (with_constant k x w)) (sym e))

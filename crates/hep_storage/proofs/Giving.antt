@@ -21,7 +21,7 @@ use Rattle.hep_source.proofs.NameTests.{name_eq-is, equal_names, same_name-turne
 use Rattle.hep_storage.specs.Given.{element_eq, IsNamed, Describes}
 use Rattle.hep_storage.specs.declared.given.Element.{Element}
 use Rattle.hep_storage.specs.declared.given.Stretch.TheVariants.{One, All}
-use Rattle.hep_storage.proofs.Elements.{number-within, same-element, product-parts}
+use Rattle.hep_values.proofs.Elements.{number-within, same-element, product-parts}
 
 -- ---- shapes
 
@@ -276,7 +276,3 @@ on-three (Err e) p q r f = tt
 pub if-so : {A E : Type 0} (P Q : A → Type 0) (r : Result A E) → IfOk r P → ((x : A) → P x → Q x) → IfOk r Q
 if-so P Q (Ok x) p f = f x p
 if-so P Q (Err e) p f = tt
-
-pub on-so : {A E P Q : Type 0} (r : Result A E) → OnOk r P → (P → Q) → OnOk r Q
-on-so (Ok x) p f = f p
-on-so (Err e) p f = tt

@@ -1,6 +1,5 @@
 pub mod Places
 pub mod Meetings
-pub mod Elements
 pub mod Giving
 pub mod Groups
 pub mod DataLines
@@ -17,4 +16,3 @@ pub mod Listings
 pub mod BlockTables
 pub mod BlocksNamed
 pub mod Joins
-pub mod CellCounts

@@ -13,7 +13,7 @@ use Rattle.hep_storage.specs.Blocks.{AreNoted, KnownPlaces, is_first_block, name
 use Rattle.hep_storage.specs.Spread.{repeat_before}
 use Rattle.hep_storage.specs.declared.runs.Position.{Position}
 use Rattle.hep_storage.specs.declared.runs.Run.{Run}
-use Rattle.hep_storage.proofs.Pairs.{block-equal}
+use Rattle.hep_values.proofs.BlockNames.{block-equal}
 
 -- ---- names
 

@@ -4,7 +4,7 @@ use Rattle.std.proofs.lemmas.Bool.Decides.{nat_tests}
 use Rattle.hep_machine.specs.Declarations.{BlockName, same_block, is_block_among}
 use Rattle.hep_check.specs.Reported.{least_line, least_line_of}
 use Rattle.hep_check.proofs.Lines.{least_line-assoc, least_line-comm, least_line_of-both}
-use Rattle.hep_source.proofs.NameTests.{equal_names, same_name-self}
+use Rattle.hep_values.proofs.BlockNames.{block-equal, block-self, either-true, or-true}
 
 pub least_line-self : (a : Option ℕ) → least_line a a ≡ a
 least_line-self None = refl
@@ -41,23 +41,6 @@ module _ {U : Type 0} (line : U → U → Option ℕ) where
   pairs-from-start us = pairs-later [] us
 
 -- ---- the blocks of a unit, or all blocks
-
-pub block-equal : (b c : BlockName) → same_block b c ≡ true → b ≡ c
-block-equal None None h = refl
-block-equal None (Some y) h = absurd (true≢false (sym h))
-block-equal (Some x) None h = absurd (true≢false (sym h))
-block-equal (Some x) (Some y) h = ap Some (equal_names x y h)
-
-pub block-self : (b : BlockName) → same_block b b ≡ true
-block-self None = refl
-block-self (Some x) = same_name-self x
-
-either-true : (a b : Bool) → a ≡ true → (a || b) ≡ true
-either-true a b h = ap (λ c. c || b) h
-
-pub or-true : (a b : Bool) → b ≡ true → (a || b) ≡ true
-or-true true b h = refl
-or-true false b h = h
 
 module _ (line : BlockName → Option ℕ) where
   pub absorbed : (b : BlockName) (bs : List BlockName) → is_block_among b bs ≡ true → least_line (line b) (least_line_of line bs) ≡ least_line_of line bs

@@ -11,9 +11,10 @@ use Rattle.hep_check.proofs.Lines.{least_line-none, least_line-assoc, least_line
 use Rattle.hep_storage.specs.Agreement.{Summed, summed, summed_at, with_list, with_block, line_after, least_after, least_of_blocks, least_of_left, AreAmong}
 use Rattle.hep_storage.specs.Blocks.{Block, block_in}
 use Rattle.hep_storage.specs.declared.agreement.Summary.{Summary}
-use Rattle.hep_storage.proofs.BlockTables.{changed}
+use Rattle.hep_values.proofs.BlockNames.{changed}
 use Rattle.hep_storage.proofs.BlocksNamed.{unit-among}
-use Rattle.hep_storage.proofs.Pairs.{absorbed, block-equal, least_line-self, nones}
+use Rattle.hep_values.proofs.BlockNames.{block-equal}
+use Rattle.hep_storage.proofs.Pairs.{absorbed, least_line-self, nones}
 
 -- ---- one unit more
 

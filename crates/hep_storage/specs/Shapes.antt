@@ -1,12 +1,10 @@
 -- What tables say of the shapes of arrays, and what names in DATA stand for: X3.9-1978, 5.2 and 9.2.
 use Rattle.std.specs.Prelude.{◌≡◌, ℕ, ℤ, Bool, true, false, nat_eq, List, length, Option, Some, None, is_some}
-use Rattle.hep_source.specs.declared.declaration.Dimension.{Dimension}
 use Rattle.hep_source.specs.declared.declaration.Target.{Target}
 use Rattle.hep_source.specs.declared.name.Name.{Name}
 use Rattle.hep_source.specs.declared.statement.Statement.{Statement}
-use Rattle.hep_machine.specs.Constants.{Constants, Values, value_among, constant_value, lower_value, upper_value, bound_of, shape_by}
+use Rattle.hep_machine.specs.Constants.{Constants, value_among, constant_value, shape_by}
 use Rattle.hep_machine.specs.Data.{Stretch, elements_named}
-use Rattle.hep_machine.specs.declared.shape.Bound.{Bound}
 use Rattle.hep_machine.specs.Shapes.{Bounds, elements, element_number}
 use Rattle.hep_check.specs.Data.{is_target_outside}
 use Rattle.hep_storage.specs.Given.{IsNamed}
@@ -14,9 +12,6 @@ use Rattle.hep_storage.specs.declared.given.Stretch.TheVariants.{One, All}
 use Rattle.hep_storage.specs.declared.shapes.ArrayShape.{ArrayShape}
 use Rattle.hep_storage.specs.declared.shapes.Named.{Named}
 use Rattle.hep_storage.specs.declared.shapes.Named.TheVariants.{Open, Outside, Elements}
-
-abbrev pub bound_by : List Statement → Values → Dimension → Option Bound
-bound_by unit values d = bound_of (lower_value unit values d.lower) (upper_value unit values d.upper)
 
 -- the shape of an array, if it has one
 abbrev pub IsShaped : Option ArrayShape → Option Bounds → Type 0

@@ -21,40 +21,8 @@ use crate::runs::{Known, Position, Run, agree};
 use crate::shapes::{Named, ShapeTable};
 use hep_source::{DataConstant, DataGroup, DataValue, Name, Repeat, Target, Value, ValueType};
 use hep_symbols::Symbols;
-use hep_types::Constants;
+use hep_values::{Constants, repeat_of, value_of_constant};
 use std::alloc::{AllocError, Global};
-
-fn count_by(value: Option<Value>) -> Option<u64>
-    ensures { result ≡ machine.count_by value }
-{
-    match value {
-        Some(Value::Int(count)) if 1 <= count => Some(count.unsigned_abs()),
-        _ => None,
-    }
-}
-
-/// How often a value of DATA is given, by these constants: once without a repeat count (9.1). None where a name has no
-/// value, or one that isn't an integer from 1.
-pub fn repeat_of(constants: &Constants, repeat: Option<Repeat>) -> Option<u64>
-    ensures { result ≡ machine.repeat_of (value_among constants.now) repeat }
-{
-    match repeat {
-        None => Some(1),
-        Some(Repeat::Count(count)) if 0 <= count => Some(count.unsigned_abs()),
-        Some(Repeat::Count(_)) => Some(0),
-        Some(Repeat::Named(occurrence)) => count_by(constants.get(&occurrence.name)),
-    }
-}
-
-/// The value of a constant in DATA, by these constants; none where it is a name that has no value.
-pub fn value_of_constant(constants: &Constants, constant: DataConstant) -> Option<Value>
-    ensures { result ≡ machine.value_of_constant (value_among constants.now) constant }
-{
-    match constant {
-        DataConstant::Value(value) => Some(value),
-        DataConstant::Named(occurrence) => constants.get(&occurrence.name),
-    }
-}
 
 fn type_of_value(value: Value) -> ValueType
     ensures { result ≡ types.type_of_value value }

@@ -4,9 +4,7 @@
 
 mod agreement;
 mod blocks;
-pub mod cells;
 mod common;
-pub mod constants;
 mod data;
 mod given;
 mod runs;
@@ -14,7 +12,4 @@ mod shapes;
 mod violation;
 
 pub use agreement::common_violation;
-pub use cells::{adjustable_dimensions, cells_of};
-pub use data::{repeat_of, value_of_constant};
-pub use shapes::{bounds_of, integers};
 pub use violation::data_violation;

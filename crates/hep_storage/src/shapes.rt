@@ -11,13 +11,13 @@ ghost use Rattle.hep_machine.specs.Shapes.{element_number, is_within};
 ghost use Rattle.hep_source.specs.Names.{name_eq};
 ghost use Rattle.hep_storage.specs.Shapes as shapes;
 
-use crate::constants::constants;
 use crate::given::{Element, Stretch};
 use hep_machine::Bound;
 use hep_shape::Shape;
 use hep_source::{Dimension, Expr, Name, Target, UpperBound, Value};
 use hep_symbols::Symbols;
-use hep_types::{Constants, value_of};
+use hep_values::given::constants;
+use hep_values::{Constants, bounds_of, integers};
 use indexmap::IndexMap;
 use std::alloc::{AllocError, Global};
 
@@ -38,39 +38,6 @@ pub enum Named {
     Elements(Stretch),
 }
 
-fn integer_of(value: Value) -> i64
-    ensures { result ≡ arithmetic.integer_of value }
-{
-    match value {
-        Value::Int(integer) => integer,
-        Value::Truth(_) => 0,
-    }
-}
-
-/// The integers of expressions in a row, by these constants; none where one has no value.
-///
-/// # Errors
-///
-/// Only where memory was refused.
-pub fn integers(
-    alloc: Global,
-    symbols: &Symbols,
-    constants: &Constants,
-    expressions: &[Expr],
-) -> Result<Option<Vec<i64>>, AllocError>
-    ensures { IfOk result (λ integers. option_map (λ v. v.items) integers
-        ≡ option_map integers_of (values.values_of symbols.now (values.value_among constants.now) (trees_of expressions.now))) }
-{
-    let mut integers = Vec::new(alloc);
-    for expression in expressions {
-        match value_of(alloc, symbols, constants, expression)? {
-            Some(value) => integers.push(integer_of(value))?,
-            None => return Ok(None),
-        }
-    }
-    Ok(Some(integers))
-}
-
 fn is_within(bound: &Bound, subscript: i64) -> bool
     ensures { result ≡ is_within bound.now subscript }
 {
@@ -88,80 +55,6 @@ fn are_within(bounds: &[Bound], subscripts: &[i64]) -> bool
         }
     }
     true
-}
-
-fn lower_bound(
-    alloc: Global,
-    symbols: &Symbols,
-    constants: &Constants,
-    lower: &Option<Expr>,
-) -> Result<Option<i64>, AllocError>
-    ensures { IfOk result (λ bound. bound ≡ values.lower_value symbols.now (values.value_among constants.now) lower.now) }
-{
-    match lower {
-        Some(lower) => match value_of(alloc, symbols, constants, lower)? {
-            Some(value) => Ok(Some(integer_of(value))),
-            None => Ok(None),
-        },
-        None => Ok(Some(1)),
-    }
-}
-
-fn upper_bound(
-    alloc: Global,
-    symbols: &Symbols,
-    constants: &Constants,
-    upper: &UpperBound,
-) -> Result<Option<Option<i64>>, AllocError>
-    ensures { IfOk result (λ bound. bound ≡ values.upper_value symbols.now (values.value_among constants.now) upper.now) }
-{
-    match upper {
-        UpperBound::Expression(upper) => match value_of(alloc, symbols, constants, upper)? {
-            Some(value) => Ok(Some(Some(integer_of(value)))),
-            None => Ok(None),
-        },
-        UpperBound::Open => Ok(Some(None)),
-    }
-}
-
-fn bound_of(
-    alloc: Global,
-    symbols: &Symbols,
-    constants: &Constants,
-    dimension: &Dimension,
-) -> Result<Option<Bound>, AllocError>
-    ensures { IfOk result (λ bound. bound ≡ shapes.bound_by symbols.now (values.value_among constants.now) dimension.now) }
-{
-    let lower = lower_bound(alloc, symbols, constants, &dimension.lower)?;
-    let upper = upper_bound(alloc, symbols, constants, &dimension.upper)?;
-    match (lower, upper) {
-        (Some(lower), Some(upper)) => Ok(Some(Bound { lower, upper })),
-        _ => Ok(None),
-    }
-}
-
-/// The bounds of these dimensions; none where one has no value.
-///
-/// # Errors
-///
-/// Only where memory was refused.
-pub fn bounds_of(
-    alloc: Global,
-    symbols: &Symbols,
-    constants: &Constants,
-    dimensions: &[Dimension],
-) -> Result<Option<Vec<Bound>>, AllocError>
-    ensures { IfOk result (λ bounds. option_map (λ v. v.items) bounds
-        ≡ values.bounds_of symbols.now (values.value_among constants.now) dimensions.now) }
-{
-    let mut bounds = Vec::new(alloc);
-    for dimension in dimensions {
-        match bound_of(alloc, symbols, constants, dimension)? {
-            Some(bound) => bounds.push(bound)?,
-            None => return Ok(None),
-        }
-    }
-    Ok(Some(bounds))
 }
 
 // The shape of an array with these bounds, if there are any and they make one.

@@ -11,7 +11,6 @@ ghost use Rattle.hep_storage.specs.Given.{Gives};
 ghost use Rattle.hep_storage.specs.Groups as passes;
 ghost use Rattle.hep_storage.specs.Shapes.{IsTable};
 
-use crate::constants::give;
 use crate::data::is_wrong_group;
 use crate::given::Given;
 use crate::shapes::{Named, ShapeTable};
@@ -19,8 +18,9 @@ use hep_check::Violation;
 use hep_check::reported::{lesser, line_when, reported};
 use hep_source::{DataGroup, Form, Statement, Target};
 use hep_symbols::Symbols;
-use hep_types::Constants;
-use hep_types::declarators::{constants_in, groups_in};
+use hep_values::Constants;
+use hep_values::given::give;
+use hep_values::statements::{constants_in, groups_in};
 use std::alloc::{AllocError, Global};
 
 fn is_main(symbols: &Symbols) -> bool

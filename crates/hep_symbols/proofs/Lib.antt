@@ -4,3 +4,4 @@ pub mod Firsts
 pub mod Trees
 pub mod Passes
 pub mod Owned
+pub mod PartsGiven

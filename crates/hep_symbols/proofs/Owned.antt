@@ -1,28 +1,14 @@
 -- The local variables of a unit, by its tables.
-use Rattle.std.proofs.Common.{◌≡◌, ℕ, suc, Bool, true, false, not, ◌&&◌, is_some, Option, Some, None, List, [], ◌∷◌, refl, ap, sym, ◌∙◌, if◌then◌else◌}
-use Rattle.std.specs.List.{filter, flat_map}
-use Rattle.std.proofs.lemmas.List.{map-append}
+use Rattle.std.proofs.Common.{◌≡◌, ℕ, suc, Bool, true, false, not, ◌&&◌, is_some, Option, Some, None, List, [], ◌∷◌, refl, ap, ◌∙◌, if◌then◌else◌}
+use Rattle.std.specs.List.{filter}
 use Rattle.std.specs.Option.{option_map}
 use Rattle.hep_source.specs.declared.name.Name.{Name}
-use Rattle.hep_source.specs.declared.name.Occurrence.{Occurrence}
 use Rattle.hep_source.specs.declared.statement.Statement.{Statement}
-use Rattle.hep_source.specs.Names.{same_name, is_among, index_among, with_names}
-use Rattle.hep_source.specs.Units.{dummies_of, names_of_occurrences}
-use Rattle.hep_source.proofs.NameTests.{with_names-append}
+use Rattle.hep_source.specs.Names.{same_name, is_among, index_among}
+use Rattle.hep_source.specs.Units.{dummies_of}
 use Rattle.hep_machine.specs.Declarations.{BlockName, common_block, is_constant_name}
 use Rattle.hep_machine.specs.Variables.{is_local, names_of, locals_of}
 use Rattle.hep_symbols.specs.Tables.{is_local_by}
-
--- a turn of a loop that adds the names of each statement
-pub names-turn : (f : Statement → List Occurrence) (found next whole : List Name) (s : Statement) (ss more : List Statement)
-    → with_names found (names_of_occurrences (flat_map f ss)) ≡ whole → next ≡ with_names found (names_of_occurrences (f s)) → ss ≡ s ∷ more → with_names next (names_of_occurrences (flat_map f more)) ≡ whole
-names-turn f found next whole s ss more h n d =
-    let here = names_of_occurrences (f s) in
-    let rest = names_of_occurrences (flat_map f more) in
-    ap (λ xs. with_names xs rest) n
-    ∙ (sym (with_names-append found here rest)
-    ∙ (ap (with_names found) (sym (map-append (λ (p : Occurrence). p.name) (f s) (flat_map f more)))
-    ∙ (ap (λ ts. with_names found (names_of_occurrences (flat_map f ts))) (sym d) ∙ h)))
 
 some-index : (o : Option ℕ) → is_some (option_map suc o) ≡ is_some o
 some-index None = refl

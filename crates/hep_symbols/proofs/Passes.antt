@@ -13,7 +13,7 @@ use Rattle.hep_source.specs.declared.name.Occurrence.{Occurrence}
 use Rattle.std.proofs.lemmas.List.{length-map}
 use Rattle.hep_source.specs.declared.declaration.DataGroup.{DataGroup}
 use Rattle.hep_source.specs.declared.statement.Form.{Form}
-use Rattle.hep_source.specs.declared.statement.Form.TheVariants.{Program, Subroutine, Implicit, Declare, Dimension, Common, Parameter, Data, Assign, GoTo, ComputedGoTo, ArithmeticIf, IfThen, ElseIf, Else, EndIf, Do, Call, Create, Purge, Print, Continue, Return, Stop, End}
+use Rattle.hep_source.specs.declared.statement.Form.TheVariants.{Data, Assign, Purge}
 use Rattle.hep_source.specs.declared.statement.Statement.{Statement}
 use Rattle.hep_check.specs.Counts.{count_of, takes_actuals}
 use Rattle.hep_check.specs.Statements.{targets_assigned, targets_in_data, targets_purged, targets_of_groups}
@@ -53,28 +53,7 @@ pub unknown-targets : (unit : List Statement) (line : ℕ) (f : Form)
 unknown-targets unit line (Assign x t) = sym (append-nil (unknown_target unit line x))
 unknown-targets unit line (Data gs) = groups-targets unit line gs ∙ ap (flat_map (unknown_target unit line)) (sym (append-nil (targets_of_groups gs)))
 unknown-targets unit line (Purge ts) = refl
-unknown-targets unit line (Program p) = refl
-unknown-targets unit line (Subroutine p ds) = refl
-unknown-targets unit line (Implicit gs) = refl
-unknown-targets unit line (Declare t ds) = refl
-unknown-targets unit line (Dimension ds) = refl
-unknown-targets unit line (Common bs) = refl
-unknown-targets unit line (Parameter cs) = refl
-unknown-targets unit line (GoTo l) = refl
-unknown-targets unit line (ComputedGoTo ls t) = refl
-unknown-targets unit line (ArithmeticIf t ls) = refl
-unknown-targets unit line (IfThen t) = refl
-unknown-targets unit line (ElseIf t) = refl
-unknown-targets unit line Else = refl
-unknown-targets unit line EndIf = refl
-unknown-targets unit line (Do c) = refl
-unknown-targets unit line (Call p ts) = refl
-unknown-targets unit line (Create p ts) = refl
-unknown-targets unit line (Print is) = refl
-unknown-targets unit line Continue = refl
-unknown-targets unit line Return = refl
-unknown-targets unit line Stop = refl
-unknown-targets unit line End = refl
+unknown-targets unit line _ = refl
 
 pub dummies_counted : (ps : List Occurrence) (unit : List Statement) → names_of_occurrences ps ≡ dummies_of unit → length ps ≡ length (dummies_of unit)
 dummies_counted ps unit h = sym (length-map ps (λ (p : Occurrence). p.name)) ∙ ap length h

@@ -1,19 +1,17 @@
 -- What statements say, one after the other.
-use Rattle.std.proofs.Common.{◌≡◌, ℕ, suc, ◌+◌, Bool, true, false, refl, ap, sym, ◌∙◌, if◌then◌else◌, List, [], ◌∷◌, ◌++◌, Option, Some, arith, max, ◌≤◌}
+use Rattle.std.proofs.Common.{◌≡◌, ℕ, suc, ◌+◌, Bool, true, false, refl, ap, sym, ◌∙◌, if◌then◌else◌, List, [], ◌∷◌, ◌++◌, Some, arith, max, ◌≤◌}
 use Rattle.std.specs.Option.{option_or, option_map}
 use Rattle.std.proofs.lemmas.List.Folds.{find-append}
 use Rattle.hep_source.specs.declared.declaration.CommonBlock.{CommonBlock}
-use Rattle.hep_source.specs.declared.declaration.Declarator.{Declarator}
 use Rattle.hep_source.specs.declared.name.Name.{Name}
 use Rattle.hep_source.specs.declared.name.Occurrence.{Occurrence}
 use Rattle.hep_source.specs.declared.statement.Form.{Form}
-use Rattle.hep_source.specs.declared.statement.Form.TheVariants.{Program, Subroutine, Implicit, Declare, Dimension, Common, Parameter, Data, Assign, GoTo, ComputedGoTo, ArithmeticIf, IfThen, ElseIf, Else, EndIf, Do, Call, Create, Purge, Print, Continue, Return, Stop, End}
+use Rattle.hep_source.specs.declared.statement.Form.TheVariants.{Subroutine}
 use Rattle.hep_source.specs.declared.statement.Statement.{Statement}
 use Rattle.hep_source.specs.declared.declaration.NamedConstant.{NamedConstant}
 use Rattle.hep_source.specs.Names.{same_name, is_among, index_among}
 use Rattle.hep_source.specs.Units.{Units, is_named, subroutine_name, subroutine_called, names_of_occurrences, dummies_by_header, dummies_of}
-use Rattle.hep_machine.specs.Declarations.{block_of, blocks_in, blocks_of_unit, block_holding, common_block, names_declared, named_constants, names_of_constants, constants_in, is_constant_name, declarator_among, declarators_in, declarators_of, entries_of_blocks}
-use Rattle.hep_symbols.proofs.Notes.{or-assoc}
+use Rattle.hep_machine.specs.Declarations.{block_of, blocks_in, blocks_of_unit, block_holding, common_block, names_declared, named_constants, names_of_constants, constants_in, is_constant_name, declarator_among, declarators_in, declarators_of}
 use Rattle.std.specs.Prelude.{◌&&◌, nat_le, nat_lt}
 use Rattle.std.proofs.lemmas.Bool.Decides.{nat_tests}
 use Rattle.hep_symbols.specs.Tables.{either, first_in, any_in, index_from, called_from, given, dummies_in, dummies_by_form, block_by_form, constant_by_form, declarator_by_form}
@@ -41,10 +39,6 @@ constants-append x (b ∷ bs) cs = by (same_name x b.occurrence.name) (constants
 pub constant-by-statements : (x : Name) (ss : List Statement) → any_in (constant_by_form x) ss ≡ is_constant_name ss x
 constant-by-statements x [] = refl
 constant-by-statements x (s ∷ ss) = ap (either (is_among x (names_of_constants (constants_in s.form)))) (constant-by-statements x ss) ∙ sym (constants-append x (constants_in s.form) (named_constants ss))
-
-pub among-next : (x : Name) (o : Option Declarator) (b : CommonBlock) (bs : List CommonBlock)
-    → option_or (option_or o (declarator_among x b.entries)) (declarator_among x (entries_of_blocks bs)) ≡ option_or o (declarator_among x (entries_of_blocks (b ∷ bs)))
-among-next x o b bs = or-assoc o (declarator_among x b.entries) (declarator_among x (entries_of_blocks bs)) ∙ ap (option_or o) (sym (find-append _ b.entries (entries_of_blocks bs)))
 
 -- letters of a range, as far as they are gone over
 pub letters-over : (c first last i : ℕ) → last + 1 ≤ i → i ≤ max first (last + 1) → (nat_le first c && nat_lt c i) ≡ (nat_le first c && nat_le c last)
@@ -76,31 +70,8 @@ index-from-start x (p ∷ ps) = by (same_name x p.name) (index-on 0 x ps ∙ ap 
     by false h = h
 
 dummies-by-form : (f : Form) → names_of_occurrences (dummies_by_form f) ≡ dummies_by_header f
-dummies-by-form (Program p) = refl
 dummies-by-form (Subroutine p ds) = refl
-dummies-by-form (Implicit gs) = refl
-dummies-by-form (Declare t ds) = refl
-dummies-by-form (Dimension ds) = refl
-dummies-by-form (Common bs) = refl
-dummies-by-form (Parameter cs) = refl
-dummies-by-form (Data gs) = refl
-dummies-by-form (Assign x t) = refl
-dummies-by-form (GoTo l) = refl
-dummies-by-form (ComputedGoTo ls t) = refl
-dummies-by-form (ArithmeticIf t ls) = refl
-dummies-by-form (IfThen t) = refl
-dummies-by-form (ElseIf t) = refl
-dummies-by-form Else = refl
-dummies-by-form EndIf = refl
-dummies-by-form (Do c) = refl
-dummies-by-form (Call p ts) = refl
-dummies-by-form (Create p ts) = refl
-dummies-by-form (Purge ts) = refl
-dummies-by-form (Print is) = refl
-dummies-by-form Continue = refl
-dummies-by-form Return = refl
-dummies-by-form Stop = refl
-dummies-by-form End = refl
+dummies-by-form _ = refl
 
 pub dummies-by-header : (x : Name) (ss : List Statement) → index_from 0 x (dummies_in ss) ≡ index_among x (dummies_of ss)
 dummies-by-header x [] = refl

@@ -3,3 +3,4 @@ pub mod Statements
 pub mod Lists
 pub mod Passes
 pub mod Meanings
+pub mod Parts

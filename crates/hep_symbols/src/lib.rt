@@ -4,11 +4,12 @@
 
 mod arrays;
 pub mod counts;
-mod expressions;
+pub mod declarators;
 pub mod functions;
 pub mod lists;
 mod names;
 pub mod occurrences;
+mod parts;
 pub mod program;
 mod specification;
 pub mod symbols;

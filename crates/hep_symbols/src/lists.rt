@@ -1,12 +1,10 @@
 //! The names with lists in a statement.
 ghost use Rattle.std.specs.Prelude.{◌≡◌, ◌++◌, map, IfOk, OnOk};
-ghost use Rattle.std.specs.List.{flat_map};
 ghost use Rattle.hep_source.specs.Tree.{trees_of};
 ghost use Rattle.hep_check.specs.Statements as statements;
-ghost use Rattle.hep_symbols.specs.Statements.{rest_after};
 ghost use Rattle.hep_symbols.specs.Lists.{listed};
 
-use crate::expressions::expressions;
+use crate::parts::{Part, parts_of};
 use hep_source::{Expr, Node, Occurrence, Statement};
 use std::alloc::{AllocError, Global};
 
@@ -60,28 +58,24 @@ fn add_in_list<'a>(found: &mut Found<'a>, list: &'a [Expr]) -> Result<(), AllocE
     }
 }
 
-fn add_in_each<'a>(found: &mut Found<'a>, expressions: &[&'a Expr]) -> Result<(), AllocError>
-    ensures { OnOk result (map listed found.new.items ≡ map listed found.old.items ++ flat_map statements.names_with_lists_in (rest_after expressions.now)) }
-{
-    for expression in expressions {
-        add_in(found, expression)?;
-    }
-    Ok(())
-}
-
 /// The names with lists in the expressions of a statement, in the order of its text.
 ///
 /// # Errors
 ///
 /// Only where memory was refused.
+#[tactic(auto, using(crate::proofs::PartsGiven::parts_trees))]
 pub fn names_with_lists(
     alloc: Global,
     statement: &Statement,
 ) -> Result<Vec<NameWithList<'_>>, AllocError>
     ensures { IfOk result (λ found. map listed found.items ≡ statements.names_with_lists statement.now) }
 {
-    let expressions = expressions(alloc, statement)?;
+    let parts = parts_of(alloc, statement)?;
     let mut found = Vec::new(alloc);
-    add_in_each(&mut found, &expressions)?;
+    for part in &parts {
+        if let Part::Expression(expression) = part {
+            add_in(&mut found, expression)?;
+        }
+    }
     Ok(found)
 }

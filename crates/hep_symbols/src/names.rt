@@ -9,7 +9,7 @@ ghost use Rattle.hep_machine.specs.Variables as variables;
 ghost use Rattle.hep_symbols.specs.Tables as tables;
 
 use crate::arrays::Arrays;
-use crate::occurrences::occurrences_by;
+use crate::occurrences::occurrences_of;
 use crate::table::{NameSet, Table};
 use hep_source::{Name, Occurrence};
 use indexmap::IndexSet;
@@ -35,13 +35,11 @@ fn add_names(names: &mut IndexSet<Name>, occurrences: &[Occurrence]) -> Result<(
 pub(crate) fn names_of(alloc: Global, arrays: &Arrays) -> Result<NameSet, AllocError>
     ensures { IfOk result (λ names. names.set.keys ≡ variables.names_of arrays.now) }
 {
+    let occurrences = occurrences_of(alloc, arrays)?;
     let mut names = NameSet {
         set: IndexSet::new(alloc),
     };
-    for statement in arrays.statements() {
-        let occurrences = occurrences_by(alloc, arrays, statement)?;
-        add_names(&mut names.set, &occurrences)?;
-    }
+    add_names(&mut names.set, &occurrences)?;
     Ok(names)
 }
 

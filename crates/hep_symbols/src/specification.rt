@@ -8,9 +8,11 @@ ghost use Rattle.hep_source.specs.Units as units;
 ghost use Rattle.hep_source.specs.Names as names;
 ghost use Rattle.hep_source.specs.declared.name.Name.{Name as PureName};
 ghost use Rattle.hep_machine.specs.Declarations as declarations;
+ghost use Rattle.hep_symbols.specs.Statements.{rest_after};
 ghost use Rattle.hep_symbols.specs.Tables as tables;
 ghost use Rattle.hep_source.specs.Names.{name_eq};
 
+use crate::declarators::declarators_in;
 use crate::table::{NameSet, Table, add, note};
 use hep_source::{
     CommonBlock, Declarator, Form, ImplicitGroup, LetterRange, Name, NamedConstant, Occurrence,
@@ -160,26 +162,13 @@ fn note_array<'a>(
 
 fn note_arrays<'a>(
     arrays: &mut IndexMap<Name, &'a Declarator>,
-    declarators: &'a [Declarator],
+    declarators: &[&'a Declarator],
 ) -> Result<(), AllocError>
     ensures { OnOk result ((x : PureName) → tables.seen (get name_eq arrays.new x)
-        ≡ option_or (tables.seen (get name_eq arrays.old x)) (declarations.declarator_among x declarators.now)) }
+        ≡ option_or (tables.seen (get name_eq arrays.old x)) (declarations.declarator_among x (rest_after declarators.now))) }
 {
     for declarator in declarators {
         note_array(arrays, declarator)?;
-    }
-    Ok(())
-}
-
-fn note_block_arrays<'a>(
-    arrays: &mut IndexMap<Name, &'a Declarator>,
-    blocks: &'a [CommonBlock],
-) -> Result<(), AllocError>
-    ensures { OnOk result ((x : PureName) → tables.seen (get name_eq arrays.new x)
-        ≡ option_or (tables.seen (get name_eq arrays.old x)) (declarations.declarator_among x (declarations.entries_of_blocks blocks.now))) }
-{
-    for block in blocks {
-        note_arrays(arrays, block.entries.as_slice())?;
     }
     Ok(())
 }
@@ -194,14 +183,8 @@ pub(crate) fn arrays<'a>(
 {
     let mut arrays = IndexMap::new(alloc);
     for statement in unit {
-        match &statement.form {
-            Form::Declare(_, declarators) | Form::Dimension(declarators) => note_arrays(
-                &mut arrays,
-                declarators.as_slice(),
-            )?,
-            Form::Common(blocks) => note_block_arrays(&mut arrays, blocks.as_slice())?,
-            _ => {}
-        }
+        let declarators = declarators_in(alloc, &statement.form)?;
+        note_arrays(&mut arrays, &declarators)?;
     }
     Ok(arrays)
 }

@@ -1,5 +1,5 @@
 -- Bounds of arrays, dimension by dimension.
-use Rattle.std.proofs.Common.{◌≡◌, suc, Bool, true, false, ◌&&◌, ◌||◌, if◌then◌else◌, Option, Some, None, is_some, List, [], ◌∷◌, ◌++◌, length, refl, ap, sym, ◌∙◌}
+use Rattle.std.proofs.Common.{◌≡◌, suc, Bool, true, false, ◌&&◌, ◌||◌, if◌then◌else◌, Option, Some, None, is_some, List, [], ◌∷◌, length, refl, ap, sym, ◌∙◌}
 use Rattle.std.specs.Bool.{◌==◌}
 use Rattle.std.specs.List.{list_all, list_any, flat_map}
 use Rattle.std.specs.Option.{option_map}
@@ -9,8 +9,6 @@ use Rattle.hep_source.specs.Names.{same_name, is_among, index_among}
 use Rattle.hep_source.specs.declared.declaration.Declarator.{Declarator}
 use Rattle.hep_source.specs.declared.declaration.Dimension.{Dimension}
 use Rattle.hep_source.specs.declared.statement.Statement.{Statement}
-use Rattle.hep_source.specs.declared.value.Value.{Value}
-use Rattle.hep_machine.specs.Arithmetic.{integer_of}
 use Rattle.hep_machine.specs.Constants.{Constants, bounds_of, value_among}
 use Rattle.hep_machine.specs.Declarations.{is_nonempty, is_dummy}
 use Rattle.hep_check.specs.Constants.{Parameters, is_dimension, are_bounds_open, is_shape_if_known, has_bounds}
@@ -35,16 +33,6 @@ dummy_is x (y ∷ xs) = by (same_name x y) (is-some-map suc (index_among x xs) �
 pub any-within : {A B : Type 0} (test : B → Bool) (f : A → List B) (xs : List A) → list_any (λ x. list_any test (f x)) xs ≡ list_any test (flat_map f xs)
 any-within test f [] = refl
 any-within test f (x ∷ xs) = ap (λ b. list_any test (f x) || b) (any-within test f xs) ∙ sym (list_any-append test (f x) (flat_map f xs))
-
--- bounds, and those of more dimensions after them
-abbrev pub prefixed : Bounds → Option Bounds → Option Bounds
-prefixed bs None = None
-prefixed bs (Some cs) = Some (bs ++ cs)
-
--- an upper bound that isn't open
-pub closed-value : (o : Option Value) → option_map Some (option_map integer_of o) ≡ option_map (λ (v : Value). Some (integer_of v)) o
-closed-value None = refl
-closed-value (Some v) = refl
 
 -- the parts of the test of a declarator with dimensions
 pub bounds-right : (unit : List Statement) (ps : Parameters) (d : Declarator) (of_dummy a o s : Bool) (ds : List Dimension) (k : Constants) (bs : Option Bounds) (r : Bool)

@@ -1,5 +1,3 @@
-pub mod Tables
-pub mod Evaluations
 pub mod Dimensions
 pub mod KnownShapes
 pub mod Passes

@@ -4,18 +4,13 @@ use Rattle.std.specs.List.{list_any}
 use Rattle.hep_source.specs.declared.declaration.Declarator.{Declarator}
 use Rattle.hep_source.specs.declared.declaration.Dimension.{Dimension}
 use Rattle.hep_source.specs.declared.statement.Statement.{Statement}
-use Rattle.hep_machine.specs.Constants.{Values, value_among, bound_of, lower_value, upper_value, bounds_of}
+use Rattle.hep_machine.specs.Constants.{value_among, bounds_of}
 use Rattle.hep_machine.specs.Shapes.{Bounds}
-use Rattle.hep_machine.specs.declared.shape.Bound.{Bound}
 use Rattle.hep_check.specs.Constants.{Parameters, is_open, has_bounds, are_bounds_open}
 use Rattle.hep_check.specs.Statements.{trees_in_dimension}
 
 abbrev pub is_dimension_open : List Statement → Parameters → Dimension → Bool
 is_dimension_open unit ps d = list_any (is_open unit ps) (trees_in_dimension d)
-
--- the bound of one dimension, where it has a value
-abbrev pub bound_by : List Statement → Values → Dimension → Option Bound
-bound_by unit values d = bound_of (lower_value unit values d.lower) (upper_value unit values d.upper)
 
 -- the shape that a declarator with dimensions gives its name
 abbrev pub shape_given : List Statement → Parameters → Declarator → Option Bounds

@@ -1,5 +1,4 @@
 pub mod Types
-pub mod Evaluation
 pub mod Bounds
 pub mod Shapes
 pub mod Known

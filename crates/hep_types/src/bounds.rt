@@ -12,8 +12,6 @@ ghost use Rattle.hep_check.specs.Constants as conditions;
 ghost use Rattle.hep_check.specs.Statements as statements;
 ghost use Rattle.hep_types.specs.Bounds as walks;
 
-use crate::constants::Constants;
-use crate::evaluation::value_of;
 use crate::parameters::{Parameters, has_value};
 use crate::types::is_typed_as;
 use crate::variables::is_plain_integer_scalar;
@@ -21,6 +19,7 @@ use hep_machine::Bound;
 use hep_shape::Shape;
 use hep_source::{Declarator, Dimension, Expr, Name, Occurrence, UpperBound, Value, ValueType};
 use hep_symbols::{Symbols, lists, occurrences};
+use hep_values::{Constants, bounds_of};
 use std::alloc::{AllocError, Global};
 
 // A scalar by which a bound may be adjusted: a plain integer that is a dummy argument or in COMMON.
@@ -237,103 +236,6 @@ pub fn are_bounds_open(
     ensures { IfOk result (λ are_open. are_open ≡ conditions.are_bounds_open symbols.now parameters.now declarator.now) }
 {
     is_any_open(alloc, symbols, parameters, declarator.dimensions.as_slice())
-}
-
-// ---- values of bounds
-
-fn as_integer(value: Option<Value>) -> Option<i64>
-    ensures { result ≡ option_map arithmetic.integer_of value }
-{
-    match value {
-        Some(Value::Int(integer)) => Some(integer),
-        Some(Value::Truth(_)) => Some(0),
-        None => None,
-    }
-}
-
-// A lower bound is 1 where there is none.
-fn lower_value(
-    alloc: Global,
-    symbols: &Symbols,
-    constants: &Constants,
-    lower: &Option<Expr>,
-) -> Result<Option<i64>, AllocError>
-    ensures { IfOk result (λ value. value ≡ values.lower_value symbols.now (value_among constants.now) lower.now) }
-{
-    match lower {
-        Some(lower) => {
-            let value = value_of(alloc, symbols, constants, lower)?;
-            Ok(as_integer(value))
-        }
-        None => Ok(Some(1)),
-    }
-}
-
-fn closed_at(upper: Option<i64>) -> Option<Option<i64>>
-    ensures { result ≡ option_map Some upper }
-{
-    match upper {
-        Some(upper) => Some(Some(upper)),
-        None => None,
-    }
-}
-
-fn upper_value(
-    alloc: Global,
-    symbols: &Symbols,
-    constants: &Constants,
-    upper: &UpperBound,
-) -> Result<Option<Option<i64>>, AllocError>
-    ensures { IfOk result (λ value. value ≡ values.upper_value symbols.now (value_among constants.now) upper.now) }
-{
-    match upper {
-        UpperBound::Expression(upper) => {
-            let value = value_of(alloc, symbols, constants, upper)?;
-            Ok(closed_at(as_integer(value)))
-        }
-        UpperBound::Open => Ok(Some(None)),
-    }
-}
-
-fn bound_of(lower: Option<i64>, upper: Option<Option<i64>>) -> Option<Bound>
-    ensures { result ≡ values.bound_of lower upper }
-{
-    match (lower, upper) {
-        (Some(lower), Some(upper)) => Some(Bound { lower, upper }),
-        _ => None,
-    }
-}
-
-fn bound_by(
-    alloc: Global,
-    symbols: &Symbols,
-    constants: &Constants,
-    dimension: &Dimension,
-) -> Result<Option<Bound>, AllocError>
-    ensures { IfOk result (λ bound. bound ≡ walks.bound_by symbols.now (value_among constants.now) dimension.now) }
-{
-    let lower = lower_value(alloc, symbols, constants, &dimension.lower)?;
-    let upper = upper_value(alloc, symbols, constants, &dimension.upper)?;
-    Ok(bound_of(lower, upper))
-}
-
-// The bounds of dimensions, where all have values.
-fn bounds_of(
-    alloc: Global,
-    symbols: &Symbols,
-    constants: &Constants,
-    dimensions: &[Dimension],
-) -> Result<Option<Vec<Bound>>, AllocError>
-    ensures { IfOk result (λ bounds. option_map vec_items bounds ≡ values.bounds_of symbols.now (value_among constants.now) dimensions.now) }
-{
-    let mut bounds = Vec::new(alloc);
-    for dimension in dimensions {
-        match bound_by(alloc, symbols, constants, dimension)? {
-            Some(bound) => bounds.push(bound)?,
-            None => return Ok(None),
-        }
-    }
-    Ok(Some(bounds))
 }
 
 fn is_shape_if_known(bounds: &Option<Vec<Bound>>) -> bool

@@ -3,9 +3,6 @@
 #![tactic(auto)]
 
 pub mod bounds;
-pub mod constants;
-pub mod declarators;
-pub mod evaluation;
 pub mod forms;
 pub mod parameters;
 pub mod shapes;
@@ -14,8 +11,6 @@ pub mod variables;
 pub mod violation;
 
 pub use bounds::has_bounds;
-pub use constants::Constants;
-pub use evaluation::value_of;
 pub use forms::is_form_typed;
 pub use parameters::{Parameters, has_value, is_constant_expression};
 pub use shapes::{KnownShape, Shapes};

@@ -7,13 +7,13 @@ ghost use Rattle.hep_check.specs.Statements.{NameWithList as PureReference};
 ghost use Rattle.hep_machine.specs.Constants.{value_among, with_constant};
 ghost use Rattle.hep_machine.specs.Functions.{listed_meaning};
 ghost use Rattle.hep_symbols.specs.Lists.{listed};
-ghost use Rattle.hep_types.specs.Evaluation as walks;
+ghost use Rattle.hep_values.specs.Evaluation as walks;
 
-use crate::constants::{Constants, NameSet};
-use crate::evaluation::{Evaluation, evaluate};
 use crate::types::{agree, is_typed, is_typed_as, type_of_tree};
 use hep_source::{Expr, Name, NamedConstant, Occurrence, Value, ValueType};
 use hep_symbols::{Meaning, NameWithList, Symbols, lists, occurrences};
+use hep_values::evaluation::{Evaluation, evaluate};
+use hep_values::{Constants, NameSet};
 use std::alloc::{AllocError, Global};
 use std::marker::Model;
 
@@ -32,7 +32,7 @@ impl Drop for Parameters {
 
 impl Model for Parameters {
     ghost use Rattle.hep_check.specs.Constants.{Parameters as PureParameters};
-    ghost use Rattle.hep_types.specs.Evaluation.{parameters};
+    ghost use Rattle.hep_values.specs.Evaluation.{parameters};
 
     ghost Value = { PureParameters };
 

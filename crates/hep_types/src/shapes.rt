@@ -11,11 +11,12 @@ ghost use Rattle.hep_types.specs.Shapes as tables;
 ghost use Rattle.hep_types.specs.Known.{known};
 
 use crate::bounds::shape_given;
-use crate::declarators::{constants_in, declarators_in};
 use crate::parameters::Parameters;
 use hep_shape::Shape;
 use hep_source::{Declarator, Name, Statement};
 use hep_symbols::Symbols;
+use hep_symbols::declarators::declarators_in;
+use hep_values::statements::constants_in;
 use indexmap::IndexMap;
 use std::alloc::{AllocError, Global};
 use std::marker::Model;

@@ -8,7 +8,6 @@ ghost use Rattle.hep_symbols.specs.Statements.{rest_after};
 ghost use Rattle.hep_types.specs.Passes as passes;
 
 use crate::bounds::has_bounds;
-use crate::declarators::{constants_in, declarators_in, groups_in};
 use crate::forms::{is_form_typed, is_target_typed};
 use crate::parameters::{Parameters, is_constant_of};
 use crate::types::is_typed_as;
@@ -16,6 +15,8 @@ use hep_check::Violation;
 use hep_check::reported::{lesser, line_when, reported};
 use hep_source::{DataGroup, Declarator, Expr, Statement, Target, ValueType};
 use hep_symbols::Symbols;
+use hep_symbols::declarators::declarators_in;
+use hep_values::statements::{constants_in, groups_in};
 use std::alloc::{AllocError, Global};
 
 fn are_conditions(symbols: &Symbols, conditions: &[Expr]) -> bool

@@ -1,12 +1,15 @@
-//! Images: what is lowered of a program, and what refuses it.
+//! Images: what is lowered of a program, what refuses it, and the sizes of what they and the arena are made of.
 
 use super::program_of;
 use hep_base::Refusal;
 use hep_checked::check;
+use hep_code::{Instruction, Operation, Variable};
 use hep_image::{DataRow, Image, UnitCode};
 use hep_lower::lower;
+use hep_machine::Slot;
 use hep_source::Value;
 use std::alloc::Global;
+use std::mem::size_of;
 use std::test::Fail;
 
 fn image_of(alloc: Global, source: &[u8]) -> Result<Result<Image, Refusal>, Fail> {
@@ -128,4 +131,13 @@ fn limits(rt: HostRuntime) -> Result<(), Fail> {
     assert_eq!(rt; refusal_of(alloc, &sums(alloc, 255)?)?, None);
     assert_eq!(rt; refusal_of(alloc, &sums(alloc, 256)?)?, Some((402, 2)));
     Ok(())
+}
+
+// A step reads an operation and some cells, so runs are as fast as these are small.
+#[test]
+fn sizes(rt: HostRuntime) {
+    assert_eq!(rt; size_of::<Variable>(), 8);
+    assert_eq!(rt; size_of::<Operation>(), 24);
+    assert_eq!(rt; size_of::<Instruction>(), 32);
+    assert_eq!(rt; size_of::<Slot>(), 32);
 }

@@ -1,4 +1,4 @@
-use Rattle.std.proofs.Common.{◌∙◌, ◌<◌, arith, length, refl, subst, sym}
+use Rattle.std.proofs.Common.{◌∙◌, ◌<◌, arith, length, refl, subst}
 use Rattle.hep_source.specs.Units.{Units}
 use Rattle.hep_code.specs.Limits.{most_instructions}
 use Rattle.hep_lower.specs.Refusals.{IsFirstDeep, RefusesCode}

@@ -2,7 +2,7 @@ use Rattle.std.proofs.Common.{Some, ap, ◌∙◌, ◌+◌}
 use Rattle.std.specs.Option.{option_eq, unwrap_or}
 use Rattle.indexmap.specs.IndexMap.{get}
 use Rattle.hep_source.specs.Names.{name_eq}
-use Rattle.hep_storage.proofs.BlockTables.{changed}
+use Rattle.hep_values.proofs.BlockNames.{changed}
 use Rattle.hep_common.specs.Starts.{narrowed}
 use Rattle.hep_places.proofs.Lengths.{length-set}
 use Rattle.hep_places.proofs.blocks.lengthen.Goals as goal

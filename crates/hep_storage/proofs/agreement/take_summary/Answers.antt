@@ -1,5 +1,5 @@
 use Rattle.std.proofs.Common.{None, ◌∙◌}
-use Rattle.hep_storage.proofs.BlockTables.{other-kept}
+use Rattle.hep_values.proofs.BlockNames.{other-kept}
 use Rattle.hep_storage.proofs.agreement.take_summary.Goals as goal
 
 pub returns-in-Some-clause-others : goal.returns-in-Some-clause-others

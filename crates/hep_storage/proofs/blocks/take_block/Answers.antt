@@ -2,7 +2,8 @@ use Rattle.std.proofs.Common.{◌≡◌, ◌∙◌, IfSome, None, Some, subst, s
 use Rattle.std.specs.Option.{option_eq}
 use Rattle.indexmap.specs.IndexMap.{get}
 use Rattle.hep_source.specs.Names.{name_eq}
-use Rattle.hep_storage.proofs.BlockTables.{changed, shown-taken, some-then}
+use Rattle.hep_values.proofs.BlockNames.{changed}
+use Rattle.hep_storage.proofs.BlockTables.{shown-taken, some-then}
 use Rattle.hep_storage.proofs.blocks.take_block.Goals as goal
 
 pub returns-clause-found : goal.returns-clause-found

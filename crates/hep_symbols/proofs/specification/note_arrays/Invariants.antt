@@ -4,8 +4,9 @@ use Rattle.indexmap.specs.IndexMap.{get}
 use Rattle.hep_source.specs.declared.name.Name.{Name}
 use Rattle.hep_machine.specs.Declarations.{declarator_among}
 use Rattle.hep_source.specs.Names.{name_eq}
+use Rattle.hep_symbols.specs.Statements.{rest_after}
 use Rattle.hep_symbols.specs.Tables.{seen}
 use Rattle.hep_symbols.proofs.specification.note_arrays.Given as goal
 
 abbrev pub invariant-loop-declarator : goal.invariant-loop-declarator
-invariant-loop-declarator l = (x : Name) → option_or (seen (get name_eq l.arrays x)) (declarator_among x (drop l.declarator-index l.declarators)) ≡ option_or (seen (get name_eq l.initial.arrays x)) (declarator_among x l.declarators)
+invariant-loop-declarator l = (x : Name) → option_or (seen (get name_eq l.arrays x)) (declarator_among x (rest_after (drop l.declarator-index l.declarators))) ≡ option_or (seen (get name_eq l.initial.arrays x)) (declarator_among x (rest_after l.declarators))

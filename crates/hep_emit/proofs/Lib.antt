@@ -1,0 +1,6 @@
+pub mod Flows
+pub mod Lengths
+pub mod Indexes
+pub mod Asked
+pub mod Refusals
+pub mod Forms

@@ -1,0 +1,69 @@
+-- The tables from which code is made, as the definitions of the code have them.
+use Rattle.std.specs.Prelude.{ℕ, suc, ◌-◌, nat_le, if◌then◌else◌, List, slice_get}
+use Rattle.std.specs.Option.{unwrap_or}
+use Rattle.hep_source.specs.declared.name.Name.{Name}
+use Rattle.hep_source.specs.declared.statement.Statement.{Statement}
+use Rattle.hep_source.specs.Units.{Units, line_at}
+use Rattle.hep_machine.specs.Constants.{value_among}
+use Rattle.hep_machine.specs.Control.{terminal_of}
+use Rattle.hep_machine.specs.Functions.{listed_meaning}
+use Rattle.hep_machine.specs.Step.{unit_called}
+use Rattle.hep_code.specs.Tables.{NameTable, Table}
+use Rattle.hep_code.specs.Targets.{Target, at, end_of, onward, outward, inward, aside, labelled}
+use Rattle.hep_code.specs.UnitCode.{AddressedUnit}
+use Rattle.hep_emit.specs.declared.names.Names.{Names}
+use Rattle.hep_variables.specs.declared.places.Places.{Places}
+use Rattle.hep_emit.specs.declared.tables.Starts.{Starts}
+use Rattle.hep_emit.specs.declared.tables.Tables.{Tables}
+use Rattle.hep_variables.specs.Places.{variable_in, cells_in}
+
+unfoldable pub names_in : Names → NameTable
+names_in n =
+    record { constants = value_among n.constants.now; meanings = listed_meaning n.symbols.now; variables = variable_in n.places.now }
+
+-- ---- numbers of 32 bits
+
+abbrev pub greatest : ℕ
+greatest = 4294967295
+
+-- a number, or the greatest one where it is greater
+abbrev pub narrowed : ℕ → ℕ
+narrowed n = if nat_le n greatest then n else greatest
+
+unfoldable pub number_called : Units → Name → ℕ
+number_called program x = narrowed (unit_called program x)
+
+-- ---- indexes, by where the code of each statement begins, and of the END behind them
+
+abbrev pub start_in : Starts → ℕ → ℕ
+start_in starts k = unwrap_or (slice_get starts.statements.items k) starts.end
+
+unfoldable pub index_in : Starts → Target → ℕ
+index_in starts (at k) = start_in starts k
+index_in starts (end_of d) = start_in starts (suc d) - 1
+
+abbrev pub table_in : Tables → Table
+table_in t =
+    record {
+      names = names_in t.names;
+      subroutines = number_called t.program.now;
+      labels = λ l. index_in t.starts (labelled t.control.now l);
+      flows = λ k.
+          record {
+            next = index_in t.starts (onward t.control.now k);
+            inside = index_in t.starts (inward t.control.now k);
+            behind = index_in t.starts (outward t.control.now k);
+            otherwise = index_in t.starts (aside t.control.now k);
+            cells = cells_in t.names.places.now k;
+            end_line = line_at t.control.now (terminal_of t.control.now k);
+          };
+    }
+
+-- ---- what a unit's code is a function of, by its statements, its places and its program
+
+abbrev pub addressed_by : List Statement → Places → Units → AddressedUnit
+addressed_by unit places program =
+    record { unit = unit; variables = variable_in places; cells = cells_in places; subroutines = unit_called program }
+
+abbrev pub addressed_in : Names → Units → AddressedUnit
+addressed_in names program = addressed_by names.symbols.now names.places.now program

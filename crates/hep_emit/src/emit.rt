@@ -1,0 +1,47 @@
+//! Instructions behind those that are there.
+ghost use Rattle.std.specs.Prelude.{◌≡◌, ◌++◌, ◌∷◌, [], ◌<◌, IfOk, OnOk, IfErr};
+ghost use Rattle.hep_code.specs.ExpressionCode.{evaluating};
+ghost use Rattle.hep_emit.specs.Tables.{greatest};
+
+use crate::fault::EmitFault;
+use hep_code::{Evaluation, Instruction, Operation};
+use std::alloc::AllocError;
+
+/// The code so far.
+pub(crate) type Code = Vec<Instruction>;
+
+pub(crate) fn emit(code: &mut Code, instruction: Instruction) -> Result<(), AllocError>
+    ensures { OnOk result (code.new.items ≡ code.old.items ++ instruction ∷ []) }
+{
+    code.push(instruction)?;
+    Ok(())
+}
+
+/// An operation of a statement with this line.
+pub(crate) fn emit_step(code: &mut Code, line: u32, operation: Operation) -> Result<(), AllocError>
+    ensures { OnOk result (code.new.items ≡ code.old.items ++ Instruction.Step line operation ∷ []) }
+{
+    emit(code, Instruction::Step { line, operation })
+}
+
+/// An operation that gives a value.
+pub(crate) fn emit_evaluation(
+    code: &mut Code,
+    line: u32,
+    evaluation: Evaluation,
+) -> Result<(), AllocError>
+    ensures { OnOk result (code.new.items ≡ code.old.items ++ evaluating line evaluation) }
+{
+    emit_step(code, line, Operation::Evaluate(evaluation))
+}
+
+/// How many items a list of this length has.
+pub(crate) fn counted(length: usize) -> Result<u32, EmitFault>
+    ensures count { IfOk result (λ count. count ≡ length) }
+    ensures refused { IfErr result (λ fault. greatest < length) }
+{
+    match u32::try_from(length) {
+        Ok(count) => Ok(count),
+        Err(_) => Err(EmitFault::TooLong),
+    }
+}

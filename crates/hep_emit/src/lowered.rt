@@ -1,0 +1,59 @@
+//! A unit's code with what is known of it.
+ghost use Rattle.std.specs.Prelude.{◌≡◌, ◌≤◌, None, length, IfOk, IfErr};
+ghost use Rattle.hep_code.specs.Depths.{deepest, line_too_deep};
+ghost use Rattle.hep_code.specs.Limits.{most_instructions, most_operands};
+ghost use Rattle.hep_code.specs.Stacks.{entry_index};
+ghost use Rattle.hep_code.specs.UnitCode.{code_of};
+ghost use Rattle.hep_emit.specs.Limits.{IsOverLimit};
+ghost use Rattle.hep_emit.specs.Tables.{greatest, addressed_by};
+
+use crate::fault::EmitFault;
+use crate::names::Names;
+use crate::unit::{EmittedUnit, emit_unit};
+use hep_code::{Depth, Instruction, depth_of};
+use hep_control::control::Control;
+use hep_control::labels::Labels;
+use hep_symbols::{ProgramSymbols, Symbols};
+use hep_values::given::constants;
+use hep_variables::Places;
+use std::alloc::Global;
+
+/// The code of a unit, the index at which an activation of it begins, and its deepest stack of operands.
+#[derive(Drop)]
+pub struct Lowered {
+    pub code: Vec<Instruction>,
+    pub entry: u32,
+    pub depth: Depth,
+}
+
+/// The code of a unit of a program, where its variables and the cells of its DOs are in these places.
+///
+/// # Errors
+///
+/// That there would be more than 1,048,576 instructions, or that memory was refused.
+pub fn lower_unit(
+    alloc: Global,
+    program: &ProgramSymbols,
+    symbols: &Symbols,
+    places: &Places,
+) -> Result<Lowered, EmitFault>
+    requires { length program.now ≤ greatest }
+    ensures code { IfOk result (λ lowered. lowered.code.items ≡ code_of (addressed_by symbols.now places.now program.now)) }
+    ensures entry { IfOk result (λ lowered. lowered.entry ≡ entry_index (addressed_by symbols.now places.now program.now)) }
+    ensures short { IfOk result (λ lowered. length lowered.code.items ≤ most_instructions) }
+    ensures operands { IfOk result (λ lowered. lowered.depth.operands ≡ deepest lowered.code.items) }
+    ensures too_deep { IfOk result (λ lowered. lowered.depth.too_deep ≡ line_too_deep lowered.code.items) }
+    ensures few { IfOk result (λ lowered. lowered.depth.too_deep ≡ None → lowered.depth.operands ≤ most_operands) }
+    ensures refused { IfErr result (IsOverLimit (length (code_of (addressed_by symbols.now places.now program.now)))) }
+{
+    let control = Control::new(alloc, Labels::new(alloc, symbols.statements())?)?;
+    let constants = constants(alloc, symbols)?;
+    let names = Names {
+        symbols,
+        constants: &constants,
+        places,
+    };
+    let EmittedUnit { code, entry } = emit_unit(alloc, &names, program, &control)?;
+    let depth = depth_of(&code);
+    Ok(Lowered { code, entry, depth })
+}

@@ -1,0 +1,45 @@
+//! What the names of a unit are.
+ghost use Rattle.std.specs.Prelude.{◌≡◌};
+ghost use Rattle.hep_symbols.specs.Meanings.{meaning};
+ghost use Rattle.hep_emit.specs.Tables.{names_in};
+
+use hep_code::Variable;
+use hep_source::{Name, Value};
+use hep_symbols::{Meaning, Symbols};
+use hep_values::Constants;
+use hep_variables::Places;
+
+/// The tables of a unit by which its names are looked up.
+#[derive(Clone, Copy)]
+pub struct Names<'a> {
+    pub symbols: &'a Symbols<'a>,
+    /// The values of the unit's constants.
+    pub constants: &'a Constants,
+    pub places: &'a Places,
+}
+
+impl<'a> Names<'a> {
+    /// The value of a named constant (X3.9-1978, 8.6).
+    #[tactic(auto, unfolding(crate::specs::Tables::names_in))]
+    pub(crate) fn constant(&self, name: &Name) -> Option<Value>
+        ensures { result ≡ (names_in self.now).constants name.now }
+    {
+        self.constants.get(name)
+    }
+
+    /// What a name with a list is.
+    #[tactic(auto, unfolding(crate::specs::Tables::names_in))]
+    pub(crate) fn meaning(&self, name: &Name) -> Meaning
+        ensures { meaning result ≡ (names_in self.now).meanings name.now }
+    {
+        self.symbols.listed_meaning(name)
+    }
+
+    /// Where a variable is.
+    #[tactic(auto, unfolding(crate::specs::Tables::names_in))]
+    pub(crate) fn variable(&self, name: &Name) -> Variable
+        ensures { result ≡ (names_in self.now).variables name.now }
+    {
+        self.places.variable(name)
+    }
+}

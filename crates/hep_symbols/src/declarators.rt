@@ -1,0 +1,46 @@
+//! What specification statements declare (X3.9-1978, section 8).
+ghost use Rattle.std.specs.Prelude.{◌≡◌, ◌++◌, IfOk, OnOk};
+ghost use Rattle.hep_machine.specs.Declarations as declarations;
+ghost use Rattle.hep_symbols.specs.Statements.{rest_after};
+
+use hep_source::{CommonBlock, Declarator, Form};
+use std::alloc::{AllocError, Global};
+
+type Found<'a> = Vec<&'a Declarator>;
+
+#[tactic(auto, using(crate::proofs::Trees::after_push, std::proofs::lemmas::Grind::common_steps))]
+fn add_each<'a>(found: &mut Found<'a>, declarators: &'a [Declarator]) -> Result<(), AllocError>
+    ensures { OnOk result (rest_after found.new.items ≡ rest_after found.old.items ++ declarators.now) }
+{
+    for declarator in declarators {
+        found.push(declarator)?;
+    }
+    Ok(())
+}
+
+fn add_entries<'a>(found: &mut Found<'a>, blocks: &'a [CommonBlock]) -> Result<(), AllocError>
+    ensures { OnOk result (rest_after found.new.items ≡ rest_after found.old.items ++ declarations.entries_of_blocks blocks.now) }
+{
+    for block in blocks {
+        add_each(found, block.entries.as_slice())?;
+    }
+    Ok(())
+}
+
+/// The declarators of a statement, in the order of its text.
+///
+/// # Errors
+///
+/// Only where memory was refused.
+pub fn declarators_in(alloc: Global, form: &Form) -> Result<Vec<&Declarator>, AllocError>
+    ensures { IfOk result (λ found. rest_after found.items ≡ declarations.declarators_in form.now) }
+{
+    let mut found = Vec::new(alloc);
+    match form {
+        Form::Declare(_, declarators) => add_each(&mut found, declarators.as_slice())?,
+        Form::Dimension(declarators) => add_each(&mut found, declarators.as_slice())?,
+        Form::Common(blocks) => add_entries(&mut found, blocks.as_slice())?,
+        _ => {}
+    }
+    Ok(found)
+}

@@ -1,7 +1,0 @@
-use Rattle.std.proofs.Common.{◌∷◌, [], ◌∙◌, ap}
-use Rattle.hep_symbols.specs.Statements.{rest_after}
-use Rattle.hep_symbols.proofs.Trees.{after-append}
-use Rattle.hep_types.proofs.declarators.add_one.Goals as goal
-
-pub returns : goal.returns
-returns c = ap rest_after c.in_ok-push.ensures.items ∙ after-append c.args.found.now.items (c.args.declarator ∷ [])

@@ -1,0 +1,2 @@
+pub mod Evaluation
+pub mod Bounds

@@ -1,0 +1,39 @@
+//! Values of DATA and how often they are given (X3.9-1978, 9.1).
+ghost use Rattle.std.specs.Prelude.{◌≡◌};
+ghost use Rattle.hep_machine.specs.Constants.{value_among};
+ghost use Rattle.hep_machine.specs.Data as machine;
+
+use crate::constants::Constants;
+use hep_source::{DataConstant, Repeat, Value};
+
+fn count_by(value: Option<Value>) -> Option<u64>
+    ensures { result ≡ machine.count_by value }
+{
+    match value {
+        Some(Value::Int(count)) if 1 <= count => Some(count.unsigned_abs()),
+        _ => None,
+    }
+}
+
+/// How often a value of DATA is given, by these constants: once without a repeat count (9.1). None where a name has no
+/// value, or one that isn't an integer from 1.
+pub fn repeat_of(constants: &Constants, repeat: Option<Repeat>) -> Option<u64>
+    ensures { result ≡ machine.repeat_of (value_among constants.now) repeat }
+{
+    match repeat {
+        None => Some(1),
+        Some(Repeat::Count(count)) if 0 <= count => Some(count.unsigned_abs()),
+        Some(Repeat::Count(_)) => Some(0),
+        Some(Repeat::Named(occurrence)) => count_by(constants.get(&occurrence.name)),
+    }
+}
+
+/// The value of a constant in DATA, by these constants; none where it is a name that has no value.
+pub fn value_of_constant(constants: &Constants, constant: DataConstant) -> Option<Value>
+    ensures { result ≡ machine.value_of_constant (value_among constants.now) constant }
+{
+    match constant {
+        DataConstant::Value(value) => Some(value),
+        DataConstant::Named(occurrence) => constants.get(&occurrence.name),
+    }
+}
