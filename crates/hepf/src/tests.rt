@@ -4,7 +4,6 @@
 mod commands;
 mod lowering;
 mod parts;
-mod texts;
 mod workers;
 
 use hep_checked::check;

@@ -1,67 +1,8 @@
-//! The words of the command line as jobs, and histories that are written and made again.
+//! Histories that are written and made again, and what is said where memory was refused.
 
-use hep_command::job::{ARENA, STEPS};
-use hep_command::{Job, read_words};
 use hep_run::{Options, Run, answer, history_text, put_text, replay_bytes, run_bytes};
 use std::alloc::Global;
 use std::test::Fail;
-
-fn job<'a>(alloc: Global, words: &'a [&'a str]) -> Result<Job<'a>, Fail> {
-    read_words(alloc, words).map_err(|_| Fail::from("the words are no job"))
-}
-
-#[test]
-fn words(rt: HostRuntime) -> Result<(), Fail> {
-    let alloc = rt.alloc();
-    assert!(rt; job(alloc, &["hepf"])? == Job::Standard);
-    let plain = Job::Run {
-        file: "a.f",
-        arena: ARENA,
-        steps: STEPS,
-        workers: None,
-        choices: None,
-        history: None,
-    };
-    assert!(rt; job(alloc, &["hepf", "run", "a.f"])? == plain);
-    let words = [
-        "hepf",
-        "run",
-        "--arena",
-        "3",
-        "--steps=4",
-        "a.f",
-        "--choices",
-        "c",
-        "--history",
-        "h",
-    ];
-    let full = Job::Run {
-        file: "a.f",
-        arena: 3,
-        steps: 4,
-        workers: None,
-        choices: Some("c"),
-        history: Some("h"),
-    };
-    assert!(rt; job(alloc, &words)? == full);
-    let replay = Job::Replay {
-        file: "a.f",
-        history: "h",
-        arena: 16_777_216,
-    };
-    assert!(rt;
-        job(
-            alloc,
-            &["hepf", "replay", "a.f", "h", "--arena", "16777216"]
-        )? == replay
-    );
-    assert!(rt; job(alloc, &["hepf", "check", "a.f"])? == Job::Check { file: "a.f" });
-    assert!(rt; job(alloc, &["hepf", "list", "a.f"])? == Job::List { file: "a.f" });
-    assert!(rt; job(alloc, &["hepf", "explain", "304"])? == Job::Explain { number: 304 });
-    let defaults = Options::defaults(alloc);
-    assert!(rt; defaults.arena == ARENA && defaults.steps == STEPS);
-    Ok(())
-}
 
 const ONE: &[u8] = b"      PRINT *,1+2\n      END\n";
 

@@ -1,4 +1,4 @@
-//! Images: what is lowered of a program, what refuses it, and the sizes of what they and the arena are made of.
+//! Images: what is lowered of a program, and the sizes of what they and the arena are made of.
 
 use super::program_of;
 use hep_base::Refusal;
@@ -74,62 +74,6 @@ fn names(rt: HostRuntime) -> Result<(), Fail> {
         assert_eq!(rt; image.name(number as u32), Some(*name));
     }
     assert_eq!(rt; image.name(5), None);
-    Ok(())
-}
-
-fn refusal_of(alloc: Global, source: &[u8]) -> Result<Option<(u16, u32)>, Fail> {
-    match image_of(alloc, source)? {
-        Err(Refusal::Refused { number, line, .. }) => Ok(Some((number, line))),
-        _ => Ok(None),
-    }
-}
-
-// An array of 1,048,576 elements for each of these letters, and nothing else.
-fn arrays(alloc: Global, letters: &[u8]) -> Result<Vec<u8>, Fail> {
-    let mut source = Vec::new(alloc);
-    for letter in letters {
-        source.extend_from_slice(b"      INTEGER A")?;
-        source.push(*letter)?;
-        source.extend_from_slice(b"(1048576)\n")?;
-    }
-    source.extend_from_slice(b"      END\n")?;
-    Ok(source)
-}
-
-// Sums, each one in the last place of that around it, in lines of a statement.
-fn sums(alloc: Global, depth: usize) -> Result<Vec<u8>, Fail> {
-    let mut source = Vec::new(alloc);
-    source.extend_from_slice(b"      J=1\n      I=1")?;
-    for number in 0..depth {
-        if number % 20 == 0 {
-            source.extend_from_slice(b"\n     +")?;
-        }
-        source.extend_from_slice(b"+(1")?;
-    }
-    for number in 0..depth {
-        if number % 60 == 0 {
-            source.extend_from_slice(b"\n     +")?;
-        }
-        source.push(b')')?;
-    }
-    source.extend_from_slice(b"\n      END\n")?;
-    Ok(source)
-}
-
-#[test]
-fn limits(rt: HostRuntime) -> Result<(), Fail> {
-    let alloc = rt.alloc();
-    assert_eq!(rt; refusal_of(alloc, b"      PURGE $I\n      END\n")?, None);
-    assert_eq!(rt;
-        refusal_of(alloc, &arrays(alloc, b"ABCDEFGHIJKLMNO")?)?,
-        None
-    );
-    assert_eq!(rt;
-        refusal_of(alloc, &arrays(alloc, b"ABCDEFGHIJKLMNOP")?)?,
-        Some((401, 0))
-    );
-    assert_eq!(rt; refusal_of(alloc, &sums(alloc, 255)?)?, None);
-    assert_eq!(rt; refusal_of(alloc, &sums(alloc, 256)?)?, Some((402, 2)));
     Ok(())
 }
 

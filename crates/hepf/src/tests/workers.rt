@@ -240,17 +240,3 @@ fn two_workers_take_turns(rt: HostRuntime) -> Result<(), Fail> {
     assert_eq!(rt; gate.calls.load(Ordering::SeqCst), 6_007);
     Ok(())
 }
-
-#[test]
-fn any_number_of_workers(rt: HostRuntime) -> Result<(), Fail> {
-    let alloc = rt.alloc();
-    let image = image_from(alloc, &storing(alloc)?)?;
-    for workers in 1..17u32 {
-        let report = run_workers(&rt, alloc, &image, options_of(10_000, workers), &NoGate)?;
-        assert_eq!(rt; report.core.history().len(), 6_007);
-        let stopped = run_workers(&rt, alloc, &image, options_of(50, workers), &NoGate)?;
-        assert_eq!(rt; stopped.core.verdict(), Verdict::Stopped(Stop::StepLimit));
-        assert_eq!(rt; stopped.core.history().len(), 50);
-    }
-    Ok(())
-}
