@@ -5,10 +5,9 @@ ghost use Rattle.hep_machine.specs.Constants.{value_among, constant_value, cells
 ghost use Rattle.hep_machine.specs.Variables as variables;
 
 use hep_source::{Form, Name, Statement};
-use hep_values::given::constants;
-use hep_values::{adjustable_dimensions, cells_of};
 use hep_symbols::{ProgramSymbols, Symbols};
-use hep_values::Constants;
+use hep_values::given::constants;
+use hep_values::{Constants, adjustable_dimensions, cells_of};
 use std::alloc::{AllocError, Global};
 
 // The cells of variables of a unit.

@@ -11,12 +11,10 @@ ghost use Rattle.hep_lower.specs.Refusals.{RefusesCode, fault_by};
 ghost use Rattle.hep_emit.specs.Tables.{greatest};
 ghost use Rattle.hep_lower.specs.Units.{AreUnits, IsUnit};
 
-use hep_emit::EmitFault;
-use hep_emit::lower_unit;
-use hep_emit::MOST_INSTRUCTIONS;
 use hep_base::{Refusal as LowerFault, Sequence};
 use hep_code::Instruction;
 use hep_common::CommonStarts;
+use hep_emit::{EmitFault, MOST_INSTRUCTIONS, lower_unit};
 use hep_image::UnitCode;
 use hep_places::unit_places;
 use hep_symbols::{ProgramSymbols, Symbols};
