@@ -8,7 +8,7 @@ use hep_calls::argument_violation;
 use hep_check::Violation;
 use hep_check::reported::first_of_two;
 use hep_control::{Labels, jump_violation, label_violation, structure_violation};
-use hep_storage::data_violation;
+use hep_initial::data_violation;
 use hep_symbols::{
     ProgramSymbols, Symbols, count_violation, type_missing_violation, unknown_name_violation,
 };

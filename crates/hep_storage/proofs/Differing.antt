@@ -13,14 +13,14 @@ use Rattle.hep_check.specs.Violations.{first_of}
 use Rattle.hep_check.proofs.Lines.{least_line-or, least_line_of-same, least_line_of-both, least_line_of-turned, reported-append, reported-of, reported-when}
 use Rattle.hep_storage.specs.Agreement.{Summed, nothing_summed, with_list, with_block, with_count, with_length, is_other_count, is_other_length, place_count, differs_from, line_after, least_after, least_of_blocks}
 use Rattle.hep_storage.specs.Blocks.{KnownPlaces, Block, run_of, known_places, block_in}
-use Rattle.hep_storage.specs.Runs.{alike, positions_in}
+use Rattle.hep_runs.specs.Runs.{alike, positions_in}
 use Rattle.hep_storage.specs.Shared.{departs}
-use Rattle.hep_storage.specs.Spread.{repeat_before, spread, agree_as_far}
+use Rattle.hep_runs.specs.Spread.{repeat_before, spread, agree_as_far}
 use Rattle.hep_storage.specs.declared.agreement.Lengths.{Lengths}
 use Rattle.hep_storage.specs.declared.agreement.Lengths.TheVariants as lengths
-use Rattle.hep_storage.specs.declared.runs.Position.{Position}
+use Rattle.hep_runs.specs.declared.runs.Position.{Position}
 use Rattle.hep_storage.proofs.Pairs.{each_pair, each_later, pairs-from-start, nones}
-use Rattle.hep_storage.proofs.Places.{at_each_place}
+use Rattle.hep_runs.proofs.Places.{at_each_place}
 use Rattle.hep_storage.proofs.Sharing.{one-more}
 
 or-false : (a : Bool) → (a || false) ≡ a

@@ -1,10 +1,10 @@
 -- Runs one after the other.
 use Rattle.std.proofs.Common.{◌≡◌, ℕ, ◌+◌, true, List, [], ◌∷◌, ◌++◌, append-nil, append_assoc, ap, sym, ◌∙◌}
 use Rattle.hep_storage.specs.Blocks.{places_of}
-use Rattle.hep_storage.specs.Runs.{alike, positions_in}
-use Rattle.hep_storage.specs.Spread.{repeat_before}
-use Rattle.hep_storage.specs.declared.runs.Run.{Run}
-use Rattle.hep_storage.proofs.Meetings.{alike-equal, positions-append, repeat-append, repeat-parts}
+use Rattle.hep_runs.specs.Runs.{alike, positions_in}
+use Rattle.hep_runs.specs.Spread.{repeat_before}
+use Rattle.hep_runs.specs.declared.runs.Run.{Run}
+use Rattle.hep_runs.proofs.Meetings.{alike-equal, positions-append, repeat-append, repeat-parts}
 
 -- two runs as one
 pub joined-places : (r q : Run) (n : ℕ) → alike r.position q.position ≡ true → n ≡ r.count + q.count → repeat_before n r.position [] ≡ places_of r ++ places_of q

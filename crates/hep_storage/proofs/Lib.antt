@@ -1,15 +1,5 @@
-pub mod Places
-pub mod Meetings
-pub mod Giving
-pub mod Groups
-pub mod DataLines
-pub mod DataTurns
-pub mod Naming
-pub mod NamedLists
 pub mod Pairs
 pub mod Sharing
-pub mod Subscripts
-pub mod Tabled
 pub mod Differing
 pub mod Turns
 pub mod Listings

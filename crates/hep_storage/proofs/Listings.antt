@@ -10,9 +10,9 @@ use Rattle.hep_machine.specs.Declarations.{BlockName, same_block, common_block}
 use Rattle.hep_check.specs.Common as conditions
 use Rattle.hep_check.specs.Known.{known_before, nothing_more}
 use Rattle.hep_storage.specs.Blocks.{AreNoted, KnownPlaces, is_first_block, names_into, no_run, places_of, run_of, run_of_name, with_noted, with_run, with_known_run, known_places, places_of_names}
-use Rattle.hep_storage.specs.Spread.{repeat_before}
-use Rattle.hep_storage.specs.declared.runs.Position.{Position}
-use Rattle.hep_storage.specs.declared.runs.Run.{Run}
+use Rattle.hep_runs.specs.Spread.{repeat_before}
+use Rattle.hep_runs.specs.declared.runs.Position.{Position}
+use Rattle.hep_runs.specs.declared.runs.Run.{Run}
 use Rattle.hep_values.proofs.BlockNames.{block-equal}
 
 -- ---- names

@@ -4,12 +4,12 @@ use Rattle.std.proofs.lemmas.Bool.Decides.{nat_tests}
 use Rattle.std.proofs.lemmas.List.{drop_all, drop_more, take_all, take_more_set}
 use Rattle.hep_machine.specs.Declarations.{is_nonempty}
 use Rattle.hep_storage.specs.Shared.{InCommon, departs, with_position, in_common}
-use Rattle.hep_storage.specs.Spread.{repeat_before, agree_as_far}
-use Rattle.hep_storage.specs.Runs.{alike, positions_in, IsPlace, first_places, later_places, front, rest, heads_differ}
-use Rattle.hep_storage.specs.declared.runs.Place.{Place}
-use Rattle.hep_storage.specs.declared.runs.Position.{Position}
-use Rattle.hep_storage.specs.declared.runs.Run.{Run}
-use Rattle.hep_storage.proofs.Meetings.{alike-self, alike-equal, front-rest, positions-append}
+use Rattle.hep_runs.specs.Spread.{repeat_before, agree_as_far}
+use Rattle.hep_runs.specs.Runs.{alike, positions_in, IsPlace, first_places, later_places, front, rest, heads_differ}
+use Rattle.hep_runs.specs.declared.runs.Place.{Place}
+use Rattle.hep_runs.specs.declared.runs.Position.{Position}
+use Rattle.hep_runs.specs.declared.runs.Run.{Run}
+use Rattle.hep_runs.proofs.Meetings.{alike-self, alike-equal, front-rest, positions-append}
 
 -- ---- what departs from several lists departs from one of them
 

@@ -4,12 +4,12 @@ use Rattle.hep_source.specs.Units.{Units}
 use Rattle.hep_machine.specs.Declarations.{BlockName, is_block_among}
 use Rattle.hep_check.specs.Reported.{least_line, line_when, least_line_of}
 use Rattle.hep_storage.specs.Blocks.{KnownPlaces, Block, block_in}
-use Rattle.hep_storage.specs.Runs.{positions_in}
+use Rattle.hep_runs.specs.Runs.{positions_in}
 use Rattle.hep_storage.specs.Shared.{departs, in_common}
 use Rattle.hep_storage.specs.declared.agreement.Lengths.{Lengths}
 use Rattle.hep_storage.specs.declared.agreement.Lengths.TheVariants as lengths
 use Rattle.hep_storage.specs.declared.agreement.Summary.{Summary}
-use Rattle.hep_storage.specs.declared.runs.Position.{Position}
+use Rattle.hep_runs.specs.declared.runs.Position.{Position}
 
 -- ---- lengths
 

@@ -1,9 +1,3 @@
-pub mod Spread
-pub mod Runs
 pub mod Shared
-pub mod Given
-pub mod Groups
-pub mod Shapes
-pub mod Named
 pub mod Blocks
 pub mod Agreement

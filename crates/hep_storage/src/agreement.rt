@@ -11,9 +11,9 @@ ghost use Rattle.hep_storage.specs.Agreement as agreement;
 
 use crate::blocks::{Blocks, Contents, blocks_of, take_block};
 use crate::common::Shared;
-use crate::runs::{Known, place_count};
 use hep_check::Violation;
 use hep_check::reported::{lesser, line_when, reported};
+use hep_runs::{Known, place_count};
 use hep_source::Name;
 use hep_symbols::ProgramSymbols;
 use indexmap::IndexMap;

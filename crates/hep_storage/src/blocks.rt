@@ -10,10 +10,10 @@ ghost use Rattle.hep_machine.specs.Declarations as declarations;
 ghost use Rattle.hep_machine.specs.Declarations.{BlockName, same_block, names_declared};
 ghost use Rattle.hep_machine.specs.Shapes.{elements};
 ghost use Rattle.hep_storage.specs.Blocks as blocks;
-ghost use Rattle.hep_storage.specs.Runs.{positions_in};
+ghost use Rattle.hep_runs.specs.Runs.{positions_in};
 ghost use Rattle.hep_types.specs.Known.{known};
 
-use crate::runs::{Known, Position, Run};
+use hep_runs::{Known, Position, Run};
 use hep_source::{CommonBlock, Declarator, Form, Name};
 use hep_symbols::Symbols;
 use hep_types::{KnownShape, Shapes};

@@ -1,6 +1,6 @@
 use Rattle.std.proofs.Common.{◌<◌, ◌≤◌, ◌∙◌, length, arith}
 use Rattle.hep_machine.specs.Declarations.{is_nonempty}
-use Rattle.hep_storage.specs.Runs.{rest}
+use Rattle.hep_runs.specs.Runs.{rest}
 use Rattle.hep_storage.proofs.Sharing.{departs-at, departs-first, when-so, when-not}
 use Rattle.hep_storage.proofs.common.departs_from.Goals as goal
 

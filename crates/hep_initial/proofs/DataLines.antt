@@ -1,0 +1,139 @@
+-- The line that is reported of DATA, statement by statement.
+use Rattle.std.proofs.Common.{◌≡◌, Bool, true, false, not, ◌&&◌, ◌||◌, List, [], ◌∷◌, ◌++◌, is_some, refl, ap, sym, ◌∙◌}
+use Rattle.std.specs.Prelude.{option_to_list}
+use Rattle.std.specs.List.{flat_map, list_any}
+use Rattle.std.specs.Option.{option_map}
+use Rattle.hep_source.specs.Tree.{trees_of}
+use Rattle.hep_source.specs.declared.declaration.DataGroup.{DataGroup}
+use Rattle.hep_source.specs.declared.declaration.DataValue.{DataValue}
+use Rattle.hep_source.specs.declared.declaration.Target.{Target}
+use Rattle.hep_source.specs.declared.statement.Statement.{Statement}
+use Rattle.hep_machine.specs.Constants.{Constants, value_among, given_by, values_of, constant_shape}
+use Rattle.hep_machine.specs.Data.{Stretch, groups_in, elements_named, repeat_of, value_of_constant, values_given}
+use Rattle.hep_machine.specs.Declarations.{is_nonempty, is_array, constants_in}
+use Rattle.hep_check.specs.Data.{name_repeated, known_targets, known_values, has_type, is_forbidden, is_outside, is_target_outside, is_value, is_wrong_group, is_misplaced, wrong_groups_from, share_element, elements_in, is_given_twice, given_twice_from, data_violations}
+use Rattle.hep_check.specs.Known.{known_before, same_length, holds_at_each_place}
+use Rattle.hep_check.specs.Reported.{reported, least_line, line_when}
+use Rattle.hep_check.specs.Violations.{first_of, at_line, when}
+use Rattle.hep_check.proofs.Lines.{reported-when, reported-append}
+use Rattle.hep_values.proofs.GivenInTurn.{given-same}
+use Rattle.hep_initial.specs.Given.{given_after}
+use Rattle.hep_initial.specs.Groups.{is_wrong, wrong_line, twice_line}
+
+-- ---- what is reported
+
+wrong-lines : (unit : List Statement) (known : Constants) (ss : List Statement) → first_of (wrong_groups_from unit known ss) ≡ reported 311 (wrong_line unit known ss)
+wrong-lines unit known [] = refl
+wrong-lines unit known (s ∷ ss) =
+    reported-append 311 (when (is_wrong unit known s) (at_line 311 s.line)) (wrong_groups_from unit (given_by unit known (constants_in s.form)) ss)
+    (line_when (is_wrong unit known s) s.line) (wrong_line unit (given_by unit known (constants_in s.form)) ss)
+    (reported-when 311 s.line (is_wrong unit known s)) (wrong-lines unit (given_by unit known (constants_in s.form)) ss)
+
+twice-lines : (unit : List Statement) (known : Constants) (given : List Stretch) (ss : List Statement) → first_of (given_twice_from unit known given ss) ≡ reported 311 (twice_line unit known given ss)
+twice-lines unit known given [] = refl
+twice-lines unit known given (s ∷ ss) =
+    let es = elements_in unit known s in
+    reported-append 311 (when (is_given_twice given es) (at_line 311 s.line)) (given_twice_from unit (given_by unit known (constants_in s.form)) (es ++ given) ss)
+    (line_when (is_given_twice given es) s.line) (twice_line unit (given_by unit known (constants_in s.form)) (es ++ given) ss)
+    (reported-when 311 s.line (is_given_twice given es)) (twice-lines unit (given_by unit known (constants_in s.form)) (es ++ given) ss)
+
+pub data-lines : (unit : List Statement) → first_of (data_violations unit) ≡ reported 311 (least_line (wrong_line unit [] unit) (twice_line unit [] [] unit))
+data-lines unit =
+    reported-append 311 (wrong_groups_from unit [] unit) (given_twice_from unit [] [] unit) (wrong_line unit [] unit) (twice_line unit [] [] unit)
+    (wrong-lines unit [] unit) (twice-lines unit [] [] unit)
+
+-- ---- constants that are the same for each name
+
+module _ (unit : List Statement) (k m : Constants) (h : value_among k ≡ value_among m) where
+  targets-same : (ts : List Target) → known_targets unit k ts ≡ known_targets unit m ts
+  targets-same [] = refl
+  targets-same (t ∷ ts) = λ i. known_before (option_map name_repeated (elements_named unit (h i) t)) (targets-same ts i)
+
+  values-same : (vs : List DataValue) → known_values k vs ≡ known_values m vs
+  values-same [] = refl
+  values-same (v ∷ vs) = λ i. known_before (values_given (h i) v) (values-same vs i)
+
+  outside-same : (t : Target) → is_target_outside unit k t ≡ is_target_outside unit m t
+  outside-same t = λ i. is_nonempty t.subscripts && (is_array unit t.occurrence.name && is_outside (constant_shape unit t.occurrence.name) (values_of unit (h i) (trees_of t.subscripts)))
+
+  value-same : (v : DataValue) → is_value k v ≡ is_value m v
+  value-same v = λ i. is_some (repeat_of (h i) v.repeat) && is_some (value_of_constant (h i) v.constant)
+
+  group-same : (g : DataGroup) → is_wrong_group unit k g ≡ is_wrong_group unit m g
+  group-same g = λ i.
+      list_any (λ (t : Target). is_forbidden unit t.occurrence.name || outside-same t i) g.targets
+      || (list_any (λ (v : DataValue). not (value-same v i)) g.values
+      || (not (same_length (targets-same g.targets i) (values-same g.values i))
+      || not (holds_at_each_place (has_type unit) (targets-same g.targets i).items (values-same g.values i).items)))
+
+  wrong-here-same : (s : Statement) → is_wrong unit k s ≡ is_wrong unit m s
+  wrong-here-same s = λ i. is_misplaced unit s || list_any (λ (g : DataGroup). group-same g i) (groups_in s.form)
+
+  pub elements-same : (s : Statement) → elements_in unit k s ≡ elements_in unit m s
+  elements-same s = λ i. flat_map (λ (g : DataGroup). flat_map (λ (t : Target). option_to_list (elements_named unit (h i) t)) g.targets) (groups_in s.form)
+
+pub wrong-same : (unit : List Statement) (ss : List Statement) (k m : Constants) → value_among k ≡ value_among m → wrong_line unit k ss ≡ wrong_line unit m ss
+wrong-same unit [] k m h = refl
+wrong-same unit (s ∷ ss) k m h =
+    let more = wrong-same unit ss (given_by unit k (constants_in s.form)) (given_by unit m (constants_in s.form)) (given-same unit (constants_in s.form) k m h) in
+    λ i. least_line (line_when (wrong-here-same unit k m h s i) s.line) (more i)
+
+pub twice-same : (unit : List Statement) (ss : List Statement) (k m : Constants) (given : List Stretch) → value_among k ≡ value_among m → twice_line unit k given ss ≡ twice_line unit m given ss
+twice-same unit [] k m given h = refl
+twice-same unit (s ∷ ss) k m given h =
+    let e = elements-same unit k m h s in
+    let more = twice-same unit ss (given_by unit k (constants_in s.form)) (given_by unit m (constants_in s.form)) (elements_in unit k s ++ given) (given-same unit (constants_in s.form) k m h) in
+    ap (least_line (line_when (is_given_twice given (elements_in unit k s)) s.line)) more
+    ∙ ap (λ es. least_line (line_when (is_given_twice given es) s.line) (twice_line unit (given_by unit m (constants_in s.form)) (es ++ given) ss)) e
+
+-- ---- the order of what was given values before doesn't matter
+
+or-assoc : (a b c : Bool) → ((a || b) || c) ≡ (a || (b || c))
+or-assoc true b c = refl
+or-assoc false b c = refl
+
+or-turned : (a b c : Bool) → (a || (b || c)) ≡ (b || (a || c))
+or-turned true true c = refl
+or-turned true false c = refl
+or-turned false b c = refl
+
+any-between : {A : Type 0} (test : A → Bool) (x : A) (xs ys : List A) → list_any test (xs ++ x ∷ ys) ≡ (test x || list_any test (xs ++ ys))
+any-between test x [] ys = refl
+any-between test x (z ∷ zs) ys = ap (λ b. test z || b) (any-between test x zs ys) ∙ or-turned (test z) (test x) (list_any test (zs ++ ys))
+
+pub any-after : (test : Stretch → Bool) (given es : List Stretch) → list_any test (given_after given es) ≡ list_any test (es ++ given)
+any-after test given [] = refl
+any-after test given (e ∷ es) = any-after test (e ∷ given) es ∙ any-between test e es given
+
+pub after-append : (given es fs : List Stretch) → given_after given (es ++ fs) ≡ given_after (given_after given es) fs
+after-append given [] fs = refl
+after-append given (e ∷ es) fs = after-append (e ∷ given) es fs
+
+pub twice-append : (given es fs : List Stretch) → is_given_twice given (es ++ fs) ≡ (is_given_twice given es || is_given_twice (given_after given es) fs)
+twice-append given [] fs = refl
+twice-append given (e ∷ es) fs =
+    ap (λ b. list_any (share_element e) given || b) (twice-append (e ∷ given) es fs)
+    ∙ sym (or-assoc (list_any (share_element e) given) (is_given_twice (e ∷ given) es) (is_given_twice (given_after (e ∷ given) es) fs))
+
+abbrev pub SameGiven : List Stretch → List Stretch → Type 0
+SameGiven given others = (e : Stretch) → list_any (share_element e) given ≡ list_any (share_element e) others
+
+same-more : (given others : List Stretch) (e : Stretch) → SameGiven given others → SameGiven (e ∷ given) (e ∷ others)
+same-more given others e h f = ap (λ b. share_element f e || b) (h f)
+
+twice-of-same : (given others es : List Stretch) → SameGiven given others → is_given_twice given es ≡ is_given_twice others es
+twice-of-same given others [] h = refl
+twice-of-same given others (e ∷ es) h = λ i. h e i || twice-of-same (e ∷ given) (e ∷ others) es (same-more given others e h) i
+
+any-append-same : (test : Stretch → Bool) (es given others : List Stretch) → list_any test given ≡ list_any test others → list_any test (es ++ given) ≡ list_any test (es ++ others)
+any-append-same test [] given others h = h
+any-append-same test (e ∷ es) given others h = ap (λ b. test e || b) (any-append-same test es given others h)
+
+pub twice-reordered : (unit : List Statement) (ss : List Statement) (known : Constants) (given others : List Stretch) → SameGiven given others
+    → twice_line unit known given ss ≡ twice_line unit known others ss
+twice-reordered unit [] known given others h = refl
+twice-reordered unit (s ∷ ss) known given others h =
+    let es = elements_in unit known s in
+    let here = twice-of-same given others es h in
+    let more = twice-reordered unit ss (given_by unit known (constants_in s.form)) (es ++ given) (es ++ others) (λ e. any-append-same (share_element e) es given others (h e)) in
+    λ i. least_line (line_when (here i) s.line) (more i)

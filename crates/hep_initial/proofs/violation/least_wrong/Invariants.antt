@@ -1,0 +1,15 @@
+use Rattle.std.proofs.Common.{◌≡◌, List, [], drop}
+use Rattle.indexmap.specs.IndexMap.{get}
+use Rattle.hep_source.specs.Names.{name_eq}
+use Rattle.hep_machine.specs.Data.{Stretch}
+use Rattle.hep_check.specs.Reported.{least_line}
+use Rattle.hep_initial.specs.Given.{IsGiven}
+use Rattle.hep_initial.specs.Groups.{data_line}
+use Rattle.hep_initial.specs.Shapes.{IsTable}
+use Rattle.hep_initial.proofs.violation.least_wrong.Given as goal
+
+abbrev pub invariant-loop-statement : goal.invariant-loop-statement
+invariant-loop-statement l =
+    IsTable l.symbols l.shapes.constants (get name_eq l.shapes.shapes)
+    × ((given : List Stretch) × IsGiven l.symbols given l.given
+    × (least_line l.least (data_line l.symbols l.constants given (drop l.statement-index l.statement-items)) ≡ data_line l.symbols [] [] l.statement-items))

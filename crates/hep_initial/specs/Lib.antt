@@ -1,0 +1,4 @@
+pub mod Given
+pub mod Groups
+pub mod Named
+pub mod Shapes

@@ -1,0 +1,44 @@
+-- Lists of what names in DATA stand for: X3.9-1978, 9.2.
+use Rattle.std.specs.Prelude.{◌&&◌, is_some, Bool, true, false, List, [], ◌∷◌, Option, Some, None}
+use Rattle.hep_source.specs.declared.declaration.Target.{Target}
+use Rattle.hep_source.specs.declared.statement.Statement.{Statement}
+use Rattle.hep_machine.specs.Constants.{Constants}
+use Rattle.hep_initial.specs.Groups.{position_of_name}
+use Rattle.hep_initial.specs.Shapes.{Names}
+use Rattle.hep_runs.specs.Spread.{repeat_before}
+use Rattle.hep_initial.specs.declared.given.Stretch.TheVariants.{One, All}
+use Rattle.hep_runs.specs.declared.runs.Position.{Position}
+use Rattle.hep_runs.specs.declared.runs.Run.{Run}
+use Rattle.hep_initial.specs.declared.shapes.Named.{Named}
+use Rattle.hep_initial.specs.declared.shapes.Named.TheVariants.{Open, Outside, Elements}
+
+-- what names in DATA stand for, one after the other
+abbrev pub NamedAll : List Statement → Constants → List Target → List Named → Type 0
+NamedAll unit known [] [] = Unit {0}
+NamedAll unit known [] (n ∷ ns) = ⊥
+NamedAll unit known (t ∷ ts) [] = ⊥
+NamedAll unit known (t ∷ ts) (n ∷ ns) = Names unit known t n × NamedAll unit known ts ns
+
+abbrev pub is_outside_named : Named → Bool
+is_outside_named Outside = true
+is_outside_named _ = false
+
+-- what a name stands for, by its type and as often as it has elements
+abbrev pub run_named : List Statement → Named → Option Run
+run_named unit Open = None
+run_named unit Outside = None
+run_named unit (Elements (One e)) = Some (record { position = position_of_name unit e.name; count = 1 })
+run_named unit (Elements (All x n)) = Some (record { position = position_of_name unit x; count = n })
+
+abbrev pub places_before : Option Run → List Position → List Position
+places_before None ps = []
+places_before (Some r) ps = repeat_before r.count r.position ps
+
+-- the places of names up to the first that is open
+abbrev pub places_named : List Statement → List Named → List Position
+places_named unit [] = []
+places_named unit (n ∷ ns) = places_before (run_named unit n) (places_named unit ns)
+
+abbrev pub whole_named : List Statement → List Named → Bool
+whole_named unit [] = true
+whole_named unit (n ∷ ns) = is_some (run_named unit n) && whole_named unit ns
