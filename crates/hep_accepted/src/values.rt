@@ -15,7 +15,8 @@ use hep_check::laws;
 /// Each named constant has a value, which is that of its expression; its name, its value and its
 /// expression are of one type.
 pub fn constants_have_values()
-    ensures { (program : Units) (u i : ℕ) (unit : List Statement) (c : NamedConstant) → IsAccepted program → slice_get program u ≡ Some unit → slice_get (named_constants unit) i ≡ Some c → HasValue unit c }
+    ensures { (program : Units) (u i : ℕ) (unit : List Statement) (c : NamedConstant) → IsAccepted program → slice_get program u ≡ Some unit
+        → slice_get (named_constants unit) i ≡ Some c → HasValue unit c }
 {
     laws::constants_agree();
 }
@@ -23,8 +24,10 @@ pub fn constants_have_values()
 /// Each array that is no dummy argument has a constant shape; and of each array what is a constant shape is
 /// a shape.
 pub fn arrays_have_shapes()
-    ensures constant { (program : Units) (u : ℕ) (unit : List Statement) (x : Name) → IsAccepted program → slice_get program u ≡ Some unit → is_array unit x ≡ true → is_dummy unit x ≡ false → HasShape unit x }
-    ensures shape { (unit : List Statement) (x : Name) (bounds : Bounds) → is_array unit x ≡ true → constant_shape unit x ≡ Some bounds → is_shape bounds ≡ true }
+    ensures constant { (program : Units) (u : ℕ) (unit : List Statement) (x : Name) → IsAccepted program → slice_get program u ≡ Some unit
+        → is_array unit x ≡ true → is_dummy unit x ≡ false → HasShape unit x }
+    ensures shape { (unit : List Statement) (x : Name) (bounds : Bounds) → is_array unit x ≡ true → constant_shape unit x ≡ Some bounds
+        → is_shape bounds ≡ true }
 {
     laws::constants_agree();
 }

@@ -32,7 +32,8 @@ impl Model for Arena {
 
     ghost view = { λ a. space_of a.region.slots a.holes };
 
-    ghost invariant = { λ a. IsArena a.region.slots a.holes a.used × (a.region.memory ≡ vec_ptr a.lease) × (a.region.cells ≡ vec_len a.lease) × (0 < vec_capacity a.lease) };
+    ghost invariant = { λ a. IsArena a.region.slots a.holes a.used × (a.region.memory ≡ vec_ptr a.lease)
+        × (a.region.cells ≡ vec_len a.lease) × (0 < vec_capacity a.lease) };
 }
 
 impl Drop for Arena {
@@ -128,7 +129,8 @@ impl Arena {
     /// for each cell of the block.
     pub fn take(&mut self, n: u32) -> Option<Block>
         requires { 1 ≤ n }
-        ensures block { MatchOption result (first_fit n self.old.holes ≡ None) (λ b. (first_fit n self.old.holes ≡ Some b.at) × (b.len ≡ n)) }
+        ensures block { MatchOption result (first_fit n self.old.holes ≡ None) (λ b. (first_fit n self.old.holes ≡ Some b.at)
+            × (b.len ≡ n)) }
         ensures holes { MatchOption result (self.new ≡ self.old) (λ _. self.new.holes ≡ taken n self.old.holes) }
         ensures cleared { IfSome result (λ b. (k : ℕ) → b.at ≤ k → k < b.at + n → slice_get self.new.contents k ≡ Some unset_cell) }
         ensures kept { (k : ℕ) → IsOut k self.old.holes → slice_get self.new.contents k ≡ slice_get self.old.contents k }
@@ -200,7 +202,8 @@ impl Arena {
         requires to_out { (k : ℕ) → to.now.at ≤ k → k < to.now.at + to.now.len → IsOut k self.old.holes }
         requires apart { (from.now.at + from.now.len ≤ to.now.at) ⊎ (to.now.at + to.now.len ≤ from.now.at) }
         ensures* writes_back { sem 𝓛 (LendsBlock self.entry to.now.at to.now.len result.1) }
-        ensures value { (result.0.now ≡ slice_range self.old.contents from.now.at (from.now.at + from.now.len)) × (result.1.now ≡ slice_range self.old.contents to.now.at (to.now.at + to.now.len)) }
+        ensures value { (result.0.now ≡ slice_range self.old.contents from.now.at (from.now.at + from.now.len))
+            × (result.1.now ≡ slice_range self.old.contents to.now.at (to.now.at + to.now.len)) }
     {
         self.region.lend_two(
             from.at() as usize,

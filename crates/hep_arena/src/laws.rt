@@ -14,7 +14,8 @@ ghost use Rattle.hep_arena.specs.Holes.{Hole, AreHoles, IsOut, first_fit, free_c
 pub fn taking()
     ensures others { (n k : ℕ) (hs : List Hole) → IsOut k hs → IsOut k (taken n hs) }
     ensures inside { (cells n at : ℕ) (hs : List Hole) → AreHoles 0 cells hs → first_fit n hs ≡ Some at → at + n ≤ cells }
-    ensures block { (cells n at : ℕ) (hs : List Hole) → AreHoles 0 cells hs → first_fit n hs ≡ Some at → (k : ℕ) → at ≤ k → k < at + n → IsOut k (taken n hs) }
+    ensures block { (cells n at : ℕ) (hs : List Hole) → AreHoles 0 cells hs → first_fit n hs ≡ Some at → (k : ℕ) → at ≤ k → k < at + n
+        → IsOut k (taken n hs) }
     ensures new { (n at k : ℕ) (hs : List Hole) → first_fit n hs ≡ Some at → at ≤ k → k < at + n → IsOut k hs → ⊥ }
     ensures holes { (cells n : ℕ) (hs : List Hole) → AreHoles 0 cells hs → AreHoles 0 cells (taken n hs) }
     ensures cells { (n at : ℕ) (hs : List Hole) → first_fit n hs ≡ Some at → free_cells (taken n hs) + n ≡ free_cells hs }
@@ -24,7 +25,8 @@ pub fn taking()
 /// The holes have just its cells more.
 pub fn giving()
     ensures others { (k at n : ℕ) (hs : List Hole) → IsOut k (given (at, n) hs) ↔ (IsOut k hs × ((k < at) ⊎ (at + n ≤ k))) }
-    ensures holes { (cells at n : ℕ) (hs : List Hole) → AreHoles 0 cells hs → 1 ≤ n → at + n ≤ cells → ((k : ℕ) → at ≤ k → k < at + n → IsOut k hs) → AreHoles 0 cells (given (at, n) hs) }
+    ensures holes { (cells at n : ℕ) (hs : List Hole) → AreHoles 0 cells hs → 1 ≤ n → at + n ≤ cells
+        → ((k : ℕ) → at ≤ k → k < at + n → IsOut k hs) → AreHoles 0 cells (given (at, n) hs) }
     ensures cells { (at n : ℕ) (hs : List Hole) → free_cells (given (at, n) hs) ≡ n + free_cells hs }
 {}
 
@@ -37,10 +39,14 @@ pub fn giving_undoes_taking()
 /// other slot is as it was; so a write to one slot of the loan is a write to the contents.
 pub fn lending()
     ensures cells { (contents loan : List Slot) (at n : ℕ) → length (with_run contents at n loan) ≡ length contents }
-    ensures others { (contents loan : List Slot) (at n k : ℕ) → at + n ≤ length contents → (k < at) ⊎ (at + n ≤ k) → slice_get (with_run contents at n loan) k ≡ slice_get contents k }
-    ensures lent { (contents loan : List Slot) (at n i : ℕ) → at + n ≤ length contents → length loan ≡ n → i < n → slice_get (with_run contents at n loan) (at + i) ≡ slice_get loan i }
-    ensures read { (contents : List Slot) (at n i : ℕ) → i < n → slice_get (slice_range contents at (at + n)) i ≡ slice_get contents (at + i) }
-    ensures write { (contents : List Slot) (at n i : ℕ) (slot : Slot) → at + n ≤ length contents → i < n → with_run contents at n (slice_set (slice_range contents at (at + n)) i slot) ≡ slice_set contents (at + i) slot }
+    ensures others { (contents loan : List Slot) (at n k : ℕ) → at + n ≤ length contents → (k < at) ⊎ (at + n ≤ k)
+        → slice_get (with_run contents at n loan) k ≡ slice_get contents k }
+    ensures lent { (contents loan : List Slot) (at n i : ℕ) → at + n ≤ length contents → length loan ≡ n → i < n
+        → slice_get (with_run contents at n loan) (at + i) ≡ slice_get loan i }
+    ensures read { (contents : List Slot) (at n i : ℕ) → i < n
+        → slice_get (slice_range contents at (at + n)) i ≡ slice_get contents (at + i) }
+    ensures write { (contents : List Slot) (at n i : ℕ) (slot : Slot) → at + n ≤ length contents → i < n
+        → with_run contents at n (slice_set (slice_range contents at (at + n)) i slot) ≡ slice_set contents (at + i) slot }
 {}
 
 /// The lowest gap of a layout is the first fit of its gaps. When the frame goes there, or a frame or
@@ -48,17 +54,24 @@ pub fn lending()
 pub fn holes_are_gaps()
     ensures common { (cells n : ℕ) → 1 ≤ n → n ≤ cells → taken n ((0, cells) ∷ []) ≡ gaps cells n [] }
     ensures fit { (cells n from : ℕ) (layout : Layout) → 1 ≤ n → first_fit n (gaps cells from layout) ≡ lowest_gap cells n from layout }
-    ensures enters { (cells a n from first : ℕ) (layout : Layout) → 1 ≤ n → StandApart cells from layout → lowest_gap cells n from layout ≡ Some first → taken n (gaps cells from layout) ≡ gaps cells from (with_frame layout (record { activation = a; first = first; cells = n })) }
-    ensures leaves { (cells from : ℕ) (front : Layout) (f : Frame) (back : Layout) → StandApart cells from (front ++ f ∷ back) → given (f.first, f.cells) (gaps cells from (front ++ f ∷ back)) ≡ gaps cells from (front ++ back) }
-    ensures activation_leaves { (cells from a : ℕ) (layout : Layout) (f : Frame) → StandApart cells from layout → frame_among a layout ≡ Some f → given (f.first, f.cells) (gaps cells from layout) ≡ gaps cells from (without a layout) }
-    ensures several_leave { (cells from : ℕ) (has : State → ℕ → Bool) (s : State) (layout : Layout) → StandApart cells from layout → given_back (λ f. has s f.activation) layout (gaps cells from layout) ≡ gaps cells from (remaining_layout has s layout) }
+    ensures enters { (cells a n from first : ℕ) (layout : Layout) → 1 ≤ n → StandApart cells from layout
+        → lowest_gap cells n from layout ≡ Some first
+        → taken n (gaps cells from layout) ≡ gaps cells from (with_frame layout (record { activation = a; first = first; cells = n })) }
+    ensures leaves { (cells from : ℕ) (front : Layout) (f : Frame) (back : Layout) → StandApart cells from (front ++ f ∷ back)
+        → given (f.first, f.cells) (gaps cells from (front ++ f ∷ back)) ≡ gaps cells from (front ++ back) }
+    ensures activation_leaves { (cells from a : ℕ) (layout : Layout) (f : Frame) → StandApart cells from layout
+        → frame_among a layout ≡ Some f → given (f.first, f.cells) (gaps cells from layout) ≡ gaps cells from (without a layout) }
+    ensures several_leave { (cells from : ℕ) (has : State → ℕ → Bool) (s : State) (layout : Layout) → StandApart cells from layout
+        → given_back (λ f. has s f.activation) layout (gaps cells from layout) ≡ gaps cells from (remaining_layout has s layout) }
 {}
 
 /// COMMON's cells and those of the frames are out of the gaps. Gaps are holes, and with COMMON and the
 /// frames they are all cells.
 pub fn frames_are_out()
     ensures common { (cells from k : ℕ) (layout : Layout) → StandApart cells from layout → k < from → IsOut k (gaps cells from layout) }
-    ensures frame { (cells from k : ℕ) (front : Layout) (f : Frame) (back : Layout) → StandApart cells from (front ++ f ∷ back) → f.first ≤ k → k < f.first + f.cells → IsOut k (gaps cells from (front ++ f ∷ back)) }
+    ensures frame { (cells from k : ℕ) (front : Layout) (f : Frame) (back : Layout) → StandApart cells from (front ++ f ∷ back)
+        → f.first ≤ k → k < f.first + f.cells → IsOut k (gaps cells from (front ++ f ∷ back)) }
     ensures holes { (cells from : ℕ) (layout : Layout) → StandApart cells from layout → AreHoles from cells (gaps cells from layout) }
-    ensures cells { (cells from : ℕ) (layout : Layout) → StandApart cells from layout → free_cells (gaps cells from layout) + (from + framed_cells layout) ≡ cells }
+    ensures cells { (cells from : ℕ) (layout : Layout) → StandApart cells from layout
+        → free_cells (gaps cells from layout) + (from + framed_cells layout) ≡ cells }
 {}

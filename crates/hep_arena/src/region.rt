@@ -71,7 +71,8 @@ impl Region {
         requires to { to + to_len ≤ length self.old.slots }
         requires apart { (from + from_len ≤ to) ⊎ (to + to_len ≤ from) }
         ensures* writes_back { sem 𝓛 (LendsRun self.entry to to_len result.1) }
-        ensures value { (result.0.now ≡ slice_range self.old.slots from (from + from_len)) × (result.1.now ≡ slice_range self.old.slots to (to + to_len)) }
+        ensures value { (result.0.now ≡ slice_range self.old.slots from (from + from_len))
+            × (result.1.now ≡ slice_range self.old.slots to (to + to_len)) }
     {
         unsafe {
             (

@@ -145,7 +145,8 @@ impl Waits {
     /// This costs the logarithm of the greatest number that has waited.
     pub fn next_after(&self, p: u64) -> Option<u64>
         ensures next { result ≡ next_waiting self.now p }
-        ensures found { IfSome result (λ q. (p < q) × (waiting_at self.now q ≢ None) × ((r : ℕ) → p < r → r < q → waiting_at self.now r ≡ None)) }
+        ensures found { IfSome result (λ q. (p < q) × (waiting_at self.now q ≢ None)
+            × ((r : ℕ) → p < r → r < q → waiting_at self.now r ≡ None)) }
         ensures none { IfNone result ((q : ℕ) → p < q → waiting_at self.now q ≡ None) }
     {
         self.numbers.first_above(p)

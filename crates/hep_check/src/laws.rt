@@ -11,5 +11,7 @@ ghost use Rattle.hep_check.specs.Laws.{Keeps};
 /// Before each statement of a unit of an accepted program, and after the last one, the constants
 /// by which the conditions judge expressions, bounds and blocks are those of the source machine.
 pub fn constants_agree()
-    ensures { (program : Units) (unit before after : List Statement) (u : ℕ) → IsAccepted program → slice_get program u ≡ Some unit → unit ≡ before ++ after → Keeps (with_parameters unit no_parameters (named_constants before)) (given_by unit [] (named_constants before)) }
+    ensures { (program : Units) (unit before after : List Statement) (u : ℕ) → IsAccepted program → slice_get program u ≡ Some unit
+        → unit ≡ before ++ after → Keeps (with_parameters unit no_parameters (named_constants before))
+        (given_by unit [] (named_constants before)) }
 {}

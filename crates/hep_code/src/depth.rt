@@ -147,7 +147,8 @@ pub fn depth_of(code: &[Instruction]) -> Depth
     ensures operands { result.operands ≡ spec.deepest code.now }
     ensures line { result.too_deep ≡ spec.line_too_deep code.now }
     // Wherever an activation stands in the code of a unit, it has no more operands.
-    ensures stands { (addressed : AddressedUnit) (k : ℕ) (work : Work) (operands : List Value) (index : ℕ) → code.now ≡ code_of addressed → Stands addressed k work operands index → length operands ≤ result.operands }
+    ensures stands { (addressed : AddressedUnit) (k : ℕ) (work : Work) (operands : List Value) (index : ℕ) → code.now ≡ code_of addressed
+        → Stands addressed k work operands index → length operands ≤ result.operands }
     // Where no statement has more than 256, the unit hasn't.
     ensures few { result.too_deep ≡ None → result.operands ≤ most_operands }
 {

@@ -34,30 +34,52 @@ ghost use Rattle.hep_code.specs.UnitCode.{AddressedUnit, code_of};
 /// An operation that stands ahead is that of what comes next of the statement: of a redex or an action,
 /// with its operands and its entries; and a value in the place of the redex leads to the next index.
 pub fn operations_stand_ahead()
-    ensures step { (addressed : AddressedUnit) (k : ℕ) (work : Work) (operands : List Value) (index : ℕ) → Stands addressed k work operands index → IsPastPushes (code_of addressed) index → (operation : Operation) × (behind : List Instruction) × (drop index (code_of addressed) ≡ Step (line_at addressed.unit k) operation ∷ behind) }
-    ensures next { (addressed : AddressedUnit) (k : ℕ) (work : Work) (operands : List Value) (index line : ℕ) (operation : Operation) (behind : List Instruction) → Stands addressed k work operands index → drop index (code_of addressed) ≡ Step line operation ∷ behind → (line_at addressed.unit k ≡ line) × IsNext addressed k work operands index (next_of addressed.unit work) operation behind }
+    ensures step { (addressed : AddressedUnit) (k : ℕ) (work : Work) (operands : List Value) (index : ℕ)
+        → Stands addressed k work operands index → IsPastPushes (code_of addressed) index → (operation : Operation)
+        × (behind : List Instruction) × (drop index (code_of addressed) ≡ Step (line_at addressed.unit k) operation ∷ behind) }
+    ensures next { (addressed : AddressedUnit) (k : ℕ) (work : Work) (operands : List Value)
+        (index line : ℕ) (operation : Operation) (behind : List Instruction) → Stands addressed k work operands index
+        → drop index (code_of addressed) ≡ Step line operation ∷ behind → (line_at addressed.unit k ≡ line)
+        × IsNext addressed k work operands index (next_of addressed.unit work) operation behind }
 {}
 
 /// Where a DO is entered or ended there is that DO.
 pub fn loops_are_there()
-    ensures entered { (unit : List Statement) (k : ℕ) (work : Work) (x : Name) (m n i : Value) → Fits unit k work → next_of unit work ≡ does (entering_loop x m n i) → is_do (statement_at unit k).form ≡ true }
-    ensures ended { (unit : List Statement) (k : ℕ) (work : Work) (d : ℕ) → Fits unit k work → next_of unit work ≡ does (ending_loop d) → is_do (statement_at unit d).form ≡ true }
+    ensures entered { (unit : List Statement) (k : ℕ) (work : Work) (x : Name) (m n i : Value) → Fits unit k work
+        → next_of unit work ≡ does (entering_loop x m n i) → is_do (statement_at unit k).form ≡ true }
+    ensures ended { (unit : List Statement) (k : ℕ) (work : Work) (d : ℕ) → Fits unit k work → next_of unit work ≡ does (ending_loop d)
+        → is_do (statement_at unit d).form ≡ true }
 {}
 
 /// An operation that gives a value replies what the machine answers to the redex whose operation it is, and one
 /// that stores a value what the machine makes of the assignment, where the cells have what the machine has stored.
 pub fn operations_reply_as_the_machine_answers()
-    ensures redex { (addressing : Addressing) (store : Store) (cells : ℕ → Slot) (scope : Scope) (address : Variable → List Value → Result ℕ Kind) (variables : Name → Variable) (r : Redex) → Finds addressing cells store → IsAddressedIn addressing scope address variables r → Answers addressing store (reply_of cells address (evaluation_of variables r) (operands_of_redex r)) (answer_of scope store r) }
-    ensures stored { (addressing : Addressing) (store : Store) (cells : ℕ → Slot) (scope : Scope) (address : Variable → List Value → Result ℕ Kind) (variables : Name → Variable) (x : Name) (v : Value) (subscripts : List Value) → Finds addressing cells store → IsAddressed addressing scope address variables x subscripts → Answers addressing store (reply_to_store cells address (variables x) v subscripts) (answer_to_store store x.asynchronous v (location_of_name scope x subscripts)) }
-    ensures assigned { (program : Units) (top : Top) (asynchronous : Bool) (location : Result Location Kind) (v : Value) → result_after_assignment program top asynchronous location v ≡ result_after_write program top (level_after_statement (unit_on_top program top) top.level) (answer_to_store top.state.store asynchronous v location) }
+    ensures redex { (addressing : Addressing) (store : Store) (cells : ℕ → Slot) (scope : Scope) (address : Variable → List Value
+        → Result ℕ Kind) (variables : Name → Variable) (r : Redex) → Finds addressing cells store
+        → IsAddressedIn addressing scope address variables r
+        → Answers addressing store (reply_of cells address (evaluation_of variables r) (operands_of_redex r)) (answer_of scope store r) }
+    ensures stored { (addressing : Addressing) (store : Store) (cells : ℕ → Slot) (scope : Scope) (address : Variable → List Value
+        → Result ℕ Kind) (variables : Name → Variable) (x : Name) (v : Value) (subscripts : List Value) → Finds addressing cells store
+        → IsAddressed addressing scope address variables x subscripts
+        → Answers addressing store (reply_to_store cells address (variables x) v subscripts)
+        (answer_to_store store x.asynchronous v (location_of_name scope x subscripts)) }
+    ensures assigned { (program : Units) (top : Top) (asynchronous : Bool) (location : Result Location Kind) (v : Value)
+        → result_after_assignment program top asynchronous location v
+        ≡ result_after_write program top (level_after_statement (unit_on_top program top) top.level)
+        (answer_to_store top.state.store asynchronous v location) }
 {}
 
 /// What stands behind the operation of a CALL, CREATE, PURGE or PRINT, with the operands, is what is passed, purged
 /// or printed, in order.
 pub fn entries_stand_for_lists()
-    ensures actuals { (variables : Name → Variable) (actuals : List Actual) (more : List Instruction) → passed_from (length actuals) (map (λ a. Pass (argument_of_actual variables a)) actuals ++ more) (flat_map operands_of_actual actuals) ≡ map (passed_actual variables) actuals }
-    ensures purged { (variables : Name → Variable) (references : List Reference) (more : List Instruction) → passed_from (length references) (map (λ r. Pass (referred_argument variables r)) references ++ more) (flat_map (λ (r : Reference). r.1) references) ≡ map (passed_reference variables) references }
-    ensures printed { (items : List Item) (more : List Instruction) → items_from (length items) (map (λ i. Show (printed_item i)) items ++ more) (flat_map operands_of_item items) ≡ items }
+    ensures actuals { (variables : Name → Variable) (actuals : List Actual) (more : List Instruction)
+        → passed_from (length actuals) (map (λ a. Pass (argument_of_actual variables a)) actuals
+        ++ more) (flat_map operands_of_actual actuals) ≡ map (passed_actual variables) actuals }
+    ensures purged { (variables : Name → Variable) (references : List Reference) (more : List Instruction)
+        → passed_from (length references) (map (λ r. Pass (referred_argument variables r)) references
+        ++ more) (flat_map (λ (r : Reference). r.1) references) ≡ map (passed_reference variables) references }
+    ensures printed { (items : List Item) (more : List Instruction)
+        → items_from (length items) (map (λ i. Show (printed_item i)) items ++ more) (flat_map operands_of_item items) ≡ items }
 {}
 
 /// The levels of a process stay in the code as its top moves, or gets a value in the place of a redex, and as
@@ -65,17 +87,38 @@ pub fn entries_stand_for_lists()
 /// once the subroutine has returned, and a new activation begins at its unit's first statement, on top of its
 /// caller or as a process of its own.
 pub fn levels_stay_in_the_code()
-    ensures moved { (program : Units) (addresses : Addresses) (s : State) (f : CodeLevel) (fs : List CodeLevel) (level after : Level) (levels : Process) (counts : Counts) (index : ℕ) → AreLevels program addresses s (f ∷ fs) (level ∷ levels) → Moves (addressed_unit program addresses f.unit) level after counts index → AreLevels program addresses s (record f { index = index; operands = []; counts = counts } ∷ fs) (after ∷ levels) }
-    ensures filled { (program : Units) (addresses : Addresses) (s : State) (f : CodeLevel) (fs : List CodeLevel) (level : Level) (levels : Process) (operation : Operation) (r : Redex) (v : Value) → AreLevels program addresses s (f ∷ fs) (level ∷ levels) → (is : IsRedex (addressed_unit program addresses f.unit) level.statement level.work f.operands f.index r operation) → AreLevels program addresses s (record f { index = f.index + 1; operands = is.before ++ v ∷ [] } ∷ fs) (record level { work = plug_work (unit_at program f.unit) level.work v } ∷ levels) }
-    ensures added { (program : Units) (addresses : Addresses) (s t : State) (added : List Activation) (fs : List CodeLevel) (levels : Process) → t.activations ≡ s.activations ++ added → AreLevels program addresses s fs levels → AreLevels program addresses t fs levels }
-    ensures returned { (program : Units) (addresses : Addresses) (s : State) (fs : List CodeLevel) (levels : Process) → AreBelow program addresses s fs levels → AreLevels program addresses s fs (stack_after_return program s levels) }
-    ensures called { (program : Units) (addresses : Addresses) (top : Top) (u : ℕ) (b : Binding) (counts : Counts) (f : CodeLevel) (fs : List CodeLevel) → NoLoops (unit_at program u) counts → AreLevels program addresses top.state (f ∷ fs) (top.level ∷ top.below) → AreLevels program addresses (with_activation top u b) (entered program addresses (next_activation top.state) u counts ∷ (calling program addresses f top.level ∷ fs)) (entry_level (unit_at program u) (next_activation top.state) ∷ (top.level ∷ top.below)) }
-    ensures created { (program : Units) (addresses : Addresses) (top : Top) (u : ℕ) (b : Binding) (counts : Counts) → NoLoops (unit_at program u) counts → AreLevels program addresses (with_activation top u b) (entered program addresses (next_activation top.state) u counts ∷ []) (entry_level (unit_at program u) (next_activation top.state) ∷ []) }
+    ensures moved { (program : Units) (addresses : Addresses) (s : State) (f : CodeLevel) (fs : List CodeLevel)
+        (level after : Level) (levels : Process) (counts : Counts) (index : ℕ) → AreLevels program addresses s (f ∷ fs) (level ∷ levels)
+        → Moves (addressed_unit program addresses f.unit) level after counts index
+        → AreLevels program addresses s (record f { index = index; operands = []; counts = counts } ∷ fs) (after ∷ levels) }
+    ensures filled { (program : Units) (addresses : Addresses) (s : State) (f : CodeLevel) (fs : List CodeLevel) (level : Level)
+        (levels : Process) (operation : Operation) (r : Redex) (v : Value) → AreLevels program addresses s (f ∷ fs) (level ∷ levels)
+        → (is : IsRedex (addressed_unit program addresses f.unit) level.statement level.work f.operands f.index r operation)
+        → AreLevels program addresses s (record f { index = f.index + 1; operands = is.before ++ v ∷ [] } ∷ fs)
+        (record level { work = plug_work (unit_at program f.unit) level.work v } ∷ levels) }
+    ensures added { (program : Units) (addresses : Addresses)
+        (s t : State) (added : List Activation) (fs : List CodeLevel) (levels : Process) → t.activations ≡ s.activations ++ added
+        → AreLevels program addresses s fs levels → AreLevels program addresses t fs levels }
+    ensures returned { (program : Units) (addresses : Addresses) (s : State) (fs : List CodeLevel) (levels : Process)
+        → AreBelow program addresses s fs levels → AreLevels program addresses s fs (stack_after_return program s levels) }
+    ensures called { (program : Units) (addresses : Addresses) (top : Top) (u : ℕ) (b : Binding) (counts : Counts) (f : CodeLevel)
+        (fs : List CodeLevel) → NoLoops (unit_at program u) counts
+        → AreLevels program addresses top.state (f ∷ fs) (top.level ∷ top.below)
+        → AreLevels program addresses (with_activation top u b) (entered program addresses (next_activation top.state) u counts
+        ∷ (calling program addresses f top.level ∷ fs)) (entry_level (unit_at program u) (next_activation top.state)
+        ∷ (top.level ∷ top.below)) }
+    ensures created { (program : Units) (addresses : Addresses) (top : Top) (u : ℕ) (b : Binding) (counts : Counts)
+        → NoLoops (unit_at program u) counts
+        → AreLevels program addresses (with_activation top u b) (entered program addresses (next_activation top.state) u counts ∷ [])
+        (entry_level (unit_at program u) (next_activation top.state) ∷ []) }
 {}
 
 /// Wherever an activation stands in the code of a unit, its operands, with the values that stand ahead, are no more
 /// than the deepest stack of that code; so there is room for them in a vector of that capacity.
 pub fn operands_have_room()
-    ensures operands { (addressed : AddressedUnit) (k : ℕ) (work : Work) (operands : List Value) (index : ℕ) → Stands addressed k work operands index → length operands ≤ deepest (code_of addressed) }
-    ensures ahead { (addressed : AddressedUnit) (k : ℕ) (work : Work) (operands : List Value) (index : ℕ) → Stands addressed k work operands index → length operands + values_ahead (drop index (code_of addressed)) ≤ deepest (code_of addressed) }
+    ensures operands { (addressed : AddressedUnit) (k : ℕ) (work : Work) (operands : List Value) (index : ℕ)
+        → Stands addressed k work operands index → length operands ≤ deepest (code_of addressed) }
+    ensures ahead { (addressed : AddressedUnit) (k : ℕ) (work : Work) (operands : List Value) (index : ℕ)
+        → Stands addressed k work operands index → length operands + values_ahead (drop index (code_of addressed))
+        ≤ deepest (code_of addressed) }
 {}

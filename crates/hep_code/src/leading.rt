@@ -139,7 +139,9 @@ pub fn led_to(
 ) -> usize
     requires { index + 1 < 2 ^ 64 }
     ensures value { result ≡ moves_words.led_to operation entries.now operands.now index }
-    ensures leads { (addressed : AddressedUnit) (level : Level) (counts : Counts) (line : ℕ) (a : Action) → IsAt addressed level operands.now counts index → drop index (code_of addressed) ≡ Instruction.Step line operation ∷ entries.now → next_of addressed.unit level.work ≡ does a → leads_words.Leads addressed level counts a result }
+    ensures leads { (addressed : AddressedUnit) (level : Level) (counts : Counts) (line : ℕ) (a : Action)
+        → IsAt addressed level operands.now counts index → drop index (code_of addressed) ≡ Instruction.Step line operation ∷ entries.now
+        → next_of addressed.unit level.work ≡ does a → leads_words.Leads addressed level counts a result }
 {
     index_after(entries, index, operation, operands)
 }
@@ -148,8 +150,23 @@ pub fn led_to(
 /// once the DO has its count and its variable is set.
 pub fn led_by_count(operation: Operation, index: usize, count: i64) -> usize
     ensures value { result ≡ moves_words.led_by_count operation (natural count) index }
-    ensures enters { (addressed : AddressedUnit) (level : Level) (operands : List Value) (old new : Counts) (line : ℕ) (behind : List Instruction) (x : Name) (m n i : Value) (increment : ℤ) → IsAt addressed level operands old index → drop index (code_of addressed) ≡ Instruction.Step line operation ∷ behind → next_of addressed.unit level.work ≡ does (entering_loop x m n i) → leads_words.LeadsCounted addressed level (record { statement = level.statement; count = count; increment = increment }) old new result }
-    ensures ends { (addressed : AddressedUnit) (level : Level) (operands : List Value) (old new : Counts) (line : ℕ) (behind : List Instruction) (d : ℕ) → IsAt addressed level operands old index → drop index (code_of addressed) ≡ Instruction.Step line operation ∷ behind → next_of addressed.unit level.work ≡ does (ending_loop d) → natural count ≡ natural (loop_at level.loops d).count - 1 → leads_words.LeadsCounted addressed level (record { statement = (loop_at level.loops d).statement; count = (loop_at level.loops d).count -ℤ pos 1; increment = (loop_at level.loops d).increment }) old new result }
+    ensures enters { (addressed : AddressedUnit) (level : Level) (operands : List Value)
+        (old new : Counts) (line : ℕ) (behind : List Instruction) (x : Name) (m n i : Value) (increment : ℤ)
+        → IsAt addressed level operands old index → drop index (code_of addressed) ≡ Instruction.Step line operation ∷ behind
+        → next_of addressed.unit level.work ≡ does (entering_loop x m n i)
+        → leads_words.LeadsCounted addressed level
+        (record { statement = level.statement; count = count; increment = increment }) old new result }
+    ensures ends { (addressed : AddressedUnit) (level : Level) (operands : List Value)
+        (old new : Counts) (line : ℕ) (behind : List Instruction) (d : ℕ) → IsAt addressed level operands old index
+        → drop index (code_of addressed) ≡ Instruction.Step line operation ∷ behind
+        → next_of addressed.unit level.work ≡ does (ending_loop d) → natural count ≡ natural (loop_at level.loops d).count - 1
+        → leads_words.LeadsCounted addressed level
+        (record {
+          statement = (loop_at level.loops d).statement;
+          count = (loop_at level.loops d).count -ℤ pos 1;
+          increment =
+              (loop_at level.loops d).increment;
+        }) old new result }
 {
     index_counted(operation, index, count)
 }

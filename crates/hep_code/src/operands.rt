@@ -16,7 +16,8 @@ impl Evaluation {
     /// How many operands the operation takes: as many as the redex has whose operation it is.
     pub fn arity(self) -> u32
         ensures value { result ≡ actions.arity self }
-        ensures redex { (variables : Name → Variable) (r : Redex) → self ≡ actions.evaluation_of variables r → length (actions.operands_of_redex r) ≡ result }
+        ensures redex { (variables : Name → Variable) (r : Redex) → self ≡ actions.evaluation_of variables r
+            → length (actions.operands_of_redex r) ≡ result }
     {
         match self {
             Evaluation::Load { subscripts, .. } | Evaluation::Test { subscripts, .. } => subscripts,
@@ -44,7 +45,8 @@ pub fn settle(code: &[Instruction], operands: &mut Vec<Value>, index: &mut usize
     requires room { vec_len operands.old + values_ahead (drop index.old code.now) ≤ vec_capacity operands.old }
     ensures same { standing.left_to_do operands.new.items index.new code.now ≡ standing.left_to_do operands.old.items index.old code.now }
     ensures settled { IsPastPushes code.now index.new }
-    ensures stands { (addressed : AddressedUnit) (k : ℕ) (work : Work) → code.now ≡ code_of addressed → standing.Stands addressed k work operands.old.items index.old → standing.Stands addressed k work operands.new.items index.new }
+    ensures stands { (addressed : AddressedUnit) (k : ℕ) (work : Work) → code.now ≡ code_of addressed
+        → standing.Stands addressed k work operands.old.items index.old → standing.Stands addressed k work operands.new.items index.new }
     ensures capacity { vec_capacity operands.old ≤ vec_capacity operands.new }
 {
     while let Some(Instruction::Push(value)) = code.get(*index) {

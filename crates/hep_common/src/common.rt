@@ -189,7 +189,8 @@ impl CommonBlocks {
         requires { reading.cells_so_far unit (get (option_eq name_eq) self.old.lengths block) < 2 ^ 96 }
         ensures blocks { OnOk result (self.new.blocks.keys ≡ reading.with_block self.old.blocks.keys block) }
         ensures lengths { OnOk result ((b : BlockName) → get (option_eq name_eq) self.new.lengths b
-            ≡ (if same_block block b then Some (reading.lengthened (get (option_eq name_eq) self.old.lengths block) unit count) else get (option_eq name_eq) self.old.lengths b)) }
+            ≡ (if same_block block b then Some (reading.lengthened (get (option_eq name_eq) self.old.lengths block) unit count)
+            else get (option_eq name_eq) self.old.lengths b)) }
     {
         add_block(&mut self.blocks, block)?;
         let length = lengthened(length_of(&self.lengths, block), unit, count);
@@ -207,9 +208,11 @@ impl CommonBlocks {
     ) -> Result<(), AllocError>
         requires unread { IsUnread unit (get (option_eq name_eq) self.old.lengths) }
         requires entries { entries.now ≡ reading.entries_of symbols.now }
-        ensures blocks { OnOk result (self.new.blocks.keys ≡ declarations.with_blocks self.old.blocks.keys (declarations.blocks_of_unit symbols.now)) }
+        ensures blocks { OnOk result (self.new.blocks.keys
+            ≡ declarations.with_blocks self.old.blocks.keys (declarations.blocks_of_unit symbols.now)) }
         ensures lengths { OnOk result ((b : BlockName) → reading.greatest_length (get (option_eq name_eq) self.new.lengths b)
-            ≡ max (reading.greatest_length (get (option_eq name_eq) self.old.lengths b)) (cells_of_all symbols.now (declarations.names_in_block symbols.now b))) }
+            ≡ max (reading.greatest_length (get (option_eq name_eq) self.old.lengths b))
+            (cells_of_all symbols.now (declarations.names_in_block symbols.now b))) }
         ensures unread { OnOk result (IsUnread (unit + 1) (get (option_eq name_eq) self.new.lengths)) }
     {
         let constants = constants(alloc, symbols)?;
@@ -227,7 +230,8 @@ impl CommonBlocks {
     /// Only where memory was refused.
     pub fn of_program(alloc: Global, program: &ProgramSymbols) -> Result<CommonBlocks, AllocError>
         ensures blocks { IfOk result (λ common. common.blocks.keys ≡ declarations.blocks_of program.now) }
-        ensures lengths { IfOk result (λ common. (b : BlockName) → reading.greatest_length (get (option_eq name_eq) common.lengths b) ≡ block_cells program.now b) }
+        ensures lengths { IfOk result (λ common. (b : BlockName)
+            → reading.greatest_length (get (option_eq name_eq) common.lengths b) ≡ block_cells program.now b) }
         ensures bounded { IfOk result (λ common. common_cells program.now < 2 ^ 96) }
     {
         let mut common = CommonBlocks::new(alloc);

@@ -10,5 +10,6 @@ ghost use Rattle.hep_common.specs.declared.starts.CommonStarts.{CommonStarts};
 /// Where COMMON has no more than 16,777,216 cells, as in every arena, the start that is kept for a block of the
 /// program is its first cell.
 pub fn starts_are_first_cells()
-    ensures { (program : Units) (c : CommonStarts) (b : BlockName) → common_cells program ≤ 16777216 → AreStarts program c → is_block_among b (blocks_of program) ≡ true → start_in c b ≡ first_of_block program b }
+    ensures { (program : Units) (c : CommonStarts) (b : BlockName) → common_cells program ≤ 16777216 → AreStarts program c
+        → is_block_among b (blocks_of program) ≡ true → start_in c b ≡ first_of_block program b }
 {}

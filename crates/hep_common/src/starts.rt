@@ -46,7 +46,8 @@ impl CommonStarts {
     fn add(&mut self, block: Option<Name>, cells: u128) -> Result<(), AllocError>
         requires { self.old.cells + cells < 2 ^ 128 }
         ensures cells { OnOk result (self.new.cells ≡ self.old.cells + cells) }
-        ensures starts { OnOk result ((b : BlockName) → start_in self.new b ≡ (if same_block block b then narrowed self.old.cells else start_in self.old b)) }
+        ensures starts { OnOk result ((b : BlockName)
+            → start_in self.new b ≡ (if same_block block b then narrowed self.old.cells else start_in self.old b)) }
     {
         self.starts.insert(block, in_32_bits(self.cells))?;
         self.cells += cells;

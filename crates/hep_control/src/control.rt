@@ -134,7 +134,8 @@ impl<'a> Control<'a> {
     /// The innermost DO that is around the DO at an index and ends at the same statement.
     pub fn outer_loop(&self, index: usize) -> Option<usize>
         requires { index < length self.now }
-        ensures { result ≡ slice_get (control.loops_around index (control.loops_ending_at self.now (control.terminal_of self.now index))) 0 }
+        ensures { result ≡ slice_get (control.loops_around index
+            (control.loops_ending_at self.now (control.terminal_of self.now index))) 0 }
     {
         match self.loops.outer.get(index) {
             Some(outer) => *outer,

@@ -54,7 +54,8 @@ fn events_of_ranges(
     unit: &[Statement],
     ranges: &[DoRange],
 ) -> Result<Vec<Event>, AllocError>
-    ensures { IfOk result (λ events. events.items ≡ map spec.value_of_range ranges.now ++ map (spec.question_of_range unit.now) ranges.now) }
+    ensures { IfOk result (λ events. events.items ≡ map spec.value_of_range ranges.now
+        ++ map (spec.question_of_range unit.now) ranges.now) }
 {
     let mut events = Vec::new(alloc);
     add_ranges(&mut events, ranges)?;
@@ -76,7 +77,8 @@ fn events_of_blocks(
     ranges: &[DoRange],
     blocks: &[BlockIf],
 ) -> Result<Vec<Event>, AllocError>
-    ensures { IfOk result (λ events. events.items ≡ map spec.value_of_range ranges.now ++ map (spec.question_of_block unit.now) blocks.now) }
+    ensures { IfOk result (λ events. events.items ≡ map spec.value_of_range ranges.now
+        ++ map (spec.question_of_block unit.now) blocks.now) }
 {
     let mut events = Vec::new(alloc);
     add_ranges(&mut events, ranges)?;
@@ -98,7 +100,8 @@ fn events_in_blocks(
     ranges: &[DoRange],
     blocks: &[BlockIf],
 ) -> Result<Vec<Event>, AllocError>
-    ensures { IfOk result (λ events. events.items ≡ flat_map spec.values_in blocks.now ++ map (spec.question_in_range unit.now) ranges.now) }
+    ensures { IfOk result (λ events. events.items ≡ flat_map spec.values_in blocks.now
+        ++ map (spec.question_in_range unit.now) ranges.now) }
 {
     let mut events = Vec::new(alloc);
     add_all_ends(&mut events, blocks)?;
@@ -173,7 +176,8 @@ fn least_shared(
 // Whether a range of this variable that was met has this DO in it; from now on this one is met too.
 fn is_shared(last: &mut IndexMap<Name, usize>, range: &DoRange) -> Result<bool, AllocError>
     ensures shared { IfOk result (λ it. it ≡ spec.reaches (get names.name_eq last.old range.now.variable) range.now.start) }
-    ensures met { OnOk result ((x : PureName) → get names.name_eq last.new x ≡ spec.with_range (get names.name_eq last.old) (do_range range.now) x) }
+    ensures met { OnOk result ((x : PureName) → get names.name_eq last.new x
+        ≡ spec.with_range (get names.name_eq last.old) (do_range range.now) x) }
 {
     let before = last.get(&range.variable).copied();
     last.insert(range.variable, later(before, range.terminal))?;

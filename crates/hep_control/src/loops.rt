@@ -22,8 +22,10 @@ impl Drop for Loops {
 
 /// The DOs of a unit.
 pub(crate) fn loops_of(alloc: Global, labels: &Labels) -> Result<Loops, AllocError>
-    ensures innermost { IfOk result (λ loops. (k : ℕ) → k ≤ length labels.now → slice_get loops.innermost.items k ≡ Some (spec.innermost_loop labels.now k)) }
-    ensures outer { IfOk result (λ loops. (d : ℕ) → d < length labels.now → slice_get loops.outer.items d ≡ Some (spec.outer_loop labels.now d)) }
+    ensures innermost { IfOk result (λ loops. (k : ℕ) → k ≤ length labels.now
+        → slice_get loops.innermost.items k ≡ Some (spec.innermost_loop labels.now k)) }
+    ensures outer { IfOk result (λ loops. (d : ℕ) → d < length labels.now
+        → slice_get loops.outer.items d ≡ Some (spec.outer_loop labels.now d)) }
 {
     let unit = labels.unit();
     let mut innermost = no_loops(alloc, unit.len())?;

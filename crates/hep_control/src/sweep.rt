@@ -51,7 +51,8 @@ pub(crate) fn least_met(alloc: Global, mut events: Vec<Event>) -> Result<Option<
 // The line that a question gives by the values before it; a value is among them from now on.
 fn line_met(values: &mut BTreeSet<usize>, event: &Event) -> Result<Option<u32>, AllocError>
     ensures line { IfOk result (λ line. line ≡ sweep.line_met values.old.keys event.now) }
-    ensures values { OnOk result ((test : ℕ → Bool) → list_any test values.new.keys ≡ list_any test (sweep.with_event event.now values.old.keys)) }
+    ensures values { OnOk result ((test : ℕ → Bool) → list_any test values.new.keys
+        ≡ list_any test (sweep.with_event event.now values.old.keys)) }
 {
     match event {
         Event::Value { value, .. } => {

@@ -111,7 +111,8 @@ fn cells_by_array(
     target: &Target,
 ) -> Result<Option<Cells>, AllocError>
     requires { value_among constants.now ≡ constant_value frame.now.symbols.now }
-    ensures { IfOk result (λ cells. cells ≡ given.cells_by_array frame.now.symbols.now frame.now.common (slice_get frame.now.arrays.now index) target.now) }
+    ensures { IfOk result (λ cells. cells
+        ≡ given.cells_by_array frame.now.symbols.now frame.now.common (slice_get frame.now.arrays.now index) target.now) }
 {
     match frame.arrays.get(index as usize) {
         Some(
@@ -144,7 +145,8 @@ pub(crate) fn cells_named(
     target: &Target,
 ) -> Result<Option<Cells>, AllocError>
     requires { value_among constants.now ≡ constant_value frame.now.symbols.now }
-    ensures { IfOk result (λ cells. cells ≡ given.cells_named frame.now.symbols.now (get name_eq frame.now.variables.now) frame.now.arrays.now frame.now.common target.now) }
+    ensures { IfOk result (λ cells. cells
+        ≡ given.cells_named frame.now.symbols.now (get name_eq frame.now.variables.now) frame.now.arrays.now frame.now.common target.now) }
 {
     match variable(frame, target) {
         Variable::Local { cell, .. } => Ok(cells_of_scalar(frame.common, cell, target)),

@@ -79,7 +79,10 @@ fn add_target(
     target: &Target,
 ) -> Result<(), AllocError>
     requires { value_among constants.now ≡ constant_value frame.now.symbols.now }
-    ensures { OnOk result (Gives (option_to_list (given.cells_named frame.now.symbols.now (get name_eq frame.now.variables.now) frame.now.arrays.now frame.now.common target.now)) rows.old.items (left values.old) rows.new.items (left values.new)) }
+    ensures { OnOk result (Gives (option_to_list
+        (given.cells_named frame.now.symbols.now
+        (get name_eq frame.now.variables.now) frame.now.arrays.now frame.now.common target.now)) rows.old.items
+        (left values.old) rows.new.items (left values.new)) }
 {
     let cells = cells_named(alloc, frame, constants, target)?;
     add_named(rows, cells, values)
@@ -95,7 +98,9 @@ fn add_targets(
     targets: &[Target],
 ) -> Result<(), AllocError>
     requires { value_among constants.now ≡ constant_value frame.now.symbols.now }
-    ensures { OnOk result (Gives (given.all_cells_named frame.now.symbols.now (get name_eq frame.now.variables.now) frame.now.arrays.now frame.now.common targets.now) rows.old.items (left values.old) rows.new.items (left values.new)) }
+    ensures { OnOk result (Gives (given.all_cells_named frame.now.symbols.now
+        (get name_eq frame.now.variables.now) frame.now.arrays.now frame.now.common targets.now) rows.old.items
+        (left values.old) rows.new.items (left values.new)) }
 {
     for target in targets {
         add_target(alloc, frame, constants, rows, values, target)?;
@@ -113,7 +118,9 @@ pub(crate) fn add_group(
 ) -> Result<(), AllocError>
     requires { value_among constants.now ≡ constant_value frame.now.symbols.now }
     ensures { OnOk result ((p : ℕ) → value_in_rows rows.new.items p
-        ≡ option_or (value_in_rows rows.old.items p) (given.value_by_group frame.now.symbols.now (get name_eq frame.now.variables.now) frame.now.arrays.now frame.now.common group.now p)) }
+        ≡ option_or (value_in_rows rows.old.items p)
+        (given.value_by_group frame.now.symbols.now
+        (get name_eq frame.now.variables.now) frame.now.arrays.now frame.now.common group.now p)) }
 {
     let mut values = Values::new(constants, group.values.as_slice());
     add_targets(

@@ -21,7 +21,8 @@ use std::alloc::{AllocError, Global};
 // The rows of all groups, those of the last group first: what a later group gives is what is stored.
 fn rows_of(alloc: Global, frame: &MainFrame) -> Result<Vec<DataRow>, AllocError>
     ensures { IfOk result (λ rows. (p : ℕ) → value_in_rows rows.items p
-        ≡ given.value_by_groups frame.now.symbols.now (get name_eq frame.now.variables.now) frame.now.arrays.now frame.now.common (data_groups frame.now.symbols.now) p) }
+        ≡ given.value_by_groups frame.now.symbols.now (get name_eq frame.now.variables.now) frame.now.arrays.now frame.now.common
+        (data_groups frame.now.symbols.now) p) }
 {
     let constants = constants(alloc, frame.symbols)?;
     let mut groups = data_groups(alloc, frame.symbols.statements())?;

@@ -56,7 +56,8 @@ impl<'a> Values<'a> {
         requires { self.old.count ≡ 0 }
         ensures constants { self.new.constants ≡ self.old.constants }
         ensures behind { self.new.behind ≡ self.old.behind }
-        ensures same { AreSame (left self.new) (option_to_list (option_map repeated value) ++ all_values (value_among self.old.constants.now) self.old.behind.now) }
+        ensures same { AreSame (left self.new) (option_to_list (option_map repeated value)
+            ++ all_values (value_among self.old.constants.now) self.old.behind.now) }
     {
         if let Some((next, count)) = value {
             self.next = next;

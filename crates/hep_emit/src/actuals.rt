@@ -79,7 +79,8 @@ pub(crate) fn emit_arguments(
     names: &Names,
     actuals: &[Expr],
 ) -> Result<(), EmitFault>
-    ensures code { OnOk result (code.new.items ≡ code.old.items ++ map (λ t. instruction.Pass (code_words.argument_of (names_in names.now) t)) actuals.now) }
+    ensures code { OnOk result (code.new.items ≡ code.old.items
+        ++ map (λ t. instruction.Pass (code_words.argument_of (names_in names.now) t)) actuals.now) }
     ensures refused { IfErr result (IsTooLong (subscripts_of_actuals (names_in names.now) actuals.now)) }
 {
     for actual in actuals {
@@ -123,7 +124,8 @@ pub(crate) fn emit_purged(
     names: &Names,
     targets: &[Target],
 ) -> Result<(), EmitFault>
-    ensures code { OnOk result (code.new.items ≡ code.old.items ++ map (λ t. instruction.Pass (code_words.argument_of_target (names_in names.now) t)) targets.now) }
+    ensures code { OnOk result (code.new.items ≡ code.old.items
+        ++ map (λ t. instruction.Pass (code_words.argument_of_target (names_in names.now) t)) targets.now) }
     ensures refused { IfErr result (IsTooLong (subscripts_of_targets (names_in names.now) targets.now)) }
 {
     for target in targets {

@@ -23,7 +23,8 @@ const NO_NAME: Name = Name {
 
 // A constant or a variable.
 fn emit_name(code: &mut Code, names: &Names, line: u32, name: &Name) -> Result<(), AllocError>
-    ensures { OnOk result (code.new.items ≡ code.old.items ++ code_words.name_code (names_in names.now) line ((names_in names.now).constants name.now) name.now) }
+    ensures { OnOk result (code.new.items ≡ code.old.items
+        ++ code_words.name_code (names_in names.now) line ((names_in names.now).constants name.now) name.now) }
 {
     match names.constant(name) {
         Some(value) => emit(code, Instruction::Push(value)),
@@ -128,8 +129,14 @@ fn emit_listed(
     name: &Name,
     list: &[Expr],
 ) -> Result<(), EmitFault>
-    ensures code { OnOk result (code.new.items ≡ code.old.items ++ code_words.listed_code (names_in names.now) (meaning listed) line name.now (trees_of list.now) (code_words.trees_code (names_in names.now) line (trees_of list.now)) (code_words.asked_code (names_in names.now) line (trees_of list.now))) }
-    ensures refused { IfErr result (IsTooLong (length (code_words.listed_code (names_in names.now) (meaning listed) line name.now (trees_of list.now) (code_words.trees_code (names_in names.now) line (trees_of list.now)) (code_words.asked_code (names_in names.now) line (trees_of list.now))))) }
+    ensures code { OnOk result (code.new.items ≡ code.old.items
+        ++ code_words.listed_code (names_in names.now) (meaning listed) line name.now (trees_of list.now)
+        (code_words.trees_code (names_in names.now) line (trees_of list.now))
+        (code_words.asked_code (names_in names.now) line (trees_of list.now))) }
+    ensures refused { IfErr result (IsTooLong
+        (length (code_words.listed_code (names_in names.now) (meaning listed) line name.now (trees_of list.now)
+        (code_words.trees_code (names_in names.now) line (trees_of list.now))
+        (code_words.asked_code (names_in names.now) line (trees_of list.now))))) }
 {
     match listed {
         Meaning::Element => {

@@ -88,7 +88,8 @@ fn emit_increment(
     line: u32,
     increment: &Option<Expr>,
 ) -> Result<(), EmitFault>
-    ensures code { OnOk result (code.new.items ≡ code.old.items ++ code_words.tree_code (names_in names.now) line (increment_of increment.now)) }
+    ensures code { OnOk result (code.new.items ≡ code.old.items
+        ++ code_words.tree_code (names_in names.now) line (increment_of increment.now)) }
     ensures refused { IfErr result (IsTooLong (length (code_words.tree_code (names_in names.now) line (increment_of increment.now)))) }
 {
     match increment {

@@ -48,7 +48,9 @@ fn emit_store(
     target: &Target,
 ) -> Result<(), EmitFault>
     requires { index < length tables.now.control.now }
-    ensures code { OnOk result (code.new.items ≡ code.old.items ++ instruction.Step line (operation.Store ((names_in tables.now.names).variables target.now.occurrence.name) (code_words.count (trees_of target.now.subscripts)) ((table_in tables.now).flows index).next) ∷ []) }
+    ensures code { OnOk result (code.new.items ≡ code.old.items
+        ++ instruction.Step line (operation.Store ((names_in tables.now.names).variables target.now.occurrence.name)
+        (code_words.count (trees_of target.now.subscripts)) ((table_in tables.now).flows index).next) ∷ []) }
     ensures refused { IfErr result (IsTooLong (length target.now.subscripts)) }
 {
     let variable = tables.names.variable(&target.occurrence.name);
@@ -71,7 +73,9 @@ fn emit_choice(
     labels: &[u32],
 ) -> Result<(), EmitFault>
     requires { index < length tables.now.control.now }
-    ensures code { OnOk result (code.new.items ≡ code.old.items ++ instruction.Step line (operation.Choose (length labels.now) ((table_in tables.now).flows index).next) ∷ map (λ l. instruction.To ((table_in tables.now).labels l)) labels.now) }
+    ensures code { OnOk result (code.new.items ≡ code.old.items
+        ++ instruction.Step line (operation.Choose (length labels.now) ((table_in tables.now).flows index).next)
+        ∷ map (λ l. instruction.To ((table_in tables.now).labels l)) labels.now) }
     ensures refused { IfErr result (IsTooLong (length labels.now)) }
 {
     let count = counted(labels.len())?;
@@ -87,7 +91,9 @@ fn emit_by_sign(
     line: u32,
     labels: SignLabels,
 ) -> Result<(), AllocError>
-    ensures { OnOk result (code.new.items ≡ code.old.items ++ instruction.Step line (operation.BySign ((table_in tables.now).labels labels.negative) ((table_in tables.now).labels labels.zero) ((table_in tables.now).labels labels.positive)) ∷ []) }
+    ensures { OnOk result (code.new.items ≡ code.old.items
+        ++ instruction.Step line (operation.BySign ((table_in tables.now).labels labels.negative) ((table_in tables.now).labels labels.zero)
+        ((table_in tables.now).labels labels.positive)) ∷ []) }
 {
     let negative = tables.label(labels.negative);
     let zero = tables.label(labels.zero);
@@ -106,7 +112,9 @@ fn emit_by_sign(
 // The condition of an IF THEN or ELSE IF (11.6 and 11.7).
 fn emit_branch(code: &mut Code, tables: &Tables, line: u32, index: usize) -> Result<(), AllocError>
     requires { index < length tables.now.control.now }
-    ensures { OnOk result (code.new.items ≡ code.old.items ++ instruction.Step line (operation.Branch ((table_in tables.now).flows index).inside ((table_in tables.now).flows index).otherwise) ∷ []) }
+    ensures { OnOk result (code.new.items ≡ code.old.items
+        ++ instruction.Step line (operation.Branch ((table_in tables.now).flows index).inside ((table_in tables.now).flows index).otherwise)
+        ∷ []) }
 {
     let inside = tables.inside(index);
     let otherwise = tables.otherwise(index);
@@ -122,7 +130,10 @@ fn emit_entry(
     name: &Name,
 ) -> Result<(), AllocError>
     requires { index < length tables.now.control.now }
-    ensures { OnOk result (code.new.items ≡ code.old.items ++ instruction.Step line (operation.EnterLoop ((names_in tables.now.names).variables name.now) ((table_in tables.now).flows index).cells ((table_in tables.now).flows index).inside ((table_in tables.now).flows index).behind) ∷ []) }
+    ensures { OnOk result (code.new.items ≡ code.old.items
+        ++ instruction.Step line (operation.EnterLoop ((names_in tables.now.names).variables name.now)
+        ((table_in tables.now).flows index).cells ((table_in tables.now).flows index).inside ((table_in tables.now).flows index).behind)
+        ∷ []) }
 {
     let variable = tables.names.variable(name);
     let cells = tables.cells(index);
@@ -148,8 +159,12 @@ fn emit_beginning(
     actuals: &[Expr],
 ) -> Result<(), EmitFault>
     requires { index < length tables.now.control.now }
-    ensures code { OnOk result (code.new.items ≡ code.old.items ++ instruction.Step line (begun_by beginning ((table_in tables.now).subroutines name.now) (length actuals.now) ((table_in tables.now).flows index).next) ∷ map (λ t. instruction.Pass (code_words.argument_of (names_in tables.now.names) t)) actuals.now) }
-    ensures refused { IfErr result (λ fault. (n : ℕ) → length actuals.now ≤ n → subscripts_of_actuals (names_in tables.now.names) actuals.now ≤ n → IsTooLong n fault) }
+    ensures code { OnOk result (code.new.items ≡ code.old.items
+        ++ instruction.Step line (begun_by beginning ((table_in tables.now).subroutines name.now) (length actuals.now)
+        ((table_in tables.now).flows index).next)
+        ∷ map (λ t. instruction.Pass (code_words.argument_of (names_in tables.now.names) t)) actuals.now) }
+    ensures refused { IfErr result (λ fault. (n : ℕ) → length actuals.now ≤ n
+        → subscripts_of_actuals (names_in tables.now.names) actuals.now ≤ n → IsTooLong n fault) }
 {
     let unit = tables.subroutine(name);
     let count = counted(actuals.len())?;
@@ -167,8 +182,11 @@ fn emit_purge(
     targets: &[Target],
 ) -> Result<(), EmitFault>
     requires { index < length tables.now.control.now }
-    ensures code { OnOk result (code.new.items ≡ code.old.items ++ instruction.Step line (operation.Purge (length targets.now) ((table_in tables.now).flows index).next) ∷ map (λ t. instruction.Pass (code_words.argument_of_target (names_in tables.now.names) t)) targets.now) }
-    ensures refused { IfErr result (λ fault. (n : ℕ) → length targets.now ≤ n → subscripts_of_targets (names_in tables.now.names) targets.now ≤ n → IsTooLong n fault) }
+    ensures code { OnOk result (code.new.items ≡ code.old.items
+        ++ instruction.Step line (operation.Purge (length targets.now) ((table_in tables.now).flows index).next)
+        ∷ map (λ t. instruction.Pass (code_words.argument_of_target (names_in tables.now.names) t)) targets.now) }
+    ensures refused { IfErr result (λ fault. (n : ℕ) → length targets.now ≤ n
+        → subscripts_of_targets (names_in tables.now.names) targets.now ≤ n → IsTooLong n fault) }
 {
     let count = counted(targets.len())?;
     let next = tables.next(index);
@@ -186,7 +204,9 @@ fn emit_print(
     items: &[PrintItem],
 ) -> Result<(), EmitFault>
     requires { index < length tables.now.control.now }
-    ensures code { OnOk result (code.new.items ≡ code.old.items ++ instruction.Step line (operation.Print (length items.now) ((table_in tables.now).flows index).next) ∷ map (λ i. instruction.Show (code_words.printed_of i)) items.now) }
+    ensures code { OnOk result (code.new.items ≡ code.old.items
+        ++ instruction.Step line (operation.Print (length items.now) ((table_in tables.now).flows index).next)
+        ∷ map (λ i. instruction.Show (code_words.printed_of i)) items.now) }
     ensures refused { IfErr result (IsTooLong (length items.now)) }
 {
     let count = counted(items.len())?;

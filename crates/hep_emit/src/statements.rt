@@ -65,7 +65,8 @@ fn emit_conditions(
     form: &Form,
 ) -> Result<(), EmitFault>
     requires { index < length tables.now.control.now }
-    ensures code { OnOk result (code.new.items ≡ code.old.items ++ conditions_code (table_in tables.now) line index conditions.now form.now) }
+    ensures code { OnOk result (code.new.items ≡ code.old.items
+        ++ conditions_code (table_in tables.now) line index conditions.now form.now) }
     ensures refused { IfErr result (IsTooLong (length (conditions_code (table_in tables.now) line index conditions.now form.now))) }
 {
     match conditions {

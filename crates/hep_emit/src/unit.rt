@@ -71,7 +71,8 @@ fn first_executable(statements: &[Statement]) -> usize
 // The code of the statements of a unit by its tables.
 fn emit_statements(alloc: Global, tables: &Tables) -> Result<Emitted, EmitFault>
     ensures code { IfOk result (λ emitted. emitted.code.items ≡ statements_code (table_in tables.now) 0 tables.now.control.now) }
-    ensures starts { IfOk result (λ emitted. emitted.starts.statements.items ≡ starts_from (table_in tables.now) 0 0 tables.now.control.now) }
+    ensures starts { IfOk result (λ emitted. emitted.starts.statements.items
+        ≡ starts_from (table_in tables.now) 0 0 tables.now.control.now) }
     ensures end { IfOk result (λ emitted. emitted.starts.end ≡ end_from (table_in tables.now) 0 0 tables.now.control.now) }
     ensures short { IfOk result (λ emitted. length emitted.code.items ≤ most_instructions) }
     ensures refused { IfErr result (IsOverLimit (length (statements_code (table_in tables.now) 0 tables.now.control.now))) }

@@ -40,9 +40,20 @@ pub fn begin(
     requires kept { AreOfSomeState frames.old.arena (nodes_of frames.old.nodes) }
     requires children { CanCount (nodes_of frames.old.nodes) parent }
     ensures vacant { nodes_of frames.old.nodes result ≡ None }
-    ensures nodes { (first : ℕ) → first_fit cells frames.old.arena.holes ≡ Some first → nodes_of frames.new.nodes ≡ with_node (nodes_of frames.old.nodes) result (new_node activation unit first cells parent) parent }
+    ensures nodes { (first : ℕ) → first_fit cells frames.old.arena.holes ≡ Some first
+        → nodes_of frames.new.nodes ≡ with_node (nodes_of frames.old.nodes) result (new_node activation unit first cells parent) parent }
     ensures cells { length frames.new.arena.contents ≡ length frames.old.arena.contents }
-    ensures written { (program : Units) (choices : List ℕ) (p : ℕ) (top : Level × Process) (u : ℕ) (actuals : List Actual) (b : Binding) (t : State) (layout : Layout) (out : ℕ → Bool) (n : TreeNode) → Keeps program (run program choices) (is_stacked (run program choices)) out layout (wanted_of program (run program choices) layout) frames.old.arena (nodes_of frames.old.nodes) → nodes_of frames.old.nodes parent ≡ Some n → n.activation ≡ top.0.activation → IsPassing program choices p top u actuals b → ArePassed program (run program choices) layout (scope_of program (run program choices) top.0.activation) actuals given.now → t.activations ≡ (state_begun program choices top u b).activations → t.store ≡ b.store → activation ≡ length t.activations → unit ≡ u → cells ≡ frame_of program t (length t.activations) → (first : ℕ) × (first_fit cells frames.old.arena.holes ≡ Some first) × (lowest_gap (length frames.old.arena.contents) cells (common_cells program) layout ≡ Some first) × IsWritten program (run program choices) t layout first (cells_to_locals (unit_begun program t)) out frames.new.arena (nodes_of frames.new.nodes) }
+    ensures written { (program : Units) (choices : List ℕ) (p : ℕ) (top : Level
+        × Process) (u : ℕ) (actuals : List Actual) (b : Binding) (t : State) (layout : Layout) (out : ℕ → Bool) (n : TreeNode)
+        → Keeps program (run program choices) (is_stacked (run program choices)) out layout
+        (wanted_of program (run program choices) layout) frames.old.arena (nodes_of frames.old.nodes)
+        → nodes_of frames.old.nodes parent ≡ Some n → n.activation ≡ top.0.activation → IsPassing program choices p top u actuals b
+        → ArePassed program (run program choices) layout (scope_of program (run program choices) top.0.activation) actuals given.now
+        → t.activations ≡ (state_begun program choices top u b).activations → t.store ≡ b.store → activation ≡ length t.activations
+        → unit ≡ u → cells ≡ frame_of program t (length t.activations) → (first : ℕ) × (first_fit cells frames.old.arena.holes ≡ Some first)
+        × (lowest_gap (length frames.old.arena.contents) cells (common_cells program) layout ≡ Some first)
+        × IsWritten program (run program choices) t layout first (cells_to_locals (unit_begun program t)) out frames.new.arena
+        (nodes_of frames.new.nodes) }
 {
     let key = frames.enter(activation, unit, cells, parent);
     let first = frames.first(key);

@@ -61,7 +61,12 @@ pub fn bind(frames: &mut Frames, first: u32, given: &[Given])
     requires few { length frames.old.arena.contents ≤ 16777216 }
     requires inside { first + (1 + 2 * length given.now) ≤ length frames.old.arena.contents }
     requires out { (p : ℕ) → first ≤ p → p < first + (1 + 2 * length given.now) → IsOut p frames.old.arena.holes }
-    ensures bound { (program : Units) (s t : State) (on out : ℕ → Bool) (layout : Layout) (wanted : Wanted) (a : ℕ) → Keeps program s on out layout (with_unset a wanted) frames.old.arena (nodes_of frames.old.nodes) → t.activations ≡ s.activations → t.store ≡ with_given s.store a (dummies_of (unit_at program (unit_of t a))) given.now → ((y : Name) → s.store (local a y 1) ≡ unset_cell) → IsBinding program t layout a first given.now → Keeps program t on out layout (wanted_up_to program t layout a (cells_to_locals (unit_at program (unit_of t a))) wanted) frames.new.arena (nodes_of frames.new.nodes) }
+    ensures bound { (program : Units) (s t : State) (on out : ℕ → Bool) (layout : Layout) (wanted : Wanted) (a : ℕ)
+        → Keeps program s on out layout (with_unset a wanted) frames.old.arena (nodes_of frames.old.nodes) → t.activations ≡ s.activations
+        → t.store ≡ with_given s.store a (dummies_of (unit_at program (unit_of t a))) given.now
+        → ((y : Name) → s.store (local a y 1) ≡ unset_cell) → IsBinding program t layout a first given.now
+        → Keeps program t on out layout (wanted_up_to program t layout a
+        (cells_to_locals (unit_at program (unit_of t a))) wanted) frames.new.arena (nodes_of frames.new.nodes) }
     ensures nodes { nodes_of frames.new.nodes ≡ nodes_of frames.old.nodes }
     ensures holes { frames.new.arena.holes ≡ frames.old.arena.holes }
     ensures cells { length frames.new.arena.contents ≡ length frames.old.arena.contents }

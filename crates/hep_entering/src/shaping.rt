@@ -46,7 +46,12 @@ fn shape(frames: &mut Frames, at: u32, bounds: &[Bound])
     requires few { length frames.old.arena.contents ≤ 16777216 }
     requires inside { at + 2 * length bounds.now ≤ length frames.old.arena.contents }
     requires out { (p : ℕ) → at ≤ p → p < at + 2 * length bounds.now → IsOut p frames.old.arena.holes }
-    ensures shaped { (program : Units) (s : State) (on out : ℕ → Bool) (layout : Layout) (wanted : Wanted) (a k : ℕ) → Keeps program s on out layout (wanted_up_to program s layout a (cells_to_bounds_of (unit_at program (unit_of s a)) k) wanted) frames.old.arena (nodes_of frames.old.nodes) → IsShaping program s layout a k at bounds.now → Keeps program s on out layout (wanted_up_to program s layout a (cells_to_bounds_of (unit_at program (unit_of s a)) (k + 1)) wanted) frames.new.arena (nodes_of frames.new.nodes) }
+    ensures shaped { (program : Units) (s : State) (on out : ℕ → Bool) (layout : Layout) (wanted : Wanted) (a k : ℕ)
+        → Keeps program s on out layout (wanted_up_to program s layout a
+        (cells_to_bounds_of (unit_at program (unit_of s a)) k) wanted) frames.old.arena (nodes_of frames.old.nodes)
+        → IsShaping program s layout a k at bounds.now
+        → Keeps program s on out layout (wanted_up_to program s layout a
+        (cells_to_bounds_of (unit_at program (unit_of s a)) (k + 1)) wanted) frames.new.arena (nodes_of frames.new.nodes) }
     ensures nodes { nodes_of frames.new.nodes ≡ nodes_of frames.old.nodes }
     ensures holes { frames.new.arena.holes ≡ frames.old.arena.holes }
     ensures cells { length frames.new.arena.contents ≡ length frames.old.arena.contents }
@@ -88,7 +93,13 @@ fn shape_one(frames: &mut Frames, at: u32, shape_of_one: &Option<Shape>) -> u32
     requires out { (p : ℕ) → at ≤ p → p < at + cells_of_shape shape_of_one.now → IsOut p frames.old.arena.holes }
     ensures next { result ≡ at + cells_of_shape shape_of_one.now }
     ensures none { shape_of_one.now ≡ None → frames.new.arena ≡ frames.old.arena }
-    ensures shaped { (bounds : Bounds) → shape_of_one.now ≡ Some bounds → (program : Units) (s : State) (on out : ℕ → Bool) (layout : Layout) (wanted : Wanted) (a k : ℕ) → Keeps program s on out layout (wanted_up_to program s layout a (cells_to_bounds_of (unit_at program (unit_of s a)) k) wanted) frames.old.arena (nodes_of frames.old.nodes) → IsShaping program s layout a k at bounds → Keeps program s on out layout (wanted_up_to program s layout a (cells_to_bounds_of (unit_at program (unit_of s a)) (k + 1)) wanted) frames.new.arena (nodes_of frames.new.nodes) }
+    ensures shaped { (bounds : Bounds) → shape_of_one.now ≡ Some bounds
+        → (program : Units) (s : State) (on out : ℕ → Bool) (layout : Layout) (wanted : Wanted) (a k : ℕ)
+        → Keeps program s on out layout (wanted_up_to program s layout a
+        (cells_to_bounds_of (unit_at program (unit_of s a)) k) wanted) frames.old.arena (nodes_of frames.old.nodes)
+        → IsShaping program s layout a k at bounds
+        → Keeps program s on out layout (wanted_up_to program s layout a
+        (cells_to_bounds_of (unit_at program (unit_of s a)) (k + 1)) wanted) frames.new.arena (nodes_of frames.new.nodes) }
     ensures nodes { nodes_of frames.new.nodes ≡ nodes_of frames.old.nodes }
     ensures holes { frames.new.arena.holes ≡ frames.old.arena.holes }
     ensures cells { length frames.new.arena.contents ≡ length frames.old.arena.contents }
@@ -107,7 +118,13 @@ fn shape_from(frames: &mut Frames, at: u32, shapes: &[Option<Shape>])
     requires few { length frames.old.arena.contents ≤ 16777216 }
     requires inside { at + cells_of_shapes shapes.now ≤ length frames.old.arena.contents }
     requires out { (p : ℕ) → at ≤ p → p < at + cells_of_shapes shapes.now → IsOut p frames.old.arena.holes }
-    ensures shaped { (program : Units) (s : State) (on out : ℕ → Bool) (layout : Layout) (wanted : Wanted) (a : ℕ) (frame : Frame) → Keeps program s on out layout (wanted_up_to program s layout a (cells_to_bounds_of (unit_at program (unit_of s a)) 0) wanted) frames.old.arena (nodes_of frames.old.nodes) → frame_among a layout ≡ Some frame → at ≡ frame.first + cells_to_bounds_of (unit_at program (unit_of s a)) 0 → AreShaping program s a shapes.now → Keeps program s on out layout (wanted_up_to program s layout a (frame_cells (unit_at program (unit_of s a))) wanted) frames.new.arena (nodes_of frames.new.nodes) }
+    ensures shaped { (program : Units) (s : State) (on out : ℕ → Bool) (layout : Layout) (wanted : Wanted) (a : ℕ) (frame : Frame)
+        → Keeps program s on out layout (wanted_up_to program s layout a
+        (cells_to_bounds_of (unit_at program (unit_of s a)) 0) wanted) frames.old.arena (nodes_of frames.old.nodes)
+        → frame_among a layout ≡ Some frame → at ≡ frame.first + cells_to_bounds_of (unit_at program (unit_of s a)) 0
+        → AreShaping program s a shapes.now
+        → Keeps program s on out layout (wanted_up_to program s layout a
+        (frame_cells (unit_at program (unit_of s a))) wanted) frames.new.arena (nodes_of frames.new.nodes) }
     ensures nodes { nodes_of frames.new.nodes ≡ nodes_of frames.old.nodes }
     ensures holes { frames.new.arena.holes ≡ frames.old.arena.holes }
     ensures cells { length frames.new.arena.contents ≡ length frames.old.arena.contents }
@@ -127,7 +144,12 @@ pub fn shape_all(frames: &mut Frames, key: usize, shapes: &[Option<Shape>])
     requires there { ContainsKey frames.old.nodes key }
     requires kept { AreOfSomeState frames.old.arena (nodes_of frames.old.nodes) }
     requires many { (n : TreeNode) → nodes_of frames.old.nodes key ≡ Some n → cells_of_shapes shapes.now ≤ n.cells }
-    ensures shaped { (program : Units) (s : State) (on out : ℕ → Bool) (layout : Layout) (wanted : Wanted) (a : ℕ) (n : TreeNode) → Keeps program s on out layout (wanted_up_to program s layout a (cells_to_bounds_of (unit_at program (unit_of s a)) 0) wanted) frames.old.arena (nodes_of frames.old.nodes) → nodes_of frames.old.nodes key ≡ Some n → IsFramedBy program s layout a n → AreShaping program s a shapes.now → Keeps program s on out layout (wanted_up_to program s layout a (frame_cells (unit_at program (unit_of s a))) wanted) frames.new.arena (nodes_of frames.new.nodes) }
+    ensures shaped { (program : Units) (s : State) (on out : ℕ → Bool) (layout : Layout) (wanted : Wanted) (a : ℕ) (n : TreeNode)
+        → Keeps program s on out layout (wanted_up_to program s layout a
+        (cells_to_bounds_of (unit_at program (unit_of s a)) 0) wanted) frames.old.arena (nodes_of frames.old.nodes)
+        → nodes_of frames.old.nodes key ≡ Some n → IsFramedBy program s layout a n → AreShaping program s a shapes.now
+        → Keeps program s on out layout (wanted_up_to program s layout a
+        (frame_cells (unit_at program (unit_of s a))) wanted) frames.new.arena (nodes_of frames.new.nodes) }
     ensures nodes { nodes_of frames.new.nodes ≡ nodes_of frames.old.nodes }
     ensures holes { frames.new.arena.holes ≡ frames.old.arena.holes }
     ensures cells { length frames.new.arena.contents ≡ length frames.old.arena.contents }

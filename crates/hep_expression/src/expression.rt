@@ -182,7 +182,8 @@ fn chain(
     first: Expr,
     s: &[u8],
 ) -> Result<(Expr, &[u8]), Unread>
-    ensures { Gives (λ x. (x.0, x.1.now)) result (reading.chain (reading.operators level) (reading.next_operand level (reading.power context depth)) turns first s.now) }
+    ensures { Gives (λ x. (x.0, x.1.now)) result
+        (reading.chain (reading.operators level) (reading.next_operand level (reading.power context depth)) turns first s.now) }
 {
     let (mut left, mut rest) = (first, s);
     for _turn in 0..turns {
@@ -271,7 +272,8 @@ fn negation(
     depth: usize,
     s: &[u8],
 ) -> Result<(Expr, &[u8]), Unread>
-    ensures { Gives (λ x. (x.0, x.1.now)) result (reading.negation (reading.relation (reading.sum (reading.term (reading.power context depth)))) s.now) }
+    ensures { Gives (λ x. (x.0, x.1.now)) result
+        (reading.negation (reading.relation (reading.sum (reading.term (reading.power context depth)))) s.now) }
 {
     match after_text(b".NOT.", s) {
         None => relation(alloc, context, depth, s),
@@ -430,7 +432,8 @@ fn arguments(
     depth: usize,
     s: &[u8],
 ) -> Result<(Vec<Expr>, &[u8]), Unread>
-    ensures { Gives (λ x. (trees_of x.0.items, x.1.now)) result (reading.arguments (reading.expression context depth) (length s.now) s.now) }
+    ensures { Gives (λ x. (trees_of x.0.items, x.1.now)) result
+        (reading.arguments (reading.expression context depth) (length s.now) s.now) }
 {
     let mut list = Vec::new(alloc);
     let mut rest = s;

@@ -16,7 +16,9 @@ ghost use Rattle.hep_image.specs.Owners.{AreGivenOnce, IsBlockTold, IsTold};
 /// Where COMMON and the frame of the main program have no more cells than the arena, the frame is just behind
 /// COMMON at the opening; where they have more, it has no gap. It has the cells of the main program.
 pub fn openings_fit_by_numbers()
-    ensures layout { (program : Units) (cells : ℕ) → opening_layout program cells ≡ (if nat_le (common_cells program + frame_cells (unit_at program (main_unit program))) cells then Some (first_frames program) else None) }
+    ensures layout { (program : Units) (cells : ℕ) → opening_layout program cells
+        ≡ (if nat_le (common_cells program + frame_cells (unit_at program (main_unit program))) cells then Some (first_frames program)
+        else None) }
     ensures frame { (program : Units) → frame_of program (run program []) 1 ≡ frame_cells (unit_at program (main_unit program)) }
 {}
 
@@ -24,13 +26,18 @@ pub fn openings_fit_by_numbers()
 /// cells of a local variable and of COMMON in every unit and program, and of those of a dummy argument where no two
 /// dummy arguments have one name, as in accepted programs.
 pub fn cells_tell_their_variables()
-    ensures variable { (unit : List Statement) (x : Name) (i n : ℕ) → owner_in (frame_row unit) n ≡ Some (variable x, i) → IsTold unit n x i }
-    ensures argument { (unit : List Statement) (x : Name) (i n : ℕ) → AreGivenOnce (dummies_of unit) → owner_in (frame_row unit) n ≡ Some (argument x, i) → IsTold unit n x i }
-    ensures block { (program : Units) (b : BlockName) (i n : ℕ) → owner_in (common_row program) n ≡ Some (b, i) → IsBlockTold program n b i }
+    ensures variable { (unit : List Statement) (x : Name) (i n : ℕ) → owner_in (frame_row unit) n ≡ Some (variable x, i)
+        → IsTold unit n x i }
+    ensures argument { (unit : List Statement) (x : Name) (i n : ℕ) → AreGivenOnce (dummies_of unit)
+        → owner_in (frame_row unit) n ≡ Some (argument x, i) → IsTold unit n x i }
+    ensures block { (program : Units) (b : BlockName) (i n : ℕ) → owner_in (common_row program) n ≡ Some (b, i)
+        → IsBlockTold program n b i }
 {}
 
 /// The number of a name tells it: that of a variable of a unit, where it has one of this name, and that of a common block.
 pub fn numbers_tell_names()
-    ensures variable { (program : Units) (u : ℕ) (x : Name) → u < length program → is_among x (names_of (unit_at program u)) ≡ true → slice_get (names_in_order program) (variable_number program u x) ≡ Some (spelling x) }
-    ensures block { (program : Units) (b : BlockName) → is_block_among b (blocks_of program) ≡ true → slice_get (names_in_order program) (block_number program b) ≡ Some (block_spelling b) }
+    ensures variable { (program : Units) (u : ℕ) (x : Name) → u < length program → is_among x (names_of (unit_at program u)) ≡ true
+        → slice_get (names_in_order program) (variable_number program u x) ≡ Some (spelling x) }
+    ensures block { (program : Units) (b : BlockName) → is_block_among b (blocks_of program) ≡ true
+        → slice_get (names_in_order program) (block_number program b) ≡ Some (block_spelling b) }
 {}

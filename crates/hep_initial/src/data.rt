@@ -73,7 +73,8 @@ fn known_values(
     constants: &Constants,
     values: &[DataValue],
 ) -> Result<Known, AllocError>
-    ensures places { IfOk result (λ list. positions_in list.runs.items ≡ map groups.position_of_value (spread (conditions.known_values constants.now values.now).items)) }
+    ensures places { IfOk result (λ list. positions_in list.runs.items
+        ≡ map groups.position_of_value (spread (conditions.known_values constants.now values.now).items)) }
     ensures whole { IfOk result (λ list. list.is_whole ≡ (conditions.known_values constants.now values.now).whole) }
 {
     let mut runs = Vec::new(alloc);
@@ -190,7 +191,8 @@ fn known_elements(alloc: Global, symbols: &Symbols, named: &[Named]) -> Result<K
 
 // Two lists are of one length and have the same types, as far as they are known.
 fn fit(elements: &Known, values: &Known) -> bool
-    ensures { result ≡ ((not (elements.now.is_whole && values.now.is_whole) || nat_eq (length (positions_in elements.now.runs.items)) (length (positions_in values.now.runs.items)))
+    ensures { result ≡ ((not (elements.now.is_whole && values.now.is_whole)
+        || nat_eq (length (positions_in elements.now.runs.items)) (length (positions_in values.now.runs.items)))
         && agree_as_far alike (positions_in elements.now.runs.items) (positions_in values.now.runs.items)) }
 {
     elements.is_same_length(values) && agree(&elements.runs, &values.runs)
@@ -203,7 +205,8 @@ fn is_any(first: bool, second: bool, third: bool) -> bool
 }
 
 fn is_any_refused(symbols: &Symbols, targets: &[Target], named: &[Named]) -> bool
-    ensures { result ≡ (list_any (λ (t : PureTarget). conditions.is_forbidden symbols.now t.occurrence.name) targets.now || list_any lists.is_outside_named named.now) }
+    ensures { result ≡ (list_any (λ (t : PureTarget). conditions.is_forbidden symbols.now t.occurrence.name) targets.now
+        || list_any lists.is_outside_named named.now) }
 {
     is_any_forbidden(symbols, targets) || is_any_outside(named)
 }

@@ -54,7 +54,8 @@ impl LoweredUnits {
     fn add(&mut self, unit: LoweredUnit) -> Result<(), AllocError>
         requires few { self.old.instructions ≤ most_instructions }
         requires short { (program : Units) × (n : ℕ) × IsUnit program n unit }
-        ensures { OnOk result ((program : Units) (n : ℕ) → AreUnits program n self.old → IsUnit program n unit → AreUnits program (n + 1) self.new) }
+        ensures { OnOk result ((program : Units) (n : ℕ) → AreUnits program n self.old → IsUnit program n unit
+            → AreUnits program (n + 1) self.new) }
     {
         match unit {
             LoweredUnit::Runnable(unit) => {

@@ -13,56 +13,66 @@ ghost use Rattle.hep_machine.specs.Processes.{living, numbered, parent_of};
 
 /// A step of a process leaves the other processes as they are.
 pub fn other_processes_stay()
-    ensures { (program : Units) (p q : ℕ) (s t : State) → step program p s ≡ Some t → p ≢ q → 1 ≤ q → q ≤ length s.processes → numbered t.processes q ≡ numbered s.processes q }
+    ensures { (program : Units) (p q : ℕ) (s t : State) → step program p s ≡ Some t → p ≢ q → 1 ≤ q → q ≤ length s.processes
+        → numbered t.processes q ≡ numbered s.processes q }
 {}
 
 /// A step that is no PURGE changes the state of one storage unit at most: every other one is full
 /// after the step where it was full before, and empty where it was empty.
 pub fn one_cell_changes_state()
-    ensures { (program : Units) (p : ℕ) (s t : State) → step program p s ≡ Some t → is_purge program s p ≡ false → (at : Location) × KeepsStatesBut at s.store t.store }
+    ensures { (program : Units) (p : ℕ) (s t : State) → step program p s ≡ Some t → is_purge program s p ≡ false → (at : Location)
+        × KeepsStatesBut at s.store t.store }
 {}
 
 /// A PURGE fills no storage unit.
 pub fn purge_fills_nothing()
-    ensures { (program : Units) (p : ℕ) (s t : State) → step program p s ≡ Some t → is_purge program s p ≡ true → FillsNone s.store t.store }
+    ensures { (program : Units) (p : ℕ) (s t : State) → step program p s ≡ Some t → is_purge program s p ≡ true
+        → FillsNone s.store t.store }
 {}
 
 /// A process that doesn't live has no step, and no turn of any process brings it back.
 pub fn dead_processes_stay_dead()
     ensures idle { (program : Units) (p : ℕ) (s : State) → living s p ≡ None → step program p s ≡ None }
-    ensures dead { (program : Units) (p q : ℕ) (s : State) → living s q ≡ None → 1 ≤ q → q ≤ length s.processes → living (state_after_turn program p s) q ≡ None }
+    ensures dead { (program : Units) (p q : ℕ) (s : State) → living s q ≡ None → 1 ≤ q → q ≤ length s.processes
+        → living (state_after_turn program p s) q ≡ None }
 {}
 
 /// A turn makes at most one activation and at most one process, after those that were there, and
 /// changes no activation.
 pub fn numbers_rise()
     ensures activations { (program : Units) (p : ℕ) (s : State) → IsSameOrOneMore s.activations (state_after_turn program p s).activations }
-    ensures processes { (program : Units) (p : ℕ) (s : State) → (length (state_after_turn program p s).processes ≡ length s.processes) ⊎ (length (state_after_turn program p s).processes ≡ length s.processes + 1) }
+    ensures processes { (program : Units) (p : ℕ) (s : State) → (length (state_after_turn program p s).processes ≡ length s.processes)
+        ⊎ (length (state_after_turn program p s).processes ≡ length s.processes + 1) }
 {}
 
 /// In every state of a run each activation that is on a stack was made, and the parent of an
 /// activation has a lower number than that activation.
 pub fn parents_are_older()
-    ensures made { (program : Units) (processes : List ℕ) (a : ℕ) → IsOnStack (run program processes) a → (1 ≤ a) × (a ≤ length (run program processes).activations) }
+    ensures made { (program : Units) (processes : List ℕ) (a : ℕ) → IsOnStack (run program processes) a → (1 ≤ a)
+        × (a ≤ length (run program processes).activations) }
     ensures older { (program : Units) (processes : List ℕ) (a b : ℕ) → parent_of (run program processes) a ≡ Some b → (1 ≤ b) × (b < a) }
 {}
 
 /// In every state of a run just those activations are held that are on a stack or the parent of a
 /// held one.
 pub fn held_by_stacks_and_children()
-    ensures { (program : Units) (processes : List ℕ) (a : ℕ) → (is_held (run program processes) a ≡ true) ↔ (IsOnStack (run program processes) a ⊎ HasHeldChild (run program processes) a) }
+    ensures { (program : Units) (processes : List ℕ) (a : ℕ) → (is_held (run program processes) a ≡ true)
+        ↔ (IsOnStack (run program processes) a ⊎ HasHeldChild (run program processes) a) }
 {}
 
 /// After any turns, and whichever frames are given back, COMMON and the frames lie apart within the
 /// arena: COMMON is in front, each frame has a cell and ends before the next one begins, and the last
 /// one ends within the arena.
 pub fn frames_lie_apart()
-    ensures { (program : Units) (cells : ℕ) (has : State → ℕ → Bool) (processes : List ℕ) (layout : Layout) → layout_of program cells has processes ≡ Some layout → StandApart cells (common_cells program) layout }
+    ensures { (program : Units) (cells : ℕ) (has : State → ℕ → Bool) (processes : List ℕ) (layout : Layout)
+        → layout_of program cells has processes ≡ Some layout → StandApart cells (common_cells program) layout }
 {}
 
 /// A legal history can be made again: each of its steps is there in the state that those before it leave.
 /// The state after any history is that of its entries, one after the other.
 pub fn legal_histories_replay()
-    ensures steps { (program : Units) (cells limit : ℕ) (history : List Entry) → IsLegal program cells limit history → AreSteps program (opening program) (schedule_of history) }
-    ensures state { (program : Units) (history : List Entry) → state_after program history ≡ state_replayed program (opening program) history }
+    ensures steps { (program : Units) (cells limit : ℕ) (history : List Entry) → IsLegal program cells limit history
+        → AreSteps program (opening program) (schedule_of history) }
+    ensures state { (program : Units) (history : List Entry)
+        → state_after program history ≡ state_replayed program (opening program) history }
 {}

@@ -266,7 +266,8 @@ pub fn parse(alloc: Global, statements: &[Stmt]) -> Result<Program, ParseFault>
     // What is reported is the first fault.
     ensures refused { IfErr result (λ e. IsTrueFault statements.now e) }
     // The first fault is reported.
-    ensures reported { (number line : ℕ) (name : List ℕ) → IsFirstFault statements.now number line name → IsReported number line name result }
+    ensures reported { (number line : ℕ) (name : List ℕ) → IsFirstFault statements.now number line name
+        → IsReported number line name result }
 {
     program(alloc, statements)
 }

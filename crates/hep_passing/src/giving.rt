@@ -46,8 +46,10 @@ fn given_ahead<'a>(
 ) -> Result<Option<(Given, &'a [Value])>, Kind>
     requires frame { HasFrame arena.now frame }
     requires passable { IsAheadPassable arena.now arrays.now frame (passed_ahead entry.now operands.now) }
-    ensures given { IfOk result (λ ahead. entries.given_ahead (cells_in arena.now.contents) frame.first arrays.now (passed_ahead entry.now operands.now) ≡ Ok (option_map (λ pair. (pair.0, pair.1.now)) ahead)) }
-    ensures fault { IfErr result (λ kind. entries.given_ahead (cells_in arena.now.contents) frame.first arrays.now (passed_ahead entry.now operands.now) ≡ Err kind) }
+    ensures given { IfOk result (λ ahead. entries.given_ahead (cells_in arena.now.contents) frame.first arrays.now
+        (passed_ahead entry.now operands.now) ≡ Ok (option_map (λ pair. (pair.0, pair.1.now)) ahead)) }
+    ensures fault { IfErr result (λ kind. entries.given_ahead (cells_in arena.now.contents) frame.first arrays.now
+        (passed_ahead entry.now operands.now) ≡ Err kind) }
 {
     match entry {
         Instruction::Pass(Argument::Evaluated) => match operands {
@@ -80,8 +82,10 @@ fn give_all(
     requires frame { HasFrame arena.now frame }
     requires passable { ArePassable arena.now arrays.now frame (passed_in entries.now operands.now) }
     requires room { length entries.now ≤ vec_capacity given.old }
-    ensures given { IfOk result (λ _. given_by (cells_in arena.now.contents) frame.first arrays.now (passed_in entries.now operands.now) ≡ Ok given.new.items) }
-    ensures fault { IfErr result (λ kind. given_by (cells_in arena.now.contents) frame.first arrays.now (passed_in entries.now operands.now) ≡ Err kind) }
+    ensures given { IfOk result (λ _. given_by (cells_in arena.now.contents) frame.first arrays.now (passed_in entries.now operands.now)
+        ≡ Ok given.new.items) }
+    ensures fault { IfErr result (λ kind. given_by (cells_in arena.now.contents) frame.first arrays.now (passed_in entries.now operands.now)
+        ≡ Err kind) }
     ensures capacity { vec_capacity given.old ≤ vec_capacity given.new }
 {
     given.clear();
@@ -116,8 +120,10 @@ pub fn give_actuals(
     // Where an activation calls, it is so: `laws::callers_can_pass`.
     requires passable { ArePassable arena.now arrays.now frame (passed_from count entries.now operands.now) }
     requires room { count ≤ vec_capacity given.old }
-    ensures given { IfOk result (λ _. given_by (cells_in arena.now.contents) frame.first arrays.now (passed_from count entries.now operands.now) ≡ Ok given.new.items) }
-    ensures fault { IfErr result (λ kind. given_by (cells_in arena.now.contents) frame.first arrays.now (passed_from count entries.now operands.now) ≡ Err kind) }
+    ensures given { IfOk result (λ _. given_by (cells_in arena.now.contents) frame.first arrays.now
+        (passed_from count entries.now operands.now) ≡ Ok given.new.items) }
+    ensures fault { IfErr result (λ kind. given_by (cells_in arena.now.contents) frame.first arrays.now
+        (passed_from count entries.now operands.now) ≡ Err kind) }
     ensures capacity { vec_capacity given.old ≤ vec_capacity given.new }
 {
     give_all(

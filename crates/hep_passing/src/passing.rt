@@ -64,7 +64,8 @@ fn units(first: u64, count: u64) -> Given
 fn of_scalar(arena: &Arena, frame: Frame, start: Start, subscripts: &[Value]) -> Result<Given, Kind>
     requires frame { HasFrame arena.now frame }
     requires inside { IsStartIn frame.cells start }
-    requires reached { AreUnitsIn (length arena.now.contents) (passed_of_scalar (base_at (cells_in arena.now.contents) frame.first start) subscripts.now) }
+    requires reached { AreUnitsIn (length arena.now.contents)
+        (passed_of_scalar (base_at (cells_in arena.now.contents) frame.first start) subscripts.now) }
     ensures { result ≡ given_units (passed_of_scalar (base_at (cells_in arena.now.contents) frame.first start) subscripts.now) }
 {
     match subscripts {
@@ -109,7 +110,8 @@ fn of_array(arena: &Arena, frame: Frame, array: &Array, subscripts: &[Value]) ->
     requires start { IsStartIn frame.cells array.now.start }
     requires extents { AreExtentsIn frame.cells array.now.extents }
     requires shape { is_shape (bounds_at (cells_in arena.now.contents) frame.first array.now.extents) ≡ true }
-    requires reached { AreUnitsIn (length arena.now.contents) (passed_of_array (cells_in arena.now.contents) frame.first (Some array.now) subscripts.now) }
+    requires reached { AreUnitsIn (length arena.now.contents)
+        (passed_of_array (cells_in arena.now.contents) frame.first (Some array.now) subscripts.now) }
     ensures { result ≡ given_units (passed_of_array (cells_in arena.now.contents) frame.first (Some array.now) subscripts.now) }
 {
     let first = base(arena, frame, array.start);

@@ -26,16 +26,20 @@ use hep_check::laws;
 /// Each variable in the code, passed and purged ones too, has storage units, and so the name that it stands for begins
 /// somewhere.
 pub fn variables_of_the_code_are_placed()
-    ensures operations { (program : Units) (u i line : ℕ) (o : Operation) → IsAccepted program → u < length program → slice_get (code_in program u) i ≡ Some (Step line o) → ArePlaced (variables_in_operation o) }
-    ensures all { (program : Units) (u i : ℕ) (x : Instruction) → IsAccepted program → u < length program → slice_get (code_in program u) i ≡ Some x → ArePlaced (variables_in x) }
-    ensures begun { (program : Units) (unit : List Statement) (x : Name) → IsPlaced (variable_of program unit x) → (at : Start) × (start_of program unit x ≡ Some at) }
+    ensures operations { (program : Units) (u i line : ℕ) (o : Operation) → IsAccepted program → u < length program
+        → slice_get (code_in program u) i ≡ Some (Step line o) → ArePlaced (variables_in_operation o) }
+    ensures all { (program : Units) (u i : ℕ) (x : Instruction) → IsAccepted program → u < length program
+        → slice_get (code_in program u) i ≡ Some x → ArePlaced (variables_in x) }
+    ensures begun { (program : Units) (unit : List Statement) (x : Name) → IsPlaced (variable_of program unit x) → (at : Start)
+        × (start_of program unit x ≡ Some at) }
 {
     laws::constants_agree();
 }
 
 /// What FULL, EMPTY, VALUE, SETE or WAITF is asked of in the code is asynchronous.
 pub fn tested_variables_are_asynchronous()
-    ensures { (program : Units) (u i line n : ℕ) (f : StateFunction) (x : Variable) → IsAccepted program → u < length program → slice_get (code_in program u) i ≡ Some (Step line (Evaluate (Test f x n))) → is_asynchronous x ≡ true }
+    ensures { (program : Units) (u i line n : ℕ) (f : StateFunction) (x : Variable) → IsAccepted program → u < length program
+        → slice_get (code_in program u) i ≡ Some (Step line (Evaluate (Test f x n))) → is_asynchronous x ≡ true }
 {
     laws::constants_agree();
 }
@@ -43,7 +47,9 @@ pub fn tested_variables_are_asynchronous()
 /// Each array whose bounds are fixed by constants has a constant shape, dummy arguments too, where the last
 /// bound may be open.
 pub fn constant_shapes()
-    ensures { (program : Units) (u : ℕ) (x : Name) → IsAccepted program → u < length program → is_array (unit_at program u) x ≡ true → adjustable_dimensions (unit_at program u) x ≡ 0 → (bounds : Bounds) × (constant_shape (unit_at program u) x ≡ Some bounds) × (is_shape bounds ≡ true) }
+    ensures { (program : Units) (u : ℕ) (x : Name) → IsAccepted program → u < length program → is_array (unit_at program u) x ≡ true
+        → adjustable_dimensions (unit_at program u) x ≡ 0 → (bounds : Bounds) × (constant_shape (unit_at program u) x ≡ Some bounds)
+        × (is_shape bounds ≡ true) }
 {
     laws::constants_agree();
 }
@@ -51,8 +57,12 @@ pub fn constant_shapes()
 /// Each array of a unit begins somewhere, and each array in the code is the one of its index among those of
 /// the unit.
 pub fn arrays_are_there()
-    ensures unit { (program : Units) (u i : ℕ) (x : Name) → IsAccepted program → u < length program → slice_get (arrays_of (unit_at program u)) i ≡ Some x → (at : Start) × (is_array (unit_at program u) x ≡ true) × (start_of program (unit_at program u) x ≡ Some at) }
-    ensures code { (program : Units) (u i j n : ℕ) (asynchronous : Bool) (x : Instruction) → IsAccepted program → u < length program → slice_get (code_in program u) i ≡ Some x → slice_get (variables_in x) j ≡ Some (Array asynchronous n) → IsArrayAt program (unit_at program u) asynchronous n }
+    ensures unit { (program : Units) (u i : ℕ) (x : Name) → IsAccepted program → u < length program
+        → slice_get (arrays_of (unit_at program u)) i ≡ Some x → (at : Start) × (is_array (unit_at program u) x ≡ true)
+        × (start_of program (unit_at program u) x ≡ Some at) }
+    ensures code { (program : Units) (u i j n : ℕ) (asynchronous : Bool) (x : Instruction) → IsAccepted program → u < length program
+        → slice_get (code_in program u) i ≡ Some x → slice_get (variables_in x) j ≡ Some (Array asynchronous n)
+        → IsArrayAt program (unit_at program u) asynchronous n }
 {
     laws::constants_agree();
 }
@@ -60,8 +70,10 @@ pub fn arrays_are_there()
 /// A CALL or CREATE in the code is of a subroutine, and passes as many actual arguments as this has dummy
 /// arguments.
 pub fn calls_agree()
-    ensures call { (program : Units) (u i line v n next : ℕ) → IsAccepted program → u < length program → slice_get (code_in program u) i ≡ Some (Step line (Call v n next)) → IsCalledWith program v n }
-    ensures create { (program : Units) (u i line v n next : ℕ) → IsAccepted program → u < length program → slice_get (code_in program u) i ≡ Some (Step line (Create v n next)) → IsCalledWith program v n }
+    ensures call { (program : Units) (u i line v n next : ℕ) → IsAccepted program → u < length program
+        → slice_get (code_in program u) i ≡ Some (Step line (Call v n next)) → IsCalledWith program v n }
+    ensures create { (program : Units) (u i line v n next : ℕ) → IsAccepted program → u < length program
+        → slice_get (code_in program u) i ≡ Some (Step line (Create v n next)) → IsCalledWith program v n }
 {
     laws::constants_agree();
 }

@@ -12,7 +12,8 @@ use indexmap::IndexSet;
 use std::alloc::{AllocError, Global};
 
 fn add_name(names: &mut IndexSet<Name>, actual: &Expr) -> Result<(), AllocError>
-    ensures { OnOk result ((x : PureName) → contains name_eq names.new x ≡ either (contains name_eq names.old x) (is_among x (private.bare_name actual.now))) }
+    ensures { OnOk result ((x : PureName) → contains name_eq names.new x
+        ≡ either (contains name_eq names.old x) (is_among x (private.bare_name actual.now))) }
 {
     if let Node::Occurrence(occurrence) = &actual.node {
         names.insert(occurrence.name)?;
@@ -21,7 +22,8 @@ fn add_name(names: &mut IndexSet<Name>, actual: &Expr) -> Result<(), AllocError>
 }
 
 fn add_names(names: &mut IndexSet<Name>, actuals: &[Expr]) -> Result<(), AllocError>
-    ensures { OnOk result ((x : PureName) → contains name_eq names.new x ≡ either (contains name_eq names.old x) (is_among x (flat_map private.bare_name actuals.now))) }
+    ensures { OnOk result ((x : PureName) → contains name_eq names.new x
+        ≡ either (contains name_eq names.old x) (is_among x (flat_map private.bare_name actuals.now))) }
 {
     for actual in actuals {
         add_name(names, actual)?;

@@ -63,7 +63,9 @@ fn array_of(
 ) -> Result<Array, AllocError>
     requires values { value_among constants.now ≡ constant_value symbols.now }
     requires array { declarations.is_array symbols.now name.now ≡ true }
-    ensures { IfOk result (λ array. array ≡ found.array_found symbols.now (found.start_found symbols.now common.now (get name_eq tables.now.offsets) (get name_eq tables.now.locals)) (get name_eq tables.now.bounds) name.now) }
+    ensures { IfOk result (λ array. array
+        ≡ found.array_found symbols.now (found.start_found symbols.now common.now (get name_eq tables.now.offsets)
+        (get name_eq tables.now.locals)) (get name_eq tables.now.bounds) name.now) }
 {
     let extents = extents_of(alloc, symbols, constants, tables, name)?;
     // Each array of an accepted program begins somewhere.
@@ -81,7 +83,9 @@ pub(crate) fn arrays_among(
     names: &[Name],
 ) -> Result<Vec<Array>, AllocError>
     requires { value_among constants.now ≡ constant_value symbols.now }
-    ensures { IfOk result (λ arrays. arrays.items ≡ map (found.array_found symbols.now (found.start_found symbols.now common.now (get name_eq tables.now.offsets) (get name_eq tables.now.locals)) (get name_eq tables.now.bounds)) (filter (declarations.is_array symbols.now) names.now)) }
+    ensures { IfOk result (λ arrays. arrays.items
+        ≡ map (found.array_found symbols.now (found.start_found symbols.now common.now (get name_eq tables.now.offsets)
+        (get name_eq tables.now.locals)) (get name_eq tables.now.bounds)) (filter (declarations.is_array symbols.now) names.now)) }
 {
     let mut arrays = Vec::new(alloc);
     for name in names {

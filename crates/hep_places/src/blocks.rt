@@ -41,7 +41,8 @@ fn add_names(
 }
 
 fn add_block(entries: &mut Vec<Entry>, block: &CommonBlock) -> Result<(), AllocError>
-    ensures { OnOk result (entries.new.items ≡ entries.old.items ++ map (found.entry_of (declarations.block_of block.now)) block.now.entries) }
+    ensures { OnOk result (entries.new.items ≡ entries.old.items
+        ++ map (found.entry_of (declarations.block_of block.now)) block.now.entries) }
 {
     let name = block.block.map(|occurrence| occurrence.name);
     add_names(entries, name, block.entries.as_slice())?;
@@ -122,8 +123,11 @@ impl Offsets {
         entry: &Entry,
     ) -> Result<(), AllocError>
         requires { value_among constants.now ≡ constant_value symbols.now }
-        ensures table { OnOk result ((x : PureName) → get name_eq self.new.table x ≡ option_or (get name_eq self.old.table x) (by_name entry.now.name (found.length_in self.old.lengths entry.now.block) x)) }
-        ensures lengths { OnOk result ((b : BlockName) → found.length_in self.new.lengths b ≡ found.lengthened (found.length_in self.old.lengths) entry.now.block (values.cells_of symbols.now entry.now.name) b) }
+        ensures table { OnOk result ((x : PureName) → get name_eq self.new.table x
+            ≡ option_or (get name_eq self.old.table x) (by_name entry.now.name (found.length_in self.old.lengths entry.now.block) x)) }
+        ensures lengths { OnOk result ((b : BlockName)
+            → found.length_in self.new.lengths b
+            ≡ found.lengthened (found.length_in self.old.lengths) entry.now.block (values.cells_of symbols.now entry.now.name) b) }
     {
         let cells = cells_of(alloc, symbols, constants, &entry.name)?;
         note(
@@ -143,7 +147,8 @@ pub(crate) fn offset_table(
     constants: &Constants,
 ) -> Result<IndexMap<Name, u32>, AllocError>
     requires { value_among constants.now ≡ constant_value symbols.now }
-    ensures { IfOk result (λ table. (x : PureName) → get name_eq table x ≡ found.offset_among symbols.now found.no_length (found.entries_of symbols.now) x) }
+    ensures { IfOk result (λ table. (x : PureName) → get name_eq table x
+        ≡ found.offset_among symbols.now found.no_length (found.entries_of symbols.now) x) }
 {
     let entries = entries_of(alloc, symbols.statements())?;
     let mut offsets = Offsets::new(alloc);

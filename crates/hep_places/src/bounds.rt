@@ -61,7 +61,8 @@ fn add_expression(
     known: &Known,
     expression: &Expr,
 ) -> Result<(), AllocError>
-    ensures { OnOk result (code.new.items ≡ code.old.items ++ codes.code_of_bound (source_in known.now) known.now.symbols.now expression.now) }
+    ensures { OnOk result (code.new.items ≡ code.old.items
+        ++ codes.code_of_bound (source_in known.now) known.now.symbols.now expression.now) }
 {
     match &expression.node {
         Node::Constant(value) => add(code, BoundOperation::Value(*value)),
@@ -96,7 +97,9 @@ fn add_listed(
     listed: Meaning,
     list: &[Expr],
 ) -> Result<(), AllocError>
-    ensures { OnOk result (code.new.items ≡ code.old.items ++ codes.code_of_listed (meaning listed) (count (trees_of list.now)) (codes.code_of_bounds (source_in known.now) known.now.symbols.now (trees_of list.now))) }
+    ensures { OnOk result (code.new.items ≡ code.old.items
+        ++ codes.code_of_listed (meaning listed) (count (trees_of list.now))
+        (codes.code_of_bounds (source_in known.now) known.now.symbols.now (trees_of list.now))) }
 {
     match listed {
         Meaning::Pure(function) => {
@@ -119,7 +122,8 @@ fn add_listed(
 // The code of expressions in a row.
 #[cycle(add_expression)]
 fn add_all(code: &mut Vec<BoundOperation>, known: &Known, list: &[Expr]) -> Result<(), AllocError>
-    ensures { OnOk result (code.new.items ≡ code.old.items ++ codes.code_of_bounds (source_in known.now) known.now.symbols.now (trees_of list.now)) }
+    ensures { OnOk result (code.new.items ≡ code.old.items
+        ++ codes.code_of_bounds (source_in known.now) known.now.symbols.now (trees_of list.now)) }
 {
     match list {
         [] => Ok(()),
@@ -151,7 +155,8 @@ pub(crate) fn add_dimensions(
     known: &Known,
     dimensions: &[Dimension],
 ) -> Result<(), AllocError>
-    ensures { OnOk result (code.new.items ≡ code.old.items ++ code_of_dimensions (source_in known.now) known.now.symbols.now dimensions.now) }
+    ensures { OnOk result (code.new.items ≡ code.old.items
+        ++ code_of_dimensions (source_in known.now) known.now.symbols.now dimensions.now) }
 {
     match dimensions {
         [] => Ok(()),

@@ -68,7 +68,8 @@ pub(crate) fn dummy_arguments(
     occurrences: &[Occurrence],
 ) -> Result<Vec<DummyArgument>, AllocError>
     requires { value_among known.now.constants.now ≡ constant_value known.now.symbols.now }
-    ensures { IfOk result (λ arguments. arguments.items ≡ map (dummies.dummy_found known.now.symbols.now (dummies.source_in known.now)) (names_of_occurrences occurrences.now)) }
+    ensures { IfOk result (λ arguments. arguments.items
+        ≡ map (dummies.dummy_found known.now.symbols.now (dummies.source_in known.now)) (names_of_occurrences occurrences.now)) }
 {
     let mut arguments = Vec::new(alloc);
     for occurrence in occurrences {

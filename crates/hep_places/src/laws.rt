@@ -12,7 +12,8 @@ use hep_placed::laws::arrays_are_there;
 /// A unit whose frame, and a program whose COMMON, have no more than 16,777,216 cells has no more than twice as many
 /// arrays: each one has cells of its own.
 pub fn arrays_are_few()
-    ensures { (program : Units) (u : ℕ) → IsAccepted program → u < length program → frame_cells (unit_at program u) ≤ 16777216 → common_cells program ≤ 16777216 → length (arrays_of (unit_at program u)) ≤ 33554432 }
+    ensures { (program : Units) (u : ℕ) → IsAccepted program → u < length program → frame_cells (unit_at program u) ≤ 16777216
+        → common_cells program ≤ 16777216 → length (arrays_of (unit_at program u)) ≤ 33554432 }
 {
     arrays_are_there();
     arrays_have_shapes();

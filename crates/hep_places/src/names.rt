@@ -48,7 +48,8 @@ impl Starts {
         name: &Name,
     ) -> Result<(), AllocError>
         requires { value_among constants.now ≡ constant_value symbols.now }
-        ensures table { OnOk result ((x : PureName) → get name_eq self.new.table x ≡ option_or (get name_eq self.old.table x) (by_name name.now self.old.next x)) }
+        ensures table { OnOk result ((x : PureName) → get name_eq self.new.table x
+            ≡ option_or (get name_eq self.old.table x) (by_name name.now self.old.next x)) }
         ensures next { OnOk result (self.new.next ≡ narrowed (self.old.next + values.cells_of symbols.now name.now)) }
     {
         let cells = cells_of(alloc, symbols, constants, name)?;
@@ -66,7 +67,8 @@ impl Starts {
         names: &[Name],
     ) -> Result<(), AllocError>
         requires { value_among constants.now ≡ constant_value symbols.now }
-        ensures table { OnOk result ((x : PureName) → get name_eq self.new.table x ≡ option_or (get name_eq self.old.table x) (found.start_among self.old.next (found.name_row symbols.now names.now) x)) }
+        ensures table { OnOk result ((x : PureName) → get name_eq self.new.table x
+            ≡ option_or (get name_eq self.old.table x) (found.start_among self.old.next (found.name_row symbols.now names.now) x)) }
         ensures next { OnOk result (self.new.next ≡ found.behind self.old.next (found.name_row symbols.now names.now)) }
     {
         for name in names {
@@ -85,7 +87,8 @@ impl Starts {
         name: &Name,
     ) -> Result<(), AllocError>
         requires { value_among constants.now ≡ constant_value symbols.now }
-        ensures table { OnOk result ((x : PureName) → get name_eq self.new.table x ≡ option_or (get name_eq self.old.table x) (by_name name.now self.old.next x)) }
+        ensures table { OnOk result ((x : PureName) → get name_eq self.new.table x
+            ≡ option_or (get name_eq self.old.table x) (by_name name.now self.old.next x)) }
         ensures next { OnOk result (self.new.next ≡ narrowed (self.old.next + 2 * values.adjustable_dimensions symbols.now name.now)) }
     {
         let dimensions = adjustable_dimensions(alloc, symbols, constants, name)?;
@@ -103,8 +106,11 @@ impl Starts {
         dummies: &[Occurrence],
     ) -> Result<(), AllocError>
         requires { value_among constants.now ≡ constant_value symbols.now }
-        ensures table { OnOk result ((x : PureName) → get name_eq self.new.table x ≡ option_or (get name_eq self.old.table x) (found.start_among self.old.next (found.adjustable_row symbols.now (names_of_occurrences dummies.now)) x)) }
-        ensures next { OnOk result (self.new.next ≡ found.behind self.old.next (found.adjustable_row symbols.now (names_of_occurrences dummies.now))) }
+        ensures table { OnOk result ((x : PureName) → get name_eq self.new.table x
+            ≡ option_or (get name_eq self.old.table x)
+            (found.start_among self.old.next (found.adjustable_row symbols.now (names_of_occurrences dummies.now)) x)) }
+        ensures next { OnOk result (self.new.next
+            ≡ found.behind self.old.next (found.adjustable_row symbols.now (names_of_occurrences dummies.now))) }
     {
         for dummy in dummies {
             self.add_bound(alloc, symbols, constants, &dummy.name)?;

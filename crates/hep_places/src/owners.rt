@@ -50,7 +50,8 @@ pub(crate) fn variables_in_frame(
     dummies: &[Occurrence],
     locals: &[Name],
 ) -> Result<Vec<FrameVariable>, AllocError>
-    ensures { IfOk result (λ variables. variables.items ≡ owners.variables_found symbols.now (get name_eq tables.now.locals) (names_of_occurrences dummies.now) locals.now) }
+    ensures { IfOk result (λ variables. variables.items
+        ≡ owners.variables_found symbols.now (get name_eq tables.now.locals) (names_of_occurrences dummies.now) locals.now) }
 {
     let mut variables = Vec::new(alloc);
     for dummy in dummies {

@@ -54,7 +54,9 @@ pub fn unit_places(
     symbols: &Symbols,
     common: &CommonStarts,
 ) -> Result<UnitPlaces, AllocError>
-    ensures { IfOk result (λ places. (program : Units) (u : ℕ) → IsAccepted program → u < length program → symbols.now ≡ unit_at program u → AreStarts program common.now → common_cells program ≤ 16777216 → variables.frame_cells (unit_at program u) ≤ 16777216 → ArePlaces program (unit_at program u) places) }
+    ensures { IfOk result (λ places. (program : Units) (u : ℕ) → IsAccepted program → u < length program → symbols.now ≡ unit_at program u
+        → AreStarts program common.now → common_cells program ≤ 16777216 → variables.frame_cells (unit_at program u) ≤ 16777216
+        → ArePlaces program (unit_at program u) places) }
 {
     // What holds of the arrays and the dummy arguments of every accepted program.
     arrays_are_few();

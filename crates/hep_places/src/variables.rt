@@ -76,7 +76,8 @@ fn add(
     name: &Name,
 ) -> Result<(), AllocError>
     ensures { OnOk result ((x : PureName) → get name_eq table.new x ≡ option_or (get name_eq table.old x)
-        (by_name name.now (found.variable_found symbols.now arrays name.now (found.start_found symbols.now common.now (get name_eq tables.now.offsets) (get name_eq tables.now.locals) name.now)) x)) }
+        (by_name name.now (found.variable_found symbols.now arrays name.now
+        (found.start_found symbols.now common.now (get name_eq tables.now.offsets) (get name_eq tables.now.locals) name.now)) x)) }
 {
     let start = start_of(symbols, common, tables, name);
     note(table, *name, variable_of(symbols, arrays, name, start))?;
@@ -91,7 +92,9 @@ pub(crate) fn variables_among(
     tables: &Tables,
     names: &[Name],
 ) -> Result<IndexMap<Name, Variable>, AllocError>
-    ensures { IfOk result (λ table. (x : PureName) → get name_eq table x ≡ found.variable_among symbols.now (found.start_found symbols.now common.now (get name_eq tables.now.offsets) (get name_eq tables.now.locals)) 0 names.now x) }
+    ensures { IfOk result (λ table. (x : PureName) → get name_eq table x
+        ≡ found.variable_among symbols.now (found.start_found symbols.now common.now (get name_eq tables.now.offsets)
+        (get name_eq tables.now.locals)) 0 names.now x) }
 {
     let mut table = IndexMap::new(alloc);
     let mut arrays = 0;
@@ -116,7 +119,8 @@ pub(crate) fn private_among(
     tables: &Tables,
     names: &[Name],
 ) -> Result<Vec<u32>, AllocError>
-    ensures { IfOk result (λ cells. cells.items ≡ map (λ (x : PureName). unwrap_or (get name_eq tables.now.locals x) 0) (filter (private.is_private symbols.now) names.now)) }
+    ensures { IfOk result (λ cells. cells.items
+        ≡ map (λ (x : PureName). unwrap_or (get name_eq tables.now.locals x) 0) (filter (private.is_private symbols.now) names.now)) }
 {
     let actuals = bare_actuals(alloc, symbols.statements())?;
     let mut cells = Vec::new(alloc);

@@ -58,7 +58,9 @@ impl Frames {
     /// How many cells are out.
     pub fn used(&self) -> u32
         ensures cells { result + free_cells self.now.arena.holes ≡ length self.now.arena.contents }
-        ensures used { (program : Units) (s : State) (on out : ℕ → Bool) (layout : Layout) (wanted : Wanted) → Keeps program s on out layout wanted self.now.arena (nodes_of self.now.nodes) → result ≡ common_cells program + framed_cells layout }
+        ensures used { (program : Units) (s : State) (on out : ℕ → Bool) (layout : Layout) (wanted : Wanted)
+            → Keeps program s on out layout wanted self.now.arena (nodes_of self.now.nodes)
+            → result ≡ common_cells program + framed_cells layout }
     {
         self.arena.used()
     }
@@ -66,8 +68,11 @@ impl Frames {
     /// There is a gap of so many cells.
     pub fn fits(&self, cells: u32) -> bool
         ensures fit { result ≡ is_some (first_fit cells self.now.arena.holes) }
-        ensures opening { (program : Units) → IsUnused (common_cells program) self.now.arena (nodes_of self.now.nodes) → cells ≡ frame_of program (run program []) 1 → result ≡ is_some (opening_layout program (length self.now.arena.contents)) }
-        ensures gap { (program : Units) (s : State) (on out : ℕ → Bool) (layout : Layout) (wanted : Wanted) → Keeps program s on out layout wanted self.now.arena (nodes_of self.now.nodes) → 1 ≤ cells → result ≡ is_some (lowest_gap (length self.now.arena.contents) cells (common_cells program) layout) }
+        ensures opening { (program : Units) → IsUnused (common_cells program) self.now.arena (nodes_of self.now.nodes)
+            → cells ≡ frame_of program (run program []) 1 → result ≡ is_some (opening_layout program (length self.now.arena.contents)) }
+        ensures gap { (program : Units) (s : State) (on out : ℕ → Bool) (layout : Layout) (wanted : Wanted)
+            → Keeps program s on out layout wanted self.now.arena (nodes_of self.now.nodes) → 1 ≤ cells
+            → result ≡ is_some (lowest_gap (length self.now.arena.contents) cells (common_cells program) layout) }
     {
         self.arena.fits(cells)
     }
@@ -92,9 +97,15 @@ impl Frames {
         requires room { HasRoomFor self.old.nodes 1 }
         requires some { 1 ≤ cells }
         requires gap { IsSome (first_fit cells self.old.arena.holes) }
-        ensures taken { (first : ℕ) → first_fit cells self.old.arena.holes ≡ Some first → IsTaken cells first self.old.arena self.new.arena }
-        ensures nodes { (first : ℕ) → first_fit cells self.old.arena.holes ≡ Some first → ((key : ℕ) → nodes_of self.old.nodes key ≡ None) → nodes_of self.new.nodes ≡ first_nodes result unit first cells }
-        ensures opened { (program : Units) (s : State) (wanted : Wanted) → IsUnused (common_cells program) self.old.arena (nodes_of self.old.nodes) → IsOpening program s → unit ≡ main_unit program → cells ≡ frame_of program s 1 → ((c : FramePart × ℕ) (v : Slot) → wanted 1 c ≡ Some v → v ≡ unset_cell) → (layout : Layout) × (opening_layout program (length self.old.arena.contents) ≡ Some layout) × Keeps program s (is_stacked s) (λ a. nat_eq a 1) layout wanted self.new.arena (nodes_of self.new.nodes) }
+        ensures taken { (first : ℕ) → first_fit cells self.old.arena.holes ≡ Some first
+            → IsTaken cells first self.old.arena self.new.arena }
+        ensures nodes { (first : ℕ) → first_fit cells self.old.arena.holes ≡ Some first → ((key : ℕ) → nodes_of self.old.nodes key ≡ None)
+            → nodes_of self.new.nodes ≡ first_nodes result unit first cells }
+        ensures opened { (program : Units) (s : State) (wanted : Wanted)
+            → IsUnused (common_cells program) self.old.arena (nodes_of self.old.nodes) → IsOpening program s → unit ≡ main_unit program
+            → cells ≡ frame_of program s 1 → ((c : FramePart × ℕ) (v : Slot) → wanted 1 c ≡ Some v → v ≡ unset_cell) → (layout : Layout)
+            × (opening_layout program (length self.old.arena.contents) ≡ Some layout)
+            × Keeps program s (is_stacked s) (λ a. nat_eq a 1) layout wanted self.new.arena (nodes_of self.new.nodes) }
     {
         self.add(1, unit, cells, None)
     }
@@ -110,9 +121,19 @@ impl Frames {
         requires there { ContainsKey self.old.nodes parent }
         requires few { CanCount (nodes_of self.old.nodes) parent }
         ensures vacant { nodes_of self.old.nodes result ≡ None }
-        ensures taken { (first : ℕ) → first_fit cells self.old.arena.holes ≡ Some first → IsTaken cells first self.old.arena self.new.arena }
-        ensures nodes { (first : ℕ) → first_fit cells self.old.arena.holes ≡ Some first → nodes_of self.new.nodes ≡ with_node (nodes_of self.old.nodes) result (new_node activation unit first cells parent) parent }
-        ensures begun { (program : Units) (s t : State) (x : Activation) (on out : ℕ → Bool) (layout : Layout) (wanted : Wanted) (n : TreeNode) → Keeps program s on out layout wanted self.old.arena (nodes_of self.old.nodes) → nodes_of self.old.nodes parent ≡ Some n → IsBegun s t x → x.parent ≡ Some n.activation → activation ≡ length t.activations → unit ≡ x.unit → cells ≡ frame_of program t (length t.activations) → (first : ℕ) × (lowest_gap (length self.old.arena.contents) cells (common_cells program) layout ≡ Some first) × Keeps program t (also (length t.activations) on) (also (length t.activations) out) (with_frame layout (frame_from program t (length t.activations) first)) (with_unset (length t.activations) wanted) self.new.arena (nodes_of self.new.nodes) }
+        ensures taken { (first : ℕ) → first_fit cells self.old.arena.holes ≡ Some first
+            → IsTaken cells first self.old.arena self.new.arena }
+        ensures nodes { (first : ℕ) → first_fit cells self.old.arena.holes ≡ Some first
+            → nodes_of self.new.nodes ≡ with_node (nodes_of self.old.nodes) result (new_node activation unit first cells parent) parent }
+        ensures begun { (program : Units) (s t : State) (x : Activation) (on out : ℕ
+            → Bool) (layout : Layout) (wanted : Wanted) (n : TreeNode)
+            → Keeps program s on out layout wanted self.old.arena (nodes_of self.old.nodes) → nodes_of self.old.nodes parent ≡ Some n
+            → IsBegun s t x → x.parent ≡ Some n.activation → activation ≡ length t.activations → unit ≡ x.unit
+            → cells ≡ frame_of program t (length t.activations) → (first : ℕ)
+            × (lowest_gap (length self.old.arena.contents) cells (common_cells program) layout ≡ Some first)
+            × Keeps program t (also (length t.activations) on) (also (length t.activations) out)
+            (with_frame layout (frame_from program t (length t.activations) first))
+            (with_unset (length t.activations) wanted) self.new.arena (nodes_of self.new.nodes) }
     {
         let key = self.add(activation, unit, cells, Some(parent));
         nodes::gain_child(&mut self.nodes, parent);
@@ -125,9 +146,19 @@ impl Frames {
         requires some { 1 ≤ cells }
         requires gap { IsSome (first_fit cells self.old.arena.holes) }
         ensures vacant { nodes_of self.old.nodes result ≡ None }
-        ensures node { (first : ℕ) → first_fit cells self.old.arena.holes ≡ Some first → nodes_of self.new.nodes result ≡ Some (record { activation = activation; unit = unit; first = first; cells = cells; parent = parent; children = 0; finished = false }) }
+        ensures node { (first : ℕ) → first_fit cells self.old.arena.holes ≡ Some first
+            → nodes_of self.new.nodes result ≡ Some (record {
+              activation = activation;
+              unit = unit;
+              first = first;
+              cells = cells;
+              parent = parent;
+              children = 0;
+              finished = false;
+            }) }
         ensures others { (k : ℕ) → nat_eq k result ≡ false → nodes_of self.new.nodes k ≡ nodes_of self.old.nodes k }
-        ensures taken { (first : ℕ) → first_fit cells self.old.arena.holes ≡ Some first → IsTaken cells first self.old.arena self.new.arena }
+        ensures taken { (first : ℕ) → first_fit cells self.old.arena.holes ≡ Some first
+            → IsTaken cells first self.old.arena self.new.arena }
     {
         let block = self.arena.take(cells).unwrap();
         self.nodes.insert_reserved(Node {
@@ -145,8 +176,16 @@ impl Frames {
     pub fn leave(&mut self, key: usize)
         requires there { ContainsKey self.old.nodes key }
         requires kept { AreOfSomeState self.old.arena (nodes_of self.old.nodes) }
-        ensures left { (program : Units) (s : State) (on out : ℕ → Bool) (layout : Layout) (n : TreeNode) → Keeps program s on out layout (wanted_of program s layout) self.old.arena (nodes_of self.old.nodes) → nodes_of self.old.nodes key ≡ Some n → LeadUpwards s → HasLeft program s (but n.activation on) out layout self.old.arena self.new.arena (nodes_of self.old.nodes) (nodes_of self.new.nodes) }
-        ensures ended { (program : Units) (s t : State) (out : ℕ → Bool) (layout : Layout) (n : TreeNode) → Keeps program s (is_stacked s) out layout (wanted_of program s layout) self.old.arena (nodes_of self.old.nodes) → nodes_of self.old.nodes key ≡ Some n → IsEnded program layout (but n.activation (is_stacked s)) s t → LeadUpwards t → HasLeft program t (is_stacked t) out layout self.old.arena self.new.arena (nodes_of self.old.nodes) (nodes_of self.new.nodes) }
+        ensures left { (program : Units) (s : State) (on out : ℕ → Bool) (layout : Layout) (n : TreeNode)
+            → Keeps program s on out layout (wanted_of program s layout) self.old.arena (nodes_of self.old.nodes)
+            → nodes_of self.old.nodes key ≡ Some n → LeadUpwards s
+            → HasLeft program s (but n.activation on) out layout self.old.arena self.new.arena (nodes_of self.old.nodes)
+            (nodes_of self.new.nodes) }
+        ensures ended { (program : Units) (s t : State) (out : ℕ → Bool) (layout : Layout) (n : TreeNode)
+            → Keeps program s (is_stacked s) out layout (wanted_of program s layout) self.old.arena (nodes_of self.old.nodes)
+            → nodes_of self.old.nodes key ≡ Some n → IsEnded program layout (but n.activation (is_stacked s)) s t → LeadUpwards t
+            → HasLeft program t (is_stacked t) out layout self.old.arena self.new.arena (nodes_of self.old.nodes)
+            (nodes_of self.new.nodes) }
         ensures cells { length self.new.arena.contents ≡ length self.old.arena.contents }
     {
         nodes::end(&mut self.nodes, key);
@@ -164,8 +203,16 @@ impl Frames {
     /// its stack on: the frames of each go back as [`Frames::leave`] says.
     pub fn leave_all(&mut self, keys: &[usize])
         requires { CanAllLeave self.old.arena (nodes_of self.old.nodes) keys.now }
-        ensures left { (program : Units) (s : State) (on out : ℕ → Bool) (layout : Layout) (ends : List ℕ) → Keeps program s on out layout (wanted_of program s layout) self.old.arena (nodes_of self.old.nodes) → CanLeave (nodes_of self.old.nodes) on keys.now ends → LeadUpwards s → HasLeft program s (all_but ends on) out layout self.old.arena self.new.arena (nodes_of self.old.nodes) (nodes_of self.new.nodes) }
-        ensures ended { (program : Units) (s t : State) (out : ℕ → Bool) (layout : Layout) (ends : List ℕ) → Keeps program s (is_stacked s) out layout (wanted_of program s layout) self.old.arena (nodes_of self.old.nodes) → CanLeave (nodes_of self.old.nodes) (is_stacked s) keys.now ends → IsEnded program layout (all_but ends (is_stacked s)) s t → LeadUpwards t → HasLeft program t (is_stacked t) out layout self.old.arena self.new.arena (nodes_of self.old.nodes) (nodes_of self.new.nodes) }
+        ensures left { (program : Units) (s : State) (on out : ℕ → Bool) (layout : Layout) (ends : List ℕ)
+            → Keeps program s on out layout (wanted_of program s layout) self.old.arena (nodes_of self.old.nodes)
+            → CanLeave (nodes_of self.old.nodes) on keys.now ends → LeadUpwards s
+            → HasLeft program s (all_but ends on) out layout self.old.arena self.new.arena (nodes_of self.old.nodes)
+            (nodes_of self.new.nodes) }
+        ensures ended { (program : Units) (s t : State) (out : ℕ → Bool) (layout : Layout) (ends : List ℕ)
+            → Keeps program s (is_stacked s) out layout (wanted_of program s layout) self.old.arena (nodes_of self.old.nodes)
+            → CanLeave (nodes_of self.old.nodes) (is_stacked s) keys.now ends → IsEnded program layout (all_but ends (is_stacked s)) s t
+            → LeadUpwards t → HasLeft program t (is_stacked t) out layout self.old.arena self.new.arena (nodes_of self.old.nodes)
+            (nodes_of self.new.nodes) }
         ensures cells { length self.new.arena.contents ≡ length self.old.arena.contents }
     {
         for key in keys {
@@ -177,12 +224,15 @@ impl Frames {
     fn give(&mut self, key: usize) -> Option<usize>
         requires there { ContainsKey self.old.nodes key }
         requires inside { (n : TreeNode) → nodes_of self.old.nodes key ≡ Some n → n.first + n.cells ≤ length self.old.arena.contents }
-        requires out { (n : TreeNode) (p : ℕ) → nodes_of self.old.nodes key ≡ Some n → n.first ≤ p → p < n.first + n.cells → IsOut p self.old.arena.holes }
+        requires out { (n : TreeNode) (p : ℕ) → nodes_of self.old.nodes key ≡ Some n → n.first ≤ p → p < n.first + n.cells
+            → IsOut p self.old.arena.holes }
         requires counted { IsCountedAbove (nodes_of self.old.nodes) key }
         ensures parent { (n : TreeNode) → nodes_of self.old.nodes key ≡ Some n → result ≡ n.parent }
-        ensures nodes { (n : TreeNode) → nodes_of self.old.nodes key ≡ Some n → (k : ℕ) → nodes_of self.new.nodes k ≡ without_node (nodes_of self.old.nodes) key n k }
+        ensures nodes { (n : TreeNode) → nodes_of self.old.nodes key ≡ Some n → (k : ℕ)
+            → nodes_of self.new.nodes k ≡ without_node (nodes_of self.old.nodes) key n k }
         ensures len { slab_len self.new.nodes + 1 ≡ slab_len self.old.nodes }
-        ensures holes { (n : TreeNode) → nodes_of self.old.nodes key ≡ Some n → self.new.arena.holes ≡ given (n.first, n.cells) self.old.arena.holes }
+        ensures holes { (n : TreeNode) → nodes_of self.old.nodes key ≡ Some n
+            → self.new.arena.holes ≡ given (n.first, n.cells) self.old.arena.holes }
         ensures kept { (p : ℕ) → IsOut p self.new.arena.holes → slice_get self.new.arena.contents p ≡ slice_get self.old.arena.contents p }
         ensures cells { length self.new.arena.contents ≡ length self.old.arena.contents }
     {
@@ -240,7 +290,9 @@ impl Frames {
         requires inside { at < length self.now.arena.contents }
         requires out { IsOut at self.now.arena.holes }
         ensures slot { slice_get self.now.arena.contents at ≡ Some result }
-        ensures unit { (program : Units) (s : State) (on out : ℕ → Bool) (layout : Layout) (wanted : Wanted) (place : Location) → Keeps program s on out layout wanted self.now.arena (nodes_of self.now.nodes) → address program s layout place ≡ Some at → result ≡ s.store place }
+        ensures unit { (program : Units) (s : State) (on out : ℕ → Bool) (layout : Layout) (wanted : Wanted) (place : Location)
+            → Keeps program s on out layout wanted self.now.arena (nodes_of self.now.nodes) → address program s layout place ≡ Some at
+            → result ≡ s.store place }
     {
         self.arena.get(at)
     }
@@ -252,8 +304,16 @@ impl Frames {
         ensures contents { self.new.arena.contents ≡ slice_set self.old.arena.contents at slot }
         ensures holes { self.new.arena.holes ≡ self.old.arena.holes }
         ensures nodes { nodes_of self.new.nodes ≡ nodes_of self.old.nodes }
-        ensures unit { (program : Units) (s t : State) (on out : ℕ → Bool) (layout : Layout) (wanted : Wanted) (place : Location) → Keeps program s on out layout wanted self.old.arena (nodes_of self.old.nodes) → address program s layout place ≡ Some at → t.activations ≡ s.activations → t.store ≡ with_cell s.store place slot → Keeps program t on out layout wanted self.new.arena (nodes_of self.new.nodes) }
-        ensures descriptor { (program : Units) (s : State) (on out : ℕ → Bool) (layout : Layout) (wanted after : Wanted) (a : ℕ) (c : FramePart × ℕ) → Keeps program s on out layout wanted self.old.arena (nodes_of self.old.nodes) → is_descriptor program s a c ≡ true → frame_address program s layout a c ≡ Some at → after a c ≡ Some slot → ((b : ℕ) (d : FramePart × ℕ) (v : Slot) → ((a ≡ b) × (c ≡ d) → ⊥) → after b d ≡ Some v → wanted b d ≡ Some v) → Keeps program s on out layout after self.new.arena (nodes_of self.new.nodes) }
+        ensures unit { (program : Units) (s t : State) (on out : ℕ → Bool) (layout : Layout) (wanted : Wanted) (place : Location)
+            → Keeps program s on out layout wanted self.old.arena (nodes_of self.old.nodes) → address program s layout place ≡ Some at
+            → t.activations ≡ s.activations → t.store ≡ with_cell s.store place slot
+            → Keeps program t on out layout wanted self.new.arena (nodes_of self.new.nodes) }
+        ensures descriptor { (program : Units) (s : State) (on out : ℕ
+            → Bool) (layout : Layout) (wanted after : Wanted) (a : ℕ) (c : FramePart × ℕ)
+            → Keeps program s on out layout wanted self.old.arena (nodes_of self.old.nodes) → is_descriptor program s a c ≡ true
+            → frame_address program s layout a c ≡ Some at → after a c ≡ Some slot
+            → ((b : ℕ) (d : FramePart × ℕ) (v : Slot) → ((a ≡ b) × (c ≡ d) → ⊥) → after b d ≡ Some v → wanted b d ≡ Some v)
+            → Keeps program s on out layout after self.new.arena (nodes_of self.new.nodes) }
     {
         self.arena.set(at, slot);
     }

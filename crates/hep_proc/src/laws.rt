@@ -18,23 +18,36 @@ ghost use Rattle.hep_proc.specs.Keeping.{IsOpening, Keeps, frames_of};
 /// The frames of a state are those of another one that has the same activations and the same store, on
 /// stacks too, where no more is wanted of the other cells.
 pub fn frames_are_of_states_alike()
-    ensures { (program : Units) (s t : State) (on now out : ℕ → Bool) (layout : Layout) (wanted after : Wanted) (arena : Space) (nodes : Nodes) → Keeps program s on out layout wanted arena nodes → t.activations ≡ s.activations → t.store ≡ s.store → ((a : ℕ) → now a ≡ on a) → ((a : ℕ) (c : FramePart × ℕ) (v : Slot) → after a c ≡ Some v → wanted a c ≡ Some v) → Keeps program t now out layout after arena nodes }
+    ensures { (program : Units) (s t : State) (on now out : ℕ
+        → Bool) (layout : Layout) (wanted after : Wanted) (arena : Space) (nodes : Nodes) → Keeps program s on out layout wanted arena nodes
+        → t.activations ≡ s.activations → t.store ≡ s.store → ((a : ℕ) → now a ≡ on a)
+        → ((a : ℕ) (c : FramePart × ℕ) (v : Slot) → after a c ≡ Some v → wanted a c ≡ Some v)
+        → Keeps program t now out layout after arena nodes }
 {}
 
 /// A node has no more children than there are activations, so one more can be counted.
 pub fn children_are_activations()
-    ensures { (program : Units) (s : State) (on out : ℕ → Bool) (layout : Layout) (wanted : Wanted) (arena : Space) (nodes : Nodes) (key : ℕ) → Keeps program s on out layout wanted arena nodes → length s.activations + 1 < 2 ^ 64 → CanCount nodes key }
+    ensures { (program : Units) (s : State) (on out : ℕ
+        → Bool) (layout : Layout) (wanted : Wanted) (arena : Space) (nodes : Nodes) (key : ℕ)
+        → Keeps program s on out layout wanted arena nodes → length s.activations + 1 < 2 ^ 64 → CanCount nodes key }
 {}
 
 /// At the opening of a program whose main program has no dummy arguments, cells that are unset are all
 /// that is wanted of its frame.
 pub fn openings_want_unset_cells()
-    ensures { (program : Units) (s : State) (layout : Layout) (c : FramePart × ℕ) (v : Slot) → IsOpening program s → dummies_of (unit_at program (main_unit program)) ≡ [] → wanted_of program s layout 1 c ≡ Some v → v ≡ unset_cell }
+    ensures { (program : Units) (s : State) (layout : Layout) (c : FramePart × ℕ) (v : Slot) → IsOpening program s
+        → dummies_of (unit_at program (main_unit program)) ≡ [] → wanted_of program s layout 1 c ≡ Some v → v ≡ unset_cell }
 {}
 
 /// After a run the frames are those of just the held activations. So what is left of a layout is what the
 /// machine leaves of it.
 pub fn frames_are_of_held_activations()
-    ensures out { (program : Units) (processes : List ℕ) (out : ℕ → Bool) (layout : Layout) (wanted : Wanted) (arena : Space) (nodes : Nodes) (a : ℕ) → Keeps program (run program processes) (is_stacked (run program processes)) out layout wanted arena nodes → out a ≡ is_held (run program processes) a }
-    ensures layout { (program : Units) (processes : List ℕ) (out : ℕ → Bool) (layout before : Layout) (wanted : Wanted) (arena : Space) (nodes : Nodes) → Keeps program (run program processes) (is_stacked (run program processes)) out layout wanted arena nodes → frames_of out before ≡ remaining_layout is_held (run program processes) before }
+    ensures out { (program : Units) (processes : List ℕ) (out : ℕ
+        → Bool) (layout : Layout) (wanted : Wanted) (arena : Space) (nodes : Nodes) (a : ℕ)
+        → Keeps program (run program processes) (is_stacked (run program processes)) out layout wanted arena nodes
+        → out a ≡ is_held (run program processes) a }
+    ensures layout { (program : Units) (processes : List ℕ) (out : ℕ
+        → Bool) (layout before : Layout) (wanted : Wanted) (arena : Space) (nodes : Nodes)
+        → Keeps program (run program processes) (is_stacked (run program processes)) out layout wanted arena nodes
+        → frames_of out before ≡ remaining_layout is_held (run program processes) before }
 {}

@@ -59,7 +59,8 @@ fn range_of(
 ) -> Result<Range, Kind>
     requires frame { HasFrame arena.now frame }
     requires passable { IsPassable arena.now arrays.now frame variable subscripts.now }
-    ensures { result ≡ range_in (definitions.is_whole variable subscripts.now) (passed_at (cells_in arena.now.contents) frame.first arrays.now variable subscripts.now) }
+    ensures { result ≡ range_in (definitions.is_whole variable subscripts.now)
+        (passed_at (cells_in arena.now.contents) frame.first arrays.now variable subscripts.now) }
 {
     match passed(arrays, arena, frame, variable, subscripts)? {
         Given::Units { first, count } => {
@@ -84,8 +85,10 @@ fn range_ahead<'a>(
 ) -> Result<Option<(Range, &'a [Value])>, Kind>
     requires frame { HasFrame arena.now frame }
     requires passable { IsAheadPassable arena.now arrays.now frame (passed_ahead entry.now operands.now) }
-    ensures range { IfOk result (λ ahead. entries.range_ahead (cells_in arena.now.contents) frame.first arrays.now (passed_ahead entry.now operands.now) ≡ Ok (option_map (λ pair. (pair.0, pair.1.now)) ahead)) }
-    ensures fault { IfErr result (λ kind. entries.range_ahead (cells_in arena.now.contents) frame.first arrays.now (passed_ahead entry.now operands.now) ≡ Err kind) }
+    ensures range { IfOk result (λ ahead. entries.range_ahead (cells_in arena.now.contents) frame.first arrays.now
+        (passed_ahead entry.now operands.now) ≡ Ok (option_map (λ pair. (pair.0, pair.1.now)) ahead)) }
+    ensures fault { IfErr result (λ kind. entries.range_ahead (cells_in arena.now.contents) frame.first arrays.now
+        (passed_ahead entry.now operands.now) ≡ Err kind) }
 {
     match entry {
         Instruction::Pass(Argument::Evaluated) => match operands {
@@ -118,8 +121,10 @@ fn find_all(
     requires frame { HasFrame arena.now frame }
     requires passable { ArePassable arena.now arrays.now frame (passed_in entries.now operands.now) }
     requires room { length entries.now ≤ vec_capacity ranges.old }
-    ensures ranges { IfOk result (λ _. ranges_of (cells_in arena.now.contents) frame.first arrays.now (passed_in entries.now operands.now) ≡ Ok ranges.new.items) }
-    ensures fault { IfErr result (λ kind. ranges_of (cells_in arena.now.contents) frame.first arrays.now (passed_in entries.now operands.now) ≡ Err kind) }
+    ensures ranges { IfOk result (λ _. ranges_of (cells_in arena.now.contents) frame.first arrays.now (passed_in entries.now operands.now)
+        ≡ Ok ranges.new.items) }
+    ensures fault { IfErr result (λ kind. ranges_of (cells_in arena.now.contents) frame.first arrays.now
+        (passed_in entries.now operands.now) ≡ Err kind) }
     ensures capacity { vec_capacity ranges.old ≤ vec_capacity ranges.new }
 {
     ranges.clear();
@@ -155,8 +160,10 @@ pub fn find_ranges(
     requires passable { ArePassable arena.now arrays.now frame (passed_from count entries.now operands.now) }
     requires out { AreOut arena.now arrays.now frame (passed_from count entries.now operands.now) }
     requires room { count ≤ vec_capacity ranges.old }
-    ensures ranges { IfOk result (λ _. ranges_of (cells_in arena.now.contents) frame.first arrays.now (passed_from count entries.now operands.now) ≡ Ok ranges.new.items) }
-    ensures fault { IfErr result (λ kind. ranges_of (cells_in arena.now.contents) frame.first arrays.now (passed_from count entries.now operands.now) ≡ Err kind) }
+    ensures ranges { IfOk result (λ _. ranges_of (cells_in arena.now.contents) frame.first arrays.now
+        (passed_from count entries.now operands.now) ≡ Ok ranges.new.items) }
+    ensures fault { IfErr result (λ kind. ranges_of (cells_in arena.now.contents) frame.first arrays.now
+        (passed_from count entries.now operands.now) ≡ Err kind) }
     ensures reached { IfOk result (λ _. AreReached arena.now ranges.new.items) }
     ensures capacity { vec_capacity ranges.old ≤ vec_capacity ranges.new }
 {

@@ -27,19 +27,39 @@ ghost use Rattle.hep_purging.specs.Ready.{AreOut};
 /// the ranges, and the activation goes on with no operands where the next statement stands; or a target that isn't there is
 /// the same fault, and nothing has changed.
 pub fn purges_do_what_the_machine_does()
-    ensures { (program : Units) (t : Top) (layout : Layout) (f : Frame) (contents : List Slot) (holes : List Hole) (operands : List Value) (index line count next : ℕ) (behind : List Instruction) → IsRunning program t layout f contents holes operands index → IsCaller program t.state layout contents t.level.activation f → AreEntriesPlaced count behind → drop index (code_on_top program t) ≡ Step line (Purge count next) ∷ behind → Simulates program t layout f holes contents (effect_of_purge (arrays_on_top program t) f.first line next (passed_from count behind operands) contents) }
+    ensures { (program : Units) (t : Top) (layout : Layout) (f : Frame) (contents : List Slot) (holes : List Hole) (operands : List Value)
+        (index line count next : ℕ) (behind : List Instruction) → IsRunning program t layout f contents holes operands index
+        → IsCaller program t.state layout contents t.level.activation f → AreEntriesPlaced count behind
+        → drop index (code_on_top program t) ≡ Step line (Purge count next) ∷ behind
+        → Simulates program t layout f holes contents
+        (effect_of_purge (arrays_on_top program t) f.first line next (passed_from count behind operands) contents) }
 {}
 
 /// An activation that runs can do the PURGE ahead: the entries behind it and its operands are what `find_ranges` asks for.
 pub fn purges_are_ready()
-    ensures frame { (program : Units) (t : Top) (layout : Layout) (f : Frame) (contents : List Slot) (holes : List Hole) (operands : List Value) (index : ℕ) → IsRunning program t layout f contents holes operands index → IsCaller program t.state layout contents t.level.activation f → length contents ≤ most_cells → HasFrame (record { contents = contents; holes = holes }) (frame_in_arena f) }
-    ensures passable { (program : Units) (t : Top) (layout : Layout) (f : Frame) (contents : List Slot) (holes : List Hole) (operands : List Value) (index line count next : ℕ) (behind : List Instruction) → IsRunning program t layout f contents holes operands index → IsCaller program t.state layout contents t.level.activation f → ArePlacedArrays program (unit_on_top program t) → drop index (code_on_top program t) ≡ Step line (Purge count next) ∷ behind → ArePassable (record { contents = contents; holes = holes }) (arrays_on_top program t) (frame_in_arena f) (passed_from count behind operands) }
-    ensures out { (program : Units) (t : Top) (layout : Layout) (f : Frame) (contents : List Slot) (holes : List Hole) (operands : List Value) (index line count next : ℕ) (behind : List Instruction) → IsRunning program t layout f contents holes operands index → IsCaller program t.state layout contents t.level.activation f → drop index (code_on_top program t) ≡ Step line (Purge count next) ∷ behind → AreOut (record { contents = contents; holes = holes }) (arrays_on_top program t) (frame_in_arena f) (passed_from count behind operands) }
+    ensures frame { (program : Units) (t : Top) (layout : Layout) (f : Frame) (contents : List Slot) (holes : List Hole)
+        (operands : List Value) (index : ℕ) → IsRunning program t layout f contents holes operands index
+        → IsCaller program t.state layout contents t.level.activation f → length contents ≤ most_cells
+        → HasFrame (record { contents = contents; holes = holes }) (frame_in_arena f) }
+    ensures passable { (program : Units) (t : Top) (layout : Layout) (f : Frame) (contents : List Slot) (holes : List Hole)
+        (operands : List Value) (index line count next : ℕ) (behind : List Instruction)
+        → IsRunning program t layout f contents holes operands index → IsCaller program t.state layout contents t.level.activation f
+        → ArePlacedArrays program (unit_on_top program t) → drop index (code_on_top program t) ≡ Step line (Purge count next) ∷ behind
+        → ArePassable (record { contents = contents; holes = holes }) (arrays_on_top program t) (frame_in_arena f)
+        (passed_from count behind operands) }
+    ensures out { (program : Units) (t : Top) (layout : Layout) (f : Frame) (contents : List Slot) (holes : List Hole)
+        (operands : List Value) (index line count next : ℕ) (behind : List Instruction)
+        → IsRunning program t layout f contents holes operands index → IsCaller program t.state layout contents t.level.activation f
+        → drop index (code_on_top program t) ≡ Step line (Purge count next) ∷ behind
+        → AreOut (record { contents = contents; holes = holes }) (arrays_on_top program t) (frame_in_arena f)
+        (passed_from count behind operands) }
 {}
 
 /// The cells of the ranges are empty, with the values that they had, and all other cells are as they were.
 pub fn ranges_are_emptied()
-    ensures within { (ranges : List Range) (contents : List Slot) (p : ℕ) (slot : Slot) → have_cell ranges p ≡ true → slice_get contents p ≡ Some slot → slice_get (purged ranges contents) p ≡ Some (purged_cell slot) }
-    ensures elsewhere { (ranges : List Range) (contents : List Slot) (p : ℕ) → have_cell ranges p ≡ false → slice_get (purged ranges contents) p ≡ slice_get contents p }
+    ensures within { (ranges : List Range) (contents : List Slot) (p : ℕ) (slot : Slot) → have_cell ranges p ≡ true
+        → slice_get contents p ≡ Some slot → slice_get (purged ranges contents) p ≡ Some (purged_cell slot) }
+    ensures elsewhere { (ranges : List Range) (contents : List Slot) (p : ℕ) → have_cell ranges p ≡ false
+        → slice_get (purged ranges contents) p ≡ slice_get contents p }
     ensures cells { (ranges : List Range) (contents : List Slot) → length (purged ranges contents) ≡ length contents }
 {}

@@ -21,7 +21,9 @@ use std::alloc::AllocError;
 /// After a step of process p, before which so many processes were made: p isn't ready once it has ended, and a process that it made is.
 pub(crate) fn note_ready(ready: &mut Ready, machine: &Machine, p: u64, made: usize)
     requires { length machine.now.processes.items ≤ ready.old.room }
-    ensures ready { (program : Units) (cells : ℕ) (choices : List ℕ) → IsAfter program cells choices (snapshot_of machine.now) → (q : ℕ) → is_number_among q ready.new.ready ≡ is_noted p (is_some (living (run program choices) p)) made (length machine.now.processes.items) ready.old.ready q }
+    ensures ready { (program : Units) (cells : ℕ) (choices : List ℕ) → IsAfter program cells choices (snapshot_of machine.now) → (q : ℕ)
+        → is_number_among q ready.new.ready
+        ≡ is_noted p (is_some (living (run program choices) p)) made (length machine.now.processes.items) ready.old.ready q }
     ensures room { ready.new.room ≡ ready.old.room }
 {
     if !machine.lives(p) {
@@ -50,7 +52,8 @@ fn wake_range(waits: &mut Waits, ready: &mut Ready, range: Range)
     requires room { length waits.old ≤ ready.old.room }
     requires few { range.first + range.cells ≤ most_cells }
     ensures waits { (q : ℕ) → waiting_at waits.new q ≡ awake_where (has_cell range) (waiting_at waits.old q) }
-    ensures ready { (q : ℕ) → is_number_among q ready.new.ready ≡ (is_woken_where (has_cell range) waits.old q || is_number_among q ready.old.ready) }
+    ensures ready { (q : ℕ) → is_number_among q ready.new.ready
+        ≡ (is_woken_where (has_cell range) waits.old q || is_number_among q ready.old.ready) }
     ensures size { length waits.new ≡ length waits.old }
     ensures room { ready.new.room ≡ ready.old.room }
 {
@@ -70,7 +73,8 @@ fn wake_emptied(waits: &mut Waits, ready: &mut Ready, ranges: &[Range])
     requires room { length waits.old ≤ ready.old.room }
     requires few { (i : ℕ) (r : PureRange) → slice_get ranges.now i ≡ Some r → r.first + r.cells ≤ most_cells }
     ensures waits { (q : ℕ) → waiting_at waits.new q ≡ awake_where (have_cell ranges.now) (waiting_at waits.old q) }
-    ensures ready { (q : ℕ) → is_number_among q ready.new.ready ≡ (is_woken_where (have_cell ranges.now) waits.old q || is_number_among q ready.old.ready) }
+    ensures ready { (q : ℕ) → is_number_among q ready.new.ready
+        ≡ (is_woken_where (have_cell ranges.now) waits.old q || is_number_among q ready.old.ready) }
     ensures size { length waits.new ≡ length waits.old }
     ensures room { ready.new.room ≡ ready.old.room }
 {
@@ -85,7 +89,8 @@ pub(crate) fn wake_after(waits: &mut Waits, ready: &mut Ready, turned: Turned, e
     requires room { length waits.old ≤ ready.old.room }
     requires few { AreInArena turned emptied.now }
     ensures waits { (q : ℕ) → waiting_at waits.new q ≡ awake_after turned emptied.now (waiting_at waits.old q) }
-    ensures ready { (q : ℕ) → is_number_among q ready.new.ready ≡ (is_woken_after turned emptied.now waits.old q || is_number_among q ready.old.ready) }
+    ensures ready { (q : ℕ) → is_number_among q ready.new.ready
+        ≡ (is_woken_after turned emptied.now waits.old q || is_number_among q ready.old.ready) }
     ensures size { length waits.new ≡ length waits.old }
     ensures room { ready.new.room ≡ ready.old.room }
 {

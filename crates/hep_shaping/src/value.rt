@@ -40,7 +40,8 @@ fn value_on(
     operands: &[Value],
 ) -> Option<Value>
     requires readable { IsReadable arena.now given.now operation }
-    ensures { result ≡ definitions.value_on (stored_in arena.now.contents) (stored_for arena.now.contents given.now) operation operands.now }
+    ensures { result ≡ definitions.value_on (stored_in arena.now.contents)
+        (stored_for arena.now.contents given.now) operation operands.now }
 {
     match (operation, operands) {
         (BoundOperation::Value(value), _) => Some(value),
@@ -77,7 +78,8 @@ fn operate(
 ) -> Option<()>
     requires readable { IsReadable arena.now given.now operation }
     requires room { vec_len stack.old < vec_capacity stack.old }
-    ensures done { MatchOption result (left_by_operation arena.now.contents given.now operation stack.old.items ≡ None) (λ _. left_by_operation arena.now.contents given.now operation stack.old.items ≡ Some stack.new.items) }
+    ensures done { MatchOption result (left_by_operation arena.now.contents given.now operation stack.old.items
+        ≡ None) (λ _. left_by_operation arena.now.contents given.now operation stack.old.items ≡ Some stack.new.items) }
     ensures length { vec_len stack.new ≤ vec_len stack.old + 1 }
     ensures capacity { vec_capacity stack.old ≤ vec_capacity stack.new }
 {
@@ -96,7 +98,8 @@ pub(crate) fn run(
 ) -> Option<()>
     requires readable { AreReadable arena.now given.now code.now }
     requires room { length code.now ≤ vec_capacity stack.old }
-    ensures done { MatchOption result (left_by_code arena.now.contents given.now code.now ≡ None) (λ _. left_by_code arena.now.contents given.now code.now ≡ Some stack.new.items) }
+    ensures done { MatchOption result (left_by_code arena.now.contents given.now code.now
+        ≡ None) (λ _. left_by_code arena.now.contents given.now code.now ≡ Some stack.new.items) }
     ensures capacity { vec_capacity stack.old ≤ vec_capacity stack.new }
 {
     stack.clear();

@@ -25,15 +25,19 @@ impl Process {
     // The level of its top activation.
     pub(crate) fn top(&self) -> Level
         requires { 0 < vec_len self.now.levels }
-        ensures { (l : ALevel) (ls : List ALevel) (operands : List OperandValue) → stack_of self.now ≡ stack_with l ls operands → result ≡ l }
+        ensures { (l : ALevel) (ls : List ALevel) (operands : List OperandValue) → stack_of self.now ≡ stack_with l ls operands
+            → result ≡ l }
     {
         self.levels[self.levels.len() - 1]
     }
 
     // Puts the values that stand ahead of its top activation, in its unit's code, behind the operands. There is room for them.
     pub(crate) fn settle(&mut self, code: &[Instruction])
-        requires { (l : ALevel) × (ls : List ALevel) × (operands : List OperandValue) × (stack_of self.old ≡ stack_with l ls operands) × (length operands + values_ahead (drop l.index code.now) ≤ vec_capacity self.old.operands) }
-        ensures settled { (program : Units) (l : ALevel) (ls : List ALevel) (operands : List OperandValue) → code.now ≡ unit_code program l.unit → stack_of self.old ≡ stack_with l ls operands → (index : ℕ) × (new : List OperandValue) × (stack_of self.new ≡ stack_with (record l { index = index }) ls new) × IsSettled program l.unit operands l.index new index }
+        requires { (l : ALevel) × (ls : List ALevel) × (operands : List OperandValue) × (stack_of self.old ≡ stack_with l ls operands)
+            × (length operands + values_ahead (drop l.index code.now) ≤ vec_capacity self.old.operands) }
+        ensures settled { (program : Units) (l : ALevel) (ls : List ALevel) (operands : List OperandValue)
+            → code.now ≡ unit_code program l.unit → stack_of self.old ≡ stack_with l ls operands → (index : ℕ) × (new : List OperandValue)
+            × (stack_of self.new ≡ stack_with (record l { index = index }) ls new) × IsSettled program l.unit operands l.index new index }
         ensures capacity { vec_capacity self.old.operands ≤ vec_capacity self.new.operands }
     {
         let mut index = self.top().index;
@@ -44,7 +48,8 @@ impl Process {
     // Its top activation is at an index.
     fn stand_at(&mut self, index: usize)
         requires { 0 < vec_len self.old.levels }
-        ensures stack { (l : ALevel) (ls : List ALevel) (operands : List OperandValue) → stack_of self.old ≡ stack_with l ls operands → stack_of self.new ≡ stack_with (record l { index = index }) ls operands }
+        ensures stack { (l : ALevel) (ls : List ALevel) (operands : List OperandValue) → stack_of self.old ≡ stack_with l ls operands
+            → stack_of self.new ≡ stack_with (record l { index = index }) ls operands }
         ensures operands { self.new.operands ≡ self.old.operands }
     {
         let top = self.levels.len() - 1;
@@ -68,9 +73,14 @@ pub(crate) fn advance(
     alloc: Global,
     image: &Image,
 ) -> Result<Advanced, AllocError>
-    requires { CanAdvance image.now (stack_of process.old) (vec_capacity process.old.operands) frames.old.arena (nodes_of frames.old.nodes) }
-    ensures advanced { (l : ALevel) (ls : List ALevel) (operands : List OperandValue) → stack_of process.old ≡ stack_with l ls operands → IsAdvanced image.now (nodes_of frames.old.nodes) l ls operands frames.old.arena frames.new.arena result (stack_of process.new) }
-    ensures touched { IfOk result (λ advanced. (l : ALevel) (ls : List ALevel) (operands : List OperandValue) → stack_of process.old ≡ stack_with l ls operands → advanced.touched ≡ touched_at (unit_code image.now l.unit) (unit_arrays image.now l.unit) (node_under (nodes_of frames.old.nodes) l.key).first frames.old.arena.contents operands l.index) }
+    requires { CanAdvance image.now (stack_of process.old) (vec_capacity process.old.operands) frames.old.arena
+        (nodes_of frames.old.nodes) }
+    ensures advanced { (l : ALevel) (ls : List ALevel) (operands : List OperandValue) → stack_of process.old ≡ stack_with l ls operands
+        → IsAdvanced image.now (nodes_of frames.old.nodes) l ls operands frames.old.arena frames.new.arena result (stack_of process.new) }
+    ensures touched { IfOk result (λ advanced. (l : ALevel) (ls : List ALevel) (operands : List OperandValue)
+        → stack_of process.old ≡ stack_with l ls operands
+        → advanced.touched ≡ touched_at (unit_code image.now l.unit) (unit_arrays image.now l.unit)
+        (node_under (nodes_of frames.old.nodes) l.key).first frames.old.arena.contents operands l.index) }
     ensures inside { IfOk result (λ advanced. IfSome advanced.touched (λ cell. cell < length frames.old.arena.contents)) }
     ensures out { IfOk result (λ advanced. IfSome advanced.touched (λ cell. IsOut cell frames.old.arena.holes)) }
     ensures nodes { frames.new.nodes ≡ frames.old.nodes }

@@ -29,7 +29,8 @@ pub struct Called {
 // The key of the node of its top activation.
 fn top_key(process: &Process) -> usize
     requires { 0 < vec_len process.now.levels }
-    ensures { (l : ALevel) (ls : List ALevel) (operands : List OperandValue) → stack_of process.now ≡ stack_with l ls operands → result ≡ l.key }
+    ensures { (l : ALevel) (ls : List ALevel) (operands : List OperandValue) → stack_of process.now ≡ stack_with l ls operands
+        → result ≡ l.key }
 {
     process.levels[process.levels.len() - 1].key
 }
@@ -45,7 +46,8 @@ fn add_level(levels: &mut Vec<Level>, added: Level)
 // Its top activation is to go on at an index.
 pub(crate) fn go_on(process: &mut Process, index: usize)
     requires { 0 < vec_len process.old.levels }
-    ensures stack { (l : ALevel) (ls : List ALevel) (operands : List OperandValue) → stack_of process.old ≡ stack_with l ls operands → stack_of process.new ≡ stack_with (record l { index = index }) ls [] }
+    ensures stack { (l : ALevel) (ls : List ALevel) (operands : List OperandValue) → stack_of process.old ≡ stack_with l ls operands
+        → stack_of process.new ≡ stack_with (record l { index = index }) ls [] }
     ensures count { vec_len process.new.levels ≡ vec_len process.old.levels }
     ensures capacity { vec_capacity process.new.levels ≡ vec_capacity process.old.levels }
     ensures operands { vec_capacity process.new.operands ≡ vec_capacity process.old.operands }
@@ -59,7 +61,8 @@ pub(crate) fn go_on(process: &mut Process, index: usize)
 fn put_above(process: &mut Process, index: usize, level: Level)
     requires some { 0 < vec_len process.old.levels }
     requires room { vec_len process.old.levels < vec_capacity process.old.levels }
-    ensures stack { (l : ALevel) (ls : List ALevel) (operands : List OperandValue) → stack_of process.old ≡ stack_with l ls operands → stack_of process.new ≡ record { levels = level ∷ (record l { index = index } ∷ ls); operands = [] } }
+    ensures stack { (l : ALevel) (ls : List ALevel) (operands : List OperandValue) → stack_of process.old ≡ stack_with l ls operands
+        → stack_of process.new ≡ record { levels = level ∷ (record l { index = index } ∷ ls); operands = [] } }
     ensures operands { vec_capacity process.new.operands ≡ vec_capacity process.old.operands }
 {
     go_on(process, index);
@@ -80,14 +83,21 @@ impl Machine {
     //
     // There is a gap for the frame, and room for its node and for a level more, and for the unit's operands.
     pub(crate) fn call(&mut self, p: u64, called: Called, index: usize)
-        requires calling { (program : Units) × (cells : ℕ) × (choices : List ℕ) × IsCalling program cells choices p (snapshot_of self.old) called.unit index self.old.passing.given.items self.old.passing.shapes.items × IsUnit program called.unit called.cells called.entry }
+        requires calling { (program : Units) × (cells : ℕ) × (choices : List ℕ)
+            × IsCalling program cells choices p
+            (snapshot_of self.old) called.unit index self.old.passing.given.items self.old.passing.shapes.items
+            × IsUnit program called.unit called.cells called.entry }
         requires few { length self.old.frames.arena.contents ≤ 16777216 }
         requires countable { self.old.activations + 1 < 2 ^ 64 }
         requires gap { IsSome (first_fit called.cells self.old.frames.arena.holes) }
         requires node { HasRoomFor self.old.frames.nodes 1 }
         requires level { (q : AProcess) → slice_get self.old.processes.items (p - 1) ≡ Some q → vec_len q.levels < vec_capacity q.levels }
-        ensures stepped { (program : Units) (cells : ℕ) (choices : List ℕ) → IsCalling program cells choices p (snapshot_of self.old) called.unit index self.old.passing.given.items self.old.passing.shapes.items → IsUnit program called.unit called.cells called.entry → HasStepped program cells choices p (snapshot_of self.new) }
-        ensures rooms { (program : Units) (cells : ℕ) → HaveRoom program cells self.old → HasRoomAt program p called.unit self.old → HaveRoom program cells self.new }
+        ensures stepped { (program : Units) (cells : ℕ) (choices : List ℕ)
+            → IsCalling program cells choices p
+            (snapshot_of self.old) called.unit index self.old.passing.given.items self.old.passing.shapes.items
+            → IsUnit program called.unit called.cells called.entry → HasStepped program cells choices p (snapshot_of self.new) }
+        ensures rooms { (program : Units) (cells : ℕ) → HaveRoom program cells self.old → HasRoomAt program p called.unit self.old
+            → HaveRoom program cells self.new }
         ensures processes { length self.new.processes.items ≡ length self.old.processes.items }
     {
         hep_proc::laws::children_are_activations();
@@ -116,12 +126,16 @@ impl Machine {
         self.activations = activation;
     }
 
-    // Process p makes a process of a unit with what is given, and goes on at an index: the unit's activation has its frame, with what is given to its
-    // dummy arguments and their shapes, and is the one level of the process, which was empty.
+    // Process p makes a process of a unit with what is given, and goes on at an index: the unit's activation has its
+    // frame, with what is given to its dummy arguments and their shapes, and is the one level of the process, which was
+    // empty.
     //
     // There is a gap for the frame, and room for its node, for the process and for its level, and for the unit's operands.
     pub(crate) fn create(&mut self, p: u64, called: Called, index: usize, mut process: Process)
-        requires creating { (program : Units) × (cells : ℕ) × (choices : List ℕ) × IsCreating program cells choices p (snapshot_of self.old) called.unit index self.old.passing.given.items self.old.passing.shapes.items × IsUnit program called.unit called.cells called.entry }
+        requires creating { (program : Units) × (cells : ℕ) × (choices : List ℕ)
+            × IsCreating program cells choices p
+            (snapshot_of self.old) called.unit index self.old.passing.given.items self.old.passing.shapes.items
+            × IsUnit program called.unit called.cells called.entry }
         requires few { length self.old.frames.arena.contents ≤ 16777216 }
         requires countable { self.old.activations + 1 < 2 ^ 64 }
         requires gap { IsSome (first_fit called.cells self.old.frames.arena.holes) }
@@ -129,8 +143,12 @@ impl Machine {
         requires empty { (process.levels.items ≡ []) × (process.operands.items ≡ []) }
         requires level { vec_len process.levels < vec_capacity process.levels }
         requires process { vec_len self.old.processes < vec_capacity self.old.processes }
-        ensures stepped { (program : Units) (cells : ℕ) (choices : List ℕ) → IsCreating program cells choices p (snapshot_of self.old) called.unit index self.old.passing.given.items self.old.passing.shapes.items → IsUnit program called.unit called.cells called.entry → HasStepped program cells choices p (snapshot_of self.new) }
-        ensures rooms { (program : Units) (cells : ℕ) → HaveRoom program cells self.old → deepest (unit_code program called.unit) ≤ vec_capacity process.operands → HaveRoom program cells self.new }
+        ensures stepped { (program : Units) (cells : ℕ) (choices : List ℕ)
+            → IsCreating program cells choices p
+            (snapshot_of self.old) called.unit index self.old.passing.given.items self.old.passing.shapes.items
+            → IsUnit program called.unit called.cells called.entry → HasStepped program cells choices p (snapshot_of self.new) }
+        ensures rooms { (program : Units) (cells : ℕ) → HaveRoom program cells self.old
+            → deepest (unit_code program called.unit) ≤ vec_capacity process.operands → HaveRoom program cells self.new }
         ensures processes { length self.new.processes.items ≡ length self.old.processes.items + 1 }
     {
         hep_proc::laws::children_are_activations();

@@ -30,10 +30,15 @@ impl Machine {
     //
     // Fails with Range where one of them isn't there. Nothing but `passing` changes.
     fn find_targets(&mut self, image: &Image, p: u64, purge: PurgeAhead) -> Result<(), Kind>
-        requires at { (cells : ℕ) × (choices : List ℕ) × IsMachineAfter image.now cells choices self.old × IsAtPurge image.now cells choices p (snapshot_of self.old) purge }
-        ensures found { OnOk result ((cells : ℕ) (choices : List ℕ) → (at : IsAtPurge image.now cells choices p (snapshot_of self.old) purge) → ranges_ahead image.now (snapshot_of self.old) purge at ≡ Ok self.new.passing.ranges.items) }
+        requires at { (cells : ℕ) × (choices : List ℕ) × IsMachineAfter image.now cells choices self.old
+            × IsAtPurge image.now cells choices p (snapshot_of self.old) purge }
+        ensures found { OnOk result ((cells : ℕ) (choices : List ℕ)
+            → (at : IsAtPurge image.now cells choices p (snapshot_of self.old) purge)
+            → ranges_ahead image.now (snapshot_of self.old) purge at ≡ Ok self.new.passing.ranges.items) }
         ensures reached { OnOk result (AreReached self.old.frames.arena self.new.passing.ranges.items) }
-        ensures fault { IfErr result (λ kind. (cells : ℕ) (choices : List ℕ) → IsAtPurge image.now cells choices p (snapshot_of self.old) purge → IsEnding image.now cells choices p (snapshot_of self.old) (fails purge.line kind)) }
+        ensures fault { IfErr result (λ kind. (cells : ℕ) (choices : List ℕ)
+            → IsAtPurge image.now cells choices p (snapshot_of self.old) purge
+            → IsEnding image.now cells choices p (snapshot_of self.old) (fails purge.line kind)) }
         ensures others { self.new ≡ record self.old { passing = self.new.passing } }
         ensures rooms { (cells : ℕ) → HaveRoom image.now cells self.old → HaveRoom image.now cells self.new }
     {
@@ -63,7 +68,10 @@ impl Machine {
         requires living { HasLevels (snapshot_of self.old) p }
         requires reached { AreReached self.old.frames.arena self.old.passing.ranges.items }
         requires few { length self.old.frames.arena.contents ≤ most_cells }
-        ensures moved { (l : ALevel) (ls : List ALevel) (operands : List OperandValue) → numbered (snapshot_of self.old).processes p ≡ Some (stack_with l ls operands) → snapshot_of self.new ≡ snapshot_moved (snapshot_of self.old) p l ls (purged self.old.passing.ranges.items self.old.frames.arena.contents) [] index }
+        ensures moved { (l : ALevel) (ls : List ALevel) (operands : List OperandValue)
+            → numbered (snapshot_of self.old).processes p ≡ Some (stack_with l ls operands)
+            → snapshot_of self.new ≡ snapshot_moved (snapshot_of self.old) p l ls
+            (purged self.old.passing.ranges.items self.old.frames.arena.contents) [] index }
         ensures passing { self.new.passing ≡ self.old.passing }
         ensures rooms { (program : Units) (cells : ℕ) → HaveRoom program cells self.old → HaveRoom program cells self.new }
         ensures processes { length self.new.processes.items ≡ length self.old.processes.items }
@@ -74,9 +82,11 @@ impl Machine {
 
     // Makes the PURGE ahead of process p, or ends the process with a fault. The cells that were emptied are in `passing`.
     pub(crate) fn purge(&mut self, image: &Image, p: u64, purge: PurgeAhead)
-        requires at { (cells : ℕ) × (choices : List ℕ) × IsMachineAfter image.now cells choices self.old × IsAtPurge image.now cells choices p (snapshot_of self.old) purge }
+        requires at { (cells : ℕ) × (choices : List ℕ) × IsMachineAfter image.now cells choices self.old
+            × IsAtPurge image.now cells choices p (snapshot_of self.old) purge }
         requires room { vec_len self.old.faults < vec_capacity self.old.faults }
-        ensures purged { (cells : ℕ) (choices : List ℕ) → IsMachineAfter image.now cells choices self.old → IsAtPurge image.now cells choices p (snapshot_of self.old) purge → HasTurned image.now cells choices p Purged self.new }
+        ensures purged { (cells : ℕ) (choices : List ℕ) → IsMachineAfter image.now cells choices self.old
+            → IsAtPurge image.now cells choices p (snapshot_of self.old) purge → HasTurned image.now cells choices p Purged self.new }
         ensures processes { length self.new.processes.items ≡ length self.old.processes.items }
     {
         image.is_runnable();

@@ -42,7 +42,12 @@ fn add_fault(faults: &mut Vec<Fault>, added: Fault)
 // Several activations have ended, the last one first: their frames leave, and no levels are left.
 fn leave_all(frames: &mut Frames, levels: &mut Vec<Level>)
     requires { CanAllLeave frames.old.arena (nodes_of frames.old.nodes) (keys_of (reverse levels.old.items)) }
-    ensures ended { (program : Units) (s t : State) (out : ℕ → Bool) (layout : Layout) (ends : List ℕ) → Keeps program s (is_stacked s) out layout (wanted_of program s layout) frames.old.arena (nodes_of frames.old.nodes) → CanLeave (nodes_of frames.old.nodes) (is_stacked s) (keys_of (reverse levels.old.items)) ends → IsEnded program layout (all_but ends (is_stacked s)) s t → LeadUpwards t → HasLeft program t (is_stacked t) out layout frames.old.arena frames.new.arena (nodes_of frames.old.nodes) (nodes_of frames.new.nodes) }
+    ensures ended { (program : Units) (s t : State) (out : ℕ → Bool) (layout : Layout) (ends : List ℕ)
+        → Keeps program s (is_stacked s) out layout (wanted_of program s layout) frames.old.arena (nodes_of frames.old.nodes)
+        → CanLeave (nodes_of frames.old.nodes) (is_stacked s) (keys_of (reverse levels.old.items)) ends
+        → IsEnded program layout (all_but ends (is_stacked s)) s t → LeadUpwards t
+        → HasLeft program t (is_stacked t) out layout frames.old.arena frames.new.arena (nodes_of frames.old.nodes)
+        (nodes_of frames.new.nodes) }
     ensures cells { length frames.new.arena.contents ≡ length frames.old.arena.contents }
     ensures none { levels.new.items ≡ [] }
 {
@@ -55,8 +60,10 @@ impl Process {
     // Its top activation has ended: the level is taken off, and there are no operands.
     fn end_top(&mut self) -> Level
         requires { 0 < vec_len self.old.levels }
-        ensures level { (l : ALevel) (ls : List ALevel) (operands : List OperandValue) → stack_of self.old ≡ stack_with l ls operands → result ≡ l }
-        ensures stack { (l : ALevel) (ls : List ALevel) (operands : List OperandValue) → stack_of self.old ≡ stack_with l ls operands → stack_of self.new ≡ record { levels = ls; operands = [] } }
+        ensures level { (l : ALevel) (ls : List ALevel) (operands : List OperandValue) → stack_of self.old ≡ stack_with l ls operands
+            → result ≡ l }
+        ensures stack { (l : ALevel) (ls : List ALevel) (operands : List OperandValue) → stack_of self.old ≡ stack_with l ls operands
+            → stack_of self.new ≡ record { levels = ls; operands = [] } }
         ensures fewer { self.old.levels.items ≡ self.new.levels.items ++ result ∷ [] }
         ensures capacity { vec_capacity self.new.operands ≡ vec_capacity self.old.operands }
     {
@@ -69,7 +76,8 @@ impl Machine {
     // The top activation of process p has ended, by RETURN or END of its unit.
     fn finish(&mut self, p: u64)
         requires { (program : Units) × (cells : ℕ) × (choices : List ℕ) × IsEnding program cells choices p (snapshot_of self.old) returns }
-        ensures stepped { (program : Units) (cells : ℕ) (choices : List ℕ) → IsEnding program cells choices p (snapshot_of self.old) returns → HasStepped program cells choices p (snapshot_of self.new) }
+        ensures stepped { (program : Units) (cells : ℕ) (choices : List ℕ) → IsEnding program cells choices p (snapshot_of self.old) returns
+            → HasStepped program cells choices p (snapshot_of self.new) }
         ensures rooms { (program : Units) (cells : ℕ) → HaveRoom program cells self.old → HaveRoom program cells self.new }
         ensures processes { length self.new.processes.items ≡ length self.old.processes.items }
     {
@@ -79,9 +87,12 @@ impl Machine {
 
     // A fault has ended process p, in the statement with this initial line.
     pub(crate) fn fail(&mut self, p: u64, line: u32, kind: Kind)
-        requires ending { (program : Units) × (cells : ℕ) × (choices : List ℕ) × IsEnding program cells choices p (snapshot_of self.old) (fails line kind) }
+        requires ending { (program : Units) × (cells : ℕ) × (choices : List ℕ)
+            × IsEnding program cells choices p (snapshot_of self.old) (fails line kind) }
         requires room { vec_len self.old.faults < vec_capacity self.old.faults }
-        ensures stepped { (program : Units) (cells : ℕ) (choices : List ℕ) → IsEnding program cells choices p (snapshot_of self.old) (fails line kind) → HasStepped program cells choices p (snapshot_of self.new) }
+        ensures stepped { (program : Units) (cells : ℕ) (choices : List ℕ)
+            → IsEnding program cells choices p (snapshot_of self.old) (fails line kind)
+            → HasStepped program cells choices p (snapshot_of self.new) }
         ensures passing { self.new.passing ≡ self.old.passing }
         ensures rooms { (program : Units) (cells : ℕ) → HaveRoom program cells self.old → HaveRoom program cells self.new }
         ensures processes { length self.new.processes.items ≡ length self.old.processes.items }
@@ -101,10 +112,15 @@ impl Machine {
 
     // Ends a turn of process p, whose operation came to this; or answers what the process waits for.
     pub(crate) fn end_turn(&mut self, p: u64, effect: Effect) -> Option<Want>
-        requires left { (program : Units) × (cells : ℕ) × (choices : List ℕ) × IsLeft program cells choices p (snapshot_of self.old) effect }
+        requires left { (program : Units) × (cells : ℕ) × (choices : List ℕ)
+            × IsLeft program cells choices p (snapshot_of self.old) effect }
         requires records { vec_len self.old.records < vec_capacity self.old.records }
         requires faults { vec_len self.old.faults < vec_capacity self.old.faults }
-        ensures ended { MatchOption result ((program : Units) (cells : ℕ) (choices : List ℕ) → IsLeft program cells choices p (snapshot_of self.old) effect → HasStepped program cells choices p (snapshot_of self.new)) (λ want. (program : Units) (cells : ℕ) (choices : List ℕ) → IsLeft program cells choices p (snapshot_of self.old) effect → HasWaited program cells choices p want.cell want.full (snapshot_of self.new)) }
+        ensures ended { MatchOption result ((program : Units) (cells : ℕ) (choices : List ℕ)
+            → IsLeft program cells choices p (snapshot_of self.old) effect
+            → HasStepped program cells choices p (snapshot_of self.new)) (λ want. (program : Units) (cells : ℕ) (choices : List ℕ)
+            → IsLeft program cells choices p (snapshot_of self.old) effect
+            → HasWaited program cells choices p want.cell want.full (snapshot_of self.new)) }
         ensures rooms { (program : Units) (cells : ℕ) → HaveRoom program cells self.old → HaveRoom program cells self.new }
         ensures processes { length self.new.processes.items ≡ length self.old.processes.items }
     {

@@ -133,7 +133,8 @@ fn longest_code_of_all(image: &Image) -> usize
 
 // The most targets that a PURGE of a unit has.
 fn most_targets_of_all(image: &Image) -> usize
-    ensures { (u index line count next : ℕ) → u < length image.now → slice_get (unit_code image.now u) index ≡ Some (Step line (Purge count next)) → count ≤ result }
+    ensures { (u index line count next : ℕ) → u < length image.now
+        → slice_get (unit_code image.now u) index ≡ Some (Step line (Purge count next)) → count ≤ result }
 {
     let mut most = 0;
     for unit in 0..image.program().as_slice().len() {

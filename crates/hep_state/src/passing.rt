@@ -23,9 +23,15 @@ impl Machine {
     // given.
     // Nothing but `passing` changes.
     pub(crate) fn give(&mut self, image: &Image, p: u64, call: CallAhead) -> Result<(), Kind>
-        requires at { (cells : ℕ) × (choices : List ℕ) × IsMachineAfter image.now cells choices self.old × IsAtCall image.now cells choices p (snapshot_of self.old) call }
-        ensures given { OnOk result ((cells : ℕ) (choices : List ℕ) → IsMachineAfter image.now cells choices self.old → IsAtCall image.now cells choices p (snapshot_of self.old) call → IsMaking (state_made call.creates) image.now cells choices p (snapshot_of self.old) call.unit call.next self.new.passing.given.items self.new.passing.shapes.items) }
-        ensures fault { IfErr result (λ kind. (cells : ℕ) (choices : List ℕ) → IsMachineAfter image.now cells choices self.old → IsAtCall image.now cells choices p (snapshot_of self.old) call → IsEnding image.now cells choices p (snapshot_of self.old) (fails call.line kind)) }
+        requires at { (cells : ℕ) × (choices : List ℕ) × IsMachineAfter image.now cells choices self.old
+            × IsAtCall image.now cells choices p (snapshot_of self.old) call }
+        ensures given { OnOk result ((cells : ℕ) (choices : List ℕ) → IsMachineAfter image.now cells choices self.old
+            → IsAtCall image.now cells choices p (snapshot_of self.old) call
+            → IsMaking (state_made call.creates) image.now cells choices p
+            (snapshot_of self.old) call.unit call.next self.new.passing.given.items self.new.passing.shapes.items) }
+        ensures fault { IfErr result (λ kind. (cells : ℕ) (choices : List ℕ) → IsMachineAfter image.now cells choices self.old
+            → IsAtCall image.now cells choices p (snapshot_of self.old) call
+            → IsEnding image.now cells choices p (snapshot_of self.old) (fails call.line kind)) }
         ensures others { self.new ≡ record self.old { passing = self.new.passing } }
         ensures rooms { (cells : ℕ) → HaveRoom image.now cells self.old → HaveRoom image.now cells self.new }
     {

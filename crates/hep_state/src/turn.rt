@@ -53,7 +53,8 @@ impl From<AllocError> for TurnFault {
 pub enum Turned {
     /// A step was made. It filled or emptied no cell for which others may wait but this one, if there is one, which is so now.
     Stepped { changed: Option<Want> },
-    /// A PURGE was made, which emptied the cells in the machine's `passing` and changed no others; or it ended in a fault, and they are none.
+    /// A PURGE was made, which emptied the cells in the machine's `passing` and changed no others; or it ended in a fault,
+    /// and they are none.
     Purged,
     /// The process waits for a cell to be so. The same state is shown.
     Waits(Want),
@@ -62,7 +63,8 @@ pub enum Turned {
 impl Machine {
     /// Process p, counted from 1, was made and has activations.
     pub fn lives(&self, p: u64) -> bool
-        ensures lives { (program : Units) (cells : ℕ) (choices : List ℕ) → IsAfter program cells choices (snapshot_of self.now) → result ≡ is_some (living (run program choices) p) }
+        ensures lives { (program : Units) (cells : ℕ) (choices : List ℕ) → IsAfter program cells choices (snapshot_of self.now)
+            → result ≡ is_some (living (run program choices) p) }
         ensures levels { result ≡ true → HasLevels (snapshot_of self.now) p }
     {
         if p == 0 {
@@ -97,8 +99,10 @@ impl Machine {
     ) -> Result<(), AllocError>
         requires { HasLevels (snapshot_of self.old) p }
         ensures node { OnOk result (HasRoomFor self.new.frames.nodes 1) }
-        ensures level { OnOk result ((q : AProcess) → slice_get self.new.processes.items (p - 1) ≡ Some q → vec_len q.levels < vec_capacity q.levels) }
-        ensures operands { OnOk result ((q : AProcess) → slice_get self.new.processes.items (p - 1) ≡ Some q → operands ≤ vec_capacity q.operands) }
+        ensures level { OnOk result ((q : AProcess) → slice_get self.new.processes.items (p - 1) ≡ Some q
+            → vec_len q.levels < vec_capacity q.levels) }
+        ensures operands { OnOk result ((q : AProcess) → slice_get self.new.processes.items (p - 1) ≡ Some q
+            → operands ≤ vec_capacity q.operands) }
         ensures entry { OnOk result (vec_len history.new < vec_capacity history.new) }
         ensures entries { history.new.items ≡ history.old.items }
         ensures shown { snapshot_of self.new ≡ snapshot_of self.old }
@@ -151,13 +155,17 @@ impl Machine {
         requires after { (cells : ℕ) × (choices : List ℕ) × IsMachineAfter image.now cells choices self.old }
         requires running { self.old.halted ≡ false }
         requires plain { IsWithoutCall image.now p (snapshot_of self.old) }
-        ensures left { IfOk result (λ advanced. (cells : ℕ) (choices : List ℕ) → IsMachineAfter image.now cells choices self.old → IsLeft image.now cells choices p (snapshot_of self.new) advanced.effect) }
-        ensures touched { IfOk result (λ advanced. (cells : ℕ) (choices : List ℕ) → IsMachineAfter image.now cells choices self.old → Touches image.now cells choices p advanced.touched) }
-        ensures state { IfOk result (λ advanced. (cells : ℕ) (choices : List ℕ) → IsMachineAfter image.now cells choices self.old → IsInState image.now cells choices p advanced.touched (snapshot_of self.new)) }
+        ensures left { IfOk result (λ advanced. (cells : ℕ) (choices : List ℕ) → IsMachineAfter image.now cells choices self.old
+            → IsLeft image.now cells choices p (snapshot_of self.new) advanced.effect) }
+        ensures touched { IfOk result (λ advanced. (cells : ℕ) (choices : List ℕ) → IsMachineAfter image.now cells choices self.old
+            → Touches image.now cells choices p advanced.touched) }
+        ensures state { IfOk result (λ advanced. (cells : ℕ) (choices : List ℕ) → IsMachineAfter image.now cells choices self.old
+            → IsInState image.now cells choices p advanced.touched (snapshot_of self.new)) }
         ensures inside { IfOk result (λ advanced. IfSome advanced.touched (λ cell. cell < length self.new.frames.arena.contents)) }
         ensures out { IfOk result (λ advanced. IfSome advanced.touched (λ cell. IsOut cell self.new.frames.arena.holes)) }
         ensures cells { length self.new.frames.arena.contents ≡ length self.old.frames.arena.contents }
-        ensures refused { OnErr result ((cells : ℕ) (choices : List ℕ) → IsAfter image.now cells choices (snapshot_of self.old) → IsAfter image.now cells choices (snapshot_of self.new)) }
+        ensures refused { OnErr result ((cells : ℕ) (choices : List ℕ) → IsAfter image.now cells choices (snapshot_of self.old)
+            → IsAfter image.now cells choices (snapshot_of self.new)) }
         ensures same { OnErr result (IsSeenSame (snapshot_of self.old) (snapshot_of self.new)) }
         ensures rooms { (cells : ℕ) → HaveRoom image.now cells self.old → HaveRoom image.now cells self.new }
         ensures records { self.new.records ≡ self.old.records }
@@ -198,8 +206,10 @@ impl Machine {
         requires after { (cells : ℕ) × (choices : List ℕ) × IsMachineAfter image.now cells choices self.old }
         requires running { self.old.halted ≡ false }
         requires plain { IsWithoutCall image.now p (snapshot_of self.old) }
-        ensures turned { IfOk result (λ turned. (cells : ℕ) (choices : List ℕ) → IsMachineAfter image.now cells choices self.old → HasTurned image.now cells choices p turned self.new) }
-        ensures refused { OnErr result ((cells : ℕ) (choices : List ℕ) → IsMachineAfter image.now cells choices self.old → IsMachineAfter image.now cells choices self.new) }
+        ensures turned { IfOk result (λ turned. (cells : ℕ) (choices : List ℕ) → IsMachineAfter image.now cells choices self.old
+            → HasTurned image.now cells choices p turned self.new) }
+        ensures refused { OnErr result ((cells : ℕ) (choices : List ℕ) → IsMachineAfter image.now cells choices self.old
+            → IsMachineAfter image.now cells choices self.new) }
         ensures same { OnErr result (IsSeenSame (snapshot_of self.old) (snapshot_of self.new)) }
         ensures processes { length self.new.processes.items ≡ length self.old.processes.items }
         ensures room { OnOk result (vec_len history.new < vec_capacity history.new) }
@@ -224,9 +234,12 @@ impl Machine {
         purge: PurgeAhead,
         history: &mut Vec<Entry>,
     ) -> Result<Turned, AllocError>
-        requires at { (cells : ℕ) × (choices : List ℕ) × IsMachineAfter image.now cells choices self.old × IsAtPurge image.now cells choices p (snapshot_of self.old) purge }
-        ensures turned { IfOk result (λ turned. (cells : ℕ) (choices : List ℕ) → IsMachineAfter image.now cells choices self.old → IsAtPurge image.now cells choices p (snapshot_of self.old) purge → HasTurned image.now cells choices p turned self.new) }
-        ensures refused { OnErr result ((cells : ℕ) (choices : List ℕ) → IsMachineAfter image.now cells choices self.old → IsMachineAfter image.now cells choices self.new) }
+        requires at { (cells : ℕ) × (choices : List ℕ) × IsMachineAfter image.now cells choices self.old
+            × IsAtPurge image.now cells choices p (snapshot_of self.old) purge }
+        ensures turned { IfOk result (λ turned. (cells : ℕ) (choices : List ℕ) → IsMachineAfter image.now cells choices self.old
+            → IsAtPurge image.now cells choices p (snapshot_of self.old) purge → HasTurned image.now cells choices p turned self.new) }
+        ensures refused { OnErr result ((cells : ℕ) (choices : List ℕ) → IsMachineAfter image.now cells choices self.old
+            → IsMachineAfter image.now cells choices self.new) }
         ensures same { OnErr result (IsSeenSame (snapshot_of self.old) (snapshot_of self.new)) }
         ensures processes { length self.new.processes.items ≡ length self.old.processes.items }
         ensures room { OnOk result (vec_len history.new < vec_capacity history.new) }
@@ -249,12 +262,16 @@ impl Machine {
         history: &mut Vec<Entry>,
         ready: &mut Ready,
     ) -> Result<Turned, TurnFault>
-        requires at { (cells : ℕ) × (choices : List ℕ) × IsMachineAfter image.now cells choices self.old × IsAtCall image.now cells choices p (snapshot_of self.old) call }
+        requires at { (cells : ℕ) × (choices : List ℕ) × IsMachineAfter image.now cells choices self.old
+            × IsAtCall image.now cells choices p (snapshot_of self.old) call }
         requires countable { self.old.activations + 1 < 2 ^ 64 }
         requires numbers { length self.old.processes.items ≤ ready.old.room }
-        ensures turned { IfOk result (λ turned. (cells : ℕ) (choices : List ℕ) → IsMachineAfter image.now cells choices self.old → IsAtCall image.now cells choices p (snapshot_of self.old) call → HasTurned image.now cells choices p turned self.new) }
-        ensures unturned { IfErr result (λ e. (cells : ℕ) (choices : List ℕ) → IsMachineAfter image.now cells choices self.old → IsAtCall image.now cells choices p (snapshot_of self.old) call → IsUnturned e image.now cells choices p) }
-        ensures refused { OnErr result ((cells : ℕ) (choices : List ℕ) → IsMachineAfter image.now cells choices self.old → IsMachineAfter image.now cells choices self.new) }
+        ensures turned { IfOk result (λ turned. (cells : ℕ) (choices : List ℕ) → IsMachineAfter image.now cells choices self.old
+            → IsAtCall image.now cells choices p (snapshot_of self.old) call → HasTurned image.now cells choices p turned self.new) }
+        ensures unturned { IfErr result (λ e. (cells : ℕ) (choices : List ℕ) → IsMachineAfter image.now cells choices self.old
+            → IsAtCall image.now cells choices p (snapshot_of self.old) call → IsUnturned e image.now cells choices p) }
+        ensures refused { OnErr result ((cells : ℕ) (choices : List ℕ) → IsMachineAfter image.now cells choices self.old
+            → IsMachineAfter image.now cells choices self.new) }
         ensures same { OnErr result (IsSeenSame (snapshot_of self.old) (snapshot_of self.new)) }
         ensures processes { OnErr result (length self.new.processes.items ≡ length self.old.processes.items) }
         ensures room { OnOk result (vec_len history.new < vec_capacity history.new) }
@@ -311,9 +328,12 @@ impl Machine {
         requires living { HasLevels (snapshot_of self.old) p }
         requires countable { self.old.activations + 1 < 2 ^ 64 }
         requires numbers { length self.old.processes.items ≤ ready.old.room }
-        ensures turned { IfOk result (λ turned. (cells : ℕ) (choices : List ℕ) → IsMachineAfter image.now cells choices self.old → HasTurned image.now cells choices p turned self.new) }
-        ensures unturned { IfErr result (λ e. (cells : ℕ) (choices : List ℕ) → IsMachineAfter image.now cells choices self.old → IsUnturned e image.now cells choices p) }
-        ensures refused { OnErr result ((cells : ℕ) (choices : List ℕ) → IsMachineAfter image.now cells choices self.old → IsMachineAfter image.now cells choices self.new) }
+        ensures turned { IfOk result (λ turned. (cells : ℕ) (choices : List ℕ) → IsMachineAfter image.now cells choices self.old
+            → HasTurned image.now cells choices p turned self.new) }
+        ensures unturned { IfErr result (λ e. (cells : ℕ) (choices : List ℕ) → IsMachineAfter image.now cells choices self.old
+            → IsUnturned e image.now cells choices p) }
+        ensures refused { OnErr result ((cells : ℕ) (choices : List ℕ) → IsMachineAfter image.now cells choices self.old
+            → IsMachineAfter image.now cells choices self.new) }
         ensures same { OnErr result (IsSeenSame (snapshot_of self.old) (snapshot_of self.new)) }
         ensures processes { OnErr result (length self.new.processes.items ≡ length self.old.processes.items) }
         ensures room { OnOk result (vec_len history.new < vec_capacity history.new) }

@@ -89,7 +89,8 @@ impl Machine {
         requires running { self.old.halted ≡ false }
         requires living { HasLevels (snapshot_of self.old) p }
         ensures ahead { IsAhead image.now p self.old (snapshot_of self.new) result }
-        ensures after { (cells : ℕ) (choices : List ℕ) → IsMachineAfter image.now cells choices self.old → IsMachineAfter image.now cells choices self.new }
+        ensures after { (cells : ℕ) (choices : List ℕ) → IsMachineAfter image.now cells choices self.old
+            → IsMachineAfter image.now cells choices self.new }
         ensures same { IsSeenSame (snapshot_of self.old) (snapshot_of self.new) }
         ensures living { HasLevels (snapshot_of self.new) p }
     {

@@ -63,8 +63,10 @@ pub fn address(
 fn of_scalar(arena: &Arena, frame: Frame, start: Start, subscripts: &[Value]) -> Result<u32, Kind>
     requires frame { HasFrame arena.now frame }
     requires inside { IsStartIn frame.cells start }
-    requires reached { IsReached arena.now (finding.address_of_scalar (cells_in arena.now.contents) frame.first (base_at (cells_in arena.now.contents) frame.first start) subscripts.now) }
-    ensures { result ≡ finding.address_of_scalar (cells_in arena.now.contents) frame.first (base_at (cells_in arena.now.contents) frame.first start) subscripts.now }
+    requires reached { IsReached arena.now (finding.address_of_scalar (cells_in arena.now.contents) frame.first
+        (base_at (cells_in arena.now.contents) frame.first start) subscripts.now) }
+    ensures { result ≡ finding.address_of_scalar (cells_in arena.now.contents) frame.first
+        (base_at (cells_in arena.now.contents) frame.first start) subscripts.now }
 {
     match subscripts {
         [] => Ok(base(arena, frame, start) as u32),
@@ -77,7 +79,8 @@ fn of_element(arena: &Arena, frame: Frame, array: &Array, subscripts: &[Value]) 
     requires frame { HasFrame arena.now frame }
     requires start { IsStartIn frame.cells array.now.start }
     requires extents { AreExtentsIn frame.cells array.now.extents }
-    requires reached { IsReached arena.now (finding.address_in_array (cells_in arena.now.contents) frame.first (Some array.now) subscripts.now) }
+    requires reached { IsReached arena.now (finding.address_in_array (cells_in arena.now.contents) frame.first
+        (Some array.now) subscripts.now) }
     ensures { result ≡ finding.address_in_array (cells_in arena.now.contents) frame.first (Some array.now) subscripts.now }
 {
     let numbered = number_in(arena, frame, &array.extents, subscripts);
@@ -95,7 +98,8 @@ fn of_element(arena: &Arena, frame: Frame, array: &Array, subscripts: &[Value]) 
 pub fn number_in(arena: &Arena, frame: Frame, extents: &Extents, subscripts: &[Value]) -> Numbered
     requires frame { HasFrame arena.now frame }
     requires extents { AreExtentsIn frame.cells extents.now }
-    ensures number { result.number ≡ counted_element (bounds_at (cells_in arena.now.contents) frame.first extents.now) (integers_of subscripts.now) }
+    ensures number { result.number ≡ counted_element (bounds_at (cells_in arena.now.contents) frame.first extents.now)
+        (integers_of subscripts.now) }
     ensures some { IfSome result.number (λ n. 1 ≤ n) }
     ensures is_open { result.is_open ≡ is_none (elements (bounds_at (cells_in arena.now.contents) frame.first extents.now)) }
 {

@@ -74,18 +74,35 @@ pub fn runs_stop()
 /// CALL (15.6.2) and CREATE: where one stands ahead, the source machine calls or creates its subroutine, with the actual arguments
 /// that the operands and the entries behind it pass; and where these bind no dummy arguments, there is the same fault.
 pub fn calls_are_ahead()
-    ensures ahead { (creates : Bool) (program : Units) (t : Top) (layout : Layout) (f : Frame) (contents : List Slot) (holes : List Hole) (operands : List Value) (index line u count next : ℕ) (behind : List Instruction) → IsRunning program t layout f contents holes operands index → drop index (code_on_top program t) ≡ Step line (making creates u count next) ∷ behind → IsCallAhead creates program t operands u count next behind }
-    ensures fails { (creates : Bool) (program : Units) (t : Top) (layout : Layout) (f : Frame) (contents : List Slot) (holes : List Hole) (operands : List Value) (index line u count next : ℕ) (behind : List Instruction) → IsRunning program t layout f contents holes operands index → drop index (code_on_top program t) ≡ Step line (making creates u count next) ∷ behind → (calls : IsCallAhead creates program t operands u count next behind) (k : Kind) → binding_of program t u calls.actuals ≡ Err k → Simulates program t layout f holes contents (fails line k) }
+    ensures ahead { (creates : Bool) (program : Units) (t : Top) (layout : Layout) (f : Frame) (contents : List Slot) (holes : List Hole)
+        (operands : List Value) (index line u count next : ℕ) (behind : List Instruction)
+        → IsRunning program t layout f contents holes operands index
+        → drop index (code_on_top program t) ≡ Step line (making creates u count next) ∷ behind
+        → IsCallAhead creates program t operands u count next behind }
+    ensures fails { (creates : Bool) (program : Units) (t : Top) (layout : Layout) (f : Frame) (contents : List Slot) (holes : List Hole)
+        (operands : List Value) (index line u count next : ℕ) (behind : List Instruction)
+        → IsRunning program t layout f contents holes operands index
+        → drop index (code_on_top program t) ≡ Step line (making creates u count next) ∷ behind
+        → (calls : IsCallAhead creates program t operands u count next behind) (k : Kind) → binding_of program t u calls.actuals ≡ Err k
+        → Simulates program t layout f holes contents (fails line k) }
 {}
 
 /// Where no value stands ahead that is to be put behind the operands, whatever operation stands there does what
 /// the source machine does, if it isn't CALL, CREATE or PURGE.
 pub fn operations_do_what_the_machine_does()
-    ensures { (program : Units) (t : Top) (layout : Layout) (f : Frame) (contents : List Slot) (holes : List Hole) (operands : List Value) (index : ℕ) → IsRunning program t layout f contents holes operands index → IsPastPushes (code_on_top program t) index → IsNotLeftOut (code_on_top program t) index → Simulates program t layout f holes contents (effect_at (code_on_top program t) (arrays_on_top program t) f.first contents operands index) }
+    ensures { (program : Units) (t : Top) (layout : Layout) (f : Frame) (contents : List Slot) (holes : List Hole) (operands : List Value)
+        (index : ℕ) → IsRunning program t layout f contents holes operands index → IsPastPushes (code_on_top program t) index
+        → IsNotLeftOut (code_on_top program t) index
+        → Simulates program t layout f holes contents
+        (effect_at (code_on_top program t) (arrays_on_top program t) f.first contents operands index) }
 {}
 
 /// An activation that runs can do the operation ahead, where its unit's arrays begin somewhere and its operands
 /// have room for the unit's deepest stack.
 pub fn activations_are_ready()
-    ensures { (program : Units) (t : Top) (layout : Layout) (f : Frame) (contents : List Slot) (holes : List Hole) (operands : List Value) (index capacity : ℕ) → IsRunning program t layout f contents holes operands index → ArePlacedArrays program (unit_on_top program t) → length contents ≤ most_cells → deepest (code_on_top program t) ≤ capacity → IsReady (code_on_top program t) (arrays_on_top program t) (record { contents = contents; holes = holes }) (frame_in_arena f) operands capacity index }
+    ensures { (program : Units) (t : Top) (layout : Layout) (f : Frame) (contents : List Slot) (holes : List Hole) (operands : List Value)
+        (index capacity : ℕ) → IsRunning program t layout f contents holes operands index
+        → ArePlacedArrays program (unit_on_top program t) → length contents ≤ most_cells → deepest (code_on_top program t) ≤ capacity
+        → IsReady (code_on_top program t) (arrays_on_top program t) (record { contents = contents; holes = holes })
+        (frame_in_arena f) operands capacity index }
 {}

@@ -28,7 +28,8 @@ struct Ahead<'a> {
 
 // The operation at an index, if one stands there.
 fn operation_at(code: &[Instruction], index: usize) -> Option<Ahead<'_>>
-    ensures ahead { MatchOption result (HasNoStep (drop index code.now)) (λ ahead. drop index code.now ≡ Step ahead.line ahead.operation ∷ ahead.entries.now) }
+    ensures ahead { MatchOption result (HasNoStep (drop index code.now)) (λ ahead. drop index code.now
+        ≡ Step ahead.line ahead.operation ∷ ahead.entries.now) }
     ensures within { MatchOption result (index ≡ index) (λ _. index < length code.now) }
 {
     match code.get(index) {
@@ -58,8 +59,11 @@ pub fn perform(
 ) -> Result<Effect, AllocError>
     // Where an activation runs, the capacity can be its unit's deepest stack: `laws::activations_are_ready`.
     requires ready { IsReady code.now arrays.now arena.old frame operands.old.items (vec_capacity operands.old) index.old }
-    ensures performed { IfOk result (λ effect. IsPerformed (effect_at code.now arrays.now frame.first arena.old.contents operands.old.items index.old) (snapshot arena.old.contents operands.old.items index.old) effect (snapshot arena.new.contents operands.new.items index.new)) }
-    ensures refused { OnErr result (snapshot arena.new.contents operands.new.items index.new ≡ snapshot arena.old.contents operands.old.items index.old) }
+    ensures performed { IfOk result (λ effect. IsPerformed
+        (effect_at code.now arrays.now frame.first arena.old.contents operands.old.items index.old)
+        (snapshot arena.old.contents operands.old.items index.old) effect (snapshot arena.new.contents operands.new.items index.new)) }
+    ensures refused { OnErr result (snapshot arena.new.contents operands.new.items index.new
+        ≡ snapshot arena.old.contents operands.old.items index.old) }
     ensures memory { OnErr result (HasPrint (drop index.old code.now)) }
     ensures holes { arena.new.holes ≡ arena.old.holes }
     ensures cells { length arena.new.contents ≡ length arena.old.contents }

@@ -36,10 +36,14 @@ pub(crate) fn evaluate(
     index: &mut usize,
 ) -> Effect
     requires frame { HasFrame arena.old storage.now.frame }
-    requires ready { IsEvaluationReady arena.old storage.now.arrays.now storage.now.frame (vec_capacity operands.old) operands.old.items evaluation }
+    requires ready { IsEvaluationReady arena.old storage.now.arrays.now storage.now.frame
+        (vec_capacity operands.old) operands.old.items evaluation }
     requires index { index.old + 1 < 2 ^ 64 }
     // What stands elsewhere in the code doesn't count.
-    ensures performed { IsPerformed (effect_of_evaluation [] storage.now.arrays.now storage.now.frame.first line evaluation arena.old.contents operands.old.items index.old) (snapshot arena.old.contents operands.old.items index.old) result (snapshot arena.new.contents operands.new.items index.new) }
+    ensures performed { IsPerformed (effect_of_evaluation [] storage.now.arrays.now storage.now.frame.first line evaluation
+        arena.old.contents operands.old.items index.old)
+        (snapshot arena.old.contents operands.old.items index.old) result
+        (snapshot arena.new.contents operands.new.items index.new) }
     ensures holes { arena.new.holes ≡ arena.old.holes }
     ensures cells { length arena.new.contents ≡ length arena.old.contents }
     ensures capacity { vec_capacity operands.old ≤ vec_capacity operands.new }
@@ -80,7 +84,9 @@ pub(crate) fn store(
 ) -> Effect
     requires frame { HasFrame arena.old storage.now.frame }
     requires ready { IsVariableReady arena.old storage.now.arrays.now storage.now.frame (subscripts_in operands.old.items) variable }
-    ensures performed { IsPerformed (effect_of [] storage.now.arrays.now storage.now.frame.first line (Store variable 0 next) [] arena.old.contents operands.old.items index.old) (snapshot arena.old.contents operands.old.items index.old) result (snapshot arena.new.contents operands.new.items index.new) }
+    ensures performed { IsPerformed (effect_of [] storage.now.arrays.now storage.now.frame.first line
+        (Store variable 0 next) [] arena.old.contents operands.old.items index.old)
+        (snapshot arena.old.contents operands.old.items index.old) result (snapshot arena.new.contents operands.new.items index.new) }
     ensures holes { arena.new.holes ≡ arena.old.holes }
     ensures cells { length arena.new.contents ≡ length arena.old.contents }
     ensures capacity { vec_capacity operands.old ≤ vec_capacity operands.new }

@@ -101,7 +101,8 @@ fn least_miscounted(
     program: &ProgramSymbols,
     symbols: &Symbols,
 ) -> Result<Option<u32>, AllocError>
-    ensures { IfOk result (λ line. line ≡ reported.least_line_where (passes.is_miscounted program.now symbols.now) passes.line_of symbols.now) }
+    ensures { IfOk result (λ line. line
+        ≡ reported.least_line_where (passes.is_miscounted program.now symbols.now) passes.line_of symbols.now) }
 {
     let mut least = None;
     for statement in symbols.statements() {

@@ -47,7 +47,8 @@ pub fn add_in<'a>(found: &mut Vec<NameWithList<'a>>, expression: &'a Expr) -> Re
 
 #[cycle(add_in)]
 fn add_in_list<'a>(found: &mut Found<'a>, list: &'a [Expr]) -> Result<(), AllocError>
-    ensures { OnOk result (map listed found.new.items ≡ map listed found.old.items ++ statements.names_with_lists_in_all (trees_of list.now)) }
+    ensures { OnOk result (map listed found.new.items
+        ≡ map listed found.old.items ++ statements.names_with_lists_in_all (trees_of list.now)) }
 {
     match list {
         [] => Ok(()),

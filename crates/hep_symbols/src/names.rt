@@ -49,7 +49,8 @@ fn is_local(
     constants: &NameSet,
     name: &Name,
 ) -> bool
-    ensures { result ≡ tables.is_local_by (get name_eq dummies.now.map) (get name_eq blocks.now.map) (contains name_eq constants.now.set) name.now }
+    ensures { result ≡ tables.is_local_by (get name_eq dummies.now.map) (get name_eq blocks.now.map)
+        (contains name_eq constants.now.set) name.now }
 {
     !dummies.map.contains_key(name)
         && !blocks.map.contains_key(name)
@@ -64,7 +65,9 @@ pub(crate) fn locals_among(
     constants: &NameSet,
     names: &[Name],
 ) -> Result<Vec<Name>, AllocError>
-    ensures { IfOk result (λ locals. locals.items ≡ filter (tables.is_local_by (get name_eq dummies.now.map) (get name_eq blocks.now.map) (contains name_eq constants.now.set)) names.now) }
+    ensures { IfOk result (λ locals. locals.items
+        ≡ filter (tables.is_local_by (get name_eq dummies.now.map) (get name_eq blocks.now.map)
+        (contains name_eq constants.now.set)) names.now) }
 {
     let mut locals = Vec::new(alloc);
     for name in names {

@@ -131,7 +131,8 @@ pub fn occurrences_in_groups(
     symbols: &Symbols,
     groups: &[DataGroup],
 ) -> Result<Vec<Occurrence>, AllocError>
-    ensures { IfOk result (λ found. found.items ≡ flat_map (variables.occurrences_in_target symbols.now) (statements.targets_of_groups groups.now)) }
+    ensures { IfOk result (λ found. found.items
+        ≡ flat_map (variables.occurrences_in_target symbols.now) (statements.targets_of_groups groups.now)) }
 {
     let parts = parts_of_targets(alloc, groups)?;
     let mut found = Vec::new(alloc);

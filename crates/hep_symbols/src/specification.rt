@@ -107,7 +107,8 @@ fn add_constants(constants: &mut IndexSet<Name>, given: &[NamedConstant]) -> Res
 
 // The names of constants (8.6).
 pub(crate) fn constant_names(alloc: Global, unit: &[Statement]) -> Result<NameSet, AllocError>
-    ensures { IfOk result (λ constants. (x : PureName) → contains name_eq constants.set x ≡ tables.any_in (tables.constant_by_form x) unit.now) }
+    ensures { IfOk result (λ constants. (x : PureName)
+        → contains name_eq constants.set x ≡ tables.any_in (tables.constant_by_form x) unit.now) }
 {
     let mut constants = IndexSet::new(alloc);
     for statement in unit {

@@ -62,7 +62,8 @@ impl<'a> Model for Symbols<'a> {
 
     ghost view = { λ a. a.statements.now };
 
-    ghost invariant = { λ a. Describes a.statements.now (get name_eq a.types.map) a.letters a.arrays (get name_eq a.dummies.map) (get name_eq a.blocks.map) (contains name_eq a.constants.set) a.names.set.keys a.locals.items };
+    ghost invariant = { λ a. Describes a.statements.now (get name_eq a.types.map) a.letters a.arrays (get name_eq a.dummies.map)
+        (get name_eq a.blocks.map) (contains name_eq a.constants.set) a.names.set.keys a.locals.items };
 }
 
 impl<'a> Symbols<'a> {

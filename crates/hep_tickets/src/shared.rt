@@ -157,8 +157,8 @@ impl SharedCore {
     ///
     /// # Errors
     ///
-    /// In this order: `Stopped` at a stop that was set before; `Stale` where the segment's ticket isn't the one that is out for its process;
-    /// `Stopped` and `NoMemory` as `Core::choose` has them. The ticket is out as before then.
+    /// In this order: `Stopped` at a stop that was set before; `Stale` where the segment's ticket isn't the one that is out
+    /// for its process; `Stopped` and `NoMemory` as `Core::choose` has them. The ticket is out as before then.
     pub fn commit(&mut self, segment: &Segment) -> Result<Turn, CommitFault>
         ensures { IsCommitted self.old segment.now result self.new }
     {

@@ -78,8 +78,10 @@ fn touched_by_evaluation(
     operands: &[Value],
 ) -> Option<u32>
     requires frame { HasFrame arena.now frame }
-    requires ready { ForSome (accessed_by evaluation) (λ x. IsVariableReady arena.now arrays.now frame (ready.last_operands evaluation operands.now) x) }
-    ensures cell { result ≡ cells.touched_by_evaluation arrays.now frame.first arena.now.contents evaluation (ready.last_operands evaluation operands.now) }
+    requires ready { ForSome (accessed_by evaluation)
+        (λ x. IsVariableReady arena.now arrays.now frame (ready.last_operands evaluation operands.now) x) }
+    ensures cell { result ≡ cells.touched_by_evaluation arrays.now frame.first arena.now.contents evaluation
+        (ready.last_operands evaluation operands.now) }
     ensures inside { IfSome result (λ cell. cell < length arena.now.contents) }
     ensures out { IfSome result (λ cell. IsOut cell arena.now.holes) }
 {
@@ -106,7 +108,8 @@ fn touched_by_store(
 ) -> Option<u32>
     requires frame { HasFrame arena.now frame }
     requires ready { IsVariableReady arena.now arrays.now frame (subscripts_in operands.now) variable }
-    ensures cell { result ≡ if_so (replies.is_asynchronous variable) (cells.cell_of arrays.now frame.first arena.now.contents variable (subscripts_in operands.now)) }
+    ensures cell { result ≡ if_so (replies.is_asynchronous variable)
+        (cells.cell_of arrays.now frame.first arena.now.contents variable (subscripts_in operands.now)) }
     ensures inside { IfSome result (λ cell. cell < length arena.now.contents) }
     ensures out { IfSome result (λ cell. IsOut cell arena.now.holes) }
 {

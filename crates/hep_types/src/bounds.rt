@@ -32,7 +32,8 @@ fn is_adjusting(symbols: &Symbols, name: &Name) -> bool
 }
 
 fn are_adjusting(symbols: &Symbols, constants: &Constants, occurrences: &[Occurrence]) -> bool
-    ensures { result ≡ list_all (λ (p : PureOccurrence). is_some (value_among constants.now p.name) || conditions.is_adjusting symbols.now p.name) occurrences.now }
+    ensures { result ≡ list_all (λ (p : PureOccurrence). is_some (value_among constants.now p.name)
+        || conditions.is_adjusting symbols.now p.name) occurrences.now }
 {
     for occurrence in occurrences {
         let name = &occurrence.name;
@@ -63,7 +64,9 @@ fn is_adjusted(
     constants: &Constants,
     expression: &Expr,
 ) -> Result<bool, AllocError>
-    ensures { IfOk result (λ is_adjusted. is_adjusted ≡ (conditions.is_adjusted symbols.now constants.now expression.now && conditions.is_adjustable symbols.now constants.now expression.now)) }
+    ensures { IfOk result (λ is_adjusted. is_adjusted
+        ≡ (conditions.is_adjusted symbols.now constants.now expression.now
+        && conditions.is_adjustable symbols.now constants.now expression.now)) }
 {
     let mut found = Vec::new(alloc);
     occurrences::add_in_expression(symbols, &mut found, expression)?;
@@ -97,7 +100,8 @@ fn is_lower_bound(
     is_of_dummy: bool,
     lower: &Option<Expr>,
 ) -> Result<bool, AllocError>
-    ensures { IfOk result (λ is_bound. is_bound ≡ list_all (conditions.is_bound symbols.now parameters.now is_of_dummy) (option_to_list lower.now)) }
+    ensures { IfOk result (λ is_bound. is_bound
+        ≡ list_all (conditions.is_bound symbols.now parameters.now is_of_dummy) (option_to_list lower.now)) }
 {
     match lower {
         Some(lower) => is_bound(alloc, symbols, parameters, is_of_dummy, lower),
@@ -141,7 +145,8 @@ fn are_dimensions(
     is_of_dummy: bool,
     dimensions: &[Dimension],
 ) -> Result<bool, AllocError>
-    ensures { IfOk result (λ are_dimensions. are_dimensions ≡ list_all (conditions.is_dimension symbols.now parameters.now is_of_dummy) dimensions.now) }
+    ensures { IfOk result (λ are_dimensions. are_dimensions
+        ≡ list_all (conditions.is_dimension symbols.now parameters.now is_of_dummy) dimensions.now) }
 {
     for dimension in dimensions {
         if !is_dimension(alloc, symbols, parameters, is_of_dummy, dimension)? {
@@ -185,7 +190,8 @@ fn is_upper_open(
     parameters: &Parameters,
     upper: &UpperBound,
 ) -> Result<bool, AllocError>
-    ensures { IfOk result (λ is_open. is_open ≡ list_any (conditions.is_open symbols.now parameters.now) (statements.trees_in_upper upper.now)) }
+    ensures { IfOk result (λ is_open. is_open
+        ≡ list_any (conditions.is_open symbols.now parameters.now) (statements.trees_in_upper upper.now)) }
 {
     match upper {
         UpperBound::Expression(upper) => is_open(alloc, symbols, parameters, upper),
@@ -293,7 +299,8 @@ pub fn shape_given(
     parameters: &Parameters,
     declarator: &Declarator,
 ) -> Result<Option<Shape>, AllocError>
-    ensures { is_nonempty declarator.now.dimensions ≡ true → IfOk result (λ shape. shape ≡ walks.shape_given symbols.now parameters.now declarator.now) }
+    ensures { is_nonempty declarator.now.dimensions ≡ true
+        → IfOk result (λ shape. shape ≡ walks.shape_given symbols.now parameters.now declarator.now) }
 {
     let has_bounds = has_bounds(alloc, symbols, parameters, declarator)?;
     let are_open = are_bounds_open(alloc, symbols, parameters, declarator)?;

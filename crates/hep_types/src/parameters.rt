@@ -104,7 +104,8 @@ fn is_pure(symbols: &Symbols, name: &NameWithList) -> bool
 }
 
 fn are_pure(symbols: &Symbols, names: &[NameWithList]) -> bool
-    ensures { result ≡ list_all (λ (r : PureReference). conditions.is_pure (listed_meaning symbols.now r.occurrence.name)) (map listed names.now) }
+    ensures { result ≡ list_all (λ (r : PureReference). conditions.is_pure (listed_meaning symbols.now r.occurrence.name))
+        (map listed names.now) }
 {
     for name in names {
         if !is_pure(symbols, name) {
@@ -196,7 +197,10 @@ pub fn is_constant_given(
 impl Parameters {
     // A value for a name that has none yet.
     fn note(&mut self, name: Name, value: Option<Value>) -> Result<(), AllocError>
-        ensures { OnOk result (self.new ≡ record self.old { known = if is_some (value_among self.old.known name) then self.old.known else with_constant self.old.known name value }) }
+        ensures { OnOk result (self.new ≡ record self.old {
+          known = if is_some (value_among self.old.known name) then self.old.known
+              else with_constant self.old.known name value;
+        }) }
     {
         match value {
             Some(value) => self.known.add(name, value),

@@ -84,7 +84,8 @@ fn note_shape(
     declarator: &Declarator,
     shapes: &mut Table,
 ) -> Result<(), AllocError>
-    ensures { OnOk result ((x : PureName) → get name_eq shapes.new x ≡ option_or (get name_eq shapes.old x) (tables.shape_by_declarator symbols.now parameters.now declarator.now x)) }
+    ensures { OnOk result ((x : PureName) → get name_eq shapes.new x
+        ≡ option_or (get name_eq shapes.old x) (tables.shape_by_declarator symbols.now parameters.now declarator.now x)) }
 {
     if !declarator.dimensions.as_slice().is_empty() {
         let shape = shape_given(alloc, symbols, parameters, declarator)?;
@@ -100,7 +101,8 @@ fn note_shapes(
     declarators: &[&Declarator],
     shapes: &mut Table,
 ) -> Result<(), AllocError>
-    ensures { OnOk result ((x : PureName) → get name_eq shapes.new x ≡ option_or (get name_eq shapes.old x) (tables.shape_among symbols.now parameters.now x (rest_after declarators.now))) }
+    ensures { OnOk result ((x : PureName) → get name_eq shapes.new x
+        ≡ option_or (get name_eq shapes.old x) (tables.shape_among symbols.now parameters.now x (rest_after declarators.now))) }
 {
     for declarator in declarators {
         note_shape(alloc, symbols, parameters, declarator, shapes)?;

@@ -143,7 +143,8 @@ fn has_dimensions(symbols: &Symbols, name: &Name, subscripts: &[Expr]) -> bool
 /// integers, and what FULL, EMPTY, VALUE, SETE, WAITF and an unknown name are given may be a name by itself.
 #[cycle(typing)]
 pub fn is_list_typed(symbols: &Symbols, listed: Meaning, name: &Name, list: &[Expr]) -> bool
-    ensures { result ≡ types.is_list_typed symbols.now (meaning listed) name.now (trees_of list.now) (types.are_integers symbols.now (trees_of list.now)) (types.are_actuals symbols.now (trees_of list.now)) }
+    ensures { result ≡ types.is_list_typed symbols.now (meaning listed) name.now (trees_of list.now)
+        (types.are_integers symbols.now (trees_of list.now)) (types.are_actuals symbols.now (trees_of list.now)) }
 {
     match listed {
         Meaning::Element => has_dimensions(symbols, name, list) && are_integers(symbols, list),

@@ -36,7 +36,8 @@ fn are_bounded(
     parameters: &Parameters,
     declarators: &[&Declarator],
 ) -> Result<bool, AllocError>
-    ensures { IfOk result (λ are_bounded. are_bounded ≡ list_all (conditions.has_bounds symbols.now parameters.now) (rest_after declarators.now)) }
+    ensures { IfOk result (λ are_bounded. are_bounded
+        ≡ list_all (conditions.has_bounds symbols.now parameters.now) (rest_after declarators.now)) }
 {
     for declarator in declarators {
         if !has_bounds(alloc, symbols, parameters, declarator)? {
@@ -52,7 +53,8 @@ fn are_constant(
     parameters: &Parameters,
     subscripts: &[Expr],
 ) -> Result<bool, AllocError>
-    ensures { IfOk result (λ are_constant. are_constant ≡ list_all (conditions.is_constant_of symbols.now parameters.now ValueType.Integer) subscripts.now) }
+    ensures { IfOk result (λ are_constant. are_constant
+        ≡ list_all (conditions.is_constant_of symbols.now parameters.now ValueType.Integer) subscripts.now) }
 {
     for subscript in subscripts {
         if !is_constant_of(alloc, symbols, parameters, ValueType::Integer, subscript)? {

@@ -29,7 +29,8 @@ fn add_groups(found: &mut Ranges, line: u32, groups: &[ImplicitGroup]) -> Result
 }
 
 fn add_in(found: &mut Ranges, statement: &Statement) -> Result<(), AllocError>
-    ensures { OnOk result (found.new.items ≡ found.old.items ++ passes.ranges_at statement.now.line (conditions.letter_ranges_in statement.now.form)) }
+    ensures { OnOk result (found.new.items ≡ found.old.items
+        ++ passes.ranges_at statement.now.line (conditions.letter_ranges_in statement.now.form)) }
 {
     match &statement.form {
         Form::Implicit(groups) => add_groups(found, statement.line, groups.as_slice()),
@@ -83,7 +84,8 @@ fn later_letter(other: Option<u8>, last: u8) -> Option<u8>
 
 fn note(lasts: &mut LastLetters, range: &LetterRange)
     ensures within { range.now.first < length lasts.old }
-    ensures kept { lasts.new ≡ slice_set lasts.old range.now.first (passes.later_letter (get_or lasts.old range.now.first None) range.now.last) }
+    ensures kept { lasts.new ≡ slice_set lasts.old range.now.first
+        (passes.later_letter (get_or lasts.old range.now.first None) range.now.last) }
 {
     let first = usize::from(range.first);
     lasts[first] = later_letter(lasts[first], range.last);

@@ -269,7 +269,8 @@ fn add_all_blocks(uses: &mut Vec<Use>, line: u32, form: &Form) -> Result<(), All
 }
 
 fn add_all_constants(uses: &mut Vec<Use>, line: u32, form: &Form) -> Result<(), AllocError>
-    ensures { OnOk result (uses.new.items ≡ uses.old.items ++ used_at line (declarations.names_of_constants (declarations.constants_in form.now))) }
+    ensures { OnOk result (uses.new.items ≡ uses.old.items
+        ++ used_at line (declarations.names_of_constants (declarations.constants_in form.now))) }
 {
     match form {
         Form::Parameter(constants) => add_constants(uses, line, constants.as_slice()),
@@ -287,7 +288,8 @@ fn add_data(uses: &mut Vec<Use>, line: u32, form: &Form) -> Result<(), AllocErro
 }
 
 fn add_assigned(uses: &mut Vec<Use>, line: u32, form: &Form) -> Result<(), AllocError>
-    ensures { OnOk result (uses.new.items ≡ uses.old.items ++ used_at line (conditions.names_of_targets (statements.targets_assigned form.now))) }
+    ensures { OnOk result (uses.new.items ≡ uses.old.items
+        ++ used_at line (conditions.names_of_targets (statements.targets_assigned form.now))) }
 {
     match form {
         Form::Assign(target, _) => add(uses, line, target.occurrence.name),

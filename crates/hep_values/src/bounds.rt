@@ -128,7 +128,8 @@ pub fn bounds_of(
     constants: &Constants,
     dimensions: &[Dimension],
 ) -> Result<Option<Vec<Bound>>, AllocError>
-    ensures { IfOk result (λ bounds. option_map vec_items bounds ≡ values.bounds_of symbols.now (value_among constants.now) dimensions.now) }
+    ensures { IfOk result (λ bounds. option_map vec_items bounds
+        ≡ values.bounds_of symbols.now (value_among constants.now) dimensions.now) }
 {
     let mut bounds = Vec::new(alloc);
     for dimension in dimensions {

@@ -50,7 +50,8 @@ impl Constants {
     ///
     /// Only where memory was refused.
     pub fn add(&mut self, name: Name, value: Value) -> Result<(), AllocError>
-        ensures { OnOk result (self.new ≡ if is_some (value_among self.old name) then self.old else with_constant self.old name (Some value)) }
+        ensures { OnOk result (self.new ≡ if is_some (value_among self.old name) then self.old
+            else with_constant self.old name (Some value)) }
     {
         if !self.values.contains_key(&name) {
             self.values.insert(name, value)?;

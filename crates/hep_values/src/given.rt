@@ -16,7 +16,9 @@ fn give_one(
     constants: &mut Constants,
     constant: &NamedConstant,
 ) -> Result<(), AllocError>
-    ensures { OnOk result (value_among constants.new ≡ value_among (with_constant constants.old constant.now.occurrence.name (value_of symbols.now (value_among constants.old) constant.now.value))) }
+    ensures { OnOk result (value_among constants.new
+        ≡ value_among (with_constant constants.old constant.now.occurrence.name
+        (value_of symbols.now (value_among constants.old) constant.now.value))) }
 {
     match value_of(alloc, symbols, constants, &constant.value)? {
         Some(value) => constants.add(constant.occurrence.name, value),

@@ -23,14 +23,21 @@ use hep_works::laws as works;
 
 /// From the cell in which a storage unit is kept the unit is found again.
 pub fn cells_tell_their_units()
-    ensures common { (program : Units) (s : State) (layout : Layout) (b : BlockName) (i c : ℕ) → address program s layout (common b i) ≡ Some c → (c < common_cells program) × (unit_in_common program c ≡ Some (common b i)) }
-    ensures frame { (program : Units) (s : State) (layout : Layout) (a i c : ℕ) (x : Name) → address program s layout (local a x i) ≡ Some c → (f : Frame) × (frame_among a layout ≡ Some f) × (f.first ≤ c) × (c < f.first + frame_of program s a) × (unit_in_frame a (unit_at program (unit_of s a)) (c - f.first) ≡ Some (local a x i)) }
-    ensures kept { (program : Units) (cells : ℕ) (choices : List ℕ) (m : Snapshot) (at : Location) (c : ℕ) → (after : IsAfter program cells choices m) → address program (run program choices) after.layout at ≡ Some c → unit_kept_at program m c ≡ Some at }
+    ensures common { (program : Units) (s : State) (layout : Layout) (b : BlockName) (i c : ℕ)
+        → address program s layout (common b i) ≡ Some c → (c < common_cells program) × (unit_in_common program c ≡ Some (common b i)) }
+    ensures frame { (program : Units) (s : State) (layout : Layout) (a i c : ℕ) (x : Name) → address program s layout (local a x i) ≡ Some c
+        → (f : Frame) × (frame_among a layout ≡ Some f) × (f.first ≤ c) × (c < f.first + frame_of program s a)
+        × (unit_in_frame a (unit_at program (unit_of s a)) (c - f.first) ≡ Some (local a x i)) }
+    ensures kept { (program : Units) (cells : ℕ) (choices : List ℕ) (m : Snapshot) (at : Location) (c : ℕ)
+        → (after : IsAfter program cells choices m) → address program (run program choices) after.layout at ≡ Some c
+        → unit_kept_at program m c ≡ Some at }
 {}
 
 /// What each process is seen to wait for is what the source machine's process waits for, whether the processes were stopped or not.
 pub fn waits_are_seen()
-    ensures { (program : Units) (cells : ℕ) (choices : List ℕ) (m : Snapshot) (p : ℕ) → IsAccepted program → is_some (main_among program) ≡ true → IsAfter program cells choices m → wanted_by program p (run program choices) ≡ wanted_seen program m p }
+    ensures { (program : Units) (cells : ℕ) (choices : List ℕ) (m : Snapshot) (p : ℕ) → IsAccepted program
+        → is_some (main_among program) ≡ true → IsAfter program cells choices m
+        → wanted_by program p (run program choices) ≡ wanted_seen program m p }
 {
     laws::turns_are_taken();
     laws::tops_are_running();
@@ -41,7 +48,8 @@ pub fn waits_are_seen()
 /// What is seen of a machine is what is seen of the state that it keeps, however many activations were made, in a run of an
 /// accepted program with a main program.
 pub fn views_are_of_states()
-    ensures { (program : Units) (cells : ℕ) (choices : List ℕ) (m : Snapshot) → IsAccepted program → is_some (main_among program) ≡ true → IsAfter program cells choices m → machine_view program m ≡ view_of program is_held (run program choices) }
+    ensures { (program : Units) (cells : ℕ) (choices : List ℕ) (m : Snapshot) → IsAccepted program → is_some (main_among program) ≡ true
+        → IsAfter program cells choices m → machine_view program m ≡ view_of program is_held (run program choices) }
 {
     waits_are_seen();
     works::programs_are_closed();

@@ -38,7 +38,8 @@ use hep_works::laws::units_are_there;
 // The level of the top activation of process p.
 fn top(machine: &Machine, p: u64) -> Level
     requires { HasLevels (snapshot_of machine.now) p }
-    ensures { (l : ALevel) (ls : List ALevel) (operands : List Value) → numbered (snapshot_of machine.now).processes p ≡ Some (stack_with l ls operands) → result ≡ l }
+    ensures { (l : ALevel) (ls : List ALevel) (operands : List Value)
+        → numbered (snapshot_of machine.now).processes p ≡ Some (stack_with l ls operands) → result ≡ l }
 {
     let levels = &machine.processes[(p - 1) as usize].levels;
     levels[levels.len() - 1]
@@ -122,7 +123,8 @@ fn in_frame(image: &Image, unit: usize, cell: u32, owner: u64) -> Place
 // The storage unit that is kept in a cell: of COMMON, or of the activation whose node is under a key or of one above it.
 fn place_at(machine: &Machine, image: &Image, key: usize, cell: u32) -> Place
     requires { (cells : ℕ) × (choices : List ℕ) × (at : Location) × IsSought image.now cells choices machine.now key cell at }
-    ensures { (cells : ℕ) (choices : List ℕ) (at : Location) → IsSought image.now cells choices machine.now key cell at → result ≡ place_of image.now (run image.now choices) at }
+    ensures { (cells : ℕ) (choices : List ℕ) (at : Location) → IsSought image.now cells choices machine.now key cell at
+        → result ≡ place_of image.now (run image.now choices) at }
 {
     image.is_runnable();
     cells_tell_their_units();
@@ -147,8 +149,10 @@ fn place_at(machine: &Machine, image: &Image, key: usize, cell: u32) -> Place
 /// This costs the logarithm of the variables of a unit, and a step for each activation from the process's top one up to the one whose
 /// variable it is.
 pub fn listed(machine: &Machine, image: &Image, p: u64, want: Want) -> Listed
-    requires { (cells : ℕ) × (choices : List ℕ) × IsMachineAfter image.now cells choices machine.now × IsBlocked image.now cells choices p want }
-    ensures { (cells : ℕ) (choices : List ℕ) → IsMachineAfter image.now cells choices machine.now → IsBlocked image.now cells choices p want → listed_by image.now p (run image.now choices) ≡ Some result }
+    requires { (cells : ℕ) × (choices : List ℕ) × IsMachineAfter image.now cells choices machine.now
+        × IsBlocked image.now cells choices p want }
+    ensures { (cells : ℕ) (choices : List ℕ) → IsMachineAfter image.now cells choices machine.now → IsBlocked image.now cells choices p want
+        → listed_by image.now p (run image.now choices) ≡ Some result }
 {
     references_lead_upwards();
     waits_are_unmet_needs();

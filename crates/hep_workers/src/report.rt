@@ -67,7 +67,8 @@ fn is_of_run(core: &Core, image: &Image, options: WorkOptions) -> bool
 
 // The receipts of all logs are the history's entries, each once.
 fn are_entries(alloc: Global, history: &[Entry], logs: &[Log]) -> Result<bool, AllocError>
-    ensures { IfOk result (λ are. MatchBool are (AreEntries history.now (receipts_of logs.now)) (AreEntries history.now (receipts_of logs.now) → ⊥)) }
+    ensures { IfOk result (λ are. MatchBool are (AreEntries history.now (receipts_of logs.now))
+        (AreEntries history.now (receipts_of logs.now) → ⊥)) }
 {
     let mut named = Vec::from_elem(alloc, false, history.len())?;
     if !mark_logs(history, &mut named, logs) {
