@@ -9,11 +9,12 @@ use Rattle.hep_source.specs.declared.statement.Form.{Form}
 use Rattle.hep_source.specs.declared.statement.Form.TheVariants as form
 use Rattle.hep_source.specs.declared.value.Value.{Value}
 use Rattle.hep_machine.specs.Functions.{Meaning, element, pure, state, unknown}
-use Rattle.hep_code.specs.declared.instruction.Instruction.TheVariants.{Pass}
-use Rattle.hep_code.specs.ExpressionCode.{count, tree_code, trees_code, actual_code, actual_name_code, actual_listed_code, actuals_code, argument_of, argument_of_name, argument_of_listed, target_code, targets_code, argument_of_target}
+use Rattle.hep_code.specs.declared.instruction.Instruction.TheVariants.{To, Pass, Show}
+use Rattle.hep_code.specs.ExpressionCode.{count, tree_code, trees_code, actual_code, actual_name_code, actual_listed_code, actuals_code, argument_of, argument_of_name, argument_of_listed, target_code, targets_code, argument_of_target, printed_of}
 use Rattle.hep_code.specs.StatementCode.{operands_code, operation_code, form_code}
 use Rattle.hep_code.specs.Tables.{NameTable, Table}
 use Rattle.hep_emit.specs.Limits.{subscripts_of, subscripts_of_actuals, subscripts_of_targets}
+use Rattle.hep_emit.specs.Operations.{list_length, list_subscripts}
 use Rattle.hep_emit.proofs.Lengths.{count_long, trees_long}
 
 module _ (names : NameTable) (line : ℕ) where
@@ -49,24 +50,43 @@ module _ (table : Table) (line k : ℕ) where
   form_long : (f : Form) → length (form_code table line k f) ≡ length (operands_code table line f) + length (operation_code table line k f)
   form_long f = length-append (operands_code table line f) (operation_code table line k f)
 
-  pub store_long : (x : Target) (t : Tree) → length x.subscripts ≤ length (form_code table line k (form.Assign x t))
-  store_long x t =
-      omega (arith, form_long (form.Assign x t), trees_long table.names line x.subscripts, length-append (tree_code table.names line t) (target_code table.names line x))
+  -- the list of a form is no longer than its code, nor are there more subscripts in it
+  abbrev IsLong : Form → Type 0
+  IsLong f = (list_length f ≤ length (form_code table line k f)) × (list_subscripts table.names f ≤ length (form_code table line k f))
 
-  pub call_long : (p : Occurrence) (ts : List Tree) → length ts ≤ length (form_code table line k (form.Call p ts))
-  call_long p ts = omega (arith, form_long (form.Call p ts), length-map ts (λ t. Pass (argument_of table.names t)))
+  bare : (n : ℕ) → (0 ≤ n) × (0 ≤ n)
+  bare n = (omega arith, omega arith)
 
-  pub call_subscripts : (p : Occurrence) (ts : List Tree) → subscripts_of_actuals table.names ts ≤ length (form_code table line k (form.Call p ts))
-  call_subscripts p ts = omega (arith, form_long (form.Call p ts), actuals_long table.names line ts)
-
-  pub create_long : (p : Occurrence) (ts : List Tree) → length ts ≤ length (form_code table line k (form.Create p ts))
-  create_long p ts = omega (arith, form_long (form.Create p ts), length-map ts (λ t. Pass (argument_of table.names t)))
-
-  pub create_subscripts : (p : Occurrence) (ts : List Tree) → subscripts_of_actuals table.names ts ≤ length (form_code table line k (form.Create p ts))
-  create_subscripts p ts = omega (arith, form_long (form.Create p ts), actuals_long table.names line ts)
-
-  pub purge_long : (ts : List Target) → length ts ≤ length (form_code table line k (form.Purge ts))
-  purge_long ts = omega (arith, form_long (form.Purge ts), length-map ts (λ t. Pass (argument_of_target table.names t)))
-
-  pub purge_subscripts : (ts : List Target) → subscripts_of_targets table.names ts ≤ length (form_code table line k (form.Purge ts))
-  purge_subscripts ts = omega (arith, form_long (form.Purge ts), targets_long table.names line ts)
+  pub form_lists : (f : Form) → IsLong f
+  form_lists (form.Assign x t) =
+      (omega (arith, form_long (form.Assign x t), trees_long table.names line x.subscripts, length-append (tree_code table.names line t) (target_code table.names line x)), omega arith)
+  form_lists (form.ComputedGoTo labels t) = (omega (arith, form_long (form.ComputedGoTo labels t), length-map labels (λ l. To (table.labels l))), omega arith)
+  form_lists (form.Call p ts) =
+      let long = form_long (form.Call p ts) in
+      (omega (arith, long, length-map ts (λ t. Pass (argument_of table.names t))), omega (arith, long, actuals_long table.names line ts))
+  form_lists (form.Create p ts) =
+      let long = form_long (form.Create p ts) in
+      (omega (arith, long, length-map ts (λ t. Pass (argument_of table.names t))), omega (arith, long, actuals_long table.names line ts))
+  form_lists (form.Purge ts) =
+      let long = form_long (form.Purge ts) in
+      (omega (arith, long, length-map ts (λ t. Pass (argument_of_target table.names t))), omega (arith, long, targets_long table.names line ts))
+  form_lists (form.Print items) = (omega (arith, form_long (form.Print items), length-map items (λ i. Show (printed_of i))), omega arith)
+  form_lists (form.Program p) = bare _
+  form_lists (form.Subroutine p ps) = bare _
+  form_lists (form.Implicit gs) = bare _
+  form_lists (form.Declare t ds) = bare _
+  form_lists (form.Dimension ds) = bare _
+  form_lists (form.Common bs) = bare _
+  form_lists (form.Parameter cs) = bare _
+  form_lists (form.Data gs) = bare _
+  form_lists (form.GoTo l) = bare _
+  form_lists (form.ArithmeticIf t ls) = bare _
+  form_lists (form.IfThen t) = bare _
+  form_lists (form.ElseIf t) = bare _
+  form_lists form.Else = bare _
+  form_lists form.EndIf = bare _
+  form_lists (form.Do c) = bare _
+  form_lists form.Continue = bare _
+  form_lists form.Return = bare _
+  form_lists form.Stop = bare _
+  form_lists form.End = bare _

@@ -29,11 +29,6 @@ pub weaker : {A : Type 0} (r : Result A EmitFault) (n m : ℕ) → IfErr r (IsTo
 weaker (Ok x) n m h le = tt
 weaker (Err e) n m h le = λ is. let p = h is in omega (arith, p, le)
 
--- one of two parts
-pub of_two : {A : Type 0} (r : Result A EmitFault) (a b m : ℕ) → IfErr r (λ fault. (n : ℕ) → a ≤ n → b ≤ n → IsTooLong n fault) → a ≤ m → b ≤ m → IfErr r (IsTooLong m)
-of_two (Ok x) a b m h p q = tt
-of_two (Err e) a b m h p q = h m p q
-
 -- the same number said otherwise
 pub over_same : {A : Type 0} (r : Result A EmitFault) (fault : EmitFault) (n m : ℕ) → IsErr r × IsErrAnd r (λ e. e ≡ fault) → IsOverLimit n fault → n ≡ m → IfErr r (IsOverLimit m)
 over_same (Ok x) fault n m h part e = tt

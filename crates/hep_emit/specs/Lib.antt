@@ -1,5 +1,5 @@
 pub mod Destinations
-pub mod Beginnings
+pub mod Operations
 pub mod Tables
 pub mod Limits
 pub mod Starts

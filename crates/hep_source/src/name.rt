@@ -1,17 +1,34 @@
 //! Symbolic names, and names where they stand in a statement.
-ghost use Rattle.std.specs.Prelude.{◌≡◌, IfOk};
+ghost use Rattle.std.specs.Prelude.{◌≡◌, ◌++◌, ◌∷◌, [], IfOk};
+ghost use Rattle.std.specs.Hash as fed;
+ghost use Rattle.std.specs.Cmp.Rules.{hashing};
+ghost use Rattle.std.proofs.Common.{rules};
 ghost use Rattle.hep_source.specs.Names as names;
 
 use hep_base::Text;
 use std::alloc::{AllocError, Global};
+use std::hash::{Hash, Hasher};
 
 /// A symbolic name (X3.9-1978, 2.2): one to six letters or digits, the first a letter, with blanks
 /// after them up to six. The sign `$` before a name makes it asynchronous; it isn't one of the
 /// six, and `$X` and `X` are two names.
-#[derive(Clone, Copy, Debug, PartialEq, Eq, Hash)]
+#[derive(Clone, Copy, Debug, PartialEq, Eq)]
 pub struct Name {
     pub asynchronous: bool,
     pub letters: [u8; 6],
+}
+
+// By hand, so that the letters are one write: a derived hash writes how many there are and then each of them,
+// and names are looked up in tables all the time.
+impl Hash for Name {
+    ghost hash_input = { λ name. fed.bool name.asynchronous ++ name.letters ∷ [] };
+
+    ghost respects_eq = { Prim.search (hashing, rules) };
+
+    fn hash<H: Hasher>(&self, state: &mut H) {
+        self.asynchronous.hash(state);
+        state.write(&self.letters);
+    }
 }
 
 impl Name {

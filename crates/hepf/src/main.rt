@@ -4,9 +4,6 @@
 //! `hep_run` does the work and says what went wrong.
 #![tactic(auto)]
 
-#[cfg(test)]
-mod tests;
-
 ghost use Rattle.std.specs.Prelude.{◌≤◌};
 ghost use Rattle.hep_command.specs.Jobs.{IsInRange};
 
