@@ -1,6 +1,5 @@
 //! Symbolic names, and names where they stand in a statement.
-ghost use Rattle.std.specs.Prelude.{◌≡◌, ◌++◌, ◌∷◌, [], IfOk};
-ghost use Rattle.std.specs.Hash as fed;
+ghost use Rattle.std.specs.Prelude.{◌≡◌, ◌∷◌, [], IfOk};
 ghost use Rattle.std.specs.Cmp.Rules.{hashing};
 ghost use Rattle.std.proofs.Common.{rules};
 ghost use Rattle.hep_source.specs.Names as names;
@@ -18,15 +17,14 @@ pub struct Name {
     pub letters: [u8; 6],
 }
 
-// By hand, so that the letters are one write: a derived hash writes how many there are and then each of them,
-// and names are looked up in tables all the time.
+// By hand, and in one write, since names are looked up in tables all the time: a derived hash writes eight times. `$X` and
+// `X` have the same hash, and few programs have both.
 impl Hash for Name {
-    ghost hash_input = { λ name. fed.bool name.asynchronous ++ name.letters ∷ [] };
+    ghost hash_input = { λ name. name.letters ∷ [] };
 
     ghost respects_eq = { Prim.search (hashing, rules) };
 
     fn hash<H: Hasher>(&self, state: &mut H) {
-        self.asynchronous.hash(state);
         state.write(&self.letters);
     }
 }

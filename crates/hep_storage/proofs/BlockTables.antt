@@ -1,29 +1,18 @@
 -- Tables of the blocks of a unit, list by list of COMMON and statement by statement.
-use Rattle.std.proofs.Common.{◌≡◌, ◌<◌, ◌≤◌, ◌+◌, ℕ, Bool, true, false, ◌||◌, Option, Some, None, IfSome, List, [], ◌∷◌, ◌++◌, take, length, get_or, append-nil, append_assoc, refl, ap, sym, subst, ◌∙◌, cond, if◌then◌else◌}
-use Rattle.std.specs.Borrow.{Bor}
+use Rattle.std.proofs.Common.{◌≡◌, ◌<◌, ◌≤◌, ◌+◌, ℕ, Bool, true, false, ◌||◌, Option, Some, None, List, [], ◌∷◌, ◌++◌, take, length, get_or, append-nil, append_assoc, refl, ap, sym, subst, ◌∙◌, if◌then◌else◌}
 use Rattle.std.specs.List.{list_any}
-use Rattle.std.specs.Option.{option_eq, option_map}
+use Rattle.std.specs.Option.{option_map}
 use Rattle.std.proofs.lemmas.Grind.{flat_map-append}
 use Rattle.std.proofs.lemmas.List.{take_more, take_all}
 use Rattle.hep_source.specs.declared.declaration.CommonBlock.{CommonBlock}
 use Rattle.hep_source.specs.declared.declaration.Declarator.{Declarator}
 use Rattle.hep_source.specs.declared.name.Name.{Name}
 use Rattle.hep_source.specs.declared.statement.Statement.{Statement}
-use Rattle.hep_source.specs.Names.{name_eq}
 use Rattle.hep_machine.specs.Declarations.{BlockName, same_block, block_of, blocks_in, blocks_of_unit, names_in_block, entries_under, names_declared}
 use Rattle.hep_check.specs.Common as conditions
-use Rattle.hep_values.proofs.BlockNames.{block-equal, block-self, changed, names-append, other-kept}
+use Rattle.hep_values.proofs.BlockNames.{block-equal, block-self, names-append}
 use Rattle.hep_storage.specs.Blocks.{AreNoted, KnownPlaces, Holds, Has, HasContents, known, no_run, block, block_in, names_into, places_of_names, names_under, later_line}
-use Rattle.hep_storage.specs.declared.blocks.Contents.{Contents}
-
--- what is seen at an index of a table is what is taken from there
-pub shown-taken : {A : Type 0} (f : BlockName → Option A) (seen : Option (Bor BlockName × Bor A)) → IfSome seen (λ p. f p.0.now ≡ Some p.1.now) → IfSome {T = BlockName × A} (option_map (λ p. (p.0.now, p.1.now)) seen) (λ p. f p.0 ≡ Some p.1)
-shown-taken f None h = h
-shown-taken f (Some p) h = h
-
-pub some-then : {A : Type 0} {P Q : A → Type 0} (o : Option A) → IfSome o P → ((x : A) → P x → Q x) → IfSome o Q
-some-then None h f = h
-some-then (Some x) h f = f x h
+use Rattle.hep_storage.specs.declared.contents.Contents.{Contents}
 
 -- ---- lists of COMMON
 
@@ -194,15 +183,14 @@ module _ (unit : List Statement) (list : CommonBlock) (b : BlockName) (xs : List
   other-has o e h = rw e (subst (λ ys. HasContents unit b ys before o) (sym (append-nil xs)) h)
 
 -- a list of COMMON, whichever block it names
-pub list-noted : (unit : List Statement) (list : CommonBlock) (k : BlockName) (names : List Declarator) (line : ℕ) (old after new : BlockName → Option Contents) (taken c : Contents) (was noted : Name → Bool)
+pub list-noted : (unit : List Statement) (list : CommonBlock) (k : BlockName) (names : List Declarator) (line : ℕ) (old new : BlockName → Option Contents) (taken c : Contents) (was noted : Name → Bool)
     → k ≡ block_of list → names ≡ list.entries
     → ((xs : List Name) (before : Option ℕ) → HasContents unit k xs before (old k) → Holds unit k xs taken)
     → ((xs : List Name) → AreNoted unit k xs was → Holds unit k xs taken → Holds unit k (xs ++ names_declared names) c)
     → ((b : BlockName) (xs : List Name) → AreNoted unit b xs was → AreNoted unit b (xs ++ names_into k b (names_declared names)) noted)
-    → c.line ≡ line → ((b : BlockName) → same_block k b ≡ false → after b ≡ old b)
-    → ((b : BlockName) → new b ≡ cond (option_eq name_eq k b) (Some c) (after b))
+    → c.line ≡ line → ((b : BlockName) → new b ≡ (if same_block k b then Some c else old b))
     → (b : BlockName) (xs : List Name) (before : Option ℕ) → Has unit was b xs before (old b) → Has unit noted b (xs ++ names_under b (list ∷ [])) (later_line b before line (list ∷ [])) (new b)
-list-noted unit list k names line old after new taken c was noted is same had adds marks at others put b xs before h =
+list-noted unit list k names line old new taken c was noted is same had adds marks at put b xs before h =
     (by (same_block k b) refl, subst (λ ys. AreNoted unit b (xs ++ ys) noted) (under-one k b list names is same) (marks b xs h.1))
   where
     by : (t : Bool) → same_block k b ≡ t → HasContents unit b (xs ++ names_under b (list ∷ [])) (later_line b before line (list ∷ [])) (new b)
@@ -210,9 +198,12 @@ list-noted unit list k names line old after new taken c was noted is same had ad
         let f : k ≡ b = block-equal k b e in
         let g : Holds unit k (xs ++ names_declared names) c =
         adds xs (subst (λ j. AreNoted unit j xs was) (sym f) h.1) (had xs before (subst (λ j. HasContents unit j xs before (old j)) (sym f) h.0)) in
-        subst (HasContents unit b (xs ++ names_under b (list ∷ [])) (later_line b before line (list ∷ []))) (sym (put b ∙ (changed k b (Some c) (after b) ∙ ap (λ t. if t then Some c else after b) e)))
+        subst (HasContents unit b (xs ++ names_under b (list ∷ [])) (later_line b before line (list ∷ []))) (sym (put b ∙ ap (λ t. if t then Some c else old b) e))
         (here-has unit list b xs before line c (sym (ap (λ j. same_block j b) is) ∙ e) at
         (subst (λ j. Holds unit j (xs ++ names_declared list.entries) c) is (subst (λ ds. Holds unit k (xs ++ names_declared ds) c) same g)))
     by false e =
-        subst (HasContents unit b (xs ++ names_under b (list ∷ [])) (later_line b before line (list ∷ []))) (sym (put b ∙ (other-kept k b (Some c) (after b) e ∙ others b e)))
+        subst (HasContents unit b (xs ++ names_under b (list ∷ [])) (later_line b before line (list ∷ []))) (sym (put b ∙ ap (λ t. if t then Some c else old b) e))
         (other-has unit list b xs before line (old b) (sym (ap (λ j. same_block j b) is) ∙ e) h.0)
+
+pub lists-start : (unit : List Statement) (noted : Name → Bool) (b : BlockName) (xs : List Name) (before : Option ℕ) (o : Option Contents) → Has unit noted b xs before o → Has unit noted b (xs ++ []) before o
+lists-start unit noted b xs before o h = subst (λ ys. Has unit noted b ys before o) (sym (append-nil xs)) h

@@ -12,7 +12,7 @@ use Rattle.hep_check.specs.Common as conditions
 use Rattle.hep_storage.specs.Blocks.{Block, block_in, known_places}
 use Rattle.hep_values.proofs.BlockNames.{block-equal, block-self, either-true, or-true}
 
-any-append : {A : Type 0} (test : A → Bool) (xs ys : List A) → list_any test (xs ++ ys) ≡ (list_any test xs || list_any test ys)
+pub any-append : {A : Type 0} (test : A → Bool) (xs ys : List A) → list_any test (xs ++ ys) ≡ (list_any test xs || list_any test ys)
 any-append test [] ys = refl
 any-append test (x ∷ xs) ys = ap (λ b. test x || b) (any-append test xs ys) ∙ grouped (test x) (list_any test xs) (list_any test ys)
   where

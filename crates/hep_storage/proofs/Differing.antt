@@ -16,8 +16,8 @@ use Rattle.hep_storage.specs.Blocks.{KnownPlaces, Block, run_of, known_places, b
 use Rattle.hep_runs.specs.Runs.{alike, positions_in}
 use Rattle.hep_storage.specs.Shared.{departs}
 use Rattle.hep_runs.specs.Spread.{repeat_before, spread, agree_as_far}
-use Rattle.hep_storage.specs.declared.agreement.Lengths.{Lengths}
-use Rattle.hep_storage.specs.declared.agreement.Lengths.TheVariants as lengths
+use Rattle.hep_storage.specs.declared.summary.Lengths.{Lengths}
+use Rattle.hep_storage.specs.declared.summary.Lengths.TheVariants as lengths
 use Rattle.hep_runs.specs.declared.runs.Position.{Position}
 use Rattle.hep_storage.proofs.Pairs.{each_pair, each_later, pairs-from-start, nones}
 use Rattle.hep_runs.proofs.Places.{at_each_place}

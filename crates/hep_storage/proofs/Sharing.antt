@@ -1,6 +1,5 @@
 -- Lists against what several lists have in common.
-use Rattle.std.proofs.Common.{◌≡◌, ◌≤◌, ◌<◌, ℕ, zero, suc, ◌+◌, ◌-◌, nat_lt, Bool, true, false, not, ◌&&◌, ◌||◌, if◌then◌else◌, List, [], ◌∷◌, ◌++◌, take, drop, set, length, get_or, append-nil, refl, ap, sym, ◌∙◌, arith, true≢false}
-use Rattle.std.proofs.lemmas.Bool.Decides.{nat_tests}
+use Rattle.std.proofs.Common.{◌≡◌, ◌≤◌, ◌<◌, ℕ, zero, suc, ◌+◌, ◌-◌, Bool, true, false, not, ◌&&◌, ◌||◌, if◌then◌else◌, List, [], ◌∷◌, ◌++◌, take, drop, set, length, get_or, append-nil, refl, ap, sym, ◌∙◌, arith, true≢false}
 use Rattle.std.proofs.lemmas.List.{drop_all, drop_more, take_all, take_more_set}
 use Rattle.hep_machine.specs.Declarations.{is_nonempty}
 use Rattle.hep_storage.specs.Shared.{InCommon, departs, with_position, in_common}
@@ -117,14 +116,14 @@ module _ (cut : Bool) (p q : Place) (xs ys : List Run) (is : IsPlace p xs) (at :
       ap (λ ps. departs cut ps (positions_in ys)) (front-rest p xs is)
       ∙ (ap (departs cut (front p xs ++ rest p xs)) second-is ∙ departs-front cut (front p xs) (rest p xs) (rest q ys))
 
-  pub departs-parted : heads_differ (rest p xs) (rest q ys) ≡ true → true ≡ departs cut (positions_in xs) (positions_in ys)
-  departs-parted h = sym (whole ∙ departs-heads cut (rest p xs) (rest q ys) h)
+  pub departs-parted : heads_differ (rest p xs) (rest q ys) ≡ true → departs cut (positions_in xs) (positions_in ys) ≡ true
+  departs-parted h = whole ∙ departs-heads cut (rest p xs) (rest q ys) h
 
-  pub departs-second : length ys ≤ q.run → false ≡ departs cut (positions_in xs) (positions_in ys)
-  departs-second h = sym (whole ∙ (ap (departs cut (rest p xs)) (rest-none q ys h) ∙ departs-none cut (rest p xs)))
+  pub departs-second : length ys ≤ q.run → departs cut (positions_in xs) (positions_in ys) ≡ false
+  departs-second h = whole ∙ (ap (departs cut (rest p xs)) (rest-none q ys h) ∙ departs-none cut (rest p xs))
 
-  pub departs-first : length xs ≤ p.run → (cut && is_nonempty (rest q ys)) ≡ departs cut (positions_in xs) (positions_in ys)
-  departs-first h = sym (whole ∙ (ap (λ ps. departs cut ps (rest q ys)) (rest-none p xs h) ∙ departs-end cut (rest q ys)))
+  pub departs-first : length xs ≤ p.run → departs cut (positions_in xs) (positions_in ys) ≡ (cut && is_nonempty (rest q ys))
+  departs-first h = whole ∙ (ap (λ ps. departs cut ps (rest q ys)) (rest-none p xs h) ∙ departs-end cut (rest q ys))
 
   common : in_common cut (positions_in xs) (positions_in ys) ≡ record { positions = front p xs ++ (in_common cut (rest p xs) (rest q ys)).positions; is_cut = (in_common cut (rest p xs) (rest q ys)).is_cut }
   common =
@@ -193,21 +192,3 @@ pub more-later : (p : Place) (rs : List Run) (d : Run) → p.run < length rs →
 more-later p rs d lt h =
     let r = get_or rs p.run d in
     sym (ap (λ qs. is_nonempty (later_places qs p.before)) (drop_more rs p.run d lt) ∙ ap is_nonempty (no-repeat (r.count - p.before) r.position (positions_in (drop (p.run + 1) rs)) (omega arith)))
-
--- both lists go on, or the second one ends
-pub departs-at : (cut : Bool) (p q : Place) (xs ys : List Run) → IsPlace p xs → IsPlace q ys → front p xs ≡ front q ys
-    → (p.run < length xs → q.run < length ys → heads_differ (rest p xs) (rest q ys) ≡ true) → p.run < length xs
-    → nat_lt q.run (length ys) ≡ departs cut (positions_in xs) (positions_in ys)
-departs-at cut p q xs ys is at same parted lt = by (nat_lt q.run (length ys)) refl
-  where
-    by : (b : Bool) → nat_lt q.run (length ys) ≡ b → b ≡ departs cut (positions_in xs) (positions_in ys)
-    by true e = let mt : q.run < length ys = grind (arith, nat_tests) in departs-parted cut p q xs ys is at same (parted lt mt)
-    by false e = let k : length ys ≤ q.run = grind (arith, nat_tests) in departs-second cut p q xs ys is at same k
-
-pub when-so : (a b : Bool) → a ≡ true → b ≡ (a && b)
-when-so true b h = refl
-when-so false b h = absurd (true≢false (sym h))
-
-pub when-not : (a b : Bool) → a ≡ false → a ≡ (a && b)
-when-not false b h = refl
-when-not true b h = absurd (true≢false h)

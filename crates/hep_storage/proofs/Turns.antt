@@ -1,19 +1,15 @@
 -- Turns of the loops over units and over the blocks of a unit.
-use Rattle.std.proofs.Common.{◌≡◌, ◌<◌, ◌≤◌, ◌+◌, ℕ, Bool, true, false, Option, Some, None, is_some, List, [], ◌∷◌, drop, length, get_or, refl, ap, sym, subst, ◌∙◌, cond, true≢false, if◌then◌else◌}
-use Rattle.std.specs.Option.{option_eq, option_map}
+use Rattle.std.proofs.Common.{◌≡◌, ◌<◌, ◌≤◌, ◌+◌, ℕ, Bool, true, false, ◌||◌, Option, Some, None, is_some, List, [], ◌∷◌, drop, length, get_or, refl, ap, sym, subst, ◌∙◌, true≢false, if◌then◌else◌}
 use Rattle.std.proofs.lemmas.List.{drop_more, drop_all}
 use Rattle.hep_source.specs.declared.statement.Statement.{Statement}
-use Rattle.hep_source.specs.Names.{name_eq}
 use Rattle.hep_source.specs.Units.{Units}
 use Rattle.hep_machine.specs.Declarations.{BlockName, same_block, is_block_among, blocks_of}
 use Rattle.hep_check.specs.Reported.{least_line, least_line_of}
 use Rattle.hep_check.proofs.Lines.{least_line-none, least_line-assoc, least_line-comm, least_line_of-same, least_line_of-both}
-use Rattle.hep_storage.specs.Agreement.{Summed, summed, summed_at, with_list, with_block, line_after, least_after, least_of_blocks, least_of_left, AreAmong}
+use Rattle.hep_storage.specs.Agreement.{Summed, with_block, line_after, least_after, least_of_blocks, least_of_left, AreAmong}
 use Rattle.hep_storage.specs.Blocks.{Block, block_in}
-use Rattle.hep_storage.specs.declared.agreement.Summary.{Summary}
-use Rattle.hep_values.proofs.BlockNames.{changed}
 use Rattle.hep_storage.proofs.BlocksNamed.{unit-among}
-use Rattle.hep_values.proofs.BlockNames.{block-equal}
+use Rattle.hep_values.proofs.BlockNames.{block-equal, block-self}
 use Rattle.hep_storage.proofs.Pairs.{absorbed, least_line-self, nones}
 
 -- ---- one unit more
@@ -77,9 +73,9 @@ module _ (k : BlockName) (f g : BlockName → Option ℕ) (other : (b : BlockNam
   taken : (bs : List BlockName) → is_block_among k bs ≡ true → least_line (f k) (least_line_of g bs) ≡ least_line_of f bs
   taken bs h = without bs ∙ absorbed f k bs h
 
-module _ (k : BlockName) (c : Block) (s t : BlockName → Summed) (left fewer : BlockName → Option Block) (is : left k ≡ Some c)
+module _ (k : BlockName) (o : Option Block) (s t : BlockName → Summed) (left fewer : BlockName → Option Block) (is : left k ≡ o)
     (less : (b : BlockName) → fewer b ≡ (if same_block k b then None else left b))
-    (more : (b : BlockName) → t b ≡ (if same_block k b then with_list c.list (s k) else s b)) where
+    (more : (b : BlockName) → t b ≡ (if same_block k b then with_block o (s k) else s b)) where
   pub block-joined : (b : BlockName) → with_block (fewer b) (t b) ≡ with_block (left b) (s b)
   block-joined b = by (same_block k b) refl
     where
@@ -87,11 +83,11 @@ module _ (k : BlockName) (c : Block) (s t : BlockName → Summed) (left fewer : 
       by true e =
           ap (λ o. with_block o (t b)) (less b ∙ ap (λ x. if x then None else left b) e)
           ∙ (more b
-          ∙ (ap (λ x. if x then with_list c.list (s k) else s b) e
+          ∙ (ap (λ x. if x then with_block o (s k) else s b) e
           ∙ (ap (λ o. with_block o (s k)) (sym is) ∙ ap (λ d. with_block (left d) (s d)) (block-equal k b e))))
       by false e =
           ap (λ o. with_block o (t b)) (less b ∙ ap (λ x. if x then None else left b) e)
-          ∙ ap (with_block (left b)) (more b ∙ ap (λ x. if x then with_list c.list (s k) else s b) e)
+          ∙ ap (with_block (left b)) (more b ∙ ap (λ x. if x then with_block o (s k) else s b) e)
 
   pub block-among : (bs : List BlockName) → ((b : BlockName) → is_some (left b) ≡ true → is_block_among b bs ≡ true)
       → (b : BlockName) → is_some (fewer b) ≡ true → is_block_among b bs ≡ true
@@ -108,15 +104,20 @@ module _ (k : BlockName) (c : Block) (s t : BlockName → Summed) (left fewer : 
       by true e = ap (line_after b (t b)) (less b ∙ ap (λ x. if x then None else left b) e)
       by false e =
           ap (line_after b (t b)) (less b ∙ ap (λ x. if x then None else left b) e)
-          ∙ ap (λ x. line_after b x (left b)) (more b ∙ ap (λ x. if x then with_list c.list (s k) else s b) e)
+          ∙ ap (λ x. line_after b x (left b)) (more b ∙ ap (λ x. if x then with_block o (s k) else s b) e)
 
-  pub block-turn : (bs : List BlockName) (best line : Option ℕ) → ((b : BlockName) → is_some (left b) ≡ true → is_block_among b bs ≡ true) → line ≡ line_after k (s k) (Some c)
+  pub block-turn : (bs : List BlockName) (best line : Option ℕ) → ((b : BlockName) → is_some (left b) ≡ true → is_block_among b bs ≡ true) → line ≡ line_after k (s k) o
       → least_line (least_line best line) (least_of_left bs t fewer) ≡ least_line best (least_of_left bs s left)
   block-turn bs best line h e =
       least_line-assoc best line (least_of_left bs t fewer)
       ∙ ap (least_line best)
-      (ap (λ l. least_line l (least_of_left bs t fewer)) (e ∙ ap (line_after k (s k)) (sym is))
-      ∙ taken k (λ b. line_after b (s b) (left b)) (λ b. line_after b (t b) (fewer b)) fewer-line bs (h k (ap is_some is)))
+      (ap (λ l. least_line l (least_of_left bs t fewer)) (e ∙ ap (line_after k (s k)) (sym is)) ∙ there (left k) refl)
+    where
+      there : (l : Option Block) → left k ≡ l → least_line (line_after k (s k) (left k)) (least_of_left bs t fewer) ≡ least_of_left bs s left
+      there None n =
+          without k (λ b. line_after b (s b) (left b)) (λ b. line_after b (t b) (fewer b)) fewer-line bs
+          ∙ ap (λ l. least_line (line_after k (s k) l) (least_of_left bs s left)) n
+      there (Some c) n = taken k (λ b. line_after b (s b) (left b)) (λ b. line_after b (t b) (fewer b)) fewer-line bs (h k (ap is_some n))
 
 -- no block is left
 pub none-left : (bs : List BlockName) (s : BlockName → Summed) (left : BlockName → Option Block) → ((b : BlockName) → left b ≡ None) → least_of_left bs s left ≡ None
@@ -133,17 +134,17 @@ pub record Turned (s t : BlockName → Summed) (all left : BlockName → Option 
 pub turned-start : (s : BlockName → Summed) (all : BlockName → Option Block) → Turned s s all all None
 turned-start s all = record { joined = λ b. refl; among = λ bs h. h; line = λ bs h. refl }
 
-pub turned-next : (s t next : BlockName → Summed) (all left fewer : BlockName → Option Block) (least line after : Option ℕ) (k : BlockName) (c : Block)
-    → Turned s t all left least → left k ≡ Some c → ((b : BlockName) → fewer b ≡ (if same_block k b then None else left b))
-    → ((b : BlockName) → next b ≡ (if same_block k b then with_list c.list (t k) else t b)) → line ≡ line_after k (t k) (Some c) → after ≡ least_line least line
+pub turned-next : (s t next : BlockName → Summed) (all left fewer : BlockName → Option Block) (least line after : Option ℕ) (k : BlockName)
+    → Turned s t all left least → ((b : BlockName) → fewer b ≡ (if same_block k b then None else left b))
+    → ((b : BlockName) → next b ≡ (if same_block k b then with_block (left k) (t k) else t b)) → line ≡ line_after k (t k) (left k) → after ≡ least_line least line
     → Turned s next all fewer after
-turned-next s t next all left fewer least line after k c h is less more e a =
+turned-next s t next all left fewer least line after k h less more e a =
     record {
-      joined = λ b. block-joined k c t next left fewer is less more b ∙ h.joined b;
-      among = λ bs m. block-among k c t next left fewer is less more bs (h.among bs m);
+      joined = λ b. block-joined k (left k) t next left fewer refl less more b ∙ h.joined b;
+      among = λ bs m. block-among k (left k) t next left fewer refl less more bs (h.among bs m);
       line = λ bs m.
           ap (λ l. least_line l (least_of_left bs next fewer)) a
-          ∙ (block-turn k c t next left fewer is less more bs least line (h.among bs m) e ∙ h.line bs m);
+          ∙ (block-turn k (left k) t next left fewer refl less more bs least line (h.among bs m) e ∙ h.line bs m);
     }
 
 pub turned-end : (s t : BlockName → Summed) (all left : BlockName → Option Block) (least : Option ℕ) → Turned s t all left least → ((b : BlockName) → left b ≡ None)
@@ -153,16 +154,27 @@ turned-end s t all left least h none = (
   λ bs m. sym (least_line-none least) ∙ (ap (least_line least) (sym (none-left bs t left none)) ∙ h.line bs m),
 )
 
--- ---- a summary that a table gets
-
-pub summary-noted : (k b : BlockName) (s : Summary) (before after new : Option Summary) (t : Summed) → new ≡ cond (option_eq name_eq k b) (Some s) after
-    → (same_block k b ≡ false → after ≡ before) → summed s ≡ t → summed_at new ≡ (if same_block k b then t else summed_at before)
-summary-noted k b s before after new t e h f = ap summed_at (e ∙ changed k b (Some s) after) ∙ by (same_block k b) h
+-- of a loop over names, those that are left have all blocks that are left
+pub among-next : (k : BlockName) (ks : List BlockName) (left fewer : BlockName → Option Block) → ((b : BlockName) → fewer b ≡ (if same_block k b then None else left b)) → AreAmong (k ∷ ks) left → AreAmong ks fewer
+among-next k ks left fewer less h b e = by (same_block k b) refl
   where
-    by : (x : Bool) → (x ≡ false → after ≡ before) → summed_at (if x then Some s else after) ≡ (if x then t else summed_at before)
-    by true g = f
-    by false g = ap summed_at (g refl)
+    other : same_block k b ≡ false → (t : Bool) → same_block b k ≡ t → (t || is_block_among b ks) ≡ true → is_block_among b ks ≡ true
+    other n true s m = absurd (true≢false (sym (block-self b) ∙ (ap (λ x. same_block x b) (block-equal b k s) ∙ n)))
+    other n false s m = m
 
-pub less-mapped : {A B : Type 0} (f : A → B) (t : Bool) (o : Option A) → option_map f (if t then None else o) ≡ (if t then None else option_map f o)
-less-mapped f true o = refl
-less-mapped f false o = refl
+    by : (t : Bool) → same_block k b ≡ t → is_block_among b ks ≡ true
+    by true n = absurd (true≢false (sym e ∙ ap is_some (less b ∙ ap (λ x. if x then None else left b) n)))
+    by false n = other n (same_block b k) refl (h b (ap is_some (sym (less b ∙ ap (λ x. if x then None else left b) n)) ∙ e))
+
+none-among : (left : BlockName → Option Block) → AreAmong [] left → (b : BlockName) → left b ≡ None
+none-among left h b = by (left b) refl
+  where
+    by : (o : Option Block) → left b ≡ o → left b ≡ None
+    by None n = n
+    by (Some c) n = absurd (true≢false (sym (h b (ap is_some n))))
+
+pub all-settled : (ks : List BlockName) (i : ℕ) (left : BlockName → Option Block) → length ks ≤ i → AreAmong (drop i ks) left → (b : BlockName) → left b ≡ None
+all-settled ks i left k h = none-among left (subst (λ js. AreAmong js left) (drop_all i ks k) h)
+
+pub left-same : (bs : List BlockName) (s t : BlockName → Summed) (left : BlockName → Option Block) → ((b : BlockName) → s b ≡ t b) → least_of_left bs s left ≡ least_of_left bs t left
+left-same bs s t left h = least_line_of-same (λ b. line_after b (s b) (left b)) (λ b. line_after b (t b) (left b)) (λ b. ap (λ x. line_after b x (left b)) (h b)) bs

@@ -6,9 +6,9 @@ use Rattle.hep_check.specs.Reported.{least_line, line_when, least_line_of}
 use Rattle.hep_storage.specs.Blocks.{KnownPlaces, Block, block_in}
 use Rattle.hep_runs.specs.Runs.{positions_in}
 use Rattle.hep_storage.specs.Shared.{departs, in_common}
-use Rattle.hep_storage.specs.declared.agreement.Lengths.{Lengths}
-use Rattle.hep_storage.specs.declared.agreement.Lengths.TheVariants as lengths
-use Rattle.hep_storage.specs.declared.agreement.Summary.{Summary}
+use Rattle.hep_storage.specs.declared.summary.Lengths.{Lengths}
+use Rattle.hep_storage.specs.declared.summary.Lengths.TheVariants as lengths
+use Rattle.hep_storage.specs.declared.summary.Summary.{Summary}
 use Rattle.hep_runs.specs.declared.runs.Position.{Position}
 
 -- ---- lengths
@@ -46,10 +46,6 @@ nothing_summed = record { positions = []; is_cut = false; lengths = lengths.Open
 
 abbrev pub summed : Summary → Summed
 summed s = record { positions = positions_in s.shared.runs.items; is_cut = s.shared.is_cut; lengths = s.lengths }
-
-abbrev pub summed_at : Option Summary → Summed
-summed_at None = nothing_summed
-summed_at (Some s) = summed s
 
 abbrev pub with_list : KnownPlaces → Summed → Summed
 with_list k s =

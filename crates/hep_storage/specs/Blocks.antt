@@ -10,7 +10,7 @@ use Rattle.hep_machine.specs.Data.{Repeated}
 use Rattle.hep_machine.specs.Declarations.{BlockName, same_block, block_of, common_block, entries_under, names_declared}
 use Rattle.hep_check.specs.Common as conditions
 use Rattle.hep_check.specs.Known.{Known as Items}
-use Rattle.hep_storage.specs.declared.blocks.Contents.{Contents}
+use Rattle.hep_storage.specs.declared.contents.Contents.{Contents}
 use Rattle.hep_runs.specs.declared.runs.Known.{Known}
 use Rattle.hep_runs.specs.Runs.{positions_in}
 use Rattle.hep_runs.specs.Spread.{repeat_before}

@@ -1,3 +1,4 @@
 pub mod Shared
 pub mod Blocks
 pub mod Agreement
+pub mod Table

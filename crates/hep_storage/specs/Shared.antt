@@ -1,6 +1,7 @@
 -- What the lists of a common block in several units have in common: X3.9-1978, 8.3.
-use Rattle.std.specs.Prelude.{◌≡◌, Bool, true, false, not, ◌||◌, if◌then◌else◌, List, [], ◌∷◌}
-use Rattle.hep_runs.specs.Runs.{alike, positions_in, IsPlace, front}
+use Rattle.std.specs.Prelude.{◌≡◌, Bool, true, false, not, ◌&&◌, ◌||◌, if◌then◌else◌, List, [], ◌∷◌}
+use Rattle.hep_machine.specs.Declarations.{is_nonempty}
+use Rattle.hep_runs.specs.Runs.{alike, positions_in, IsPlace, front, rest}
 use Rattle.hep_storage.specs.declared.common.Comparison.{Comparison}
 use Rattle.hep_storage.specs.declared.common.Comparison.TheVariants.{Parted, Within, Beyond}
 use Rattle.hep_runs.specs.declared.runs.Position.{Position}
@@ -27,11 +28,18 @@ in_common cut [] qs = if cut then record { positions = []; is_cut = true } else 
 in_common cut (p ∷ ps) [] = record { positions = p ∷ ps; is_cut = cut }
 in_common cut (p ∷ ps) (q ∷ qs) = if alike p q then with_position p (in_common cut ps qs) else record { positions = []; is_cut = true }
 
--- how a list compares with the places that several lists have in common
+-- how a list compares with the places that several lists have in common: whether it departs from them, and what they have in
+-- common then
 abbrev pub Compares : List Run → List Run → Comparison → Type 0
 Compares rs qs (Parted p) =
-    IsPlace p rs × ((cut : Bool) → in_common cut (positions_in rs) (positions_in qs) ≡ record { positions = front p rs; is_cut = true })
-Compares rs qs Within = (cut : Bool) → in_common cut (positions_in rs) (positions_in qs) ≡ record { positions = positions_in rs; is_cut = cut }
-Compares rs qs Beyond =
-    (cut : Bool) → in_common cut (positions_in rs) (positions_in qs)
-    ≡ (if cut then record { positions = positions_in rs; is_cut = true } else record { positions = positions_in qs; is_cut = false })
+    IsPlace p rs
+    × ((cut : Bool) → departs cut (positions_in rs) (positions_in qs) ≡ true)
+    × ((cut : Bool) → in_common cut (positions_in rs) (positions_in qs) ≡ record { positions = front p rs; is_cut = true })
+Compares rs qs Within =
+    ((cut : Bool) → departs cut (positions_in rs) (positions_in qs) ≡ false)
+    × ((cut : Bool) → in_common cut (positions_in rs) (positions_in qs) ≡ record { positions = positions_in rs; is_cut = cut })
+Compares rs qs (Beyond q) =
+    IsPlace q qs
+    × ((cut : Bool) → departs cut (positions_in rs) (positions_in qs) ≡ (cut && is_nonempty (rest q qs)))
+    × ((cut : Bool) → in_common cut (positions_in rs) (positions_in qs)
+    ≡ (if cut then record { positions = positions_in rs; is_cut = true } else record { positions = positions_in qs; is_cut = false }))

@@ -6,6 +6,7 @@ ghost use Rattle.hep_storage.specs.Shared.{departs, in_common, Compares};
 
 use hep_runs::{Place, Run, meet};
 use std::alloc::Global;
+use std::mem::swap;
 
 /// What several lists have at the places up to which they agree. Where it is cut, two of them go on
 /// otherwise.
@@ -44,8 +45,8 @@ enum Comparison {
     Parted(Place),
     // It has no place behind the other one.
     Within,
-    // It has all places of the other one.
-    Beyond,
+    // It has all places of the other one, and goes on at this place of its own.
+    Beyond(Place),
 }
 
 fn compare(runs: &[Run], list: &[Run]) -> Comparison
@@ -53,23 +54,12 @@ fn compare(runs: &[Run], list: &[Run]) -> Comparison
 {
     let at = meet(runs, list);
     if at.first.run == runs.len() {
-        Comparison::Beyond
+        Comparison::Beyond(at.second)
     } else if at.second.run == list.len() {
         Comparison::Within
     } else {
         Comparison::Parted(at.first)
     }
-}
-
-// A list has something else at some place, or more places where these are cut.
-fn departs_from(runs: &[Run], is_cut: bool, list: &[Run]) -> bool
-    ensures { result ≡ departs is_cut (positions_in runs.now) (positions_in list.now) }
-{
-    let at = meet(runs, list);
-    if at.first.run == runs.len() {
-        return is_cut && has_more(list, at.second);
-    }
-    at.second.run < list.len()
 }
 
 // Leaves what stands before a place.
@@ -100,28 +90,27 @@ impl Shared {
         }
     }
 
-    /// A list has something else at some place than one of those.
-    pub fn departs(&self, list: &[Run]) -> bool
-        ensures { result ≡ departs self.now.is_cut (positions_in self.now.runs.items) (positions_in list.now) }
+    /// With one list more; whether it has something else at some place than one of those. It may be taken, and another one
+    /// of no use left in its place, so that nothing is copied.
+    pub fn add(&mut self, list: &mut Vec<Run>) -> bool
+        ensures departs { result ≡ departs self.old.is_cut (positions_in self.old.runs.items) (positions_in list.old.items) }
+        ensures places { positions_in self.new.runs.items
+            ≡ (in_common self.old.is_cut (positions_in self.old.runs.items) (positions_in list.old.items)).positions }
+        ensures cut { self.new.is_cut ≡ (in_common self.old.is_cut (positions_in self.old.runs.items) (positions_in list.old.items)).is_cut }
     {
-        departs_from(&self.runs, self.is_cut, list)
-    }
-
-    /// With one list more.
-    pub fn add(&mut self, list: Vec<Run>)
-        ensures places { positions_in self.new.runs.items ≡ (in_common self.old.is_cut (positions_in self.old.runs.items) (positions_in list.items)).positions }
-        ensures cut { self.new.is_cut ≡ (in_common self.old.is_cut (positions_in self.old.runs.items) (positions_in list.items)).is_cut }
-    {
-        match compare(&self.runs, &list) {
+        match compare(&self.runs, list) {
             Comparison::Parted(place) => {
                 cut(&mut self.runs, place);
                 self.is_cut = true;
+                true
             }
-            Comparison::Within => {}
-            Comparison::Beyond => {
-                if !self.is_cut {
-                    self.runs = list;
+            Comparison::Within => false,
+            Comparison::Beyond(place) => {
+                if self.is_cut {
+                    return has_more(list, place);
                 }
+                swap(&mut self.runs, list);
+                false
             }
         }
     }

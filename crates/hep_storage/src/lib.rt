@@ -4,5 +4,8 @@
 mod agreement;
 mod blocks;
 mod common;
+mod contents;
+mod summary;
+mod table;
 
 pub use agreement::common_violation;

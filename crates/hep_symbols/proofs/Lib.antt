@@ -5,3 +5,4 @@ pub mod Trees
 pub mod Passes
 pub mod Owned
 pub mod PartsGiven
+pub mod Typed

@@ -28,6 +28,19 @@ module _ {A : Type 0} (name x : Name) (value : A) (old : Name → Option A) wher
       by true e = rw (equal_names x name e, h) refl
       by false e = sym (or-none (old x))
 
+  -- a value that a name has, put back
+  pub put-back : (before : A) (mid new : Option A) → old name ≡ Some before → mid ≡ cond (name_eq name x) (Some value) (old x) → new ≡ cond (name_eq name x) (Some before) mid
+      → new ≡ option_or (old x) (by_name name value x)
+  put-back before mid new h m n = by (same_name x name) refl (name_eq-is name x ∙ same_name-turned name x)
+    where
+      by : (b : Bool) → same_name x name ≡ b → name_eq name x ≡ same_name x name → new ≡ option_or (old x) (if b then Some value else None)
+      by true e t =
+          n ∙ (ap (λ c. cond c (Some before) mid) (t ∙ e)
+          ∙ sym (ap (λ o. option_or o (Some value)) (ap old (equal_names x name e) ∙ h)))
+      by false e t =
+          n ∙ (ap (λ c. cond c (Some before) mid) (t ∙ e)
+          ∙ (m ∙ (ap (λ c. cond c (Some value) (old x)) (t ∙ e) ∙ sym (or-none (old x)))))
+
   pub kept : is_some (old name) ≡ true → old x ≡ option_or (old x) (by_name name value x)
   kept h = by (same_name x name) refl
     where

@@ -22,6 +22,10 @@ use Rattle.hep_check.specs.Violations.{Violations, when, at_occurrence}
 abbrev pub untyped : List Statement → ℕ → Occurrence → Violations
 untyped unit line p = when (is_none (type_of unit p.name)) (at_occurrence 301 line p)
 
+-- a name has a type
+abbrev pub is_typed : List Statement → Name → Bool
+is_typed unit x = not (is_none (type_of unit x))
+
 -- ---- 303
 
 abbrev pub line_of : Statement → ℕ

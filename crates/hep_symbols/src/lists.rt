@@ -1,11 +1,13 @@
 //! The names with lists in a statement.
-ghost use Rattle.std.specs.Prelude.{◌≡◌, ◌++◌, map, IfOk, OnOk};
+ghost use Rattle.std.specs.Prelude.{◌≡◌, ◌++◌, [], false, map, IfOk, OnOk};
+ghost use Rattle.std.specs.List.{flat_map};
 ghost use Rattle.hep_source.specs.Tree.{trees_of};
+ghost use Rattle.hep_machine.specs.Declarations.{entries_of_blocks};
 ghost use Rattle.hep_check.specs.Statements as statements;
 ghost use Rattle.hep_symbols.specs.Lists.{listed};
 
 use crate::parts::{Part, parts_of};
-use hep_source::{Expr, Node, Occurrence, Statement};
+use hep_source::{CommonBlock, Declarator, Expr, Form, Node, Occurrence, Statement};
 use std::alloc::{AllocError, Global};
 
 /// A name with a list, where it stands in an expression (X3.9-1978, 5.3 and 15.2).
@@ -59,6 +61,42 @@ fn add_in_list<'a>(found: &mut Found<'a>, list: &'a [Expr]) -> Result<(), AllocE
     }
 }
 
+// Some name has bounds; where none has, there are no expressions.
+fn have_bounds(entries: &[Declarator]) -> bool
+    ensures { result ≡ false → flat_map statements.trees_in_declarator entries.now ≡ [] }
+{
+    for entry in entries {
+        if !entry.dimensions.as_slice().is_empty() {
+            return true;
+        }
+    }
+    false
+}
+
+fn have_bounds_in_blocks(blocks: &[CommonBlock]) -> bool
+    ensures { result ≡ false → flat_map statements.trees_in_declarator (entries_of_blocks blocks.now) ≡ [] }
+{
+    for block in blocks {
+        if have_bounds(block.entries.as_slice()) {
+            return true;
+        }
+    }
+    false
+}
+
+// A statement may have expressions. One that only lists names of COMMON has none: most names of programs with large
+// common blocks stand there, so that they are passed over here.
+fn may_have_expressions(statement: &Statement) -> bool
+    ensures { result ≡ false → statements.names_with_lists statement.now ≡ [] }
+{
+    match &statement.form {
+        Form::Common(blocks) => {
+            !statement.conditions.as_slice().is_empty() || have_bounds_in_blocks(blocks.as_slice())
+        }
+        _ => true,
+    }
+}
+
 /// The names with lists in the expressions of a statement, in the order of its text.
 ///
 /// # Errors
@@ -71,8 +109,11 @@ pub fn names_with_lists(
 ) -> Result<Vec<NameWithList<'_>>, AllocError>
     ensures { IfOk result (λ found. map listed found.items ≡ statements.names_with_lists statement.now) }
 {
-    let parts = parts_of(alloc, statement)?;
     let mut found = Vec::new(alloc);
+    if !may_have_expressions(statement) {
+        return Ok(found);
+    }
+    let parts = parts_of(alloc, statement)?;
     for part in &parts {
         if let Part::Expression(expression) = part {
             add_in(&mut found, expression)?;

@@ -37,7 +37,7 @@ pub(crate) fn names_of(alloc: Global, arrays: &Arrays) -> Result<NameSet, AllocE
 {
     let occurrences = occurrences_of(alloc, arrays)?;
     let mut names = NameSet {
-        set: IndexSet::new(alloc),
+        set: IndexSet::with_capacity(alloc, occurrences.len())?,
     };
     add_names(&mut names.set, &occurrences)?;
     Ok(names)

@@ -79,6 +79,25 @@ fn note_blocks(
     Ok(())
 }
 
+fn entry_count(blocks: &[CommonBlock]) -> usize {
+    let mut count: usize = 0;
+    for block in blocks {
+        count = count.saturating_add(block.entries.as_slice().len());
+    }
+    count
+}
+
+// How many names there are in COMMON, so that their table has room at once.
+fn common_count(unit: &[Statement]) -> usize {
+    let mut count: usize = 0;
+    for statement in unit {
+        if let Form::Common(named) = &statement.form {
+            count = count.saturating_add(entry_count(named.as_slice()));
+        }
+    }
+    count
+}
+
 // The block in which each name of COMMON is (8.3); none for blank COMMON.
 pub(crate) fn common_blocks(
     alloc: Global,
@@ -86,7 +105,7 @@ pub(crate) fn common_blocks(
 ) -> Result<Table<Option<Name>>, AllocError>
     ensures { IfOk result (λ blocks. (x : PureName) → get name_eq blocks.map x ≡ tables.first_in (tables.block_by_form x) unit.now) }
 {
-    let mut blocks = IndexMap::new(alloc);
+    let mut blocks = IndexMap::with_capacity(alloc, common_count(unit))?;
     for statement in unit {
         if let Form::Common(named) = &statement.form {
             note_blocks(&mut blocks, named.as_slice())?;

@@ -43,8 +43,9 @@ pub(crate) fn note<V: Drop>(
     ensures { OnOk result ((x : PureName) → get name_eq table.new x
         ≡ option_or (get name_eq table.old x) (by_name name value x)) }
 {
-    if !table.contains_key(&name) {
-        table.insert(name, value)?;
+    // One look-up: most names are new.
+    if let Some(before) = table.insert(name, value)? {
+        table.insert(name, before)?;
     }
     Ok(())
 }

@@ -1,6 +1,6 @@
 //! 301: a variable or named constant has no type (X3.9-1978, 4.1.2, 8.4 and 8.5).
 ghost use Rattle.std.specs.Prelude.{◌≡◌, IfOk};
-ghost use Rattle.std.specs.List.{flat_map};
+ghost use Rattle.std.specs.List.{flat_map, list_all};
 ghost use Rattle.hep_check.specs.Names as conditions;
 ghost use Rattle.hep_check.specs.Violations.{first_of};
 ghost use Rattle.hep_symbols.specs.Passes as passes;
@@ -9,7 +9,7 @@ use crate::occurrences::occurrences;
 use crate::symbols::Symbols;
 use hep_check::Violation;
 use hep_check::reported::{first_of_two, violation_by};
-use hep_source::{Occurrence, Statement};
+use hep_source::{Name, Occurrence, Statement};
 use std::alloc::{AllocError, Global};
 
 fn untyped(symbols: &Symbols, line: u32, occurrence: &Occurrence) -> Option<Violation>
@@ -43,6 +43,18 @@ fn untyped_in(
     Ok(first_untyped(symbols, statement.line, &occurrences))
 }
 
+// All names of a unit have types: then no statement has to be looked at.
+fn are_typed(symbols: &Symbols, names: &[Name]) -> bool
+    ensures { result ≡ list_all (passes.is_typed symbols.now) names.now }
+{
+    for name in names {
+        if symbols.type_of(name).is_none() {
+            return false;
+        }
+    }
+    true
+}
+
 /// The first violation of 301 in a unit: a variable or named constant that has no type.
 ///
 /// # Errors
@@ -54,6 +66,9 @@ pub fn type_missing_violation(
 ) -> Result<Option<Violation>, AllocError>
     ensures { IfOk result (λ violation. violation ≡ first_of (conditions.type_missing_violations symbols.now)) }
 {
+    if are_typed(symbols, symbols.names().as_slice()) {
+        return Ok(None);
+    }
     let mut first = None;
     for statement in symbols.statements() {
         first = first_of_two(first, untyped_in(alloc, symbols, statement)?);

@@ -1,5 +1,5 @@
 -- 309 by lines.
-use Rattle.std.proofs.Common.{◌≡◌, ℕ, ◌<◌, ◌+◌, max, length, get_or, drop, Bool, true, false, ◌||◌, Option, Some, None, List, [], ◌∷◌, ◌++◌, refl, ◌∙◌, sym, ap, arith, cond}
+use Rattle.std.proofs.Common.{◌≡◌, ℕ, ◌<◌, ◌+◌, max, length, get_or, drop, Bool, true, false, ◌||◌, Option, Some, None, List, [], ◌∷◌, ◌++◌, refl, ◌∙◌, sym, ap, arith, cond, true≢false}
 use Rattle.std.specs.List.{flat_map, list_any}
 use Rattle.std.specs.Option.{option_map}
 use Rattle.std.proofs.lemmas.Bool.Decides.{nat_tests}
@@ -9,10 +9,12 @@ use Rattle.hep_source.specs.declared.statement.Statement.{Statement}
 use Rattle.hep_source.specs.Names.{name_eq, same_name}
 use Rattle.hep_source.proofs.NameTests.{equal_names, name_eq-is, same_name-turned}
 use Rattle.hep_source.specs.Units.{Units}
+use Rattle.hep_machine.specs.Declarations.{is_nonempty}
 use Rattle.hep_check.specs.Names.{Use, overlap, letter_ranges_of, letters_repeated, uses_by, repeated, both_ways, given_twice, used_both_ways, misused_constants, dummy_names, typed_names, bounded_names, common_names, constant_names, data_names, assigned_names, called_names, variable_names, ambiguous_in, unit_uses, block_names, ambiguous_units}
 use Rattle.hep_check.specs.Reported.{reported, least_line, line_when, least_line_of}
 use Rattle.hep_check.specs.Violations.{first_of, when, at_line, repeated_after}
 use Rattle.hep_check.proofs.Lines.{reported-append, reported-of, reported-when, least_line-assoc, least_line-none, least_line_of-same, least_line_of-turned}
+use Rattle.hep_uses.specs.declared.uses.Way.{Way}
 use Rattle.hep_uses.specs.declared.uses.Way.TheVariants.{Dummy, Common, Constant, Called, Variable}
 use Rattle.hep_uses.specs.Uses.{uses_of}
 use Rattle.hep_uses.specs.Ambiguous.{with_seen, least_repeated, least_repeated_name, least_given_twice, least_named, later_line, least_met, least_both_ways, least_of_two_ways, least_misused, least_overlapping, given_once, no_constants, least_ambiguous, least_ambiguous_unit}
@@ -160,3 +162,20 @@ reported-ambiguous_units program =
     let blocks = flat_map (uses_by block_names) program in
     reported-append 309 (repeated units) (both_ways units blocks) (least_repeated_name units) (least_both_ways units blocks)
     (reported-repeated same_name [] units) (reported-both_ways units blocks)
+
+-- ---- nothing is used in one of two ways
+
+pub no-items : {A : Type 0} (xs : List A) → is_nonempty xs ≡ false → xs ≡ []
+no-items [] h = refl
+no-items (x ∷ xs) h = absurd (true≢false h)
+
+met-none : (ws : List Use) → least_met (λ x. None) ws ≡ None
+met-none [] = refl
+met-none (w ∷ ws) = met-none ws
+
+pub both-none : (us ws : List Use) → us ≡ [] → least_both_ways us ws ≡ None
+both-none us ws e = ap (λ vs. least_both_ways vs ws) e ∙ met-none ws
+
+pub misused-none : (unit : List Statement) (ways : List Way) → uses_of Constant unit ≡ [] → least_misused unit ways ≡ None
+misused-none unit [] e = refl
+misused-none unit (way ∷ ways) e = ap (λ l. least_line l (least_misused unit ways)) (both-none (uses_of Constant unit) (uses_of way unit) e) ∙ misused-none unit ways e

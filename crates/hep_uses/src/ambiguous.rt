@@ -2,11 +2,12 @@
 ghost use Rattle.std.specs.Prelude.{◌≡◌, IfOk};
 ghost use Rattle.hep_check.specs.Names as conditions;
 ghost use Rattle.hep_check.specs.Violations.{first_of};
+ghost use Rattle.hep_machine.specs.Declarations.{is_nonempty};
 ghost use Rattle.hep_uses.specs.Ambiguous as passes;
 
 use crate::letters::{least_overlapping, letter_ranges};
 use crate::repeated::{least_both_ways, least_met, least_repeated, lines_by_name};
-use crate::uses::{Way, uses_in_program, uses_of};
+use crate::uses::{Use, Way, uses_in_program, uses_of};
 use hep_check::Violation;
 use hep_check::reported::{lesser, reported};
 use hep_symbols::{ProgramSymbols, Symbols};
@@ -28,15 +29,26 @@ fn least_given_twice(
     Ok(least)
 }
 
+// There are uses at all: where there are none, nothing else has to be looked at.
+fn are_some(uses: &[Use]) -> bool
+    ensures { result ≡ is_nonempty uses.now }
+{
+    !uses.is_empty()
+}
+
 // The least line at which a constant is used in one of these ways too.
 fn least_misused(alloc: Global, symbols: &Symbols, ways: &[Way]) -> Result<Option<u32>, AllocError>
     ensures { IfOk result (λ line. line ≡ passes.least_misused symbols.now ways.now) }
 {
-    let constants = lines_by_name(alloc, &uses_of(alloc, symbols, Way::Constant)?)?;
+    let constants = uses_of(alloc, symbols, Way::Constant)?;
+    if !are_some(&constants) {
+        return Ok(None);
+    }
+    let lines = lines_by_name(alloc, &constants)?;
     let mut least = None;
     for way in ways {
         let uses = uses_of(alloc, symbols, *way)?;
-        least = lesser(least, least_met(&constants, &uses));
+        least = lesser(least, least_met(&lines, &uses));
     }
     Ok(least)
 }
@@ -51,6 +63,9 @@ fn least_of_two_ways(
     ensures { IfOk result (λ line. line ≡ passes.least_of_two_ways symbols.now one other) }
 {
     let uses = uses_of(alloc, symbols, one)?;
+    if !are_some(&uses) {
+        return Ok(None);
+    }
     let others = uses_of(alloc, symbols, other)?;
     least_both_ways(alloc, &uses, &others)
 }

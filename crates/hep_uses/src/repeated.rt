@@ -26,7 +26,7 @@ fn add(seen: &mut IndexSet<Name>, name: Name) -> Result<bool, AllocError>
 pub(crate) fn least_repeated(alloc: Global, uses: &[Use]) -> Result<Option<u32>, AllocError>
     ensures { IfOk result (λ line. line ≡ passes.least_repeated_name uses.now) }
 {
-    let mut seen = IndexSet::new(alloc);
+    let mut seen = IndexSet::with_capacity(alloc, uses.len())?;
     let mut least = None;
     for (name, line) in uses {
         let is_repeated = add(&mut seen, *name)?;

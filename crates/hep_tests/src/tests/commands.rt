@@ -7,11 +7,20 @@ use std::test::Fail;
 const ONE: &[u8] = b"      PRINT *,1+2\n      END\n";
 
 // What a call wrote to both outputs, and its status.
-#[derive(Drop)]
 struct Written {
     output: Vec<u8>,
     messages: Vec<u8>,
     run: Run,
+}
+
+impl Drop for Written {
+    fn drop(self) {
+        let Written {
+            output,
+            messages,
+            run,
+        } = self;
+    }
 }
 
 // In an arena of ten cells.

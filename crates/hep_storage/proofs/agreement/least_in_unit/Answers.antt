@@ -1,35 +1,51 @@
-use Rattle.std.proofs.Common.{ap, ◌∙◌}
-use Rattle.std.specs.Option.{option_eq, option_map}
+use Rattle.std.proofs.Common.{◌≤◌, ◌+◌, subst, length, drop, arith}
+use Rattle.std.proofs.lemmas.List.{drop_more}
+use Rattle.std.specs.Option.{option_eq}
 use Rattle.indexmap.specs.IndexMap.{get}
 use Rattle.hep_source.specs.Names.{name_eq}
-use Rattle.hep_machine.specs.Declarations.{same_block}
-use Rattle.hep_storage.specs.Agreement.{summed_at}
-use Rattle.hep_storage.specs.Blocks.{block}
-use Rattle.hep_storage.proofs.Turns.{turned-start, turned-next, turned-end, less-mapped}
+use Rattle.hep_storage.specs.Agreement.{AreAmong}
+use Rattle.hep_storage.specs.Table.{block_at, summed_in}
+use Rattle.hep_storage.proofs.Turns.{turned-start, turned-next, turned-end, among-next, all-settled}
 use Rattle.hep_storage.proofs.agreement.least_in_unit.Goals as goal
 
 pub loop-block-init : goal.loop-block-init
-loop-block-init c = turned-start _ _
+loop-block-init c = record { turned = turned-start _ _; among = c.requires }
 
 pub loop-block-preserved : goal.loop-block-preserved
 loop-block-preserved c =
-    let k = c.in-Some.block in
-    turned-next (λ b. summed_at (get (option_eq name_eq) c.args.summaries.now b)) (λ b. summed_at (get (option_eq name_eq) c.loop-block.summaries b))
-    (λ b. summed_at (get (option_eq name_eq) c.note.new.summaries b)) (λ b. option_map block (get (option_eq name_eq) c.args.table b))
-    (λ b. option_map block (get (option_eq name_eq) c.loop-block.left b)) (λ b. option_map block (get (option_eq name_eq) c.take_block.new.table b))
-    c.loop-block.least c.in_ok-note.field-0 c.lesser-least.result k (block c.in-Some.contents) c.loop-block.invariant
-    (ap (option_map block) c.in-Some.ensures.found)
-    (λ b. ap (option_map block) (c.in-Some.ensures.others b) ∙ less-mapped block (same_block k b) (get (option_eq name_eq) c.loop-block.left b))
-    c.in_ok-note.ensures.added c.in_ok-note.ensures.line c.lesser-least.ensures
+    let first = get (option_eq name_eq) c.args.table.now in
+    let old = get (option_eq name_eq) c.loop-block.table in
+    let new = get (option_eq name_eq) c.settle.new.table in
+    let i = c.loop-block.block-index in
+    record {
+      turned =
+          turned-next (λ b. summed_in (first b)) (λ b. summed_in (old b)) (λ b. summed_in (new b)) (λ b. block_at (first b)) (λ b. block_at (old b)) (λ b. block_at (new b))
+          c.loop-block.least c.settle.result c.lesser-least.result _ c.loop-block.invariant.turned c.settle.ensures.left c.settle.ensures.added c.settle.ensures.line c.lesser-least.ensures;
+      among =
+          among-next _ (drop (i + 1) c.args.named.now) (λ b. block_at (old b)) (λ b. block_at (new b)) c.settle.ensures.left
+          (subst (λ ks. AreAmong ks (λ b. block_at (old b))) (drop_more c.args.named.now i _ c.loop-block-test.true) c.loop-block.invariant.among);
+    }
+
+pub returns-clause-none : goal.returns-clause-none
+returns-clause-none c =
+    let e = c.loop-block-test.false in
+    let k : length c.args.named.now ≤ c.loop-block.block-index = omega arith in
+    all-settled c.args.named.now c.loop-block.block-index (λ b. block_at (get (option_eq name_eq) c.loop-block.table b)) k c.loop-block.invariant.among
 
 pub returns-clause-line : goal.returns-clause-line
 returns-clause-line c =
-    (turned-end (λ b. summed_at (get (option_eq name_eq) c.args.summaries.now b)) (λ b. summed_at (get (option_eq name_eq) c.loop-block.summaries b))
-    (λ b. option_map block (get (option_eq name_eq) c.args.table b)) (λ b. option_map block (get (option_eq name_eq) c.loop-block.left b))
-    c.loop-block.least c.loop-block.invariant (λ b. ap (option_map block) (c.in_default.ensures.none b))).1
+    let first = get (option_eq name_eq) c.args.table.now in
+    let last = get (option_eq name_eq) c.loop-block.table in
+    let e = c.loop-block-test.false in
+    let k : length c.args.named.now ≤ c.loop-block.block-index = omega arith in
+    let none = all-settled c.args.named.now c.loop-block.block-index (λ b. block_at (last b)) k c.loop-block.invariant.among in
+    (turned-end (λ b. summed_in (first b)) (λ b. summed_in (last b)) (λ b. block_at (first b)) (λ b. block_at (last b)) c.loop-block.least c.loop-block.invariant.turned none).1
 
 pub returns-clause-added : goal.returns-clause-added
 returns-clause-added c =
-    (turned-end (λ b. summed_at (get (option_eq name_eq) c.args.summaries.now b)) (λ b. summed_at (get (option_eq name_eq) c.loop-block.summaries b))
-    (λ b. option_map block (get (option_eq name_eq) c.args.table b)) (λ b. option_map block (get (option_eq name_eq) c.loop-block.left b))
-    c.loop-block.least c.loop-block.invariant (λ b. ap (option_map block) (c.in_default.ensures.none b))).0
+    let first = get (option_eq name_eq) c.args.table.now in
+    let last = get (option_eq name_eq) c.loop-block.table in
+    let e = c.loop-block-test.false in
+    let k : length c.args.named.now ≤ c.loop-block.block-index = omega arith in
+    let none = all-settled c.args.named.now c.loop-block.block-index (λ b. block_at (last b)) k c.loop-block.invariant.among in
+    (turned-end (λ b. summed_in (first b)) (λ b. summed_in (last b)) (λ b. block_at (first b)) (λ b. block_at (last b)) c.loop-block.least c.loop-block.invariant.turned none).0

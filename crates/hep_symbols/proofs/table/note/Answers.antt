@@ -1,11 +1,14 @@
 use Rattle.std.proofs.Common.{◌∙◌, sym}
 use Rattle.indexmap.specs.IndexMap.{get}
 use Rattle.hep_source.specs.Names.{name_eq}
-use Rattle.hep_symbols.proofs.Notes.{noted, kept, none-from-not}
+use Rattle.hep_symbols.proofs.Notes.{noted, put-back}
 use Rattle.hep_symbols.proofs.table.note.Goals as goal
 
 pub returns-in_ok-insert : goal.returns-in_ok-insert
-returns-in_ok-insert g c = λ x. c.in_ok-insert.ensures.updates.0 x ∙ noted c.args.name x c.args.value (get name_eq c.args.table.now) (none-from-not _ (sym c.contains_key.ensures ∙ c.if-not-contains_key.true))
+returns-in_ok-insert g c = λ x.
+    put-back c.args.name x c.args.value (get name_eq c.args.table.now) c.in-Some.before (get name_eq c.insert.new.self x) (get name_eq c.insert-in-Some.new.self x)
+    (sym c.in_ok-before.ensures.old ∙ c.in-Some.is) (c.in_ok-before.ensures.updates.0 x) (c.in_ok-insert.ensures.updates.0 x)
 
-pub returns-else-not-contains_key : goal.returns-else-not-contains_key
-returns-else-not-contains_key g c = λ x. kept c.args.name x c.args.value (get name_eq c.args.table.now) (sym c.contains_key.ensures ∙ c.if-not-contains_key.false)
+pub returns-in_default : goal.returns-in_default
+returns-in_default g c = λ x.
+    c.in_ok-before.ensures.updates.0 x ∙ noted c.args.name x c.args.value (get name_eq c.args.table.now) (sym c.in_ok-before.ensures.old ∙ c.in_default.is)

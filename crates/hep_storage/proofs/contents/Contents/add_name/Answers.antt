@@ -3,7 +3,7 @@ use Rattle.indexmap.specs.IndexSet.{contains}
 use Rattle.hep_source.specs.Names.{name_eq}
 use Rattle.hep_storage.specs.Blocks.{known}
 use Rattle.hep_storage.proofs.Listings.{holds-first, holds-other}
-use Rattle.hep_storage.proofs.blocks.Contents.add_name.Goals as goal
+use Rattle.hep_storage.proofs.contents.Contents.add_name.Goals as goal
 
 pub returns-in_ok-add_run-clause-known : goal.returns-in_ok-add_run-clause-known
 returns-in_ok-add_run-clause-known c = λ xs n h.

@@ -1,6 +1,6 @@
 use Rattle.std.proofs.Common.{◌≡◌, ◌+◌, ◌∙◌, sym, arith}
 use Rattle.hep_storage.proofs.Joins.{joined-places}
-use Rattle.hep_storage.proofs.blocks.joined.Goals as goal
+use Rattle.hep_storage.proofs.contents.joined.Goals as goal
 
 pub returns-in-Some : goal.returns-in-Some
 returns-in-Some c =

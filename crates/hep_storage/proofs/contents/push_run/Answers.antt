@@ -1,5 +1,5 @@
 use Rattle.hep_storage.proofs.Joins.{last-put}
-use Rattle.hep_storage.proofs.blocks.push_run.Goals as goal
+use Rattle.hep_storage.proofs.contents.push_run.Goals as goal
 
 pub returns-in_ok-push_both-in-Some : goal.returns-in_ok-push_both-in-Some
 returns-in_ok-push_both-in-Some c =

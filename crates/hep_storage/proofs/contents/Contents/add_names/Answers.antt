@@ -5,7 +5,7 @@ use Rattle.hep_machine.specs.Declarations.{names_declared}
 use Rattle.hep_storage.specs.Blocks.{names_into}
 use Rattle.hep_storage.proofs.BlockTables.{name-turn, name-start, names-whole, noted-here, noted-start, noted-turn, noted-whole}
 use Rattle.hep_storage.proofs.Listings.{noted-next}
-use Rattle.hep_storage.proofs.blocks.Contents.add_names.Goals as goal
+use Rattle.hep_storage.proofs.contents.Contents.add_names.Goals as goal
 
 pub loop-entry-init : goal.loop-entry-init
 loop-entry-init c =

@@ -4,7 +4,7 @@ use Rattle.hep_source.specs.declared.name.Name.{Name}
 use Rattle.hep_source.specs.Names.{name_eq}
 use Rattle.hep_machine.specs.Declarations.{BlockName, names_declared}
 use Rattle.hep_storage.specs.Blocks.{AreNoted, Holds, names_into}
-use Rattle.hep_storage.proofs.blocks.Contents.add_names.Given as goal
+use Rattle.hep_storage.proofs.contents.Contents.add_names.Given as goal
 
 abbrev pub invariant-loop-entry : goal.invariant-loop-entry
 invariant-loop-entry l =

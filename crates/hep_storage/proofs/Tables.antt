@@ -1,0 +1,104 @@
+-- The table of common blocks after one entry was written.
+use Rattle.std.proofs.Common.{◌≡◌, Bool, true, false, ◌||◌, Option, Some, None, is_some, IsSome, List, [], ◌∷◌, ◌++◌, refl, ap, sym, subst, ◌∙◌, cond, true≢false, if◌then◌else◌}
+use Rattle.std.specs.Option.{option_eq, option_map}
+use Rattle.hep_source.specs.Names.{name_eq}
+use Rattle.hep_source.specs.declared.name.Name.{Name}
+use Rattle.hep_source.specs.declared.statement.Statement.{Statement}
+use Rattle.hep_machine.specs.Declarations.{BlockName, same_block, is_block_among}
+use Rattle.hep_values.proofs.BlockNames.{block-equal, block-self, changed, either-true, or-true}
+use Rattle.hep_storage.proofs.BlocksNamed.{any-append}
+use Rattle.hep_storage.specs.Agreement.{AreAmong, with_block, summed}
+use Rattle.hep_storage.specs.Blocks.{block, HasContents, Has}
+use Rattle.hep_storage.specs.declared.contents.Contents.{Contents}
+use Rattle.hep_storage.specs.Table.{contents_in, block_at, summed_in, AreRead}
+use Rattle.hep_storage.specs.declared.table.Entry.{Entry}
+
+-- what is seen of an entry, where one was put
+pub seen-put : {X : Type 0} (see : Option Entry → X) (k b : BlockName) (e : Entry) (new old : Option Entry) → new ≡ cond (option_eq name_eq k b) (Some e) old → see new ≡ (if same_block k b then see (Some e) else see old)
+seen-put see k b e new old h = ap see (h ∙ changed k b (Some e) old) ∙ by (same_block k b)
+  where
+    by : (t : Bool) → see (if t then Some e else old) ≡ (if t then see (Some e) else see old)
+    by true = refl
+    by false = refl
+
+pub some-there : {A : Type 0} (o : Option A) (x : A) → o ≡ Some x → IsSome o
+some-there None x h = cc
+some-there (Some y) x h = refl
+
+-- ---- a block that is settled
+
+module _ (k : BlockName) (old new : BlockName → Option Entry) where
+  module _ (e f : Entry) (is : old k ≡ Some e) (put : (b : BlockName) → new b ≡ cond (option_eq name_eq k b) (Some f) (old b)) where
+    pub settled-added : summed f.summary ≡ with_block (block_at (Some e)) (summed e.summary) → (b : BlockName)
+        → summed_in (new b) ≡ (if same_block k b then with_block (block_at (old k)) (summed_in (old k)) else summed_in (old b))
+    settled-added h b =
+        seen-put summed_in k b f (new b) (old b) (put b)
+        ∙ ap (λ s. if same_block k b then s else summed_in (old b)) (h ∙ ap (λ o. with_block (block_at o) (summed_in o)) (sym is))
+
+    pub settled-left : f.is_named ≡ false → (b : BlockName) → block_at (new b) ≡ (if same_block k b then None else block_at (old b))
+    settled-left h b =
+        seen-put block_at k b f (new b) (old b) (put b)
+        ∙ ap (λ o. if same_block k b then o else block_at (old b)) (ap (λ t. option_map block (if t then Some f.contents else None)) h)
+
+  -- a block that isn't there
+  module _ (none : old k ≡ None) (same : (b : BlockName) → new b ≡ old b) where
+    pub missing-added : (b : BlockName) → summed_in (new b) ≡ (if same_block k b then with_block (block_at (old k)) (summed_in (old k)) else summed_in (old b))
+    missing-added b = ap summed_in (same b) ∙ by (same_block k b) refl
+      where
+        by : (t : Bool) → same_block k b ≡ t → summed_in (old b) ≡ (if t then with_block (block_at (old k)) (summed_in (old k)) else summed_in (old b))
+        by true e = ap (λ c. summed_in (old c)) (sym (block-equal k b e)) ∙ (ap summed_in none ∙ sym (ap (λ o. with_block (block_at o) (summed_in o)) none))
+        by false e = refl
+
+    pub missing-left : (b : BlockName) → block_at (new b) ≡ (if same_block k b then None else block_at (old b))
+    missing-left b = ap block_at (same b) ∙ by (same_block k b) refl
+      where
+        by : (t : Bool) → same_block k b ≡ t → block_at (old b) ≡ (if t then None else block_at (old b))
+        by true e = ap (λ c. block_at (old c)) (sym (block-equal k b e)) ∙ ap block_at none
+        by false e = refl
+
+-- ---- a list of COMMON, of which the block is in the table now
+
+module _ (k : BlockName) (old new : BlockName → Option Entry) (f : Entry) (put : (b : BlockName) → new b ≡ cond (option_eq name_eq k b) (Some f) (old b)) where
+  pub put-contents : f.is_named ≡ true → (b : BlockName) → contents_in (new b) ≡ (if same_block k b then Some f.contents else contents_in (old b))
+  put-contents named b =
+      seen-put contents_in k b f (new b) (old b) (put b)
+      ∙ ap (λ o. if same_block k b then o else contents_in (old b)) (ap (λ t. if t then Some f.contents else None) named)
+
+  put-summaries : summed f.summary ≡ summed_in (old k) → (b : BlockName) → summed_in (new b) ≡ summed_in (old b)
+  put-summaries h b = seen-put summed_in k b f (new b) (old b) (put b) ∙ by (same_block k b) refl
+    where
+      by : (t : Bool) → same_block k b ≡ t → (if t then summed f.summary else summed_in (old b)) ≡ summed_in (old b)
+      by true e = h ∙ ap (λ c. summed_in (old c)) (block-equal k b e)
+      by false e = refl
+
+  put-named : (bs : List BlockName) → AreAmong bs (λ b. block_at (old b)) → AreAmong (bs ++ k ∷ []) (λ b. block_at (new b))
+  put-named bs h b s = any-append (same_block b) bs (k ∷ []) ∙ by (same_block k b) refl
+    where
+      by : (t : Bool) → same_block k b ≡ t → (is_block_among b bs || is_block_among b (k ∷ [])) ≡ true
+      by true e = or-true (is_block_among b bs) (is_block_among b (k ∷ [])) (either-true (same_block b k) false (ap (same_block b) (block-equal k b e) ∙ block-self b))
+      by false e =
+          either-true (is_block_among b bs) (is_block_among b (k ∷ []))
+          (h b (ap is_some (sym (seen-put block_at k b f (new b) (old b) (put b) ∙ ap (λ t. if t then block_at (Some f) else block_at (old b)) e)) ∙ s))
+
+  pub put-read : (bs : List BlockName) → summed f.summary ≡ summed_in (old k) → AreRead old new bs (bs ++ k ∷ [])
+  put-read bs h = record { summaries = put-summaries h; named = put-named bs }
+
+-- ---- one list after the other
+
+pub read-start : (old : BlockName → Option Entry) (bs : List BlockName) → AreRead old old bs bs
+read-start old bs = record { summaries = λ b. refl; named = λ h. h }
+
+pub read-next : (old mid new : BlockName → Option Entry) (bs cs ds : List BlockName) → AreRead old mid bs cs → AreRead mid new cs ds → AreRead old new bs ds
+read-next old mid new bs cs ds h g = record { summaries = λ b. g.summaries b ∙ h.summaries b; named = λ a. g.named (h.named a) }
+
+-- ---- before a unit is read
+
+none-contents : (o : Option Contents) → option_map block o ≡ None → o ≡ None
+none-contents None h = refl
+none-contents (Some c) h = absurd (true≢false (ap is_some h))
+
+pub none-has : (unit : List Statement) (noted : Name → Bool) (b : BlockName) (o : Option Entry) → block_at o ≡ None → ((x : Name) → noted x ≡ false) → Has unit noted b [] None (contents_in o)
+none-has unit noted b o h n = (subst (HasContents unit b [] None) (sym (none-contents (contents_in o) h)) (refl, refl), λ x f. n x)
+
+pub none-named : (table : BlockName → Option Entry) (bs : List BlockName) → ((b : BlockName) → block_at (table b) ≡ None) → AreAmong bs (λ b. block_at (table b))
+none-named table bs h b s = absurd (true≢false (sym s ∙ ap is_some (h b)))

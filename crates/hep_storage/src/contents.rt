@@ -1,0 +1,238 @@
+//! What a unit has in a common block, as far as it is known (X3.9-1978, 8.3).
+ghost use Rattle.std.specs.Prelude.{◌≡◌, ◌+◌, ◌++◌, ◌∷◌, [], List, Bool, true, false, not, ◌&&◌, ◌||◌, Option, Some, None, if◌then◌else◌, IfOk, OnOk, IfSome};
+ghost use Rattle.std.specs.Option.{option_eq, option_map, option_map_or, option_and_then};
+ghost use Rattle.indexmap.specs.IndexSet.{contains};
+ghost use Rattle.hep_source.specs.Names.{name_eq, same_name};
+ghost use Rattle.hep_source.specs.declared.name.Name.{Name as PureName};
+ghost use Rattle.hep_machine.specs.Declarations.{BlockName, same_block, names_declared};
+ghost use Rattle.hep_machine.specs.Shapes.{elements};
+ghost use Rattle.hep_storage.specs.Blocks as blocks;
+ghost use Rattle.hep_runs.specs.Runs.{positions_in};
+ghost use Rattle.hep_types.specs.Known.{known};
+
+use hep_runs::{Known, Position, Run};
+use hep_source::{Declarator, Name};
+use hep_symbols::Symbols;
+use hep_types::{KnownShape, Shapes};
+use indexmap::IndexSet;
+use std::alloc::{AllocError, Global};
+
+/// What a unit has in a common block.
+#[derive(Drop)]
+pub(crate) struct Contents {
+    /// The places of its names, up to the first array of unknown shape.
+    pub(crate) known: Known,
+    /// The line of the last statement that names the block.
+    pub(crate) line: u32,
+}
+
+/// The names that were read of a unit, each in the first block in which it is.
+pub(crate) type Noted = IndexSet<Name>;
+
+// How many elements there are; none where that isn't known.
+fn element_count(shape: KnownShape) -> Option<u32>
+    ensures { result ≡ option_and_then elements (known shape.entry) }
+{
+    match shape {
+        KnownShape::Scalar => Some(1),
+        KnownShape::Array(shape) => shape.cells(),
+        KnownShape::Unknown => None,
+    }
+}
+
+// The places of a name, which are alike; none where its shape isn't known.
+fn run_of_name(symbols: &Symbols, shapes: &Shapes, name: &Name) -> Option<Run>
+    requires { shapes.now ≡ symbols.now }
+    ensures { result ≡ blocks.run_of_name symbols.now name.now }
+{
+    let position = Position {
+        asynchronous: name.asynchronous,
+        value_type: symbols.type_of(name),
+    };
+    match element_count(shapes.known_shape(name)) {
+        Some(count) => Some(Run {
+            position,
+            count: u64::from(count),
+        }),
+        None => None,
+    }
+}
+
+// Two runs as one, where both have the same.
+fn joined(first: Run, second: Run) -> Option<Run>
+    ensures { IfSome result (λ run. blocks.places_of run ≡ blocks.places_of first ++ blocks.places_of second) }
+{
+    if !first.position.is_same(second.position) {
+        return None;
+    }
+    match first.count.checked_add(second.count) {
+        Some(count) => Some(Run {
+            position: first.position,
+            count,
+        }),
+        None => None,
+    }
+}
+
+fn push(runs: &mut Vec<Run>, run: Run) -> Result<(), AllocError>
+    ensures { OnOk result (positions_in runs.new.items ≡ positions_in runs.old.items ++ blocks.places_of run) }
+{
+    runs.push(run)?;
+    Ok(())
+}
+
+// Two runs more, or one that is as long as both.
+fn push_both(runs: &mut Vec<Run>, first: Run, second: Run) -> Result<(), AllocError>
+    ensures { OnOk result (positions_in runs.new.items ≡ (positions_in runs.old.items ++ blocks.places_of first) ++ blocks.places_of second) }
+{
+    match joined(first, second) {
+        Some(both) => push(runs, both)?,
+        None => {
+            push(runs, first)?;
+            push(runs, second)?;
+        }
+    }
+    Ok(())
+}
+
+// One run more, so that no two neighbours have the same: a list is no longer than it has to be.
+fn push_run(runs: &mut Vec<Run>, run: Run) -> Result<(), AllocError>
+    ensures { OnOk result (positions_in runs.new.items ≡ positions_in runs.old.items ++ blocks.places_of run) }
+{
+    match runs.pop() {
+        Some(last) => push_both(runs, last, run)?,
+        None => push(runs, run)?,
+    }
+    Ok(())
+}
+
+// One run more, where all is known before it.
+fn add_run(known: &mut Known, run: Option<Run>) -> Result<(), AllocError>
+    ensures { OnOk result (blocks.known known.new ≡ blocks.with_run (blocks.known known.old) run) }
+{
+    if !known.is_whole {
+        return Ok(());
+    }
+    match run {
+        Some(run) => push_run(&mut known.runs, run)?,
+        None => known.is_whole = false,
+    }
+    Ok(())
+}
+
+fn is_same(first: Name, second: Name) -> bool
+    ensures { result ≡ same_name first second }
+{
+    first == second
+}
+
+fn is_same_block(first: Option<Name>, second: Option<Name>) -> bool
+    ensures { result ≡ same_block first second }
+{
+    match (first, second) {
+        (None, None) => true,
+        (Some(first), Some(second)) => is_same(first, second),
+        _ => false,
+    }
+}
+
+// The first block in which a name is.
+fn is_held(symbols: &Symbols, block: Option<Name>, name: &Name) -> bool
+    ensures { result ≡ blocks.is_first_block symbols.now block name.now }
+{
+    match symbols.common_block(name) {
+        Some(first) => is_same_block(block, first),
+        None => false,
+    }
+}
+
+// Notes a name, and says whether its first place in COMMON is here.
+fn note_name(
+    noted: &mut Noted,
+    symbols: &Symbols,
+    block: Option<Name>,
+    name: &Name,
+) -> Result<bool, AllocError>
+    ensures first { IfOk result (λ is_first. is_first
+        ≡ (blocks.is_first_block symbols.now block name.now && not (contains name_eq noted.old name.now))) }
+    ensures noted { OnOk result ((x : PureName) → contains name_eq noted.new x
+        ≡ blocks.with_noted symbols.now block name.now (contains name_eq noted.old) x) }
+{
+    if !is_held(symbols, block, name) {
+        return Ok(false);
+    }
+    Ok(noted.insert(*name)?)
+}
+
+impl Contents {
+    /// No names yet.
+    pub(crate) fn new(alloc: Global, line: u32) -> Contents
+        ensures known { blocks.known result.known ≡ blocks.no_run }
+        ensures line { result.line ≡ line }
+    {
+        Contents {
+            known: Known {
+                runs: Vec::new(alloc),
+                is_whole: true,
+            },
+            line,
+        }
+    }
+
+    /// No names any more; the room for them is kept.
+    pub(crate) fn clear(&mut self)
+        ensures known { blocks.known self.new.known ≡ blocks.no_run }
+        ensures line { self.new.line ≡ self.old.line }
+    {
+        self.known.runs.clear();
+        self.known.is_whole = true;
+    }
+
+    // One name more. A second place of a name in COMMON doesn't hold.
+    fn add_name(
+        &mut self,
+        noted: &mut Noted,
+        symbols: &Symbols,
+        shapes: &Shapes,
+        block: Option<Name>,
+        name: &Name,
+    ) -> Result<(), AllocError>
+        requires { shapes.now ≡ symbols.now }
+        ensures known { OnOk result ((xs : List PureName) → blocks.AreNoted symbols.now block xs (contains name_eq noted.old)
+            → blocks.Holds symbols.now block xs self.old → blocks.Holds symbols.now block (xs ++ name.now ∷ []) self.new) }
+        ensures noted { OnOk result ((x : PureName) → contains name_eq noted.new x
+            ≡ blocks.with_noted symbols.now block name.now (contains name_eq noted.old) x) }
+        ensures line { OnOk result (self.new.line ≡ self.old.line) }
+    {
+        if note_name(noted, symbols, block, name)? {
+            add_run(&mut self.known, run_of_name(symbols, shapes, name))?;
+        }
+        Ok(())
+    }
+
+    /// The names that a list of COMMON has.
+    ///
+    /// # Errors
+    ///
+    /// Only where memory was refused.
+    pub(crate) fn add_names(
+        &mut self,
+        noted: &mut Noted,
+        symbols: &Symbols,
+        shapes: &Shapes,
+        block: Option<Name>,
+        entries: &[Declarator],
+    ) -> Result<(), AllocError>
+        requires { shapes.now ≡ symbols.now }
+        ensures known { OnOk result ((xs : List PureName) → blocks.AreNoted symbols.now block xs (contains name_eq noted.old)
+            → blocks.Holds symbols.now block xs self.old → blocks.Holds symbols.now block (xs ++ names_declared entries.now) self.new) }
+        ensures noted { OnOk result ((b : BlockName) (xs : List PureName) → blocks.AreNoted symbols.now b xs (contains name_eq noted.old)
+            → blocks.AreNoted symbols.now b (xs ++ blocks.names_into block b (names_declared entries.now)) (contains name_eq noted.new)) }
+        ensures line { OnOk result (self.new.line ≡ self.old.line) }
+    {
+        for entry in entries {
+            self.add_name(noted, symbols, shapes, block, &entry.occurrence.name)?;
+        }
+        Ok(())
+    }
+}

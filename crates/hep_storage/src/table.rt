@@ -1,0 +1,100 @@
+//! The common blocks of a program (X3.9-1978, 8.3), in a table that serves for one unit after the other.
+ghost use Rattle.std.specs.Prelude.{◌≡◌, ℕ, List, [], true, false, None, Some, Option, if◌then◌else◌};
+ghost use Rattle.std.specs.Option.{option_eq, option_map};
+ghost use Rattle.indexmap.specs.IndexMap.{get};
+ghost use Rattle.hep_source.specs.Names.{name_eq};
+ghost use Rattle.hep_source.specs.declared.name.Name.{Name as PureName};
+ghost use Rattle.hep_source.specs.declared.statement.Statement.{Statement as PureStatement};
+ghost use Rattle.hep_machine.specs.Declarations.{BlockName, same_block};
+ghost use Rattle.hep_storage.specs.Agreement.{summed, nothing_summed, with_block, line_after};
+ghost use Rattle.hep_storage.specs.Blocks.{HasContents, Holds, block};
+ghost use Rattle.hep_storage.specs.Table.{contents_in, summed_in, block_at};
+
+use crate::contents::Contents;
+use crate::summary::Summary;
+use hep_check::reported::line_when;
+use hep_source::Name;
+use indexmap::IndexMap;
+use std::alloc::Global;
+
+/// A common block: what the units before have in it, and what the unit at hand has.
+pub(crate) struct Entry {
+    pub(crate) summary: Summary,
+    // What an earlier unit had, where the unit at hand doesn't name the block.
+    pub(crate) contents: Contents,
+    pub(crate) is_named: bool,
+}
+
+impl Drop for Entry {
+    fn drop(self) {
+        let Entry {
+            summary,
+            contents,
+            is_named,
+        } = self;
+    }
+}
+
+/// The blocks by their names; blank COMMON has none.
+pub(crate) type Table = IndexMap<Option<Name>, Entry>;
+
+impl Entry {
+    /// A block that no unit before has, named at a line.
+    pub(crate) fn new(alloc: Global, line: u32) -> Entry
+        ensures summary { summed result.summary ≡ nothing_summed }
+        ensures named { result.is_named ≡ true }
+        ensures held { (unit : List PureStatement) (b : BlockName) → Holds unit b [] result.contents }
+        ensures line { result.contents.line ≡ line }
+    {
+        Entry {
+            summary: Summary::new(alloc),
+            contents: Contents::new(alloc, line),
+            is_named: true,
+        }
+    }
+
+    /// The unit at hand names the block at a line. What an earlier one had in it is gone.
+    pub(crate) fn name(&mut self, line: u32)
+        ensures summary { self.new.summary ≡ self.old.summary }
+        ensures named { self.new.is_named ≡ true }
+        ensures held { (unit : List PureStatement) (b : BlockName) (xs : List PureName) (before : Option ℕ)
+            → HasContents unit b xs before (contents_in (Some self.old)) → Holds unit b xs self.new.contents }
+        ensures line { self.new.contents.line ≡ line }
+    {
+        if !self.is_named {
+            self.contents.clear();
+            self.is_named = true;
+        }
+        self.contents.line = line;
+    }
+
+    // What the unit at hand has is added to what those before have; the line where it differs.
+    fn settle(&mut self, block: Option<Name>) -> Option<u32>
+        ensures line { result ≡ line_after block (summed self.old.summary) (block_at (Some self.old)) }
+        ensures added { summed self.new.summary ≡ with_block (block_at (Some self.old)) (summed self.old.summary) }
+        ensures left { self.new.is_named ≡ false }
+    {
+        if !self.is_named {
+            return None;
+        }
+        self.is_named = false;
+        let differs = self.summary.add(block, &mut self.contents.known);
+        line_when(differs, self.contents.line)
+    }
+}
+
+/// What the unit at hand has in a block is added to what those before have; the line where it differs.
+pub(crate) fn settle(table: &mut Table, block: Option<Name>) -> Option<u32>
+    ensures line { result ≡ line_after block (summed_in (get (option_eq name_eq) table.old block)) (block_at (get (option_eq name_eq) table.old block)) }
+    ensures added { (b : BlockName) → summed_in (get (option_eq name_eq) table.new b)
+        ≡ (if same_block block b
+        then with_block (block_at (get (option_eq name_eq) table.old block)) (summed_in (get (option_eq name_eq) table.old block))
+        else summed_in (get (option_eq name_eq) table.old b)) }
+    ensures left { (b : BlockName) → block_at (get (option_eq name_eq) table.new b)
+        ≡ (if same_block block b then None else block_at (get (option_eq name_eq) table.old b)) }
+{
+    match table.get_mut(&block) {
+        Some(entry) => entry.settle(block),
+        None => None,
+    }
+}
