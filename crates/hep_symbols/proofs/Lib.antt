@@ -6,3 +6,5 @@ pub mod Passes
 pub mod Owned
 pub mod PartsGiven
 pub mod Typed
+pub mod ArraysAmong
+pub mod News

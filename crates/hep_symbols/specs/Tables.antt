@@ -1,6 +1,7 @@
 -- What tables of names give: X3.9-1978, section 8.
-use Rattle.std.specs.Prelude.{◌≡◌, ◌<◌, get_or, ℕ, ◌+◌, Bool, true, false, ◌&&◌, not, is_some, if◌then◌else◌, List, [], ◌∷◌, Option, Some, None}
+use Rattle.std.specs.Prelude.{◌≡◌, ◌<◌, get_or, ℕ, ◌+◌, Bool, true, false, ◌&&◌, ◌||◌, not, is_some, if◌then◌else◌, List, [], ◌∷◌, Option, Some, None}
 use Rattle.std.specs.Borrow.{Bor}
+use Rattle.std.specs.List.{filter, flat_map}
 use Rattle.std.specs.Option.{option_or}
 use Rattle.hep_source.specs.declared.declaration.Declarator.{Declarator}
 use Rattle.hep_source.specs.declared.name.Name.{Name}
@@ -12,7 +13,7 @@ use Rattle.hep_source.specs.Names.{same_name, is_among, index_among}
 use Rattle.hep_source.specs.Units.{Units, dummies_of, is_named, subroutine_name}
 use Rattle.hep_source.specs.declared.declaration.ValueType.{ValueType}
 use Rattle.hep_machine.specs.Variables.{names_of, locals_of}
-use Rattle.hep_machine.specs.Declarations.{declared_type, implicit_type, common_block, is_constant_name, BlockName, names_declared, block_holding, blocks_in, names_of_constants, is_nonempty, constants_in, declarator_among, declarators_in}
+use Rattle.hep_machine.specs.Declarations.{declared_type, implicit_type, common_block, is_constant_name, BlockName, names_declared, block_holding, blocks_in, entries_of_blocks, names_of_constants, is_nonempty, constants_in, declarator_among, declarators_in}
 
 abbrev pub either : Bool → Bool → Bool
 either a b = if a then true else b
@@ -33,6 +34,19 @@ by_name y value x = if same_name x y then Some value else None
 -- what name x has, where a value is given to the names of these declarators alone
 abbrev pub by_declarators : {A : Type 0} → A → List Declarator → Name → Option A
 by_declarators value ds x = if is_among x (names_declared ds) then Some value else None
+
+-- those of these declarators that give dimensions
+abbrev pub arrays_among : List Declarator → List Declarator
+arrays_among ds = filter (λ (d : Declarator). is_nonempty d.dimensions) ds
+
+-- none of these names was seen before, and none stands twice among them
+abbrev pub are_new : (Name → Bool) → List Name → Bool
+are_new seen [] = true
+are_new seen (x ∷ xs) = not (seen x) && are_new (λ y. same_name y x || seen y) xs
+
+-- the names in COMMON, in the order of the text
+abbrev pub names_in_common : List Statement → List Name
+names_in_common unit = flat_map (λ (s : Statement). names_declared (entries_of_blocks (blocks_in s.form))) unit
 
 -- what the first of these statements says that says anything
 abbrev pub first_in : {A : Type 0} → (Form → Option A) → List Statement → Option A
@@ -72,12 +86,13 @@ dummies_in [] = []
 dummies_in (s ∷ ss) = dummies_by_form s.form
 
 -- the tables of a unit: what they give for each name is what its specification statements say of it
-pub record Describes (unit : List Statement) (types : Name → Option ValueType) (letters : List (Option ValueType)) (arrays : List Statement) (dummies : Name → Option ℕ) (blocks : Name → Option BlockName) (constants : Name → Bool) (names locals : List Name) : Type 0 where
+pub record Describes (unit : List Statement) (types : Name → Option ValueType) (letters : List (Option ValueType)) (arrays : List Statement) (dummies : Name → Option ℕ) (blocks : Name → Option BlockName) (are_once : Bool) (constants : Name → Bool) (names locals : List Name) : Type 0 where
   pub typed : (x : Name) → types x ≡ declared_type x unit
   pub lettered : (c : ℕ) → c < 256 → get_or letters c None ≡ implicit_type c unit
   pub bounded : arrays ≡ unit
   pub numbered : (x : Name) → dummies x ≡ index_among x (dummies_of unit)
   pub common : (x : Name) → blocks x ≡ common_block unit x
+  pub once : are_once ≡ are_new (λ x. false) (names_in_common unit)
   pub constant : (x : Name) → constants x ≡ is_constant_name unit x
   pub named : names ≡ names_of unit
   pub owned : locals ≡ locals_of unit

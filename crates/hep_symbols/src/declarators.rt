@@ -1,7 +1,8 @@
 //! What specification statements declare (X3.9-1978, section 8).
-ghost use Rattle.std.specs.Prelude.{◌≡◌, ◌++◌, IfOk, OnOk};
+ghost use Rattle.std.specs.Prelude.{◌≡◌, ◌++◌, ◌∷◌, [], IfOk, OnOk};
 ghost use Rattle.hep_machine.specs.Declarations as declarations;
 ghost use Rattle.hep_symbols.specs.Statements.{rest_after};
+ghost use Rattle.hep_symbols.specs.Tables.{arrays_among};
 
 use hep_source::{CommonBlock, Declarator, Form};
 use std::alloc::{AllocError, Global};
@@ -9,17 +10,27 @@ use std::alloc::{AllocError, Global};
 type Found<'a> = Vec<&'a Declarator>;
 
 #[tactic(auto, using(crate::proofs::Trees::after_push, std::proofs::lemmas::Grind::common_steps))]
-fn add_each<'a>(found: &mut Found<'a>, declarators: &'a [Declarator]) -> Result<(), AllocError>
-    ensures { OnOk result (rest_after found.new.items ≡ rest_after found.old.items ++ declarators.now) }
+fn add<'a>(found: &mut Found<'a>, declarator: &'a Declarator) -> Result<(), AllocError>
+    ensures { OnOk result (rest_after found.new.items ≡ rest_after found.old.items ++ arrays_among (declarator.now ∷ [])) }
 {
-    for declarator in declarators {
+    if !declarator.dimensions.as_slice().is_empty() {
         found.push(declarator)?;
     }
     Ok(())
 }
 
+fn add_each<'a>(found: &mut Found<'a>, declarators: &'a [Declarator]) -> Result<(), AllocError>
+    ensures { OnOk result (rest_after found.new.items ≡ rest_after found.old.items ++ arrays_among declarators.now) }
+{
+    for declarator in declarators {
+        add(found, declarator)?;
+    }
+    Ok(())
+}
+
 fn add_entries<'a>(found: &mut Found<'a>, blocks: &'a [CommonBlock]) -> Result<(), AllocError>
-    ensures { OnOk result (rest_after found.new.items ≡ rest_after found.old.items ++ declarations.entries_of_blocks blocks.now) }
+    ensures { OnOk result (rest_after found.new.items
+        ≡ rest_after found.old.items ++ arrays_among (declarations.entries_of_blocks blocks.now)) }
 {
     for block in blocks {
         add_each(found, block.entries.as_slice())?;
@@ -27,13 +38,13 @@ fn add_entries<'a>(found: &mut Found<'a>, blocks: &'a [CommonBlock]) -> Result<(
     Ok(())
 }
 
-/// The declarators of a statement, in the order of its text.
+/// The declarators of a statement that give dimensions, in the order of its text.
 ///
 /// # Errors
 ///
 /// Only where memory was refused.
-pub fn declarators_in(alloc: Global, form: &Form) -> Result<Vec<&Declarator>, AllocError>
-    ensures { IfOk result (λ found. rest_after found.items ≡ declarations.declarators_in form.now) }
+pub fn array_declarators(alloc: Global, form: &Form) -> Result<Vec<&Declarator>, AllocError>
+    ensures { IfOk result (λ found. rest_after found.items ≡ arrays_among (declarations.declarators_in form.now)) }
 {
     let mut found = Vec::new(alloc);
     match form {

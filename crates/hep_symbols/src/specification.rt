@@ -1,6 +1,6 @@
 //! Tables of what the specification statements of a unit say of its names (X3.9-1978, section 8).
 ghost use Rattle.std.specs.List.{list_any};
-ghost use Rattle.std.specs.Prelude.{nat_eq, ◌≡◌, ◌<◌, ℕ, None, get_or, IfOk, OnOk};
+ghost use Rattle.std.specs.Prelude.{nat_eq, ◌≡◌, ◌<◌, ℕ, None, is_some, false, get_or, IfOk, OnOk};
 ghost use Rattle.std.specs.Option.{option_or};
 ghost use Rattle.indexmap.specs.IndexMap.{get};
 ghost use Rattle.indexmap.specs.IndexSet.{contains};
@@ -12,8 +12,8 @@ ghost use Rattle.hep_symbols.specs.Statements.{rest_after};
 ghost use Rattle.hep_symbols.specs.Tables as tables;
 ghost use Rattle.hep_source.specs.Names.{name_eq};
 
-use crate::declarators::declarators_in;
-use crate::table::{NameSet, Table, add, note};
+use crate::declarators::array_declarators;
+use crate::table::{NameSet, Table, add, note, note_first};
 use hep_source::{
     CommonBlock, Declarator, Form, ImplicitGroup, LetterRange, Name, NamedConstant, Occurrence,
     Statement, ValueType,
@@ -51,32 +51,57 @@ pub(crate) fn declared_types(
     Ok(Table { map: types })
 }
 
+// Says whether all names are new.
 fn note_block(
     blocks: &mut IndexMap<Name, Option<Name>>,
     block: Option<Name>,
     entries: &[Declarator],
-) -> Result<(), AllocError>
-    ensures { OnOk result ((x : PureName) → get name_eq blocks.new x
+) -> Result<bool, AllocError>
+    ensures noted { OnOk result ((x : PureName) → get name_eq blocks.new x
         ≡ option_or (get name_eq blocks.old x) (tables.by_declarators block entries.now x)) }
+    ensures new { IfOk result (λ are_new. are_new
+        ≡ tables.are_new (λ x. is_some (get name_eq blocks.old x)) (declarations.names_declared entries.now)) }
 {
+    let mut are_new = true;
     for entry in entries {
-        note(blocks, entry.occurrence.name, block)?;
+        let is_new = note_first(blocks, entry.occurrence.name, block)?;
+        are_new &= is_new;
     }
-    Ok(())
+    Ok(are_new)
 }
 
+// The block that a list of COMMON names; none for blank COMMON.
+fn block_of(list: &CommonBlock) -> Option<Name>
+    ensures { result ≡ declarations.block_of list.now }
+{
+    list.block.map(|occurrence| occurrence.name)
+}
+
+// Says whether all names are new.
 fn note_blocks(
     blocks: &mut IndexMap<Name, Option<Name>>,
     named: &[CommonBlock],
-) -> Result<(), AllocError>
-    ensures { OnOk result ((x : PureName) → get name_eq blocks.new x
+) -> Result<bool, AllocError>
+    ensures noted { OnOk result ((x : PureName) → get name_eq blocks.new x
         ≡ option_or (get name_eq blocks.old x) (declarations.block_holding x named.now)) }
+    ensures new { IfOk result (λ are_new. are_new ≡ tables.are_new (λ x. is_some (get name_eq blocks.old x))
+        (declarations.names_declared (declarations.entries_of_blocks named.now))) }
 {
+    let mut are_new = true;
     for block in named {
-        let name = block.block.map(|occurrence| occurrence.name);
-        note_block(blocks, name, block.entries.as_slice())?;
+        let is_new = note_block(blocks, block_of(block), block.entries.as_slice())?;
+        are_new &= is_new;
     }
-    Ok(())
+    Ok(are_new)
+}
+
+fn blocks_in(form: &Form) -> &[CommonBlock]
+    ensures { result.now ≡ declarations.blocks_in form.now }
+{
+    match form {
+        Form::Common(named) => named.as_slice(),
+        _ => &[],
+    }
 }
 
 fn entry_count(blocks: &[CommonBlock]) -> usize {
@@ -91,27 +116,32 @@ fn entry_count(blocks: &[CommonBlock]) -> usize {
 fn common_count(unit: &[Statement]) -> usize {
     let mut count: usize = 0;
     for statement in unit {
-        if let Form::Common(named) = &statement.form {
-            count = count.saturating_add(entry_count(named.as_slice()));
-        }
+        count = count.saturating_add(entry_count(blocks_in(&statement.form)));
     }
     count
 }
 
-// The block in which each name of COMMON is (8.3); none for blank COMMON.
-pub(crate) fn common_blocks(
-    alloc: Global,
-    unit: &[Statement],
-) -> Result<Table<Option<Name>>, AllocError>
-    ensures { IfOk result (λ blocks. (x : PureName) → get name_eq blocks.map x ≡ tables.first_in (tables.block_by_form x) unit.now) }
+// The block in which each name of COMMON is (8.3), none for blank COMMON, and whether each name stands there once.
+pub(crate) struct CommonNames {
+    pub(crate) blocks: Table<Option<Name>>,
+    pub(crate) are_once: bool,
+}
+
+pub(crate) fn common_names(alloc: Global, unit: &[Statement]) -> Result<CommonNames, AllocError>
+    ensures blocks { IfOk result (λ names. (x : PureName)
+        → get name_eq names.blocks.map x ≡ tables.first_in (tables.block_by_form x) unit.now) }
+    ensures once { IfOk result (λ names. names.are_once ≡ tables.are_new (λ x. false) (tables.names_in_common unit.now)) }
 {
     let mut blocks = IndexMap::with_capacity(alloc, common_count(unit))?;
+    let mut are_once = true;
     for statement in unit {
-        if let Form::Common(named) = &statement.form {
-            note_blocks(&mut blocks, named.as_slice())?;
-        }
+        let are_new = note_blocks(&mut blocks, blocks_in(&statement.form))?;
+        are_once &= are_new;
     }
-    Ok(Table { map: blocks })
+    Ok(CommonNames {
+        blocks: Table { map: blocks },
+        are_once,
+    })
 }
 
 fn add_constants(constants: &mut IndexSet<Name>, given: &[NamedConstant]) -> Result<(), AllocError>
@@ -194,6 +224,7 @@ fn note_arrays<'a>(
 }
 
 // The declarator that gives each array its dimensions (5.1, 8.1, 8.3 and 8.4).
+
 pub(crate) fn arrays<'a>(
     alloc: Global,
     unit: &'a [Statement],
@@ -203,7 +234,7 @@ pub(crate) fn arrays<'a>(
 {
     let mut arrays = IndexMap::new(alloc);
     for statement in unit {
-        let declarators = declarators_in(alloc, &statement.form)?;
+        let declarators = array_declarators(alloc, &statement.form)?;
         note_arrays(&mut arrays, &declarators)?;
     }
     Ok(arrays)

@@ -1,14 +1,16 @@
 //! The symbol table of a unit.
-ghost use Rattle.std.specs.Prelude.{◌≡◌, IfOk};
+ghost use Rattle.std.specs.Prelude.{◌≡◌, false, IfOk};
 ghost use Rattle.hep_source.specs.Names as names;
 ghost use Rattle.hep_source.specs.Units as units;
 ghost use Rattle.hep_machine.specs.Declarations as declarations;
 ghost use Rattle.hep_machine.specs.Variables as variables;
+ghost use Rattle.hep_symbols.specs.Tables as tables;
 
 use crate::arrays::Arrays;
 use crate::names::{locals_among, names_of};
 use crate::specification::{
-    LetterTypes, common_blocks, constant_names, declared_types, dummy_positions, implicit_types,
+    CommonNames, LetterTypes, common_names, constant_names, declared_types, dummy_positions,
+    implicit_types,
 };
 use crate::table::{NameSet, Table};
 use hep_source::{Dimension, Form, Name, Occurrence, Statement, ValueType};
@@ -25,6 +27,7 @@ pub struct Symbols<'a> {
     arrays: Arrays<'a>,
     dummies: Table<usize>,
     blocks: Table<Option<Name>>,
+    are_common_once: bool,
     constants: NameSet,
     names: NameSet,
     locals: Vec<Name>,
@@ -39,6 +42,7 @@ impl<'a> Drop for Symbols<'a> {
             arrays,
             dummies,
             blocks,
+            are_common_once,
             constants,
             names,
             locals,
@@ -63,7 +67,7 @@ impl<'a> Model for Symbols<'a> {
     ghost view = { λ a. a.statements.now };
 
     ghost invariant = { λ a. Describes a.statements.now (get name_eq a.types.map) a.letters a.arrays (get name_eq a.dummies.map)
-        (get name_eq a.blocks.map) (contains name_eq a.constants.set) a.names.set.keys a.locals.items };
+        (get name_eq a.blocks.map) a.are_common_once (contains name_eq a.constants.set) a.names.set.keys a.locals.items };
 }
 
 impl<'a> Symbols<'a> {
@@ -79,7 +83,7 @@ impl<'a> Symbols<'a> {
         let letters = implicit_types(statements);
         let arrays = Arrays::new(alloc, statements)?;
         let dummies = dummy_positions(alloc, statements)?;
-        let blocks = common_blocks(alloc, statements)?;
+        let CommonNames { blocks, are_once } = common_names(alloc, statements)?;
         let constants = constant_names(alloc, statements)?;
         let names = names_of(alloc, &arrays)?;
         let locals = locals_among(alloc, &dummies, &blocks, &constants, names.set.as_slice())?;
@@ -90,6 +94,7 @@ impl<'a> Symbols<'a> {
             arrays,
             dummies,
             blocks,
+            are_common_once: are_once,
             constants,
             names,
             locals,
@@ -187,6 +192,13 @@ impl<'a> Symbols<'a> {
         ensures { result ≡ declarations.common_block self.now name.now }
     {
         self.blocks.map.get(name).copied()
+    }
+
+    /// No name stands twice in COMMON (8.3).
+    pub fn are_common_once(&self) -> bool
+        ensures { result ≡ tables.are_new (λ x. false) (tables.names_in_common self.now) }
+    {
+        self.are_common_once
     }
 
     /// The name is in COMMON (8.3).

@@ -1,5 +1,5 @@
 //! Tables of names.
-ghost use Rattle.std.specs.Prelude.{◌≡◌, IfOk, OnOk};
+ghost use Rattle.std.specs.Prelude.{◌≡◌, not, is_some, IfOk, OnOk};
 ghost use Rattle.std.specs.Option.{option_or};
 ghost use Rattle.indexmap.specs.IndexMap.{get};
 ghost use Rattle.indexmap.specs.IndexSet.{contains};
@@ -34,6 +34,26 @@ impl Drop for NameSet {
     }
 }
 
+// Gives a name a value, unless it has one, and says whether it had none.
+pub(crate) fn note_first<V: Drop>(
+    table: &mut IndexMap<Name, V>,
+    name: Name,
+    value: V,
+) -> Result<bool, AllocError>
+    ensures noted { OnOk result ((x : PureName) → get name_eq table.new x
+        ≡ option_or (get name_eq table.old x) (by_name name value x)) }
+    ensures new { IfOk result (λ is_new. is_new ≡ not (is_some (get name_eq table.old name))) }
+{
+    // One look-up: most names are new.
+    match table.insert(name, value)? {
+        Some(before) => {
+            table.insert(name, before)?;
+            Ok(false)
+        }
+        None => Ok(true),
+    }
+}
+
 // Gives a name a value, unless it has one.
 pub(crate) fn note<V: Drop>(
     table: &mut IndexMap<Name, V>,
@@ -43,10 +63,7 @@ pub(crate) fn note<V: Drop>(
     ensures { OnOk result ((x : PureName) → get name_eq table.new x
         ≡ option_or (get name_eq table.old x) (by_name name value x)) }
 {
-    // One look-up: most names are new.
-    if let Some(before) = table.insert(name, value)? {
-        table.insert(name, before)?;
-    }
+    note_first(table, name, value)?;
     Ok(())
 }
 

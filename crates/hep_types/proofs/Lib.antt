@@ -2,3 +2,4 @@ pub mod Dimensions
 pub mod KnownShapes
 pub mod Passes
 pub mod Results
+pub mod BoundedArrays

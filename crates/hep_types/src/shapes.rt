@@ -15,7 +15,7 @@ use crate::parameters::Parameters;
 use hep_shape::Shape;
 use hep_source::{Declarator, Name, Statement};
 use hep_symbols::Symbols;
-use hep_symbols::declarators::declarators_in;
+use hep_symbols::declarators::array_declarators;
 use hep_values::statements::constants_in;
 use indexmap::IndexMap;
 use std::alloc::{AllocError, Global};
@@ -116,7 +116,7 @@ fn shapes_of(alloc: Global, symbols: &Symbols) -> Result<Table, AllocError>
     let mut shapes = IndexMap::new(alloc);
     let mut parameters = Parameters::new(alloc);
     for statement in symbols.statements() {
-        let declarators = declarators_in(alloc, &statement.form)?;
+        let declarators = array_declarators(alloc, &statement.form)?;
         note_shapes(alloc, symbols, &parameters, &declarators, &mut shapes)?;
         parameters.add_all(alloc, symbols, constants_in(&statement.form))?;
     }

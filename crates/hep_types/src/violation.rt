@@ -15,7 +15,7 @@ use hep_check::Violation;
 use hep_check::reported::{lesser, line_when, reported};
 use hep_source::{DataGroup, Declarator, Expr, Statement, Target, ValueType};
 use hep_symbols::Symbols;
-use hep_symbols::declarators::declarators_in;
+use hep_symbols::declarators::array_declarators;
 use hep_values::statements::{constants_in, groups_in};
 use std::alloc::{AllocError, Global};
 
@@ -110,6 +110,7 @@ fn are_groups_typed(
 }
 
 // Whether a statement is typed, by the constants given before it; those that it gives join them.
+#[tactic(auto, using(crate::proofs::BoundedArrays::bounded_arrays))]
 fn is_statement_typed(
     alloc: Global,
     symbols: &Symbols,
@@ -120,7 +121,7 @@ fn is_statement_typed(
     ensures taken { OnOk result (parameters.new ≡ passes.parameters_after symbols.now parameters.old statement.now) }
 {
     let form = &statement.form;
-    let declarators = declarators_in(alloc, form)?;
+    let declarators = array_declarators(alloc, form)?;
     let are_conditions = are_conditions(symbols, statement.conditions.as_slice());
     let is_form = is_form_typed(symbols, form);
     let are_bounded = are_bounded(alloc, symbols, parameters, &declarators)?;

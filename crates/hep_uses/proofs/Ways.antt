@@ -1,7 +1,8 @@
 -- 309 by lines.
-use Rattle.std.proofs.Common.{◌≡◌, ℕ, ◌<◌, ◌+◌, max, length, get_or, drop, Bool, true, false, ◌||◌, Option, Some, None, List, [], ◌∷◌, ◌++◌, refl, ◌∙◌, sym, ap, arith, cond, true≢false}
+use Rattle.std.proofs.Common.{◌≡◌, ℕ, ◌<◌, ◌+◌, max, length, get_or, drop, Bool, true, false, not, ◌||◌, map, Option, Some, None, List, [], ◌∷◌, ◌++◌, refl, ◌∙◌, sym, ap, arith, cond, true≢false}
 use Rattle.std.specs.List.{flat_map, list_any}
 use Rattle.std.specs.Option.{option_map}
+use Rattle.std.proofs.lemmas.Bool.{and_parts}
 use Rattle.std.proofs.lemmas.Bool.Decides.{nat_tests}
 use Rattle.std.proofs.lemmas.List.{drop_more}
 use Rattle.hep_source.specs.declared.name.Name.{Name}
@@ -9,15 +10,18 @@ use Rattle.hep_source.specs.declared.statement.Statement.{Statement}
 use Rattle.hep_source.specs.Names.{name_eq, same_name}
 use Rattle.hep_source.proofs.NameTests.{equal_names, name_eq-is, same_name-turned}
 use Rattle.hep_source.specs.Units.{Units}
-use Rattle.hep_machine.specs.Declarations.{is_nonempty}
+use Rattle.hep_source.specs.declared.declaration.CommonBlock.{CommonBlock}
+use Rattle.hep_machine.specs.Declarations.{blocks_in, entries_of_blocks, is_nonempty, names_declared}
+use Rattle.hep_symbols.proofs.News.{declared-append}
 use Rattle.hep_check.specs.Names.{Use, overlap, letter_ranges_of, letters_repeated, uses_by, repeated, both_ways, given_twice, used_both_ways, misused_constants, dummy_names, typed_names, bounded_names, common_names, constant_names, data_names, assigned_names, called_names, variable_names, ambiguous_in, unit_uses, block_names, ambiguous_units}
 use Rattle.hep_check.specs.Reported.{reported, least_line, line_when, least_line_of}
 use Rattle.hep_check.specs.Violations.{first_of, when, at_line, repeated_after}
 use Rattle.hep_check.proofs.Lines.{reported-append, reported-of, reported-when, least_line-assoc, least_line-none, least_line_of-same, least_line_of-turned}
 use Rattle.hep_uses.specs.declared.uses.Way.{Way}
 use Rattle.hep_uses.specs.declared.uses.Way.TheVariants.{Dummy, Common, Constant, Called, Variable}
-use Rattle.hep_uses.specs.Uses.{uses_of}
-use Rattle.hep_uses.specs.Ambiguous.{with_seen, least_repeated, least_repeated_name, least_given_twice, least_named, later_line, least_met, least_both_ways, least_of_two_ways, least_misused, least_overlapping, given_once, no_constants, least_ambiguous, least_ambiguous_unit}
+use Rattle.hep_symbols.specs.Tables.{are_new, names_in_common}
+use Rattle.hep_uses.specs.Uses.{uses_of, used_at}
+use Rattle.hep_uses.specs.Ambiguous.{none_seen, with_seen, least_repeated, least_repeated_name, least_given_twice, least_named, later_line, least_met, least_both_ways, least_of_two_ways, least_misused, least_overlapping, given_once, no_constants, least_ambiguous, least_ambiguous_unit}
 
 -- ---- what is given twice
 
@@ -179,3 +183,38 @@ both-none us ws e = ap (λ vs. least_both_ways vs ws) e ∙ met-none ws
 pub misused-none : (unit : List Statement) (ways : List Way) → uses_of Constant unit ≡ [] → least_misused unit ways ≡ None
 misused-none unit [] e = refl
 misused-none unit (way ∷ ways) e = ap (λ l. least_line l (least_misused unit ways)) (both-none (uses_of Constant unit) (uses_of way unit) e) ∙ misused-none unit ways e
+
+-- ---- names of COMMON that all are new
+
+new-unrepeated : (us : List Use) (seen : Name → Bool) → are_new seen (map (λ (u : Use). u.0) us) ≡ true → least_repeated same_name seen us ≡ None
+new-unrepeated [] seen h = refl
+new-unrepeated (u ∷ us) seen h =
+    let p = and_parts (not (seen u.0)) (are_new (λ y. same_name y u.0 || seen y) (map (λ (v : Use). v.0) us)) h in
+    ap (λ b. least_line (line_when b u.1) (least_repeated same_name (with_seen same_name seen u.0) us)) (unseen (seen u.0) p.0)
+    ∙ new-unrepeated us (with_seen same_name seen u.0) p.1
+  where
+    unseen : (b : Bool) → not b ≡ true → b ≡ false
+    unseen true e = absurd (true≢false (sym e))
+    unseen false e = refl
+
+names-used : (line : ℕ) (xs : List Name) → map (λ (u : Use). u.0) (used_at line xs) ≡ xs
+names-used line [] = refl
+names-used line (x ∷ xs) = ap (λ ys. x ∷ ys) (names-used line xs)
+
+names-append : (us vs : List Use) → map (λ (u : Use). u.0) (us ++ vs) ≡ map (λ (u : Use). u.0) us ++ map (λ (u : Use). u.0) vs
+names-append [] vs = refl
+names-append (u ∷ us) vs = ap (λ ys. u.0 ∷ ys) (names-append us vs)
+
+block-names : (bs : List CommonBlock) → names_declared (entries_of_blocks bs) ≡ flat_map (λ (b : CommonBlock). names_declared b.entries) bs
+block-names [] = refl
+block-names (b ∷ bs) = declared-append b.entries (entries_of_blocks bs) ∙ ap (λ ys. names_declared b.entries ++ ys) (block-names bs)
+
+common-used : (unit : List Statement) → map (λ (u : Use). u.0) (uses_by common_names unit) ≡ names_in_common unit
+common-used [] = refl
+common-used (s ∷ ss) =
+    names-append (used_at s.line (common_names s)) (uses_by common_names ss)
+    ∙ (ap (λ xs. xs ++ map (λ (u : Use). u.0) (uses_by common_names ss)) (names-used s.line (common_names s))
+    ∙ (ap (λ ys. common_names s ++ ys) (common-used ss) ∙ ap (λ xs. xs ++ names_in_common ss) (sym (block-names (blocks_in s.form)))))
+
+pub common-once : (unit : List Statement) → are_new (λ x. false) (names_in_common unit) ≡ true → least_repeated_name (uses_of Common unit) ≡ None
+common-once unit h = new-unrepeated (uses_of Common unit) none_seen (ap (are_new (λ x. false)) (common-used unit) ∙ h)

@@ -1,9 +1,10 @@
 //! 309: a name stands for two things, or is given something twice (X3.9-1978, 18.1 and 18.2).
-ghost use Rattle.std.specs.Prelude.{◌≡◌, IfOk};
+ghost use Rattle.std.specs.Prelude.{◌≡◌, true, None, IfOk};
 ghost use Rattle.hep_check.specs.Names as conditions;
 ghost use Rattle.hep_check.specs.Violations.{first_of};
 ghost use Rattle.hep_machine.specs.Declarations.{is_nonempty};
 ghost use Rattle.hep_uses.specs.Ambiguous as passes;
+ghost use Rattle.hep_uses.specs.Uses as rows;
 
 use crate::letters::{least_overlapping, letter_ranges};
 use crate::repeated::{least_both_ways, least_met, least_repeated, lines_by_name};
@@ -12,6 +13,27 @@ use hep_check::Violation;
 use hep_check::reported::{lesser, reported};
 use hep_symbols::{ProgramSymbols, Symbols};
 use std::alloc::{AllocError, Global};
+
+// No name is used twice in a way, as the tables of the unit know already: they were made by names of COMMON, each once.
+fn is_known_once(symbols: &Symbols, way: Way) -> bool
+    ensures { result ≡ true → passes.least_repeated_name (rows.uses_of way symbols.now) ≡ None }
+{
+    match way {
+        Way::Common => symbols.are_common_once(),
+        _ => false,
+    }
+}
+
+// The least line at which a name is used once more in a way.
+fn least_used_twice(alloc: Global, symbols: &Symbols, way: Way) -> Result<Option<u32>, AllocError>
+    ensures { IfOk result (λ line. line ≡ passes.least_repeated_name (rows.uses_of way symbols.now)) }
+{
+    if is_known_once(symbols, way) {
+        return Ok(None);
+    }
+    let uses = uses_of(alloc, symbols, way)?;
+    least_repeated(alloc, &uses)
+}
 
 // The least line at which a name is used once more in one of these ways.
 fn least_given_twice(
@@ -23,8 +45,7 @@ fn least_given_twice(
 {
     let mut least = None;
     for way in ways {
-        let uses = uses_of(alloc, symbols, *way)?;
-        least = lesser(least, least_repeated(alloc, &uses)?);
+        least = lesser(least, least_used_twice(alloc, symbols, *way)?);
     }
     Ok(least)
 }

@@ -1,4 +1,3 @@
-use Rattle.std.proofs.Common.{◌∙◌, ap}
 use Rattle.hep_uses.specs.declared.uses.Way.{Way}
 use Rattle.hep_uses.specs.Ambiguous.{least_repeated_name}
 use Rattle.hep_uses.specs.Uses.{uses_of}
@@ -7,5 +6,5 @@ use Rattle.hep_uses.proofs.ambiguous.least_given_twice.Goals as goal
 
 pub loop-way-preserved : goal.loop-way-preserved
 loop-way-preserved c =
-    least-turn (λ (way : Way). least_repeated_name (uses_of way c.args.symbols.now)) c.args.ways.now c.loop-way.way-index _ c.loop-way.least c.lesser-least.result _ c.in_ok-least_repeated.field-0
-    c.loop-way-test.true c.loop-way.invariant c.lesser-least.ensures (c.in_ok-least_repeated.ensures ∙ ap least_repeated_name (c.deref.ensures.value ∙ c.in_ok-uses.ensures))
+    least-turn (λ (way : Way). least_repeated_name (uses_of way c.args.symbols.now)) c.args.ways.now c.loop-way.way-index _ c.loop-way.least c.lesser-least.result _ c.in_ok-least_used_twice.field-0
+    c.loop-way-test.true c.loop-way.invariant c.lesser-least.ensures c.in_ok-least_used_twice.ensures

@@ -1,9 +1,0 @@
-use Rattle.std.proofs.Common.{◌≡◌, drop}
-use Rattle.std.specs.List.{flat_map}
-use Rattle.hep_check.specs.Names.{ambiguous_in}
-use Rattle.hep_check.specs.Violations.{first_of}
-use Rattle.hep_check.specs.Reported.{first_of_two}
-use Rattle.hep_checked.proofs.program.ambiguity_violation.Given as goal
-
-abbrev pub invariant-loop-symbols : goal.invariant-loop-symbols
-invariant-loop-symbols l = first_of_two l.first (first_of (flat_map ambiguous_in (drop l.symbols-index l.symbols-items))) ≡ first_of (flat_map ambiguous_in l.symbols-items)

@@ -1,0 +1,11 @@
+-- Declarators that give no dimensions have no bounds that could be wrong.
+use Rattle.std.proofs.Common.{◌≡◌, List, refl}
+use Rattle.std.specs.List.{list_all}
+use Rattle.hep_source.specs.declared.declaration.Declarator.{Declarator}
+use Rattle.hep_source.specs.declared.statement.Statement.{Statement}
+use Rattle.hep_check.specs.Constants.{Parameters, has_bounds}
+use Rattle.hep_symbols.specs.Tables.{arrays_among}
+use Rattle.hep_symbols.proofs.ArraysAmong.{all_arrays}
+
+pub bounded_arrays : (unit : List Statement) (ps : Parameters) (ds : List Declarator) → list_all (has_bounds unit ps) (arrays_among ds) ≡ list_all (has_bounds unit ps) ds
+bounded_arrays unit ps ds = all_arrays (has_bounds unit ps) (λ d e. rw e refl) ds
