@@ -18,6 +18,7 @@ use hep_symbols::Symbols;
 use hep_values::{Constants, cells_of};
 use indexmap::IndexMap;
 use std::alloc::{AllocError, Global};
+use std::mem::replace;
 
 // A name in a common block; blank COMMON has no name.
 #[derive(Clone, Copy, Debug, PartialEq, Eq)]
@@ -79,10 +80,15 @@ fn entries_of(alloc: Global, statements: &[Statement]) -> Result<Vec<Entry>, All
 }
 
 // How many cells of their blocks are before names, and how long the blocks are as far as they were read.
-#[derive(Drop)]
 struct Offsets {
     table: IndexMap<Name, u32>,
     lengths: IndexMap<Option<Name>, u32>,
+}
+
+impl Drop for Offsets {
+    fn drop(self) {
+        let Offsets { table, lengths } = self;
+    }
 }
 
 fn length_of(lengths: &IndexMap<Option<Name>, u32>, block: Option<Name>) -> u32
@@ -155,5 +161,5 @@ pub(crate) fn offset_table(
     for entry in &entries {
         offsets.add(alloc, symbols, constants, entry)?;
     }
-    Ok(offsets.table)
+    Ok(replace(&mut offsets.table, IndexMap::new(alloc)))
 }

@@ -20,11 +20,16 @@ use indexmap::IndexMap;
 use std::alloc::{AllocError, Global};
 
 // Names with their first cells.
-#[derive(Drop)]
 pub(crate) struct Starts {
     pub(crate) table: IndexMap<Name, u32>,
     // The cell behind all of them.
     pub(crate) next: u32,
+}
+
+impl Drop for Starts {
+    fn drop(self) {
+        let Starts { table, next } = self;
+    }
 }
 
 impl Starts {

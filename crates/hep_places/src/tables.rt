@@ -21,6 +21,7 @@ use hep_symbols::Symbols;
 use hep_values::Constants;
 use indexmap::IndexMap;
 use std::alloc::{AllocError, Global};
+use std::mem::replace;
 
 // What a unit's frame has, and where its names in COMMON are in their blocks.
 pub(crate) struct Tables {
@@ -62,8 +63,8 @@ pub(crate) fn tables_of(
     bounds.add_bounds(alloc, symbols, constants, symbols.dummies())?;
     Ok(Tables {
         offsets,
-        locals: locals.table,
-        bounds: bounds.table,
+        locals: replace(&mut locals.table, IndexMap::new(alloc)),
+        bounds: replace(&mut bounds.table, IndexMap::new(alloc)),
         loop_cells: loops.cells,
         cells: bounds.next,
     })

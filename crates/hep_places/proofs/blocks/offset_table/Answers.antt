@@ -25,7 +25,8 @@ returns c = λ x.
     let i = c.loop-entry.entry-index in
     let k : length es ≤ i = omega arith in
     let unit = c.args.symbols.now in
-    sym (or-none (get name_eq c.loop-entry.offsets.table x))
+    ap (λ t. get name_eq t x) c.replace.ensures.value
+    ∙ (sym (or-none (get name_eq c.loop-entry.offsets.table x))
     ∙ (ap (λ fs. option_or (get name_eq c.loop-entry.offsets.table x) (offset_among unit (length_in c.loop-entry.offsets.lengths) fs x)) (sym (drop_all i es k))
     ∙ (c.loop-entry.invariant x
-    ∙ ap (λ fs. offset_among unit no_length fs x) (c.deref-entry-items.ensures.value ∙ (c.in_ok-entries.ensures ∙ ap entries_of c.statements.ensures))))
+    ∙ ap (λ fs. offset_among unit no_length fs x) (c.deref-entry-items.ensures.value ∙ (c.in_ok-entries.ensures ∙ ap entries_of c.statements.ensures)))))

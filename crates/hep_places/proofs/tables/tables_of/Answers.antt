@@ -1,5 +1,7 @@
 use Rattle.std.proofs.Common.{◌≡◌, ◌+◌, ◌*◌, ◌++◌, length, ap, sym, ◌∙◌}
 use Rattle.std.specs.Option.{option_or}
+use Rattle.indexmap.specs.IndexMap.{get}
+use Rattle.hep_source.specs.Names.{name_eq}
 use Rattle.hep_source.specs.Units.{names_of_occurrences}
 use Rattle.hep_common.specs.Starts.{narrowed}
 use Rattle.hep_places.specs.Found.{adjustable_row, behind, behind_loops, first_bound, first_local, first_loop, loops_from, name_row, start_among}
@@ -16,13 +18,15 @@ returns c =
     record {
       offsets = c.in_ok-offsets.ensures;
       locals = λ x.
-          c.in_ok-add_variables.ensures.table x
+          ap (λ t. get name_eq t x) c.replace.ensures.value
+          ∙ (c.in_ok-add_variables.ensures.table x
           ∙ (ap (λ o. option_or o (start_among c.new-locals.result.next (name_row unit c.locals.result.now) x)) (c.new-locals.ensures.table x)
-          ∙ (λ i. start_among (first i) (name_row unit (c.locals.ensures i)) x));
+          ∙ (λ i. start_among (first i) (name_row unit (c.locals.ensures i)) x)));
       bounds = λ x.
-          c.in_ok-add_bounds.ensures.table x
+          ap (λ t. get name_eq t x) c.replace-2.ensures.value
+          ∙ (c.in_ok-add_bounds.ensures.table x
           ∙ (ap (λ o. option_or o (start_among c.new-bounds.result.next (adjustable_row unit (names_of_occurrences c.dummies-2.result.now)) x)) (c.new-bounds.ensures.table x)
-          ∙ (λ i. start_among (third i) (adjustable_row unit (c.dummies-2.ensures i)) x));
+          ∙ (λ i. start_among (third i) (adjustable_row unit (c.dummies-2.ensures i)) x)));
       loops =
           c.in_ok-add_statements.ensures.cells
           ∙ (ap (λ cells. cells ++ loops_from c.new-loops.result.next c.statements.result.now) c.new-loops.ensures.cells
