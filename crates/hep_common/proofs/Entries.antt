@@ -10,7 +10,7 @@ use Rattle.hep_machine.specs.Declarations.{BlockName, same_block, block_of, bloc
 use Rattle.hep_values.proofs.BlockNames.{names-append}
 use Rattle.hep_values.proofs.BlockNames.{block-self, or-true}
 use Rattle.hep_common.specs.declared.common.Entry.{Entry}
-use Rattle.hep_common.specs.Lengths.{entry_of, entries_in_list, entries_in_lists, entries_of, cells_of_entry, cells_in_block, with_block, with_blocks_of}
+use Rattle.hep_common.specs.Lengths.{entry_of, entries_listed, entries_in_list, entries_in_lists, entries_of, cells_of_entry, cells_in_block, with_block, with_blocks_of}
 
 -- ---- cells
 
@@ -44,18 +44,17 @@ names-cells unit k b (d ∷ ds) =
     by true = refl
     by false = refl
 
-list-cells : (unit : List Statement) (b : BlockName) (c : CommonBlock)
-    → cells_in_block unit b (entries_in_list c) ≡ (if same_block (block_of c) b then cells_of_all unit (names_declared c.entries) else 0)
-list-cells unit b c =
-    ap (λ n. n + cells_in_block unit b (map (entry_of (block_of c)) c.entries)) (nothing (same_block (block_of c) b))
-    ∙ (sym (ahead-of-none (cells_in_block unit b (map (entry_of (block_of c)) c.entries))) ∙ names-cells unit (block_of c) b c.entries)
+list-cells : (unit : List Statement) (k b : BlockName) (ds : List Declarator)
+    → cells_in_block unit b (entries_listed k ds) ≡ (if same_block k b then cells_of_all unit (names_declared ds) else 0)
+list-cells unit k b [] = ap (λ n. n + 0) (nothing (same_block k b)) ∙ sym (nothing (same_block k b))
+list-cells unit k b (d ∷ ds) = names-cells unit k b (d ∷ ds)
 
 lists-cells : (unit : List Statement) (b : BlockName) (cs : List CommonBlock) → cells_in_block unit b (entries_in_lists cs) ≡ cells_of_all unit (names_declared (entries_under b cs))
 lists-cells unit b [] = refl
 lists-cells unit b (c ∷ cs) =
     let rest = cells_of_all unit (names_declared (entries_under b cs)) in
     cells-append unit b (entries_in_list c) (entries_in_lists cs)
-    ∙ (ap (λ n. cells_in_block unit b (entries_in_list c) + n) (lists-cells unit b cs) ∙ (ap (λ n. n + rest) (list-cells unit b c) ∙ by (same_block (block_of c) b)))
+    ∙ (ap (λ n. cells_in_block unit b (entries_in_list c) + n) (lists-cells unit b cs) ∙ (ap (λ n. n + rest) (list-cells unit (block_of c) b c.entries) ∙ by (same_block (block_of c) b)))
   where
     by : (t : Bool) → (if t then cells_of_all unit (names_declared c.entries) else 0) + cells_of_all unit (names_declared (entries_under b cs))
         ≡ cells_of_all unit (names_declared (if t then c.entries ++ entries_under b cs else entries_under b cs))
@@ -80,18 +79,22 @@ last-among : (b : BlockName) (bs : List BlockName) → is_block_among b (bs ++ b
 last-among b [] = ap (λ t. t || false) (block-self b)
 last-among b (c ∷ cs) = or-true (same_block b c) (is_block_among b (cs ++ b ∷ [])) (last-among b cs)
 
-this-among : (b : BlockName) (bs : List BlockName) → is_block_among b (with_block bs b) ≡ true
+pub this-among : (b : BlockName) (bs : List BlockName) → is_block_among b (with_block bs b) ≡ true
 this-among b bs = by (is_block_among b bs) refl
   where
     by : (t : Bool) → is_block_among b bs ≡ t → is_block_among b (if t then bs else bs ++ b ∷ []) ≡ true
     by true e = e
     by false e = last-among b bs
 
+list-blocks : (k : BlockName) (bs : List BlockName) (ds : List Declarator) → with_blocks_of bs (entries_listed k ds) ≡ with_block bs k
+list-blocks k bs [] = refl
+list-blocks k bs (d ∷ ds) = names-blocks k (with_block bs k) ds (this-among k bs)
+
 lists-blocks : (bs : List BlockName) (cs : List CommonBlock) → with_blocks_of bs (entries_in_lists cs) ≡ with_blocks bs cs
 lists-blocks bs [] = refl
 lists-blocks bs (c ∷ cs) =
     blocks-append bs (entries_in_list c) (entries_in_lists cs)
-    ∙ (ap (λ ks. with_blocks_of ks (entries_in_lists cs)) (names-blocks (block_of c) (with_block bs (block_of c)) c.entries (this-among (block_of c) bs))
+    ∙ (ap (λ ks. with_blocks_of ks (entries_in_lists cs)) (list-blocks (block_of c) bs c.entries)
     ∙ lists-blocks (with_block bs (block_of c)) cs)
 
 pub unit-blocks : (bs : List BlockName) (unit : List Statement) → with_blocks_of bs (entries_of unit) ≡ with_blocks bs (blocks_of_unit unit)

@@ -1,5 +1,5 @@
 -- The table of the lengths of common blocks, entry by entry and unit by unit.
-use Rattle.std.proofs.Common.{◌≡◌, ℕ, ◌+◌, ◌*◌, ◌^◌, ◌<◌, ◌≤◌, max, nat_eq, Bool, true, false, ◌||◌, Option, Some, None, List, [], ◌∷◌, ◌++◌, length, drop, append_assoc, refl, ap, sym, ◌∙◌, arith, if◌then◌else◌}
+use Rattle.std.proofs.Common.{◌≡◌, ℕ, ◌+◌, ◌*◌, ◌^◌, ◌<◌, ◌≤◌, max, nat_eq, Bool, true, false, true≢false, ◌||◌, Option, Some, None, is_some, List, [], ◌∷◌, ◌++◌, length, drop, append_assoc, refl, ap, sym, ◌∙◌, arith, if◌then◌else◌}
 use Rattle.std.proofs.lemmas.Bool.{eq-eqb}
 use Rattle.std.proofs.lemmas.List.{drop_all, length-append}
 use Rattle.std.proofs.lemmas.Bool.Decides.{nat_tests}
@@ -15,8 +15,8 @@ use Rattle.hep_values.proofs.BlockNames.{block_eq-is}
 use Rattle.hep_values.proofs.BlockNames.{block-equal}
 use Rattle.hep_common.specs.declared.common.Entry.{Entry}
 use Rattle.hep_common.specs.declared.common.Length.{Length}
-use Rattle.hep_common.specs.Lengths.{entries_of, entries_of_program, cells_of_entry, cells_in_block, with_block, with_blocks_of, cells_so_far, greatest_length, lengthened}
-use Rattle.hep_common.proofs.Entries.{with_blocks-append}
+use Rattle.hep_common.specs.Lengths.{entries_of, entries_of_program, cells_of_entry, cells_in_block, with_block, with_blocks_of, cells_so_far, greatest_length, lengthened, AreKept}
+use Rattle.hep_common.proofs.Entries.{this-among, with_blocks-append}
 
 -- ---- the test that a set of blocks makes is the definitions' test
 
@@ -26,6 +26,35 @@ among-is b (c ∷ cs) = ap (λ t. t || list_any (option_eq name_eq b) cs) (block
 
 pub block-inserted : (bs : List BlockName) (b : BlockName) → (if list_any (option_eq name_eq b) bs then bs else bs ++ b ∷ []) ≡ with_block bs b
 block-inserted bs b = ap (λ t. if t then bs else bs ++ b ∷ []) (among-is b bs)
+
+-- ---- blocks that have a length
+
+-- a block that is there isn't added again
+pub known-block : (bs : List BlockName) (b : BlockName) → is_block_among b bs ≡ true → bs ≡ with_block bs b
+known-block bs b h = sym (ap (λ t. if t then bs else bs ++ b ∷ []) h)
+
+among-append : (b k : BlockName) (bs : List BlockName) → is_block_among b bs ≡ true → is_block_among b (bs ++ k ∷ []) ≡ true
+among-append b k [] h = absurd (true≢false (sym h))
+among-append b k (c ∷ cs) h = by (same_block b c) h (among-append b k cs)
+  where
+    by : (t : Bool) → (t || is_block_among b cs) ≡ true → (is_block_among b cs ≡ true → is_block_among b (cs ++ k ∷ []) ≡ true) → (t || is_block_among b (cs ++ k ∷ [])) ≡ true
+    by true g rest = refl
+    by false g rest = rest g
+
+among-more : (b k : BlockName) (bs : List BlockName) → is_block_among b bs ≡ true → is_block_among b (with_block bs k) ≡ true
+among-more b k bs h = by (is_block_among k bs)
+  where
+    by : (t : Bool) → is_block_among b (if t then bs else bs ++ k ∷ []) ≡ true
+    by true = h
+    by false = among-append b k bs h
+
+pub kept-next : (bs ks : List BlockName) (k b : BlockName) (l : Length) (old : BlockName → Option Length) (new : Option Length) → AreKept bs old → ks ≡ with_block bs k
+    → new ≡ (if same_block k b then Some l else old b) → is_some new ≡ true → is_block_among b ks ≡ true
+kept-next bs ks k b l old new kept e n h = ap (is_block_among b) e ∙ by (same_block k b) refl (sym (ap is_some n) ∙ h)
+  where
+    by : (t : Bool) → same_block k b ≡ t → is_some (if t then Some l else old b) ≡ true → is_block_among b (with_block bs k) ≡ true
+    by true f g = ap (λ c. is_block_among c (with_block bs k)) (sym (block-equal k b f)) ∙ this-among k bs
+    by false f g = among-more b k bs (kept b g)
 
 -- ---- one entry more of a unit
 

@@ -1,5 +1,5 @@
 -- The lengths of common blocks, as one pass over the units finds them: X3.9-1978, 8.3.3.
-use Rattle.std.specs.Prelude.{◌≡◌, ℕ, ◌+◌, ◌≤◌, nat_eq, max, if◌then◌else◌, List, [], ◌∷◌, ◌++◌, map, Option, Some, None}
+use Rattle.std.specs.Prelude.{◌≡◌, ℕ, ◌+◌, ◌≤◌, true, nat_eq, max, if◌then◌else◌, List, [], ◌∷◌, ◌++◌, map, Option, Some, None, is_some}
 use Rattle.std.specs.List.{flat_map}
 use Rattle.std.specs.Option.{option_map_or}
 use Rattle.hep_source.specs.declared.declaration.CommonBlock.{CommonBlock}
@@ -16,9 +16,13 @@ use Rattle.hep_common.specs.declared.common.Length.{Length}
 abbrev pub entry_of : BlockName → Declarator → Entry
 entry_of b d = record { block = b; name = Some d.occurrence.name }
 
--- that a list of a block begins, and its names
+-- the names of a list, or only its block where there are none
+abbrev pub entries_listed : BlockName → List Declarator → List Entry
+entries_listed b [] = record { block = b; name = None } ∷ []
+entries_listed b (d ∷ ds) = map (entry_of b) (d ∷ ds)
+
 abbrev pub entries_in_list : CommonBlock → List Entry
-entries_in_list c = record { block = block_of c; name = None } ∷ map (entry_of (block_of c)) c.entries
+entries_in_list c = entries_listed (block_of c) c.entries
 
 abbrev pub entries_in_lists : List CommonBlock → List Entry
 entries_in_lists cs = flat_map entries_in_list cs
@@ -63,6 +67,10 @@ greatest_length (Some l) = l.greatest
 abbrev pub lengthened : Option Length → ℕ → ℕ → Length
 lengthened before number n =
     record { greatest = max (greatest_length before) (cells_so_far number before + n); unit = number; cells = cells_so_far number before + n }
+
+-- each block with a length is one of these
+abbrev pub AreKept : List BlockName → (BlockName → Option Length) → Type 0
+AreKept bs lengths = (b : BlockName) → is_some (lengths b) ≡ true → is_block_among b bs ≡ true
 
 -- nothing was read of this unit or a later one
 abbrev pub IsUnread : ℕ → (BlockName → Option Length) → Type 0

@@ -1,5 +1,5 @@
 //! The common blocks of a program and their greatest lengths (X3.9-1978, 8.3.3).
-ghost use Rattle.std.specs.Prelude.{◌≡◌, ◌+◌, ◌<◌, ◌≤◌, ◌^◌, ◌++◌, [], ℕ, Some, None, max, map, if◌then◌else◌, IfOk, OnOk};
+ghost use Rattle.std.specs.Prelude.{◌≡◌, ◌+◌, ◌<◌, ◌≤◌, ◌^◌, ◌++◌, [], ℕ, ◌&&◌, Some, None, is_some, max, map, if◌then◌else◌, IfOk, OnOk};
 ghost use Rattle.std.specs.Option.{option_eq, unwrap_or};
 ghost use Rattle.indexmap.specs.IndexMap.{get};
 ghost use Rattle.hep_source.specs.Names.{index_where, name_eq};
@@ -8,16 +8,17 @@ ghost use Rattle.hep_machine.specs.Declarations as declarations;
 ghost use Rattle.hep_machine.specs.Declarations.{BlockName, same_block};
 ghost use Rattle.hep_machine.specs.Layout.{block_cells, common_cells};
 ghost use Rattle.hep_common.specs.Lengths as reading;
-ghost use Rattle.hep_common.specs.Lengths.{IsUnread};
+ghost use Rattle.hep_common.specs.Lengths.{AreKept, IsUnread};
 
-use hep_source::{CommonBlock, Declarator, Form, Name, Statement};
+use hep_source::{CommonBlock, Declarator, Name, Statement};
+use hep_symbols::declarators::{block_of, blocks_in};
 use hep_symbols::{ProgramSymbols, Symbols};
 use hep_values::given::constants;
 use hep_values::{Constants, cells_of};
 use indexmap::{IndexMap, IndexSet};
 use std::alloc::{AllocError, Global};
 
-// What a COMMON statement says, one thing at a time: a name in a block, or none where a list of the block begins.
+// What a COMMON statement says, one thing at a time: a name in a block, or none where a list names only the block.
 #[derive(Clone, Copy, Debug, PartialEq, Eq)]
 struct Entry {
     block: Option<Name>,
@@ -62,19 +63,14 @@ fn add_names(
     Ok(())
 }
 
-// The block that a list of COMMON names; none for blank COMMON.
-fn block_of(list: &CommonBlock) -> Option<Name>
-    ensures { result ≡ declarations.block_of list.now }
-{
-    list.block.map(|occurrence| occurrence.name)
-}
-
 fn add_list(entries: &mut Vec<Entry>, list: &CommonBlock) -> Result<(), AllocError>
     ensures { OnOk result (entries.new.items ≡ entries.old.items ++ reading.entries_in_list list.now) }
 {
     let block = block_of(list);
-    entries.push(Entry { block, name: None })?;
-    add_names(entries, block, list.entries.as_slice())?;
+    match list.entries.as_slice() {
+        [] => entries.push(Entry { block, name: None })?,
+        declarators => add_names(entries, block, declarators)?,
+    }
     Ok(())
 }
 
@@ -87,20 +83,11 @@ fn add_lists(entries: &mut Vec<Entry>, lists: &[CommonBlock]) -> Result<(), Allo
     Ok(())
 }
 
-fn lists_in(form: &Form) -> &[CommonBlock]
-    ensures { result.now ≡ declarations.blocks_in form.now }
-{
-    match form {
-        Form::Common(lists) => lists.as_slice(),
-        _ => &[],
-    }
-}
-
 fn add_entries(entries: &mut Vec<Entry>, statements: &[Statement]) -> Result<(), AllocError>
     ensures { OnOk result (entries.new.items ≡ entries.old.items ++ reading.entries_of statements.now) }
 {
     for statement in statements {
-        add_lists(entries, lists_in(&statement.form))?;
+        add_lists(entries, blocks_in(&statement.form))?;
     }
     Ok(())
 }
@@ -173,10 +160,28 @@ fn set_length(lengths: &mut Lengths, block: Option<Name>, length: Length) -> Res
     Ok(())
 }
 
+// Whether a block has a length: then it gets so many cells more in a unit.
+fn is_lengthened(lengths: &mut Lengths, block: Option<Name>, unit: usize, count: u32) -> bool
+    requires { reading.cells_so_far unit (get (option_eq name_eq) lengths.old block) < 2 ^ 96 }
+    ensures there { result ≡ is_some (get (option_eq name_eq) lengths.old block) }
+    ensures lengths { (b : BlockName) → get (option_eq name_eq) lengths.new b
+        ≡ (if result && same_block block b then Some (reading.lengthened (get (option_eq name_eq) lengths.old block) unit count)
+        else get (option_eq name_eq) lengths.old b) }
+{
+    match lengths.get_mut(&block) {
+        Some(length) => {
+            *length = lengthened(Some(*length), unit, count);
+            true
+        }
+        None => false,
+    }
+}
+
 impl CommonBlocks {
     fn new(alloc: Global) -> CommonBlocks
         ensures blocks { result.blocks.keys ≡ [] }
         ensures lengths { (b : BlockName) → get (option_eq name_eq) result.lengths b ≡ None }
+        ensures kept { AreKept result.blocks.keys (get (option_eq name_eq) result.lengths) }
     {
         CommonBlocks {
             blocks: IndexSet::new(alloc),
@@ -186,15 +191,18 @@ impl CommonBlocks {
 
     // So many cells more of a block in a unit.
     fn lengthen(&mut self, block: Option<Name>, unit: usize, count: u32) -> Result<(), AllocError>
-        requires { reading.cells_so_far unit (get (option_eq name_eq) self.old.lengths block) < 2 ^ 96 }
+        requires few { reading.cells_so_far unit (get (option_eq name_eq) self.old.lengths block) < 2 ^ 96 }
+        requires kept { AreKept self.old.blocks.keys (get (option_eq name_eq) self.old.lengths) }
+        ensures kept { OnOk result (AreKept self.new.blocks.keys (get (option_eq name_eq) self.new.lengths)) }
         ensures blocks { OnOk result (self.new.blocks.keys ≡ reading.with_block self.old.blocks.keys block) }
         ensures lengths { OnOk result ((b : BlockName) → get (option_eq name_eq) self.new.lengths b
             ≡ (if same_block block b then Some (reading.lengthened (get (option_eq name_eq) self.old.lengths block) unit count)
             else get (option_eq name_eq) self.old.lengths b)) }
     {
-        add_block(&mut self.blocks, block)?;
-        let length = lengthened(length_of(&self.lengths, block), unit, count);
-        set_length(&mut self.lengths, block, length)?;
+        if !is_lengthened(&mut self.lengths, block, unit, count) {
+            add_block(&mut self.blocks, block)?;
+            set_length(&mut self.lengths, block, lengthened(None, unit, count))?;
+        }
         Ok(())
     }
 
@@ -208,6 +216,8 @@ impl CommonBlocks {
     ) -> Result<(), AllocError>
         requires unread { IsUnread unit (get (option_eq name_eq) self.old.lengths) }
         requires entries { entries.now ≡ reading.entries_of symbols.now }
+        requires kept { AreKept self.old.blocks.keys (get (option_eq name_eq) self.old.lengths) }
+        ensures kept { OnOk result (AreKept self.new.blocks.keys (get (option_eq name_eq) self.new.lengths)) }
         ensures blocks { OnOk result (self.new.blocks.keys
             ≡ declarations.with_blocks self.old.blocks.keys (declarations.blocks_of_unit symbols.now)) }
         ensures lengths { OnOk result ((b : BlockName) → reading.greatest_length (get (option_eq name_eq) self.new.lengths b)

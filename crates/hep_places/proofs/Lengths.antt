@@ -1,13 +1,39 @@
 -- Lengths of common blocks, of which one is lengthened.
-use Rattle.std.proofs.Common.{◌≡◌, ℕ, ◌+◌, Bool, true, false, Option, Some, refl, ap, ◌∙◌, if◌then◌else◌}
-use Rattle.std.specs.Option.{unwrap_or}
+use Rattle.std.proofs.Common.{◌≡◌, ℕ, ◌+◌, ◌≤◌, Bool, true, false, Option, Some, None, refl, ap, sym, ◌∙◌, arith, cond, if◌then◌else◌}
+use Rattle.std.specs.Option.{option_eq, unwrap_or}
+use Rattle.hep_source.specs.Names.{name_eq}
 use Rattle.hep_machine.specs.Declarations.{BlockName, same_block}
-use Rattle.hep_values.proofs.BlockNames.{block-equal}
+use Rattle.hep_values.proofs.BlockNames.{block-equal, changed}
 use Rattle.hep_common.specs.Starts.{narrowed}
+use Rattle.hep_places.proofs.Narrowed.{narrowed-small}
 
-pub length-set : (lengths : BlockName → Option ℕ) (k b : BlockName) (n v : ℕ) → v ≡ narrowed (unwrap_or (lengths k) 0 + n)
-    → unwrap_or (if same_block k b then Some v else lengths b) 0 ≡ (if same_block k b then narrowed (unwrap_or (lengths b) 0 + n) else unwrap_or (lengths b) 0)
-length-set lengths k b n v e = by (same_block k b) refl where
-  by : (t : Bool) → same_block k b ≡ t → unwrap_or (if t then Some v else lengths b) 0 ≡ (if t then narrowed (unwrap_or (lengths b) 0 + n) else unwrap_or (lengths b) 0)
-  by true f = e ∙ ap (λ c. narrowed (unwrap_or (lengths c) 0 + n)) (block-equal k b f)
-  by false f = refl
+abbrev Lengths : Type 0
+Lengths = BlockName → Option ℕ
+
+-- what a table has of a block after another one, or this one, was given a length
+abbrev IsSet : BlockName → BlockName → ℕ → Lengths → Lengths → Type 0
+IsSet k b n old new = new b ≡ cond (option_eq name_eq k b) (Some n) (old b)
+
+-- a block that had a length gets a greater one
+pub length-set : (old one new : Lengths) (k b : BlockName) (n before v : ℕ) → old k ≡ Some before → v ≡ narrowed (before + n) → IsSet k b n old one → IsSet k b v one new
+    → unwrap_or (new b) 0 ≡ (if same_block k b then narrowed (unwrap_or (old b) 0 + n) else unwrap_or (old b) 0)
+length-set old one new k b n before v h e first second =
+    ap (λ o. unwrap_or o 0) (second ∙ changed k b (Some v) (one b)) ∙ by (same_block k b) refl (first ∙ changed k b (Some n) (old b))
+  where
+    by : (t : Bool) → same_block k b ≡ t → one b ≡ (if t then Some n else old b)
+        → unwrap_or (if t then Some v else one b) 0 ≡ (if t then narrowed (unwrap_or (old b) 0 + n) else unwrap_or (old b) 0)
+    by true f g = e ∙ ap (λ o. narrowed (unwrap_or o 0 + n)) (sym h ∙ ap old (block-equal k b f))
+    by false f g = ap (λ o. unwrap_or o 0) g
+
+none-before : (n : ℕ) → 0 + n ≡ n
+none-before n = omega arith
+
+-- a block that had none gets its first one
+pub length-first : (old new : Lengths) (k b : BlockName) (n : ℕ) → old k ≡ None → n ≤ 4294967295 → IsSet k b n old new
+    → unwrap_or (new b) 0 ≡ (if same_block k b then narrowed (unwrap_or (old b) 0 + n) else unwrap_or (old b) 0)
+length-first old new k b n h few first =
+    ap (λ o. unwrap_or o 0) (first ∙ changed k b (Some n) (old b)) ∙ by (same_block k b) refl
+  where
+    by : (t : Bool) → same_block k b ≡ t → unwrap_or (if t then Some n else old b) 0 ≡ (if t then narrowed (unwrap_or (old b) 0 + n) else unwrap_or (old b) 0)
+    by true f = sym (ap narrowed (none-before n) ∙ narrowed-small n few) ∙ ap (λ o. narrowed (unwrap_or o 0 + n)) (sym h ∙ ap old (block-equal k b f))
+    by false f = refl

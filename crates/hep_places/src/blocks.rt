@@ -12,9 +12,9 @@ ghost use Rattle.hep_symbols.specs.Tables.{by_name};
 ghost use Rattle.hep_places.specs.Found as found;
 
 use crate::cells::further;
-use crate::notes::note;
-use hep_source::{CommonBlock, Declarator, Form, Name, Statement};
-use hep_symbols::Symbols;
+use hep_source::{CommonBlock, Declarator, Name, Statement};
+use hep_symbols::declarators::{block_of, blocks_in};
+use hep_symbols::{Symbols, note};
 use hep_values::{Constants, cells_of};
 use indexmap::IndexMap;
 use std::alloc::{AllocError, Global};
@@ -45,8 +45,7 @@ fn add_block(entries: &mut Vec<Entry>, block: &CommonBlock) -> Result<(), AllocE
     ensures { OnOk result (entries.new.items ≡ entries.old.items
         ++ map (found.entry_of (declarations.block_of block.now)) block.now.entries) }
 {
-    let name = block.block.map(|occurrence| occurrence.name);
-    add_names(entries, name, block.entries.as_slice())?;
+    add_names(entries, block_of(block), block.entries.as_slice())?;
     Ok(())
 }
 
@@ -57,15 +56,6 @@ fn add_blocks(entries: &mut Vec<Entry>, blocks: &[CommonBlock]) -> Result<(), Al
         add_block(entries, block)?;
     }
     Ok(())
-}
-
-fn blocks_in(form: &Form) -> &[CommonBlock]
-    ensures { result.now ≡ declarations.blocks_in form.now }
-{
-    match form {
-        Form::Common(blocks) => blocks.as_slice(),
-        _ => &[],
-    }
 }
 
 // The names in the common blocks of a unit, each with its block.
@@ -91,22 +81,24 @@ impl Drop for Offsets {
     }
 }
 
-fn length_of(lengths: &IndexMap<Option<Name>, u32>, block: Option<Name>) -> u32
-    ensures { result ≡ found.length_in lengths.now block }
-{
-    lengths.get(&block).copied().unwrap_or(0)
-}
-
+// A block gets longer by so many cells; the result is how long it was before.
 fn lengthen(
     lengths: &mut IndexMap<Option<Name>, u32>,
     block: Option<Name>,
     cells: u32,
-) -> Result<(), AllocError>
-    ensures { OnOk result ((b : BlockName) → found.length_in lengths.new b ≡ found.lengthened (found.length_in lengths.old) block cells b) }
+) -> Result<u32, AllocError>
+    ensures before { IfOk result (λ before. before ≡ found.length_in lengths.old block) }
+    ensures lengthened { OnOk result ((b : BlockName)
+        → found.length_in lengths.new b ≡ found.lengthened (found.length_in lengths.old) block cells b) }
 {
-    let length = further(length_of(lengths, block), cells);
-    lengths.insert(block, length)?;
-    Ok(())
+    // One look-up where the block is new.
+    match lengths.insert(block, cells)? {
+        Some(before) => {
+            lengths.insert(block, further(before, cells))?;
+            Ok(before)
+        }
+        None => Ok(0),
+    }
 }
 
 impl Offsets {
@@ -136,12 +128,8 @@ impl Offsets {
             ≡ found.lengthened (found.length_in self.old.lengths) entry.now.block (values.cells_of symbols.now entry.now.name) b) }
     {
         let cells = cells_of(alloc, symbols, constants, &entry.name)?;
-        note(
-            &mut self.table,
-            entry.name,
-            length_of(&self.lengths, entry.block),
-        )?;
-        lengthen(&mut self.lengths, entry.block, cells)?;
+        let before = lengthen(&mut self.lengths, entry.block, cells)?;
+        note(&mut self.table, entry.name, before)?;
         Ok(())
     }
 }

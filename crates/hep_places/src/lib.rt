@@ -10,7 +10,6 @@ mod dummies;
 pub mod laws;
 mod loops;
 mod names;
-mod notes;
 mod owners;
 mod tables;
 pub mod unit;

@@ -13,13 +13,12 @@ ghost use Rattle.hep_places.specs.Found as found;
 
 use crate::actuals::bare_actuals;
 use crate::cells::further;
-use crate::notes::note;
 use crate::tables::{Tables, start_of};
 use hep_code::Variable;
 use hep_common::CommonStarts;
 use hep_image::Start;
 use hep_source::Name;
-use hep_symbols::Symbols;
+use hep_symbols::{Symbols, note};
 use indexmap::{IndexMap, IndexSet};
 use std::alloc::{AllocError, Global};
 

@@ -13,17 +13,11 @@ ghost use Rattle.hep_storage.specs.Table.{contents_in, block_at, summed_in, AreR
 
 use crate::contents::Noted;
 use crate::table::{Entry, Table};
-use hep_source::{CommonBlock, Form, Name};
+use hep_source::{CommonBlock, Name};
 use hep_symbols::Symbols;
+use hep_symbols::declarators::{block_of, blocks_in};
 use hep_types::Shapes;
 use std::alloc::{AllocError, Global};
-
-// The block that a list of COMMON names; none for blank COMMON.
-fn block_of(list: &CommonBlock) -> Option<Name>
-    ensures { result ≡ declarations.block_of list.now }
-{
-    list.block.map(|occurrence| occurrence.name)
-}
 
 // The names that a list of COMMON at a line adds to a block.
 fn note_block(
@@ -83,15 +77,6 @@ fn note_blocks(
     Ok(())
 }
 
-fn lists_in(form: &Form) -> &[CommonBlock]
-    ensures { result.now ≡ declarations.blocks_in form.now }
-{
-    match form {
-        Form::Common(lists) => lists.as_slice(),
-        _ => &[],
-    }
-}
-
 /// Reads what a unit has in each of its blocks, of which `named` gets the names.
 ///
 /// # Errors
@@ -112,7 +97,7 @@ pub(crate) fn read_blocks(
 {
     let shapes = Shapes::new(alloc, symbols)?;
     for statement in symbols.statements() {
-        let (line, lists) = (statement.line, lists_in(&statement.form));
+        let (line, lists) = (statement.line, blocks_in(&statement.form));
         note_blocks(alloc, symbols, &shapes, table, named, noted, line, lists)?;
     }
     Ok(())

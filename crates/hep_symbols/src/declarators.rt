@@ -4,8 +4,25 @@ ghost use Rattle.hep_machine.specs.Declarations as declarations;
 ghost use Rattle.hep_symbols.specs.Statements.{rest_after};
 ghost use Rattle.hep_symbols.specs.Tables.{arrays_among};
 
-use hep_source::{CommonBlock, Declarator, Form};
+use hep_source::{CommonBlock, Declarator, Form, Name};
 use std::alloc::{AllocError, Global};
+
+/// The block that a list of COMMON names; none for blank COMMON (8.3).
+pub fn block_of(list: &CommonBlock) -> Option<Name>
+    ensures { result ≡ declarations.block_of list.now }
+{
+    list.block.map(|occurrence| occurrence.name)
+}
+
+/// The lists of a COMMON statement, each with its block; any other statement has none (8.3).
+pub fn blocks_in(form: &Form) -> &[CommonBlock]
+    ensures { result.now ≡ declarations.blocks_in form.now }
+{
+    match form {
+        Form::Common(lists) => lists.as_slice(),
+        _ => &[],
+    }
+}
 
 type Found<'a> = Vec<&'a Declarator>;
 

@@ -22,5 +22,6 @@ pub use functions::{Meaning, function_named};
 pub use lists::{NameWithList, names_with_lists};
 pub use program::ProgramSymbols;
 pub use symbols::Symbols;
+pub use table::note;
 pub use unknown::unknown_name_violation;
 pub use untyped::type_missing_violation;

@@ -12,7 +12,7 @@ ghost use Rattle.hep_symbols.specs.Statements.{rest_after};
 ghost use Rattle.hep_symbols.specs.Tables as tables;
 ghost use Rattle.hep_source.specs.Names.{name_eq};
 
-use crate::declarators::array_declarators;
+use crate::declarators::{array_declarators, block_of, blocks_in};
 use crate::table::{NameSet, Table, add, note, note_first};
 use hep_source::{
     CommonBlock, Declarator, Form, ImplicitGroup, LetterRange, Name, NamedConstant, Occurrence,
@@ -70,13 +70,6 @@ fn note_block(
     Ok(are_new)
 }
 
-// The block that a list of COMMON names; none for blank COMMON.
-fn block_of(list: &CommonBlock) -> Option<Name>
-    ensures { result ≡ declarations.block_of list.now }
-{
-    list.block.map(|occurrence| occurrence.name)
-}
-
 // Says whether all names are new.
 fn note_blocks(
     blocks: &mut IndexMap<Name, Option<Name>>,
@@ -93,15 +86,6 @@ fn note_blocks(
         are_new &= is_new;
     }
     Ok(are_new)
-}
-
-fn blocks_in(form: &Form) -> &[CommonBlock]
-    ensures { result.now ≡ declarations.blocks_in form.now }
-{
-    match form {
-        Form::Common(named) => named.as_slice(),
-        _ => &[],
-    }
 }
 
 fn entry_count(blocks: &[CommonBlock]) -> usize {

@@ -54,12 +54,12 @@ pub(crate) fn note_first<V: Drop>(
     }
 }
 
-// Gives a name a value, unless it has one.
-pub(crate) fn note<V: Drop>(
-    table: &mut IndexMap<Name, V>,
-    name: Name,
-    value: V,
-) -> Result<(), AllocError>
+/// Gives a name a value, unless it has one.
+///
+/// # Errors
+///
+/// Only where memory was refused.
+pub fn note<V: Drop>(table: &mut IndexMap<Name, V>, name: Name, value: V) -> Result<(), AllocError>
     ensures { OnOk result ((x : PureName) → get name_eq table.new x
         ≡ option_or (get name_eq table.old x) (by_name name value x)) }
 {

@@ -14,8 +14,8 @@ use crate::bounds::shape_given;
 use crate::parameters::Parameters;
 use hep_shape::Shape;
 use hep_source::{Declarator, Name, Statement};
-use hep_symbols::Symbols;
 use hep_symbols::declarators::array_declarators;
+use hep_symbols::{Symbols, note};
 use hep_values::statements::constants_in;
 use indexmap::IndexMap;
 use std::alloc::{AllocError, Global};
@@ -65,16 +65,6 @@ impl<'a> Model for Shapes<'a> {
 }
 
 type Table = IndexMap<Name, Option<Shape>>;
-
-// Gives a name a shape, unless it has one.
-fn note(shapes: &mut Table, name: Name, shape: Option<Shape>) -> Result<(), AllocError>
-    ensures { OnOk result ((x : PureName) → get name_eq shapes.new x ≡ option_or (get name_eq shapes.old x) (by_name name shape x)) }
-{
-    if !shapes.contains_key(&name) {
-        shapes.insert(name, shape)?;
-    }
-    Ok(())
-}
 
 // The shape that a declarator gives its name, where it gives dimensions and is the first that does.
 fn note_shape(

@@ -10,5 +10,5 @@ loop-statement-preserved c =
     let i = c.loop-statement.statement-index in
     let found = c.loop-statement.entries.items in
     entries-turn found c.add_lists.new.entries.items _ c.statement-item.result (drop i ss) (drop (i + 1) ss) c.loop-statement.invariant
-    (c.in_ok-add_lists.ensures ∙ ap (λ cs. found ++ entries_in_lists cs) c.lists_in.ensures)
+    (c.in_ok-add_lists.ensures ∙ ap (λ cs. found ++ entries_in_lists cs) c.blocks_in.ensures)
     (ahead ss i c.statement-item.result c.loop-statement-test.true c.statement-item.is)

@@ -22,7 +22,7 @@ loop-statement-preserved c =
     let unit = c.args.symbols.now in
     record {
       has = λ b.
-          statement-turn unit (contains name_eq c.note_blocks.new.noted) b c.statements-statement-items.result.now unit i _ c.statement-item.result c.lists_in-lists.result.now _ c.statements-statement-items.ensures c.loop-statement-test.true c.statement-item.is c.lists_in-lists.ensures
+          statement-turn unit (contains name_eq c.note_blocks.new.noted) b c.statements-statement-items.result.now unit i _ c.statement-item.result c.blocks_in-lists.result.now _ c.statements-statement-items.ensures c.loop-statement-test.true c.statement-item.is c.blocks_in-lists.ensures
           (c.in_ok-note_blocks.ensures.has b (names_in_block (take i unit) b) (last_line b (take i unit)) (c.loop-statement.invariant.has b));
       read =
           read-next (get (option_eq name_eq) c.args.table.now) (get (option_eq name_eq) c.loop-statement.table) (get (option_eq name_eq) c.note_blocks.new.table)

@@ -16,6 +16,7 @@ loop-number-init c =
       blocks = ap (λ bs. with_blocks bs (flat_map blocks_of_unit c.args.program.now)) c.new-common.ensures.blocks;
       lengths = λ b. start-length _ _ (c.new-common.ensures.lengths b);
       entries = ap (λ es. es ++ entries_of_program c.args.program.now) c.new-entries.ensures.items;
+      kept = c.new-common.ensures.kept;
       unread = λ b v lt. start-unread _ v (c.new-common.ensures.lengths b);
     }
 
@@ -36,6 +37,7 @@ loop-number-preserved c =
       lengths = λ b. lengths-next b unit (drop i us) (drop (i + 1) us) (old b) (new b) _ (c.loop-number.invariant.lengths b) next (c.in_ok-read_unit.ensures.lengths b);
       entries = row-next c.loop-number.entries.items _ _ unit (drop i us) (drop (i + 1) us) c.loop-number.invariant.entries next
           (c.in_ok-add_entries.ensures ∙ ap (λ ss. c.loop-number.entries.items ++ entries_of ss) c.statements.ensures);
+      kept = c.in_ok-read_unit.ensures.kept;
       unread = c.in_ok-read_unit.ensures.unread;
     }
 

@@ -15,12 +15,13 @@ loop-entry-init c =
       blocks = refl;
       cells = λ b. start-cells _ _ (c.requires.unread b c.args.unit (omega arith));
       longest = λ b. start-longest _ _ (c.requires.unread b c.args.unit (omega arith));
+      kept = c.requires.kept;
       unread = λ b v lt. c.requires.unread b v (omega (arith, lt));
       bounded = λ b. start-few _ (c.requires.unread b c.args.unit (omega arith));
     }
 
-pub lengthen-requires : goal.lengthen-requires
-lengthen-requires c =
+pub lengthen-requires-clause-few : goal.lengthen-requires-clause-few
+lengthen-requires-clause-few c =
     let i = c.loop-entry.entry-index in
     let few = c.loop-entry.invariant.bounded (get_or c.args.entries.now i (record { block = None; name = None })).block in
     omega (arith, few, c.loop-entry-test.true)
@@ -39,6 +40,7 @@ loop-entry-preserved c =
       blocks = blocks-entry _ _ _ _ (drop i es) (drop (i + 1) es) c.loop-entry.invariant.blocks ahead c.in_ok-lengthen.ensures.blocks;
       cells = λ b. cells-next c.args.symbols.now c.args.unit n b _ (drop i es) (drop (i + 1) es) (old b) (new b) _ (c.loop-entry.invariant.cells b) ahead c.in_ok-count.ensures (turned b);
       longest = λ b. longest-next c.args.unit n _ _ (old b) (new b) (c.loop-entry.invariant.longest b) (turned b);
+      kept = c.in_ok-lengthen.ensures.kept;
       unread = λ b v lt. unread-next c.args.unit n v _ (old b) (new b) lt (c.loop-entry.invariant.unread b v lt) (turned b);
       bounded = λ b. bounded-next c.args.unit n i _ (old b) (new b) (c.loop-entry.invariant.bounded b) (omega arith) (turned b);
     }

@@ -3,7 +3,7 @@ use Rattle.std.specs.Option.{option_eq}
 use Rattle.indexmap.specs.IndexMap.{get}
 use Rattle.hep_source.specs.Names.{name_eq}
 use Rattle.hep_machine.specs.Declarations.{BlockName}
-use Rattle.hep_common.specs.Lengths.{cells_in_block, cells_so_far, greatest_length, with_blocks_of, IsUnread}
+use Rattle.hep_common.specs.Lengths.{cells_in_block, cells_so_far, greatest_length, with_blocks_of, AreKept, IsUnread}
 use Rattle.hep_common.proofs.common.CommonBlocks.read_unit.Given as goal
 
 abbrev pub invariant-loop-entry : goal.invariant-loop-entry
@@ -12,6 +12,7 @@ invariant-loop-entry l =
       blocks : with_blocks_of l.self.blocks.keys (drop l.entry-index l.entries) ≡ with_blocks_of l.initial.self.blocks.keys l.entries;
       cells : (b : BlockName) → cells_so_far l.unit (get (option_eq name_eq) l.self.lengths b) + cells_in_block l.symbols b (drop l.entry-index l.entries) ≡ cells_in_block l.symbols b l.entries;
       longest : (b : BlockName) → greatest_length (get (option_eq name_eq) l.self.lengths b) ≡ max (greatest_length (get (option_eq name_eq) l.initial.self.lengths b)) (cells_so_far l.unit (get (option_eq name_eq) l.self.lengths b));
+      kept : AreKept l.self.blocks.keys (get (option_eq name_eq) l.self.lengths);
       unread : IsUnread (l.unit + 1) (get (option_eq name_eq) l.self.lengths);
       bounded : (b : BlockName) → cells_so_far l.unit (get (option_eq name_eq) l.self.lengths b) ≤ 2 ^ 32 * l.entry-index;
     }
