@@ -8,16 +8,11 @@ use hep_source::Program;
 use std::marker::Model;
 
 /// A program that violates no condition. Contracts see its units.
+#[derive(Drop)]
 pub struct Checked {
     program: Program,
     // The cells of the frame of each unit.
     frames: Vec<u128>,
-}
-
-impl Drop for Checked {
-    fn drop(self) {
-        let Checked { program, frames } = self;
-    }
 }
 
 impl Model for Checked {
@@ -53,6 +48,13 @@ impl Checked {
         ensures { result.now ≡ self.now }
     {
         &self.program
+    }
+
+    /// The program alone; this takes no memory.
+    pub fn into_program(self) -> Program
+        ensures { result ≡ self }
+    {
+        self.program
     }
 
     /// How many cells the frame of a unit has (docs/MACHINE.md, "Variables and frames"), by its index in the source,

@@ -52,9 +52,9 @@ none-there (Some x) h = absurd (h x refl)
 pub unit-item : (program items : Units) (u : ℕ) (unit : List Statement) → items ≡ program → u < length items → unit ≡ get_or items u unit → unit ≡ unit_at program u
 unit-item program items u unit same there is = sym (ap (λ (us : Units). unit_at us u) (sym same) ∙ ap (λ o. unwrap_or o []) (slice_get_read items (length items) u unit refl there is))
 
-pub ok-then : {A E : Type 0} (r : Result A E) (P Q : A → Type 0) → IfOk r P → ((x : A) → P x → Q x) → IfOk r Q
-ok-then (Ok x) P Q h f = f x h
-ok-then (Err e) P Q h f = tt
+pub both-then : {A E : Type 0} (r : Result A E) (P Q R : A → Type 0) → IfOk r P → IfOk r Q → ((x : A) → P x → Q x → R x) → IfOk r R
+both-then (Ok x) P Q R h g f = f x h g
+both-then (Err e) P Q R h g f = tt
 
 -- the main program's places are those by which DATA finds its cells
 pub main-frame : (program : Units) (unit : List Statement) (places : UnitPlaces) (arrays : List Array) (main cells : ℕ) → main_unit program ≡ main → unit ≡ unit_at program main → ArePlaces program (unit_at program main) places → arrays ≡ places.arrays.items

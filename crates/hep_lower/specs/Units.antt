@@ -1,11 +1,14 @@
 -- What is known of the units of a program that were lowered so far.
-use Rattle.std.specs.Prelude.{◌≡◌, ℕ, ◌≤◌, None, Some, length, slice_get}
+use Rattle.std.specs.Prelude.{◌≡◌, ℕ, ◌≤◌, List, None, Some, length, slice_get}
 use Rattle.hep_source.specs.Units.{Units}
 use Rattle.hep_code.specs.Depths.{line_too_deep}
 use Rattle.hep_code.specs.Limits.{most_instructions}
+use Rattle.hep_image.specs.declared.data.DataRow.{DataRow}
 use Rattle.hep_image.specs.declared.unit.UnitCode.{UnitCode}
-use Rattle.hep_image.specs.Image.{IsUnitCode}
+use Rattle.hep_image.specs.Data.{AreInitial, AreOfUnits}
+use Rattle.hep_image.specs.Image.{IsImage, IsUnitCode}
 use Rattle.hep_placed.specs.Placed.{code_in}
+use Rattle.hep_lower.specs.declared.program.ImageTables.{ImageTables}
 use Rattle.hep_lower.specs.declared.units.LoweredUnit.{LoweredUnit}
 use Rattle.hep_lower.specs.declared.units.LoweredUnit.TheVariants.{Runnable, TooDeep}
 use Rattle.hep_lower.specs.declared.units.LoweredUnits.{LoweredUnits}
@@ -23,3 +26,12 @@ pub record AreUnits (program : Units) (n : ℕ) (units : LoweredUnits) : Type 0 
   pub counted : units.instructions ≡ instructions_in program n
   pub all : units.too_deep ≡ None → length units.codes.items ≡ n
   pub each : units.too_deep ≡ None → (u : ℕ) (unit : UnitCode) → slice_get units.codes.items u ≡ Some unit → IsUnitCode program u unit
+
+-- the rows are what DATA gives at the opening
+pub record AreRows (program : Units) (rows : List DataRow) : Type 0 where
+  pub initial : AreInitial program rows
+  pub of_units : AreOfUnits program rows
+
+-- these are what the image of a program has beside it
+abbrev pub AreTables : Units → ImageTables → Type 0
+AreTables program tables = IsImage program tables.units tables.main tables.common tables.rows tables.names tables.blocks

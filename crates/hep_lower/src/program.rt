@@ -1,26 +1,24 @@
 //! Checked programs become images.
 ghost use Rattle.std.specs.Prelude.{◌≡◌, ◌≤◌, ◌<◌, ℕ, Some, None, IfOk, IfErr, OnOk, IsTrue, true, false, length};
-ghost use Rattle.hep_source.specs.Units.{main_among, main_unit, unit_at};
+ghost use Rattle.hep_source.specs.Units.{main_among, unit_at};
 ghost use Rattle.hep_machine.specs.Layout.{common_cells};
 ghost use Rattle.hep_machine.specs.Variables.{frame_cells};
 ghost use Rattle.hep_common.specs.Starts.{AreBlocks, AreStarts};
-ghost use Rattle.hep_image.specs.Data.{AreInitial, AreOfUnits};
 ghost use Rattle.hep_code.specs.Limits.{most_instructions};
 ghost use Rattle.hep_image.specs.Image.{most_cells};
 ghost use Rattle.hep_lower.specs.Refusals.{AreCellsBeyond, IsLowered, Refuses};
-ghost use Rattle.hep_lower.specs.Units.{AreUnits};
+ghost use Rattle.hep_lower.specs.Units.{AreRows, AreTables, AreUnits};
 
 use crate::blocks::starts_of;
 use crate::mains::main_index;
 use crate::spellings::names_in_order;
-use crate::units::{LoweredUnits, lower_units};
+use crate::units::{LoweredProgram, lower_units};
 use hep_base::{Refusal as LowerFault, Sequence};
 use hep_check::Checked;
 use hep_common::{CommonBlocks, CommonStarts};
-use hep_data::{MainFrame, data_rows};
 use hep_emit::MOST_INSTRUCTIONS;
-use hep_image::{DataRow, Image};
-use hep_places::unit_places;
+use hep_image::{BlockStart, DataRow, Image, ProgramNames, UnitCode};
+use hep_source::Program;
 use hep_symbols::ProgramSymbols;
 use std::alloc::{AllocError, Global};
 
@@ -45,45 +43,45 @@ fn exceeds_cells(checked: &Checked, common: &CommonStarts) -> bool
     false
 }
 
-// What DATA gives at the opening of a program whose main program has this index.
-fn initial_rows(
-    alloc: Global,
-    checked: &Checked,
-    main: usize,
-    program: &ProgramSymbols,
-    common: &CommonStarts,
-) -> Result<Vec<DataRow>, AllocError>
-    requires program { program.now ≡ checked.now }
-    requires main { main_unit checked.now ≡ main }
-    requires inside { main < length checked.now }
-    requires starts { AreStarts checked.now common.now }
-    requires small_common { common_cells checked.now ≤ most_cells }
-    requires small_frames { (u : ℕ) → u < length checked.now → frame_cells (unit_at checked.now u) ≤ most_cells }
-    ensures initial { IfOk result (λ rows. AreInitial checked.now rows.items) }
-    ensures units { IfOk result (λ rows. AreOfUnits checked.now rows.items) }
-{
-    checked.is_accepted();
-    let symbols = &program.units()[main];
-    let places = unit_places(alloc, symbols, common)?;
-    let frame = MainFrame {
-        symbols,
-        variables: &places.places.variables,
-        arrays: &places.arrays,
-        common: common.cells() as u32,
-    };
-    data_rows(alloc, &frame)
+/// All that an image has beside its program.
+#[derive(Drop)]
+pub(crate) struct ImageTables {
+    pub units: Sequence<UnitCode>,
+    pub main: u32,
+    pub common: u32,
+    pub rows: Sequence<DataRow>,
+    pub names: ProgramNames,
+    pub blocks: Sequence<BlockStart>,
 }
 
-// The image of a program of which all units were lowered.
-fn image_of(
+impl ImageTables {
+    // The image of their program.
+    fn of(self, program: Program) -> Image
+        requires { AreTables program self }
+        ensures { result ≡ program }
+    {
+        Image::new(
+            program,
+            self.units,
+            self.main,
+            self.common,
+            self.rows,
+            self.names,
+            self.blocks,
+        )
+    }
+}
+
+// What the image of a program has, of which all units were lowered.
+fn image_tables(
     alloc: Global,
     checked: &Checked,
     main: usize,
     program: &ProgramSymbols,
     blocks: &CommonBlocks,
     common: &CommonStarts,
-    units: LoweredUnits,
-) -> Result<Image, AllocError>
+    lowered: LoweredProgram,
+) -> Result<ImageTables, AllocError>
     requires main { main_among checked.now ≡ Some main }
     requires few { length checked.now ≤ most_instructions }
     requires program { program.now ≡ checked.now }
@@ -91,31 +89,29 @@ fn image_of(
     requires starts { AreStarts checked.now common.now }
     requires small_common { common_cells checked.now ≤ most_cells }
     requires small_frames { (u : ℕ) → u < length checked.now → frame_cells (unit_at checked.now u) ≤ most_cells }
-    requires units { AreUnits checked.now (length checked.now) units }
-    requires shallow { units.too_deep ≡ None }
-    ensures { IfOk result (λ image. image ≡ checked.now) }
+    requires units { AreUnits checked.now (length checked.now) lowered.units }
+    requires rows { AreRows checked.now lowered.rows.items }
+    requires shallow { lowered.units.too_deep ≡ None }
+    ensures { IfOk result (AreTables checked.now) }
 {
     checked.is_accepted();
-    let rows = initial_rows(alloc, checked, main, program, common)?;
     let source = checked.program().as_slice();
     let names = names_in_order(alloc, source, program, blocks.blocks())?;
     let starts = starts_of(alloc, blocks, common)?;
-    let copy = checked.program().copy(alloc)?;
-    Ok(Image::new(
-        copy,
-        Sequence::from(units.codes),
-        main as u32,
-        common.cells() as u32,
-        Sequence::from(rows),
+    Ok(ImageTables {
+        units: Sequence::from(lowered.units.codes),
+        main: main as u32,
+        common: common.cells() as u32,
+        rows: Sequence::from(lowered.rows),
         names,
-        Sequence::from(starts),
-    ))
+        blocks: Sequence::from(starts),
+    })
 }
 
-// The image of a program whose main program has this index.
-fn lower_program(alloc: Global, checked: &Checked, main: usize) -> Result<Image, LowerFault>
+// What the image of a program has whose main program has this index.
+fn lower_program(alloc: Global, checked: &Checked, main: usize) -> Result<ImageTables, LowerFault>
     requires { main_among checked.now ≡ Some main }
-    ensures same { IfOk result (λ image. image ≡ checked.now) }
+    ensures tables { IfOk result (AreTables checked.now) }
     ensures lowered { OnOk result (IsLowered checked.now) }
     ensures refused { IfErr result (Refuses checked.now) }
 {
@@ -131,15 +127,15 @@ fn lower_program(alloc: Global, checked: &Checked, main: usize) -> Result<Image,
     if exceeds_cells(checked, &common) {
         return Err(LowerFault::refused(alloc, 401, 0));
     }
-    let units = lower_units(alloc, &program, &common)?;
-    if let Some(line) = units.too_deep {
+    let lowered = lower_units(alloc, &program, main, &common)?;
+    if let Some(line) = lowered.units.too_deep {
         return Err(LowerFault::refused(alloc, 402, line));
     }
-    Ok(image_of(alloc, checked, main, &program, &blocks, &common, units)?)
+    Ok(image_tables(alloc, checked, main, &program, &blocks, &common, lowered)?)
 }
 
 /// The image of a checked program: the code of its units, where their variables are, what DATA gives at the
-/// opening, and the names.
+/// opening, and the names. The program is moved into it, since an image keeps its program.
 ///
 /// # Errors
 ///
@@ -148,16 +144,17 @@ fn lower_program(alloc: Global, checked: &Checked, main: usize) -> Result<Image,
 /// 1,048,576 instructions in all units together. Else 402 with the line of the first statement that would have more
 /// than 256 operands at once (docs/LANGUAGE.md, 12). Or that memory was refused, which is asked for only where there is
 /// a main program.
-pub fn lower(alloc: Global, checked: &Checked) -> Result<Image, LowerFault>
+pub fn lower(alloc: Global, checked: Checked) -> Result<Image, LowerFault>
     // What is lowered is the program.
-    ensures same { IfOk result (λ image. image ≡ checked.now) }
+    ensures same { IfOk result (λ image. image ≡ checked) }
     // It has a main program and is within the limits where there is an image.
-    ensures lowered { OnOk result (IsLowered checked.now) }
+    ensures lowered { OnOk result (IsLowered checked) }
     // Else the number and the line say why there is none.
-    ensures refused { IfErr result (Refuses checked.now) }
+    ensures refused { IfErr result (Refuses checked) }
 {
     let Some(main) = main_index(checked.program().as_slice()) else {
         return Err(LowerFault::refused(alloc, 204, 0));
     };
-    lower_program(alloc, checked, main)
+    let tables = lower_program(alloc, &checked, main)?;
+    Ok(tables.of(checked.into_program()))
 }

@@ -1,6 +1,6 @@
 //! The units of a program, lowered one after the other.
 ghost use Rattle.std.specs.Prelude.{◌≡◌, ◌<◌, ◌≤◌, ◌+◌, ℕ, length, IfOk, IfErr, OnOk};
-ghost use Rattle.hep_source.specs.Units.{Units, unit_at};
+ghost use Rattle.hep_source.specs.Units.{Units, main_unit, unit_at};
 ghost use Rattle.hep_machine.specs.Layout.{common_cells};
 ghost use Rattle.hep_machine.specs.Variables.{frame_cells};
 ghost use Rattle.hep_check.specs.Conditions.{IsAccepted};
@@ -9,14 +9,16 @@ ghost use Rattle.hep_image.specs.Image.{most_cells};
 ghost use Rattle.hep_common.specs.Starts.{AreStarts};
 ghost use Rattle.hep_lower.specs.Refusals.{RefusesCode, fault_by};
 ghost use Rattle.hep_emit.specs.Tables.{greatest};
-ghost use Rattle.hep_lower.specs.Units.{AreUnits, IsUnit};
+ghost use Rattle.hep_lower.specs.Units.{AreRows, AreUnits, IsUnit};
+ghost use Rattle.hep_places.specs.Unit.{ArePlaces};
 
 use hep_base::{Refusal as LowerFault, Sequence};
 use hep_code::Instruction;
 use hep_common::CommonStarts;
+use hep_data::{MainFrame, data_rows};
 use hep_emit::{EmitFault, MOST_INSTRUCTIONS, lower_unit};
-use hep_image::UnitCode;
-use hep_places::unit_places;
+use hep_image::{DataRow, UnitCode};
+use hep_places::{UnitPlaces, unit_places};
 use hep_symbols::{ProgramSymbols, Symbols};
 use std::alloc::{AllocError, Global};
 
@@ -37,6 +39,14 @@ pub(crate) struct LoweredUnits {
     pub too_deep: Option<u32>,
     /// How many instructions they have together.
     pub instructions: usize,
+}
+
+/// A program of which all units were lowered.
+#[derive(Drop)]
+pub(crate) struct LoweredProgram {
+    pub units: LoweredUnits,
+    /// What DATA gives at the opening.
+    pub rows: Vec<DataRow>,
 }
 
 impl LoweredUnits {
@@ -88,25 +98,22 @@ fn fault_of(alloc: Global, fault: EmitFault) -> LowerFault
     }
 }
 
-// The unit of this index.
-fn lower_numbered(
+// The unit of this index, where all of it is known to be.
+fn lower_placed(
     alloc: Global,
     program: &ProgramSymbols,
-    common: &CommonStarts,
     index: usize,
     symbols: &Symbols,
+    places: UnitPlaces,
 ) -> Result<LoweredUnit, LowerFault>
-    requires accepted { IsAccepted program.now }
     requires there { index < length program.now }
     requires unit { symbols.now ≡ unit_at program.now index }
-    requires starts { AreStarts program.now common.now }
-    requires small_common { common_cells program.now ≤ most_cells }
+    requires places { ArePlaces program.now (unit_at program.now index) places }
     requires small_frame { frame_cells (unit_at program.now index) ≤ most_cells }
     requires few_units { length program.now ≤ greatest }
     ensures lowered { IfOk result (IsUnit program.now index) }
     ensures refused { IfErr result (RefusesCode program.now) }
 {
-    let places = unit_places(alloc, symbols, common)?;
     let lowered = match lower_unit(alloc, program, symbols, &places.places) {
         Ok(lowered) => lowered,
         Err(fault) => return Err(fault_of(alloc, fault)),
@@ -129,7 +136,30 @@ fn lower_numbered(
     }))
 }
 
-/// All units of a checked program, of which no frame has more than 16,777,216 cells, and COMMON hasn't.
+// What DATA gives at the opening, where these are the places of the main program.
+fn main_rows(
+    alloc: Global,
+    symbols: &Symbols,
+    common: &CommonStarts,
+    places: &UnitPlaces,
+) -> Result<Vec<DataRow>, AllocError>
+    requires { common.now.cells ≤ most_cells }
+    ensures { IfOk result (λ rows. (program : Units) → IsAccepted program → symbols.now ≡ unit_at program (main_unit program)
+        → ArePlaces program (unit_at program (main_unit program)) places.now
+        → AreStarts program common.now → common_cells program ≤ most_cells
+        → frame_cells (unit_at program (main_unit program)) ≤ most_cells → AreRows program rows.items) }
+{
+    let frame = MainFrame {
+        symbols,
+        variables: &places.places.variables,
+        arrays: &places.arrays,
+        common: common.cells() as u32,
+    };
+    data_rows(alloc, &frame)
+}
+
+/// All units of a checked program, of which no frame has more than 16,777,216 cells, and COMMON hasn't; and what
+/// DATA gives at the opening. The main program has this index.
 ///
 /// # Errors
 ///
@@ -137,23 +167,32 @@ fn lower_numbered(
 pub(crate) fn lower_units(
     alloc: Global,
     program: &ProgramSymbols,
+    main: usize,
     common: &CommonStarts,
-) -> Result<LoweredUnits, LowerFault>
+) -> Result<LoweredProgram, LowerFault>
     requires accepted { IsAccepted program.now }
+    requires main { main_unit program.now ≡ main }
+    requires inside { main < length program.now }
     requires starts { AreStarts program.now common.now }
     requires small_common { common_cells program.now ≤ most_cells }
     requires small_frames { (u : ℕ) → u < length program.now → frame_cells (unit_at program.now u) ≤ most_cells }
     requires few_units { length program.now ≤ greatest }
-    ensures units { IfOk result (AreUnits program.now (length program.now)) }
-    ensures few { IfOk result (λ units. units.instructions ≤ most_instructions) }
+    ensures units { IfOk result (λ lowered. AreUnits program.now (length program.now) lowered.units) }
+    ensures rows { IfOk result (λ lowered. AreRows program.now lowered.rows.items) }
+    ensures few { IfOk result (λ lowered. lowered.units.instructions ≤ most_instructions) }
     ensures refused { IfErr result (RefusesCode program.now) }
 {
     let mut units = LoweredUnits::new(alloc);
+    let mut rows = Vec::new(alloc);
     for (index, symbols) in program.units().iter().enumerate() {
-        units.add(lower_numbered(alloc, program, common, index, symbols)?)?;
+        let places = unit_places(alloc, symbols, common)?;
+        if index == main {
+            rows = main_rows(alloc, symbols, common, &places)?;
+        }
+        units.add(lower_placed(alloc, program, index, symbols, places)?)?;
         if MOST_INSTRUCTIONS < units.instructions {
             return Err(LowerFault::refused(alloc, 401, 0));
         }
     }
-    Ok(units)
+    Ok(LoweredProgram { units, rows })
 }

@@ -102,14 +102,15 @@ fn lengthen(
 }
 
 impl Offsets {
-    fn new(alloc: Global) -> Offsets
-        ensures table { (x : PureName) → get name_eq result.table x ≡ None }
-        ensures lengths { (b : BlockName) → found.length_in result.lengths b ≡ found.no_length b }
+    // No names yet, with room for so many.
+    fn new(alloc: Global, names: usize) -> Result<Offsets, AllocError>
+        ensures table { IfOk result (λ offsets. (x : PureName) → get name_eq offsets.table x ≡ None) }
+        ensures lengths { IfOk result (λ offsets. (b : BlockName) → found.length_in offsets.lengths b ≡ found.no_length b) }
     {
-        Offsets {
-            table: IndexMap::new(alloc),
-            lengths: IndexMap::new(alloc),
-        }
+        Ok(Offsets {
+            table: IndexMap::with_capacity(alloc, names)?,
+            lengths: IndexMap::with_capacity(alloc, names)?,
+        })
     }
 
     // A name behind the others of its block.
@@ -145,7 +146,7 @@ pub(crate) fn offset_table(
         ≡ found.offset_among symbols.now found.no_length (found.entries_of symbols.now) x) }
 {
     let entries = entries_of(alloc, symbols.statements())?;
-    let mut offsets = Offsets::new(alloc);
+    let mut offsets = Offsets::new(alloc, entries.len())?;
     for entry in &entries {
         offsets.add(alloc, symbols, constants, entry)?;
     }

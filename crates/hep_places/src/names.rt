@@ -32,15 +32,15 @@ impl Drop for Starts {
 }
 
 impl Starts {
-    // No names yet: the first one begins at this cell.
-    pub(crate) fn new(alloc: Global, first: u32) -> Starts
-        ensures table { (x : PureName) → get name_eq result.table x ≡ None }
-        ensures next { result.next ≡ first }
+    // No names yet, with room for so many: the first one begins at this cell.
+    pub(crate) fn new(alloc: Global, first: u32, names: usize) -> Result<Starts, AllocError>
+        ensures table { IfOk result (λ starts. (x : PureName) → get name_eq starts.table x ≡ None) }
+        ensures next { IfOk result (λ starts. starts.next ≡ first) }
     {
-        Starts {
-            table: IndexMap::new(alloc),
+        Ok(Starts {
+            table: IndexMap::with_capacity(alloc, names)?,
             next: first,
-        }
+        })
     }
 
     // A variable behind the others.

@@ -55,11 +55,12 @@ pub(crate) fn tables_of(
     ensures { IfOk result (found.AreTables symbols.now) }
 {
     let offsets = offset_table(alloc, symbols, constants)?;
-    let mut locals = Starts::new(alloc, behind_pairs(1, symbols.dummies().len()));
+    let first = behind_pairs(1, symbols.dummies().len());
+    let mut locals = Starts::new(alloc, first, symbols.locals().len())?;
     locals.add_variables(alloc, symbols, constants, symbols.locals())?;
     let mut loops = Loops::new(alloc, locals.next);
     loops.add_statements(symbols.statements())?;
-    let mut bounds = Starts::new(alloc, loops.next);
+    let mut bounds = Starts::new(alloc, loops.next, symbols.dummies().len())?;
     bounds.add_bounds(alloc, symbols, constants, symbols.dummies())?;
     Ok(Tables {
         offsets,

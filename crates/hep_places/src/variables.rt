@@ -95,7 +95,7 @@ pub(crate) fn variables_among(
         ≡ found.variable_among symbols.now (found.start_found symbols.now common.now (get name_eq tables.now.offsets)
         (get name_eq tables.now.locals)) 0 names.now x) }
 {
-    let mut table = IndexMap::new(alloc);
+    let mut table = IndexMap::with_capacity(alloc, names.len())?;
     let mut arrays = 0;
     for name in names {
         add(symbols, common, tables, &mut table, arrays, name)?;
@@ -121,6 +121,9 @@ pub(crate) fn private_among(
     ensures { IfOk result (λ cells. cells.items
         ≡ map (λ (x : PureName). unwrap_or (get name_eq tables.now.locals x) 0) (filter (private.is_private symbols.now) names.now)) }
 {
+    if names.is_empty() {
+        return Ok(Vec::new(alloc));
+    }
     let actuals = bare_actuals(alloc, symbols.statements())?;
     let mut cells = Vec::new(alloc);
     for name in names {

@@ -37,5 +37,5 @@ pub fn image_of_source(alloc: Global, source: &[u8]) -> Result<Image, Refusal>
     ensures refused { IfErr result (IsSourceRefusal source.now) }
 {
     let checked = checked_source(alloc, source)?;
-    lower(alloc, &checked)
+    lower(alloc, checked)
 }

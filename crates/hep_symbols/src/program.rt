@@ -78,7 +78,7 @@ fn note_subroutine(
 fn subroutines(alloc: Global, program: &[Symbols]) -> Result<IndexMap<Name, usize>, AllocError>
     ensures { IfOk result (λ table. (x : PureName) → get name_eq table x ≡ tables.called_from 0 x program.now) }
 {
-    let mut table = IndexMap::new(alloc);
+    let mut table = IndexMap::with_capacity(alloc, program.len())?;
     for (number, unit) in program.iter().enumerate() {
         note_subroutine(&mut table, subroutine_name(unit.statements()), number)?;
     }
@@ -88,7 +88,7 @@ fn subroutines(alloc: Global, program: &[Symbols]) -> Result<IndexMap<Name, usiz
 fn tables_of<'a>(alloc: Global, program: &'a [Unit]) -> Result<Vec<Symbols<'a>>, AllocError>
     ensures { IfOk result (λ tables. tables.items ≡ program.now) }
 {
-    let mut tables = Vec::new(alloc);
+    let mut tables = Vec::with_capacity(alloc, program.len())?;
     for unit in program {
         tables.push(Symbols::new(alloc, unit.as_slice())?)?;
     }

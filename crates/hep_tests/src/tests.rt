@@ -28,7 +28,7 @@ fn program_of(alloc: Global, source: &[u8]) -> Result<Program, Fail> {
 
 fn image_from(alloc: Global, source: &[u8]) -> Result<Image, Fail> {
     let checked = check(alloc, program_of(alloc, source)?)?;
-    Ok(lower(alloc, &checked)?)
+    Ok(lower(alloc, checked)?)
 }
 
 // In an arena of three cells.
@@ -119,7 +119,7 @@ fn core(rt: HostRuntime) -> Result<(), Fail> {
     let checked = check(alloc, parse(alloc, &statements(alloc, UNDEFINED)?)?)?;
     checked.is_accepted();
     assert_eq!(rt; checked.program().as_slice().len(), 1);
-    let mut core = Core::new(alloc, lower(alloc, &checked)?, 3, 7)?;
+    let mut core = Core::new(alloc, lower(alloc, checked)?, 3, 7)?;
     assert_eq!(rt; core.image().name(0), Some(b"MAIN".as_slice()));
     assert_eq!(rt; core.image().name(2), Some(b"J".as_slice()));
     assert_eq!(rt; core.image().name(3), None);

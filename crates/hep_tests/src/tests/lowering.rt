@@ -13,7 +13,7 @@ use std::mem::size_of;
 use std::test::Fail;
 
 fn image_of(alloc: Global, source: &[u8]) -> Result<Result<Image, Refusal>, Fail> {
-    Ok(lower(alloc, &check(alloc, program_of(alloc, source)?)?))
+    Ok(lower(alloc, check(alloc, program_of(alloc, source)?)?))
 }
 
 fn first_unit(image: &Image) -> Option<&UnitCode> {

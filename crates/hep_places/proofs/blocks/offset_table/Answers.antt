@@ -10,7 +10,7 @@ use Rattle.hep_places.proofs.blocks.offset_table.Goals as goal
 
 pub loop-entry-init : goal.loop-entry-init
 loop-entry-init c = λ x.
-    offset-first c.args.symbols.now x (length_in c.new-offsets.result.lengths) c.deref-entry-items.result.now _ (c.new-offsets.ensures.table x) c.new-offsets.ensures.lengths
+    offset-first c.args.symbols.now x (length_in c.in_ok-offsets.offsets.lengths) c.deref-entry-items.result.now _ (c.in_ok-offsets.ensures.table x) c.in_ok-offsets.ensures.lengths
 
 pub loop-entry-preserved : goal.loop-entry-preserved
 loop-entry-preserved c = λ x.

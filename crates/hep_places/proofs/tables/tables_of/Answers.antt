@@ -12,24 +12,24 @@ pub returns : goal.returns
 returns c =
     let unit = c.args.symbols.now in
     let count = sym (length-names c.dummies.result.now) ∙ ap length c.dummies.ensures in
-    let first : c.new-locals.result.next ≡ first_local unit = c.new-locals.ensures.next ∙ (c.behind_pairs.ensures ∙ ap (λ n. narrowed (1 + 2 * n)) count) in
-    let second : c.new-loops.result.next ≡ first_loop unit = c.new-loops.ensures.next ∙ (c.in_ok-add_variables.ensures.next ∙ (λ i. behind (first i) (name_row unit (c.locals.ensures i)))) in
-    let third : c.new-bounds.result.next ≡ first_bound unit = c.new-bounds.ensures.next ∙ (c.in_ok-add_statements.ensures.next ∙ (λ i. behind_loops (second i) (c.statements.ensures i))) in
+    let first : c.in_ok-locals.locals.next ≡ first_local unit = c.in_ok-locals.ensures.next ∙ (c.behind_pairs-first.ensures ∙ ap (λ n. narrowed (1 + 2 * n)) count) in
+    let second : c.new-loops.result.next ≡ first_loop unit = c.new-loops.ensures.next ∙ (c.in_ok-add_variables.ensures.next ∙ (λ i. behind (first i) (name_row unit (c.locals-2.ensures i)))) in
+    let third : c.in_ok-bounds.bounds.next ≡ first_bound unit = c.in_ok-bounds.ensures.next ∙ (c.in_ok-add_statements.ensures.next ∙ (λ i. behind_loops (second i) (c.statements.ensures i))) in
     record {
       offsets = c.in_ok-offsets.ensures;
       locals = λ x.
           ap (λ t. get name_eq t x) c.replace.ensures.value
           ∙ (c.in_ok-add_variables.ensures.table x
-          ∙ (ap (λ o. option_or o (start_among c.new-locals.result.next (name_row unit c.locals.result.now) x)) (c.new-locals.ensures.table x)
-          ∙ (λ i. start_among (first i) (name_row unit (c.locals.ensures i)) x)));
+          ∙ (ap (λ o. option_or o (start_among c.in_ok-locals.locals.next (name_row unit c.locals-2.result.now) x)) (c.in_ok-locals.ensures.table x)
+          ∙ (λ i. start_among (first i) (name_row unit (c.locals-2.ensures i)) x)));
       bounds = λ x.
           ap (λ t. get name_eq t x) c.replace-2.ensures.value
           ∙ (c.in_ok-add_bounds.ensures.table x
-          ∙ (ap (λ o. option_or o (start_among c.new-bounds.result.next (adjustable_row unit (names_of_occurrences c.dummies-2.result.now)) x)) (c.new-bounds.ensures.table x)
-          ∙ (λ i. start_among (third i) (adjustable_row unit (c.dummies-2.ensures i)) x)));
+          ∙ (ap (λ o. option_or o (start_among c.in_ok-bounds.bounds.next (adjustable_row unit (names_of_occurrences c.dummies-3.result.now)) x)) (c.in_ok-bounds.ensures.table x)
+          ∙ (λ i. start_among (third i) (adjustable_row unit (c.dummies-3.ensures i)) x)));
       loops =
           c.in_ok-add_statements.ensures.cells
           ∙ (ap (λ cells. cells ++ loops_from c.new-loops.result.next c.statements.result.now) c.new-loops.ensures.cells
           ∙ (λ i. loops_from (second i) (c.statements.ensures i)));
-      cells = c.in_ok-add_bounds.ensures.next ∙ (λ i. behind (third i) (adjustable_row unit (c.dummies-2.ensures i)));
+      cells = c.in_ok-add_bounds.ensures.next ∙ (λ i. behind (third i) (adjustable_row unit (c.dummies-3.ensures i)));
     }

@@ -6,26 +6,26 @@ use Rattle.hep_image.specs.Image.{most_cells}
 use Rattle.hep_image.specs.Owners.{AreInOrder}
 use Rattle.hep_lower.specs.Refusals.{RefusesCode}
 use Rattle.hep_lower.proofs.Placing.{addressed-is, code-there, none-there, refused-code}
-use Rattle.hep_lower.proofs.units.lower_numbered.Goals as goal
+use Rattle.hep_lower.proofs.units.lower_placed.Goals as goal
 
 pub returns-in-Err-clause-refused : goal.returns-in-Err-clause-refused
 returns-in-Err-clause-refused c =
     let program = c.args.program.now in
     let u = c.args.index in
-    let places = c.in_ok-places.ensures program u c.requires.accepted c.requires.there c.requires.unit c.requires.starts c.requires.small_common c.requires.small_frame in
+    let places = c.requires.places in
     subst (RefusesCode program) (sym c.fault_of.ensures) (
-    refused-code program u c.args.symbols.now c.in_ok-places.places.places c.requires.unit places.variables places.loops c.in-Err.fault c.requires.there c.in-Err.ensures.refused)
+    refused-code program u c.args.symbols.now c.args.places.places c.requires.unit places.variables places.loops c.in-Err.fault c.requires.there c.in-Err.ensures.refused)
 
 pub returns-clause-lowered : goal.returns-clause-lowered
 returns-clause-lowered c =
     let program = c.args.program.now in
     let u = c.args.index in
-    let places = c.in_ok-places.ensures program u c.requires.accepted c.requires.there c.requires.unit c.requires.starts c.requires.small_common c.requires.small_frame in
-    let made = c.in-Ok.ensures.code ∙ code-there program u c.args.symbols.now c.in_ok-places.places.places c.requires.unit places.variables places.loops in
+    let places = c.requires.places in
+    let made = c.in-Ok.ensures.code ∙ code-there program u c.args.symbols.now c.args.places.places c.requires.unit places.variables places.loops in
     let shallow = none-there c.in-Ok.lowered.depth.too_deep c.in_default.not-Some in (
       record {
         code = c.from.ensures ∙ made;
-        entry = c.in-Ok.ensures.entry ∙ ap entry_index (addressed-is program u c.args.symbols.now c.in_ok-places.places.places c.requires.unit places.variables places.loops);
+        entry = c.in-Ok.ensures.entry ∙ ap entry_index (addressed-is program u c.args.symbols.now c.args.places.places c.requires.unit places.variables places.loops);
         arrays = c.from-2.ensures ∙ places.arrays;
         operands = c.in-Ok.ensures.operands ∙ ap deepest (sym c.from.ensures);
         few_operands = c.in-Ok.ensures.few shallow;
