@@ -225,6 +225,9 @@ impl CommonBlocks {
             (cells_of_all symbols.now (declarations.names_in_block symbols.now b))) }
         ensures unread { OnOk result (IsUnread (unit + 1) (get (option_eq name_eq) self.new.lengths)) }
     {
+        if entries.is_empty() {
+            return Ok(());
+        }
         let constants = constants(alloc, symbols)?;
         for entry in entries {
             let count = cells_of_entry(alloc, symbols, &constants, entry)?;

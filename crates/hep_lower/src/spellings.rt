@@ -94,7 +94,7 @@ pub(crate) fn names_in_order(
     requires blocks { blocks.now ≡ blocks_of list.now }
     ensures { IfOk result (words.AreNames list.now) }
 {
-    let mut names = Vec::new(alloc);
+    let mut names = Vec::with_capacity(alloc, list.len())?;
     add_unit_names(alloc, &mut names, list)?;
     let variables = add_variables(alloc, &mut names, program.units())?;
     let first_block = next_number(&names)?;

@@ -50,14 +50,15 @@ pub(crate) struct LoweredProgram {
 }
 
 impl LoweredUnits {
-    fn new(alloc: Global) -> LoweredUnits
-        ensures { (program : Units) → AreUnits program 0 result }
+    // None yet, with room for so many.
+    fn new(alloc: Global, units: usize) -> Result<LoweredUnits, AllocError>
+        ensures { IfOk result (λ units. (program : Units) → AreUnits program 0 units) }
     {
-        LoweredUnits {
-            codes: Vec::new(alloc),
+        Ok(LoweredUnits {
+            codes: Vec::with_capacity(alloc, units)?,
             too_deep: None,
             instructions: 0,
-        }
+        })
     }
 
     // One unit more.
@@ -182,7 +183,7 @@ pub(crate) fn lower_units(
     ensures few { IfOk result (λ lowered. lowered.units.instructions ≤ most_instructions) }
     ensures refused { IfErr result (RefusesCode program.now) }
 {
-    let mut units = LoweredUnits::new(alloc);
+    let mut units = LoweredUnits::new(alloc, program.units().len())?;
     let mut rows = Vec::new(alloc);
     for (index, symbols) in program.units().iter().enumerate() {
         let places = unit_places(alloc, symbols, common)?;

@@ -225,7 +225,7 @@ pub(crate) fn arrays<'a>(
 }
 
 // The type of each first letter, as IMPLICIT gives it.
-pub(crate) type LetterTypes = [Option<ValueType>; 256];
+type LetterTypes = [Option<ValueType>; 256];
 
 // Gives a letter a type, unless it has one.
 fn note_letter(types: &mut LetterTypes, letter: usize, value_type: ValueType)
@@ -265,8 +265,7 @@ fn note_groups(types: &mut LetterTypes, groups: &[ImplicitGroup])
     }
 }
 
-// The types that IMPLICIT gives by first letters (8.5).
-pub(crate) fn implicit_types(unit: &[Statement]) -> LetterTypes
+fn implicit_types(unit: &[Statement]) -> LetterTypes
     ensures { (c : ℕ) → c < 256 → get_or result c None ≡ declarations.implicit_type c unit.now }
 {
     let mut types = [None; 256];
@@ -276,4 +275,28 @@ pub(crate) fn implicit_types(unit: &[Statement]) -> LetterTypes
         }
     }
     types
+}
+
+fn has_implicit(unit: &[Statement]) -> bool
+    ensures { result ≡ false → (c : ℕ) → declarations.implicit_type c unit.now ≡ None }
+{
+    for statement in unit {
+        if let Form::Implicit(_) = &statement.form {
+            return true;
+        }
+    }
+    false
+}
+
+// The types that IMPLICIT gives by first letters (8.5). Most units have no IMPLICIT, and keep nothing.
+pub(crate) fn letter_types(
+    alloc: Global,
+    unit: &[Statement],
+) -> Result<Vec<Option<ValueType>>, AllocError>
+    ensures { IfOk result (λ types. (c : ℕ) → c < 256 → get_or types.items c None ≡ declarations.implicit_type c unit.now) }
+{
+    if !has_implicit(unit) {
+        return Ok(Vec::new(alloc));
+    }
+    Vec::from_slice(alloc, &implicit_types(unit))
 }

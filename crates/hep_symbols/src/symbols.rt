@@ -9,8 +9,7 @@ ghost use Rattle.hep_symbols.specs.Tables as tables;
 use crate::arrays::Arrays;
 use crate::names::{locals_among, names_of};
 use crate::specification::{
-    CommonNames, LetterTypes, common_names, constant_names, declared_types, dummy_positions,
-    implicit_types,
+    CommonNames, common_names, constant_names, declared_types, dummy_positions, letter_types,
 };
 use crate::table::{NameSet, Table};
 use hep_source::{Dimension, Form, Name, Occurrence, Statement, ValueType};
@@ -23,7 +22,7 @@ use std::marker::Model;
 pub struct Symbols<'a> {
     statements: &'a [Statement],
     types: Table<ValueType>,
-    letters: LetterTypes,
+    letters: Vec<Option<ValueType>>,
     arrays: Arrays<'a>,
     dummies: Table<usize>,
     blocks: Table<Option<Name>>,
@@ -66,7 +65,7 @@ impl<'a> Model for Symbols<'a> {
 
     ghost view = { λ a. a.statements.now };
 
-    ghost invariant = { λ a. Describes a.statements.now (get name_eq a.types.map) a.letters a.arrays (get name_eq a.dummies.map)
+    ghost invariant = { λ a. Describes a.statements.now (get name_eq a.types.map) a.letters.items a.arrays (get name_eq a.dummies.map)
         (get name_eq a.blocks.map) a.are_common_once (contains name_eq a.constants.set) a.names.set.keys a.locals.items };
 }
 
@@ -80,7 +79,7 @@ impl<'a> Symbols<'a> {
         ensures { IfOk result (λ symbols. symbols ≡ statements.now) }
     {
         let types = declared_types(alloc, statements)?;
-        let letters = implicit_types(statements);
+        let letters = letter_types(alloc, statements)?;
         let arrays = Arrays::new(alloc, statements)?;
         let dummies = dummy_positions(alloc, statements)?;
         let CommonNames { blocks, are_once } = common_names(alloc, statements)?;
@@ -138,14 +137,23 @@ impl<'a> Symbols<'a> {
         self.types.map.get(name).copied()
     }
 
+    // The type that IMPLICIT gives by a first letter (8.5).
+    fn implicit_type(&self, letter: u8) -> Option<ValueType>
+        ensures { result ≡ declarations.implicit_type letter self.now }
+    {
+        match self.letters.get(usize::from(letter)) {
+            Some(given) => *given,
+            None => None,
+        }
+    }
+
     /// The type of a name: by a type statement, else by an IMPLICIT, else by its first letter; none where
     /// it is real (4.1.2, 8.4 and 8.5).
     pub fn type_of(&self, name: &Name) -> Option<ValueType>
         ensures { result ≡ declarations.type_of self.now name.now }
     {
-        let letter = usize::from(name.letters[0]);
         self.declared_type(name)
-            .or(self.letters[letter])
+            .or(self.implicit_type(name.letters[0]))
             .or(type_by_letter(name))
     }
 

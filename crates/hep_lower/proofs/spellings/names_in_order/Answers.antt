@@ -13,7 +13,7 @@ returns c =
     let variables = c.add_variables.new.names.items in
     let same = c.units.ensures ∙ c.requires.program in
     names-are program (record { spelled = c.from.result; variables = c.from-2.result; blocks = c.in_ok-first_block.first_block }) units variables c.add_blocks.new.names.items
-    (c.in_ok-add_unit_names.ensures ∙ ap (λ ns. ns ++ map unit_name program) c.new-names.ensures.items)
+    (c.in_ok-add_unit_names.ensures ∙ ap (λ ns. ns ++ map unit_name program) c.in_ok-names.ensures.items)
     (c.in_ok-variables.ensures.names ∙ ap (λ us. units ++ flat_map spellings_of us) same)
     (c.in_ok-add_blocks.ensures ∙ ap (λ bs. variables ++ map block_spelling bs) c.requires.blocks) c.from.ensures
     (c.from-2.ensures ∙ (c.in_ok-variables.ensures.numbers ∙ ap (numbers_from (length units)) same)) c.in_ok-first_block.ensures.number c.in_ok-next_number.ensures.few

@@ -13,7 +13,7 @@ use Rattle.hep_lower.proofs.units.lower_units.Goals.{then-index-main+in_ok-rows,
 
 pub loop-index-init : goal.loop-index-init
 loop-index-init c =
-    let h = c.new-units.ensures c.args.program.now in
+    let h = c.in_ok-units.ensures c.args.program.now in
     record { units = h; few = omega (arith, h.counted); rows = λ lt. absurd (omega (arith, lt)) }
 
 pub lower_placed-requires-clause-unit : goal.lower_placed-requires-clause-unit

@@ -1,5 +1,6 @@
-use Rattle.std.proofs.Common.{◌≡◌, ◌≤◌, ◌+◌, ◌∙◌, Some, None, refl, ap, drop, get_or, max, length, arith, if◌then◌else◌}
-use Rattle.std.proofs.lemmas.List.{drop_more}
+use Rattle.std.proofs.Common.{◌≡◌, ◌≤◌, ◌+◌, ◌∙◌, Some, None, [], refl, ap, sym, drop, get_or, max, length, arith, if◌then◌else◌}
+use Rattle.std.proofs.lemmas.Bool.Decides.{nat_tests}
+use Rattle.std.proofs.lemmas.List.{drop_all, drop_more}
 use Rattle.std.specs.Option.{option_eq}
 use Rattle.indexmap.specs.IndexMap.{get}
 use Rattle.hep_source.specs.Names.{name_eq}
@@ -61,3 +62,17 @@ returns-clause-lengths c = λ b.
     let counted = end-cells unit b _ c.loop-entry.entry-index es k (c.loop-entry.invariant.cells b) in
     c.loop-entry.invariant.longest b
     ∙ ap (max (greatest_length (get (option_eq name_eq) c.args.self.now.lengths b))) (counted ∙ (ap (cells_in_block unit b) c.requires.entries ∙ unit-cells unit b))
+
+pub returns-then-is_empty-clause-blocks : goal.returns-then-is_empty-clause-blocks
+returns-then-is_empty-clause-blocks c =
+    let es = c.args.entries.now in
+    let keys = c.args.self.now.blocks.keys in
+    let none : es ≡ [] = drop_all 0 es (grind (arith, nat_tests, sym c.is_empty.ensures ∙ c.if-is_empty.true)) in
+    ap (with_blocks_of keys) (sym none ∙ c.requires.entries) ∙ unit-blocks keys c.args.symbols.now
+
+pub returns-then-is_empty-clause-lengths : goal.returns-then-is_empty-clause-lengths
+returns-then-is_empty-clause-lengths c = λ b.
+    let es = c.args.entries.now in
+    let unit = c.args.symbols.now in
+    let none : es ≡ [] = drop_all 0 es (grind (arith, nat_tests, sym c.is_empty.ensures ∙ c.if-is_empty.true)) in
+    start-longest _ _ (sym (ap (cells_in_block unit b) (sym none ∙ c.requires.entries) ∙ unit-cells unit b))

@@ -22,7 +22,7 @@ invariant_of-result c =
     let names = c.in_ok-names.ensures ∙ ap names_of c.in_ok-arrays.ensures in
     record {
       typed = c.in_ok-types.ensures;
-      lettered = c.implicit_types-letters.ensures;
+      lettered = c.in_ok-letters.ensures;
       bounded = c.in_ok-arrays.ensures;
       numbered = numbered;
       common = common;
