@@ -32,6 +32,13 @@ number-seen n k xs zeros = elim (cases_lt k n) [
   | inr r ↦ take-past n k xs r ∙ sym (zeros k r)
 ]
 
+-- and so only places have other numbers
+pub place-seen : (n k : ℕ) (xs : List ℕ) → ((j : ℕ) → n ≤ j → number xs j ≡ 0) → 1 ≤ number xs k → k < n
+place-seen n k xs zeros some = elim (cases_lt k n) [
+  | inl l ↦ l
+  | inr r ↦ absurd (omega (arith, zeros k r, some))
+]
+
 -- ---- the first that is great enough
 
 pub first-found : (n least k : ℕ) (xs : List ℕ) → 1 ≤ least → least ≤ number xs k → ((j : ℕ) → j < k → number xs j < least) → first_from n least xs ≡ Some (n + k)

@@ -38,6 +38,11 @@ number-leaf numbers size i j e = get_or-drop size numbers i 0 ∙ ap (number num
 pub number-past : (numbers : List ℕ) (size k : ℕ) → length numbers ≡ 2 * size → size ≤ k → number (drop size numbers) k ≡ 0
 number-past numbers size k nodes h = number-leaf numbers size k (size + k) refl ∙ get_or_past numbers (size + k) 0 (omega arith)
 
+-- only a tree with leaves has a root
+pub root-inside : (size : ℕ) (numbers : List ℕ) → length numbers ≡ 2 * size → 1 ≤ number numbers 1 → 0 < size
+root-inside zero numbers nodes some = absurd (omega (arith, get_or_past numbers 1 0 (omega arith)))
+root-inside (suc size) numbers nodes some = omega arith
+
 -- ---- below a node
 
 max-right : (a b least : ℕ) → least ≤ max a b → a < least → least ≤ b
@@ -70,13 +75,35 @@ module _ (numbers : List ℕ) (size least : ℕ) (tops : (i : ℕ) → 1 ≤ i �
         | inr r ↦ low_below k (2 * i + 1) (2 * e) j (omega arith) (omega arith) (low-right i some inner low) r to inside
       ]
 
+  -- below a node with a number that is great enough there is a leaf with one
+  great_below : (k i e : ℕ) → 1 ≤ i → e ≡ i + 1 → least ≤ number numbers i → leftmost k e ≤ 2 * size → (j : ℕ) × (leftmost k i ≤ j) × (least ≤ number numbers j)
+  great_below zero i e some is great inside = (i, omega arith, great)
+  great_below (suc k) i e some is great inside =
+      let inner : i < size = omega (arith, leftmost-le k (2 * e)) in
+      let one : least ≤ max (number numbers (2 * i)) (number numbers (2 * i + 1)) = omega (arith, tops i some inner) in
+      elim (cases_lt (number numbers (2 * i)) least) [
+        | inl l ↦
+            let right = great_below k (2 * i + 1) (2 * e) (omega arith) (omega arith) (max-right _ _ least one l) inside in
+            (right.0, omega (arith, right.1, leftmost-rises k (2 * i) (2 * i + 1) (omega arith)), right.2)
+        | inr r ↦ great_below k (2 * i) (2 * i + 1) (omega arith) refl r (omega (arith, leftmost-rises k (2 * i + 1) (2 * e) (omega arith)))
+      ]
+
   -- ---- below the root
 
-  pub root-none : (levels : ℕ) → length numbers ≡ 2 * size → size ≡ leftmost levels 1 → number numbers 1 < least → 1 ≤ least → (k : ℕ) → number (drop size numbers) k < least
-  root-none levels nodes leaves low some k = elim (cases_lt k size) [
-    | inl l ↦ omega (arith, number-leaf numbers size k (size + k) refl, low_below levels 1 2 (size + k) (omega arith) refl low (omega (arith, leaves)) (omega (arith, leftmost-double levels 1, leaves)) (omega arith))
-    | inr r ↦ omega (arith, number-past numbers size k nodes r)
-  ]
+  module _ (levels : ℕ) (nodes : length numbers ≡ 2 * size) (leaves : 0 < size → size ≡ leftmost levels 1) where
+    pub root-none : number numbers 1 < least → 1 ≤ least → (k : ℕ) → number (drop size numbers) k < least
+    root-none low some k = elim (cases_lt k size) [
+      | inl l ↦
+          let all = leaves (omega arith) in
+          omega (arith, number-leaf numbers size k (size + k) refl, low_below levels 1 2 (size + k) (omega arith) refl low (omega (arith, all)) (omega (arith, leftmost-double levels 1, all)) (omega arith))
+      | inr r ↦ omega (arith, number-past numbers size k nodes r)
+    ]
+
+    pub root-some : least ≤ number numbers 1 → 1 ≤ least → (k : ℕ) × (least ≤ number (drop size numbers) k)
+    root-some great some =
+        let all = leaves (root-inside size numbers nodes (omega arith)) in
+        let found = great_below levels 1 2 (omega arith) refl great (omega (arith, leftmost-double levels 1, all)) in
+        (found.0 - size, omega (arith, number-leaf numbers size (found.0 - size) found.0 (omega (arith, found.1, all)), found.2))
 
 -- ---- the ways down, among the leaves from `first` up to `last`
 

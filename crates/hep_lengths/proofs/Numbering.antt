@@ -24,6 +24,14 @@ module _ (numbers : List ℕ) (size node : ℕ) (value : ℕ) where
       let right : 2 * node + 1 ≢ node = omega arith in
       subst (IsTop (set numbers node value)) (sym e) (rw (get_or-set_same numbers node value 0 inside, get_or-set_other numbers node (2 * node) value 0 left, get_or-set_other numbers node (2 * node + 1) value 0 right) is)
 
+  -- a node is written after all those behind it
+  pub filled-step : (next : ℕ) → 1 ≤ node → next ≡ node + 1 → node < length numbers → value ≡ max (number numbers (2 * node)) (number numbers (2 * node + 1)) → ((i : ℕ) → 1 ≤ i → next ≤ i → i < size → IsTop numbers i)
+      → (i : ℕ) → 1 ≤ i → node ≤ i → i < size → IsTop (set numbers node value) i
+  filled-step next some step inside is tops i low from high = elim (cases_eq i node) [
+    | inl e ↦ written some inside is i e
+    | inr ne ↦ others i ne (λ e. omega (arith, ne)) (tops i low (omega (arith, ne)) high)
+  ]
+
   pub mended-begins : 1 ≤ node → size ≤ node → node < 2 * size → length numbers ≡ 2 * size → ((i : ℕ) → 1 ≤ i → i < size → IsTop numbers i) → IsMended (set numbers node value) size node
   mended-begins some leaf inside nodes tops = record {
     some = some;

@@ -16,11 +16,11 @@ number numbers i = slice_index_or numbers i 0
 abbrev pub IsTop : List ℕ → ℕ → Type 0
 IsTop numbers i = number numbers i ≡ max (number numbers (2 * i)) (number numbers (2 * i + 1))
 
--- the leaves are all that are so many levels below the root; `few` keeps places within 32 bits
+-- there are no leaves, or all that are so many levels below the root; `few` keeps indices within 64 bits
 pub record IsTree (tree : Tree) : Type 0 where
-  pub leaves : tree.size ≡ leftmost tree.levels 1
+  pub leaves : 0 < tree.size → tree.size ≡ leftmost tree.levels 1
   pub nodes : length tree.greatest.items ≡ 2 * tree.size
-  pub few : tree.size < 2 ^ 25
+  pub few : tree.size < 2 ^ 62
   pub tops : (i : ℕ) → 1 ≤ i → i < tree.size → IsTop tree.greatest.items i
 
 abbrev pub leaves_of : Tree → List ℕ
@@ -29,6 +29,7 @@ leaves_of tree = drop tree.size tree.greatest.items
 -- each place has a leaf, and the leaves past them are 0
 pub record IsPadded (of : Tree) (places : ℕ) : Type 0 where
   pub tree : IsTree of
+  pub few : places ≤ 16777216
   pub room : places ≤ of.size
   pub zeros : (k : ℕ) → places ≤ k → number (leaves_of of) k ≡ 0
 

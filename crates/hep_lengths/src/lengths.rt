@@ -41,7 +41,8 @@ impl Lengths {
         requires few { places ≤ 16777216 }
         ensures zeros { IfOk result (λ made. made ≡ replicate places 0) }
     {
-        let tree = Tree::new(alloc, places as usize)?;
+        let mut tree = Tree::new(alloc);
+        tree.reserve(alloc, places as usize)?;
         Ok(Lengths { tree, places })
     }
 

@@ -1,25 +1,32 @@
 //! A tree of numbers.
-ghost use Rattle.std.specs.Prelude.{◌≡◌, ◌≢◌, ◌⊎◌, ℕ, ◌+◌, ◌*◌, ◌/◌, ◌^◌, ◌<◌, ◌≤◌, replicate, slice_set, IfOk};
-ghost use Rattle.hep_lengths.specs.Trees.{IsFirst, IsLast, IsNext, IsTree, leaves_of, leftmost, number};
+ghost use Rattle.std.specs.Prelude.{◌≡◌, ◌≢◌, ◌⊎◌, ℕ, ◌+◌, ◌-◌, ◌*◌, ◌/◌, ◌^◌, ◌<◌, ◌≤◌, ◌++◌, [], length, drop, replicate, slice_set, true, false, IfErr, IfOk, IsOk, OnOk};
+ghost use Rattle.hep_lengths.specs.Trees.{IsFirst, IsLast, IsNext, IsTop, IsTree, leaves_of, leftmost, number};
 
 use std::alloc::{AllocError, Global};
 
 /// A full binary tree in one list, whose leaves are numbers. Above them a node has the greater one
 /// of the two below it, so that a search passes over whatever has too small a number.
+///
+/// It serves where the leaves get more, as for the processes that are ready; `Lengths` has as many
+/// places as at first. Contracts see the leaves in order, as `leaves_of` has them, and `IsTree` is
+/// asked for and kept by all calls.
 #[derive(Drop)]
-pub(crate) struct Tree {
+pub struct Tree {
     greatest: Vec<u32>,
-    // How many leaves there are: 2 to the power of `levels`.
+    // How many leaves there are: none, or 2 to the power of `levels`.
     size: usize,
     levels: usize,
 }
 
+// No memory has a byte for each node of a tree with more leaves.
+const MOST_LEAVES: usize = 0x2000_0000_0000_0000;
+
 // How many leaves a tree has that has room for so many, and how many levels below the root.
 fn full_size(leaves: usize) -> (usize, usize)
-    requires { leaves ≤ 16777216 }
+    requires { leaves ≤ MOST_LEAVES }
     ensures size { result.0 ≡ leftmost result.1 1 }
     ensures room { leaves ≤ result.0 }
-    ensures few { result.0 < 2 ^ 25 }
+    ensures few { result.0 < 2 ^ 62 }
 {
     let mut size = 1;
     let mut levels = 0;
@@ -30,26 +37,82 @@ fn full_size(leaves: usize) -> (usize, usize)
     (size, levels)
 }
 
+// Gives each node above the leaves the greater one of the two numbers below it.
+fn fill_tops(greatest: &mut Vec<u32>, size: usize)
+    requires nodes { length greatest.old.items ≡ 2 * size }
+    requires few { size < 2 ^ 62 }
+    ensures tops { (i : ℕ) → 1 ≤ i → i < size → IsTop greatest.new.items i }
+    ensures leaves { drop size greatest.new.items ≡ drop size greatest.old.items }
+    ensures nodes { length greatest.new.items ≡ 2 * size }
+{
+    for node in (1..size).rev() {
+        greatest[node] = greatest[2 * node].max(greatest[2 * node + 1]);
+    }
+}
+
 // The other one of the two nodes below the same node.
 fn other_side(node: usize) -> usize
     requires some { 2 ≤ node }
-    requires few { node < 2 ^ 26 }
+    requires few { node < 2 ^ 63 }
     ensures { ((2 * (node / 2) ≡ node) × (2 * (node / 2) + 1 ≡ result)) ⊎ ((2 * (node / 2) ≡ result) × (2 * (node / 2) + 1 ≡ node)) }
 {
     if node % 2 == 0 { node + 1 } else { node - 1 }
 }
 
 impl Tree {
-    /// A tree with room for so many leaves, all of which are 0.
-    pub(crate) fn new(alloc: Global, leaves: usize) -> Result<Tree, AllocError>
-        requires { leaves ≤ 16777216 }
+    /// A tree without leaves, which takes no memory.
+    pub fn new(alloc: Global) -> Tree
+        ensures tree { IsTree result }
+        ensures leaves { leaves_of result ≡ [] }
+        ensures size { result.size ≡ 0 }
+    {
+        Tree {
+            greatest: Vec::new(alloc),
+            size: 0,
+            levels: 0,
+        }
+    }
+
+    /// Makes room for so many leaves; those that are added are 0. No other call takes memory.
+    ///
+    /// Where there is too little room, it is at least doubled, in linear time.
+    ///
+    /// # Errors
+    ///
+    /// `AllocError` where memory was refused; nothing has changed then.
+    pub fn reserve(&mut self, alloc: Global, leaves: usize) -> Result<(), AllocError>
+        requires { IsTree self.old }
+        ensures tree { IsTree self.new }
+        ensures room { OnOk result (leaves ≤ self.new.size) }
+        ensures grows { self.old.size ≤ self.new.size }
+        ensures leaves { (added : ℕ) × (leaves_of self.new ≡ leaves_of self.old ++ replicate added 0) }
+        ensures refused { IfErr result (λ _. self.new ≡ self.old) }
+        ensures made { leaves ≤ self.old.size → IsOk result × (self.new ≡ self.old) }
+    {
+        if leaves <= self.size {
+            return Ok(());
+        }
+        *self = self.grown(alloc, leaves)?;
+        Ok(())
+    }
+
+    // A tree with room for so many leaves, which are more than there are, and with the same numbers.
+    fn grown(&self, alloc: Global, leaves: usize) -> Result<Tree, AllocError>
+        requires tree { IsTree self.now }
+        requires more { self.now.size < leaves }
         ensures tree { IfOk result (λ tree. IsTree tree) }
         ensures room { IfOk result (λ tree. leaves ≤ tree.size) }
-        ensures leaves { IfOk result (λ tree. leaves_of tree ≡ replicate tree.size 0) }
+        ensures leaves { IfOk result (λ tree. leaves_of tree ≡ leaves_of self.now ++ replicate (tree.size - self.now.size) 0) }
     {
+        if leaves > MOST_LEAVES {
+            return Err(AllocError);
+        }
         let (size, levels) = full_size(leaves);
         let mut greatest = Vec::with_capacity(alloc, 2 * size)?;
+        greatest.resize(size, 0)?;
+        greatest.extend_from_slice(&self.greatest[self.size..])?;
         greatest.resize(2 * size, 0)?;
+        fill_tops(&mut greatest, size);
         Ok(Tree {
             greatest,
             size,
@@ -57,8 +120,15 @@ impl Tree {
         })
     }
 
-    /// The number of a leaf.
-    pub(crate) fn get(&self, at: usize) -> u32
+    /// How many leaves there are. This costs a constant time.
+    pub fn size(&self) -> usize
+        ensures { result ≡ self.now.size }
+    {
+        self.size
+    }
+
+    /// The number of a leaf. This costs a constant time.
+    pub fn get(&self, at: usize) -> u32
         requires tree { IsTree self.now }
         requires inside { at < self.now.size }
         ensures { result ≡ number (leaves_of self.now) at }
@@ -66,8 +136,9 @@ impl Tree {
         self.greatest[self.size + at]
     }
 
-    /// Gives a leaf another number.
-    pub(crate) fn put(&mut self, at: usize, number: u32)
+    /// Gives a leaf another number. This costs the logarithm of how many leaves there are, at the
+    /// most: it ends below the first node that keeps its number.
+    pub fn put(&mut self, at: usize, number: u32)
         requires tree { IsTree self.old }
         requires inside { at < self.old.size }
         ensures tree { IsTree self.new }
@@ -88,13 +159,33 @@ impl Tree {
         }
     }
 
-    /// The first leaf with at least this number.
-    pub(crate) fn first_of(&self, least: u32) -> Option<usize>
+    // The greatest number of all, 0 where there are no leaves.
+    fn root(&self) -> u32
+        requires { IsTree self.now }
+        ensures { result ≡ number self.now.greatest.items 1 }
+    {
+        if self.size == 0 { 0 } else { self.greatest[1] }
+    }
+
+    /// Some leaf has at least this number. This costs a constant time.
+    pub fn has(&self, least: u32) -> bool
+        requires tree { IsTree self.now }
+        requires some { 1 ≤ least }
+        ensures some { result ≡ true → (k : ℕ) × (least ≤ number (leaves_of self.now) k) }
+        ensures none { result ≡ false → (k : ℕ) → number (leaves_of self.now) k < least }
+    {
+        self.root() >= least
+    }
+
+    /// The first leaf with at least this number, none where there is none.
+    ///
+    /// This costs the logarithm of how many leaves there are, and a constant time where there is none.
+    pub fn first_of(&self, least: u32) -> Option<usize>
         requires tree { IsTree self.now }
         requires some { 1 ≤ least }
         ensures { IsFirst (leaves_of self.now) least result }
     {
-        if self.greatest[1] < least {
+        if self.root() < least {
             return None;
         }
         Some(self.first_below(least, 1, self.levels) - self.size)
@@ -121,8 +212,10 @@ impl Tree {
         node
     }
 
-    /// The last leaf before a place that isn't 0.
-    pub(crate) fn last_before(&self, at: usize) -> Option<usize>
+    /// The last leaf before a place that isn't 0, none where there is none.
+    ///
+    /// This costs the logarithm of how many leaves there are, and a constant time where all are 0.
+    pub fn last_before(&self, at: usize) -> Option<usize>
         requires tree { IsTree self.now }
         requires inside { at ≤ self.now.size }
         ensures { IsLast (leaves_of self.now) at result }
@@ -130,7 +223,7 @@ impl Tree {
         if at == 0 {
             return None;
         }
-        if self.greatest[1] == 0 {
+        if self.root() == 0 {
             return None;
         }
         let mut node = self.size + at - 1;
@@ -167,8 +260,10 @@ impl Tree {
         node
     }
 
-    /// The first leaf from a place on that isn't 0.
-    pub(crate) fn first_after(&self, at: usize) -> Option<usize>
+    /// The first leaf from a place on that isn't 0, none where there is none.
+    ///
+    /// This costs the logarithm of how many leaves there are.
+    pub fn first_after(&self, at: usize) -> Option<usize>
         requires tree { IsTree self.now }
         requires inside { at ≤ self.now.size }
         ensures { IsNext (leaves_of self.now) at result }

@@ -1,4 +1,2 @@
-pub mod Nodes
 pub mod Listed
-pub mod Marking
 mod Worked

@@ -1,5 +1,7 @@
 -- The ready processes by their numbers: docs/MACHINE.md, "Which process comes next".
-use Rattle.std.specs.Prelude.{ℕ, suc, ◌+◌, ◌≤◌, nat_eq, nat_lt, if◌then◌else◌, Bool, List, [], ◌∷◌}
+use Rattle.std.specs.Prelude.{ℕ, zero, suc, ◌+◌, ◌≤◌, nat_eq, nat_lt, if◌then◌else◌, List, [], ◌∷◌}
+use Rattle.hep_lengths.specs.declared.tree.Tree.{Tree}
+use Rattle.hep_lengths.specs.Trees.{leaves_of}
 
 -- how many numbers have room, which are those from 1 on, and the numbers of the ready processes, which rise
 pub record Numbers : Type 0 where
@@ -11,10 +13,15 @@ abbrev pub with_number : ℕ → List ℕ → List ℕ
 with_number p [] = p ∷ []
 with_number p (q ∷ qs) = if nat_lt p q then p ∷ q ∷ qs else (if nat_eq p q then q ∷ qs else q ∷ with_number p qs)
 
--- the numbers of the marks that are set, of which the first one has the number n
-abbrev pub numbers_from : ℕ → List Bool → List ℕ
+-- the numbers of the marks that are set, which are those that aren't 0; the first mark has the number n
+abbrev pub numbers_from : ℕ → List ℕ → List ℕ
 numbers_from n [] = []
-numbers_from n (b ∷ bs) = if b then n ∷ numbers_from (suc n) bs else numbers_from (suc n) bs
+numbers_from n (zero ∷ ms) = numbers_from (suc n) ms
+numbers_from n (suc m ∷ ms) = n ∷ numbers_from (suc n) ms
+
+-- each number has a leaf, 1 the first one
+abbrev pub numbers_of : Tree → Numbers
+numbers_of tree = record { room = tree.size; ready = numbers_from 1 (leaves_of tree) }
 
 -- numbers rise, and lie between two
 abbrev pub AreRising : ℕ → ℕ → List ℕ → Type 0

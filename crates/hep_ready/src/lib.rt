@@ -4,6 +4,5 @@
 #![tactic(auto)]
 
 mod ready;
-mod tree;
 
 pub use ready::Ready;

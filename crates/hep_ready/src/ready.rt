@@ -3,7 +3,7 @@ ghost use Rattle.std.specs.Prelude.{◌≡◌, ◌==◌, ◌≤◌, [], None, If
 ghost use Rattle.hep_machine.specs.Schedules.{first_above, next_of_ready, without};
 ghost use Rattle.hep_ready.specs.Numbers.{AreRising, with_number};
 
-use crate::tree::Tree;
+use hep_lengths::Tree;
 use std::alloc::{AllocError, Global};
 use std::marker::Model;
 
@@ -12,7 +12,7 @@ use std::marker::Model;
 #[derive(Drop)]
 pub struct Ready {
     alloc: Global,
-    // The leaf of the number p is at p - 1.
+    // The leaf of the number p is at p - 1: 1 where the process is ready, and else 0.
     tree: Tree,
 }
 
@@ -21,7 +21,8 @@ impl Model for Ready {
 
     ghost Value = { Numbers };
 
-    ghost use Rattle.hep_ready.specs.Trees.{IsTree, numbers_of};
+    ghost use Rattle.hep_lengths.specs.Trees.{IsTree};
+    ghost use Rattle.hep_ready.specs.Numbers.{numbers_of};
 
     ghost view = { λ r. numbers_of r.tree };
 
@@ -68,7 +69,7 @@ impl Ready {
         ensures ready { self.new.ready ≡ with_number p self.old.ready }
         ensures room { self.new.room ≡ self.old.room }
     {
-        self.tree.put(p as usize - 1, true);
+        self.tree.put(p as usize - 1, 1);
     }
 
     /// A process isn't ready, whether it was or not. Its number needs no room.
@@ -79,7 +80,7 @@ impl Ready {
         ensures room { self.new.room ≡ self.old.room }
     {
         if p > 0 && p <= self.tree.size() as u64 {
-            self.tree.put(p as usize - 1, false);
+            self.tree.put(p as usize - 1, 0);
         }
     }
 
@@ -108,7 +109,7 @@ impl Ready {
         if p >= self.tree.size() as u64 {
             return None;
         }
-        let at = self.tree.first_from(p as usize)?;
+        let at = self.tree.first_after(p as usize)?;
         Some(at as u64 + 1)
     }
 
@@ -116,6 +117,6 @@ impl Ready {
     pub fn is_empty(&self) -> bool
         ensures { result ≡ (length self.now.ready == 0) }
     {
-        !self.tree.has_marks()
+        !self.tree.has(1)
     }
 }

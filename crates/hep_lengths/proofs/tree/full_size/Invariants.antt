@@ -5,7 +5,7 @@ use Rattle.hep_lengths.proofs.tree.full_size.Given as goal
 abbrev pub invariant-loop-size : goal.invariant-loop-size
 invariant-loop-size l = record {
   size : l.size ≡ leftmost l.levels 1;
-  few : l.size < 2 ^ 25;
+  few : l.size < 2 ^ 62;
   levels : l.levels < l.size;
 }
 

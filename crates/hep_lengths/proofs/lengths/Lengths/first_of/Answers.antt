@@ -1,6 +1,6 @@
 use Rattle.std.proofs.Common.{◌≡◌, ◌+◌, Some, take, sym, ap, ◌∙◌, arith}
 use Rattle.hep_lengths.specs.Trees.{leaves_of}
-use Rattle.hep_lengths.proofs.Listed.{first-found, first-none, number-seen}
+use Rattle.hep_lengths.proofs.Listed.{first-found, first-none, number-seen, place-seen}
 use Rattle.hep_lengths.proofs.lengths.Lengths.first_of.Goals as goal
 
 pub returns-in_err-at : goal.returns-in_err-at
@@ -9,6 +9,12 @@ returns-in_err-at c =
     record {
       first = rw (c.from_residual.ensures, ← c.self.view_is) (sym (first-none 0 c.args.least (take l.places (leaves_of l.tree)) (λ k. omega (arith, number-seen l.places k (leaves_of l.tree) c.self.invariant.zeros, c.in_err-at.ensures k))));
     }
+
+pub overflow_cast-result : goal.overflow_cast-result
+overflow_cast-result c =
+    let l = c.self.inside in
+    let inside = place-seen l.places c.in_ok-at.at (leaves_of l.tree) c.self.invariant.zeros (omega (arith, c.in_ok-at.ensures, c.requires.some)) in
+    omega (arith, inside)
 
 pub returns : goal.returns
 returns c =

@@ -1,16 +1,14 @@
 use Rattle.std.proofs.Common.{◌≡◌, ◌+◌, ◌-◌, ◌/◌, ◌<◌, ◌≤◌, suc, add-one, ℕ, length, sym, ap, ◌∙◌, subst, inl, inr, refl, arith}
 use Rattle.std.proofs.lemmas.Bool.{cases_lt}
 use Rattle.hep_lengths.specs.Trees.{leftmost}
-use Rattle.hep_lengths.proofs.Nodes.{IsAscent, leftmost-le, number-leaf, number-read, root-none, ascent-odd, ascent-even, ascent-first, ascent-node, ascent-other, ascent-ends}
+use Rattle.hep_lengths.proofs.Nodes.{IsAscent, number-leaf, number-read, root-none, ascent-odd, ascent-even, ascent-first, ascent-node, ascent-other, ascent-ends}
 use Rattle.hep_lengths.proofs.tree.Tree.last_before.Goals as goal
 use Rattle.hep_lengths.proofs.tree.Tree.last_before.Goals.{else-node-eq1-via-then-node-eq1+else-index-gt0-2, else-node-eq1-via-else-node-eq1}
 
-pub returns-then-index-eq0 : goal.returns-then-index-eq0
-returns-then-index-eq0 c k before =
+pub returns-then-root-eq0 : goal.returns-then-root-eq0
+returns-then-root-eq0 c k before =
     let t = c.args.self.now in let tree = c.requires.tree in
-    let inside : 1 < length t.greatest.items = omega (arith, tree.nodes, tree.leaves, leftmost-le t.levels 1) in
-    let root = number-read t.greatest.items 1 c.index.result.now inside c.index.ensures in
-    omega (arith, root-none t.greatest.items t.size 1 tree.tops t.levels tree.nodes tree.leaves (omega (arith, root, c.if-index-eq0.true)) (omega arith) k)
+    omega (arith, root-none t.greatest.items t.size 1 tree.tops t.levels tree.nodes tree.leaves (omega (arith, c.root.ensures, c.if-root-eq0.true)) (omega arith) k)
 
 pub index-requires-then-node-eq1 : goal.index-requires-then-node-eq1
 index-requires-then-node-eq1 c =

@@ -1,6 +1,6 @@
 use Rattle.std.proofs.Common.{◌≡◌, ◌-◌, ◌+◌, length-drop, sym, ap, ◌∙◌, arith}
 use Rattle.hep_ready.specs.Numbers.{numbers_from}
-use Rattle.hep_ready.specs.Trees.{leaves_of}
+use Rattle.hep_lengths.specs.Trees.{leaves_of}
 use Rattle.hep_ready.proofs.Listed.{numbers-without, without-above, without-below}
 use Rattle.hep_ready.proofs.ready.Ready.remove.Goals as goal
 use Rattle.hep_ready.proofs.ready.Ready.remove.Goals.{else-p-gt0-via-then-p-gt0+else-p-size, else-p-gt0-via-else-p-gt0}
@@ -15,6 +15,6 @@ pub returns-else-p-gt0-clause-ready : goal.returns-else-p-gt0-clause-ready
 returns-else-p-gt0-clause-ready c =
     let t = c.self.inside.tree in
     rw (← c.self.view_is) (sym (elim c.else-p-gt0.branch [
-      | else-p-gt0-via-then-p-gt0+else-p-size w ↦ without-above c.args.p 1 (leaves_of t) (omega (arith, length-drop t.size t.marks.items, c.self.invariant.nodes, w.if-p-size.false, w.size.ensures))
+      | else-p-gt0-via-then-p-gt0+else-p-size w ↦ without-above c.args.p 1 (leaves_of t) (omega (arith, length-drop t.size t.greatest.items, c.self.invariant.nodes, w.if-p-size.false, w.size.ensures))
       | else-p-gt0-via-else-p-gt0 w ↦ without-below c.args.p 1 (leaves_of t) (omega (arith, w.if-p-gt0.false))
     ]))

@@ -1,6 +1,6 @@
 use Rattle.std.proofs.Common.{ap, ◌∙◌}
 use Rattle.hep_ready.specs.Numbers.{numbers_from}
-use Rattle.hep_ready.specs.Trees.{leaves_of}
+use Rattle.hep_lengths.specs.Trees.{leaves_of}
 use Rattle.hep_ready.proofs.Listed.{numbers-behind}
 use Rattle.hep_ready.proofs.ready.Ready.reserve.Goals as goal
 
