@@ -18,7 +18,7 @@ use Rattle.hep_image.specs.Finding.{cells_in}
 use Rattle.hep_image.specs.Places.{variable_of}
 use Rattle.hep_passing.specs.declared.given.Given.{Given}
 use Rattle.hep_passing.specs.Agreement.{AreGivenAs, ArePlaced, IsCaller, IsGiven, IsPassedAs, arrays_at}
-use Rattle.hep_passing.specs.Passing.{given_before, given_by, given_for, given_units}
+use Rattle.hep_passing.specs.Passing.{given_by, given_for, given_units, made_before}
 use Rattle.hep_passing.proofs.References.{reference-passed}
 
 module _ (program : Units) (s : State) (layout : Layout) (b : ℕ) where
@@ -35,7 +35,7 @@ module _ (program : Units) (s : State) (layout : Layout) (b : ℕ) where
   units-given x r (Err k) (Ok d) h = absurd h
 
   given-before : (x : Name) (y : Actual) (xs : List Name) (ys : List Actual) (g : Result Given Kind) (d : Result Dummy Kind) (gs : Result (List Given) Kind) (ds : Result (List Dummy) Kind)
-      → IsGivenAs x y g d → AreGivenAs program s layout b xs ys gs ds → AreGivenAs program s layout b (x ∷ xs) (y ∷ ys) (given_before g gs) (dummy_before d ds)
+      → IsGivenAs x y g d → AreGivenAs program s layout b xs ys gs ds → AreGivenAs program s layout b (x ∷ xs) (y ∷ ys) (made_before g gs) (dummy_before d ds)
   given-before x y xs ys (Err k) (Err l) gs ds h hs = h
   given-before x y xs ys (Err k) (Ok d) gs ds h hs = absurd h
   given-before x y xs ys (Ok g) (Err l) gs ds h hs = absurd h

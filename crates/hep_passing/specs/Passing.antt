@@ -50,23 +50,28 @@ module _ (cells : ℕ → Slot) (first : ℕ) where
     passed_at (variables.Array asynchronous i) subscripts = passed_of_array (slice_get arrays i) subscripts
     passed_at variables.Absent subscripts = Err Range
 
+-- ---- what is made of all that is passed, from left to right; the first fault answers
+
+abbrev pub made_before : {T : Type 0} → Result T Kind → Result (List T) Kind → Result (List T) Kind
+made_before (Err k) ts = Err k
+made_before (Ok t) (Err k) = Err k
+made_before (Ok t) (Ok ts) = Ok (t ∷ ts)
+
+abbrev pub made_by : {T : Type 0} → (Passed → Result T Kind) → List Passed → Result (List T) Kind
+made_by made [] = Ok []
+made_by made (p ∷ ps) = made_before (made p) (made_by made ps)
+
 -- ---- what is given
 
 abbrev pub given_units : Result (ℕ × ℕ) Kind → Result Given Kind
 given_units (Err k) = Err k
 given_units (Ok units) = Ok (giving.Units units.0 units.1)
 
-abbrev pub given_before : Result Given Kind → Result (List Given) Kind → Result (List Given) Kind
-given_before (Err k) gs = Err k
-given_before (Ok g) (Err k) = Err k
-given_before (Ok g) (Ok gs) = Ok (g ∷ gs)
-
 module _ (cells : ℕ → Slot) (first : ℕ) (arrays : List Array) where
   abbrev pub given_for : Passed → Result Given Kind
   given_for (by_value v) = Ok (giving.Value v)
   given_for (by_reference x subscripts) = given_units (passed_at cells first arrays x subscripts)
 
-  -- those of all actual arguments from left to right; the first fault answers
+  -- those of all actual arguments
   abbrev pub given_by : List Passed → Result (List Given) Kind
-  given_by [] = Ok []
-  given_by (p ∷ ps) = given_before (given_for p) (given_by ps)
+  given_by = made_by given_for

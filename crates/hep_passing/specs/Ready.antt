@@ -41,8 +41,3 @@ module _ (space : Space) (arrays : List Array) (frame : Frame) where
   ArePassable [] = Unit {0}
   ArePassable (by_value v ∷ ps) = ArePassable ps
   ArePassable (by_reference x subscripts ∷ ps) = IsPassable x subscripts × ArePassable ps
-
-  -- what an entry passes
-  abbrev pub IsAheadPassable : Option (Passed × List Value) → Type 0
-  IsAheadPassable None = Unit {0}
-  IsAheadPassable (Some ahead) = ArePassable (ahead.0 ∷ [])

@@ -4,11 +4,15 @@
 //! Nothing here takes memory or changes a cell.
 #![tactic(auto)]
 
+pub mod entry;
 pub mod given;
 pub mod giving;
 pub mod laws;
+pub mod making;
 pub mod passing;
 
+pub use entry::Passed;
 pub use given::Given;
 pub use giving::give_actuals;
+pub use making::{FromPassed, make_from_entries};
 pub use passing::passed;

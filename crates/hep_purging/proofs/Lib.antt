@@ -1,5 +1,4 @@
 pub mod Cells
-pub mod Entries
 pub mod Reached
 pub mod Emptied
 pub mod Targets

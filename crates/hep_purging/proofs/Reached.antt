@@ -1,6 +1,6 @@
 -- The cells that a PURGE empties lie in the arena, and in no hole.
-use Rattle.std.proofs.Common.{◌≡◌, ℕ, ◌+◌, ◌-◌, ◌≤◌, Bool, true, false, List, [], ◌∷◌, length, Option, Some, None, Result, Ok, Err, refl, sym, ap, ◌∙◌, subst, arith}
-use Rattle.std.specs.Prelude.{IfOk, if◌then◌else◌, nat_le, slice_get}
+use Rattle.std.proofs.Common.{◌≡◌, ℕ, ◌+◌, ◌-◌, ◌≤◌, Bool, true, false, List, [], ◌∷◌, length, Option, Some, None, Result, Ok, Err, refl, subst, arith}
+use Rattle.std.specs.Prelude.{if◌then◌else◌, nat_le, slice_get}
 use Rattle.std.proofs.lemmas.Bool.Decides.{nat_tests}
 use Rattle.hep_source.specs.declared.value.Value.{Value}
 use Rattle.hep_machine.specs.declared.event.Kind.{Kind}
@@ -14,11 +14,11 @@ use Rattle.hep_code.specs.declared.variable.Variable.TheVariants as variable
 use Rattle.hep_code.specs.Passing.{Passed, by_value, by_reference}
 use Rattle.hep_image.specs.declared.array.Array.{Array}
 use Rattle.hep_image.specs.Finding.{base_at, bounds_at, cells_in}
-use Rattle.hep_passing.specs.Passing.{count_of, passed_at, passed_from_element, passed_of_array, passed_of_scalar}
+use Rattle.hep_passing.specs.Passing.{count_of, made_before, passed_at, passed_from_element, passed_of_array, passed_of_scalar}
 use Rattle.hep_passing.specs.Ready.{ArePassable, AreUnitsIn}
 use Rattle.hep_step.specs.declared.frame.Frame.{Frame}
 use Rattle.hep_purging.specs.declared.range.Range.{Range}
-use Rattle.hep_purging.specs.Ranges.{is_whole, range_before, range_for, range_in, ranges_of}
+use Rattle.hep_purging.specs.Ranges.{is_whole, range_for, range_in, ranges_of}
 use Rattle.hep_purging.specs.Ready.{AreOut, AreReached, AreUnitsOut, IsRangeReached}
 
 -- ---- a scalar or an element begins storage units, of which there is one at least
@@ -73,7 +73,7 @@ module _ (space : Space) (arrays : List Array) (frame : Frame) where
   AreAllReached (Ok rs) = AreReached space rs
   AreAllReached (Err k) = Unit {0}
 
-  before-reached : (r : Result Range Kind) (rs : Result (List Range) Kind) → IsOneReached r → AreAllReached rs → AreAllReached (range_before r rs)
+  before-reached : (r : Result Range Kind) (rs : Result (List Range) Kind) → IsOneReached r → AreAllReached rs → AreAllReached (made_before r rs)
   before-reached (Err k) rs h hs = tt
   before-reached (Ok r) (Err k) h hs = tt
   before-reached (Ok r) (Ok rs) h hs = (h, hs)
@@ -87,10 +87,5 @@ module _ (space : Space) (arrays : List Array) (frame : Frame) where
       (one-reached (is_whole x vs) (passed_at cells frame.first arrays x vs) (passed-some cells frame.first arrays x vs) passable.0.reached out.0)
       (all-reached ps passable.1 out.1)
 
-  pub ranges-reached : (ps : List Passed) (rs : List Range) → ArePassable space arrays frame ps → AreOut space arrays frame ps → ranges_of cells frame.first arrays ps ≡ Ok rs → AreReached space rs
-  ranges-reached ps rs passable out found = subst AreAllReached found (all-reached ps passable out)
-
-  pub found-reached : {A : Type 0} (r : Result A Kind) (ps qs : List Passed) (rs : List Range) → ps ≡ qs → ArePassable space arrays frame qs → AreOut space arrays frame qs
-      → IfOk r (λ _. ranges_of cells frame.first arrays ps ≡ Ok rs) → IfOk r (λ _. AreReached space rs)
-  found-reached (Ok x) ps qs rs same passable out found = ranges-reached qs rs passable out (ap (ranges_of cells frame.first arrays) (sym same) ∙ found)
-  found-reached (Err k) ps qs rs same passable out found = tt
+  pub ranges_reached : (ps : List Passed) (rs : List Range) → ArePassable space arrays frame ps → AreOut space arrays frame ps → ranges_of cells frame.first arrays ps ≡ Ok rs → AreReached space rs
+  ranges_reached ps rs passable out found = subst AreAllReached found (all-reached ps passable out)

@@ -32,11 +32,11 @@ use Rattle.hep_image.specs.declared.array.Start.TheVariants as start
 use Rattle.hep_image.specs.Finding.{cells_in}
 use Rattle.hep_image.specs.Places.{arrays_of, scalar, variable_by, variable_of}
 use Rattle.hep_passing.specs.Agreement.{IsCaller, IsPassedAs, arrays_at}
-use Rattle.hep_passing.specs.Passing.{passed_at}
+use Rattle.hep_passing.specs.Passing.{made_before, passed_at}
 use Rattle.hep_passing.proofs.References.{caller-found, reference-passed}
 use Rattle.hep_purging.specs.declared.range.Range.{Range}
 use Rattle.hep_purging.specs.Purged.{purged, purged_from}
-use Rattle.hep_purging.specs.Ranges.{is_whole, range_before, range_for, range_in, ranges_of}
+use Rattle.hep_purging.specs.Ranges.{is_whole, range_for, range_in, ranges_of}
 use Rattle.hep_purging.proofs.Emptied.{Keeps, no_further, run-emptied}
 
 -- each target's variable has storage units
@@ -126,7 +126,7 @@ module _ (program : Units) (s : State) (layout : Layout) (contents : List Slot) 
     AreAllPurged (Err k) after = (store : Store) → after store ≡ Err k
     AreAllPurged (Ok rs) after = (store : Store) (cells : List Slot) → KeepsStore store cells → (new : Store) × (after store ≡ Ok new) × KeepsStore new (purged rs cells)
 
-    before-purged : (r : Result Range Kind) (rs : Result (List Range) Kind) (one all : Store → Result Store Kind) → IsOnePurged program s layout r one → AreAllPurged rs all → AreAllPurged (range_before r rs) (λ store. store_after_both (one store) all)
+    before-purged : (r : Result Range Kind) (rs : Result (List Range) Kind) (one all : Store → Result Store Kind) → IsOnePurged program s layout r one → AreAllPurged rs all → AreAllPurged (made_before r rs) (λ store. store_after_both (one store) all)
     before-purged (Err k) rs one all h hs = λ store. ap (λ q. store_after_both q all) (h store)
     before-purged (Ok r) (Err k) one all h hs = λ store. ap (λ q. store_after_both q all) (h.1 store) ∙ hs (emptied_from r.cells h.0 store)
     before-purged (Ok r) (Ok rs) one all h hs = λ store cells keeps.

@@ -1,5 +1,5 @@
 -- Which cells of the arena a PURGE empties: docs/LANGUAGE.md, 9, and docs/MACHINE.md, "Steps".
-use Rattle.std.specs.Prelude.{ℕ, Bool, true, false, if◌then◌else◌, List, [], ◌∷◌, Result, Ok, Err}
+use Rattle.std.specs.Prelude.{ℕ, Bool, true, false, if◌then◌else◌, List, [], Result, Ok, Err}
 use Rattle.hep_source.specs.declared.value.Value.{Value}
 use Rattle.hep_machine.specs.declared.event.Kind.{Kind}
 use Rattle.hep_machine.specs.declared.slot.Slot.{Slot}
@@ -7,7 +7,7 @@ use Rattle.hep_code.specs.declared.variable.Variable.{Variable}
 use Rattle.hep_code.specs.declared.variable.Variable.TheVariants.{Array as ArrayAt}
 use Rattle.hep_code.specs.Passing.{Passed, by_value, by_reference}
 use Rattle.hep_image.specs.declared.array.Array.{Array}
-use Rattle.hep_passing.specs.Passing.{passed_at}
+use Rattle.hep_passing.specs.Passing.{made_by, passed_at}
 use Rattle.hep_purging.specs.declared.range.Range.{Range}
 
 -- ---- one target
@@ -28,11 +28,6 @@ range_in whole (Ok units) = Ok (record { first = units.0; cells = if whole then 
 abbrev pub no_cells : Range
 no_cells = record { first = 0; cells = 0 }
 
-abbrev pub range_before : Result Range Kind → Result (List Range) Kind → Result (List Range) Kind
-range_before (Err k) rs = Err k
-range_before (Ok r) (Err k) = Err k
-range_before (Ok r) (Ok rs) = Ok (r ∷ rs)
-
 -- from the contents of the arena, the first cell of the frame, and the arrays of the unit
 module _ (cells : ℕ → Slot) (first : ℕ) (arrays : List Array) where
   -- RANGE for what isn't there
@@ -42,5 +37,4 @@ module _ (cells : ℕ → Slot) (first : ℕ) (arrays : List Array) where
 
   -- those of all targets from left to right; the first fault answers
   abbrev pub ranges_of : List Passed → Result (List Range) Kind
-  ranges_of [] = Ok []
-  ranges_of (p ∷ ps) = range_before (range_for p) (ranges_of ps)
+  ranges_of = made_by range_for
