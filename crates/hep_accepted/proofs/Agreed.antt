@@ -3,7 +3,7 @@ use Rattle.std.proofs.Common.{◌≡◌, ◌⊎◌, inl, inr, ℕ, zero, suc, Bo
 use Rattle.std.specs.Prelude.{◌&&◌, not, slice_get, nat_eq, is_none}
 use Rattle.std.specs.List.{list_all}
 use Rattle.std.specs.Option.{unwrap_or}
-use Rattle.std.proofs.lemmas.Bool.{and_parts}
+use Rattle.std.proofs.lemmas.Bool.{and_parts, not-true, eqb-true}
 use Rattle.std.proofs.lemmas.Bool.Decides.{nat_tests}
 use Rattle.std.proofs.lemmas.Option.{none-some, same_Some}
 use Rattle.hep_source.specs.Tree.{Tree, Trees, no_trees, trees}
@@ -22,7 +22,8 @@ use Rattle.hep_check.specs.Names.{unknown_references, unknown_subroutines, unkno
 use Rattle.hep_check.specs.Statements.{Calling, NameWithList, calls_in, names_with_lists, targets_purged}
 use Rattle.hep_check.specs.Violations.{at_line, at_occurrence, when}
 use Rattle.hep_accepted.specs.Agreement.{CallsSubroutine, FitPairwise, IsOneAsynchronousScalar}
-use Rattle.hep_accepted.proofs.Parts.{found_at, none-append, none-each, none-unless, none-when, all-each, some_value, unviolated, equal_numbers}
+use Rattle.hep_accepted.proofs.Parts.{found_at, none-append, none-each, none-when, all-each, some_value, unviolated}
+use Rattle.hep_check.proofs.Agreeing.{none-when as none-unless}
 
 -- ---- calls
 
@@ -44,7 +45,7 @@ agreed program unit callee c v found is counted fit =
     let fits : fit_dummies (unit_at program v) (dummies_of (unit_at program v)) (all_given unit c.actuals) ≡ true = subst (λ o. fits_subroutine program unit o c.actuals ≡ true) found fit in
     let count_here : nat_eq (length c.actuals) (length (dummies_of callee)) ≡ true = subst (λ (w : List Statement). nat_eq (length c.actuals) (length (dummies_of w)) ≡ true) at count in
     let fits_here : fit_dummies callee (dummies_of callee) (all_given unit c.actuals) ≡ true = subst (λ (w : List Statement). fit_dummies w (dummies_of w) (all_given unit c.actuals) ≡ true) at fits in
-    (equal_numbers (length c.actuals) (length (dummies_of callee)) count_here, fit_each unit callee (dummies_of callee) c.actuals fits_here)
+    (eqb-true (length c.actuals) (length (dummies_of callee)) count_here, fit_each unit callee (dummies_of callee) c.actuals fits_here)
 
 -- the tests of a statement
 pub counted : (program : Units) (unit : List Statement) (u k : ℕ) (s : Statement) → IsAccepted program → slice_get program u ≡ Some unit → slice_get unit k ≡ Some s
@@ -104,12 +105,8 @@ purgeable program u k i unit s t accepted iu ik it =
 pub purged_asynchronous : (program : Units) (u k i : ℕ) (unit : List Statement) (s : Statement) (t : Target) → IsAccepted program → slice_get program u ≡ Some unit → slice_get unit k ≡ Some s → slice_get (targets_purged s.form) i ≡ Some t → t.occurrence.name.asynchronous ≡ true
 purged_asynchronous program u k i unit s t accepted iu ik it = (purgeable program u k i unit s t accepted iu ik it).0
 
-no_constant : (b : Bool) → not b ≡ true → b ≡ false
-no_constant true e = absurd (true≢false (sym e))
-no_constant false e = refl
-
 pub purged_no_constant : (program : Units) (u k i : ℕ) (unit : List Statement) (s : Statement) (t : Target) → IsAccepted program → slice_get program u ≡ Some unit → slice_get unit k ≡ Some s → slice_get (targets_purged s.form) i ≡ Some t → is_constant_name unit t.occurrence.name ≡ false
-purged_no_constant program u k i unit s t accepted iu ik it = no_constant (is_constant_name unit t.occurrence.name) (purgeable program u k i unit s t accepted iu ik it).1
+purged_no_constant program u k i unit s t accepted iu ik it = not-true (is_constant_name unit t.occurrence.name) (purgeable program u k i unit s t accepted iu ik it).1
 
 empty_or : (ts : List Tree) (b : Bool) → (not (is_nonempty ts) || b) ≡ true → (ts ≡ []) ⊎ (b ≡ true)
 empty_or [] b e = inl refl

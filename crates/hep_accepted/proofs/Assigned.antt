@@ -1,9 +1,8 @@
 -- DATA of accepted programs.
-use Rattle.std.proofs.Common.{◌≡◌, ℕ, zero, suc, Bool, true, false, List, [], ◌∷◌, length, Option, Some, None, refl, sym, ap, ◌∙◌, subst, true≢false, arith}
+use Rattle.std.proofs.Common.{◌≡◌, ℕ, zero, suc, Bool, true, false, List, [], ◌∷◌, length, Option, Some, None, refl, sym, ap, ◌∙◌, subst, true≢false}
 use Rattle.std.specs.Prelude.{◌&&◌, ◌||◌, not, slice_get, if◌then◌else◌, is_none, is_some, option_map, option_and_then, nat_eq, drop, take}
 use Rattle.std.specs.List.{flat_map, list_all, list_any}
-use Rattle.std.proofs.lemmas.Bool.{and_parts, or_parts}
-use Rattle.std.proofs.lemmas.Bool.Decides.{nat_tests}
+use Rattle.std.proofs.lemmas.Bool.{and_parts, or_parts, eqb-true, eq-eqb}
 use Rattle.std.proofs.lemmas.Option.{none-some, same_Some}
 use Rattle.hep_source.specs.Tree.{Tree, trees_of}
 use Rattle.hep_source.specs.declared.declaration.DataConstant.{DataConstant}
@@ -39,9 +38,10 @@ use Rattle.hep_check.specs.Violations.{at_line, when}
 use Rattle.hep_accepted.proofs.Formed.{parameters_at, target_typed, typed_statement}
 use Rattle.hep_accepted.proofs.Meant.{constant_not_in_data, data_known}
 use Rattle.hep_accepted.proofs.Members.{Has, all_has, has_behind, has_flat, has_front, has_more}
-use Rattle.hep_accepted.proofs.Parts.{any-each, none-append, none-when, some_value, unviolated, equal_numbers, some_of}
-use Rattle.hep_accepted.proofs.Shaped.{Extends, same_value, IsValued, arrays_have_shapes, given_by-append, named-append, same_values, shut, take_drop}
+use Rattle.hep_accepted.proofs.Parts.{any-each, none-append, none-when, some_value, unviolated, some_of}
+use Rattle.hep_accepted.proofs.Shaped.{Extends, same_value, IsValued, arrays_have_shapes, named-append, same_values, shut, take_drop}
 use Rattle.hep_accepted.proofs.Valued.{ConstantsAgree, kept_by, valued}
+use Rattle.hep_check.proofs.Agreeing.{given_by-append}
 
 -- ---- what 311 says of a statement
 
@@ -220,15 +220,12 @@ element_is x bs vs n shape subscripts p q e =
     (λ i. option_map (λ m. record { name = x; first = m; count = 1 }) (option_and_then (λ cs. option_and_then (λ ws. element_number cs (integers_of ws)) (q i)) (p i)))
     ∙ ap (λ o. option_map (λ m. record { name = x; first = m; count = 1 }) o) e
 
-equal_tests : (m n : ℕ) → m ≡ n → nat_eq m n ≡ true
-equal_tests m n e = grind (arith, nat_tests)
-
 -- the number of subscripts is that of the dimensions
 subscripts_counted : (unit : List Statement) (t : Target) → is_array unit t.occurrence.name ≡ true → is_nonempty t.subscripts ≡ true → is_target_typed unit t ≡ true → count_of (trees_of t.subscripts) ≡ length (dimensions_of unit t.occurrence.name)
 subscripts_counted unit t array listed typed =
     let test : (has_dimensions unit t.occurrence.name (trees_of t.subscripts) && are_integers unit (trees_of t.subscripts)) ≡ true
     = subst (λ a. is_list_typed unit (if a then element else unknown) t.occurrence.name (trees_of t.subscripts) (are_integers unit (trees_of t.subscripts)) (are_actuals unit (trees_of t.subscripts)) ≡ true) array (target_typed unit t typed listed) in
-    equal_numbers (count_of (trees_of t.subscripts)) (length (dimensions_of unit t.occurrence.name)) (and_parts (has_dimensions unit t.occurrence.name (trees_of t.subscripts)) (are_integers unit (trees_of t.subscripts)) test).0
+    eqb-true (count_of (trees_of t.subscripts)) (length (dimensions_of unit t.occurrence.name)) (and_parts (has_dimensions unit t.occurrence.name (trees_of t.subscripts)) (are_integers unit (trees_of t.subscripts)) test).0
 
 inside : (unit : List Statement) (known : Constants) (t : Target) (bs : Bounds) (vs : List Value) → is_nonempty t.subscripts ≡ true → is_array unit t.occurrence.name ≡ true → constant_shape unit t.occurrence.name ≡ Some bs → values_of unit (value_among known) (trees_of t.subscripts) ≡ Some vs → is_target_outside unit known t ≡ false → is_outside (Some bs) (Some vs) ≡ false
 inside unit known t bs vs listed array shape values e =
@@ -263,7 +260,7 @@ there_by agrees program u k i j unit s g t accepted iu ik ig jt = by_list (is_no
       let shape = arrays_have_shapes agrees program u unit t.occurrence.name accepted iu array right.0 in
       let vs = all_valued unit (value_among (known_at unit k)) t.subscripts (subscripts_valued program u k i j unit s g t accepted iu ik ig jt keeps) in
       let count = shape_count unit t.occurrence.name shape.0 array shape.1 ∙ sym (vs.2 ∙ subscripts_counted unit t array listed typed) in
-      let n = number_there shape.0 vs.0 (equal_tests (length shape.0) (length vs.0) count) (inside unit (known_at unit k) t shape.0 vs.0 listed array shape.1 vs.1 right.2) in
+      let n = number_there shape.0 vs.0 (eq-eqb (length shape.0) (length vs.0) count) (inside unit (known_at unit k) t shape.0 vs.0 listed array shape.1 vs.1 right.2) in
       let all = same_values unit (value_among (known_at unit k)) (constant_value unit) (trees_of t.subscripts) vs.0 (known_extends unit k) vs.1 in (
         record { name = t.occurrence.name; first = n.0; count = 1 },
         element_is t.occurrence.name shape.0 vs.0 n.0 (constant_shape unit t.occurrence.name) (values_of unit (value_among (known_at unit k)) (trees_of t.subscripts)) shape.1 vs.1 n.1,

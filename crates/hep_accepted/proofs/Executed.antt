@@ -56,7 +56,7 @@ all_right unit (t ∷ ts) h =
     list_all-append (is_right unit) (names_with_lists_in t) (names_with_lists_in_all (trees_of ts))
     ∙ and_from (list_all (is_right unit) (names_with_lists_in t)) (list_all (is_right unit) (names_with_lists_in_all (trees_of ts))) (h t (zero, refl)) (all_right unit ts (λ e g. h e (has_more t ts e g)))
 
-target_occurs : (unit : List Statement) (x : Target) → (is_nonempty x.subscripts ≡ true → is_array unit x.occurrence.name ≡ true) → Has (occurrences_in_target unit x) x.occurrence
+pub target_occurs : (unit : List Statement) (x : Target) → (is_nonempty x.subscripts ≡ true → is_array unit x.occurrence.name ≡ true) → Has (occurrences_in_target unit x) x.occurrence
 target_occurs unit x arrays = has_front (if is_nonempty x.subscripts then array_occurrence unit x.occurrence else x.occurrence ∷ []) (flat_map (occurrences_in unit) x.subscripts) x.occurrence (by_list (is_nonempty x.subscripts) arrays) where
   by_list : (b : Bool) → (b ≡ true → is_array unit x.occurrence.name ≡ true) → Has (if b then array_occurrence unit x.occurrence else x.occurrence ∷ []) x.occurrence
   by_list true h = subst (λ a. Has (if a then x.occurrence ∷ [] else []) x.occurrence) (sym (h refl)) (zero, refl)
@@ -148,7 +148,7 @@ plain_variable program u k unit s accepted iu ik c is = by_conditions s.conditio
   by_conditions [] e = loop_variable program u k unit s c accepted iu ik e is
   by_conditions (t ∷ ts) e = absurd (true≢false (sym (ap is_not_held is) ∙ held_is_allowed program u k unit s t ts accepted iu ik e))
 
-in_form : (s : Statement) (e : Tree) → Has (trees_in_form s.form) e → Has (trees_in_statement s) e
+pub in_form : (s : Statement) (e : Tree) → Has (trees_in_form s.form) e → Has (trees_in_statement s) e
 in_form s e h = last s.conditions (flat_map trees_in_declarator (declarators_in s.form)) _ _ (trees_in_form s.form) h where
   last : (v w x y z : List Tree) → Has z e → Has (v ++ (w ++ (x ++ (y ++ z)))) e
   last v w x y z g = has_behind v (w ++ (x ++ (y ++ z))) e (has_behind w (x ++ (y ++ z)) e (has_behind x (y ++ z) e (has_behind y z e g)))

@@ -2,7 +2,7 @@
 use Rattle.std.proofs.Common.{◌≡◌, ℕ, zero, suc, ◌+◌, ◌-◌, ◌<◌, ◌≤◌, Bool, true, false, List, [], ◌∷◌, ◌++◌, Option, Some, None, refl, sym, ap, ◌∙◌, subst, true≢false, arith}
 use Rattle.std.specs.Prelude.{◌&&◌, ◌||◌, not, slice_get, if◌then◌else◌, nat_eq, nat_lt, option_map, option_to_list, take}
 use Rattle.std.specs.List.{flat_map, list_any}
-use Rattle.std.proofs.lemmas.Bool.{and_parts, or_parts}
+use Rattle.std.proofs.lemmas.Bool.{and_parts, or_parts, eqb-true}
 use Rattle.std.proofs.lemmas.Bool.Decides.{nat_tests}
 use Rattle.std.proofs.lemmas.Option.{none-some, same_Some}
 use Rattle.hep_source.proofs.NameTests.{same_name-self}
@@ -26,9 +26,10 @@ use Rattle.hep_check.specs.Violations.{at_line, when}
 use Rattle.hep_accepted.specs.Initial.{FitsValues, IsWithin, all_stretches, names_given, stretches_in, stretches_of, values_of_group}
 use Rattle.hep_accepted.proofs.Assigned.{IsThere, fitting, given_by_both, known_at, there_by}
 use Rattle.hep_accepted.proofs.Operands.{equal_types}
-use Rattle.hep_accepted.proofs.Parts.{none-append, none-when, unviolated, equal_numbers, same_index}
-use Rattle.hep_accepted.proofs.Shaped.{given_by-append}
+use Rattle.hep_accepted.proofs.Parts.{none-append, none-when, unviolated, same_index}
 use Rattle.hep_accepted.proofs.Valued.{ConstantsAgree}
+use Rattle.hep_source.proofs.Tests.{or-turned}
+use Rattle.hep_check.proofs.Agreeing.{given_by-append}
 
 -- ---- what is known is all
 
@@ -99,7 +100,7 @@ tests_from test i q n (r ∷ rs) ys x y h e gx gy = by_test (nat_lt q r.count) r
   by_test false f d more = more (past r.count f) d gy
 
 same_count : {A B : Type 0} (xs : Known A) (ys : Known B) → xs.whole ≡ true → ys.whole ≡ true → same_length xs ys ≡ true → count_of_items xs.items ≡ count_of_items ys.items
-same_count xs ys p q e = equal_numbers (count_of_items xs.items) (count_of_items ys.items) ((λ i. not (sym p i && sym q i) || nat_eq (count_of_items xs.items) (count_of_items ys.items)) ∙ e)
+same_count xs ys p q e = eqb-true (count_of_items xs.items) (count_of_items ys.items) ((λ i. not (sym p i && sym q i) || nat_eq (count_of_items xs.items) (count_of_items ys.items)) ∙ e)
 
 declared_type : (o : Option ValueType) (t : ValueType) → same_declared o (Some t) ≡ true → o ≡ Some t
 declared_type None t e = absurd (true≢false (sym e))
@@ -123,12 +124,6 @@ is_given_twice-same : (before after es : List Stretch) → ((e : Stretch) → li
 is_given_twice-same before after [] h = refl
 is_given_twice-same before after (e ∷ es) h =
     λ i. h e i || is_given_twice-same (e ∷ before) (e ∷ after) es (λ d. ap (λ b. share_element d e || b) (h d)) i
-
-or-turned : (p q r : Bool) → (p || (q || r)) ≡ (q || (p || r))
-or-turned true true r = refl
-or-turned true false r = refl
-or-turned false true r = refl
-or-turned false false r = refl
 
 -- one element more before, wherever it stands
 share-turned : (xs given : List Stretch) (x e : Stretch) → list_any (share_element e) (x ∷ (xs ++ given)) ≡ list_any (share_element e) (xs ++ x ∷ given)

@@ -41,7 +41,8 @@ use Rattle.hep_accepted.proofs.Agreed.{counted, given}
 use Rattle.hep_accepted.proofs.Meant.{reference_known}
 use Rattle.hep_accepted.proofs.Members.{Has, all_has, flat_has, has_behind, has_either, has_first_or, has_flat, has_front, has_more, has_one, map_at}
 use Rattle.hep_accepted.proofs.Operands.{AreNamesTyped, AreRight, IsGood, actuals_parts, good_part, is_actual, is_name_typed, is_of_type, is_right, list_actuals, typed_actual}
-use Rattle.hep_accepted.proofs.Parts.{all-each, all_from, none-append, none-each, none-unless, none-when, some_value, unviolated}
+use Rattle.hep_accepted.proofs.Parts.{all-each, all_from, none-append, none-each, none-when, some_value, unviolated}
+use Rattle.hep_check.proofs.Agreeing.{with_parameters-append, none-when as none-unless}
 
 -- ---- names
 
@@ -210,10 +211,6 @@ lists_in program u k unit s e accepted iu ik h =
     and_from (not (is_unknown (listed_meaning unit r.occurrence.name))) (is_counted unit r && is_reference_given unit r) known (and_from (is_counted unit r) (is_reference_given unit r) count fit))
 
 -- ---- what 302 says of a statement
-
-with_parameters-append : (unit : List Statement) (ps : Parameters) (cs ds : List NamedConstant) → with_parameters unit ps (cs ++ ds) ≡ with_parameters unit (with_parameters unit ps cs) ds
-with_parameters-append unit ps [] ds = refl
-with_parameters-append unit ps (c ∷ cs) ds = with_parameters-append unit (with_parameter unit ps c) cs ds
 
 typed_from : (unit : List Statement) (ps : Parameters) (ss : List Statement) (k : ℕ) (s : Statement) → type_violations_from unit ps ss ≡ [] → slice_get ss k ≡ Some s → is_statement_typed unit (with_parameters unit ps (named_constants (take k ss))) s ≡ true
 typed_from unit ps [] k s e g = absurd (none-some s g)

@@ -11,8 +11,9 @@ use Rattle.hep_machine.specs.Declarations.{named_constants}
 use Rattle.hep_check.specs.Conditions.{IsAccepted}
 use Rattle.hep_check.specs.Types.{type_of_value}
 use Rattle.hep_accepted.specs.Typing.{HasValue, IsOf}
-use Rattle.hep_accepted.proofs.Shaped.{Extends, given_by-append, same_value, take_drop}
+use Rattle.hep_accepted.proofs.Shaped.{Extends, same_value, take_drop}
 use Rattle.hep_accepted.proofs.Valued.{ConstantsAgree, constant_from, constant_there, kept_by, one_type, typed_by}
+use Rattle.hep_check.proofs.Agreeing.{given_by-append}
 
 -- the constants before one are among all constants
 before_extends : (unit : List Statement) (i : ℕ) → Extends (value_among (given_by unit [] (take i (named_constants unit)))) (constant_value unit)

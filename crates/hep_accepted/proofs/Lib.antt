@@ -4,9 +4,9 @@ pub mod Repeats
 pub mod Agreed
 pub mod Nested
 pub mod Meant
-mod Operands
+pub mod Operands
 pub mod Formed
-mod Executed
+pub mod Executed
 pub mod Valued
 pub mod Shaped
 mod Assigned

@@ -23,9 +23,10 @@ use Rattle.hep_check.specs.Names.{Use, assigned_names, block_names, both_ways, b
 use Rattle.hep_check.specs.Statements.{Calling, NameWithList, calls_in, names_with_lists, targets_assigned, targets_in_data, targets_purged}
 use Rattle.hep_check.specs.Violations.{at_line, at_occurrence, repeated_by, when}
 use Rattle.hep_accepted.specs.Meanings.{IsOneThing, how_many, name_in_header, name_of_unit}
-use Rattle.hep_accepted.proofs.Members.{Has, among_has, find_has, flat_has, front_at, has_behind, has_filter, has_flat, has_front, has_map, image_at, map_at}
+use Rattle.hep_accepted.proofs.Members.{Has, among_has, find_has, flat_has, has_behind, has_filter, has_flat, has_front, has_map, image_at, map_at}
 use Rattle.hep_accepted.proofs.Parts.{found_at, none-append, none-each, none-when, unviolated, unviolated_names, same_index}
 use Rattle.hep_accepted.proofs.Repeats.{unlike, unlike-each}
+use Rattle.hep_source.proofs.Tests.{at-front}
 
 -- ---- a name that is used so in a unit
 
@@ -202,7 +203,7 @@ positions_once program u i j unit x accepted iu ix jx = given_once common_names 
 
 dummy_at : (unit : List Statement) (i : ℕ) (x : Name) → slice_get (dummies_of unit) i ≡ Some x → slice_get (flat_map dummy_names unit) i ≡ Some x
 dummy_at [] i x g = absurd (none-some x g)
-dummy_at (s ∷ ss) i x g = front_at (dummy_names s) (flat_map dummy_names ss) i x g
+dummy_at (s ∷ ss) i x g = at-front (dummy_names s) (flat_map dummy_names ss) i x g
 
 pub dummies_once : (program : Units) (u i j : ℕ) (unit : List Statement) (x : Name) → IsAccepted program → slice_get program u ≡ Some unit → slice_get (dummies_of unit) i ≡ Some x → slice_get (dummies_of unit) j ≡ Some x → i ≡ j
 dummies_once program u i j unit x accepted iu ix jx =

@@ -7,17 +7,13 @@ use Rattle.hep_source.proofs.NameTests.{equal_names}
 use Rattle.hep_source.specs.declared.name.Name.{Name}
 use Rattle.hep_source.specs.Names.{is_among, same_name}
 use Rattle.hep_accepted.proofs.Parts.{all-each}
+use Rattle.hep_source.proofs.Tests.{at-front}
 
 abbrev pub Has : {A : Type 0} → List A → A → Type 0
 Has xs x = (i : ℕ) × (slice_get xs i ≡ Some x)
 
-pub front_at : {A : Type 0} (xs ys : List A) (i : ℕ) (x : A) → slice_get xs i ≡ Some x → slice_get (xs ++ ys) i ≡ Some x
-front_at [] ys i x g = absurd (none-some x g)
-front_at (z ∷ zs) ys zero x g = g
-front_at (z ∷ zs) ys (suc i) x g = front_at zs ys i x g
-
 pub has_front : {A : Type 0} (xs ys : List A) (x : A) → Has xs x → Has (xs ++ ys) x
-has_front xs ys x h = (h.0, front_at xs ys h.0 x h.1)
+has_front xs ys x h = (h.0, at-front xs ys h.0 x h.1)
 
 pub has_one : {A : Type 0} (x y : A) → Has (x ∷ []) y → x ≡ y
 has_one x y (zero, g) = same_Some x y g

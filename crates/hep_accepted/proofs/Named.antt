@@ -20,23 +20,23 @@ has_among (y ∷ ys) x (suc i, g) = behind (same_name x y) (has_among ys x (i, g
 
 -- ---- names that are added to others
 
-stays : (xs : List Name) (y x : Name) → Has xs x → Has (with_name xs y) x
+pub stays : (xs : List Name) (y x : Name) → Has xs x → Has (with_name xs y) x
 stays xs y x h = by (is_among y xs) where
   by : (b : Bool) → Has (if b then xs else xs ++ y ∷ []) x
   by true = h
   by false = has_front xs (y ∷ []) x h
 
-all_stay : (xs ys : List Name) (x : Name) → Has xs x → Has (with_names xs ys) x
+pub all_stay : (xs ys : List Name) (x : Name) → Has xs x → Has (with_names xs ys) x
 all_stay xs [] x h = h
 all_stay xs (y ∷ ys) x h = all_stay (with_name xs y) ys x (stays xs y x h)
 
-is_there : (xs : List Name) (y : Name) → Has (with_name xs y) y
+pub is_there : (xs : List Name) (y : Name) → Has (with_name xs y) y
 is_there xs y = by (is_among y xs) refl where
   by : (b : Bool) → is_among y xs ≡ b → Has (if b then xs else xs ++ y ∷ []) y
   by true e = among_has y xs e
   by false e = has_behind xs (y ∷ []) y (zero, refl)
 
-all_there : (xs ys : List Name) (x : Name) → Has ys x → Has (with_names xs ys) x
+pub all_there : (xs ys : List Name) (x : Name) → Has ys x → Has (with_names xs ys) x
 all_there xs [] x h = absurd (none-some x h.1)
 all_there xs (y ∷ ys) x (zero, g) = all_stay (with_name xs y) ys x (subst (λ z. Has (with_name xs y) z) (same_Some y x g) (is_there xs y))
 all_there xs (y ∷ ys) x (suc i, g) = all_there (with_name xs y) ys x (i, g)

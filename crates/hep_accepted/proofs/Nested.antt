@@ -3,7 +3,7 @@ use Rattle.std.proofs.Common.{◌≡◌, ◌⊎◌, ℕ, zero, suc, ◌+◌, ◌
 use Rattle.std.specs.Prelude.{◌&&◌, not, slice_get, nat_eq, nat_le, nat_lt, if◌then◌else◌, is_none, option_to_list}
 use Rattle.std.specs.List.{flat_map, list_any}
 use Rattle.std.specs.Option.{unwrap_or}
-use Rattle.std.proofs.lemmas.Bool.{and_parts, or_parts}
+use Rattle.std.proofs.lemmas.Bool.{and_parts, or_parts, eqb-true}
 use Rattle.std.proofs.lemmas.Bool.Decides.{nat_tests}
 use Rattle.std.proofs.lemmas.Option.{none-some, same_Some}
 use Rattle.hep_source.specs.Tree.{Tree}
@@ -23,9 +23,10 @@ use Rattle.hep_check.specs.Statements.{targets_of_jump, terminal_labels}
 use Rattle.hep_check.specs.Types.{is_plain_integer_scalar}
 use Rattle.hep_check.specs.Violations.{at_line, repeated_by, when}
 use Rattle.hep_accepted.specs.Flow.{AreNested, EndsWithin, HasTerminal, HoldsWhole, IsOutside, Leads}
-use Rattle.hep_accepted.proofs.Members.{front_at}
-use Rattle.hep_accepted.proofs.Parts.{any-each, found_at, none-append, none-each, none-map, none-unless, none-when, some_value, unviolated, equal_numbers, same_index}
+use Rattle.hep_accepted.proofs.Parts.{any-each, found_at, none-append, none-each, none-map, none-when, some_value, unviolated, same_index}
 use Rattle.hep_accepted.proofs.Repeats.{unlike-each}
+use Rattle.hep_source.proofs.Tests.{number-self, at-front}
+use Rattle.hep_check.proofs.Agreeing.{none-when as none-unless}
 
 -- ---- statements by their indexes
 
@@ -42,12 +43,9 @@ indexed unit k s g = indexed_get 0 k k unit s (omega arith) g
 there : (unit : List Statement) (k : ℕ) (s : Statement) → slice_get unit k ≡ Some s → statement_at unit k ≡ s
 there unit k s g = ap (λ (o : Option Statement). unwrap_or o no_statement) g
 
-alike : (l : ℕ) → nat_eq l l ≡ true
-alike l = grind (arith, nat_tests)
-
 label_is : (l : ℕ) (o : Option ℕ) → has_label l o ≡ true → o ≡ Some l
 label_is l None e = absurd (true≢false (sym e))
-label_is l (Some k) e = ap (λ n. Some n) (equal_numbers k l e)
+label_is l (Some k) e = ap (λ n. Some n) (eqb-true k l e)
 
 -- ---- labels
 
@@ -73,7 +71,7 @@ label_use s l e = ap (λ (o : Option ℕ). slice_get (map (λ l. (l, s.line)) (o
 not_before : (unit : List Statement) (j k l : ℕ) (s t : Statement) → repeated_by 306 nat_eq (labels_of unit) ≡ [] → slice_get unit j ≡ Some s → slice_get unit k ≡ Some t → s.label ≡ Some l → t.label ≡ Some l → j < k → ⊥
 unfolding label_uses
 not_before unit j k l s t e ij ik ls lt less =
-    true≢false (sym (alike l) ∙ unlike-each 306 nat_eq label_uses [] unit j k 0 0 s t (l, s.line) (l, t.line) e less ij ik (label_use s l ls) (label_use t l lt))
+    true≢false (sym (number-self l) ∙ unlike-each 306 nat_eq label_uses [] unit j k 0 0 s t (l, s.line) (l, t.line) e less ij ik (label_use s l ls) (label_use t l lt))
 
 pub labels_are_unique : (program : Units) (u j k l : ℕ) (unit : List Statement) (s t : Statement) → IsAccepted program → slice_get program u ≡ Some unit → slice_get unit j ≡ Some s → slice_get unit k ≡ Some t → s.label ≡ Some l → t.label ≡ Some l → j ≡ k
 labels_are_unique program u j k l unit s t accepted iu ij ik ls lt =
@@ -91,7 +89,7 @@ not_entered k j r e there = by_test (is_in r j) (is_in r k) there e where
 
 pub jumps_lead : (program : Units) (u k i l : ℕ) (unit : List Statement) (s : Statement) → IsAccepted program → slice_get program u ≡ Some unit → slice_get unit k ≡ Some s → slice_get (targets_of_jump s.form) i ≡ Some l → Leads unit k l
 jumps_lead program u k i l unit s accepted iu ik il =
-    let to = labelled program u k i l unit s accepted iu ik (front_at (targets_of_jump s.form) (terminal_labels s.form) i l il) in
+    let to = labelled program u k i l unit s accepted iu ik (at-front (targets_of_jump s.form) (terminal_labels s.form) i l il) in
     let p : IndexedStatement = record { index = k; statement = s } in
     let here = none-each (λ (q : IndexedStatement). flat_map (λ m. jump_to unit q (index_labelled unit m)) (targets_of_jump q.statement.form)) (indexed_statements unit) k p (unviolated program unit u accepted iu).jumps (indexed unit k s ik) in
     let one = none-each (λ m. jump_to unit p (index_labelled unit m)) (targets_of_jump s.form) i l here il in

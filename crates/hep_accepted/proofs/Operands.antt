@@ -2,7 +2,7 @@
 use Rattle.std.proofs.Common.{◌≡◌, ℕ, zero, suc, Bool, true, false, List, [], ◌∷◌, ◌++◌, length, Option, Some, None, refl, sym, ap, ◌∙◌, subst, true≢false}
 use Rattle.std.specs.Prelude.{◌&&◌, not, slice_get, if◌then◌else◌, is_some}
 use Rattle.std.specs.List.{list_all}
-use Rattle.std.proofs.lemmas.Bool.{and_from, and_parts}
+use Rattle.std.proofs.lemmas.Bool.{and_from, and_parts, eqb-true}
 use Rattle.std.proofs.lemmas.Option.{none-some, same_Some}
 use Rattle.hep_source.specs.Tree.{Tree, Trees, constant, occurrence, with_list, parenthesized, signed, negated, binary, no_trees, trees}
 use Rattle.hep_source.specs.declared.declaration.ValueType.{ValueType}
@@ -25,7 +25,7 @@ use Rattle.hep_check.specs.Types.{KnownType, are_actuals, are_integers, has_dime
 use Rattle.hep_accepted.specs.Agreement.{IsOneAsynchronousScalar}
 use Rattle.hep_accepted.specs.Typing.{AreAllOf, AreSubscripts, HasOperands, HasType, IsListOf, IsOf}
 use Rattle.hep_accepted.proofs.Agreed.{one_tested}
-use Rattle.hep_accepted.proofs.Parts.{all_parts, equal_numbers}
+use Rattle.hep_check.proofs.Agreeing.{all-parts}
 
 -- ---- what the conditions say of an expression
 
@@ -61,7 +61,7 @@ never_element (Some f) p e = cc
 never_element None (Some f) e = cc
 never_element None None e = cc
 
-is_element : (unit : List Statement) (x : Name) → listed_meaning unit x ≡ element → is_array unit x ≡ true
+pub is_element : (unit : List Statement) (x : Name) → listed_meaning unit x ≡ element → is_array unit x ≡ true
 is_element unit x e = by_test (is_array unit x) e where
   by_test : (b : Bool) → (if b then element else function_named x) ≡ element → b ≡ true
   by_test true f = refl
@@ -69,7 +69,7 @@ is_element unit x e = by_test (is_array unit x) e where
 
 element_named : (unit : List Statement) (p : Occurrence) (ps : List Occurrence) → listed_meaning unit p.name ≡ element → AreNamesTyped unit (array_occurrence unit p ++ ps) → (t : ValueType) × (type_of unit p.name ≡ Some t)
 element_named unit p ps e names =
-    let one : AreNamesTyped unit (p ∷ []) = subst (λ b. AreNamesTyped unit (if b then p ∷ [] else [])) (is_element unit p.name e) (all_parts (is_name_typed unit) (array_occurrence unit p) ps names).0 in
+    let one : AreNamesTyped unit (p ∷ []) = subst (λ b. AreNamesTyped unit (if b then p ∷ [] else [])) (is_element unit p.name e) (all-parts (is_name_typed unit) (array_occurrence unit p) ps names).0 in
     typed_name unit p.name (and_parts (is_name_typed unit p) true one).0
 
 -- what is tested has the type of its name
@@ -94,7 +94,7 @@ test_type unit IsFull ts names one = (Logical, refl)
 test_type unit IsEmpty ts names one = (Logical, refl)
 test_type unit _ ts names one =
     let inner : AreNamesTyped unit (occurrences_in_all unit (trees one.0 no_trees)) = subst (λ us. AreNamesTyped unit (occurrences_in_all unit us)) one.1 names in
-    let t = tested_type unit one.0 (all_parts (is_name_typed unit) (occurrences_in unit one.0) [] inner).0 one.2 in
+    let t = tested_type unit one.0 (all-parts (is_name_typed unit) (occurrences_in unit one.0) [] inner).0 one.2 in
     (t.0, ap (type_of_tested unit) one.1 ∙ t.1)
 
 right_parts : (unit : List Statement) (p : Occurrence) (ts : Trees) (m : Meaning) → listed_meaning unit p.name ≡ m → is_right unit (record { occurrence = p; arguments = ts }) ≡ true
@@ -111,7 +111,7 @@ listed_type unit p ts element e names right = let t = element_named unit p (occu
 listed_type unit p ts (pure f) e names right = (Integer, refl)
 listed_type unit p ts (state f) e names right =
     let parts = right_parts unit p ts (state f) e right in
-    test_type unit f ts (all_parts (is_name_typed unit) (array_occurrence unit p) (occurrences_in_all unit ts) names).1 (one_tested unit ts parts.1 parts.2)
+    test_type unit f ts (all-parts (is_name_typed unit) (array_occurrence unit p) (occurrences_in_all unit ts) names).1 (one_tested unit ts parts.1 parts.2)
 listed_type unit p ts unknown e names right = absurd (true≢false (sym (right_parts unit p ts unknown e right).0))
 
 pub has_type : (unit : List Statement) (e : Tree) → AreNamesTyped unit (occurrences_in unit e) → AreRight unit (names_with_lists_in e) → HasType unit e
@@ -145,15 +145,15 @@ is_of_type unit t e names right test = of_type t (type_of_tree unit e) (has_type
 all_integers : (unit : List Statement) (ts : Trees) → AreNamesTyped unit (occurrences_in_all unit ts) → AreRight unit (names_with_lists_in_all ts) → are_integers unit ts ≡ true → AreAllOf unit Integer ts
 all_integers unit no_trees names right e = tt
 all_integers unit (trees t ts) names right e =
-    let n = all_parts (is_name_typed unit) (occurrences_in unit t) (occurrences_in_all unit ts) names in
-    let r = all_parts (is_right unit) (names_with_lists_in t) (names_with_lists_in_all ts) right in
+    let n = all-parts (is_name_typed unit) (occurrences_in unit t) (occurrences_in_all unit ts) names in
+    let r = all-parts (is_right unit) (names_with_lists_in t) (names_with_lists_in_all ts) right in
     let here = and_parts (is_typed unit t && is_of Integer (type_of_tree unit t)) (are_integers unit ts) e in
     (is_of_type unit Integer t n.0 r.0 (and_parts (is_typed unit t) (is_of Integer (type_of_tree unit t)) here.0).1, all_integers unit ts n.1 r.1 here.1)
 
 pub are_subscripts : (unit : List Statement) (x : Name) (ts : Trees) → AreNamesTyped unit (occurrences_in_all unit ts) → AreRight unit (names_with_lists_in_all ts) → (has_dimensions unit x ts && are_integers unit ts) ≡ true → AreSubscripts unit x ts
 are_subscripts unit x ts names right e =
     let both = and_parts (has_dimensions unit x ts) (are_integers unit ts) e in
-    (equal_numbers (count_of ts) (length (dimensions_of unit x)) both.0, all_integers unit ts names right both.1)
+    (eqb-true (count_of ts) (length (dimensions_of unit x)) both.0, all_integers unit ts names right both.1)
 
 list_operands : (unit : List Statement) (p : Occurrence) (ts : Trees) (m : Meaning) → listed_meaning unit p.name ≡ m → AreNamesTyped unit (occurrences_in_all unit ts) → AreRight unit (names_with_lists_in_all ts) → is_right unit (record { occurrence = p; arguments = ts }) ≡ true
     → is_list_typed unit m p.name ts (are_integers unit ts) (are_actuals unit ts) ≡ true → IsListOf unit m p.name ts
@@ -167,13 +167,13 @@ has_operands unit (constant v) names right e = tt
 has_operands unit (occurrence p) names right e = tt
 has_operands unit (with_list p ts) names right e =
     let r = and_parts (is_right unit (record { occurrence = p; arguments = ts })) (list_all (is_right unit) (names_with_lists_in_all ts)) right in
-    list_operands unit p ts (listed_meaning unit p.name) refl (all_parts (is_name_typed unit) (array_occurrence unit p) (occurrences_in_all unit ts) names).1 r.1 r.0 e
+    list_operands unit p ts (listed_meaning unit p.name) refl (all-parts (is_name_typed unit) (array_occurrence unit p) (occurrences_in_all unit ts) names).1 r.1 r.0 e
 has_operands unit (parenthesized t) names right e = tt
 has_operands unit (signed s t) names right e = is_of_type unit Integer t names right (and_parts (is_typed unit t) (is_of Integer (type_of_tree unit t)) e).1
 has_operands unit (negated t) names right e = is_of_type unit Logical t names right (and_parts (is_typed unit t) (is_of Logical (type_of_tree unit t)) e).1
 has_operands unit (binary o a b) names right e =
-    let n = all_parts (is_name_typed unit) (occurrences_in unit a) (occurrences_in unit b) names in
-    let r = all_parts (is_right unit) (names_with_lists_in a) (names_with_lists_in b) right in
+    let n = all-parts (is_name_typed unit) (occurrences_in unit a) (occurrences_in unit b) names in
+    let r = all-parts (is_right unit) (names_with_lists_in a) (names_with_lists_in b) right in
     let w = type_of_operands o in
     let both = and_parts (is_typed unit a && is_of w (type_of_tree unit a)) (is_typed unit b && is_of w (type_of_tree unit b)) e in
     (is_of_type unit (type_of_operands o) a n.0 r.0 (and_parts (is_typed unit a) (is_of w (type_of_tree unit a)) both.0).1, is_of_type unit (type_of_operands o) b n.1 r.1 (and_parts (is_typed unit b) (is_of w (type_of_tree unit b)) both.1).1)
@@ -239,7 +239,7 @@ mutual
   good unit (constant v) names right e = ((has_type unit (constant v) names right, tt), tt)
   good unit (occurrence p) names right e = ((has_type unit (occurrence p) names right, tt), tt)
   good unit (with_list p ts) names right e =
-      let n = all_parts (is_name_typed unit) (array_occurrence unit p) (occurrences_in_all unit ts) names in
+      let n = all-parts (is_name_typed unit) (array_occurrence unit p) (occurrences_in_all unit ts) names in
       let r = and_parts (is_right unit (record { occurrence = p; arguments = ts })) (list_all (is_right unit) (names_with_lists_in_all ts)) right in
       ((has_type unit (with_list p ts) names right, has_operands unit (with_list p ts) names right e), good_all unit ts n.1 r.1 (list_actuals unit (listed_meaning unit p.name) p.name ts e))
   good unit (parenthesized t) names right e = ((has_type unit (parenthesized t) names right, tt), good unit t names right (typed_actual unit t e))
@@ -248,8 +248,8 @@ mutual
   good unit (negated t) names right e =
       ((has_type unit (negated t) names right, has_operands unit (negated t) names right e), good unit t names right (typed_actual unit t (and_parts (is_typed unit t) (is_of Logical (type_of_tree unit t)) e).0))
   good unit (binary o a b) names right e =
-      let n = all_parts (is_name_typed unit) (occurrences_in unit a) (occurrences_in unit b) names in
-      let r = all_parts (is_right unit) (names_with_lists_in a) (names_with_lists_in b) right in
+      let n = all-parts (is_name_typed unit) (occurrences_in unit a) (occurrences_in unit b) names in
+      let r = all-parts (is_right unit) (names_with_lists_in a) (names_with_lists_in b) right in
       let w = type_of_operands o in
       let both = and_parts (is_typed unit a && is_of w (type_of_tree unit a)) (is_typed unit b && is_of w (type_of_tree unit b)) e in
       let left = good unit a n.0 r.0 (typed_actual unit a (and_parts (is_typed unit a) (is_of w (type_of_tree unit a)) both.0).0) in
@@ -259,8 +259,8 @@ mutual
   good_all : (unit : List Statement) (ts : Trees) → AreNamesTyped unit (occurrences_in_all unit ts) → AreRight unit (names_with_lists_in_all ts) → are_actuals unit ts ≡ true → AreGood unit (subexpressions_of_all ts)
   good_all unit no_trees names right e = tt
   good_all unit (trees t ts) names right e =
-      let n = all_parts (is_name_typed unit) (occurrences_in unit t) (occurrences_in_all unit ts) names in
-      let r = all_parts (is_right unit) (names_with_lists_in t) (names_with_lists_in_all ts) right in
+      let n = all-parts (is_name_typed unit) (occurrences_in unit t) (occurrences_in_all unit ts) names in
+      let r = all-parts (is_right unit) (names_with_lists_in t) (names_with_lists_in_all ts) right in
       let both = actuals_parts unit t ts e in
       good_append unit (subexpressions_of t) (subexpressions_of_all ts) (good unit t n.0 r.0 both.0) (good_all unit ts n.1 r.1 both.1)
 

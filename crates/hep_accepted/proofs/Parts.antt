@@ -1,11 +1,9 @@
 -- Where a condition has no violation, its tests hold of each part.
-use Rattle.std.proofs.Common.{◌≡◌, ℕ, zero, suc, Bool, true, false, List, [], ◌∷◌, ◌++◌, map, Option, Some, None, refl, sym, ◌∙◌, subst, true≢false, arith}
-use Rattle.std.specs.Prelude.{not, slice_get, is_none, if◌then◌else◌, is_some, nat_eq, ◌<◌}
-use Rattle.std.proofs.lemmas.Bool.Decides.{nat_tests}
+use Rattle.std.proofs.Common.{◌≡◌, ℕ, zero, suc, Bool, true, false, List, [], ◌∷◌, ◌++◌, map, Option, Some, None, refl, sym, subst, true≢false, arith}
+use Rattle.std.specs.Prelude.{slice_get, is_none, if◌then◌else◌, is_some, ◌<◌}
 use Rattle.std.specs.List.{flat_map, list_all, list_any}
 use Rattle.std.specs.Option.{option_map}
 use Rattle.std.proofs.lemmas.Bool.{and_from, and_parts, or_parts}
-use Rattle.std.proofs.lemmas.List.Folds.{list_all-append}
 use Rattle.std.proofs.lemmas.Option.{none-some, same_Some}
 use Rattle.hep_source.specs.declared.statement.Statement.{Statement}
 use Rattle.hep_source.specs.Names.{index_where}
@@ -37,10 +35,6 @@ pub none-when : (b : Bool) (v : Violation) → when b v ≡ [] → b ≡ false
 none-when false v e = refl
 none-when true v e = absurd cc
 
-pub none-unless : (b : Bool) (v : Violation) → when (not b) v ≡ [] → b ≡ true
-none-unless true v e = refl
-none-unless false v e = absurd cc
-
 pub none-map : {A B : Type 0} (f : A → B) (xs : List A) → map f xs ≡ [] → xs ≡ []
 none-map f [] e = refl
 none-map f (x ∷ xs) e = absurd cc
@@ -56,9 +50,6 @@ pub any-each : {A : Type 0} (f : A → Bool) (xs : List A) (i : ℕ) (x : A) →
 any-each f [] i x e is = absurd (none-some x is)
 any-each f (y ∷ ys) zero x e is = subst (λ z. f z ≡ false) (same_Some y x is) (or_parts (f y) (list_any f ys) e).0
 any-each f (y ∷ ys) (suc i) x e is = any-each f ys i x (or_parts (f y) (list_any f ys) e).1 is
-
-pub all_parts : {A : Type 0} (f : A → Bool) (xs ys : List A) → list_all f (xs ++ ys) ≡ true → (list_all f xs ≡ true) × (list_all f ys ≡ true)
-all_parts f xs ys e = and_parts (list_all f xs) (list_all f ys) (sym (list_all-append f xs ys) ∙ e)
 
 -- what is true of each is true of all
 pub all_from : {A : Type 0} (f : A → Bool) (xs : List A) → ((i : ℕ) (x : A) → slice_get xs i ≡ Some x → f x ≡ true) → list_all f xs ≡ true
@@ -89,9 +80,6 @@ some_of (Some x) e = (x, refl)
 some_of None e = absurd (true≢false (sym e))
 
 -- ---- numbers
-
-pub equal_numbers : (m n : ℕ) → nat_eq m n ≡ true → m ≡ n
-equal_numbers m n e = grind (arith, nat_tests)
 
 pub same_index : (i j : ℕ) → (i < j → ⊥) → (j < i → ⊥) → i ≡ j
 same_index i j f g = grind arith

@@ -20,7 +20,7 @@ use Rattle.hep_source.specs.declared.value.Value.{Value}
 use Rattle.hep_source.specs.Units.{Units}
 use Rattle.hep_machine.specs.declared.shape.Bound.{Bound}
 use Rattle.hep_machine.specs.Arithmetic.{combined_value, integer_of, negated_value, signed_value}
-use Rattle.hep_machine.specs.Constants.{Constants, Values, both, bound_before, bound_of, bounds_of, by_meaning, constant_shape, constant_value, constants_of, given_by, if_shape, lower_value, shape_by, upper_value, value_among, value_of, values_of, with_constant, with_one, with_two}
+use Rattle.hep_machine.specs.Constants.{Constants, Values, both, bound_before, bound_of, bounds_of, by_meaning, constant_shape, constant_value, constants_of, given_by, if_shape, lower_value, shape_by, upper_value, value_among, value_of, values_of, with_one, with_two}
 use Rattle.hep_machine.specs.Declarations.{constants_in, declarators_in, dimensions_of, is_array, is_dummy, is_nonempty, named_constants}
 use Rattle.hep_machine.specs.Functions.{Meaning, element, listed_meaning, pure, state, unknown}
 use Rattle.hep_machine.specs.Shapes.{Bounds, elements, extent, is_shape, product}
@@ -38,6 +38,7 @@ use Rattle.hep_accepted.proofs.Meant.{array_declarator}
 use Rattle.hep_accepted.proofs.Members.{Has, all_has, flat_has, has_behind, has_either, has_flat, has_front, has_more, has_one}
 use Rattle.hep_accepted.proofs.Parts.{all_from, some_of}
 use Rattle.hep_accepted.proofs.Valued.{ConstantsAgree, kept_by, valued}
+use Rattle.hep_check.proofs.Agreeing.{given_by-append}
 
 -- ---- an expression that has a value keeps it where more names have values
 
@@ -94,7 +95,7 @@ IsExpression (bound.Expression t) = Unit {0}
 abbrev AreBounds : List Statement → Values → Values → List Dimension → Type 0
 AreBounds unit old new ds = (bs : Bounds) × (bounds_of unit old ds ≡ Some bs) × (bounds_of unit new ds ≡ Some bs) × (n : ℕ) × (elements bs ≡ Some n)
 
-lower_bound : (unit : List Statement) (old new : Values) (o : Option Tree) → Extends old new → ((t : Tree) → Has (option_to_list o) t → IsValued unit old t) → (z : ℤ) × (lower_value unit old o ≡ Some z) × (lower_value unit new o ≡ Some z)
+pub lower_bound : (unit : List Statement) (old new : Values) (o : Option Tree) → Extends old new → ((t : Tree) → Has (option_to_list o) t → IsValued unit old t) → (z : ℤ) × (lower_value unit old o ≡ Some z) × (lower_value unit new o ≡ Some z)
 lower_bound unit old new None h each = (_, refl, refl)
 lower_bound unit old new (Some t) h each =
     let v = each t (0, refl) in
@@ -135,7 +136,7 @@ shut program u k unit s e accepted iu ik h doubtless =
       counted_here : list_all (is_counted unit) (names_with_lists_in e) ≡ true
       counted_here = all_from (is_counted unit) (names_with_lists_in e) (λ i r g. all_has (is_counted unit) (names_with_lists s) r (counted program unit u k s accepted iu ik).0 (has_flat names_with_lists_in (trees_in_statement s) e r h (i, g)))
 
-none_open : (unit : List Statement) (ps : Parameters) (ts : List Tree) → ((t : Tree) → Has ts t → is_open unit ps t ≡ false) → list_any (is_open unit ps) ts ≡ false
+pub none_open : (unit : List Statement) (ps : Parameters) (ts : List Tree) → ((t : Tree) → Has ts t → is_open unit ps t ≡ false) → list_any (is_open unit ps) ts ≡ false
 none_open unit ps [] h = refl
 none_open unit ps (t ∷ ts) h = (λ i. h t (0, refl) i || none_open unit ps ts (λ w g. h w (has_more t ts w g)) i)
 
@@ -208,10 +209,6 @@ named-append (s ∷ ss) ys = ap (λ cs. constants_in s.form ++ cs) (named-append
   assoc [] ys zs = refl
   assoc (x ∷ xs) ys zs = ap (λ ds. x ∷ ds) (assoc xs ys zs)
 
-pub given_by-append : (unit : List Statement) (known : Constants) (cs ds : List NamedConstant) → given_by unit known (cs ++ ds) ≡ given_by unit (given_by unit known cs) ds
-given_by-append unit known [] ds = refl
-given_by-append unit known (c ∷ cs) ds = given_by-append unit (with_constant known c.occurrence.name (value_of unit (value_among known) c.value)) cs ds
-
 -- the constants before a statement are among all constants
 constants_extend : (unit : List Statement) (k : ℕ) → constants_of unit ≡ given_by unit (given_by unit [] (named_constants (take k unit))) (named_constants (drop k unit))
 constants_extend unit k =
@@ -223,7 +220,7 @@ extends_at unit k keeps x v e =
     ap (λ (ks : Constants). value_among ks x) (constants_extend unit k)
     ∙ kept_by unit (given_by unit [] (named_constants (take k unit))) (named_constants (drop k unit)) x v (sym (keeps.1 x) ∙ e)
 
-shape_known : (unit : List Statement) (x : Name) (bs : Bounds) → is_array unit x ≡ true → bounds_of unit (constant_value unit) (dimensions_of unit x) ≡ Some bs → is_shape bs ≡ true → constant_shape unit x ≡ Some bs
+pub shape_known : (unit : List Statement) (x : Name) (bs : Bounds) → is_array unit x ≡ true → bounds_of unit (constant_value unit) (dimensions_of unit x) ≡ Some bs → is_shape bs ≡ true → constant_shape unit x ≡ Some bs
 shape_known unit x bs array e shape =
     ap (λ b. if b then shape_by unit (constant_value unit) x else Some []) array
     ∙ (ap if_shape e ∙ ap (λ b. if b then Some bs else None) shape)

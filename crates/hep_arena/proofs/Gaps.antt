@@ -8,6 +8,7 @@ use Rattle.hep_machine.specs.Laws.{StandApart}
 use Rattle.hep_machine.specs.Layout.{Frame, Layout, lowest_gap, with_frame}
 use Rattle.hep_arena.specs.Gaps.{frame_among, framed_cells, gap_before, gaps, given_back, without}
 use Rattle.hep_arena.specs.Holes.{Hole, AreHoles, IsOut, first_fit, free_cells, given, joined, shortened, taken}
+use Rattle.hep_machine.proofs.Frames.{apart_further, gap_after}
 
 -- ---- the lowest gap is the first fit
 
@@ -50,17 +51,9 @@ taken-short_gap n from to hs one short = by_gap (nat_lt from to) refl where
 no-gap : (from : ℕ) (hs : List Hole) → gap_before from from hs ≡ hs
 no-gap from hs = let no : nat_lt from from ≡ false = grind (arith, nat_tests) in rw no refl
 
-chosen : (b : Bool) (x : ℕ) (o : Option ℕ) (y : ℕ) → (if b then Some x else o) ≡ Some y → ((b ≡ true) × (x ≡ y)) ⊎ ((b ≡ false) × (o ≡ Some y))
+pub chosen : (b : Bool) (x : ℕ) (o : Option ℕ) (y : ℕ) → (if b then Some x else o) ≡ Some y → ((b ≡ true) × (x ≡ y)) ⊎ ((b ≡ false) × (o ≡ Some y))
 chosen true x o y e = inl (refl, same_Some x y e)
 chosen false x o y e = inr (refl, e)
-
-gap-after : (cells n from : ℕ) (fs : Layout) (first : ℕ) → StandApart cells from fs → lowest_gap cells n from fs ≡ Some first → from ≤ first
-gap-after cells n from [] first h e = elim (chosen (nat_le (from + n) cells) from None first e) [ inl c ↦ omega (arith, c.1) | inr c ↦ absurd (none-some first c.1) ]
-gap-after cells n from (f ∷ fs) first h e =
-    elim (chosen (nat_le (from + n) f.first) from (lowest_gap cells n (f.first + f.cells) fs) first e) [
-      | inl c ↦ omega (arith, c.1)
-      | inr c ↦ let rest_after = gap-after cells n (f.first + f.cells) fs first h.2 c.1 in omega (arith, h.0)
-    ]
 
 pub taken-gaps : (cells a n from first : ℕ) (fs : Layout) → 1 ≤ n → StandApart cells from fs → lowest_gap cells n from fs ≡ Some first
     → taken n (gaps cells from fs) ≡ gaps cells from (with_frame fs (record { activation = a; first = first; cells = n }))
@@ -88,7 +81,7 @@ taken-gaps cells a n from first (f ∷ fs) one h e = by_fit (λ d. taken-gaps ce
       let rest = gaps cells (f.first + f.cells) fs in
       rw before (rw (← same) (taken-gap_before n from f.first rest one fits ∙ sym (no-gap from (gap_before (from + n) f.first rest))))
   by_fit more (inr c) =
-      let rest_after = gap-after cells n (f.first + f.cells) fs first h.2 c.1 in
+      let rest_after = gap_after cells n (f.first + f.cells) fs first h.2 c.1 in
       let some = h.1 in
       let test : nat_lt first f.first ≡ false = grind (arith, nat_tests) in
       rw test (taken-short_gap n from f.first (gaps cells (f.first + f.cells) fs) one c.0 ∙ ap (gap_before from f.first) (more c.1))
@@ -180,12 +173,8 @@ given-gaps cells from (g ∷ front) f back h = by_gap (given-gaps cells (g.first
       let apart : nat_eq (from + (g.first - from)) f.first ≡ false = grind (arith, nat_tests) in
       rw (rest_after, apart) (ap (λ hs. (from, g.first - from) ∷ hs) more)
 
-apart-further : (cells m n : ℕ) (fs : Layout) → m ≤ n → StandApart cells n fs → StandApart cells m fs
-apart-further cells m n [] le h = omega arith
-apart-further cells m n (f ∷ fs) le h = (omega (arith, h.0), h.1, h.2)
-
 apart-without : (cells from : ℕ) (front : Layout) (f : Frame) (back : Layout) → StandApart cells from (front ++ f ∷ back) → StandApart cells from (front ++ back)
-apart-without cells from [] f back h = apart-further cells from (f.first + f.cells) back (omega (arith, h.0)) h.2
+apart-without cells from [] f back h = apart_further cells from (f.first + f.cells) back (omega (arith, h.0)) h.2
 apart-without cells from (g ∷ front) f back h = (h.0, h.1, apart-without cells (g.first + g.cells) front f back h.2)
 
 -- a frame among others, and the layout without it

@@ -1,15 +1,14 @@
 -- The least number above one: of rising numbers, and of those of the processes that wait.
-use Rattle.std.proofs.Common.{◌≡◌, ◌≢◌, ℕ, zero, suc, ◌+◌, ◌-◌, ◌<◌, ◌&&◌, ◌||◌, Bool, true, false, true≢false, List, [], ◌∷◌, length, get_or, Option, Some, None, refl, sym, subst, ap, ◌∙◌, inl, inr, arith}
+use Rattle.std.proofs.Common.{◌≡◌, ◌≢◌, ℕ, zero, suc, ◌+◌, ◌-◌, ◌<◌, ◌||◌, Bool, true, false, true≢false, List, [], ◌∷◌, length, get_or, Option, Some, None, refl, sym, subst, ap, ◌∙◌, inl, inr, arith}
 use Rattle.std.specs.Prelude.{◌==◌, nat_lt, is_none, is_some, IfNone, IfSome}
-use Rattle.std.proofs.lemmas.Bool.{cases_lt, cases_eq, lt-ltb, le-ltb}
+use Rattle.std.proofs.lemmas.Bool.{cases_lt, cases_eq, lt-ltb, le-ltb, ne_eqb, eq-eqb}
 use Rattle.hep_machine.specs.Processes.{is_number_among}
 use Rattle.hep_machine.specs.Schedules.{first_above}
 use Rattle.hep_ready.specs.Numbers.{AreRising, Numbers}
 use Rattle.hep_blocked.specs.declared.want.Want.{Want}
 use Rattle.hep_blocked.specs.Lists.{AreNumbers}
 use Rattle.hep_blocked.specs.Waiting.{next_from, next_waiting, waiting_at}
-use Rattle.hep_blocked.proofs.Adding.{is_eq, not_eq}
-use Rattle.hep_blocked.proofs.Tying.{none-from-not}
+use Rattle.hep_source.proofs.Tests.{and-false, none-from-not}
 
 -- ---- of the numbers that pass a test
 
@@ -42,29 +41,25 @@ is_among xs q = is_number_among q xs
 below-all : (q least greatest : ℕ) (xs : List ℕ) → q < least → AreRising least greatest xs → is_among xs q ≡ false
 below-all q least greatest [] low rise = refl
 below-all q least greatest (x ∷ xs) low rise =
-    rw (not_eq q x (λ e. omega (arith, rise.0))) (below-all q (x + 1) greatest xs (omega (arith, rise.0)) rise.2)
+    rw (ne_eqb q x (λ e. omega (arith, rise.0))) (below-all q (x + 1) greatest xs (omega (arith, rise.0)) rise.2)
 
 first-least : (p least greatest : ℕ) (xs : List ℕ) → AreRising least greatest xs → IsLeastAbove (is_among xs) p (first_above p xs None)
 first-least p least greatest [] rise = λ q above. refl
 first-least p least greatest (x ∷ xs) rise = elim (cases_lt p x) [
   | inl l ↦ rw (lt-ltb p x l) (
     l,
-    rw (is_eq x x refl) refl,
+    rw (eq-eqb x x refl) refl,
     λ r above below.
-        rw (not_eq r x (λ e. omega arith)) (below-all r (x + 1) greatest xs (omega arith) rise.2),
+        rw (ne_eqb r x (λ e. omega arith)) (below-all r (x + 1) greatest xs (omega arith) rise.2),
   )
   | inr g ↦ rw (le-ltb p x g) (least-alike (is_among xs) (is_among (x ∷ xs)) p (first_above p xs None)
-      (λ q above. rw (not_eq q x (λ e. omega arith)) refl) (first-least p (x + 1) greatest xs rise.2))
+      (λ q above. rw (ne_eqb q x (λ e. omega arith)) refl) (first-least p (x + 1) greatest xs rise.2))
 ]
 
 -- ---- of the processes that wait
 
 abbrev waits : List (Option Want) → ℕ → Bool
 waits ws q = is_some (waiting_at ws q)
-
-and-none : (b : Bool) → (b && false) ≡ false
-and-none true = refl
-and-none false = refl
 
 from-least : (n p : ℕ) (ws : List (Option Want)) (test : ℕ → Bool) → ((k q : ℕ) → q ≡ n + k → test q ≡ is_some (get_or ws k None)) → ((q : ℕ) → p < q → q < n → test q ≡ false)
     → IsLeastAbove test p (next_from n p ws)
@@ -73,7 +68,7 @@ from-least n p [] test is before = λ q above. elim (cases_lt q n) [
   | inr g ↦ is (q - n) q (omega arith)
 ]
 from-least n p (None ∷ ws) test is before =
-    rw (and-none (nat_lt p n)) (from-least (suc n) p ws test (λ k q e. is (suc k) q (omega arith)) (λ q above low. elim (cases_eq q n) [
+    rw (and-false (nat_lt p n)) (from-least (suc n) p ws test (λ k q e. is (suc k) q (omega arith)) (λ q above low. elim (cases_eq q n) [
       | inl e ↦ is 0 q (omega arith)
       | inr ne ↦ before q above (omega arith)
     ]))
@@ -120,9 +115,9 @@ none-least ws [] None among l = refl
 none-least ws [] (Some q) among l = absurd (true≢false (sym l.1 ∙ sym (among q)))
 none-least ws (zero ∷ xs) None among l = absurd (true≢false (among 0))
 none-least ws (suc k ∷ xs) None among l =
-    let there : is_number_among (suc k) (suc k ∷ xs) ≡ true = ap (λ (b : Bool). b || is_number_among (suc k) xs) (is_eq (suc k) (suc k) refl) in
+    let there : is_number_among (suc k) (suc k ∷ xs) ≡ true = ap (λ (b : Bool). b || is_number_among (suc k) xs) (eq-eqb (suc k) (suc k) refl) in
     absurd (true≢false (sym there ∙ among (suc k) ∙ l (suc k) (omega arith)))
-none-least ws (x ∷ xs) (Some q) among l = not_eq (length (x ∷ xs)) 0 (λ e. omega arith)
+none-least ws (x ∷ xs) (Some q) among l = ne_eqb (length (x ∷ xs)) 0 (λ e. omega arith)
 
 -- there is none just where nobody waits
 pub none-told : (ws : List (Option Want)) (numbers : Numbers) → AreNumbers ws numbers → (length numbers.ready == 0) ≡ is_none (next_waiting ws 0)

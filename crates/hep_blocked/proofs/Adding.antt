@@ -1,41 +1,15 @@
 -- Numbers are put where they belong among rising ones: once more and in another order it comes to the same.
 use Rattle.std.proofs.Common.{◌≡◌, ℕ, zero, suc, ◌<◌, ◌||◌, Bool, true, false, List, [], ◌∷◌, ◌++◌, ◌⊎◌, length, get_or, refl, sym, ap, ◌∙◌, inl, inr, arith}
 use Rattle.std.specs.Prelude.{nat_eq}
-use Rattle.std.proofs.lemmas.Bool.{cases_lt, cases_eq, lt-ltb, le-ltb}
-use Rattle.std.proofs.lemmas.Bool.Decides.{nat_tests}
+use Rattle.std.proofs.lemmas.Bool.{cases_lt, cases_eq, lt-ltb, le-ltb, ne_eqb, eq-eqb}
 use Rattle.hep_machine.specs.Processes.{is_number_among}
 use Rattle.hep_ready.specs.Numbers.{with_number}
 use Rattle.hep_blocked.specs.Waiting.{with_numbers}
-
-pub not_eq : (p q : ℕ) → (p ≡ q → ⊥) → nat_eq p q ≡ false
-not_eq p q h = grind (arith, nat_tests)
-
-pub is_eq : (p q : ℕ) → p ≡ q → nat_eq p q ≡ true
-is_eq p q h = grind (arith, nat_tests)
-
-pub eq_is : (p q : ℕ) → nat_eq p q ≡ true → p ≡ q
-eq_is p q h = grind (arith, nat_tests)
-
-pub eq-apart : (p q : ℕ) → nat_eq p q ≡ false → p ≡ q → ⊥
-eq-apart p q h e = grind (arith, nat_tests)
-
-pub or-parts : (a b : Bool) → (a || b) ≡ false → (a ≡ false) × (b ≡ false)
-or-parts true b h = cc
-or-parts false b h = (refl, h)
-
-or-true : (a : Bool) → (a || true) ≡ true
-or-true true = refl
-or-true false = refl
+use Rattle.hep_source.proofs.Tests.{or-true, or-turned}
 
 or-again : (a b : Bool) → (a || (a || b)) ≡ (a || b)
 or-again true b = refl
 or-again false b = refl
-
-or-swap : (a b c : Bool) → (a || (b || c)) ≡ (b || (a || c))
-or-swap true true c = refl
-or-swap true false c = refl
-or-swap false true c = refl
-or-swap false false c = refl
 
 or-regroup : (a b c : Bool) → (a || (b || c)) ≡ ((b || a) || c)
 or-regroup true true c = refl
@@ -49,10 +23,10 @@ before : (p x : ℕ) (xs : List ℕ) → p < x → with_number p (x ∷ xs) ≡ 
 before p x xs h = rw (lt-ltb p x h) refl
 
 there : (p x : ℕ) (xs : List ℕ) → p ≡ x → with_number p (x ∷ xs) ≡ x ∷ xs
-there p x xs h = rw (le-ltb p x (omega arith), is_eq p x h) refl
+there p x xs h = rw (le-ltb p x (omega arith), eq-eqb p x h) refl
 
 behind : (p x : ℕ) (xs : List ℕ) → x < p → with_number p (x ∷ xs) ≡ x ∷ with_number p xs
-behind p x xs h = rw (le-ltb p x (omega arith), not_eq p x (λ e. omega arith)) refl
+behind p x xs h = rw (le-ltb p x (omega arith), ne_eqb p x (λ e. omega arith)) refl
 
 order : (p x : ℕ) → (p < x) ⊎ ((p ≡ x) ⊎ (x < p))
 order p x = elim (cases_lt p x) [
@@ -115,7 +89,7 @@ among-one q p (x ∷ xs) = elim (order p x) [
         ∙ ap (λ (n : ℕ). nat_eq q n || (nat_eq q x || is_number_among q xs)) (sym e)
     | inr g ↦
         ap (is_number_among q) (behind p x xs g) ∙ ap (λ (b : Bool). nat_eq q x || b) (among-one q p xs)
-        ∙ or-swap (nat_eq q x) (nat_eq q p) (is_number_among q xs)
+        ∙ or-turned (nat_eq q x) (nat_eq q p) (is_number_among q xs)
   ]
 ]
 
@@ -135,13 +109,13 @@ one-again p (q ∷ qs) xs h = elim (cases_eq p q) [
   | inl e ↦
       swaps-many p qs (with_number q xs)
       ∙ ap (with_numbers qs) (ap (λ (n : ℕ). with_number n (with_number q xs)) e ∙ again q xs)
-  | inr ne ↦ one-again p qs (with_number q xs) (rw (not_eq p q ne) at h)
+  | inr ne ↦ one-again p qs (with_number q xs) (rw (ne_eqb p q ne) at h)
 ]
 
 many-again : (qs ps xs : List ℕ) → ((q : ℕ) → is_number_among q qs ≡ true → is_number_among q ps ≡ true) → with_numbers qs (with_numbers ps xs) ≡ with_numbers ps xs
 many-again [] ps xs h = refl
 many-again (q ∷ qs) ps xs h =
-    let first : is_number_among q (q ∷ qs) ≡ true = ap (λ (b : Bool). b || is_number_among q qs) (is_eq q q refl) in
+    let first : is_number_among q (q ∷ qs) ≡ true = ap (λ (b : Bool). b || is_number_among q qs) (eq-eqb q q refl) in
     ap (with_numbers qs) (one-again q ps xs (h q first))
     ∙ many-again qs ps xs (λ p among. h p (ap (λ (b : Bool). nat_eq p q || b) among ∙ or-true (nat_eq p q)))
 
@@ -160,9 +134,9 @@ among-many q (p ∷ ps) xs =
 
 pub among-at : (ps : List ℕ) (i : ℕ) → i < length ps → is_number_among (get_or ps i 0) ps ≡ true
 among-at [] i h = absurd (omega arith)
-among-at (p ∷ ps) zero h = ap (λ (b : Bool). b || is_number_among p ps) (is_eq p p refl)
+among-at (p ∷ ps) zero h = ap (λ (b : Bool). b || is_number_among p ps) (eq-eqb p p refl)
 among-at (p ∷ ps) (suc i) h = ap (λ (b : Bool). nat_eq (get_or ps i 0) p || b) (among-at ps i (omega arith)) ∙ or-true (nat_eq (get_or ps i 0) p)
 
 pub among-behind : (q p : ℕ) (ps : List ℕ) → is_number_among q (ps ++ p ∷ []) ≡ (nat_eq q p || is_number_among q ps)
 among-behind q p [] = refl
-among-behind q p (x ∷ xs) = ap (λ (b : Bool). nat_eq q x || b) (among-behind q p xs) ∙ or-swap (nat_eq q x) (nat_eq q p) (is_number_among q xs)
+among-behind q p (x ∷ xs) = ap (λ (b : Bool). nat_eq q x || b) (among-behind q p xs) ∙ or-turned (nat_eq q x) (nat_eq q p) (is_number_among q xs)

@@ -2,7 +2,7 @@
 -- no more.
 use Rattle.std.proofs.Common.{◌≡◌, ℕ, zero, suc, ◌-◌, ◌≤◌, ◌&&◌, ◌||◌, Bool, true, false, List, [], ◌∷◌, ◌++◌, length, length-set, map, max, replicate, not, Option, Some, None, refl, sym, ap, ◌∙◌, inl, inr, arith}
 use Rattle.std.specs.Prelude.{nat_eq, if◌then◌else◌, is_some}
-use Rattle.std.proofs.lemmas.Bool.{cases_eq, cases_Bool}
+use Rattle.std.proofs.lemmas.Bool.{cases_Bool, eqb-true}
 use Rattle.std.proofs.lemmas.List.{length-map}
 use Rattle.std.proofs.lemmas.Map.Views.{any-filter_same}
 use Rattle.hep_machine.specs.Processes.{is_number_among}
@@ -11,21 +11,16 @@ use Rattle.hep_ready.specs.Numbers.{Numbers, with_number}
 use Rattle.hep_blocked.specs.declared.want.Want.{Want}
 use Rattle.hep_blocked.specs.Lists.{AreNumbers, IsTied, without_numbers}
 use Rattle.hep_blocked.specs.Waiting.{awake, waiting_at, want_eq, wants, with_want}
-use Rattle.hep_blocked.proofs.Adding.{among-one, eq_is, is_eq, not_eq}
+use Rattle.hep_blocked.proofs.Adding.{among-one}
 use Rattle.hep_blocked.proofs.Tying.{grown-length, waiting-blocked}
 use Rattle.hep_blocked.proofs.Wanting.{waiting-awake}
+use Rattle.hep_source.proofs.Tests.{numbers-turned}
 
 -- ---- numbers are taken out
 
-eq-swap : (p q : ℕ) → nat_eq p q ≡ nat_eq q p
-eq-swap p q = elim (cases_eq p q) [
-  | inl e ↦ is_eq p q e ∙ sym (is_eq q p (sym e))
-  | inr ne ↦ not_eq p q ne ∙ sym (not_eq q p (λ e. ne (sym e)))
-]
-
 pub among-without : (q p : ℕ) (xs : List ℕ) → is_number_among q (without p xs) ≡ (not (nat_eq p q) && is_number_among q xs)
 among-without q p xs =
-    any-filter_same (nat_eq q) (λ k. not (nat_eq p k)) (not (nat_eq p q)) (λ k e. ap (λ (n : ℕ). not (nat_eq p n)) (sym (eq_is q k e))) xs
+    any-filter_same (nat_eq q) (λ k. not (nat_eq p k)) (not (nat_eq p q)) (λ k e. ap (λ (n : ℕ). not (nat_eq p n)) (sym (eqb-true q k e))) xs
 
 not-or : (a b c : Bool) → (not a && (not b && c)) ≡ (not (b || a) && c)
 not-or true true c = refl
@@ -38,7 +33,7 @@ among-without_many q [] xs = refl
 among-without_many q (p ∷ ps) xs =
     among-without_many q ps (without p xs) ∙ ap (λ (b : Bool). not (is_number_among q ps) && b) (among-without q p xs)
     ∙ not-or (is_number_among q ps) (nat_eq p q) (is_number_among q xs)
-    ∙ ap (λ (b : Bool). not (b || is_number_among q ps) && is_number_among q xs) (eq-swap p q)
+    ∙ ap (λ (b : Bool). not (b || is_number_among q ps) && is_number_among q xs) (numbers-turned p q)
 
 -- ---- nobody waits
 
@@ -66,7 +61,7 @@ module _ (p : ℕ) (want : Want) (ws ws' : List (Option Want)) (numbers more : N
   numbers-blocked added room grows = record {
     among = λ q.
         ap (is_number_among q) added ∙ among-one q p numbers.ready ∙ ap (λ (b : Bool). nat_eq q p || b) (n.among q)
-        ∙ ap (λ (b : Bool). b || is_some (waiting_at ws q)) (eq-swap q p) ∙ or-waits q (nat_eq p q)
+        ∙ ap (λ (b : Bool). b || is_some (waiting_at ws q)) (numbers-turned q p) ∙ or-waits q (nat_eq p q)
         ∙ sym (ap is_some (ap (λ (os : List (Option Want)). waiting_at os q) blocked ∙ waiting-blocked p want ws some q));
     places = omega (arith, ap length blocked, places-blocked p want ws, n.places, room, grows);
   }

@@ -1,8 +1,8 @@
 -- One process waits for nothing any more: what the others wait for, its list, and the numbers of those that wait.
 use Rattle.std.proofs.Common.{◌≡◌, ◌≢◌, ℕ, zero, suc, ◌-◌, ◌≤◌, ◌&&◌, Bool, true, false, true≢false, List, [], ◌∷◌, length, length-set, get_or, get_or-set_same, get_or-set_other, not, set, Option, Some, None, refl, sym, ap, ◌∙◌, inl, inr, arith}
-use Rattle.std.specs.Prelude.{nat_eq, if◌then◌else◌, is_some, IsSome}
+use Rattle.std.specs.Prelude.{nat_eq, if◌then◌else◌, is_some}
 use Rattle.std.specs.Global.{Vec}
-use Rattle.std.proofs.lemmas.Bool.{cases_lt, cases_eq, cases_Bool}
+use Rattle.std.proofs.lemmas.Bool.{cases_lt, cases_eq, cases_Bool, ne_eqb, eq-eqb}
 use Rattle.std.proofs.Math.ListN.{get_or-eq_default}
 use Rattle.hep_machine.specs.Processes.{is_number_among}
 use Rattle.hep_machine.specs.Schedules.{without}
@@ -10,7 +10,6 @@ use Rattle.hep_ready.specs.Numbers.{Numbers}
 use Rattle.hep_blocked.specs.declared.want.Want.{Want}
 use Rattle.hep_blocked.specs.Lists.{AreApart, AreNumbers, IsTied, items_of, without_process}
 use Rattle.hep_blocked.specs.Waiting.{waiting_at, want_eq, wants, without_want}
-use Rattle.hep_blocked.proofs.Adding.{is_eq, not_eq}
 use Rattle.hep_blocked.proofs.Numbering.{among-without}
 use Rattle.hep_blocked.proofs.Wanting.{want-apart, want-is}
 
@@ -26,10 +25,6 @@ list-left f g want p old new was is after w = elim (cases_Bool (want_eq want w))
       rw (e, there, here) is
   | inr e ↦ let there : g w ≡ f w = rw e at (after w) in rw (e, there) refl
 ]
-
-pub some-there : {A : Type 0} (o : Option A) (x : A) → o ≡ Some x → IsSome o
-some-there None x h = cc
-some-there (Some y) x h = refl
 
 apart-without : (p : ℕ) (ps : List ℕ) → AreApart ps → AreApart (without p ps)
 apart-without p [] apart = tt
@@ -64,11 +59,11 @@ at-removed ws k j e = elim (cases_lt j (length ws)) [
 
 waiting-removed : (p : ℕ) (ws : List (Option Want)) (q : ℕ) → waiting_at (without_want p ws) q ≡ (if nat_eq p q then None else waiting_at ws q)
 waiting-removed zero ws zero = refl
-waiting-removed zero ws (suc j) = rw (not_eq 0 (suc j) (λ e. omega arith)) refl
-waiting-removed (suc k) ws zero = rw (not_eq (suc k) 0 (λ e. omega arith)) refl
+waiting-removed zero ws (suc j) = rw (ne_eqb 0 (suc j) (λ e. omega arith)) refl
+waiting-removed (suc k) ws zero = rw (ne_eqb (suc k) 0 (λ e. omega arith)) refl
 waiting-removed (suc k) ws (suc j) = elim (cases_eq (suc k) (suc j)) [
-  | inl e ↦ rw (is_eq (suc k) (suc j) e) (at-removed ws k j (omega arith))
-  | inr ne ↦ let apart : j ≢ k = λ e. ne (omega arith) in rw (not_eq (suc k) (suc j) ne) (get_or-set_other ws k j None None apart)
+  | inl e ↦ rw (eq-eqb (suc k) (suc j) e) (at-removed ws k j (omega arith))
+  | inr ne ↦ let apart : j ≢ k = λ e. ne (omega arith) in rw (ne_eqb (suc k) (suc j) ne) (get_or-set_other ws k j None None apart)
 ]
 
 -- ---- the lists and the numbers, kept together with it
@@ -90,10 +85,10 @@ module _ (p : ℕ) (want : Want) (ws ws' : List (Option Want)) (waits : waiting_
           let as_before : lists' w ≡ lists w = rw e at (left w) in
           ap (is_number_among q) as_before ∙ t.tied w q ∙ elim (cases_eq p q) [
             | inl same ↦
-                let none : waiting_at ws' q ≡ None = rw (is_eq p q same) at (seen q) in
+                let none : waiting_at ws' q ≡ None = rw (eq-eqb p q same) at (seen q) in
                 ap (λ (n : ℕ). wants w (waiting_at ws n)) (sym same) ∙ ap (wants w) waits ∙ want-apart want w e ∙ sym (ap (wants w) none)
             | inr ne ↦
-                let kept : waiting_at ws' q ≡ waiting_at ws q = rw (not_eq p q ne) at (seen q) in
+                let kept : waiting_at ws' q ≡ waiting_at ws q = rw (ne_eqb p q ne) at (seen q) in
                 sym (ap (wants w) kept)
           ]
     ];

@@ -1,16 +1,16 @@
 -- The lists and what the processes wait for, kept together: where nobody waits, where one more process waits, and where those
 -- that wait for the same wait no more.
 use Rattle.std.proofs.Common.{◌≡◌, ◌≢◌, ℕ, zero, suc, ◌-◌, ◌<◌, ◌≤◌, ◌||◌, Bool, true, false, true≢false, List, [], ◌∷◌, ◌++◌, length, length-append, length-set, get_or, get_or-set_same, get_or-set_other, replicate, set, map, max, Option, Some, None, refl, sym, ap, ◌∙◌, inl, inr, arith}
-use Rattle.std.specs.Prelude.{nat_eq, if◌then◌else◌, is_some, OnErr, Result, Ok, Err}
+use Rattle.std.specs.Prelude.{nat_eq, if◌then◌else◌, OnErr, Result, Ok, Err}
 use Rattle.std.specs.Global.{Vec}
-use Rattle.std.proofs.lemmas.Bool.{cases_lt, cases_eq, cases_Bool}
+use Rattle.std.proofs.lemmas.Bool.{cases_lt, cases_eq, cases_Bool, or_parts, eqb-false, ne_eqb, eq-eqb}
 use Rattle.std.proofs.lemmas.List.{ext_get_or, length-map, length-replicate}
 use Rattle.std.proofs.Math.ListN.{get_or-eq_default}
 use Rattle.hep_machine.specs.Processes.{is_number_among}
 use Rattle.hep_blocked.specs.declared.want.Want.{Want}
 use Rattle.hep_blocked.specs.Lists.{AreApart, IsTied, cleared, items_of, with_process, without_list}
 use Rattle.hep_blocked.specs.Waiting.{awake, numbers_waiting, waiting_at, want_eq, wants, with_numbers, with_want}
-use Rattle.hep_blocked.proofs.Adding.{among-behind, among-many, eq-apart, is_eq, not_eq, numbers-same, or-parts}
+use Rattle.hep_blocked.proofs.Adding.{among-behind, among-many, numbers-same}
 use Rattle.hep_blocked.proofs.Wanting.{among-waiting, at-awake, at-grown, awake-keeps, awake-wants, waiting-awake, want-apart, want-is, want-same}
 
 -- ---- the lists
@@ -36,10 +36,6 @@ list-kept f g want old new was is after w = elim (cases_Bool (want_eq want w)) [
   | inr e ↦ let there : g w ≡ f w = rw e at (after w) in rw there refl
 ]
 
-pub none-from-not : {A : Type 0} (o : Option A) → is_some o ≡ false → o ≡ None
-none-from-not None h = refl
-none-from-not (Some x) h = cc
-
 pub on-err : {T E P : Type 0} (r : Result T E) → P → OnErr r P
 on-err (Ok x) p = tt
 on-err (Err e) p = p
@@ -58,18 +54,18 @@ list-opened f g want new was is after w = elim (cases_Bool (want_eq want w)) [
 
 at-cleared : (ws : List (Option Want)) (p k : ℕ) → 1 ≤ p → get_or (set ws (p - 1) None) k None ≡ (if nat_eq (suc k) p then None else get_or ws k None)
 at-cleared ws p k some = elim (cases_eq (suc k) p) [
-  | inl e ↦ rw (is_eq (suc k) p e) (elim (cases_lt k (length ws)) [
+  | inl e ↦ rw (eq-eqb (suc k) p e) (elim (cases_lt k (length ws)) [
     | inl l ↦ let same : p - 1 ≡ k = omega arith in rw same (get_or-set_same ws k None None l)
     | inr r ↦ get_or-eq_default (set ws (p - 1) None) None (omega (arith, length-set ws (p - 1) None, r))
   ])
-  | inr ne ↦ let apart : k ≢ p - 1 = λ e. ne (omega arith) in rw (not_eq (suc k) p ne) (get_or-set_other ws (p - 1) k None None apart)
+  | inr ne ↦ let apart : k ≢ p - 1 = λ e. ne (omega arith) in rw (ne_eqb (suc k) p ne) (get_or-set_other ws (p - 1) k None None apart)
 ]
 
 at-cleared_all : (ps : List ℕ) (ws : List (Option Want)) (k : ℕ) → is_number_among 0 ps ≡ false → get_or (cleared ps ws) k None ≡ (if is_number_among (suc k) ps then None else get_or ws k None)
 at-cleared_all [] ws k some = refl
 at-cleared_all (p ∷ ps) ws k some =
-    let parts = or-parts (nat_eq 0 p) (is_number_among 0 ps) some in
-    let low : 1 ≤ p = elim (cases_lt 0 p) [ inl l ↦ l | inr r ↦ absurd (eq-apart 0 p parts.0 (omega arith)) ] in
+    let parts = or_parts (nat_eq 0 p) (is_number_among 0 ps) some in
+    let low : 1 ≤ p = elim (cases_lt 0 p) [ inl l ↦ l | inr r ↦ absurd (eqb-false 0 p parts.0 (omega arith)) ] in
     at-cleared_all ps (set ws (p - 1) None) k parts.1 ∙ elim (cases_Bool (is_number_among (suc k) ps)) [
       | inl e ↦ elim (cases_Bool (nat_eq (suc k) p)) [ inl h ↦ rw (e, h) refl | inr h ↦ rw (e, h) refl ]
       | inr e ↦ rw e (at-cleared ws p k low ∙ elim (cases_Bool (nat_eq (suc k) p)) [ inl h ↦ rw h refl | inr h ↦ rw h refl ])
@@ -152,26 +148,26 @@ pub blocked-items : (p : ℕ) (want : Want) (ws grown : List (Option Want)) → 
 blocked-items p want ws grown is = ap (λ (os : List (Option Want)). set os (p - 1) (Some want)) is
 
 pub waiting-blocked : (p : ℕ) (want : Want) (ws : List (Option Want)) → 1 ≤ p → (q : ℕ) → waiting_at (with_want p want ws) q ≡ (if nat_eq p q then Some want else waiting_at ws q)
-waiting-blocked p want ws some zero = rw (not_eq p 0 (λ e. omega arith)) refl
+waiting-blocked p want ws some zero = rw (ne_eqb p 0 (λ e. omega arith)) refl
 waiting-blocked p want ws some (suc k) =
     let grown = ws ++ replicate (p - length ws) None in
     elim (cases_eq p (suc k)) [
       | inl e ↦
           let same : p - 1 ≡ k = omega arith in
           let inside : k < length (ws ++ replicate (p - length ws) None) = omega (arith, grown-length p ws) in
-          rw (is_eq p (suc k) e, same) (get_or-set_same grown k (Some want) None inside)
+          rw (eq-eqb p (suc k) e, same) (get_or-set_same grown k (Some want) None inside)
       | inr ne ↦
           let apart : k ≢ p - 1 = λ e. ne (omega arith) in
-          rw (not_eq p (suc k) ne) (get_or-set_other grown (p - 1) k (Some want) None apart ∙ at-grown ws (p - length ws) k)
+          rw (ne_eqb p (suc k) ne) (get_or-set_other grown (p - 1) k (Some want) None apart ∙ at-grown ws (p - length ws) k)
     ]
 
 apart-behind : (p : ℕ) (ps : List ℕ) → is_number_among p ps ≡ false → AreApart ps → AreApart (ps ++ p ∷ [])
 apart-behind p [] new apart = (refl, tt)
 apart-behind p (x ∷ xs) new apart = elim (cases_eq p x) [
-  | inl e ↦ absurd (true≢false (sym (ap (λ (b : Bool). b || is_number_among p xs) (is_eq p x e)) ∙ new))
+  | inl e ↦ absurd (true≢false (sym (ap (λ (b : Bool). b || is_number_among p xs) (eq-eqb p x e)) ∙ new))
   | inr ne ↦
-      let rest : is_number_among p xs ≡ false = rw (not_eq p x ne) at new in
-      (among-behind x p xs ∙ rw (not_eq x p (λ e. ne (sym e))) apart.0, apart-behind p xs rest apart.1)
+      let rest : is_number_among p xs ≡ false = rw (ne_eqb p x ne) at new in
+      (among-behind x p xs ∙ rw (ne_eqb x p (λ e. ne (sym e))) apart.0, apart-behind p xs rest apart.1)
 ]
 
 pub tied-blocked : (p : ℕ) (want : Want) (ws ws' : List (Option Want)) (lists lists' : Want → List ℕ) → IsTied ws lists → 1 ≤ p → waiting_at ws p ≡ None → ws' ≡ with_want p want ws → ((w : Want) → lists' w ≡ with_process want p lists w) → IsTied ws' lists'
@@ -184,20 +180,20 @@ tied-blocked p want ws ws' lists lists' t some idle blocked added =
             let more : lists' w ≡ lists w ++ p ∷ [] = rw e at (added w) in
             ap (is_number_among q) more ∙ among-behind q p (lists w) ∙ elim (cases_eq p q) [
               | inl same ↦
-                  let one : waiting_at ws' q ≡ Some want = rw (is_eq p q same) at (seen q) in
-                  ap (λ (b : Bool). b || is_number_among q (lists w)) (is_eq q p (sym same)) ∙ sym (ap (wants w) one ∙ ap (want_eq w) (want-is want w e) ∙ want-same w)
+                  let one : waiting_at ws' q ≡ Some want = rw (eq-eqb p q same) at (seen q) in
+                  ap (λ (b : Bool). b || is_number_among q (lists w)) (eq-eqb q p (sym same)) ∙ sym (ap (wants w) one ∙ ap (want_eq w) (want-is want w e) ∙ want-same w)
               | inr ne ↦
-                  let other : waiting_at ws' q ≡ waiting_at ws q = rw (not_eq p q ne) at (seen q) in
-                  ap (λ (b : Bool). b || is_number_among q (lists w)) (not_eq q p (λ e. ne (sym e))) ∙ t.tied w q ∙ sym (ap (wants w) other)
+                  let other : waiting_at ws' q ≡ waiting_at ws q = rw (ne_eqb p q ne) at (seen q) in
+                  ap (λ (b : Bool). b || is_number_among q (lists w)) (ne_eqb q p (λ e. ne (sym e))) ∙ t.tied w q ∙ sym (ap (wants w) other)
             ]
         | inr e ↦
             let as_before : lists' w ≡ lists w = rw e at (added w) in
             ap (is_number_among q) as_before ∙ elim (cases_eq p q) [
               | inl same ↦
-                  let one : waiting_at ws' q ≡ Some want = rw (is_eq p q same) at (seen q) in
+                  let one : waiting_at ws' q ≡ Some want = rw (eq-eqb p q same) at (seen q) in
                   ap (λ (n : ℕ). is_number_among n (lists w)) (sym same) ∙ new w ∙ sym (ap (wants w) one ∙ want-apart want w e)
               | inr ne ↦
-                  let other : waiting_at ws' q ≡ waiting_at ws q = rw (not_eq p q ne) at (seen q) in
+                  let other : waiting_at ws' q ≡ waiting_at ws q = rw (ne_eqb p q ne) at (seen q) in
                   t.tied w q ∙ sym (ap (wants w) other)
             ]
       ];

@@ -2,12 +2,11 @@
 -- those that wait for it.
 use Rattle.std.proofs.Common.{◌≡◌, ℕ, zero, suc, ◌+◌, ◌<◌, Bool, true, false, true≢false, List, [], ◌∷◌, ◌++◌, get_or, replicate, map, Option, Some, None, refl, sym, ap, ◌∙◌, inl, inr, arith}
 use Rattle.std.specs.Prelude.{nat_eq}
-use Rattle.std.proofs.lemmas.Bool.{cases_Bool, and_parts, and_from}
+use Rattle.std.proofs.lemmas.Bool.{cases_Bool, and_parts, and_from, eqb-true, ne_eqb, eq-eqb}
 use mathlib.Core.Bool.{beq}
 use Rattle.hep_machine.specs.Processes.{is_number_among}
 use Rattle.hep_blocked.specs.declared.want.Want.{Want}
 use Rattle.hep_blocked.specs.Waiting.{awake, waiting_from, numbers_waiting, waiting_at, want_eq, wants}
-use Rattle.hep_blocked.proofs.Adding.{eq_is, is_eq, not_eq}
 
 beq-is : (a b : Bool) → beq a b ≡ true → a ≡ b
 beq-is true true h = refl
@@ -22,12 +21,12 @@ beq-same false = refl
 pub want-is : (v w : Want) → want_eq v w ≡ true → v ≡ w
 want-is v w h =
     let parts = and_parts (nat_eq v.cell w.cell) (beq v.full w.full) h in
-    let cell : v.cell ≡ w.cell = eq_is v.cell w.cell parts.0 in
+    let cell : v.cell ≡ w.cell = eqb-true v.cell w.cell parts.0 in
     let full : v.full ≡ w.full = beq-is v.full w.full parts.1 in
     λ i. record { cell = cell i; full = full i }
 
 pub want-same : (w : Want) → want_eq w w ≡ true
-want-same w = and_from (nat_eq w.cell w.cell) (beq w.full w.full) (is_eq w.cell w.cell refl) (beq-same w.full)
+want-same w = and_from (nat_eq w.cell w.cell) (beq w.full w.full) (eq-eqb w.cell w.cell refl) (beq-same w.full)
 
 pub want-apart : (v w : Want) → want_eq v w ≡ false → want_eq w v ≡ false
 want-apart v w h = elim (cases_Bool (want_eq w v)) [
@@ -74,18 +73,18 @@ at-grown (w ∷ ws) n (suc k) = at-grown ws n k
 numbers-before : (n q : ℕ) (want : Want) (ws : List (Option Want)) → q < n → is_number_among q (waiting_from n want ws) ≡ false
 numbers-before n q want [] h = refl
 numbers-before n q want (w ∷ ws) h = elim (cases_Bool (wants want w)) [
-  | inl e ↦ rw (e, not_eq q n (λ same. omega arith)) (numbers-before (suc n) q want ws (omega arith))
+  | inl e ↦ rw (e, ne_eqb q n (λ same. omega arith)) (numbers-before (suc n) q want ws (omega arith))
   | inr e ↦ rw e (numbers-before (suc n) q want ws (omega arith))
 ]
 
 numbers-at : (n k q : ℕ) (want : Want) (ws : List (Option Want)) → q ≡ n + k → is_number_among q (waiting_from n want ws) ≡ wants want (get_or ws k None)
 numbers-at n k q want [] h = refl
 numbers-at n zero q want (w ∷ ws) h = elim (cases_Bool (wants want w)) [
-  | inl e ↦ rw (e, is_eq q n (omega arith)) refl
+  | inl e ↦ rw (e, eq-eqb q n (omega arith)) refl
   | inr e ↦ rw e (numbers-before (suc n) q want ws (omega arith))
 ]
 numbers-at n (suc k) q want (w ∷ ws) h = elim (cases_Bool (wants want w)) [
-  | inl e ↦ rw (e, not_eq q n (λ same. omega arith)) (numbers-at (suc n) k q want ws (omega arith))
+  | inl e ↦ rw (e, ne_eqb q n (λ same. omega arith)) (numbers-at (suc n) k q want ws (omega arith))
   | inr e ↦ rw e (numbers-at (suc n) k q want ws (omega arith))
 ]
 

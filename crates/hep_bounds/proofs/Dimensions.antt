@@ -20,6 +20,7 @@ use Rattle.hep_bounds.specs.declared.operation.BoundOperation.TheVariants.{Value
 use Rattle.hep_bounds.specs.BoundCode.{Sources, is_source, code_of_bound, value_at}
 use Rattle.hep_bounds.specs.DimensionCode.{code_of_lower, code_from_upper, code_of_dimensions, bounds_in, coded_shape}
 use Rattle.hep_bounds.proofs.Coded.{ComesTo, ComeTo, all_behind, alone, list_comes, tree_comes}
+use Rattle.hep_source.proofs.Tests.{and-false}
 
 -- ---- how many bounds values are
 
@@ -39,10 +40,6 @@ few_bounds vs h = omega (arith, h, most_bounds vs)
 
 -- ---- bounds that aren't those of dimensions are no shape, whatever stands before them
 
-and_false : (a : Bool) → (a && false) ≡ false
-and_false true = refl
-and_false false = refl
-
 abbrev if_dimensions : Option Bounds → Option Bounds
 if_dimensions None = None
 if_dimensions (Some bs) = if are_dimensions bs then Some bs else None
@@ -50,7 +47,7 @@ if_dimensions (Some bs) = if are_dimensions bs then Some bs else None
 no_shape : (bs : Bounds) → 7 < length bs → if_shape (Some bs) ≡ None
 no_shape bs h =
     let few : nat_le (length bs) 7 ≡ false = grind arith in
-    let is : is_shape bs ≡ false = ap (λ b. nat_le 1 (length bs) && (b && (are_dimensions bs && is_most (elements bs)))) few ∙ and_false (nat_le 1 (length bs)) in
+    let is : is_shape bs ≡ false = ap (λ b. nat_le 1 (length bs) && (b && (are_dimensions bs && is_most (elements bs)))) few ∙ and-false (nat_le 1 (length bs)) in
     ap (λ b. if b then Some bs else None) is
 
 pub many_no_shape : (vs : List Constant) → 14 < length vs → if_shape (Some (bounds_in vs)) ≡ None
@@ -62,7 +59,7 @@ shape_of_dimensions (Some bs) = by_test (are_dimensions bs) refl where
   by_test : (b : Bool) → are_dimensions bs ≡ b → if_shape (Some bs) ≡ if_shape (if b then Some bs else None)
   by_test true h = refl
   by_test false h =
-      let is : is_shape bs ≡ false = ap (λ b. nat_le 1 (length bs) && (nat_le (length bs) 7 && (b && is_most (elements bs)))) h ∙ (ap (λ b. nat_le 1 (length bs) && b) (and_false (nat_le (length bs) 7)) ∙ and_false (nat_le 1 (length bs))) in
+      let is : is_shape bs ≡ false = ap (λ b. nat_le 1 (length bs) && (nat_le (length bs) 7 && (b && is_most (elements bs)))) h ∙ (ap (λ b. nat_le 1 (length bs) && b) (and-false (nat_le (length bs) 7)) ∙ and-false (nat_le 1 (length bs))) in
       ap (λ b. if b then Some bs else None) is
 
 before_dimensions : (b : Bound) (o : Option Bounds) → if_dimensions (bound_before (Some b) o) ≡ if_dimensions (bound_before (Some b) (if_dimensions o))
@@ -71,7 +68,7 @@ before_dimensions b (Some bs) = by_test (are_dimensions bs) refl where
   by_test : (c : Bool) → are_dimensions bs ≡ c → if_dimensions (Some (b ∷ bs)) ≡ if_dimensions (bound_before (Some b) (if c then Some bs else None))
   by_test true h = refl
   by_test false h =
-      ap (λ c. if c then Some (b ∷ bs) else None) (ap (λ c. is_between b.lower b.upper bs && c) h ∙ and_false (is_between b.lower b.upper bs))
+      ap (λ c. if c then Some (b ∷ bs) else None) (ap (λ c. is_between b.lower b.upper bs && c) h ∙ and-false (is_between b.lower b.upper bs))
 
 before_same : (b : Bound) (o p : Option Bounds) → if_dimensions o ≡ if_dimensions p → if_dimensions (bound_before (Some b) o) ≡ if_dimensions (bound_before (Some b) p)
 before_same b o p h = before_dimensions b o ∙ (ap (λ r. if_dimensions (bound_before (Some b) r)) h ∙ sym (before_dimensions b p))

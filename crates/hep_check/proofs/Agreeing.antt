@@ -38,13 +38,13 @@ none-each f [] i x e is = absurd (none-some x is)
 none-each f (y ∷ ys) zero x e is = subst (λ z. f z ≡ []) (same_Some y x is) (none-append (f y) (flat_map f ys) e).0
 none-each f (y ∷ ys) (suc i) x e is = none-each f ys i x (none-append (f y) (flat_map f ys) e).1 is
 
-none-when : (b : Bool) (v : Violation) → when (not b) v ≡ [] → b ≡ true
+pub none-when : (b : Bool) (v : Violation) → when (not b) v ≡ [] → b ≡ true
 none-when true v e = refl
 none-when false v e = absurd cc
 
 -- ---- all of several lists
 
-all-parts : {A : Type 0} (p : A → Bool) (xs ys : List A) → list_all p (xs ++ ys) ≡ true → (list_all p xs ≡ true) × (list_all p ys ≡ true)
+pub all-parts : {A : Type 0} (p : A → Bool) (xs ys : List A) → list_all p (xs ++ ys) ≡ true → (list_all p xs ≡ true) × (list_all p ys ≡ true)
 all-parts p xs ys e = and_parts (list_all p xs) (list_all p ys) (sym (list_all-append p xs ys) ∙ e)
 
 all_of-parts : {A B : Type 0} (p : B → Bool) (f : A → List B) (xs ys : List A) → list_all p (flat_map f (xs ++ ys)) ≡ true → (list_all p (flat_map f xs) ≡ true) × (list_all p (flat_map f ys) ≡ true)
@@ -138,11 +138,11 @@ keeps_constants unit ps known (c ∷ cs) k counted given =
     let both = and_parts (is_constant_given unit ps c) (are_constants_given unit (with_parameter unit ps c) cs) given in
     keeps_constants unit (with_parameter unit ps c) (with_constant known c.occurrence.name (value_of unit (value_among known) c.value)) cs (keeps_constant unit ps known c k count.0 both.0) count.1 both.1
 
-with_parameters-append : (unit : List Statement) (ps : Parameters) (cs ds : List NamedConstant) → with_parameters unit ps (cs ++ ds) ≡ with_parameters unit (with_parameters unit ps cs) ds
+pub with_parameters-append : (unit : List Statement) (ps : Parameters) (cs ds : List NamedConstant) → with_parameters unit ps (cs ++ ds) ≡ with_parameters unit (with_parameters unit ps cs) ds
 with_parameters-append unit ps [] ds = refl
 with_parameters-append unit ps (c ∷ cs) ds = with_parameters-append unit (with_parameter unit ps c) cs ds
 
-given_by-append : (unit : List Statement) (known : Constants) (cs ds : List NamedConstant) → given_by unit known (cs ++ ds) ≡ given_by unit (given_by unit known cs) ds
+pub given_by-append : (unit : List Statement) (known : Constants) (cs ds : List NamedConstant) → given_by unit known (cs ++ ds) ≡ given_by unit (given_by unit known cs) ds
 given_by-append unit known [] ds = refl
 given_by-append unit known (c ∷ cs) ds = given_by-append unit (with_constant known c.occurrence.name (value_of unit (value_among known) c.value)) cs ds
 

@@ -1,4 +1,4 @@
-mod Agreeing
+pub mod Agreeing
 pub mod First
 pub mod Lines
 pub mod FrameCells

@@ -8,6 +8,7 @@ use Rattle.hep_source.specs.declared.name.Occurrence.{Occurrence}
 use Rattle.hep_source.specs.declared.statement.Statement.{Statement}
 use Rattle.hep_machine.specs.Constants.{cells_of, cells_of_all, adjustable_dimensions}
 use Rattle.hep_machine.specs.Variables.{locals_of, is_do, do_statements, adjustable_dimensions_of_all, frame_cells}
+use Rattle.hep_source.proofs.Statements.{names-length}
 
 -- one term more
 next-sum : (sum n term rest all whole : ℕ) → sum + all ≡ whole → n ≡ term → all ≡ term + rest → (sum + n) + rest ≡ whole
@@ -46,10 +47,6 @@ pub nothing-left : {A : Type 0} (sum : ℕ) (total : List A → ℕ) (xs : List 
 nothing-left sum total xs i k h z =
     let e : total (drop i xs) ≡ 0 = ap total (drop_all i xs k) ∙ z in
     omega (arith, h, e)
-
-names-length : (ps : List Occurrence) → length (names_of_occurrences ps) ≡ length ps
-names-length [] = refl
-names-length (p ∷ ps) = ap suc (names-length ps)
 
 pub dummies-counted : (unit : List Statement) (ps : List Occurrence) → names_of_occurrences ps ≡ dummies_of unit → length ps ≡ length (dummies_of unit)
 dummies-counted unit ps e = sym (names-length ps) ∙ ap length e

@@ -1,7 +1,7 @@
 -- The deepest stack of operands of code, and one pass that finds it.
-use Rattle.std.proofs.Common.{◌≡◌, ℕ, zero, suc, ◌+◌, ◌-◌, ◌<◌, ◌≤◌, Bool, true, false, List, [], ◌∷◌, length, drop, get_or, Option, Some, None, refl, ap, sym, ◌∙◌, subst, arith, nat_lt, if◌then◌else◌}
+use Rattle.std.proofs.Common.{◌≡◌, ℕ, zero, suc, ◌+◌, ◌-◌, ◌≤◌, Bool, true, false, List, [], ◌∷◌, length, drop, Option, Some, None, refl, ap, sym, ◌∙◌, subst, arith, nat_lt, if◌then◌else◌}
 use Rattle.std.proofs.lemmas.Bool.Decides.{nat_tests}
-use Rattle.std.proofs.lemmas.List.{drop_all, drop_more}
+use Rattle.std.proofs.lemmas.List.{drop_all}
 use Rattle.hep_source.specs.declared.value.Value.{Value}
 use Rattle.hep_machine.specs.State.{Work}
 use Rattle.hep_code.specs.declared.instruction.Instruction.{Instruction}
@@ -64,10 +64,6 @@ pub whole : {A : Type 0} (xs : List A) (n : ℕ) → length xs ≤ n → drop (l
 whole xs n h = let e : length xs - n ≡ 0 = omega (arith, h) in ap (λ k. drop k xs) e
 
 -- ---- one pass over code from its end
-
--- an element that was read, and those behind it
-pub from_is : {A : Type 0} (xs : List A) (i : ℕ) (x : A) → i < length xs → x ≡ get_or xs i x → drop i xs ≡ x ∷ drop (i + 1) xs
-from_is xs i x h e = drop_more xs i x h ∙ ap (λ y. y ∷ drop (i + 1) xs) (sym e)
 
 rest_is : {A : Type 0} (xs : List A) (i : ℕ) (x : A) (rest : List A) → drop i xs ≡ x ∷ rest → drop (suc i) xs ≡ rest
 rest_is [] i x rest e = absurd (let f = sym (drop_all i [] (omega arith)) ∙ e in cc)

@@ -1,6 +1,5 @@
 -- Processes in the code, as activations are added, begin and end: X3.9-1978, 15.6.2 and 15.8.
-use Rattle.std.proofs.Common.{◌≡◌, ℕ, zero, suc, ◌+◌, ◌<◌, ◌≤◌, List, [], ◌∷◌, ◌++◌, length, length-append, refl, ap, sym, ◌∙◌, subst, arith, Option, Some}
-use Rattle.std.specs.Prelude.{slice_get}
+use Rattle.std.proofs.Common.{◌≡◌, ℕ, zero, suc, ◌+◌, ◌≤◌, List, [], ◌∷◌, ◌++◌, length, length-append, refl, ap, sym, ◌∙◌, subst, arith, Option, Some}
 use Rattle.std.specs.Option.{unwrap_or}
 use Rattle.hep_source.specs.declared.value.Value.{Value}
 use Rattle.hep_source.specs.Units.{Units, unit_at, executable_from}
@@ -17,21 +16,14 @@ use Rattle.hep_code.specs.Leads.{Moves}
 use Rattle.hep_code.specs.Stacks.{Addresses, addressed_unit, CodeLevel, IsOf, IsBelow, IsTop, AreBelow, AreLevels, NoLoops, entered, calling}
 use Rattle.hep_code.specs.Standing.{Counts, HoldsLoops, Stands}
 use Rattle.hep_code.proofs.Moves.{StandsAt, after_statement_stands, after_statement_keeps, entry_stands}
+use Rattle.hep_machine.proofs.Others.{front_kept}
+use Rattle.hep_source.proofs.Tests.{at-last}
 
 -- ---- activations that are added leave the others as they are
 
-of_front : {A : Type 0} (xs ys : List A) (i : ℕ) → i < length xs → slice_get (xs ++ ys) i ≡ slice_get xs i
-of_front [] ys i lt = absurd (omega arith)
-of_front (x ∷ xs) ys zero lt = refl
-of_front (x ∷ xs) ys (suc i) lt = of_front xs ys i (omega arith)
-
-of_last : {A : Type 0} (xs : List A) (y : A) → slice_get (xs ++ y ∷ []) (length xs) ≡ Some y
-of_last [] y = refl
-of_last (x ∷ xs) y = of_last xs y
-
 still_numbered : (xs ys : List Activation) (a : ℕ) → 1 ≤ a → a ≤ length xs → numbered (xs ++ ys) a ≡ numbered xs a
 still_numbered xs ys zero ge le = absurd (omega arith)
-still_numbered xs ys (suc i) ge le = of_front xs ys i (omega arith)
+still_numbered xs ys (suc i) ge le = front_kept xs ys i (omega arith)
 
 module _ (program : Units) (addresses : Addresses) (s t : State) (ys : List Activation) (more : t.activations ≡ s.activations ++ ys) where
   still_of : (f : CodeLevel) (level : Level) → IsOf program addresses s f level → IsOf program addresses t f level
@@ -108,7 +100,7 @@ begun program addresses top u b counts none =
         activation = refl;
         made = (omega arith, omega (arith, n));
         unit = ap (λ a. (unwrap_or (numbered (s.activations ++ made ∷ []) a) no_activation).unit) number
-            ∙ ap (λ (o : Option Activation). (unwrap_or o no_activation).unit) (of_last s.activations made);
+            ∙ ap (λ (o : Option Activation). (unwrap_or o no_activation).unit) (at-last s.activations made);
       };
       at = record { stands = entry_stands addressed (entry_level addressed.unit (next_activation s)) (executable_from addressed.unit 0); loops = none };
     }

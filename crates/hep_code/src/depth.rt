@@ -132,7 +132,7 @@ impl Depth {
 }
 
 // The instruction at an index, and those behind it.
-#[tactic(auto, using(crate::proofs::Depths::from_is))]
+#[tactic(auto, using(hep_source::proofs::Tests::drop_at))]
 fn from_index(code: &[Instruction], index: usize) -> (&Instruction, &[Instruction])
     requires { index < length code.now }
     ensures from { drop index code.now ≡ result.0.now ∷ result.1.now }

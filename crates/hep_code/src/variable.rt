@@ -1,4 +1,6 @@
 //! Variables without their names.
+ghost use Rattle.std.specs.Prelude.{◌≡◌};
+ghost use Rattle.hep_code.specs.Replies as replies;
 
 use hep_source::Syntax;
 use std::alloc::{AllocError, Global};
@@ -19,6 +21,21 @@ pub enum Variable {
     Array { asynchronous: bool, array: u32 },
     /// A name that has no storage units and is stored into by no statement.
     Absent,
+}
+
+impl Variable {
+    /// Whether its name has `$`.
+    pub fn is_asynchronous(self) -> bool
+        ensures { result ≡ replies.is_asynchronous self }
+    {
+        match self {
+            Variable::Local { asynchronous, .. }
+            | Variable::Common { asynchronous, .. }
+            | Variable::Dummy { asynchronous, .. }
+            | Variable::Array { asynchronous, .. } => asynchronous,
+            Variable::Absent => false,
+        }
+    }
 }
 
 impl Syntax for Variable {

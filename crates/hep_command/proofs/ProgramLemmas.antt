@@ -1,6 +1,6 @@
 -- What a parse of the program's words gives.
-use Rattle.std.proofs.Common.{◌≡◌, ◌⊎◌, ◌∙◌, [], ℕ, Bool, List, true}
-use Rattle.std.proofs.Common.{false, not, ap, sym, subst, refl, inl, inr}
+use Rattle.std.proofs.Common.{◌≡◌, ◌⊎◌, ◌∙◌, [], ℕ, List, true}
+use Rattle.std.proofs.Common.{ap, sym, subst, refl, inl, inr}
 use Rattle.clap.specs.Words.{App, HasKind, HasMatchesOf, IsAmong, Text, app_of}
 use Rattle.clap.specs.Words.{fault_of, is_simple, is_simple_and_free, kind_of, subcommand_of, subcommand_rows_of}
 use Rattle.clap.specs.declared.builder.command.Command.{Command}
@@ -10,10 +10,6 @@ use Rattle.clap.proofs.OnLiterals.{clap_on_literals}
 use Rattle.hep_command.specs.Asked.{job_in}
 use Rattle.hep_command.specs.Program.{IsCommand, IsStatusFor, asked, hepf}
 use Rattle.hep_command.specs.Jobs.{usage_status}
-
-pub not_true : (b : Bool) → not b ≡ true → b ≡ false
-not_true false e = refl
-not_true true e = cc
 
 hepf_is_simple : is_simple hepf ≡ true
 unfolding clap_on_literals

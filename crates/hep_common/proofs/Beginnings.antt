@@ -10,10 +10,10 @@ use Rattle.hep_machine.specs.Layout.{block_cells, cells_of_blocks, common_cells}
 use Rattle.hep_frames.specs.Rows.{Row, cells_in, common_row, first_in, first_of_block}
 use Rattle.hep_frames.proofs.CommonRows.{common_row-cells}
 use Rattle.hep_values.proofs.BlockNames.{changed}
-use Rattle.hep_values.proofs.BlockNames.{block-equal, block-self}
 use Rattle.hep_common.specs.Starts.{AreStarts, narrowed, start_in}
 use Rattle.hep_common.specs.declared.starts.CommonStarts.{CommonStarts}
 use Rattle.hep_common.proofs.Singles.{AreSingle, program-single, single-apart, single-rest}
+use Rattle.hep_frames.proofs.Runs.{block-turned}
 
 -- what a table has of a block after it was given a start
 pub start-added : (k b : BlockName) (n v : ℕ) (old new : Option ℕ) → new ≡ cond (option_eq name_eq k b) (Some v) old → v ≡ n → unwrap_or new 0 ≡ (if same_block k b then n else unwrap_or old 0)
@@ -34,7 +34,7 @@ pub record AreBegun (program : Units) (c : CommonStarts) (bs : List BlockName) :
   pub ahead : (b : BlockName) → is_block_among b bs ≡ true → c.cells + cells_ahead program b bs ≡ first_of_block program b
   pub behind : (b : BlockName) → is_block_among b (blocks_of program) ≡ true → is_block_among b bs ≡ false → start_in c b ≡ narrowed (first_of_block program b)
 
-from-zero : (a n : ℕ) → a ≡ 0 → a + n ≡ n
+pub from-zero : (a n : ℕ) → a ≡ 0 → a + n ≡ n
 from-zero a n h = omega (arith, h)
 
 pub begun-first : (program : Units) (c : CommonStarts) (bs : List BlockName) → bs ≡ blocks_of program → c.cells ≡ 0 → AreBegun program c bs
@@ -45,18 +45,15 @@ begun-first program c bs same h = subst (AreBegun program c) (sym same) (record 
   behind = λ b e f. absurd (true≢false (sym e ∙ f));
 })
 
-same-turned : (k b : BlockName) → same_block k b ≡ true → same_block b k ≡ true
-same-turned k b h = subst (λ j. same_block j k ≡ true) (block-equal k b h) (block-self k)
-
 other-turned : (k b : BlockName) (t : Bool) → same_block k b ≡ t → same_block b k ≡ t
-other-turned k b true h = same-turned k b h
+other-turned k b true h = block-turned k b h
 other-turned k b false h = by (same_block b k) refl
   where
     by : (t : Bool) → same_block b k ≡ t → t ≡ false
-    by true e = sym (same-turned b k e) ∙ h
+    by true e = sym (block-turned b k e) ∙ h
     by false e = refl
 
-one-more : (n m r c all : ℕ) → c ≡ n + m → n + (m + r) ≡ all → c + r ≡ all
+pub one-more : (n m r c all : ℕ) → c ≡ n + m → n + (m + r) ≡ all → c + r ≡ all
 one-more n m r c all e h = omega (arith, e, h)
 
 nothing-ahead : (n all : ℕ) → n + 0 ≡ all → n ≡ all

@@ -17,7 +17,7 @@ use Rattle.hep_common.specs.Lengths.{entry_of, entries_listed, entries_in_list, 
 ahead-of-none : (n : ℕ) → n ≡ 0 + n
 ahead-of-none n = omega arith
 
-grouped : (a b c d : ℕ) → d ≡ b + c → a + d ≡ (a + b) + c
+pub grouped : (a b c d : ℕ) → d ≡ b + c → a + d ≡ (a + b) + c
 grouped a b c d e = omega (arith, e)
 
 cells-append : (unit : List Statement) (b : BlockName) (es fs : List Entry) → cells_in_block unit b (es ++ fs) ≡ cells_in_block unit b es + cells_in_block unit b fs
@@ -75,7 +75,7 @@ names-blocks : (k : BlockName) (bs : List BlockName) (ds : List Declarator) → 
 names-blocks k bs [] h = refl
 names-blocks k bs (d ∷ ds) h = ap (λ t. with_blocks_of (if t then bs else bs ++ k ∷ []) (map (entry_of k) ds)) h ∙ names-blocks k bs ds h
 
-last-among : (b : BlockName) (bs : List BlockName) → is_block_among b (bs ++ b ∷ []) ≡ true
+pub last-among : (b : BlockName) (bs : List BlockName) → is_block_among b (bs ++ b ∷ []) ≡ true
 last-among b [] = ap (λ t. t || false) (block-self b)
 last-among b (c ∷ cs) = or-true (same_block b c) (is_block_among b (cs ++ b ∷ [])) (last-among b cs)
 

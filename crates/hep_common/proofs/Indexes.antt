@@ -8,6 +8,7 @@ use Rattle.hep_source.specs.declared.name.Name.{Name}
 use Rattle.hep_source.specs.Names.{index_among, index_where, name_eq, same_name}
 use Rattle.hep_source.proofs.NameTests.{name_eq-is}
 use Rattle.hep_machine.specs.Declarations.{BlockName, same_block}
+use Rattle.hep_values.proofs.BlockNames.{block_eq-is}
 
 pub position-is : {A : Type 0} (test : A → Bool) (xs : List A) → position test xs ≡ index_where test xs
 position-is test [] = refl
@@ -33,11 +34,5 @@ where-same p q same (x ∷ xs) = (λ i. if same x i then Some 0 else option_map 
 pub name-index : (x : Name) (xs : List Name) → position (name_eq x) xs ≡ index_among x xs
 name-index x xs = position-is (name_eq x) xs ∙ where-same (name_eq x) (same_name x) (name_eq-is x) xs
 
-block-test : (b c : BlockName) → option_eq name_eq b c ≡ same_block b c
-block-test None None = refl
-block-test None (Some y) = refl
-block-test (Some x) None = refl
-block-test (Some x) (Some y) = name_eq-is x y
-
 pub block-index : (b : BlockName) (bs : List BlockName) → position (option_eq name_eq b) bs ≡ index_where (same_block b) bs
-block-index b bs = position-is (option_eq name_eq b) bs ∙ where-same (option_eq name_eq b) (same_block b) (block-test b) bs
+block-index b bs = position-is (option_eq name_eq b) bs ∙ where-same (option_eq name_eq b) (same_block b) (block_eq-is b) bs

@@ -6,6 +6,7 @@ use Rattle.hep_source.specs.declared.declaration.CommonBlock.{CommonBlock}
 use Rattle.hep_machine.specs.Declarations.{BlockName, same_block, block_of, blocks_of_unit, blocks_of, is_block_among, with_blocks}
 use Rattle.hep_values.proofs.BlockNames.{block-equal}
 use Rattle.hep_common.specs.Lengths.{with_block}
+use Rattle.hep_common.proofs.Entries.{grouped}
 
 abbrev pub occurrences : BlockName → List BlockName → ℕ
 occurrences k [] = 0
@@ -47,9 +48,6 @@ single-apart k b bs h g = by (same_block k b) (h k) (present k bs g)
 
 swapped : (n : ℕ) → n + 0 ≡ 0 + n
 swapped n = omega arith
-
-grouped : (a b c d : ℕ) → d ≡ b + c → a + d ≡ (a + b) + c
-grouped a b c d e = omega (arith, e)
 
 added : (k b : BlockName) (bs : List BlockName) → occurrences k (bs ++ b ∷ []) ≡ occurrences k bs + (if same_block k b then 1 else 0)
 added k b [] = swapped (if same_block k b then 1 else 0)

@@ -17,6 +17,7 @@ use Rattle.hep_common.specs.declared.common.Entry.{Entry}
 use Rattle.hep_common.specs.declared.common.Length.{Length}
 use Rattle.hep_common.specs.Lengths.{entries_of, entries_of_program, cells_of_entry, cells_in_block, with_block, with_blocks_of, cells_so_far, greatest_length, lengthened, AreKept}
 use Rattle.hep_common.proofs.Entries.{this-among, with_blocks-append}
+use Rattle.hep_common.proofs.Beginnings.{one-more}
 
 -- ---- the test that a set of blocks makes is the definitions' test
 
@@ -75,14 +76,11 @@ so_far-next : (unit n : ℕ) (t : Bool) (o : Option Length) → cells_so_far uni
 so_far-next unit n true o = ap (λ s. if s then cells_so_far unit o + n else 0) (eq-eqb unit unit refl)
 so_far-next unit n false o = omega arith
 
-regrouped : (a b c d all : ℕ) → d ≡ a + b → a + (b + c) ≡ all → d + c ≡ all
-regrouped a b c d all e h = omega (arith, e, h)
-
 pub cells-next : (unit : List Statement) (number n : ℕ) (b : BlockName) (e : Entry) (es fs : List Entry) (o new : Option Length) (whole : ℕ)
     → cells_so_far number o + cells_in_block unit b es ≡ whole → es ≡ e ∷ fs → n ≡ cells_of_entry unit e → new ≡ (if same_block e.block b then Some (lengthened o number n) else o)
     → cells_so_far number new + cells_in_block unit b fs ≡ whole
 cells-next unit number n b e es fs o new whole h d k i =
-    regrouped (cells_so_far number o) (if same_block e.block b then cells_of_entry unit e else 0) (cells_in_block unit b fs) (cells_so_far number new) whole
+    one-more (cells_so_far number o) (if same_block e.block b then cells_of_entry unit e else 0) (cells_in_block unit b fs) (cells_so_far number new) whole
     (ap (cells_so_far number) i ∙ (so_far-next number n (same_block e.block b) o ∙ ap (λ m. cells_so_far number o + (if same_block e.block b then m else 0)) k))
     (ap (λ gs. cells_so_far number o + cells_in_block unit b gs) (sym d) ∙ h)
 
@@ -118,9 +116,6 @@ bounded-next number n i t o new h k e = few (cells_so_far number o) n i (cells_s
 
 pub blocks-entry : (bs ks whole : List BlockName) (e : Entry) (es fs : List Entry) → with_blocks_of bs es ≡ whole → es ≡ e ∷ fs → ks ≡ with_block bs e.block → with_blocks_of ks fs ≡ whole
 blocks-entry bs ks whole e es fs h d k = ap (λ cs. with_blocks_of cs fs) k ∙ (ap (with_blocks_of bs) (sym d) ∙ h)
-
-pub start-cells : (s r : ℕ) → s ≡ 0 → s + r ≡ r
-start-cells s r h = omega (arith, h)
 
 pub start-longest : (g s : ℕ) → s ≡ 0 → g ≡ max g s
 start-longest g s h = omega (arith, h)

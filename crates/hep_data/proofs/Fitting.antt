@@ -1,36 +1,33 @@
 -- What names in DATA of an accepted program stand for, as the tables tell it.
-use Rattle.std.proofs.Common.{◌≡◌, ℕ, ◌+◌, ◌-◌, ◌≤◌, ℤ, Bool, true, false, List, [], ◌∷◌, Option, Some, None, refl, sym, ap, ◌∙◌, subst, true≢false, arith}
-use Rattle.std.specs.Prelude.{◌&&◌, not, if◌then◌else◌, is_some, length, nat_eq, nat_le, nat_lt, slice_get}
-use Rattle.std.specs.List.{list_all}
+use Rattle.std.proofs.Common.{◌≡◌, ℕ, ◌+◌, ◌-◌, ◌≤◌, Bool, true, false, List, [], Option, Some, None, refl, sym, ap, ◌∙◌, subst, true≢false, arith}
+use Rattle.std.specs.Prelude.{◌&&◌, not, if◌then◌else◌, length, nat_eq, nat_le, nat_lt, slice_get}
 use Rattle.std.specs.Option.{option_map, unwrap_or}
-use Rattle.std.proofs.lemmas.Bool.{and_parts}
+use Rattle.std.proofs.lemmas.Bool.{and_parts, not-true}
 use Rattle.std.proofs.lemmas.Bool.Decides.{nat_tests}
 use Rattle.std.proofs.lemmas.Option.{none-some}
-use Rattle.hep_source.specs.Tree.{Tree, trees_of}
+use Rattle.hep_source.specs.Tree.{trees_of}
 use Rattle.hep_source.specs.declared.declaration.DataGroup.{DataGroup}
-use Rattle.hep_source.specs.declared.declaration.Dimension.{Dimension}
 use Rattle.hep_source.specs.declared.declaration.Target.{Target}
-use Rattle.hep_source.specs.declared.declaration.UpperBound.{UpperBound}
-use Rattle.hep_source.specs.declared.declaration.UpperBound.TheVariants.{Expression, Open}
 use Rattle.hep_source.specs.declared.name.Name.{Name}
 use Rattle.hep_source.specs.declared.statement.Statement.{Statement}
 use Rattle.hep_source.specs.declared.value.Value.{Value}
 use Rattle.hep_source.specs.Names.{index_among, is_among}
 use Rattle.hep_source.specs.Units.{Units, main_unit, unit_at}
-use Rattle.hep_machine.specs.Arithmetic.{integer_of, integers_of}
-use Rattle.hep_machine.specs.Constants.{adjustable_dimensions, bound_before, bound_of, bounds_of, cells_of, cells_of_shape, constant_shape, constant_value, if_shape, is_constant_dimension, is_constant_lower, is_constant_upper, lower_value, shape_by, upper_value, value_of, values_of}
+use Rattle.hep_machine.specs.Arithmetic.{integers_of}
+use Rattle.hep_machine.specs.Constants.{cells_of, cells_of_shape, constant_shape, constant_value, shape_by, values_of}
 use Rattle.hep_machine.specs.Data.{Stretch, all_elements, data_groups, element_with, elements_named, groups_in}
-use Rattle.hep_machine.specs.Declarations.{BlockName, common_block, dimensions_of, is_array, is_common, is_constant_name, is_dummy, is_nonempty}
+use Rattle.hep_machine.specs.Declarations.{common_block, is_array, is_common, is_constant_name, is_dummy, is_nonempty}
 use Rattle.hep_machine.specs.Defaults.{no_shape}
 use Rattle.hep_machine.specs.Layout.{common_cells}
+use Rattle.hep_machine.proofs.ConstantShapes.{constant-shape}
 use Rattle.hep_machine.specs.Shapes.{Bounds, are_dimensions, counted_element, element_number, elements, is_most, is_shape, most_elements}
 use Rattle.hep_machine.specs.Variables.{frame_cells, is_local, locals_of, names_of}
 use Rattle.hep_check.specs.Conditions.{IsAccepted}
 use Rattle.hep_code.specs.declared.variable.Variable.{Variable}
 use Rattle.hep_code.specs.declared.variable.Variable.TheVariants as variables
-use Rattle.hep_frames.specs.Rows.{Row, cells_in, first_in, bounds, first_of_part, frame_row, same_part, size_in, variable}
-use Rattle.hep_frames.proofs.FrameRows.{frame_row-cells, variable-first}
-use Rattle.hep_frames.proofs.Runs.{local-index, not-true}
+use Rattle.hep_frames.specs.Rows.{bounds, first_of_part, frame_row, same_part, size_in, variable}
+use Rattle.hep_frames.proofs.FrameRows.{frame_row-cells, variable-first, first-size}
+use Rattle.hep_frames.proofs.Runs.{local-index}
 use Rattle.hep_values.proofs.Elements.{number-within}
 use Rattle.hep_accepted.specs.Typing.{HasShape}
 use Rattle.hep_accepted.proofs.Meant.{data_known}
@@ -47,66 +44,14 @@ use Rattle.hep_data.specs.Frame.{IsMainFrame}
 use Rattle.hep_data.specs.Given.{cell_of_element, cells_by_array, cells_by_start, cells_by_variable, cells_from, cells_named, cells_of_all_elements, cells_of_array, number_by, value_by_groups}
 use Rattle.hep_data.proofs.Beginning.{IsFound, initial, of_units}
 use Rattle.hep_data.proofs.Owning.{at_index, local_among, named}
-
--- ---- an array of constant shape is not adjustable
-
-and-both : (a b : Bool) → a ≡ true → b ≡ true → (a && b) ≡ true
-and-both a b d e = λ i. d i && e i
-
-some-map : {A B : Type 0} (g : A → B) (o : Option A) (y : B) → option_map g o ≡ Some y → is_some o ≡ true
-some-map g None y e = absurd (none-some y e)
-some-map g (Some x) y e = refl
-
-module _ (unit : List Statement) where
-  lower-constant : (t : Option Tree) (l : ℤ) → lower_value unit (constant_value unit) t ≡ Some l → is_constant_lower unit t ≡ true
-  lower-constant None l e = refl
-  lower-constant (Some t) l e = some-map integer_of (value_of unit (constant_value unit) t) l e
-
-  upper-constant : (b : UpperBound) (u : Option ℤ) → upper_value unit (constant_value unit) b ≡ Some u → is_constant_upper unit b ≡ true
-  upper-constant Open u e = refl
-  upper-constant (Expression t) u e = some-map (λ (v : Value). Some (integer_of v)) (value_of unit (constant_value unit) t) u e
-
-  bounds-constant : (ds : List Dimension) (bs : Bounds) → bounds_of unit (constant_value unit) ds ≡ Some bs → list_all (is_constant_dimension unit) ds ≡ true
-  bounds-constant [] bs e = refl
-  bounds-constant (d ∷ ds) bs e = by_parts (bounds-constant ds) (lower_value unit (constant_value unit) d.lower) (upper_value unit (constant_value unit) d.upper) (bounds_of unit (constant_value unit) ds) refl refl refl e where
-    by_parts : ((cs : Bounds) → bounds_of unit (constant_value unit) ds ≡ Some cs → list_all (is_constant_dimension unit) ds ≡ true) → (l : Option ℤ) (u : Option (Option ℤ)) (r : Option Bounds) → lower_value unit (constant_value unit) d.lower ≡ l → upper_value unit (constant_value unit) d.upper ≡ u → bounds_of unit (constant_value unit) ds ≡ r
-        → bound_before (bound_of l u) r ≡ Some bs → (is_constant_dimension unit d && list_all (is_constant_dimension unit) ds) ≡ true
-    by_parts more None u r f g h e = absurd (none-some bs e)
-    by_parts more (Some l) None r f g h e = absurd (none-some bs e)
-    by_parts more (Some l) (Some u) None f g h e = absurd (none-some bs e)
-    by_parts more (Some l) (Some u) (Some cs) f g h e =
-        and-both (is_constant_dimension unit d) (list_all (is_constant_dimension unit) ds) (
-        and-both (is_constant_lower unit d.lower) (is_constant_upper unit d.upper) (lower-constant d.lower l f) (upper-constant d.upper u g)) (more cs h)
-
-  bounded : (o : Option Bounds) (bs : Bounds) → if_shape o ≡ Some bs → o ≡ Some bs
-  bounded None bs e = absurd (none-some bs e)
-  bounded (Some cs) bs e = by_test (is_shape cs) e where
-    by_test : (b : Bool) → (if b then Some cs else None) ≡ Some bs → Some cs ≡ Some bs
-    by_test true e = e
-    by_test false e = absurd (none-some bs e)
-
-  none_adjustable : (x : Name) (bs : Bounds) → is_array unit x ≡ true → constant_shape unit x ≡ Some bs → adjustable_dimensions unit x ≡ 0
-  none_adjustable x bs array e =
-      let known : if_shape (bounds_of unit (constant_value unit) (dimensions_of unit x)) ≡ Some bs = ap (λ b. if b then if_shape (bounds_of unit (constant_value unit) (dimensions_of unit x)) else Some []) (sym array) ∙ e in
-      ap (λ b. if b then 0 else length (dimensions_of unit x)) (bounds-constant (dimensions_of unit x) bs (bounded (bounds_of unit (constant_value unit) (dimensions_of unit x)) bs known))
+use Rattle.hep_frames.proofs.Storages.{no-block}
 
 -- ---- cells of a frame
-
-in_row : {K : Type 0} (test : K → Bool) (es : Row K) → first_in test es + size_in test es ≤ cells_in es
-in_row test [] = omega arith
-in_row test (e ∷ es) = by_test (test e.0) (in_row test es) where
-  by_test : (b : Bool) → first_in test es + size_in test es ≤ cells_in es → (if b then 0 else e.1 + first_in test es) + (if b then e.1 else size_in test es) ≤ e.1 + cells_in es
-  by_test true h = omega arith
-  by_test false h = omega (arith, h)
 
 in_frame : (unit : List Statement) (x : Name) → is_among x (locals_of unit) ≡ true → first_of_part unit (variable x) + cells_of unit x ≤ frame_cells unit
 in_frame unit x h =
     subst (λ n. first_of_part unit (variable x) + n ≤ frame_cells unit) (variable-first unit x h).sized (
-    subst (λ n. first_of_part unit (variable x) + size_in (same_part (variable x)) (frame_row unit) ≤ n) (frame_row-cells unit) (in_row (same_part (variable x)) (frame_row unit)))
-
-no-block : (o : Option BlockName) → is_some o ≡ false → o ≡ None
-no-block None h = refl
-no-block (Some b) h = absurd (true≢false h)
+    subst (λ n. first_of_part unit (variable x) + size_in (same_part (variable x)) (frame_row unit) ≤ n) (frame_row-cells unit) (first-size (same_part (variable x)) (frame_row unit)))
 
 few : (bs : Bounds) (n m : ℕ) → is_shape bs ≡ true → elements bs ≡ Some m → n ≤ m → is_most (Some n) ≡ true
 few bs n m s e h = below (ap is_most (sym e) ∙ most) where
@@ -207,7 +152,7 @@ module _ (agrees : ConstantsAgree) (are_local : AreLocal) (are_there : AreThere)
 
       extents : extents_of unit x ≡ Constant bs
       extents =
-          ap (λ n. if nat_eq n 0 then Constant (unwrap_or (constant_shape unit x) no_shape) else Adjustable (first_of_part unit (bounds x)) n) (none_adjustable unit x bs array shape)
+          ap (λ n. if nat_eq n 0 then Constant (unwrap_or (constant_shape unit x) no_shape) else Adjustable (first_of_part unit (bounds x)) n) (constant-shape unit x bs array shape).1
           ∙ ap (λ o. Constant (unwrap_or o no_shape)) shape
 
       of_array : cells_named unit table arrays common t ≡ cells_of_array unit common cell bs t

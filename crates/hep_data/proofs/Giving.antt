@@ -11,16 +11,9 @@ use Rattle.hep_image.specs.Data.{value_in_rows}
 use Rattle.hep_data.specs.declared.cells.Cells.{Cells}
 use Rattle.hep_data.specs.Cells.{Gives, GivesSome, Takes, count_of_cells, index_of_cell, is_among_cells, value_of_cell}
 use Rattle.hep_data.proofs.Taking.{item_at-end}
+use Rattle.hep_symbols.proofs.Notes.{or-assoc, or-none}
 
 -- ---- options
-
-pub or-none : {A : Type 0} (o : Option A) → option_or o None ≡ o
-or-none None = refl
-or-none (Some x) = refl
-
-pub or-assoc : {A : Type 0} (o p q : Option A) → option_or (option_or o p) q ≡ option_or o (option_or p q)
-or-assoc None p q = refl
-or-assoc (Some x) p q = refl
 
 pub nothing-and : (n : ℕ) → n ≡ 0 + n
 nothing-and n = omega arith

@@ -8,7 +8,7 @@ use Rattle.hep_source.specs.declared.value.Value.{Value}
 use Rattle.hep_code.specs.declared.variable.Variable.{Variable}
 use Rattle.hep_image.specs.declared.array.Array.{Array}
 use Rattle.hep_data.specs.Given.{value_by_group, value_by_groups}
-use Rattle.hep_data.proofs.Giving.{or-assoc, or-none}
+use Rattle.hep_symbols.proofs.Notes.{or-none, or-assoc}
 
 module _ (unit : List Statement) (table : Name → Option Variable) (arrays : List Array) (common : ℕ) (p : ℕ) where
   by_group : DataGroup → Option Value

@@ -10,33 +10,27 @@ use Rattle.hep_source.specs.declared.name.Name.{Name}
 use Rattle.hep_source.specs.Names.{is_among, same_name}
 use Rattle.hep_source.specs.Units.{Units, main_unit, unit_at}
 use Rattle.hep_machine.specs.Constants.{cells_of}
-use Rattle.hep_machine.specs.Declarations.{BlockName, same_block}
+use Rattle.hep_machine.specs.Declarations.{same_block}
 use Rattle.hep_machine.specs.Layout.{common_cells, opening_layout}
 use Rattle.hep_machine.specs.Locations.{Scope, storage_by_dummy, storage_of}
 use Rattle.hep_machine.specs.Opening.{index_within, opening}
 use Rattle.hep_machine.specs.State.{Location, State, common, local}
 use Rattle.hep_machine.specs.Storage.{distance, further}
 use Rattle.hep_machine.specs.Variables.{frame_cells, locals_of}
-use Rattle.hep_machine.proofs.Locations.{equal_blocks}
+use Rattle.hep_machine.proofs.Locations.{equal_blocks, block-self}
 use Rattle.hep_frames.specs.Addresses.{IsLaid, address}
 use Rattle.hep_frames.specs.Rows.{first_of_part, variable}
 use Rattle.hep_frames.specs.Runs.{RunsFrom}
 use Rattle.hep_frames.proofs.Addresses.{one-location}
 use Rattle.hep_frames.proofs.HeldFrames.{opening-is, placed-opening}
-use Rattle.hep_frames.proofs.Runs.{local-index}
+use Rattle.hep_frames.proofs.Runs.{local-index, further-further}
 use Rattle.hep_frames.proofs.Storages.{storage-local}
 use Rattle.hep_image.specs.Data.{first_frames}
 use Rattle.hep_data.specs.declared.cells.Cells.{Cells}
 use Rattle.hep_data.specs.Cells.{is_among_cells}
+use Rattle.hep_source.proofs.Tests.{number-self}
 
 -- ---- storage units, so many further
-
-block-self : (b : BlockName) → same_block b b ≡ true
-block-self None = refl
-block-self (Some x) = same_name-self x
-
-number-self : (n : ℕ) → nat_eq n n ≡ true
-number-self n = grind (arith, nat_tests)
 
 apart : (n j k : ℕ) → j ≤ k → (nat_le (n + j) (n + k) ≡ true) × ((n + k) - (n + j) ≡ k - j)
 apart n j k h = (grind (arith, nat_tests), omega (arith, h))
@@ -73,14 +67,6 @@ further-distance (common b i) (common c j) k e = by_test (same_block b c && nat_
       let elements = reached i j k h.1 (same_Some (j - i) k e) in
       λ d. common (sym blocks d) (elements d)
   by_test false t e = absurd (none-some k e)
-
-further-further : (l : Location) (j k : ℕ) → further (further l j) k ≡ further l (j + k)
-further-further (local a x i) j k = ap (local a x) (sums i j k) where
-  sums : (i j k : ℕ) → (i + j) + k ≡ i + (j + k)
-  sums i j k = omega arith
-further-further (common b i) j k = ap (common b) (sums i j k) where
-  sums : (i j k : ℕ) → (i + j) + k ≡ i + (j + k)
-  sums i j k = omega arith
 
 -- ---- the opening
 

@@ -1,9 +1,8 @@
 -- Indexes that were found are those of the definitions.
-use Rattle.std.proofs.Common.{◌≡◌, ℕ, zero, suc, ◌+◌, ◌-◌, ◌≤◌, List, [], ◌∷◌, length, refl, ap, ◌∙◌, arith, length-append, true}
-use Rattle.std.proofs.lemmas.Bool.Decides.{nat_tests}
+use Rattle.std.proofs.Common.{◌≡◌, ℕ, zero, suc, ◌+◌, ◌-◌, ◌≤◌, List, [], ◌∷◌, length, refl, ap, ◌∙◌, arith, length-append}
 use Rattle.std.proofs.lemmas.List.{length-map}
 use Rattle.hep_emit.proofs.Flows.{called_at_most}
-use Rattle.std.specs.Prelude.{nat_le, slice_get}
+use Rattle.std.specs.Prelude.{slice_get}
 use Rattle.std.specs.Option.{unwrap_or}
 use Rattle.hep_source.specs.declared.name.Name.{Name}
 use Rattle.hep_source.specs.declared.statement.Form.{Form}
@@ -29,6 +28,7 @@ use Rattle.hep_emit.specs.declared.tables.Tables.{Tables}
 use Rattle.hep_variables.specs.Places.{variable_in, cells_in}
 use Rattle.hep_emit.specs.Starts.{starts_from, end_from}
 use Rattle.hep_emit.specs.Tables.{names_in, greatest, number_called, start_in, index_in, table_in, addressed_in}
+use Rattle.std.proofs.lemmas.Bool.{le-leb}
 
 -- ---- where statements begin
 
@@ -55,12 +55,9 @@ nowhere-is starts begins ends (end_of d) = rw (begins, ends) refl
 
 -- ---- tables
 
-leq-true : (a b : ℕ) → a ≤ b → nat_le a b ≡ true
-leq-true a b h = grind (arith, nat_tests)
-
 number-is : (program : Units) → length program ≤ greatest → (x : Name) → number_called program x ≡ unit_called program x
 unfolding number_called
-number-is program few x = rw (leq-true (unit_called program x) greatest (omega (arith, called_at_most program x, few))) refl
+number-is program few x = rw (le-leb (unit_called program x) greatest (omega (arith, called_at_most program x, few))) refl
 
 names-are : (n : Names) → value_among n.constants.now ≡ constant_value n.symbols.now → (program : Units) → names_in n ≡ names_of (addressed_in n program)
 unfolding names_in

@@ -1,6 +1,6 @@
 -- The block of a new frame is out, and inside the arena.
 use Rattle.std.proofs.Common.{◌≡◌, ℕ, suc, ◌+◌, ◌<◌, ◌≤◌, length, Option, Some, None, refl, sym, ap, ◌∙◌, subst, arith}
-use Rattle.std.specs.Prelude.{if◌then◌else◌, IsSome}
+use Rattle.std.specs.Prelude.{if◌then◌else◌}
 use Rattle.std.proofs.lemmas.Bool.{eq-eqb}
 use Rattle.hep_source.specs.Units.{Units}
 use Rattle.hep_machine.specs.Layout.{Frame, Layout, common_cells, lowest_gap, with_frame}
@@ -13,10 +13,6 @@ use Rattle.hep_frames.specs.Addresses.{IsMemory}
 use Rattle.hep_frames.proofs.Frames.{among, among-out, among-with_frame, apart-with_frame}
 use Rattle.hep_frames.proofs.Memory.{memory-fits}
 use Rattle.hep_proc.specs.Keeping.{IsTaken}
-
-pub fit-first : (o : Option ℕ) → IsSome o → (first : ℕ) × (o ≡ Some first)
-fit-first None h = absurd cc
-fit-first (Some n) h = (n, refl)
 
 module _ (program : Units) (s : State) (layout : Layout) (before after : Space) (cells first : ℕ) (one : 1 ≤ cells) (memory : IsMemory program s layout before.contents before.holes) (fit : first_fit cells before.holes ≡ Some first) (took : IsTaken cells first before after) where
   abbrev frame : Frame

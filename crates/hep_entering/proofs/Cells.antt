@@ -1,8 +1,7 @@
 -- The cells of a new frame are written one after the other.
 use Rattle.std.proofs.Common.{◌≡◌, ℕ, suc, ◌+◌, ◌<◌, ◌≤◌, Bool, true, false, List, Option, Some, None, refl, sym, ap, ◌∙◌, arith}
 use Rattle.std.specs.Prelude.{if◌then◌else◌, nat_eq, nat_lt}
-use Rattle.std.proofs.lemmas.Bool.{eqb-true, eq-eqb}
-use Rattle.std.proofs.lemmas.Bool.Decides.{nat_tests}
+use Rattle.std.proofs.lemmas.Bool.{eqb-true, eq-eqb, ltb-true, lt-ltb, ltb-false}
 use Rattle.std.proofs.lemmas.Option.{same_Some}
 use Rattle.hep_source.specs.declared.statement.Statement.{Statement}
 use Rattle.hep_source.specs.Units.{Units, unit_at}
@@ -29,15 +28,6 @@ pub one-cell : (unit : List Statement) (c d : FramePart × ℕ) (n : ℕ) → pl
 one-cell unit c d n e f =
     same_Some c d (sym (owned-by (same_part c.0) c.0 c.1 (frame_row unit) n (equal_parts c.0) e).0 ∙ (owned-by (same_part d.0) d.0 d.1 (frame_row unit) n (equal_parts d.0) f).0)
 
-pub before-less : (n m : ℕ) → nat_lt n m ≡ true → n < m
-before-less n m t = grind (arith, nat_tests)
-
-pub before-not : (n m : ℕ) → nat_lt n m ≡ false → m ≤ n
-before-not n m t = grind (arith, nat_tests)
-
-pub less-before : (n m : ℕ) → n < m → nat_lt n m ≡ true
-less-before n m t = grind (arith, nat_tests)
-
 module _ (program : Units) (t : State) (on out : ℕ → Bool) (layout : Layout) (wanted : Wanted) (a : ℕ) (nodes : Nodes) where
   abbrev unit : List Statement
   unit = unit_at program (unit_of t a)
@@ -56,8 +46,8 @@ module _ (program : Units) (t : State) (on out : ℕ → Bool) (layout : Layout)
     by_test : (n : ℕ) → place_of_part unit d.0 d.1 ≡ Some n → (p q : Bool) → nat_lt n m ≡ p → nat_lt n more ≡ q → of_frame q d ≡ Some v → of_frame p d ≡ Some v
     by_test n there true true x y w = w
     by_test n there false false x y w = w
-    by_test n there true false x y w = absurd (omega (arith, before-less n m x, before-not n more y, le))
-    by_test n there false true x y w = ap (λ z. Some z) (sym (unset d n v there (before-not n m x) (before-less n more y) w))
+    by_test n there true false x y w = absurd (omega (arith, ltb-true n m x, ltb-false n more y, le))
+    by_test n there false true x y w = ap (λ z. Some z) (sym (unset d n v there (ltb-false n m x) (ltb-true n more y) w))
 
     by_place : (o : Option ℕ) → place_of_part unit d.0 d.1 ≡ o → of_frame (is_before more o) d ≡ Some v → of_frame (is_before m o) d ≡ Some v
     by_place None there w = w
@@ -83,16 +73,16 @@ module _ (program : Units) (t : State) (on out : ℕ → Bool) (layout : Layout)
         now : up_to (suc m) a c ≡ Some slot
         now =
             ap (λ b. if b then of_frame (is_before (suc m) (place_of_part unit c.0 c.1)) c else wanted a c) (eq-eqb a a refl)
-            ∙ (ap (λ o. of_frame (is_before (suc m) o) c) there ∙ (ap (λ b. of_frame b c) (less-before m (suc m) (omega arith)) ∙ wants))
+            ∙ (ap (λ o. of_frame (is_before (suc m) o) c) there ∙ (ap (λ b. of_frame b c) (lt-ltb m (suc m) (omega arith)) ∙ wants))
 
         others : (b : ℕ) (d : FramePart × ℕ) (v : Slot) → ((a ≡ b) × (c ≡ d) → ⊥) → up_to (suc m) b d ≡ Some v → up_to m b d ≡ Some v
         others b d v apart = by_number (nat_eq b a) refl where
           by_test : (n : ℕ) → place_of_part unit d.0 d.1 ≡ Some n → (c ≡ d → ⊥) → (p q : Bool) → nat_lt n m ≡ p → nat_lt n (suc m) ≡ q → of_frame q d ≡ Some v → of_frame p d ≡ Some v
           by_test n at other true true x y w = w
           by_test n at other false false x y w = w
-          by_test n at other true false x y w = absurd (omega (arith, before-less n m x, before-not n (suc m) y))
+          by_test n at other true false x y w = absurd (omega (arith, ltb-true n m x, ltb-false n (suc m) y))
           by_test n at other false true x y w =
-              let same : m ≡ n = omega (arith, before-not n m x, before-less n (suc m) y) in
+              let same : m ≡ n = omega (arith, ltb-false n m x, ltb-true n (suc m) y) in
               absurd (other (one-cell unit c d m there (at ∙ ap (λ z. Some z) (sym same))))
 
           by_place : (c ≡ d → ⊥) → (o : Option ℕ) → place_of_part unit d.0 d.1 ≡ o → of_frame (is_before (suc m) o) d ≡ Some v → of_frame (is_before m o) d ≡ Some v

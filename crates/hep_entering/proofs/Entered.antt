@@ -1,7 +1,7 @@
 -- Once the cells of a new frame are written, the frames of the state with its activation are kept.
 use Rattle.std.proofs.Common.{◌≡◌, ◌⊎◌, inl, inr, ℕ, suc, ◌<◌, ◌≤◌, Bool, true, false, List, [], ◌∷◌, ◌++◌, length, Option, Some, None, refl, sym, ap, ◌∙◌, subst, arith}
 use Rattle.std.specs.Prelude.{if◌then◌else◌, nat_eq}
-use Rattle.std.proofs.lemmas.Bool.{eqb-true, eq-eqb}
+use Rattle.std.proofs.lemmas.Bool.{eqb-true, eq-eqb, lt-ltb}
 use Rattle.std.proofs.lemmas.List.{length-append}
 use Rattle.std.proofs.lemmas.Option.{none-some}
 use Rattle.hep_source.specs.declared.statement.Statement.{Statement}
@@ -28,7 +28,6 @@ use Rattle.hep_frames.proofs.Wants.{wanted-entered}
 use Rattle.hep_proc.specs.Keeping.{Keeps}
 use Rattle.hep_entering.specs.Calling.{layout_with}
 use Rattle.hep_entering.specs.Writing.{is_before, wanted_up_to}
-use Rattle.hep_entering.proofs.Cells.{less-before}
 use Rattle.hep_entering.proofs.Others.{WereLoops}
 
 module _ (program : Units) (s t : State) (x : Activation) (layout : Layout) (first cells : ℕ) (laid : IsLaid program s cells layout) (more : t.activations ≡ s.activations ++ x ∷ [])
@@ -68,7 +67,7 @@ module _ (program : Units) (s t : State) (x : Activation) (layout : Layout) (fir
 
     by_place : (o : Option ℕ) → place_of_part unit c.0 c.1 ≡ o → cell_in (frame_among n after) o ≡ Some p → is_before (frame_cells unit) o ≡ true
     by_place None e k = absurd (no-cell (frame_among n after) k)
-    by_place (Some m) e k = less-before m (frame_cells unit) (subst (λ z. m < z) (frame_row-cells unit) (owned-by (same_part c.0) c.0 c.1 (frame_row unit) m (equal_parts c.0) e).1)
+    by_place (Some m) e k = lt-ltb m (frame_cells unit) (subst (λ z. m < z) (frame_row-cells unit) (owned-by (same_part c.0) c.0 c.1 (frame_row unit) m (equal_parts c.0) e).1)
 
   module _ (on out : ℕ → Bool) (arena : Space) (nodes : Nodes) (h : Keeps program t on out after (wanted_up_to program t after n (frame_cells (unit_at program (unit_of t n))) (wanted_of program s layout)) arena nodes)
       (stacks : (a : ℕ) → is_stacked t a ≡ on a) where

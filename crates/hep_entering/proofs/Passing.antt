@@ -13,20 +13,16 @@ use Rattle.hep_machine.specs.Evaluation.{Actual, evaluated, referred}
 use Rattle.hep_machine.specs.Layout.{Layout}
 use Rattle.hep_machine.specs.Locations.{Scope, storage_of}
 use Rattle.hep_machine.specs.Shapes.{Bounds, fits}
-use Rattle.hep_machine.specs.State.{Dummy, Location, State, Store, local, common}
+use Rattle.hep_machine.specs.State.{Dummy, State, Store, local}
 use Rattle.hep_machine.specs.Storage.{further, with_value}
-use Rattle.hep_machine.specs.Views.{is_owned}
-use Rattle.hep_frames.specs.References.{IsMadeAt}
 use Rattle.hep_frames.specs.Runs.{RunsFrom}
-use Rattle.hep_frames.proofs.Frames.{other-number}
 use Rattle.hep_frames.proofs.Passed.{IsMadeScope, made-further, made-storage}
 use Rattle.hep_passing.specs.declared.given.Given.{Given}
 use Rattle.hep_passing.specs.declared.given.Given.TheVariants as given
 use Rattle.hep_entering.specs.Calling.{ArePassed, IsPassed}
 use Rattle.hep_entering.specs.Giving.{AreGiven, IsGiven, with_given}
-
-same-ok : {A E : Type 0} (x y : A) → ◌≡◌ {A = Result A E} (Ok x) (Ok y) → x ≡ y
-same-ok x y e = cc
+use Rattle.hep_frames.proofs.Storages.{same-ok}
+use Rattle.hep_finding.proofs.Binds.{not-owned}
 
 -- ---- what is stored
 
@@ -54,10 +50,6 @@ bound-store scope store unit a ys b = by_dummies (dummies_for scope a (dummies_o
       by_shapes new (with_shapes (record { unit = unit; number = a; dummies = ds }) new (dummies_of unit) ds) e
 
 -- ---- what dummy arguments stand for
-
-not-owned : (n a : ℕ) (at : Location) → n < a → IsMadeAt n at → is_owned a at ≡ false
-not-owned n a (local b x i) less made = other-number a b (λ same. omega (arith, same, made, less))
-not-owned n a (common b i) less made = refl
 
 module _ (program : Units) (s : State) (layout : Layout) (scope : Scope) (n a : ℕ) (made : IsMadeScope n scope) (less : n < a) where
   abbrev IfGiven : List Name → List Given → Result (List Dummy) Kind → Type 0

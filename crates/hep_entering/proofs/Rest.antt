@@ -26,6 +26,7 @@ use Rattle.hep_entering.specs.Writing.{wanted_up_to}
 use Rattle.hep_entering.proofs.Calls.{after, entry, entry-number}
 use Rattle.hep_entering.proofs.Cells.{keeps-skipped}
 use Rattle.hep_entering.proofs.Places.{argument-place, bounds-place, cells-ordered}
+use Rattle.hep_machine.proofs.Others.{last-numbered}
 
 module _ (program : Units) (t : State) (a : ℕ) (layout : Layout) (level : Level) (found : level_of t a ≡ Some level) (none : level.loops ≡ []) where
   unset : (d : FramePart × ℕ) (n : ℕ) (v : Slot) → place_of_part (unit_at program (unit_of t a)) d.0 d.1 ≡ Some n → cells_to_locals (unit_at program (unit_of t a)) ≤ n → n < cells_to_bounds (unit_at program (unit_of t a)) → wanted_of program t layout a d ≡ Some v → v ≡ unset_cell
@@ -57,10 +58,6 @@ set-numbered xs (suc i) x y e = let same : suc i - 1 ≡ i = omega arith in rw s
   at [] i e = absurd (none-some _ e)
   at (z ∷ zs) zero e = refl
   at (z ∷ zs) (suc i) e = at zs i e
-
-last-numbered : {A : Type 0} (xs : List A) (y : A) → numbered (xs ++ y ∷ []) (suc (length xs)) ≡ Some y
-last-numbered [] y = refl
-last-numbered (x ∷ xs) y = last-numbered xs y
 
 module _ (program : Units) (choices : List ℕ) (p : ℕ) (top : Level × Process) (u : ℕ) (b : Binding) (lives : living (run program choices) p ≡ Some top) where
   -- it is found where its process has it on top

@@ -24,7 +24,9 @@ use Rattle.hep_expression.specs.Expression.{level, left, right, spelling, sign_s
 use Rattle.hep_expression.specs.Reading.{Reader, ◌>>=◌, begins, after, letters_at, name_at, occurrence_at, plain_occurrence_at, integer, integer_at, logical_at}
 use Rattle.hep_expression.specs.ReadingExpression as reading
 use Rattle.hep_expression.specs.ReadingExpression.{operator_at, sign_at, power_at, not_at, comparing, operators, chain, in_parentheses, arguments, primary, power_of, term, first_term, sum, relation, negation, conjunction, disjunction, next_operand, first_operand, at_level, expression, power, expression_at, whole_expression}
-use Rattle.hep_expression.proofs.Leaves.{and_parts, or_parts, le_of, le_test, front_row, fits, all_fit}
+use Rattle.hep_expression.proofs.Leaves.{front_row, fits, all_fit}
+use Rattle.hep_source.proofs.Tests.{number-self}
+use Rattle.std.proofs.lemmas.Bool.{or_parts, and_parts, leb-true, le-leb}
 
 -- ---- which characters a word begins with
 
@@ -32,10 +34,10 @@ pub above : (c d : ℕ) → d < c → nat_eq c d ≡ false
 above c d h = grind (arith, nat_tests)
 
 pub digit_from : (c : ℕ) → is_digit c ≡ true → 48 ≤ c
-digit_from c h = le_of 48 c (and_parts (nat_le 48 c) (nat_le c 57) h).0
+digit_from c h = leb-true 48 c (and_parts (nat_le 48 c) (nat_le c 57) h).0
 
 pub letter_from : (c : ℕ) → is_letter c ≡ true → 65 ≤ c
-letter_from c h = le_of 65 c (and_parts (nat_le 65 c) (nat_le c 90) h).0
+letter_from c h = leb-true 65 c (and_parts (nat_le 65 c) (nat_le c 90) h).0
 
 pub letter_is_no_digit : (c : ℕ) → is_letter c ≡ true → is_digit c ≡ false
 letter_is_no_digit c h = let from : 65 ≤ c = letter_from c h in let over : nat_le c 57 ≡ false = grind (arith, nat_tests) in go (nat_le 48 c) over
@@ -132,7 +134,7 @@ pub letters_read : (a : Bool) (w r : List ℕ) → IsName w → begins is_letter
 letters_read a [] r h q = absurd h
 letters_read a (c ∷ w) r h q =
     let row = front_row is_letter_or_digit w r h.1 q in
-    let short : nat_le (length (c ∷ w)) 6 ≡ true = le_test (length (c ∷ w)) 6 (omega (arith, h.2)) in
+    let short : nat_le (length (c ∷ w)) 6 ≡ true = le-leb (length (c ∷ w)) 6 (omega (arith, h.2)) in
     rw (h.0, row.0, row.1, short) refl
 
 name_read : (a : Bool) (w r : List ℕ) → IsName w → begins is_letter_or_digit r ≡ false → name_at (name_sign a ++ (w ++ r)) ≡ Some (named a w, r)
@@ -169,7 +171,7 @@ plain_place_read k p s r g q =
     rw (found, at, ← is_named) refl
 
 integer_read : (z : Sizes) (d : List ℕ) (v : ℤ) → IsInteger z d v → integer z (number_of_digits d) ≡ Some v
-integer_read Fitting d v h = rw (le_test (number_of_digits d) greatest h.0, h.1) refl
+integer_read Fitting d v h = rw (le-leb (number_of_digits d) greatest h.0, h.1) refl
 integer_read Any d v h = rw h refl
 
 pub digits_read : (k : Context) (d r : List ℕ) (v : ℤ) → IsDigits d → IsInteger k.sizes d v → begins is_letter_or_digit r ≡ false → integer_at k (d ++ r) ≡ Some (v, r)
@@ -248,9 +250,6 @@ spine_le l (binary o a b) = go (nat_eq (level o) l) (spine_le l a)
     go false h = omega arith
 spine_le l _ = omega arith
 
-same_number : (l : ℕ) → nat_eq l l ≡ true
-same_number l = grind (arith, nat_tests)
-
 abbrev links : Precedence → Reader Tree → ℕ → Reader Tree
 links v p turns s = first_operand v p s >>= λ x. chain (operators v) (next_operand v p) turns x.0 x.1
 
@@ -280,7 +279,7 @@ module _ (k : Context) (v : Precedence) where
   chained_binary o a b is_level is_left is_operator follows pa pb n le turns s r h f =
       let m = h.1 in
       let first : Reads k a (number v) s (spelling o ++ m) = subst (λ (l : ℕ). Reads k a l s (spelling o ++ m)) is_left h.2 in
-      let spine_is : spine (number v) (binary o a b) ≡ suc (spine (number v) a) = rw (is_level, same_number (number v)) refl in
+      let spine_is : spine (number v) (binary o a b) ≡ suc (spine (number v) a) = rw (is_level, number-self (number v)) refl in
       let more : turns + spine (number v) (binary o a b) ≡ suc turns + spine (number v) a = omega (arith, spine_is) in
       ap (λ (i : ℕ). links v (power k n) i s) more ∙ pa n (omega arith) (suc turns) s (spelling o ++ m) first (follows m r h.3) ∙ rw (is_operator m, pb n m r (omega arith) h.3 f) refl
 

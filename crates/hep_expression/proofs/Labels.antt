@@ -10,8 +10,10 @@ use Rattle.hep_expression.specs.declared.characters.Sizes.TheVariants.{Any}
 use Rattle.hep_expression.specs.declared.characters.Context.{Context}
 use Rattle.hep_expression.specs.Characters.{is_digit, number_of_digits, number_after, greatest}
 use Rattle.hep_expression.specs.Reading.{begins, front, rest_after, integer_at}
-use Rattle.hep_expression.proofs.Leaves.{and_parts, some_is, none_is, chosen, le_of, le_test, front_splits}
+use Rattle.hep_expression.proofs.Leaves.{chosen, front_splits}
 use Rattle.hep_expression.specs.ReadingLabel.{few_digits_at}
+use Rattle.std.proofs.lemmas.Option.{same_Some, none-some}
+use Rattle.std.proofs.lemmas.Bool.{and_parts, leb-true, le-leb}
 
 above : (b a : ℕ) → b < a → nat_le a b ≡ false
 above b a lt = grind (arith, nat_tests)
@@ -31,7 +33,7 @@ few_are_small n v b [] le few h = omega (arith, nines_grow b n)
 few_are_small zero v b (c ∷ d) le few h = absurd (omega (arith, few))
 few_are_small (suc n) v b (c ∷ d) le few h =
     let parts = and_parts (is_digit c) (list_all is_digit d) h in
-    let upper : c ≤ 57 = le_of c 57 (and_parts (nat_le 48 c) (nat_le c 57) parts.0).1 in
+    let upper : c ≤ 57 = leb-true c 57 (and_parts (nat_le 48 c) (nat_le c 57) parts.0).1 in
     few_are_small n (v * 10 + (c - 48)) (b * 10 + 9) d (omega arith) (omega (arith, few)) parts.1
 
 -- ---- what is read
@@ -47,9 +49,9 @@ module _ (s : List ℕ) (v : ℤ) (r : List ℕ) (e : integer_at (any_size s) s 
   read_is : (begins is_digit s ≡ true) × (v ≡ pos (min (number_of_digits row) greatest)) × (rest_after is_digit s ≡ r)
   read_is = elim (chosen (begins is_digit s) (Some (pos (min (number_of_digits row) greatest), rest_after is_digit s)) None (Some (v, r)) e) [
     | inl h ↦ (
-        let same = some_is (pos (min (number_of_digits row) greatest), rest_after is_digit s) (v, r) h.1 in
+        let same = same_Some (pos (min (number_of_digits row) greatest), rest_after is_digit s) (v, r) h.1 in
         (h.0, sym (ap (λ (x : ℤ × List ℕ). x.0) same), ap (λ (x : ℤ × List ℕ). x.1) same))
-    | inr h ↦ absurd (none_is (v, r) h.1)
+    | inr h ↦ absurd (none-some (v, r) h.1)
   ]
 
   row_is : length s ≡ length row + length r
@@ -70,7 +72,7 @@ module _ (s : List ℕ) (v : ℤ) (r : List ℕ) (e : integer_at (any_size s) s 
       let few : length row ≤ 5 = omega (arith, row_is) in
       let bound : number_of_digits row ≤ 99999 = few_are_small 5 0 0 row (omega arith) few (front_splits is_digit s).0 in
       let same : min (number_of_digits row) greatest ≡ number_of_digits row = omega arith in
-      (number_of_digits row, read_is.1 ∙ ap pos same, bound, rw (read_is.0, le_test (length row) 5 few, read_is.2) refl)
+      (number_of_digits row, read_is.1 ∙ ap pos same, bound, rw (read_is.0, le-leb (length row) 5 few, read_is.2) refl)
 
 -- ---- the number as a label
 

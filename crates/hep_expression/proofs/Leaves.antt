@@ -1,9 +1,8 @@
 -- Names, constants and words: what a text that was read is, and how long it is.
 use Rattle.std.proofs.Common.{◌≡◌, ◌⊎◌, inl, inr, ℕ, ◌+◌, ◌-◌, ◌≤◌, Bool, true, false, cond, List, [], ◌∷◌, ◌++◌, length, Option, Some, None, refl, sym, ap, subst, ◌∙◌, arith, length-append}
-use Rattle.std.specs.Prelude.{IsTrue, nat_eq, nat_le, ◌&&◌, ◌||◌, ℤ, pos, min}
+use Rattle.std.specs.Prelude.{IsTrue, nat_eq, nat_le, ◌&&◌, ℤ, pos, min}
 use Rattle.std.specs.List.{list_all}
-use Rattle.std.proofs.lemmas.Bool.{eqb-true}
-use Rattle.std.proofs.lemmas.Bool.Decides.{nat_tests}
+use Rattle.std.proofs.lemmas.Bool.{eqb-true, and_parts, leb-true}
 use Rattle.hep_source.specs.Tree.{Tree, Trees, constant, occurrence, with_list, parenthesized, signed, negated, binary, no_trees, trees, nodes, nodes_of_all}
 use Rattle.hep_source.specs.declared.value.Value.TheVariants.{Int, Truth}
 use Rattle.hep_source.specs.declared.name.Name.{Name}
@@ -21,6 +20,7 @@ use Rattle.hep_expression.specs.declared.characters.Context.{Context}
 use Rattle.hep_expression.specs.Characters.{is_digit, is_letter, is_letter_or_digit, IsName, name_sign, named, ReadsOccurrence, ReadsPlainOccurrence, IsDigits, number_of_digits, greatest, IsInteger, logical_spelling}
 use Rattle.hep_expression.specs.Expression.{left, right, spelling, sign_spelling, term, Reads, ReadsAll}
 use Rattle.hep_expression.specs.Reading.{◌>>=◌, if_some, begins, front, rest_after, after, after_text, one_of, letters_at, name_at, with_position, occurrence_at, plain_occurrence_at, integer, integer_at, logical_at}
+use Rattle.std.proofs.lemmas.Option.{none-some, same_Some}
 
 -- ---- options and Booleans
 
@@ -33,43 +33,21 @@ module _ {A B : Type 0} where
   either_some None f other y e = inr (refl, e)
   either_some (Some x) f other y e = inl (x, refl, e)
 
-pub some_is : {A : Type 0} (x y : A) → Some x ≡ Some y → x ≡ y
-some_is x y e = cc
-
-pub none_is : {A : Type 0} (x : A) → None ≡ Some x → ⊥
-none_is x e = cc
-
 pub chosen : {A : Type 0} (b : Bool) (x y z : A) → cond b x y ≡ z → ((b ≡ true) × (x ≡ z)) ⊎ ((b ≡ false) × (y ≡ z))
 chosen true x y z e = inl (refl, e)
 chosen false x y z e = inr (refl, e)
-
-pub and_parts : (a b : Bool) → (a && b) ≡ true → (a ≡ true) × (b ≡ true)
-and_parts true true e = (refl, refl)
-and_parts true false e = absurd cc
-and_parts false b e = absurd cc
-
-pub or_parts : (a b : Bool) → (a || b) ≡ false → (a ≡ false) × (b ≡ false)
-or_parts false false e = (refl, refl)
-or_parts false true e = absurd cc
-or_parts true b e = absurd cc
-
-pub le_of : (a b : ℕ) → nat_le a b ≡ true → a ≤ b
-le_of a b e = grind (arith, nat_tests)
-
-pub le_test : (a b : ℕ) → a ≤ b → nat_le a b ≡ true
-le_test a b e = grind (arith, nat_tests)
 
 -- ---- words
 
 pub after_is : (c : ℕ) (s m : List ℕ) → after c s ≡ Some m → s ≡ c ∷ m
 after_is c [] m e = absurd cc
 after_is c (d ∷ s) m e = elim (chosen (nat_eq d c) (Some s) None (Some m) e) [
-  | inl h ↦ (let k = eqb-true d c h.0 in let j : s ≡ m = some_is s m h.1 in cc)
-  | inr h ↦ absurd (none_is m h.1)
+  | inl h ↦ (let k = eqb-true d c h.0 in let j : s ≡ m = same_Some s m h.1 in cc)
+  | inr h ↦ absurd (none-some m h.1)
 ]
 
 pub text_is : (w s m : List ℕ) → after_text w s ≡ Some m → s ≡ w ++ m
-text_is [] s m e = some_is s m e
+text_is [] s m e = same_Some s m e
 text_is (c ∷ w) s m e =
     let b = bind_some (after c s) (after_text w) m e in
     after_is c s b.0 b.1 ∙ ap (λ (l : List ℕ). c ∷ l) (text_is w b.0 m b.2)
@@ -79,9 +57,9 @@ AllOf P [] = Unit {0}
 AllOf P (a ∷ more) = P a × AllOf P more
 
 pub one_is : {A : Type 0} (spell : A → List ℕ) (P : A → Type 0) (among : List A) → AllOf P among → (s : List ℕ) (x : A × List ℕ) → one_of spell among s ≡ Some x → (s ≡ spell x.0 ++ x.1) × P x.0
-one_is spell P [] have s x e = absurd (none_is x e)
+one_is spell P [] have s x e = absurd (none-some x e)
 one_is spell P (a ∷ more) have s x e = elim (either_some (after_text (spell a) s) (λ r. Some (a, r)) (one_of spell more s) x e) [
-  | inl h ↦ subst (λ y. (s ≡ spell y.0 ++ y.1) × P y.0) (some_is (a, h.0) x h.2) (text_is (spell a) s h.0 h.1, have.0)
+  | inl h ↦ subst (λ y. (s ≡ spell y.0 ++ y.1) × P y.0) (same_Some (a, h.0) x h.2) (text_is (spell a) s h.0 h.1, have.0)
   | inr h ↦ one_is spell P more have.1 s x h.1
 ]
 
@@ -131,10 +109,10 @@ letters_are : (a : Bool) (s : List ℕ) (x : Name × List ℕ) → letters_at a 
 letters_are a s x e = elim (chosen (begins is_letter s && nat_le (length (front is_letter_or_digit s)) 6) (Some (named a (front is_letter_or_digit s), rest_after is_letter_or_digit s)) None (Some x) e) [
   | inl h ↦ (
       let b = and_parts (begins is_letter s) (nat_le (length (front is_letter_or_digit s)) 6) h.0 in
-      let found = name_is s b.0 (le_of (length (front is_letter_or_digit s)) 6 b.1) in
-      subst (λ (y : Name × List ℕ). (w : List ℕ) × IsName w × (s ≡ w ++ y.1) × (y.0 ≡ named a w)) (some_is (named a (front is_letter_or_digit s), rest_after is_letter_or_digit s) x h.1)
+      let found = name_is s b.0 (leb-true (length (front is_letter_or_digit s)) 6 b.1) in
+      subst (λ (y : Name × List ℕ). (w : List ℕ) × IsName w × (s ≡ w ++ y.1) × (y.0 ≡ named a w)) (same_Some (named a (front is_letter_or_digit s), rest_after is_letter_or_digit s) x h.1)
       (front is_letter_or_digit s, found, (front_splits is_letter_or_digit s).1, refl))
-  | inr h ↦ absurd (none_is x h.1)
+  | inr h ↦ absurd (none-some x h.1)
 ]
 
 -- The text s begins with this name, whatever its sign, and goes on with r.
@@ -156,7 +134,7 @@ is_name s x e = elim (either_some (after 36 s) (letters_at true) (letters_at fal
 positioned : (k : Context) (s : List ℕ) (o : Option (Name × List ℕ)) (x : Occurrence × List ℕ) → length s ≤ k.length → with_position k s o ≡ Some x → (y : Name × List ℕ) × (o ≡ Some y) × (y.0 ≡ x.0.name) × (y.1 ≡ x.1) × (x.0.position + length s ≡ k.length)
 positioned k s o x le e =
     let b = bind_some o (λ y. Some (record { name = y.0; position = k.length - length s }, y.1)) x e in
-    let is_x = some_is (record { name = b.0.0; position = k.length - length s }, b.0.1) x b.2 in
+    let is_x = same_Some (record { name = b.0.0; position = k.length - length s }, b.0.1) x b.2 in
     let at : (k.length - length s) + length s ≡ k.length = omega arith in
     (b.0, b.1, ap (λ (y : Occurrence × List ℕ). y.0.name) is_x, ap (λ (y : Occurrence × List ℕ). y.1) is_x, subst (λ (y : Occurrence × List ℕ). y.0.position + length s ≡ k.length) is_x at)
 
@@ -177,18 +155,18 @@ is_plain_place k s x le e =
 
 is_integer : (z : Sizes) (d : List ℕ) (v : ℤ) → integer z (number_of_digits d) ≡ Some v → IsInteger z d v
 is_integer Fitting d v e = elim (chosen (nat_le (number_of_digits d) greatest) (Some (pos (number_of_digits d))) None (Some v) e) [
-  | inl h ↦ (le_of (number_of_digits d) greatest h.0, sym (some_is (pos (number_of_digits d)) v h.1))
-  | inr h ↦ absurd (none_is v h.1)
+  | inl h ↦ (leb-true (number_of_digits d) greatest h.0, sym (same_Some (pos (number_of_digits d)) v h.1))
+  | inr h ↦ absurd (none-some v h.1)
 ]
-is_integer Any d v e = sym (some_is (pos (min (number_of_digits d) greatest)) v e)
+is_integer Any d v e = sym (same_Some (pos (min (number_of_digits d) greatest)) v e)
 
 pub is_constant : (k : Context) (s : List ℕ) (x : ℤ × List ℕ) → integer_at k s ≡ Some x → (d : List ℕ) × IsDigits d × (s ≡ d ++ x.1) × IsInteger k.sizes d x.0
 is_constant k s x e = elim (chosen (begins is_digit s) (integer k.sizes (number_of_digits (front is_digit s)) >>= λ v. Some (v, rest_after is_digit s)) None (Some x) e) [
   | inl h ↦ (
       let b = bind_some (integer k.sizes (number_of_digits (front is_digit s))) (λ v. Some (v, rest_after is_digit s)) x h.1 in
-      subst (λ (y : ℤ × List ℕ). (d : List ℕ) × IsDigits d × (s ≡ d ++ y.1) × IsInteger k.sizes d y.0) (some_is (b.0, rest_after is_digit s) x b.2)
+      subst (λ (y : ℤ × List ℕ). (d : List ℕ) × IsDigits d × (s ≡ d ++ y.1) × IsInteger k.sizes d y.0) (same_Some (b.0, rest_after is_digit s) x b.2)
       (front is_digit s, digits_are s h.0, (front_splits is_digit s).1, is_integer k.sizes (front is_digit s) b.0 b.1))
-  | inr h ↦ absurd (none_is x h.1)
+  | inr h ↦ absurd (none-some x h.1)
 ]
 
 pub is_logical : (s : List ℕ) (x : Bool × List ℕ) → logical_at s ≡ Some x → s ≡ logical_spelling x.0 ++ x.1

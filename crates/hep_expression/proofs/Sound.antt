@@ -16,7 +16,8 @@ use Rattle.hep_expression.specs.Expression as levels
 use Rattle.hep_expression.specs.Expression.{level, left, right, spelling, sign_spelling, Reads, ReadsAll, IsExpression}
 use Rattle.hep_expression.specs.Reading.{Reader, ◌>>=◌, if_some, all_read, after, occurrence_at, integer_at, logical_at}
 use Rattle.hep_expression.specs.ReadingExpression.{operator_at, sign_at, power_at, not_at, comparing, operators, chain, left_to_right, in_parentheses, arguments, named, primary, power_of, term, first_term, sum, relation, negation, conjunction, disjunction, expression, power, expression_at, whole_expression}
-use Rattle.hep_expression.proofs.Leaves.{bind_some, either_some, some_is, none_is, after_is, text_is, AllOf, one_is, shorter, is_place, is_constant, is_logical, place_fits, fits}
+use Rattle.hep_expression.proofs.Leaves.{bind_some, either_some, after_is, text_is, AllOf, one_is, shorter, is_place, is_constant, is_logical, place_fits, fits}
+use Rattle.std.proofs.lemmas.Option.{same_Some, none-some}
 
 -- what is read at a level is read at each looser one
 pub looser : (k : Context) (t : Tree) (l m : ℕ) (s r : List ℕ) → l ≤ m → Reads k t m s r → Reads k t l s r
@@ -42,7 +43,7 @@ GoRight l o = (level o ≡ l) × (left o ≡ l) × (right o ≡ suc l)
 
 chain_sound : (k : Context) (l : ℕ) (among : List Operator) → AllOf (GoRight l) among → (next : Reader Tree) → Sound k (suc l) next → (n : ℕ) (t u : Tree) (s m r : List ℕ) → length s ≤ k.length → Reads k t l s m → chain among next n t m ≡ Some (u, r) → Reads k u l s r
 unfolding chain
-chain_sound k l among ops next p zero t u s m r fit h e = subst (λ (x : Tree × List ℕ). Reads k x.0 l s x.1) (some_is (t, m) (u, r) e) h
+chain_sound k l among ops next p zero t u s m r fit h e = subst (λ (x : Tree × List ℕ). Reads k x.0 l s x.1) (same_Some (t, m) (u, r) e) h
 chain_sound k l among ops next p (suc n) t u s m r fit h e =
     elim (either_some (operator_at among m) (λ o. next o.1 >>= λ y. chain among next n (binary o.0 t y.0) y.1) (Some (t, m)) (u, r) e) [
       | inl g ↦ (
@@ -53,7 +54,7 @@ chain_sound k l among ops next p (suc n) t u s m r fit h e =
           let one : Reads k t (left o.0) s (spelling o.0 ++ o.1) = rw (w.1.1, ← w.0) h in
           let two : Reads k b.0.0 (right o.0) o.1 b.0.1 = rw w.1.2 (p o.1 b.0.1 b.0.0 fit' b.1) in
           chain_sound k l among ops next p n (binary o.0 t b.0.0) u s b.0.1 r fit (omega (arith, w.1.0), o.1, one, two) b.2)
-      | inr g ↦ subst (λ (x : Tree × List ℕ). Reads k x.0 l s x.1) (some_is (t, m) (u, r) g.1) h
+      | inr g ↦ subst (λ (x : Tree × List ℕ). Reads k x.0 l s x.1) (same_Some (t, m) (u, r) g.1) h
     ]
 
 left_to_right_sound : (k : Context) (l : ℕ) (among : List Operator) → AllOf (GoRight l) among → (first next : Reader Tree) → Sound k l first → Sound k (suc l) next → Sound k l (left_to_right among first next)
@@ -67,7 +68,7 @@ parentheses_sound k inner p s r t fit e =
     let b = bind_some (inner s) (λ x. after 41 x.1 >>= λ r. Some (parenthesized x.0, r)) (t, r) e in
     let c = bind_some (after 41 b.0.1) (λ r. Some (parenthesized b.0.0, r)) (t, r) b.2 in
     let one : Reads k b.0.0 levels.equivalence s (41 ∷ c.0) = subst (λ (m : List ℕ). Reads k b.0.0 levels.equivalence s m) (after_is 41 b.0.1 c.0 c.1) (p s b.0.1 b.0.0 fit b.1) in
-    subst (λ (x : Tree × List ℕ). Reads k x.0 levels.primary (40 ∷ s) x.1) (some_is (parenthesized b.0.0, c.0) (t, r) c.2) (s, refl, one)
+    subst (λ (x : Tree × List ℕ). Reads k x.0 levels.primary (40 ∷ s) x.1) (same_Some (parenthesized b.0.0, c.0) (t, r) c.2) (s, refl, one)
 
 -- an expression before those that were read
 abbrev with_first : Tree → Option (Trees × List ℕ) → Option (Trees × List ℕ)
@@ -76,7 +77,7 @@ with_first t read = read >>= λ x. Some (trees t x.0, x.1)
 more_sound : (k : Context) (inner : Reader Tree) (n : ℕ) (t : Tree) (s m r : List ℕ) (ts : Trees) → Reads k t levels.equivalence s (44 ∷ m) → ((q : List ℕ) (us : Trees) → arguments inner n m ≡ Some (us, q) → ReadsAll k us m q) → with_first t (arguments inner n m) ≡ Some (ts, r) → ReadsAll k ts s r
 more_sound k inner n t s m r ts h p e =
     let b = bind_some (arguments inner n m) (λ y. Some (trees t y.0, y.1)) (ts, r) e in
-    subst (λ (x : Trees × List ℕ). ReadsAll k x.0 s x.1) (some_is (trees t b.0.0, b.0.1) (ts, r) b.2) (both b.0.0 b.0.1 (p b.0.1 b.0.0 b.1))
+    subst (λ (x : Trees × List ℕ). ReadsAll k x.0 s x.1) (same_Some (trees t b.0.0, b.0.1) (ts, r) b.2) (both b.0.0 b.0.1 (p b.0.1 b.0.0 b.1))
   where
     both : (us : Trees) (q : List ℕ) → ReadsAll k us m q → ReadsAll k (trees t us) s q
     both no_trees q i = absurd i
@@ -84,12 +85,12 @@ more_sound k inner n t s m r ts h p e =
 
 arguments_sound : (k : Context) (inner : Reader Tree) → Sound k levels.equivalence inner → (n : ℕ) (s r : List ℕ) (ts : Trees) → length s ≤ k.length → arguments inner n s ≡ Some (ts, r) → ReadsAll k ts s r
 unfolding arguments
-arguments_sound k inner p zero s r ts fit e = absurd (none_is (ts, r) e)
+arguments_sound k inner p zero s r ts fit e = absurd (none-some (ts, r) e)
 arguments_sound k inner p (suc n) s r ts fit e =
     let b = bind_some (inner s) (λ x. if_some (after 41 x.1) (λ r. Some (trees x.0 no_trees, r)) (after 44 x.1 >>= λ m. arguments inner n m >>= λ y. Some (trees x.0 y.0, y.1))) (ts, r) e in
     let one = p s b.0.1 b.0.0 fit b.1 in
     elim (either_some (after 41 b.0.1) (λ r. Some (trees b.0.0 no_trees, r)) (after 44 b.0.1 >>= λ m. arguments inner n m >>= λ y. Some (trees b.0.0 y.0, y.1)) (ts, r) b.2) [
-      | inl g ↦ subst (λ (x : Trees × List ℕ). ReadsAll k x.0 s x.1) (some_is (trees b.0.0 no_trees, g.0) (ts, r) g.2) (subst (λ (m : List ℕ). Reads k b.0.0 levels.equivalence s m) (after_is 41 b.0.1 g.0 g.1) one)
+      | inl g ↦ subst (λ (x : Trees × List ℕ). ReadsAll k x.0 s x.1) (same_Some (trees b.0.0 no_trees, g.0) (ts, r) g.2) (subst (λ (m : List ℕ). Reads k b.0.0 levels.equivalence s m) (after_is 41 b.0.1 g.0 g.1) one)
       | inr g ↦ (
           let c = bind_some (after 44 b.0.1) (λ m. arguments inner n m >>= λ y. Some (trees b.0.0 y.0, y.1)) (ts, r) g.1 in
           let is = after_is 44 b.0.1 c.0 c.1 in
@@ -107,17 +108,17 @@ named_sound k inner p a s m r t fit h e =
           let is = after_is 40 m g.0 g.1 in
           let fit' : length g.0 ≤ k.length = omega (arith, ap length is, place_fits k a s m h) in
           let name : ReadsOccurrence k a s (40 ∷ g.0) = subst (λ (n : List ℕ). ReadsOccurrence k a s n) is h in
-          subst (λ (x : Tree × List ℕ). Reads k x.0 levels.primary s x.1) (some_is (with_list a b.0.0, b.0.1) (t, r) b.2) (g.0, name, arguments_sound k inner p (length g.0) g.0 b.0.1 b.0.0 fit' b.1))
-      | inr g ↦ subst (λ (x : Tree × List ℕ). Reads k x.0 levels.primary s x.1) (some_is (occurrence a, m) (t, r) g.1) h
+          subst (λ (x : Tree × List ℕ). Reads k x.0 levels.primary s x.1) (same_Some (with_list a b.0.0, b.0.1) (t, r) b.2) (g.0, name, arguments_sound k inner p (length g.0) g.0 b.0.1 b.0.0 fit' b.1))
+      | inr g ↦ subst (λ (x : Tree × List ℕ). Reads k x.0 levels.primary s x.1) (same_Some (occurrence a, m) (t, r) g.1) h
     ]
 
 primary_sound : (k : Context) (inner : Reader Tree) → Sound k levels.equivalence inner → Sound k levels.primary (primary k inner)
 unfolding primary
 primary_sound k inner p s r t fit e =
     elim (either_some (integer_at k s) (λ x. Some (constant (Int x.0), x.1)) (if_some (logical_at s) (λ x. Some (constant (Truth x.0), x.1)) (if_some (occurrence_at k s) (λ x. named inner x.0 x.1) (after 40 s >>= in_parentheses inner))) (t, r) e) [
-      | inl g ↦ subst (λ (x : Tree × List ℕ). Reads k x.0 levels.primary s x.1) (some_is (constant (Int g.0.0), g.0.1) (t, r) g.2) (is_constant k s g.0 g.1)
+      | inl g ↦ subst (λ (x : Tree × List ℕ). Reads k x.0 levels.primary s x.1) (same_Some (constant (Int g.0.0), g.0.1) (t, r) g.2) (is_constant k s g.0 g.1)
       | inr g ↦ (elim (either_some (logical_at s) (λ x. Some (constant (Truth x.0), x.1)) (if_some (occurrence_at k s) (λ x. named inner x.0 x.1) (after 40 s >>= in_parentheses inner)) (t, r) g.1) [
-        | inl g ↦ subst (λ (x : Tree × List ℕ). Reads k x.0 levels.primary s x.1) (some_is (constant (Truth g.0.0), g.0.1) (t, r) g.2) (is_logical s g.0 g.1)
+        | inl g ↦ subst (λ (x : Tree × List ℕ). Reads k x.0 levels.primary s x.1) (same_Some (constant (Truth g.0.0), g.0.1) (t, r) g.2) (is_logical s g.0 g.1)
         | inr g ↦ (elim (either_some (occurrence_at k s) (λ x. named inner x.0 x.1) (after 40 s >>= in_parentheses inner) (t, r) g.1) [
           | inl g ↦ named_sound k inner p g.0.0 s g.0.1 r t fit (is_place k s g.0 fit g.1) g.2
           | inr g ↦ (
@@ -140,8 +141,8 @@ power_sound k base next p q s r t fit e =
           let is = text_is (spelling (Arithmetic Power)) b.0.1 g.0 g.1 in
           let fit' : length g.0 ≤ k.length = omega (arith, ap length is, fits k b.0.0 levels.primary s b.0.1 one) in
           let base_is : Reads k b.0.0 levels.primary s (spelling (Arithmetic Power) ++ g.0) = subst (λ (m : List ℕ). Reads k b.0.0 levels.primary s m) is one in
-          subst (λ (x : Tree × List ℕ). Reads k x.0 levels.power s x.1) (some_is (binary (Arithmetic Power) b.0.0 c.0.0, c.0.1) (t, r) c.2) (omega arith, g.0, base_is, q g.0 c.0.1 c.0.0 fit' c.1))
-      | inr g ↦ subst (λ (x : Tree × List ℕ). Reads k x.0 levels.power s x.1) (some_is b.0 (t, r) g.1) (looser k b.0.0 levels.power levels.primary s b.0.1 (omega arith) one)
+          subst (λ (x : Tree × List ℕ). Reads k x.0 levels.power s x.1) (same_Some (binary (Arithmetic Power) b.0.0 c.0.0, c.0.1) (t, r) c.2) (omega arith, g.0, base_is, q g.0 c.0.1 c.0.0 fit' c.1))
+      | inr g ↦ subst (λ (x : Tree × List ℕ). Reads k x.0 levels.power s x.1) (same_Some b.0 (t, r) g.1) (looser k b.0.0 levels.power levels.primary s b.0.1 (omega arith) one)
     ]
 
 term_sound : (k : Context) (next : Reader Tree) → Sound k levels.power next → Sound k levels.term (term next)
@@ -157,7 +158,7 @@ first_sound k next p s r t fit e =
           let b = bind_some (next g.0.1) (λ x. Some (signed g.0.0 x.0, x.1)) (t, r) g.2 in
           let fit' : length g.0.1 ≤ k.length = omega (arith, shorter (sign_spelling g.0.0) g.0.1 s w.0) in
           let inner = p g.0.1 b.0.1 b.0.0 fit' b.1 in
-          subst (λ (x : Tree × List ℕ). Reads k x.0 levels.sum s x.1) (some_is (signed g.0.0 b.0.0, b.0.1) (t, r) b.2) (omega arith, g.0.1, w.0, inner))
+          subst (λ (x : Tree × List ℕ). Reads k x.0 levels.sum s x.1) (same_Some (signed g.0.0 b.0.0, b.0.1) (t, r) b.2) (omega arith, g.0.1, w.0, inner))
       | inr g ↦ looser k t levels.sum levels.term s r (omega arith) (p s r t fit g.1)
     ]
 
@@ -182,8 +183,8 @@ relation_sound k next p s r t fit e =
           let fit' : length m ≤ k.length = omega (arith, shorter (spelling o) m b.0.1 w.0, fits k b.0.0 levels.sum s b.0.1 one) in
           let first : Reads k b.0.0 (left o) s (spelling o ++ m) = rw (w.1.1, ← w.0) one in
           let second : Reads k c.0.0 (right o) m c.0.1 = rw w.1.2 (p m c.0.1 c.0.0 fit' c.1) in
-          subst (λ (x : Tree × List ℕ). Reads k x.0 levels.relation s x.1) (some_is (binary o b.0.0 c.0.0, c.0.1) (t, r) c.2) (omega (arith, w.1.0), m, first, second))
-      | inr g ↦ subst (λ (x : Tree × List ℕ). Reads k x.0 levels.relation s x.1) (some_is b.0 (t, r) g.1) (looser k b.0.0 levels.relation levels.sum s b.0.1 (omega arith) one)
+          subst (λ (x : Tree × List ℕ). Reads k x.0 levels.relation s x.1) (same_Some (binary o b.0.0 c.0.0, c.0.1) (t, r) c.2) (omega (arith, w.1.0), m, first, second))
+      | inr g ↦ subst (λ (x : Tree × List ℕ). Reads k x.0 levels.relation s x.1) (same_Some b.0 (t, r) g.1) (looser k b.0.0 levels.relation levels.sum s b.0.1 (omega arith) one)
     ]
 
 negation_sound : (k : Context) (next : Reader Tree) → Sound k levels.relation next → Sound k levels.negation (negation next)
@@ -194,7 +195,7 @@ negation_sound k next p s r t fit e =
           let b = bind_some (next g.0) (λ x. Some (negated x.0, x.1)) (t, r) g.2 in
           let is = text_is (codes ".NOT.") s g.0 g.1 in
           let fit' : length g.0 ≤ k.length = omega (arith, ap length is) in
-          subst (λ (x : Tree × List ℕ). Reads k x.0 levels.negation s x.1) (some_is (negated b.0.0, b.0.1) (t, r) b.2) (omega arith, g.0, is, p g.0 b.0.1 b.0.0 fit' b.1))
+          subst (λ (x : Tree × List ℕ). Reads k x.0 levels.negation s x.1) (same_Some (negated b.0.0, b.0.1) (t, r) b.2) (omega arith, g.0, is, p g.0 b.0.1 b.0.0 fit' b.1))
       | inr g ↦ looser k t levels.negation levels.relation s r (omega arith) (p s r t fit g.1)
     ]
 
@@ -218,11 +219,11 @@ mutual
   unfolding expression
 
   expression_sound : (k : Context) (n : ℕ) → Sound k levels.equivalence (expression k n)
-  expression_sound k zero s r t fit e = absurd (none_is (t, r) e)
+  expression_sound k zero s r t fit e = absurd (none-some (t, r) e)
   expression_sound k (suc n) s r t fit e = equivalence_sound k (disjunction (conjunction (negation (relation (sum (term (power k n))))))) (levels_sound k (power k n) (powers_sound k n)) s r t fit e
 
   powers_sound : (k : Context) (n : ℕ) → Sound k levels.power (power k n)
-  powers_sound k zero s r t fit e = absurd (none_is (t, r) e)
+  powers_sound k zero s r t fit e = absurd (none-some (t, r) e)
   powers_sound k (suc n) s r t fit e = power_sound k (primary k (expression k n)) (power k n) (primary_sound k (expression k n) (expression_sound k n)) (powers_sound k n) s r t fit e
 
 pub expression_at_sound : (k : Context) → Sound k levels.equivalence (expression_at k)
@@ -236,5 +237,5 @@ is_expression k s t fit e =
     whole b.0.0 b.0.1 b.2 (expression_at_sound k s b.0.1 b.0.0 fit b.1)
   where
     whole : (u : Tree) (r : List ℕ) → all_read u r ≡ Some t → Reads k u levels.equivalence s r → IsExpression k s t
-    whole u [] e h = subst (λ (x : Tree). IsExpression k s x) (some_is u t e) h
-    whole u (c ∷ r) e h = absurd (none_is t e)
+    whole u [] e h = subst (λ (x : Tree). IsExpression k s x) (same_Some u t e) h
+    whole u (c ∷ r) e h = absurd (none-some t e)

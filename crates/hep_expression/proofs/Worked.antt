@@ -14,9 +14,9 @@ use Rattle.hep_expression.specs.Characters.{named}
 use Rattle.hep_expression.specs.Expression.{IsExpression}
 use Rattle.hep_expression.specs.ReadingExpression as reading
 use Rattle.hep_expression.specs.ReadingExpression.{chain, in_parentheses, arguments, primary, power_of, term, first_term, sum, relation, negation, conjunction, disjunction, expression, power, expression_at, whole_expression}
-use Rattle.hep_expression.proofs.Leaves.{none_is}
 use Rattle.hep_expression.proofs.Sound.{is_expression}
 use Rattle.hep_expression.proofs.Complete.{whole_expression_read}
+use Rattle.std.proofs.lemmas.Option.{none-some}
 
 -- the text is this expression
 abbrev Reads : List ℕ → Tree → Type 0
@@ -30,7 +30,7 @@ reads : (s : List ℕ) (t : Tree) → whole_expression (record { sizes = Fitting
 reads s t e = is_expression (record { sizes = Fitting; length = length s }) s t (omega arith) e
 
 reads_not : (s : List ℕ) → whole_expression (record { sizes = Any; length = length s }) s ≡ None → ReadsNot s
-reads_not s e t h = none_is t (sym e ∙ whole_expression_read (record { sizes = Any; length = length s }) t s h)
+reads_not s e t h = none-some t (sym e ∙ whole_expression_read (record { sizes = Any; length = length s }) t s h)
 
 abbrev int : ℕ → Tree
 int n = constant (Int (pos n))

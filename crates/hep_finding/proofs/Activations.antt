@@ -1,6 +1,6 @@
 -- In a run the dummy arguments of each activation are bound.
-use Rattle.std.proofs.Common.{◌≡◌, ◌⊎◌, inl, inr, ◌≤◌, ◌<◌, ℕ, zero, suc, ◌+◌, Bool, true, false, List, [], ◌∷◌, ◌++◌, length, Option, Some, None, Result, Ok, Err, refl, sym, ap, ◌∙◌, subst, arith}
-use Rattle.std.specs.Prelude.{ℤ, ◌+ℤ◌, if◌then◌else◌, nat_eq, nat_le, slice_get}
+use Rattle.std.proofs.Common.{◌≡◌, inl, inr, ◌≤◌, ◌<◌, ℕ, zero, suc, ◌+◌, Bool, true, false, List, [], ◌∷◌, length, Option, Some, None, Result, Ok, Err, refl, sym, ap, ◌∙◌, subst, arith}
+use Rattle.std.specs.Prelude.{if◌then◌else◌, nat_eq, nat_le, slice_get}
 use Rattle.std.specs.Option.{unwrap_or}
 use Rattle.std.proofs.lemmas.Bool.{eqb-false, eqb-true}
 use Rattle.std.proofs.lemmas.Bool.Decides.{nat_tests}
@@ -8,37 +8,35 @@ use Rattle.std.proofs.lemmas.List.{length-append}
 use Rattle.std.proofs.lemmas.Option.{none-some}
 use Rattle.hep_source.specs.declared.name.Name.{Name}
 use Rattle.hep_source.specs.declared.statement.Statement.{Statement}
-use Rattle.hep_source.specs.declared.value.Value.{Value}
 use Rattle.hep_source.specs.Names.{index_among}
 use Rattle.hep_source.specs.Units.{Units, dummies_of, main_unit, unit_at}
 use Rattle.hep_machine.specs.declared.event.Kind.{Kind}
-use Rattle.hep_machine.specs.Arithmetic.{integer_of, integer_or_overflow}
 use Rattle.hep_machine.specs.Binding.{Binding}
 use Rattle.hep_machine.specs.Constants.{adjustable_dimensions, cells_of_shape, constant_shape, constant_value, shape_by}
-use Rattle.hep_machine.specs.Control.{level_after_statement, variable_of}
 use Rattle.hep_machine.specs.Declarations.{is_array}
 use Rattle.hep_machine.specs.Defaults.{no_dummy}
-use Rattle.hep_machine.specs.Evaluation.{Actual, Action, assigning, jumping, choosing, branching, testing_condition, entering_block, entering_loop, ending_loop, calling, creating, purging, printing, continuing, leaving, stopping, Next, wants, does}
-use Rattle.hep_machine.specs.Locations.{Scope, location_of_name, storage_by_dummy, storage_of_dummy}
+use Rattle.hep_machine.specs.Evaluation.{Actual, Next}
+use Rattle.hep_machine.specs.Locations.{storage_by_dummy, storage_of_dummy}
 use Rattle.hep_machine.specs.Opening.{opening}
-use Rattle.hep_machine.specs.Processes.{activation_of, living, loop_at}
+use Rattle.hep_machine.specs.Processes.{activation_of, living}
 use Rattle.hep_machine.specs.Run.{run, run_from}
 use Rattle.hep_machine.specs.Shapes.{Bounds, elements, is_shape, most_elements}
-use Rattle.hep_machine.specs.State.{Activation, Dummy, Level, Location, Loop, Process, State, Store}
-use Rattle.hep_machine.specs.Step.{Answer, gives, waits, fails, answer_at, answer_of, binding_of, iterations, next_activation, result_after_action, result_after_answer, result_after_assignment, result_after_call, result_after_create, result_after_do, result_after_increment, result_after_loop_end, result_after_loop_variable, result_after_next, result_after_purge, result_after_write, scope_of, step, store_after_purge, Top, unit_called, unit_on_top, written}
+use Rattle.hep_machine.specs.State.{Activation, Dummy, Level, Process, State}
+use Rattle.hep_machine.specs.Step.{binding_of, next_activation, result_after_next, scope_of, step, Top}
 use Rattle.hep_machine.proofs.Ages.{aged, on_stack_made}
+use Rattle.hep_finding.proofs.Added.{Adds, Binds, added-next}
 use Rattle.hep_machine.proofs.Changes.{Makes, by_step, next_on, top_in}
 use Rattle.hep_frames.proofs.Memory.{activation-kept, activation-last, same-activation}
 use Rattle.hep_frames.proofs.Passed.{IsMadeScope}
 use Rattle.hep_frames.proofs.References.{each-state, references-made}
 use Rattle.hep_frames.proofs.Stacks.{top-numbered}
 use Rattle.hep_frames.proofs.Tree.{stacked-top}
-use Rattle.hep_finding.specs.Bound.{Agrees, AreClosed, CallsAgree, IsBound, IsBoundTo, NextAgrees}
+use Rattle.hep_finding.specs.Bound.{AreClosed, CallsAgree, IsBound, IsBoundTo, NextAgrees}
 use Rattle.hep_finding.proofs.Binds.{ArePairs, AreSized, BindsAll, binding-bound, pair-at}
-use Rattle.hep_finding.proofs.Dummies.{fits-within}
 use Rattle.hep_finding.proofs.Extents.{shape-some}
-use Rattle.hep_finding.proofs.Named.{constant-shape}
+use Rattle.hep_machine.proofs.ConstantShapes.{constant-shape}
 use Rattle.hep_finding.proofs.Own.{most-or}
+use Rattle.hep_frames.proofs.Storages.{shape-fits}
 
 -- ---- how many storage units names stand for
 
@@ -70,7 +68,7 @@ dummy-shape unit a x d h is = by_test (nat_eq (adjustable_dimensions unit x) 0) 
   by_test false t = (h.adjustable is (eqb-false (adjustable_dimensions unit x) 0 t)).1
 
 dummy-sized : (unit : List Statement) (a : ℕ) (x : Name) (d : Dummy) → IsBoundTo unit a x d → IsSize (unwrap_or (elements d.shape) d.rest)
-dummy-sized unit a x d h = (by_kind (is_array unit x) refl, omega (arith, fits-within d.shape d.rest h.fitting, h.few)) where
+dummy-sized unit a x d h = (by_kind (is_array unit x) refl, omega (arith, shape-fits d.shape d.rest h.fitting, h.few)) where
   by_kind : (b : Bool) → is_array unit x ≡ b → 1 ≤ unwrap_or (elements d.shape) d.rest
   by_kind true is = shape-some d.shape d.rest (dummy-shape unit a x d h is) h.some
   by_kind false is = subst (λ (bs : Bounds). 1 ≤ unwrap_or (elements bs) d.rest) (sym (h.scalar is)) (omega arith)
@@ -92,87 +90,23 @@ scope-sized program s a closed bound x = by_index (index_among x (dummies_of (sc
 -- ---- a step
 
 -- it makes no activation, or one whose dummy arguments are bound
+abbrev IsBoundNext : Units → Top → Activation → Type 0
+IsBoundNext program t x = ArePairs (IsBoundTo (unit_at program x.unit) (next_activation t.state)) (dummies_of (unit_at program x.unit)) x.dummies
+
 abbrev HasBound : Units → Top → State → Type 0
-HasBound program t s =
-    (s.activations ≡ t.state.activations) ⊎ ((x : Activation) × (s.activations ≡ t.state.activations ++ x ∷ []) × ArePairs (IsBoundTo (unit_at program x.unit) (next_activation t.state)) (dummies_of (unit_at program x.unit)) x.dummies)
+HasBound program t = Adds program t (IsBoundNext program t)
 
-module _ (program : Units) (t : Top) (made : IsMadeScope (length t.state.activations) (scope_of program t.state t.level.activation)) (sized : AreSized (scope_of program t.state t.level.activation)) where
-  abbrev old : Store
-  old = t.state.store
+bound-next : (program : Units) (t : Top) → IsMadeScope (length t.state.activations) (scope_of program t.state t.level.activation)
+    → AreSized (scope_of program t.state t.level.activation) → (m : Next) → NextAgrees program m → Makes (HasBound program t) (result_after_next program t m)
+bound-next program t made sized = added-next program t (IsBoundNext program t) binds where
+  as-bound : (u : ℕ) (b : Result Binding Kind) → BindsAll (unit_at program u) (next_activation t.state) b → Binds program t (IsBoundNext program t) u b
+  as-bound u (Err k) h = tt
+  as-bound u (Ok b) h = h
 
-  abbrev scope : Scope
-  scope = scope_of program t.state t.level.activation
-
-  same : (t.state.activations ≡ t.state.activations) ⊎ ((x : Activation) × (t.state.activations ≡ t.state.activations ++ x ∷ []) × ArePairs (IsBoundTo (unit_at program x.unit) (next_activation t.state)) (dummies_of (unit_at program x.unit)) x.dummies)
-  same = inl refl
-
-  bound-answer : (a : Answer) → Makes (HasBound program t) (result_after_answer program t a)
-  bound-answer (gives v store) = same
-  bound-answer (waits w) = tt
-  bound-answer (fails k) = same
-
-  bound-write : (level : Level) (a : Answer) → Makes (HasBound program t) (result_after_write program t level a)
-  bound-write level (gives v store) = same
-  bound-write level (waits w) = tt
-  bound-write level (fails k) = same
-
-  bound-assignment : (asynchronous : Bool) (at : Result Location Kind) (v : Value) → Makes (HasBound program t) (result_after_assignment program t asynchronous at v)
-  bound-assignment asynchronous (Err k) v = same
-  bound-assignment asynchronous (Ok at) v = bound-write (level_after_statement (unit_on_top program t) t.level) (answer_at old at (written asynchronous v (old at)))
-
-  bound-purge : (r : Result Store Kind) → Makes (HasBound program t) (result_after_purge program t r)
-  bound-purge (Err k) = same
-  bound-purge (Ok store) = same
-
-  bound-do : (at : Result Location Kind) (m increment : ℤ) (count : Result ℤ Kind) → Makes (HasBound program t) (result_after_do program t at m increment count)
-  bound-do at m increment (Err k) = same
-  bound-do (Err k) m increment (Ok count) = same
-  bound-do (Ok at) m increment (Ok count) = same
-
-  bound-increment : (l : Loop) (at : Location) (z : Result ℤ Kind) → Makes (HasBound program t) (result_after_increment program t l at z)
-  bound-increment l at (Err k) = same
-  bound-increment l at (Ok z) = same
-
-  bound-variable : (l : Loop) (at : Location) (v : Option Value) → Makes (HasBound program t) (result_after_loop_variable program t l at v)
-  bound-variable l at None = same
-  bound-variable l at (Some v) = bound-increment l at (integer_or_overflow (integer_of v +ℤ l.increment))
-
-  bound-loop_end : (l : Loop) (at : Result Location Kind) → Makes (HasBound program t) (result_after_loop_end program t l at)
-  bound-loop_end l (Err k) = same
-  bound-loop_end l (Ok at) = bound-variable l at (old at).value
-
-  -- a new activation
-  bound-call : (u : ℕ) (b : Result Binding Kind) → BindsAll (unit_at program u) (next_activation t.state) b → Makes (HasBound program t) (result_after_call program t u b)
-  bound-call u (Err k) h = same
-  bound-call u (Ok b) h = inr (record { unit = u; parent = Some t.level.activation; dummies = b.dummies }, refl, h)
-
-  bound-create : (u : ℕ) (b : Result Binding Kind) → BindsAll (unit_at program u) (next_activation t.state) b → Makes (HasBound program t) (result_after_create program t u b)
-  bound-create u (Err k) h = same
-  bound-create u (Ok b) h = inr (record { unit = u; parent = Some t.level.activation; dummies = b.dummies }, refl, h)
-
-  binds : (u : ℕ) (ys : List Actual) → length ys ≡ length (dummies_of (unit_at program u)) → BindsAll (unit_at program u) (next_activation t.state) (binding_of program t u ys)
-  binds u ys = binding-bound scope (length t.state.activations) (next_activation t.state) old (unit_at program u) ys made (omega arith) sized
-
-  bound-action : (a : Action) → Agrees program a → Makes (HasBound program t) (result_after_action program t a)
-  bound-action (assigning r v) h = bound-assignment r.0.asynchronous (location_of_name scope r.0 r.1) v
-  bound-action (jumping l) h = same
-  bound-action (choosing labels v) h = same
-  bound-action (branching labels v) h = same
-  bound-action (testing_condition v) h = same
-  bound-action (entering_block v) h = same
-  bound-action (entering_loop x m k l) h = bound-do (location_of_name scope x []) (integer_of m) (integer_of l) (iterations (integer_of m) (integer_of k) (integer_of l))
-  bound-action (ending_loop d) h = bound-loop_end (loop_at t.level.loops d) (location_of_name scope (variable_of (unit_on_top program t) d) [])
-  bound-action (calling x actuals) h = bound-call (unit_called program x) (binding_of program t (unit_called program x) actuals) (binds (unit_called program x) actuals h)
-  bound-action (creating x actuals) h = bound-create (unit_called program x) (binding_of program t (unit_called program x) actuals) (binds (unit_called program x) actuals h)
-  bound-action (purging targets) h = bound-purge (store_after_purge scope targets old)
-  bound-action (printing items) h = same
-  bound-action continuing h = same
-  bound-action leaving h = same
-  bound-action stopping h = same
-
-  bound-next : (m : Next) → NextAgrees program m → Makes (HasBound program t) (result_after_next program t m)
-  bound-next (wants r) h = bound-answer (answer_of scope old r)
-  bound-next (does a) h = bound-action a h
+  binds : (u : ℕ) (ys : List Actual) → length ys ≡ length (dummies_of (unit_at program u)) → Binds program t (IsBoundNext program t) u (binding_of program t u ys)
+  binds u ys e =
+      as-bound u (binding_of program t u ys) (
+      binding-bound (scope_of program t.state t.level.activation) (length t.state.activations) (next_activation t.state) t.state.store (unit_at program u) ys made (omega arith) sized e)
 
 -- ---- runs
 

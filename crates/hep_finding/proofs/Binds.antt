@@ -22,10 +22,10 @@ use Rattle.hep_machine.specs.Storage.{further}
 use Rattle.hep_machine.specs.Views.{is_owned}
 use Rattle.hep_frames.specs.References.{IsMadeAt}
 use Rattle.hep_frames.proofs.Passed.{IsMadeScope, made-further, made-storage}
-use Rattle.hep_frames.proofs.Storages.{element-counted}
+use Rattle.hep_frames.proofs.Storages.{element-counted, same-ok}
 use Rattle.hep_finding.specs.Bound.{IsBoundTo}
 use Rattle.hep_finding.proofs.Extents.{AreMore, all-adjustable, bounds-length, bounds-same, none-adjustable}
-use Rattle.hep_finding.proofs.Named.{shaped}
+use Rattle.hep_machine.proofs.ConstantShapes.{shaped}
 
 -- ---- results and lists
 
@@ -68,15 +68,12 @@ record IsPassedTo (a : ℕ) (x : Name) (d : Dummy) : Type 0 where
   few : d.rest ≤ most_elements
   shapeless : d.shape ≡ []
 
-not-owned : (n a : ℕ) (at : Location) → n < a → IsMadeAt n at → is_owned a at ≡ false
+pub not-owned : (n a : ℕ) (at : Location) → n < a → IsMadeAt n at → is_owned a at ≡ false
 not-owned n a (local b x i) less made = grind (arith, nat_tests)
 not-owned n a (common b i) less made = refl
 
 abbrev pub AreSized : Scope → Type 0
 AreSized scope = (x : Name) → (1 ≤ (storage_of scope x).rest) × ((storage_of scope x).rest ≤ most_elements)
-
-same-ok : {A E : Type 0} (x y : A) → ◌≡◌ {A = Result A E} (Ok x) (Ok y) → x ≡ y
-same-ok x y e = cc
 
 module _ (scope : Scope) (n a : ℕ) (made : IsMadeScope n scope) (less : n < a) (sized : AreSized scope) where
   first-within : (r : Reference) (m : ℕ) → first_element scope r ≡ Ok m → (1 ≤ m) × (m ≤ (storage_of scope r.0).rest)

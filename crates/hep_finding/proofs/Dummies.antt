@@ -1,9 +1,8 @@
 -- Dummy arguments are found: what they stand for begins where their cells say, and has the bounds that the cells have.
-use Rattle.std.proofs.Common.{◌≡◌, ◌≤◌, ◌<◌, ℕ, zero, suc, ◌+◌, ◌*◌, Bool, true, false, List, [], ◌∷◌, length, Option, Some, None, refl, sym, ap, ◌∙◌, subst, arith}
-use Rattle.std.specs.Prelude.{ℤ, pos, if◌then◌else◌, nat_eq, nat_le, slice_get}
+use Rattle.std.proofs.Common.{◌≡◌, ◌<◌, ℕ, zero, suc, ◌+◌, ◌*◌, Bool, true, false, List, [], ◌∷◌, length, Option, Some, None, refl, sym, ap, ◌∙◌, subst, arith}
+use Rattle.std.specs.Prelude.{ℤ, pos, if◌then◌else◌, nat_eq, slice_get}
 use Rattle.std.specs.Option.{option_map, unwrap_or}
 use Rattle.std.proofs.lemmas.Bool.{eqb-false, eqb-true}
-use Rattle.std.proofs.lemmas.Bool.Decides.{nat_tests}
 use Rattle.hep_source.specs.declared.name.Name.{Name}
 use Rattle.hep_source.specs.declared.statement.Statement.{Statement}
 use Rattle.hep_source.specs.declared.value.Value.{Value}
@@ -18,7 +17,7 @@ use Rattle.hep_machine.specs.Defaults.{no_dummy, no_shape}
 use Rattle.hep_machine.specs.Layout.{Frame, Layout}
 use Rattle.hep_machine.specs.Locations.{StorageSequence, dummy_at, storage_by_dummy, storage_of, storage_of_dummy}
 use Rattle.hep_machine.specs.Processes.{activation_of, unit_of}
-use Rattle.hep_machine.specs.Shapes.{Bounds, elements, fits}
+use Rattle.hep_machine.specs.Shapes.{Bounds, elements}
 use Rattle.hep_machine.specs.State.{Dummy, Location, State, local, common}
 use Rattle.hep_machine.specs.Step.{scope_of}
 use Rattle.hep_machine.specs.Storage.{further}
@@ -30,7 +29,7 @@ use Rattle.hep_frames.specs.Descriptors.{Describes, number, slot_of_bounds, slot
 use Rattle.hep_frames.specs.Rows.{argument, bounds, first_of_part}
 use Rattle.hep_frames.specs.Runs.{RunsFrom}
 use Rattle.hep_frames.proofs.Runs.{runs-value}
-use Rattle.hep_frames.proofs.Storages.{storage-dummy}
+use Rattle.hep_frames.proofs.Storages.{storage-dummy, shape-fits}
 use Rattle.hep_frames.proofs.Telling.{tells-bounds, tells-first, tells-rest, tells-value}
 use Rattle.hep_image.specs.declared.array.Extents.TheVariants.{Constant, Adjustable}
 use Rattle.hep_image.specs.declared.array.Start.{Start}
@@ -67,14 +66,7 @@ bounds-read cells first c (b ∷ bs) written = read (bounds-read cells first (su
 
 -- ---- shapes
 
--- an array that fits has no more elements than there are
-pub fits-within : (bs : Bounds) (rest : ℕ) → fits bs rest ≡ true → unwrap_or (elements bs) rest ≤ rest
-fits-within bs rest h = by_elements (elements bs) h where
-  by_elements : (o : Option ℕ) → nat_le (unwrap_or o 0) rest ≡ true → unwrap_or o rest ≤ rest
-  by_elements None h = omega arith
-  by_elements (Some n) h = grind (arith, nat_tests)
-
-further-none : (at : Location) → further at 0 ≡ at
+pub further-none : (at : Location) → further at 0 ≡ at
 further-none (local a x i) = ap (local a x) (omega arith)
 further-none (common b k) = ap (common b) (omega arith)
 
@@ -152,7 +144,7 @@ module _ (program : Units) (s : State) (layout : Layout) (contents : List Slot) 
       record {
         starts = starts;
         runs = storage-dummy program s layout a x k (base_at cells f.first at) e bound.fitting kept.0;
-        few = omega (arith, rest, fits-within dummy.shape dummy.rest bound.fitting, bound.few);
+        few = omega (arith, rest, shape-fits dummy.shape dummy.rest bound.fitting, bound.few);
         scalar = λ is. (shape ∙ bound.scalar is, rest ∙ ap (λ (bs : Bounds). unwrap_or (elements bs) dummy.rest) (bound.scalar is));
         shaped = λ is. shaped bound is ∙ sym shape;
         counted = λ is. ap (λ (bs : Bounds). unwrap_or (elements bs) (rest_at cells f.first at)) (shaped bound is) ∙ (ap (unwrap_or (elements dummy.shape)) kept.1 ∙ sym rest);

@@ -1,24 +1,20 @@
 -- Elements: an element is found at the address of the one that the source machine takes it for.
-use Rattle.std.proofs.Common.{◌≡◌, ℕ, ◌+◌, ◌-◌, ◌≤◌, ◌<◌, Bool, true, false, List, [], ◌∷◌, Option, Some, None, Ok, Err, refl, ap, ◌∙◌, arith}
+use Rattle.std.proofs.Common.{◌≡◌, ℕ, ◌-◌, ◌≤◌, ◌<◌, Bool, true, false, List, [], ◌∷◌, Option, Some, None, Ok, Err, refl, ap, ◌∙◌, arith}
 use Rattle.std.specs.Prelude.{ℤ, if◌then◌else◌, nat_le}
 use Rattle.std.proofs.lemmas.Bool.Decides.{nat_tests}
-use Rattle.std.proofs.lemmas.Option.{same_Some, none-some}
 use Rattle.hep_source.specs.declared.value.Value.{Value}
 use Rattle.hep_source.specs.Units.{Units}
 use Rattle.hep_machine.specs.declared.slot.Slot.{Slot}
 use Rattle.hep_machine.specs.declared.event.Kind.TheVariants.{Range}
 use Rattle.hep_machine.specs.Layout.{Layout}
 use Rattle.hep_machine.specs.Locations.{StorageSequence, element_in, element_of, location_in}
-use Rattle.hep_machine.specs.Shapes.{Bounds, before_element, counted_element, element_number, is_most, most_elements, sum}
+use Rattle.hep_machine.specs.Shapes.{Bounds, before_element, counted_element, element_number, is_most, most_elements}
 use Rattle.hep_machine.specs.State.{Location, State}
 use Rattle.hep_code.specs.Replies.{IsSame}
 use Rattle.hep_frames.specs.Addresses.{address}
 use Rattle.hep_frames.specs.Runs.{RunsFrom}
 use Rattle.hep_image.specs.Finding.{address_of_scalar, element_within}
-
-from-one : (o : Option ℕ) (n : ℕ) → sum 1 o ≡ Some n → 1 ≤ n
-from-one None n h = absurd (none-some n h)
-from-one (Some m) n h = let same = same_Some (1 + m) n h in omega (arith, same)
+use Rattle.hep_frames.proofs.Storages.{from-one}
 
 module _ (program : Units) (s : State) (layout : Layout) (start : Location) (rest base : ℕ) (cells : ℕ → Slot) (first : ℕ) (runs : RunsFrom program s layout start rest base) where
   abbrev sequence : Bounds → StorageSequence

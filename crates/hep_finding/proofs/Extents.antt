@@ -1,6 +1,6 @@
 -- Shapes have an element at least; and bounds that are constant are the same where more names have values.
-use Rattle.std.proofs.Common.{◌≡◌, ◌≢◌, ◌≤◌, ℕ, suc, ℤ, pos, negsuc, ◌+ℤ◌, ◌-ℤ◌, ◌≤ℤ◌, Bool, true, false, List, [], ◌∷◌, length, Option, Some, None, refl, sym, ap, ◌∙◌, arith}
-use Rattle.std.specs.Prelude.{◌&&◌, IfSome, if◌then◌else◌, int_le, is_some, nat_le}
+use Rattle.std.proofs.Common.{◌≡◌, ◌≢◌, ◌≤◌, ℕ, suc, ℤ, pos, ◌+ℤ◌, ◌-ℤ◌, ◌≤ℤ◌, Bool, true, false, List, [], ◌∷◌, length, Option, Some, None, refl, sym, ap, ◌∙◌, arith}
+use Rattle.std.specs.Prelude.{◌&&◌, IfSome, if◌then◌else◌, is_some, nat_le}
 use Rattle.std.specs.List.{list_all}
 use Rattle.std.specs.Option.{option_map, unwrap_or}
 use Rattle.std.proofs.Math.Nat.{mul-le-mul}
@@ -20,22 +20,16 @@ use Rattle.hep_machine.specs.Arithmetic.{combined_value, integer_of, negated_val
 use Rattle.hep_machine.specs.Constants.{Values, adjustable_dimensions, both, bound_before, bound_of, bounds_of, by_meaning, constant_value, is_constant_dimension, is_constant_lower, is_constant_upper, lower_value, upper_value, value_of, values_of, with_one, with_two}
 use Rattle.hep_machine.specs.Declarations.{dimensions_of, is_array, is_nonempty}
 use Rattle.hep_machine.specs.Functions.{Meaning, element, pure, state, unknown, listed_meaning}
-use Rattle.hep_machine.specs.Shapes.{Bounds, are_dimensions, elements, extent, is_between, is_most, is_shape, natural, product, size_between}
+use Rattle.hep_machine.specs.Shapes.{Bounds, are_dimensions, elements, extent, is_between, is_most, is_shape, product, size_between}
+use Rattle.hep_shape.proofs.Extents.{le_of_test, some_natural}
 
 -- ---- how many elements a shape has
-
-some-natural : (z : ℤ) → pos 1 ≤ℤ z → 1 ≤ natural z
-some-natural (pos n) h = omega (arith, ints)
-some-natural (negsuc n) h = absurd (omega (arith, ints))
-
-not-above : (l u : ℤ) → int_le l u ≡ true → l ≤ℤ u
-not-above l u h = grind (arith, ints)
 
 size-some : (l : ℤ) (u : Option ℤ) (bs : Bounds) → is_between l u bs ≡ true → IfSome (size_between l u) (λ n. 1 ≤ n)
 size-some l None bs h = tt
 size-some l (Some u) bs h =
-    let up : l ≤ℤ u = not-above l u h in
-    some-natural ((u -ℤ l) +ℤ pos 1) (omega (arith, ints))
+    let up : l ≤ℤ u = le_of_test l u h in
+    some_natural ((u -ℤ l) +ℤ pos 1) (omega (arith, ints))
 
 product-some : (o p : Option ℕ) → IfSome o (λ n. 1 ≤ n) → IfSome p (λ n. 1 ≤ n) → IfSome (product o p) (λ n. 1 ≤ n)
 product-some None p h k = tt

@@ -1,5 +1,5 @@
 -- Names in COMMON lie there with all their cells.
-use Rattle.std.proofs.Common.{◌≡◌, ℕ, ◌+◌, ◌≤◌, Bool, true, false, List, [], ◌∷◌, ◌++◌, Some, None, refl, sym, ap, ◌∙◌, arith}
+use Rattle.std.proofs.Common.{◌≡◌, ℕ, ◌+◌, ◌≤◌, Bool, true, false, List, [], ◌∷◌, ◌++◌, Some, refl, sym, ap, ◌∙◌, arith}
 use Rattle.std.specs.Prelude.{◌||◌, if◌then◌else◌, slice_get}
 use Rattle.std.specs.List.{list_any}
 use Rattle.std.proofs.lemmas.List.Folds.{list_any-append}
@@ -10,26 +10,15 @@ use Rattle.hep_source.specs.declared.name.Name.{Name}
 use Rattle.hep_source.specs.declared.statement.Statement.{Statement}
 use Rattle.hep_source.specs.Names.{same_name, is_among}
 use Rattle.hep_source.specs.Units.{Units}
-use Rattle.hep_source.proofs.NameTests.{same_name-self}
 use Rattle.hep_machine.specs.Constants.{cells_of}
 use Rattle.hep_machine.specs.Declarations.{BlockName, block_holding, block_of, blocks_of_unit, common_block, entries_under, names_declared, names_in_block, same_block}
 use Rattle.hep_machine.specs.Layout.{common_cells}
-use Rattle.hep_frames.specs.Rows.{Row, block_row, cells_in, common_row, first_in, first_in_common, size_in}
+use Rattle.hep_frames.specs.Rows.{block_row, common_row, first_in_common}
 use Rattle.hep_frames.proofs.CommonRows.{block_row-below, common_row-cells, name-size}
 use Rattle.hep_frames.proofs.Runs.{common-size}
-use Rattle.hep_finding.proofs.Named.{or-first, or-second}
-
--- a key's cells are no more than all that follow what is in front of them
-pub first-size : {K : Type 0} (test : K → Bool) (es : Row K) → first_in test es + size_in test es ≤ cells_in es
-first-size test [] = omega arith
-first-size test (e ∷ es) = by_test (first-size test es) (test e.0) where
-  by_test : first_in test es + size_in test es ≤ cells_in es → (b : Bool) → (if b then 0 else e.1 + first_in test es) + (if b then e.1 else size_in test es) ≤ e.1 + cells_in es
-  by_test rest true = omega arith
-  by_test rest false = omega (arith, rest)
-
-block-self : (b : BlockName) → same_block b b ≡ true
-block-self None = refl
-block-self (Some x) = same_name-self x
+use Rattle.hep_frames.proofs.FrameRows.{first-size}
+use Rattle.hep_machine.proofs.Locations.{block-self}
+use Rattle.std.proofs.lemmas.Bool.{or_left, or_right}
 
 module _ (x : Name) where
   abbrev declares : Declarator → Bool
@@ -47,14 +36,14 @@ module _ (x : Name) where
   held b [] e = absurd (none-some b e)
   held b (c ∷ cs) e = by_test (held b cs) (is_among x (names_declared c.entries)) refl e where
     added : (t : Bool) → list_any declares (entries_under b cs) ≡ true → list_any declares (if t then c.entries ++ entries_under b cs else entries_under b cs) ≡ true
-    added true h = list_any-append declares c.entries (entries_under b cs) ∙ or-second (list_any declares c.entries) (list_any declares (entries_under b cs)) h
+    added true h = list_any-append declares c.entries (entries_under b cs) ∙ or_right (list_any declares c.entries) (list_any declares (entries_under b cs)) h
     added false h = h
 
     by_test : (block_holding x cs ≡ Some b → list_any declares (entries_under b cs) ≡ true) → (t : Bool) → is_among x (names_declared c.entries) ≡ t → (if t then Some (block_of c) else block_holding x cs) ≡ Some b
         → list_any declares (if same_block (block_of c) b then c.entries ++ entries_under b cs else entries_under b cs) ≡ true
     by_test rest true t e =
         let same : same_block (block_of c) b ≡ true = ap (same_block (block_of c)) (sym (same_Some (block_of c) b e)) ∙ block-self (block_of c) in
-        rw same (list_any-append declares c.entries (entries_under b cs) ∙ or-first (list_any declares c.entries) (list_any declares (entries_under b cs)) (sym (declared-any c.entries) ∙ t))
+        rw same (list_any-append declares c.entries (entries_under b cs) ∙ or_left (list_any declares c.entries) (list_any declares (entries_under b cs)) (sym (declared-any c.entries) ∙ t))
     by_test rest false t e = added (same_block (block_of c) b) (rest e)
 
   pub held-cells : (program : Units) (u : ℕ) (unit : List Statement) (b : BlockName) → slice_get program u ≡ Some unit → common_block unit x ≡ Some b → first_in_common program unit b x + cells_of unit x ≤ common_cells program

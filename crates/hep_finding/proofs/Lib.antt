@@ -8,5 +8,6 @@ pub mod Dummies
 pub mod Within
 pub mod Extents
 pub mod Binds
+pub mod Added
 pub mod Activations
 pub mod Reached

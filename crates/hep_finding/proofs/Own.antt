@@ -32,7 +32,7 @@ use Rattle.hep_image.specs.Finding.{base_at, bounds_at, rest_at}
 use Rattle.hep_image.specs.Places.{extents_of, start_by, start_of, variable_of}
 use Rattle.hep_finding.specs.Constant.{HasConstantShape}
 use Rattle.hep_finding.proofs.Found.{IsFound, IsAddressedBy, addressed}
-use Rattle.hep_finding.proofs.Named.{constant-shape}
+use Rattle.hep_machine.proofs.ConstantShapes.{constant-shape}
 
 -- ---- shapes
 

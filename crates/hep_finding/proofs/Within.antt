@@ -20,7 +20,7 @@ use Rattle.hep_machine.specs.State.{State}
 use Rattle.hep_machine.specs.Variables.{frame_cells, is_do, locals_of, names_of}
 use Rattle.hep_code.specs.declared.variable.Variable.TheVariants as variables
 use Rattle.hep_frames.specs.Rows.{FramePart, argument, bounds, first_in_common, first_of_part, frame_row, iteration, same_part, size_in, variable}
-use Rattle.hep_frames.proofs.FrameRows.{argument-first, bounds-first, frame_row-cells, iteration-first, variable-first}
+use Rattle.hep_frames.proofs.FrameRows.{argument-first, bounds-first, frame_row-cells, iteration-first, variable-first, first-size}
 use Rattle.hep_image.specs.declared.array.Extents.{Extents}
 use Rattle.hep_image.specs.declared.array.Extents.TheVariants.{Constant, Adjustable}
 use Rattle.hep_image.specs.declared.array.Start.{Start}
@@ -31,8 +31,8 @@ use Rattle.hep_finding.specs.Constant.{HasConstantShape}
 use Rattle.hep_image.specs.Within.{AreExtentsIn, IsArrayIn, IsStartIn, LiesIn}
 use Rattle.hep_finding.specs.Within.{ArePlacedArrays}
 use Rattle.hep_finding.proofs.Counted.{do-there}
-use Rattle.hep_finding.proofs.Held.{first-size, held-cells}
-use Rattle.hep_finding.proofs.Named.{constant-shape}
+use Rattle.hep_finding.proofs.Held.{held-cells}
+use Rattle.hep_machine.proofs.ConstantShapes.{constant-shape}
 use Rattle.hep_finding.proofs.Own.{shaped-constant}
 
 -- the cells of a part lie in the frame

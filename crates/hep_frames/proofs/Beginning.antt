@@ -15,7 +15,7 @@ use Rattle.hep_arena.specs.Gaps.{gaps}
 use Rattle.hep_frames.specs.Addresses.{IsLaid, IsMemory}
 use Rattle.hep_frames.specs.Tree.{AreWantedBut, children_out, first_nodes, is_just, is_stacked, IsAtRest, IsNode, IsTree, IsWanted, Node, Nodes}
 use Rattle.hep_frames.proofs.Addresses.{address-out}
-use Rattle.hep_frames.proofs.HeldFrames.{placed-opening}
+use Rattle.hep_frames.proofs.HeldFrames.{placed-opening, opening-single}
 use Rattle.hep_frames.proofs.Memory.{laid-same, same-activation}
 
 -- ---- the arena
@@ -36,10 +36,6 @@ node-first v unit first cells k n e = by_key (nat_eq k v) refl e where
       → (k ≡ v) × (record { activation = 1; unit = unit; first = first; cells = cells; parent = None; children = 0; finished = false } ≡ n)
   by_key true j e = (eqb-true k v j, same_Some (record { activation = 1; unit = unit; first = first; cells = cells; parent = None; children = 0; finished = false }) n e)
   by_key false j e = absurd (none-some n e)
-
-opening-length : (program : Units) → length (run program []).activations ≡ 1
-unfolding run run_from opening
-opening-length program = refl
 
 opening-on : (program : Units) (a : ℕ) → is_stacked (run program []) a ≡ (nat_eq a 1 || false)
 unfolding run run_from opening
@@ -92,7 +88,7 @@ rest-first program v first cells = record { tree = record { shown = shown; found
   stacked a e = one-is (nat_eq a 1) (sym (opening-on program a) ∙ e)
 
   made : (a : ℕ) → nat_eq a 1 ≡ true → (1 ≤ a) × (a ≤ length (run program []).activations)
-  made a e = let same = eqb-true a 1 e in (omega (arith, same), omega (arith, same, opening-length program))
+  made a e = let same = eqb-true a 1 e in (omega (arith, same), omega (arith, same, opening-single program))
 
   wanted : (a : ℕ) → nat_eq a 1 ≡ true → is_just a None ≡ false → IsWanted (run program []) (is_stacked (run program [])) (λ b. nat_eq b 1) a
   wanted a e none = inl (opening-on program a ∙ is-one (nat_eq a 1) e)

@@ -1,9 +1,8 @@
 -- Counts of numbers that pass a test.
 use Rattle.std.proofs.Common.{◌≡◌, ℕ, zero, suc, ◌+◌, ◌≤◌, Bool, true, false, refl, sym, ap, ◌∙◌, arith}
 use Rattle.std.specs.Prelude.{if◌then◌else◌, nat_eq}
-use Rattle.std.proofs.lemmas.Bool.{eqb-true, eqb-false, eq-eqb}
+use Rattle.std.proofs.lemmas.Bool.{eqb-true, eqb-false, eq-eqb, ne_eqb}
 use Rattle.hep_frames.specs.Tree.{but, count_up_to}
-use Rattle.hep_frames.proofs.Frames.{other-number}
 
 pub count-same : (p q : ℕ → Bool) (n : ℕ) → ((a : ℕ) → 1 ≤ a → a ≤ n → p a ≡ q a) → count_up_to p n ≡ count_up_to q n
 count-same p q zero h = refl
@@ -28,7 +27,7 @@ count-one_less p q c (suc n) one le passes fails others = by_last (λ below. cou
       let last : suc n ≡ c = eqb-true (suc n) c e in
       let first : p (suc n) ≡ true = ap p last ∙ passes in
       let second : q (suc n) ≡ false = ap q last ∙ fails in
-      let below = count-same p q n (λ a some at_most. sym (others a (other-number a c (λ same. omega (arith, at_most, same, last))))) in
+      let below = count-same p q n (λ a some at_most. sym (others a (ne_eqb a c (λ same. omega (arith, at_most, same, last))))) in
       rw (first, second) (omega (arith, below))
   by_last rest false e =
       let same = others (suc n) e in

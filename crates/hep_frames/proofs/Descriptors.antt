@@ -25,7 +25,7 @@ use Rattle.hep_frames.proofs.Addresses.{IsLocal, IsCommon, IsFramed, frame_addre
 use Rattle.hep_frames.proofs.Frames.{among-out}
 use Rattle.hep_frames.proofs.Memory.{activation-kept, address-same, laid-entered, laid-left, one-of, others, same-activation, stays}
 
-clash : {A : Type 0} → true ≡ false → A
+pub clash : {A : Type 0} → true ≡ false → A
 clash e = absurd cc
 
 -- ---- no descriptor is kept where a storage unit is

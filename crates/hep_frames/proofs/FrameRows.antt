@@ -1,5 +1,5 @@
 -- The row of a frame: its cells, and where those of each part begin.
-use Rattle.std.proofs.Common.{◌≡◌, ℕ, zero, suc, ◌+◌, ◌*◌, Bool, true, false, List, [], ◌∷◌, ◌++◌, length, take, Option, Some, None, refl, sym, ap, ◌∙◌, subst, arith}
+use Rattle.std.proofs.Common.{◌≡◌, ℕ, zero, suc, ◌+◌, ◌*◌, ◌≤◌, Bool, true, false, List, [], ◌∷◌, ◌++◌, length, take, Some, refl, sym, ap, ◌∙◌, subst, arith}
 use Rattle.std.specs.Prelude.{if◌then◌else◌, nat_eq, slice_get}
 use Rattle.std.specs.List.{filter}
 use Rattle.std.specs.Option.{option_map}
@@ -13,8 +13,9 @@ use Rattle.hep_source.specs.Units.{dummies_of}
 use Rattle.hep_source.proofs.NameTests.{equal_names}
 use Rattle.hep_machine.specs.Constants.{adjustable_dimensions, cells_of, cells_of_all, cells_before}
 use Rattle.hep_machine.specs.Variables.{adjustable_dimensions_of_all, do_statements, frame_cells, is_do, locals_of}
-use Rattle.hep_frames.specs.Rows.{FramePart, header, argument, variable, iteration, bounds, cells_in, same_part, arguments_row, variables_row, iterations_row, bounds_row, frame_row}
+use Rattle.hep_frames.specs.Rows.{FramePart, Row, header, argument, variable, iteration, bounds, cells_in, first_in, size_in, same_part, arguments_row, variables_row, iterations_row, bounds_row, frame_row}
 use Rattle.hep_frames.proofs.Rows.{cells_in-append, has_key, IsEntry, entry-here, entry-next, entry-within, entry-behind, entry-at}
+use Rattle.hep_machine.proofs.Frames.{mapped_from}
 
 pub equal_parts : (p q : FramePart) → same_part p q ≡ true → p ≡ q
 equal_parts header header e = refl
@@ -62,15 +63,15 @@ frame_row-cells unit =
 
 -- ---- what has no place in a part of the row
 
-none-arguments : (part : FramePart) (xs : List Name) → ((y : Name) → same_part part (argument y) ≡ false) → has_key (same_part part) (arguments_row xs) ≡ false
+pub none-arguments : (part : FramePart) (xs : List Name) → ((y : Name) → same_part part (argument y) ≡ false) → has_key (same_part part) (arguments_row xs) ≡ false
 none-arguments part [] other = refl
 none-arguments part (x ∷ xs) other = rw (other x) (none-arguments part xs other)
 
-none-variables : (part : FramePart) (unit : List Statement) (xs : List Name) → ((y : Name) → same_part part (variable y) ≡ false) → has_key (same_part part) (variables_row unit xs) ≡ false
+pub none-variables : (part : FramePart) (unit : List Statement) (xs : List Name) → ((y : Name) → same_part part (variable y) ≡ false) → has_key (same_part part) (variables_row unit xs) ≡ false
 none-variables part unit [] other = refl
 none-variables part unit (x ∷ xs) other = rw (other x) (none-variables part unit xs other)
 
-none-iterations : (part : FramePart) (k : ℕ) (ss : List Statement) → ((d : ℕ) → same_part part (iteration d) ≡ false) → has_key (same_part part) (iterations_row k ss) ≡ false
+pub none-iterations : (part : FramePart) (k : ℕ) (ss : List Statement) → ((d : ℕ) → same_part part (iteration d) ≡ false) → has_key (same_part part) (iterations_row k ss) ≡ false
 none-iterations part k [] other = refl
 none-iterations part k (s ∷ ss) other = by_test (none-iterations part (suc k) ss other) (is_do s.form) where
   by_test : has_key (same_part part) (iterations_row (suc k) ss) ≡ false → (b : Bool) → has_key (same_part part) (if b then (iteration k, 2) ∷ iterations_row (suc k) ss else iterations_row (suc k) ss) ≡ false
@@ -78,10 +79,6 @@ none-iterations part k (s ∷ ss) other = by_test (none-iterations part (suc k) 
   by_test rest false = rest
 
 -- ---- where a part begins in its part of the row
-
-unmapped : {A B : Type 0} (f : A → B) (o : Option A) (y : B) → option_map f o ≡ Some y → (x : A) × (o ≡ Some x) × (f x ≡ y)
-unmapped f None y e = absurd (none-some y e)
-unmapped f (Some x) y e = (x, refl, same_Some (f x) y e)
 
 argument-entry : (x : Name) (xs : List Name) (k : ℕ) → index_among x xs ≡ Some k → IsEntry (same_part (argument x)) (arguments_row xs) (2 * k) 2
 argument-entry x [] k e = absurd (none-some k e)
@@ -91,7 +88,7 @@ argument-entry x (y ∷ ys) k e = by_test (argument-entry x ys) (same_name x y) 
       let same = same_Some 0 k e in
       entry-at (same_part (argument x)) ((argument y, 2) ∷ arguments_row ys) 0 (2 * k) 2 (omega (arith, same)) (entry-here (same_part (argument x)) (argument y) 2 (arguments_row ys) t)
   by_test rest false t e =
-      let found = unmapped suc (index_among x ys) k e in
+      let found = mapped_from suc (index_among x ys) k e in
       let same = found.2 in
       entry-at (same_part (argument x)) ((argument y, 2) ∷ arguments_row ys) (2 + 2 * found.0) (2 * k) 2 (omega (arith, same)) (entry-next (same_part (argument x)) (argument y) 2 (arguments_row ys) (2 * found.0) 2 t (rest found.0 found.1))
 
@@ -133,7 +130,7 @@ bounds-entry unit x (y ∷ ys) k e = by_test (bounds-entry unit x ys) (same_name
       subst (λ j. IsEntry (same_part (bounds x)) ((bounds y, 2 * adjustable_dimensions unit y) ∷ bounds_row unit ys) (2 * adjustable_dimensions_of_all unit (take j (y ∷ ys))) (2 * adjustable_dimensions unit x)) (same_Some 0 k e) (
       subst (IsEntry (same_part (bounds x)) ((bounds y, 2 * adjustable_dimensions unit y) ∷ bounds_row unit ys) 0) (ap (λ z. 2 * adjustable_dimensions unit z) (sym (equal_names x y t))) (entry-here (same_part (bounds x)) (bounds y) (2 * adjustable_dimensions unit y) (bounds_row unit ys) t))
   by_test rest false t e =
-      let found = unmapped suc (index_among x ys) k e in
+      let found = mapped_from suc (index_among x ys) k e in
       subst (λ j. IsEntry (same_part (bounds x)) ((bounds y, 2 * adjustable_dimensions unit y) ∷ bounds_row unit ys) (2 * adjustable_dimensions_of_all unit (take j (y ∷ ys))) (2 * adjustable_dimensions unit x)) found.2 (
       entry-at (same_part (bounds x)) ((bounds y, 2 * adjustable_dimensions unit y) ∷ bounds_row unit ys) (2 * adjustable_dimensions unit y + 2 * adjustable_dimensions_of_all unit (take found.0 ys)) (2 * (adjustable_dimensions unit y + adjustable_dimensions_of_all unit (take found.0 ys))) (2 * adjustable_dimensions unit x) (omega arith) (
       entry-next (same_part (bounds x)) (bounds y) (2 * adjustable_dimensions unit y) (bounds_row unit ys) (2 * adjustable_dimensions_of_all unit (take found.0 ys)) (2 * adjustable_dimensions unit x) t (rest found.0 found.1)))
@@ -189,3 +186,12 @@ module _ (unit : List Statement) where
       let behind = entry-behind part arguments (variables ++ (iterations ++ all_bounds)) (cells_in variables + (cells_in iterations + first)) size (none-arguments (bounds x) (dummies_of unit) (λ y. refl)) after in
       entry-next part header 1 (arguments ++ (variables ++ (iterations ++ all_bounds))) (2 * length (dummies_of unit) + (cells_of_all unit (locals_of unit) + (2 * do_statements unit + first))) size refl (
       entry-at part (arguments ++ (variables ++ (iterations ++ all_bounds))) (cells_in arguments + (cells_in variables + (cells_in iterations + first))) (2 * length (dummies_of unit) + (cells_of_all unit (locals_of unit) + (2 * do_statements unit + first))) size (omega (arith, arguments-cells (dummies_of unit), variables-cells unit (locals_of unit), iterations-cells 0 unit)) behind)
+
+-- ---- what is found in a row is within it
+
+pub first-size : {K : Type 0} (test : K → Bool) (es : Row K) → first_in test es + size_in test es ≤ cells_in es
+first-size test [] = omega arith
+first-size test (e ∷ es) = by_test (test e.0) (first-size test es) where
+  by_test : (b : Bool) → first_in test es + size_in test es ≤ cells_in es → (if b then 0 else e.1 + first_in test es) + (if b then e.1 else size_in test es) ≤ e.1 + cells_in es
+  by_test true h = omega arith
+  by_test false h = omega (arith, h)

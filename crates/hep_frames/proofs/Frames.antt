@@ -1,24 +1,19 @@
 -- Frames of a layout: which one an activation has, and how they lie.
 use Rattle.std.proofs.Common.{◌≡◌, ◌⊎◌, inl, inr, ℕ, ◌+◌, ◌<◌, ◌≤◌, Bool, true, false, [], ◌∷◌, ◌++◌, Option, Some, None, refl, sym, ap, ◌∙◌, subst, arith}
 use Rattle.std.specs.Prelude.{if◌then◌else◌, nat_eq, nat_le, nat_lt}
-use Rattle.std.proofs.lemmas.Bool.{eqb-true, eqb-false}
+use Rattle.std.proofs.lemmas.Bool.{eqb-true, eqb-false, ne_eqb}
 use Rattle.std.proofs.lemmas.Bool.Decides.{nat_tests}
 use Rattle.std.proofs.lemmas.Option.{same_Some, none-some}
 use Rattle.hep_machine.specs.Laws.{StandApart}
 use Rattle.hep_machine.specs.Layout.{Frame, Layout, lowest_gap, with_frame}
 use Rattle.hep_arena.specs.Gaps.{frame_among, gaps, without}
 use Rattle.hep_arena.specs.Holes.{IsOut}
-use Rattle.hep_arena.proofs.Gaps.{frame-out}
+use Rattle.hep_arena.proofs.Gaps.{frame-out, chosen}
 use Rattle.hep_frames.specs.Addresses.{AreSingle}
-
-pub other-number : (a b : ℕ) → (a ≡ b → ⊥) → nat_eq a b ≡ false
-other-number a b other = by_test (nat_eq a b) refl where
-  by_test : (t : Bool) → nat_eq a b ≡ t → t ≡ false
-  by_test true e = absurd (other (eqb-true a b e))
-  by_test false e = refl
+use Rattle.hep_machine.proofs.Frames.{apart_further}
 
 turned : (a b : ℕ) → nat_eq a b ≡ false → nat_eq b a ≡ false
-turned a b e = other-number b a (λ same. eqb-false a b e (sym same))
+turned a b e = ne_eqb b a (λ same. eqb-false a b e (sym same))
 
 -- ---- the frame of an activation
 
@@ -109,11 +104,6 @@ single-with_frame (g ∷ gs) f h none = by_place (single-with_frame gs f h.1 (no
   by_place rest true = (none, h)
   by_place rest false = (still, rest)
 
--- where the lowest gap is
-chosen : (b : Bool) (x : ℕ) (o : Option ℕ) (y : ℕ) → (if b then Some x else o) ≡ Some y → ((b ≡ true) × (x ≡ y)) ⊎ ((b ≡ false) × (o ≡ Some y))
-chosen true x o y e = inl (refl, same_Some x y e)
-chosen false x o y e = inr (refl, e)
-
 pub gap-behind : (cells n from first : ℕ) (fs : Layout) → StandApart cells from fs → lowest_gap cells n from fs ≡ Some first → from ≤ first
 gap-behind cells n from first [] h e = elim (chosen (nat_le (from + n) cells) from None first e) [ inl c ↦ omega (arith, c.1) | inr c ↦ absurd (none-some first c.1) ]
 gap-behind cells n from first (f ∷ fs) h e =
@@ -178,13 +168,9 @@ single-without a (g ∷ gs) h = by_head (single-without a gs h.1) (nat_eq g.acti
   by_head rest true = h.1
   by_head rest false = (among-without a g.activation gs h.1 ∙ none (nat_eq a g.activation), rest)
 
-pub apart-lower : (cells low from : ℕ) (fs : Layout) → low ≤ from → StandApart cells from fs → StandApart cells low fs
-apart-lower cells low from [] le h = omega (arith, le, h)
-apart-lower cells low from (f ∷ fs) le h = (omega (arith, le, h.0), h.1, h.2)
-
 pub apart-without : (cells from a : ℕ) (fs : Layout) → StandApart cells from fs → StandApart cells from (without a fs)
 apart-without cells from a [] h = h
 apart-without cells from a (g ∷ gs) h = by_head (apart-without cells (g.first + g.cells) a gs h.2) (nat_eq g.activation a) where
   by_head : StandApart cells (g.first + g.cells) (without a gs) → (t : Bool) → StandApart cells from (if t then gs else g ∷ without a gs)
-  by_head rest true = apart-lower cells from (g.first + g.cells) gs (omega (arith, h.0)) h.2
+  by_head rest true = apart_further cells from (g.first + g.cells) gs (omega (arith, h.0)) h.2
   by_head rest false = (h.0, h.1, rest)

@@ -3,7 +3,7 @@ use Rattle.std.proofs.Common.{◌≡◌, ◌⊎◌, inl, inr, ℕ, zero, suc, �
 use Rattle.std.specs.Prelude.{◌||◌, if◌then◌else◌, is_some, nat_eq, nat_le, nat_lt, slice_set}
 use Rattle.std.specs.List.{filter, flat_map}
 use Rattle.std.specs.Option.{option_map, option_map_or, unwrap_or}
-use Rattle.std.proofs.lemmas.Bool.{eqb-true, eqb-false, eq-eqb}
+use Rattle.std.proofs.lemmas.Bool.{eqb-true, eqb-false, eq-eqb, ne_eqb, or_cases}
 use Rattle.std.proofs.lemmas.Bool.Decides.{nat_tests}
 use Rattle.std.proofs.lemmas.List.{length-append}
 use Rattle.std.proofs.lemmas.Option.{same_Some, none-some}
@@ -17,25 +17,22 @@ use Rattle.hep_machine.specs.State.{Activation, Process, State}
 use Rattle.hep_machine.specs.Step.{Top, entry_level, next_activation, step}
 use Rattle.hep_machine.proofs.Ages.{IsAged, aged, older_parent, on_stack_made}
 use Rattle.hep_machine.proofs.Changes.{Change, moves, leaves, faults, calls, creates, stops, HasOneMore, HasSame, HasStepped, stack, step_changes, top_in}
-use Rattle.hep_machine.proofs.Held.{held_is}
+use Rattle.hep_machine.proofs.Held.{held_is, among-cases, among-append}
 use Rattle.hep_arena.specs.Gaps.{frame_among, framed_cells}
 use Rattle.hep_frames.specs.Addresses.{AreSingle, IsLaid, frame_from}
 use Rattle.hep_frames.specs.Tree.{is_stacked}
-use Rattle.hep_frames.proofs.Frames.{among-with_frame, apart-lower, apart-with_frame, other-number}
+use Rattle.hep_frames.proofs.Frames.{among-with_frame, apart-with_frame}
 use Rattle.hep_frames.proofs.Memory.{activation-kept, activation-last, laid-entered, laid-same, same-activation, unmade}
 use Rattle.hep_frames.proofs.Stacks.{top-numbered}
-use Rattle.hep_frames.proofs.Tree.{both-ways, among-append, on-stacked, or-parts, stacked-on, stacked-top}
+use Rattle.hep_frames.proofs.Tree.{both-ways, on-stacked, stacked-on, stacked-top}
+use Rattle.hep_machine.proofs.Replays.{run_after}
+use Rattle.hep_machine.proofs.Frames.{apart_further}
 
 -- ---- one more turn
 
-run_from-append : (program : Units) (s : State) (ps qs : List ℕ) → run_from program s (ps ++ qs) ≡ run_from program (run_from program s ps) qs
-unfolding run_from
-run_from-append program s [] qs = refl
-run_from-append program s (p ∷ ps) qs = run_from-append program (state_after_turn program p s) ps qs
-
 pub run-last : (program : Units) (ps : List ℕ) (p : ℕ) → run program (ps ++ p ∷ []) ≡ state_after_turn program p (run program ps)
 unfolding run run_from
-run-last program ps p = run_from-append program (opening program) ps (p ∷ [])
+run-last program ps p = run_after program (opening program) ps (p ∷ [])
 
 -- ---- what is on stacks after a step
 
@@ -46,12 +43,12 @@ or-behind false e = e
 stacked-set : (a : ℕ) (qs : List Process) (i : ℕ) (q : Process) → is_number_among a (flat_map activations_on (slice_set qs i q)) ≡ true → (is_number_among a (activations_on q) ≡ true) ⊎ (is_number_among a (flat_map activations_on qs) ≡ true)
 stacked-set a [] i q h = inr h
 stacked-set a (r ∷ rs) zero q h =
-    elim (or-parts (is_number_among a (activations_on q)) (is_number_among a (flat_map activations_on rs)) (sym (among-append a (activations_on q) (flat_map activations_on rs)) ∙ h)) [
+    elim (or_cases (is_number_among a (activations_on q)) (is_number_among a (flat_map activations_on rs)) (sym (among-append a (activations_on q) (flat_map activations_on rs)) ∙ h)) [
       | inl here ↦ inl here
       | inr rest ↦ inr (among-append a (activations_on r) (flat_map activations_on rs) ∙ or-behind (is_number_among a (activations_on r)) rest)
     ]
 stacked-set a (r ∷ rs) (suc i) q h =
-    elim (or-parts (is_number_among a (activations_on r)) (is_number_among a (flat_map activations_on (slice_set rs i q))) (sym (among-append a (activations_on r) (flat_map activations_on (slice_set rs i q))) ∙ h)) [
+    elim (or_cases (is_number_among a (activations_on r)) (is_number_among a (flat_map activations_on (slice_set rs i q))) (sym (among-append a (activations_on r) (flat_map activations_on (slice_set rs i q))) ∙ h)) [
       | inl here ↦ inr (among-append a (activations_on r) (flat_map activations_on rs) ∙ ap (λ b. b || is_number_among a (flat_map activations_on rs)) here)
       | inr rest ↦ elim (stacked-set a rs i q rest) [
         | inl new ↦ inl new
@@ -61,9 +58,9 @@ stacked-set a (r ∷ rs) (suc i) q h =
 
 stacked-last : (a : ℕ) (qs : List Process) (r : Process) → is_number_among a (flat_map activations_on (qs ++ r ∷ [])) ≡ true → (is_number_among a (flat_map activations_on qs) ≡ true) ⊎ (is_number_among a (activations_on r) ≡ true)
 stacked-last a [] r h =
-    elim (or-parts (is_number_among a (activations_on r)) false (sym (among-append a (activations_on r) []) ∙ h)) [ inl here ↦ inr here | inr none ↦ absurd cc ]
+    elim (or_cases (is_number_among a (activations_on r)) false (sym (among-append a (activations_on r) []) ∙ h)) [ inl here ↦ inr here | inr none ↦ absurd cc ]
 stacked-last a (q ∷ qs) r h =
-    elim (or-parts (is_number_among a (activations_on q)) (is_number_among a (flat_map activations_on (qs ++ r ∷ []))) (sym (among-append a (activations_on q) (flat_map activations_on (qs ++ r ∷ []))) ∙ h)) [
+    elim (or_cases (is_number_among a (activations_on q)) (is_number_among a (flat_map activations_on (qs ++ r ∷ []))) (sym (among-append a (activations_on q) (flat_map activations_on (qs ++ r ∷ []))) ∙ h)) [
       | inl here ↦ inl (among-append a (activations_on q) (flat_map activations_on qs) ∙ ap (λ b. b || is_number_among a (flat_map activations_on qs)) here)
       | inr rest ↦ elim (stacked-last a qs r rest) [
         | inl old ↦ inl (among-append a (activations_on q) (flat_map activations_on qs) ∙ or-behind (is_number_among a (activations_on q)) old)
@@ -73,9 +70,6 @@ stacked-last a (q ∷ qs) r h =
 
 stack-stacked : (t : Top) (a : ℕ) → numbered t.state.processes t.process ≡ Some (stack t) → is_number_among a (activations_on (stack t)) ≡ true → is_stacked t.state a ≡ true
 stack-stacked t a there h = on-stacked t.state a (t.process, stack t, there, h)
-
-head-cases : (a b : ℕ) (ns : List ℕ) → is_number_among a (b ∷ ns) ≡ true → (a ≡ b) ⊎ (is_number_among a ns ≡ true)
-head-cases a b ns h = elim (or-parts (nat_eq a b) (is_number_among a ns) h) [ inl same ↦ inl (eqb-true a b same) | inr rest ↦ inr rest ]
 
 -- what is on a stack after a step was on one before, or is new
 stacked-before : (t : Top) (s : State) (a : ℕ) → numbered t.state.processes t.process ≡ Some (stack t) → Change t s → is_stacked s a ≡ true → (a ≡ next_activation t.state) ⊎ (is_stacked t.state a ≡ true)
@@ -94,7 +88,7 @@ stacked-before t s a there c h = by_change c where
   ]
   by_change (faults k l) = elim (on_set s.processes [] k h) [ inl none ↦ absurd cc | inr old ↦ inr old ]
   by_change (calls q x e k l) = elim (on_set s.processes q k h) [
-    | inl own ↦ elim (head-cases a (next_activation t.state) (activations_on (stack t)) (sym (ap (is_number_among a) e) ∙ own)) [
+    | inl own ↦ elim (among-cases a (next_activation t.state) (activations_on (stack t)) (sym (ap (is_number_among a) e) ∙ own)) [
       | inl new ↦ inl new
       | inr on ↦ inr (stack-stacked t a there on)
     ]
@@ -102,7 +96,7 @@ stacked-before t s a there c h = by_change c where
   ]
   by_change (creates q r x e f k l) = elim (stacked-last a (with_numbered t.state.processes t.process q) r (sym (ap (λ z. is_number_among a (flat_map activations_on z)) k) ∙ h)) [
     | inl on ↦ elim (on_set (with_numbered t.state.processes t.process q) q refl on) [ inl own ↦ inr (of_stack q e own) | inr old ↦ inr old ]
-    | inr new ↦ elim (head-cases a (next_activation t.state) [] (sym (ap (is_number_among a) f) ∙ new)) [ inl one ↦ inl one | inr none ↦ absurd cc ]
+    | inr new ↦ elim (among-cases a (next_activation t.state) [] (sym (ap (is_number_among a) f) ∙ new)) [ inl one ↦ inl one | inr none ↦ absurd cc ]
   ]
   by_change (stops k l) = inr (sym (ap (λ z. is_number_among a (flat_map activations_on z)) k) ∙ h)
 
@@ -218,7 +212,7 @@ apart-filter cells from keep [] h = h
 apart-filter cells from keep (g ∷ gs) h = by_test (apart-filter cells (g.first + g.cells) keep gs h.2) (keep g.activation) where
   by_test : StandApart cells (g.first + g.cells) (filter (λ (f : Frame). keep f.activation) gs) → (b : Bool) → StandApart cells from (if b then g ∷ filter (λ (f : Frame). keep f.activation) gs else filter (λ (f : Frame). keep f.activation) gs)
   by_test more true = (h.0, h.1, more)
-  by_test more false = apart-lower cells from (g.first + g.cells) (filter (λ (f : Frame). keep f.activation) gs) (omega (arith, h.0)) more
+  by_test more false = apart_further cells from (g.first + g.cells) (filter (λ (f : Frame). keep f.activation) gs) (omega (arith, h.0)) more
 
 kept-among : (keep : ℕ → Bool) (a : ℕ) (fs : Layout) (f : Frame) → frame_among a (filter (λ (g : Frame). keep g.activation) fs) ≡ Some f → frame_among a fs ≡ Some f
 kept-among keep a fs f e = by_keep (keep a) (sym (among-filter keep a fs) ∙ e) where
@@ -355,7 +349,7 @@ opening-stacked program = (1, entry_level (unit_at program (main_unit program)) 
 opening-held : (program : Units) → is_held (run program []) 1 ≡ true
 opening-held program = (held_is program [] 1).1 (inl (opening-stacked program))
 
-opening-single : (program : Units) → length (run program []).activations ≡ 1
+pub opening-single : (program : Units) → length (run program []).activations ≡ 1
 unfolding run run_from opening
 opening-single program = refl
 
@@ -437,7 +431,7 @@ sum-one f g c (suc n) one le none others = by_last (λ below. sum-one f g c n on
   by_last : (c ≤ n → sum_up_to f n ≡ f c + sum_up_to g n) → (b : Bool) → nat_eq c (suc n) ≡ b → sum_up_to f n + f (suc n) ≡ f c + (sum_up_to g n + g (suc n))
   by_last rest true e =
       let last = eqb-true c (suc n) e in
-      let below = sum-same f g n (λ a some at_most. others a (other-number c a (λ same. omega (arith, at_most, same, last)))) in
+      let below = sum-same f g n (λ a some at_most. others a (ne_eqb c a (λ same. omega (arith, at_most, same, last)))) in
       let here : f (suc n) ≡ f c = ap f (sym last) in
       let gone : g (suc n) ≡ 0 = ap g (sym last) ∙ none in
       omega (arith, below, here, gone)
@@ -458,7 +452,7 @@ framed-sum n (g ∷ gs) h made =
     omega (arith, split, first, framed-sum n gs h.1 (λ a f e. made a f (rest a f e)))
   where
     rest : (a : ℕ) (f : Frame) → frame_among a gs ≡ Some f → (if nat_eq g.activation a then Some g else frame_among a gs) ≡ Some f
-    rest a f e = ap (λ b. if b then Some g else frame_among a gs) (other-number g.activation a (λ same. none-some f (sym h.0 ∙ (ap (λ c. frame_among c gs) same ∙ e)))) ∙ e
+    rest a f e = ap (λ b. if b then Some g else frame_among a gs) (ne_eqb g.activation a (λ same. none-some f (sym h.0 ∙ (ap (λ c. frame_among c gs) same ∙ e)))) ∙ e
 
 used-sum : (program : Units) (s : State) (layout : Layout) (cells : ℕ) → IsPlaced program s cells layout → (n : ℕ) → frames_up_to program is_held s n ≡ sum_up_to (cells_among layout) n
 used-sum program s layout cells placed zero = refl

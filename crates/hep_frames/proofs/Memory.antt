@@ -2,7 +2,7 @@
 use Rattle.std.proofs.Common.{◌≡◌, ◌⊎◌, inl, inr, ℕ, suc, ◌+◌, ◌<◌, ◌≤◌, Bool, true, false, List, [], ◌∷◌, ◌++◌, length, Option, Some, None, refl, sym, ap, ◌∙◌, subst, arith}
 use Rattle.std.specs.Option.{unwrap_or}
 use Rattle.std.specs.Prelude.{if◌then◌else◌, ◌&&◌, nat_eq, slice_get, slice_set}
-use Rattle.std.proofs.lemmas.Bool.{eqb-true, eqb-false, eq-eqb}
+use Rattle.std.proofs.lemmas.Bool.{eqb-true, eqb-false, eq-eqb, and_from, ne_eqb}
 use Rattle.std.proofs.lemmas.List.{length-append, length-set}
 use Rattle.std.proofs.lemmas.Option.{same_Some, none-some, slice_get_within}
 use Rattle.hep_source.specs.declared.name.Name.{Name}
@@ -11,7 +11,7 @@ use Rattle.hep_source.specs.Units.{Units, unit_at}
 use Rattle.hep_source.proofs.NameTests.{same_name-self}
 use Rattle.hep_machine.specs.declared.slot.Slot.{Slot}
 use Rattle.hep_machine.specs.Access.{unset_cell}
-use Rattle.hep_machine.specs.Declarations.{BlockName, same_block}
+use Rattle.hep_machine.specs.Declarations.{same_block}
 use Rattle.hep_machine.specs.Defaults.{no_activation}
 use Rattle.hep_machine.specs.Layout.{Frame, Layout, lowest_gap, with_frame, frame_of, common_cells}
 use Rattle.hep_machine.specs.Processes.{activation_of, numbered}
@@ -19,7 +19,7 @@ use Rattle.hep_machine.specs.State.{Activation, Location, local, common, State, 
 use Rattle.hep_machine.specs.Storage.{same_location, with_cell}
 use Rattle.hep_machine.specs.Variables.{frame_cells}
 use Rattle.hep_machine.specs.Views.{is_owned}
-use Rattle.hep_machine.proofs.Locations.{equal_locations}
+use Rattle.hep_machine.proofs.Locations.{equal_locations, block-self}
 use Rattle.hep_machine.proofs.Others.{front_numbered}
 use Rattle.hep_arena.specs.Gaps.{frame_among, framed_cells, gaps, without}
 use Rattle.hep_arena.specs.Holes.{Hole, IsOut, first_fit, free_cells, given, taken}
@@ -27,22 +27,15 @@ use Rattle.hep_arena.proofs.Gaps.{fit-gaps, gaps-cells, given-without, taken-gap
 use Rattle.hep_arena.proofs.Lists.{get-set_same, get-set_other}
 use Rattle.hep_frames.specs.Addresses.{address, frame_from, Holds, IsLaid, IsMemory}
 use Rattle.hep_frames.proofs.Addresses.{IsFramed, IsLocal, IsCommon, address-alike, address-out, framed, located, one-location}
-use Rattle.hep_frames.proofs.Frames.{among-out, among-with_frame, among-without, apart-with_frame, apart-without, other-number, single-with_frame, single-without}
+use Rattle.hep_frames.proofs.Frames.{among-out, among-with_frame, among-without, apart-with_frame, apart-without, single-with_frame, single-without}
+use Rattle.hep_source.proofs.Tests.{at-last}
 
 -- ---- a location is itself
 
-both-true : (a b : Bool) → a ≡ true → b ≡ true → (a && b) ≡ true
-both-true true b e f = f
-both-true false b e f = absurd cc
-
-block-self : (b : BlockName) → same_block b b ≡ true
-block-self None = refl
-block-self (Some x) = same_name-self x
-
 pub location-self : (at : Location) → same_location at at ≡ true
 location-self (local a x i) =
-    both-true (nat_eq a a) (same_name x x && nat_eq i i) (eq-eqb a a refl) (both-true (same_name x x) (nat_eq i i) (same_name-self x) (eq-eqb i i refl))
-location-self (common b k) = both-true (same_block b b) (nat_eq k k) (block-self b) (eq-eqb k k refl)
+    and_from (nat_eq a a) (same_name x x && nat_eq i i) (eq-eqb a a refl) (and_from (same_name x x) (nat_eq i i) (same_name-self x) (eq-eqb i i refl))
+location-self (common b k) = and_from (same_block b b) (nat_eq k k) (block-self b) (eq-eqb k k refl)
 
 -- who owns an element
 owner-is : (a : ℕ) (at : Location) (b : ℕ) (x : Name) (i : ℕ) → at ≡ local b x i → is_owned a at ≡ true → a ≡ b
@@ -104,17 +97,13 @@ memory-written program s t layout contents holes l p c h at_l e f =
 
 -- ---- a new activation with its frame
 
-last-one : {A : Type 0} (xs : List A) (x : A) → slice_get (xs ++ x ∷ []) (length xs) ≡ Some x
-last-one [] x = refl
-last-one (y ∷ ys) x = last-one ys x
-
 pub activation-kept : (s t : State) (x : Activation) (a : ℕ) → t.activations ≡ s.activations ++ x ∷ [] → a ≤ length s.activations → activation_of t a ≡ activation_of s a
 activation-kept s t x a e le =
     ap (λ (xs : List Activation). unwrap_or (numbered xs a) no_activation) e ∙ ap (λ (o : Option Activation). unwrap_or o no_activation) (front_numbered s.activations (x ∷ []) a le)
 
 pub activation-last : (s t : State) (x : Activation) → t.activations ≡ s.activations ++ x ∷ [] → activation_of t (suc (length s.activations)) ≡ x
 activation-last s t x e =
-    ap (λ (xs : List Activation). unwrap_or (numbered xs (suc (length s.activations))) no_activation) e ∙ ap (λ (o : Option Activation). unwrap_or o no_activation) (last-one s.activations x)
+    ap (λ (xs : List Activation). unwrap_or (numbered xs (suc (length s.activations))) no_activation) e ∙ ap (λ (o : Option Activation). unwrap_or o no_activation) (at-last s.activations x)
 
 module _ (program : Units) (s t : State) (x : Activation) (layout : Layout) (first : ℕ) (more : t.activations ≡ s.activations ++ x ∷ []) where
   abbrev n : ℕ
@@ -136,7 +125,7 @@ module _ (program : Units) (s t : State) (x : Activation) (layout : Layout) (fir
   pub others : {cells : ℕ} (a : ℕ) (f : Frame) → IsLaid program s cells layout → frame_among a layout ≡ Some f → (nat_eq n a ≡ false) × (frame_among a (with_frame layout new_frame) ≡ Some f)
   others a f laid e =
       let made = laid.made a f e in
-      let other = other-number n a (λ same. omega (arith, long, same, made.1)) in
+      let other = ne_eqb n a (λ same. omega (arith, long, same, made.1)) in
       (other, among-with_frame a layout new_frame (unmade laid) ∙ rw other e)
 
   -- each frame is the new one or one that was there
@@ -254,7 +243,7 @@ module _ (program : Units) (s : State) (a : ℕ) (layout : Layout) where
   pub address-left : (cells : ℕ) (at : Location) → IsLaid program s cells layout → is_owned a at ≡ false → address program s (without a layout) at ≡ address program s layout at
   address-left cells at laid other =
       address-alike program s s layout (without a layout) at (λ b owned.
-      let apart = other-number a b (λ same. clash (sym other ∙ (ap (λ c. is_owned c at) same ∙ owned))) in
+      let apart = ne_eqb a b (λ same. clash (sym other ∙ (ap (λ c. is_owned c at) same ∙ owned))) in
       (refl, among-without a b layout laid.single ∙ rw apart refl))
     where
       clash : false ≡ true → ⊥

@@ -28,7 +28,7 @@ use Rattle.hep_machine.specs.Step.{Answer, gives, waits, fails, answer_at, answe
 use Rattle.hep_machine.specs.Storage.{emptied_from, further, same_location, with_cell, with_empty, with_value}
 use Rattle.hep_machine.proofs.Changes.{Makes}
 use Rattle.hep_frames.specs.References.{IsMadeAt}
-use Rattle.hep_frames.proofs.Frames.{other-number}
+use Rattle.std.proofs.lemmas.Bool.{ne_eqb}
 
 -- ---- dummy arguments
 
@@ -93,7 +93,7 @@ KeepsLater n old new = (a : ℕ) (x : Name) (i : ℕ) → n < a → new (local a
 
 elsewhere : (n a : ℕ) (x : Name) (i : ℕ) (at : Location) → IsMadeAt n at → n < a → same_location (local a x i) at ≡ false
 elsewhere n a x i (common b k) made later = refl
-elsewhere n a x i (local b y j) made later = ap (λ t. t && (same_name x y && nat_eq i j)) (other-number a b (λ same. omega (arith, same, made, later)))
+elsewhere n a x i (local b y j) made later = ap (λ t. t && (same_name x y && nat_eq i j)) (ne_eqb a b (λ same. omega (arith, same, made, later)))
 
 later-with_cell : (n : ℕ) (old : Store) (at : Location) (cell : Cell) → IsMadeAt n at → KeepsLater n old (with_cell old at cell)
 later-with_cell n old at cell made a x i later = rw (elsewhere n a x i at made later) refl

@@ -2,7 +2,7 @@
 use Rattle.std.proofs.Common.{◌≡◌, ◌⊎◌, inl, inr, ℕ, zero, suc, ◌+◌, ◌-◌, ◌<◌, ◌≤◌, Bool, true, false, List, [], ◌∷◌, ◌++◌, length, Option, Some, None, refl, sym, ap, ◌∙◌, subst, arith, append_assoc, append-nil}
 use Rattle.std.specs.Prelude.{◌&&◌, if◌then◌else◌, map, nat_eq, nat_le, option_and_then, option_to_list}
 use Rattle.std.specs.Option.{option_map, unwrap_or}
-use Rattle.std.proofs.lemmas.Bool.{eqb-true, eqb-false}
+use Rattle.std.proofs.lemmas.Bool.{eqb-true, eqb-false, ne_eqb}
 use Rattle.std.proofs.lemmas.Bool.Decides.{nat_tests}
 use Rattle.std.proofs.lemmas.List.{length-append}
 use Rattle.std.proofs.lemmas.Option.{slice_get_past}
@@ -29,7 +29,6 @@ use Rattle.hep_machine.proofs.Ages.{IsAged, aged, older_parent, on_stack_made}
 use Rattle.hep_machine.proofs.Changes.{by_step, next_on, top_in}
 use Rattle.hep_machine.proofs.Held.{held_is}
 use Rattle.hep_frames.specs.References.{IsAbove, IsMadeAt, IsOwnedAbove}
-use Rattle.hep_frames.proofs.Frames.{other-number}
 use Rattle.hep_frames.proofs.HeldFrames.{run-last}
 use Rattle.hep_frames.proofs.Memory.{activation-kept, activation-last, same-activation}
 use Rattle.hep_frames.proofs.Passed.{ArePassed, HasPassed, HasStored, IsMadeScope, IsPassed, KeepsLater, made-further, made-storage, stored-next}
@@ -207,7 +206,7 @@ made-named scope (t ∷ ts) made =
 no-distance : (at : Location) (a : ℕ) (x : Name) (i : ℕ) → IsMadeAt 1 at → 1 < a → distance at (local a x i) ≡ None
 no-distance (common b k) a x i made later = refl
 no-distance (local b y j) a x i made later =
-    ap (λ t. if t && (same_name y x && nat_le j i) then Some (i - j) else None) (other-number b a (λ same. omega (arith, made, later, same)))
+    ap (λ t. if t && (same_name y x && nat_le j i) then Some (i - j) else None) (ne_eqb b a (λ same. omega (arith, made, later, same)))
 
 no-index : (us : List StorageUnits) (a : ℕ) (x : Name) (i : ℕ) → AreMadeAt us → 1 < a → index_of_location us (local a x i) ≡ None
 no-index [] a x i made later = refl

@@ -6,7 +6,7 @@ use Rattle.hep_frames.proofs.Beginning.{tree-same, wanted-same}
 use Rattle.hep_frames.proofs.TreeSteps.{tree-ended, tree-entered, wanted-ended, wanted-entered}
 
 -- tests that agree are one
-one-test : (p q : ℕ → Bool) → ((a : ℕ) → p a ≡ q a) → p ≡ q
+pub one-test : (p q : ℕ → Bool) → ((a : ℕ) → p a ≡ q a) → p ≡ q
 one-test p q h = λ i a. h a i
 
 pub rest-same : (s t : State) (out : ℕ → Bool) (nodes : Nodes) → IsAtRest s out nodes → t.activations ≡ s.activations → ((a : ℕ) → is_stacked t a ≡ is_stacked s a) → IsAtRest t out nodes

@@ -3,7 +3,7 @@ use Rattle.std.proofs.Common.{◌≡◌, ◌⊎◌, inl, inr, ℕ, zero, suc, �
 use Rattle.std.specs.Prelude.{◌&&◌, ◌||◌, if◌then◌else◌, not, map, slice_get}
 use Rattle.std.specs.List.{filter, flat_map}
 use Rattle.std.specs.Option.{option_map}
-use Rattle.std.proofs.lemmas.Bool.{and_parts}
+use Rattle.std.proofs.lemmas.Bool.{and_parts, or_left, or_right, not-true}
 use Rattle.std.proofs.lemmas.List.Folds.{list_any-append}
 use Rattle.std.proofs.lemmas.Option.{same_Some, none-some}
 use Rattle.hep_source.specs.declared.declaration.CommonBlock.{CommonBlock}
@@ -12,7 +12,7 @@ use Rattle.hep_source.specs.declared.name.Name.{Name}
 use Rattle.hep_source.specs.declared.statement.Statement.{Statement}
 use Rattle.hep_source.specs.Names.{same_name, is_among, index_among}
 use Rattle.hep_source.specs.Units.{Units, unit_at, dummies_of}
-use Rattle.hep_source.proofs.NameTests.{equal_names, same_name-self}
+use Rattle.hep_source.proofs.NameTests.{equal_names}
 use Rattle.hep_machine.specs.Constants.{cells_of, cells_of_all, cells_before}
 use Rattle.hep_machine.specs.Declarations.{BlockName, block_holding, block_of, blocks_of, blocks_of_unit, common_block, entries_under, is_common, is_constant_name, is_block_among, names_declared, names_in_block, same_block, with_blocks}
 use Rattle.hep_machine.specs.Locations.{dummy_at}
@@ -22,7 +22,7 @@ use Rattle.hep_machine.specs.State.{Activation, Location, local, common, State}
 use Rattle.hep_machine.specs.Storage.{further}
 use Rattle.hep_machine.specs.Variables.{is_local, locals_of, names_of}
 use Rattle.hep_machine.specs.Views.{is_owned}
-use Rattle.hep_machine.proofs.Locations.{equal_blocks}
+use Rattle.hep_machine.proofs.Locations.{equal_blocks, block-self, block-stays}
 use Rattle.hep_arena.specs.Gaps.{frame_among, without}
 use Rattle.hep_frames.specs.Addresses.{address, address_of_kept, cell_in, frame_from, kept_in, IsLaid}
 use Rattle.hep_frames.specs.Rows.{argument, variable, common_row, first_in, first_in_common, first_of_part, frame_row, place_of_part, same_part, size_in}
@@ -34,7 +34,7 @@ use Rattle.hep_frames.proofs.Rows.{place-at}
 
 -- ---- sequences
 
-further-further : (at : Location) (m n : ℕ) → further (further at m) n ≡ further at (m + n)
+pub further-further : (at : Location) (m n : ℕ) → further (further at m) n ≡ further at (m + n)
 further-further (local a x i) m n = ap (local a x) (omega arith)
 further-further (common b k) m n = ap (common b) (omega arith)
 
@@ -84,10 +84,6 @@ not-among x (y ∷ ys) h = by_test (not-among x ys) (same_name x y) h where
   by_test rest true h = absurd cc
   by_test rest false h = ap (option_map suc) (rest h)
 
-pub not-true : (b : Bool) → not b ≡ true → b ≡ false
-not-true true e = absurd cc
-not-true false e = refl
-
 pub local-index : (unit : List Statement) (x : Name) → is_among x (locals_of unit) ≡ true → index_among x (dummies_of unit) ≡ None
 local-index unit x h =
     not-among x (dummies_of unit) (not-true (is_among x (dummies_of unit)) (and_parts (not (is_among x (dummies_of unit))) (not (is_common unit x) && not (is_constant_name unit x)) (among-filter x (is_local unit) (names_of unit) h)).0)
@@ -118,11 +114,7 @@ runs-value program s layout a x i f framed e owned (suc k) less = absurd (omega 
 
 -- ---- variables in COMMON
 
-block-self : (b : BlockName) → same_block b b ≡ true
-block-self None = refl
-block-self (Some x) = same_name-self x
-
-block-turned : (b c : BlockName) → same_block b c ≡ true → same_block c b ≡ true
+pub block-turned : (b c : BlockName) → same_block b c ≡ true → same_block c b ≡ true
 block-turned b c e = ap (same_block c) (equal_blocks b c e) ∙ block-self c
 
 -- the names before one, and its own cells, are no more than those of all
@@ -191,31 +183,15 @@ named-unit (v ∷ vs) (suc u) unit b e h = named-append b (blocks_of_unit v) (fl
 block-append : (b : BlockName) (bs cs : List BlockName) → is_block_among b (bs ++ cs) ≡ (is_block_among b bs || is_block_among b cs)
 block-append b bs cs = list_any-append (same_block b) bs cs
 
-or-left : (a b : Bool) → a ≡ true → (a || b) ≡ true
-or-left true b e = refl
-or-left false b e = absurd cc
-
-or-right : (a b : Bool) → b ≡ true → (a || b) ≡ true
-or-right true b e = refl
-or-right false b e = e
-
--- blocks stay as others are added, and each that is named is added
-blocks-stay : (b : BlockName) (bs : List BlockName) (cs : List CommonBlock) → is_block_among b bs ≡ true → is_block_among b (with_blocks bs cs) ≡ true
-blocks-stay b bs [] h = h
-blocks-stay b bs (c ∷ cs) h = blocks-stay b (if is_block_among (block_of c) bs then bs else bs ++ block_of c ∷ []) cs (by_test (is_block_among (block_of c) bs)) where
-  by_test : (t : Bool) → is_block_among b (if t then bs else bs ++ block_of c ∷ []) ≡ true
-  by_test true = h
-  by_test false = block-append b bs (block_of c ∷ []) ∙ or-left (is_block_among b bs) (is_block_among b (block_of c ∷ [])) h
-
 block-added : (b : BlockName) (bs : List BlockName) (cs : List CommonBlock) → IsNamed b cs → is_block_among b (with_blocks bs cs) ≡ true
 block-added b bs [] h = absurd h
 block-added b bs (c ∷ cs) (inr h) = block-added b (if is_block_among (block_of c) bs then bs else bs ++ block_of c ∷ []) cs h
-block-added b bs (c ∷ cs) (inl h) = blocks-stay b (if is_block_among (block_of c) bs then bs else bs ++ block_of c ∷ []) cs (by_test (is_block_among (block_of c) bs) refl) where
+block-added b bs (c ∷ cs) (inl h) = block-stays b (if is_block_among (block_of c) bs then bs else bs ++ block_of c ∷ []) cs (by_test (is_block_among (block_of c) bs) refl) where
   by_test : (t : Bool) → is_block_among (block_of c) bs ≡ t → is_block_among b (if t then bs else bs ++ block_of c ∷ []) ≡ true
   by_test true t = ap (λ d. is_block_among d bs) (sym h) ∙ t
   by_test false t =
-      let own : is_block_among b (block_of c ∷ []) ≡ true = or-left (same_block b (block_of c)) false (ap (λ d. same_block d (block_of c)) (sym h) ∙ block-self (block_of c)) in
-      block-append b bs (block_of c ∷ []) ∙ or-right (is_block_among b bs) (is_block_among b (block_of c ∷ [])) own
+      let own : is_block_among b (block_of c ∷ []) ≡ true = or_left (same_block b (block_of c)) false (ap (λ d. same_block d (block_of c)) (sym h) ∙ block-self (block_of c)) in
+      block-append b bs (block_of c ∷ []) ∙ or_right (is_block_among b bs) (is_block_among b (block_of c ∷ [])) own
 
 block-size : (program : Units) (b : BlockName) (bs : List BlockName) → is_block_among b bs ≡ true → size_in (same_block b) (map (λ (c : BlockName). (c, block_cells program c)) bs) ≡ block_cells program b
 block-size program b [] h = absurd cc

@@ -2,7 +2,7 @@
 use Rattle.std.proofs.Common.{◌≡◌, ℕ, ◌+◌, ◌-◌, ◌≤◌, Bool, true, false, List, [], Option, Some, None, Result, Ok, Err, refl, sym, ap, ◌∙◌, subst, arith}
 use Rattle.std.specs.Prelude.{◌&&◌, if◌then◌else◌, not, nat_le, is_some, slice_get}
 use Rattle.std.specs.Option.{unwrap_or}
-use Rattle.std.proofs.lemmas.Bool.{and_parts}
+use Rattle.std.proofs.lemmas.Bool.{and_parts, not-true}
 use Rattle.std.proofs.lemmas.Bool.Decides.{nat_tests}
 use Rattle.std.proofs.lemmas.Option.{same_Some, none-some}
 use Rattle.hep_source.specs.declared.name.Name.{Name}
@@ -28,7 +28,7 @@ use Rattle.hep_arena.specs.Gaps.{frame_among}
 use Rattle.hep_frames.specs.Addresses.{address}
 use Rattle.hep_frames.specs.Rows.{first_in_common, first_of_part, variable}
 use Rattle.hep_frames.specs.Runs.{RunsFrom}
-use Rattle.hep_frames.proofs.Runs.{among-filter, local-index, not-true, runs-common, runs-fewer, runs-from, runs-local}
+use Rattle.hep_frames.proofs.Runs.{among-filter, local-index, runs-common, runs-fewer, runs-from, runs-local}
 
 -- ---- names
 
@@ -36,7 +36,7 @@ abbrev RunsAs : Units → State → Layout → StorageSequence → ℕ → Type 
 RunsAs program s layout e first = RunsFrom program s layout e.start e.rest first
 
 -- a local variable is in no common block
-no-block : (o : Option BlockName) → is_some o ≡ false → o ≡ None
+pub no-block : (o : Option BlockName) → is_some o ≡ false → o ≡ None
 no-block None h = refl
 no-block (Some b) h = absurd cc
 
@@ -71,7 +71,7 @@ storage-common program s layout a x b e none h =
     start = ap (start_by_block (scope_of program s a) x) h
 
 -- a dummy argument has no more elements than there are
-shape-fits : (bs : Bounds) (rest : ℕ) → fits bs rest ≡ true → unwrap_or (elements bs) rest ≤ rest
+pub shape-fits : (bs : Bounds) (rest : ℕ) → fits bs rest ≡ true → unwrap_or (elements bs) rest ≤ rest
 shape-fits bs rest h = by_elements (elements bs) h where
   by_elements : (o : Option ℕ) → nat_le (unwrap_or o 0) rest ≡ true → unwrap_or o rest ≤ rest
   by_elements None h = omega arith
@@ -89,7 +89,7 @@ storage-dummy program s layout a x i first e fitting h =
 
 -- ---- elements
 
-same-ok : {A E : Type 0} (x y : A) → ◌≡◌ {A = Result A E} (Ok x) (Ok y) → x ≡ y
+pub same-ok : {A E : Type 0} (x y : A) → ◌≡◌ {A = Result A E} (Ok x) (Ok y) → x ≡ y
 same-ok x y e = cc
 
 err-ok : {A E B : Type 0} (k : E) (x : A) → ◌≡◌ {A = Result A E} (Err k) (Ok x) → B
@@ -106,7 +106,7 @@ element-within e (Some m) n h = by_test (nat_le m e.rest) refl h where
       (ap (λ k. Some k) same, omega (arith, same, below))
   by_test false t h = err-ok Range n h
 
-from-one : (o : Option ℕ) (n : ℕ) → sum 1 o ≡ Some n → 1 ≤ n
+pub from-one : (o : Option ℕ) (n : ℕ) → sum 1 o ≡ Some n → 1 ≤ n
 from-one None n h = absurd (none-some n h)
 from-one (Some m) n h = let same = same_Some (1 + m) n h in omega (arith, same)
 

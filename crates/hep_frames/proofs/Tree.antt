@@ -1,10 +1,8 @@
 -- The tree of frames: what is out is held, and what giving a frame back, an end and a new activation make of the tree.
-use Rattle.std.proofs.Common.{◌≡◌, ◌⊎◌, inl, inr, ℕ, zero, suc, ◌+◌, ◌<◌, ◌≤◌, Bool, true, false, List, [], ◌∷◌, ◌++◌, length, Option, Some, None, refl, sym, ap, ◌∙◌, subst, arith}
-use Rattle.std.specs.Prelude.{◌↔◌, ◌&&◌, ◌||◌, if◌then◌else◌, not, nat_eq, slice_get}
-use Rattle.std.specs.List.{flat_map}
+use Rattle.std.proofs.Common.{◌≡◌, ◌⊎◌, inl, inr, ℕ, zero, suc, ◌+◌, ◌<◌, ◌≤◌, Bool, true, false, List, ◌∷◌, length, Option, Some, None, refl, sym, ap, ◌∙◌, subst, arith}
+use Rattle.std.specs.Prelude.{◌↔◌, ◌&&◌, ◌||◌, if◌then◌else◌, not, nat_eq}
 use Rattle.std.specs.Option.{option_map}
-use Rattle.std.proofs.lemmas.Bool.{and_parts, eqb-true, eqb-false, eq-eqb}
-use Rattle.std.proofs.lemmas.List.Folds.{list_any-append}
+use Rattle.std.proofs.lemmas.Bool.{and_parts, eqb-true, eqb-false, eq-eqb, ne_eqb}
 use Rattle.std.proofs.lemmas.Option.{same_Some, none-some}
 use Rattle.hep_source.specs.Units.{Units}
 use Rattle.hep_machine.specs.Laws.{IsOnStack, HasHeldChild}
@@ -13,13 +11,11 @@ use Rattle.hep_machine.specs.Processes.{is_number_among, numbered, parent_of}
 use Rattle.hep_machine.specs.Run.{run}
 use Rattle.hep_machine.specs.State.{Level, Process, State}
 use Rattle.hep_machine.proofs.Ages.{IsAged, aged, older_parent}
-use Rattle.hep_machine.proofs.Held.{held_is}
+use Rattle.hep_machine.proofs.Held.{held_is, on_some, some_on}
 use Rattle.hep_frames.specs.Tree.{activation_under, AreWantedBut, but, children_out, is_just, is_stacked, IsAtRest, IsNode, IsTree, IsWanted, Node, Nodes, with_one_less, without_node}
 use Rattle.hep_frames.proofs.Counts.{count-one_less, count-same, count-some, counted}
-use Rattle.hep_frames.proofs.Frames.{other-number}
-
-clash : {A : Type 0} → true ≡ false → A
-clash e = absurd cc
+use Rattle.hep_frames.proofs.Descriptors.{clash}
+use Rattle.hep_machine.proofs.Frames.{mapped_from}
 
 -- ---- numbers
 
@@ -70,7 +66,7 @@ children-fall s out x b one le e f =
 
 -- ---- what is under a key
 
-under-parts : (nodes : Nodes) (o : Option ℕ) (b : ℕ) → activation_under nodes o ≡ Some (Some b) → (k : ℕ) × (n : Node) × (o ≡ Some k) × (nodes k ≡ Some n) × (n.activation ≡ b)
+pub under-parts : (nodes : Nodes) (o : Option ℕ) (b : ℕ) → activation_under nodes o ≡ Some (Some b) → (k : ℕ) × (n : Node) × (o ≡ Some k) × (nodes k ≡ Some n) × (n.activation ≡ b)
 under-parts nodes None b e = absurd (none-some b (same_Some None (Some b) e))
 under-parts nodes (Some k) b e = by_node (nodes k) refl e where
   by_node : (o : Option Node) → nodes k ≡ o → option_map (λ (n : Node). Some n.activation) o ≡ Some (Some b) → (l : ℕ) × (n : Node) × (◌≡◌ {A = Option ℕ} (Some k) (Some l)) × (nodes l ≡ Some n) × (n.activation ≡ b)
@@ -87,39 +83,12 @@ parent-out s on out nodes c b tree e f =
 
 -- ---- stacks
 
-pub or-parts : (a b : Bool) → (a || b) ≡ true → (a ≡ true) ⊎ (b ≡ true)
-or-parts true b e = inl refl
-or-parts false b e = inr e
-
-or-right : (a b : Bool) → b ≡ true → (a || b) ≡ true
-or-right true b e = refl
-or-right false b e = e
-
-pub among-append : (a : ℕ) (xs ys : List ℕ) → is_number_among a (xs ++ ys) ≡ (is_number_among a xs || is_number_among a ys)
-among-append a xs ys = list_any-append (nat_eq a) xs ys
-
-pub on-some : (a : ℕ) (qs : List Process) → is_number_among a (flat_map activations_on qs) ≡ true → (i : ℕ) × (q : Process) × (slice_get qs i ≡ Some q) × (is_number_among a (activations_on q) ≡ true)
-on-some a [] h = absurd cc
-on-some a (q ∷ qs) h =
-    elim (or-parts (is_number_among a (activations_on q)) (is_number_among a (flat_map activations_on qs)) (sym (among-append a (activations_on q) (flat_map activations_on qs)) ∙ h)) [
-      | inl here ↦ (0, q, refl, here)
-      | inr rest ↦ let found = on-some a qs rest in (suc found.0, found.1, found.2, found.3)
-    ]
-
-pub some-on : (a : ℕ) (qs : List Process) (i : ℕ) (q : Process) → slice_get qs i ≡ Some q → is_number_among a (activations_on q) ≡ true → is_number_among a (flat_map activations_on qs) ≡ true
-some-on a [] i q e h = absurd (none-some q e)
-some-on a (r ∷ rs) zero q e h =
-    let here : is_number_among a (activations_on r) ≡ true = subst (λ (z : Process). is_number_among a (activations_on z) ≡ true) (sym (same_Some r q e)) h in
-    among-append a (activations_on r) (flat_map activations_on rs) ∙ ap (λ b. b || is_number_among a (flat_map activations_on rs)) here
-some-on a (r ∷ rs) (suc i) q e h =
-    among-append a (activations_on r) (flat_map activations_on rs) ∙ or-right (is_number_among a (activations_on r)) (is_number_among a (flat_map activations_on rs)) (some-on a rs i q e h)
-
 pub stacked-on : (s : State) (a : ℕ) → is_stacked s a ≡ true → IsOnStack s a
-stacked-on s a h = let found = on-some a s.processes h in (suc found.0, found.1, found.2, found.3)
+stacked-on s a h = let found = on_some a s.processes h in (suc found.0, found.1, found.2, found.3)
 
 pub on-stacked : (s : State) (a : ℕ) → IsOnStack s a → is_stacked s a ≡ true
 on-stacked s a (zero, q, e, h) = absurd (none-some q e)
-on-stacked s a (suc i, q, e, h) = some-on a s.processes i q e h
+on-stacked s a (suc i, q, e, h) = some_on a s.processes i q e h
 
 -- the activation on top of a process is on a stack
 pub stacked-top : (s : State) (p : ℕ) (top : Level × Process) → numbered s.processes p ≡ Some (top.0 ∷ top.1) → IsOnStack s top.0.activation
@@ -175,10 +144,6 @@ less-activation : (b : Bool) (r : Node) → (if b then with_one_less r else r).a
 less-activation true r = refl
 less-activation false r = refl
 
-pub mapped : {A B : Type 0} (f : A → B) (o : Option A) (y : B) → option_map f o ≡ Some y → (x : A) × (o ≡ Some x) × (f x ≡ y)
-mapped f None y e = absurd (none-some y e)
-mapped f (Some x) y e = (x, refl, same_Some (f x) y e)
-
 -- what is under a key still was there
 pub record IsKept (nodes : Nodes) (k : ℕ) (n : Node) (l : ℕ) (m : Node) : Type 0 where
   pub apart : nat_eq l k ≡ false
@@ -189,7 +154,7 @@ pub record IsKept (nodes : Nodes) (k : ℕ) (n : Node) (l : ℕ) (m : Node) : Ty
 pub kept-node : (nodes : Nodes) (k : ℕ) (n : Node) (l : ℕ) (m : Node) → without_node nodes k n l ≡ Some m → IsKept nodes k n l m
 kept-node nodes k n l m e = by_key (nat_eq l k) refl e where
   by_parent : nat_eq l k ≡ false → (b : Bool) → is_just l n.parent ≡ b → (if b then option_map with_one_less (nodes l) else nodes l) ≡ Some m → IsKept nodes k n l m
-  by_parent apart true j e = let found = mapped with_one_less (nodes l) m e in record { apart = apart; was = found.0; there = found.1; now = rw j found.2 }
+  by_parent apart true j e = let found = mapped_from with_one_less (nodes l) m e in record { apart = apart; was = found.0; there = found.1; now = rw j found.2 }
   by_parent apart false j e = record { apart = apart; was = m; there = e; now = rw j refl }
 
   by_key : (b : Bool) → nat_eq l k ≡ b → (if b then None else (if is_just l n.parent then option_map with_one_less (nodes l) else nodes l)) ≡ Some m → IsKept nodes k n l m
@@ -223,7 +188,7 @@ module _ (s : State) (on out : ℕ → Bool) (nodes : Nodes) (k : ℕ) (n : Node
   -- so the keys of parents stay
   pub parent-kept : n.children ≡ 0 → (c : ℕ) (o : Option ℕ) → out c ≡ true → activation_under nodes o ≡ Some (parent_of s c) → activation_under (without_node nodes k n) o ≡ Some (parent_of s c)
   parent-kept alone c None e f = f
-  parent-kept alone c (Some l) e f = under-kept nodes k n l (other-number l k (λ same. childless alone c e (its same))) ∙ f where
+  parent-kept alone c (Some l) e f = under-kept nodes k n l (ne_eqb l k (λ same. childless alone c e (its same))) ∙ f where
     its : l ≡ k → parent_of s c ≡ Some n.activation
     its same = sym (same_Some (Some n.activation) (parent_of s c) (sym (ap (option_map (λ (m : Node). Some m.activation)) (ap nodes same ∙ at)) ∙ f))
 
@@ -237,10 +202,10 @@ module _ (s : State) (on out : ℕ → Bool) (nodes : Nodes) (k : ℕ) (n : Node
       omega (arith, (tree.shown l m e).children_are, child-counts s out n.activation m.activation made.0 made.1 node.out_is owner)
 
   pub parent-apart : (l : ℕ) → n.children ≡ 0 → n.parent ≡ Some l → nat_eq l k ≡ false
-  parent-apart l alone j = other-number l k (λ same. omega (arith, alone, parent-counts l n j (ap nodes same ∙ at)))
+  parent-apart l alone j = ne_eqb l k (λ same. omega (arith, alone, parent-counts l n j (ap nodes same ∙ at)))
 
   other-activation : (l : ℕ) (r : Node) → nat_eq l k ≡ false → nodes l ≡ Some r → nat_eq r.activation n.activation ≡ false
-  other-activation l r apart e = other-number r.activation n.activation (λ same. eqb-false l k apart (tree.single l k r n e at same))
+  other-activation l r apart e = ne_eqb r.activation n.activation (λ same. eqb-false l k apart (tree.single l k r n e at same))
 
   -- the parent's node, and it alone, has one child less
   children-kept : (l : ℕ) (r : Node) → nodes l ≡ Some r → (b : Bool) → is_just l n.parent ≡ b → (if b then with_one_less r else r).children ≡ children_out s (but n.activation out) r.activation
@@ -292,7 +257,7 @@ module _ (s : State) (on out : ℕ → Bool) (nodes : Nodes) (k : ℕ) (n : Node
     found a e =
         let parts = but-parts n.activation a out e in
         let old = tree.found a parts.1 in
-        let apart : nat_eq old.0 k ≡ false = other-number old.0 k (λ same.
+        let apart : nat_eq old.0 k ≡ false = ne_eqb old.0 k (λ same.
         let it : old.1 ≡ n = same_Some old.1 n (sym old.2 ∙ (ap nodes same ∙ at)) in
         eqb-false a n.activation parts.0 (sym old.3 ∙ ap (λ (z : Node). z.activation) it)) in
         (old.0, (if is_just old.0 n.parent then with_one_less old.1 else old.1), node-kept nodes k n old.0 old.1 apart old.2, less-activation (is_just old.0 n.parent) old.1 ∙ old.3)
@@ -311,13 +276,13 @@ module _ (s : State) (on out : ℕ → Bool) (nodes : Nodes) (k : ℕ) (n : Node
 
     stacked : (a : ℕ) → on a ≡ true → but n.activation out a ≡ true
     stacked a e =
-        but-there n.activation a out (other-number a n.activation (λ same. off (on n.activation) (sym (tree.shown k n at).finished_is ∙ ended) (ap on (sym same) ∙ e))) (tree.stacked a e)
+        but-there n.activation a out (ne_eqb a n.activation (λ same. off (on n.activation) (sym (tree.shown k n at).finished_is ∙ ended) (ap on (sym same) ∙ e))) (tree.stacked a e)
 
   -- the parent is the next to look at
   pub wanted-left : AreWantedBut (Some n.activation) s on out → AreWantedBut (parent_of s n.activation) s on (but n.activation out)
   wanted-left wanted a e other =
       let parts = but-parts n.activation a out e in
-      by_want (wanted a parts.1 (other-number n.activation a (λ same. eqb-false a n.activation parts.0 (sym same))))
+      by_want (wanted a parts.1 (ne_eqb n.activation a (λ same. eqb-false a n.activation parts.0 (sym same))))
     where
       by_want : IsWanted s on out a → IsWanted s on (but n.activation out) a
       by_want (inl there) = inl there

@@ -3,7 +3,7 @@ use Rattle.std.proofs.Common.{◌≡◌, ◌⊎◌, inl, inr, ℕ, zero, suc, �
 use Rattle.std.specs.Prelude.{◌&&◌, if◌then◌else◌, not, nat_eq}
 use Rattle.std.specs.List.{filter}
 use Rattle.std.specs.Option.{option_map}
-use Rattle.std.proofs.lemmas.Bool.{eqb-true, eqb-false, eq-eqb}
+use Rattle.std.proofs.lemmas.Bool.{eqb-true, eqb-false, eq-eqb, ne_eqb}
 use Rattle.std.proofs.lemmas.List.{length-append}
 use Rattle.std.proofs.lemmas.Option.{same_Some, none-some}
 use Rattle.hep_machine.specs.Layout.{Frame, Layout, with_frame}
@@ -13,9 +13,10 @@ use Rattle.hep_arena.specs.Gaps.{frame_among, without}
 use Rattle.hep_frames.specs.Addresses.{AreSingle}
 use Rattle.hep_frames.specs.Tree.{activation_under, also, AreFramed, AreWantedBut, but, children_out, count_up_to, is_just, IsNode, IsTree, IsWanted, new_node, Node, Nodes, with_end, with_ended, with_node, with_one_less, with_one_more, without_node}
 use Rattle.hep_frames.proofs.Counts.{count-same}
-use Rattle.hep_frames.proofs.Frames.{among-with_frame, among-without, other-number}
+use Rattle.hep_frames.proofs.Frames.{among-with_frame, among-without}
 use Rattle.hep_frames.proofs.Memory.{activation-kept, activation-last}
-use Rattle.hep_frames.proofs.Tree.{a-child, but-parts, but-there, kept-node, mapped, parent-out}
+use Rattle.hep_frames.proofs.Tree.{a-child, but-parts, but-there, kept-node, parent-out}
+use Rattle.hep_machine.proofs.Frames.{mapped_from}
 
 -- ---- an activation ends
 
@@ -26,7 +27,7 @@ end-activation false r = refl
 ended-back : (nodes : Nodes) (k l : ℕ) (m : Node) → with_ended nodes k l ≡ Some m → (r : Node) × (nodes l ≡ Some r) × ((if nat_eq l k then with_end r else r) ≡ m)
 ended-back nodes k l m e = by_key (nat_eq l k) e where
   by_key : (b : Bool) → (if b then option_map with_end (nodes l) else nodes l) ≡ Some m → (r : Node) × (nodes l ≡ Some r) × ((if b then with_end r else r) ≡ m)
-  by_key true e = mapped with_end (nodes l) m e
+  by_key true e = mapped_from with_end (nodes l) m e
   by_key false e = (m, e, refl)
 
 ended-node : (nodes : Nodes) (k l : ℕ) (r : Node) → nodes l ≡ Some r → with_ended nodes k l ≡ Some (if nat_eq l k then with_end r else r)
@@ -56,7 +57,7 @@ module _ (s : State) (on out : ℕ → Bool) (nodes : Nodes) (k : ℕ) (n : Node
       record { out_is = old.out_is; unit_is = old.unit_is; parent_is = under-ended nodes k r.parent ∙ old.parent_is; children_are = old.children_are; finished_is = rw its refl }
   ended-known l r e false apart =
       let old = tree.shown l r e in
-      let other : nat_eq r.activation n.activation ≡ false = other-number r.activation n.activation (λ same. eqb-false l k apart (tree.single l k r n e at same)) in
+      let other : nat_eq r.activation n.activation ≡ false = ne_eqb r.activation n.activation (λ same. eqb-false l k apart (tree.single l k r n e at same)) in
       record { out_is = old.out_is; unit_is = old.unit_is; parent_is = under-ended nodes k r.parent ∙ old.parent_is; children_are = old.children_are; finished_is = rw other old.finished_is }
 
   pub tree-ended : IsTree s (but n.activation on) out (with_ended nodes k)
@@ -78,7 +79,7 @@ module _ (s : State) (on out : ℕ → Bool) (nodes : Nodes) (k : ℕ) (n : Node
 pub wanted-ended : (s : State) (on out : ℕ → Bool) (x : ℕ) → AreWantedBut None s on out → AreWantedBut (Some x) s (but x on) out
 wanted-ended s on out x wanted a e other = by_want (wanted a e refl) where
   by_want : IsWanted s on out a → IsWanted s (but x on) out a
-  by_want (inl there) = inl (but-there x a on (other-number a x (λ same. eqb-false x a other (sym same))) there)
+  by_want (inl there) = inl (but-there x a on (ne_eqb a x (λ same. eqb-false x a other (sym same))) there)
   by_want (inr some) = inr some
 
 -- ---- a new activation
@@ -129,7 +130,7 @@ module _ (s t : State) (x : Activation) (on out : ℕ → Bool) (nodes : Nodes) 
   new-unit = ap (λ (z : Activation). z.unit) (ap (activation_of t) long ∙ activation-last s t x more)
 
   new-apart : (a : ℕ) → a ≤ length s.activations → nat_eq a c ≡ false
-  new-apart a le = other-number a c (λ same. omega (arith, same, le, long))
+  new-apart a le = ne_eqb a c (λ same. omega (arith, same, le, long))
 
   p-made : p.activation ≤ length s.activations
   p-made = (tree.made p.activation (tree.shown k p at).out_is).1
@@ -173,7 +174,7 @@ module _ (s t : State) (x : Activation) (on out : ℕ → Bool) (nodes : Nodes) 
   next = with_node nodes v (new_node (length t.activations) x.unit first cells k) k
 
   key-apart : (l : ℕ) (r : Node) → nodes l ≡ Some r → nat_eq l v ≡ false
-  key-apart l r e = other-number l v (λ same. none-some r (sym free ∙ (sym (ap nodes same) ∙ e)))
+  key-apart l r e = ne_eqb l v (λ same. none-some r (sym free ∙ (sym (ap nodes same) ∙ e)))
 
   node-there : (l : ℕ) (r : Node) → nodes l ≡ Some r → next l ≡ Some (if nat_eq l k then with_one_more r else r)
   node-there l r e = rw (key-apart l r e) (by_key (nat_eq l k)) where
@@ -187,7 +188,7 @@ module _ (s t : State) (x : Activation) (on out : ℕ → Bool) (nodes : Nodes) 
   node-before : (l : ℕ) (m : Node) → next l ≡ Some m → ((l ≡ v) × (new_node (length t.activations) x.unit first cells k ≡ m)) ⊎ IsBefore nodes v k l m
   node-before l m e = by_new (nat_eq l v) refl e where
     by_key : (b : Bool) → nat_eq l k ≡ b → (if b then option_map with_one_more (nodes l) else nodes l) ≡ Some m → IsBefore nodes v k l m
-    by_key true j e = let found = mapped with_one_more (nodes l) m e in record { was = found.0; there = found.1; now = rw j found.2 }
+    by_key true j e = let found = mapped_from with_one_more (nodes l) m e in record { was = found.0; there = found.1; now = rw j found.2 }
     by_key false j e = record { was = m; there = e; now = rw j refl }
 
     by_new : (b : Bool) → nat_eq l v ≡ b → (if b then Some (new_node (length t.activations) x.unit first cells k) else (if nat_eq l k then option_map with_one_more (nodes l) else nodes l)) ≡ Some m
@@ -226,7 +227,7 @@ module _ (s t : State) (x : Activation) (on out : ℕ → Bool) (nodes : Nodes) 
         let its : nat_eq p.activation r.activation ≡ true = eq-eqb p.activation r.activation (sym (ap (λ (z : Node). z.activation) it)) in
         ap (λ m. m + 1) old.children_are ∙ (ap (λ z. children_out s out r.activation + (if z then 1 else 0)) (sym its) ∙ sym ((children-more s t x on out nodes k p tree at more owner) r.activation))
     children false j =
-        let other : nat_eq p.activation r.activation ≡ false = other-number p.activation r.activation (λ same. eqb-false l k j (tree.single l k r p e at (sym same))) in
+        let other : nat_eq p.activation r.activation ≡ false = ne_eqb p.activation r.activation (λ same. eqb-false l k j (tree.single l k r p e at (sym same))) in
         ap (λ m. m + 0) old.children_are ∙ (ap (λ z. children_out s out r.activation + (if z then 1 else 0)) (sym other) ∙ sym ((children-more s t x on out nodes k p tree at more owner) r.activation))
 
     unit : r.unit ≡ (activation_of t r.activation).unit
@@ -306,7 +307,7 @@ module _ (s t : State) (x : Activation) (on out : ℕ → Bool) (nodes : Nodes) 
     still : (r : Node) → nodes l ≡ Some r → frame_among r.activation (with_frame layout frame) ≡ Some (record { activation = r.activation; first = r.first; cells = r.cells })
     still r there =
         let made = (tree.made r.activation (tree.shown l r there).out_is).1 in
-        let other : nat_eq (length t.activations) r.activation ≡ false = other-number (length t.activations) r.activation (λ same. omega (arith, same, made, (long s t x on out nodes k p tree at more owner))) in
+        let other : nat_eq (length t.activations) r.activation ≡ false = ne_eqb (length t.activations) r.activation (λ same. omega (arith, same, made, (long s t x on out nodes k p tree at more owner))) in
         among-with_frame r.activation layout frame none ∙ rw other (h l r there)
 
     by_key : (r : Node) → nodes l ≡ Some r → (b : Bool) → frame_among (if b then with_one_more r else r).activation (with_frame layout frame) ≡ Some (record { activation = (if b then with_one_more r else r).activation; first = (if b then with_one_more r else r).first; cells = (if b then with_one_more r else r).cells })
@@ -332,7 +333,7 @@ framed-left s on out layout nodes k n tree at single h l m e =
   where
     still : (r : Node) → nat_eq l k ≡ false → nodes l ≡ Some r → frame_among r.activation (without n.activation layout) ≡ Some (record { activation = r.activation; first = r.first; cells = r.cells })
     still r apart there =
-        let other : nat_eq n.activation r.activation ≡ false = other-number n.activation r.activation (λ same. eqb-false l k apart (tree.single l k r n there at (sym same))) in
+        let other : nat_eq n.activation r.activation ≡ false = ne_eqb n.activation r.activation (λ same. eqb-false l k apart (tree.single l k r n there at (sym same))) in
         among-without n.activation r.activation layout single ∙ rw other (h l r there)
 
     by_parent : (r : Node) → nat_eq l k ≡ false → nodes l ≡ Some r → (b : Bool)

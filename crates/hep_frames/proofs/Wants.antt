@@ -1,7 +1,7 @@
 -- What is wanted of an activation's cells stays where another frame enters or leaves.
 use Rattle.std.proofs.Common.{◌≡◌, ℕ, ◌+◌, ◌≤◌, true, false, [], ◌∷◌, ◌++◌, length, Option, Some, None, refl, sym, ap, ◌∙◌, subst, arith}
 use Rattle.std.specs.Prelude.{if◌then◌else◌, nat_eq}
-use Rattle.std.proofs.lemmas.Bool.{eqb-true}
+use Rattle.std.proofs.lemmas.Bool.{eqb-true, ne_eqb}
 use Rattle.std.proofs.lemmas.List.{length-append}
 use Rattle.hep_source.specs.Names.{index_among}
 use Rattle.hep_source.specs.Units.{Units, dummies_of, unit_at}
@@ -16,7 +16,7 @@ use Rattle.hep_frames.specs.Descriptors.{level_of, slot_by_dummy, slot_of_bounds
 use Rattle.hep_frames.specs.References.{IsMadeAt}
 use Rattle.hep_frames.specs.Rows.{FramePart, argument, bounds, header, iteration, variable}
 use Rattle.hep_frames.proofs.Addresses.{address-alike}
-use Rattle.hep_frames.proofs.Frames.{among-with_frame, other-number}
+use Rattle.hep_frames.proofs.Frames.{among-with_frame}
 use Rattle.hep_frames.proofs.Memory.{activation-kept, address-left, unmade}
 
 -- by its activation, its level, and where its dummy arguments stand for something
@@ -47,7 +47,7 @@ wanted-entered program s t x layout first cells a c laid more le made levels =
       stays at there = address-alike program s t layout (with_frame layout (frame_from program t (length t.activations) first)) at (λ b owned.
           let within = owner-made (length s.activations) b at there owned in
           let long : length t.activations ≡ length s.activations + 1 = ap length more ∙ (length-append s.activations (x ∷ []) ∙ omega arith) in
-          let other : nat_eq (length t.activations) b ≡ false = other-number (length t.activations) b (λ same. omega (arith, same, within, long)) in
+          let other : nat_eq (length t.activations) b ≡ false = ne_eqb (length t.activations) b (λ same. omega (arith, same, within, long)) in
           (activation-kept s t x b more within, among-with_frame b layout (frame_from program t (length t.activations) first) (unmade program s t x layout first more laid) ∙ ap (λ z. if z then Some (frame_from program t (length t.activations) first) else frame_among b layout) other))
 
 pub wanted-left : (program : Units) (s : State) (a b cells : ℕ) (layout : Layout) (c : FramePart × ℕ) → IsLaid program s cells layout → ((k : ℕ) → is_owned b (dummy_at (activation_of s a).dummies k).start ≡ false)

@@ -1,12 +1,11 @@
 -- The common blocks tell whose the cells of COMMON are.
-use Rattle.std.proofs.Common.{◌≡◌, ℕ, ◌+◌, true, List, [], ◌∷◌, map, Some, None, refl, ap, ap₂, sym, ◌∙◌, subst, arith}
+use Rattle.std.proofs.Common.{◌≡◌, ℕ, ◌+◌, true, List, [], ◌∷◌, map, Some, refl, ap, ap₂, sym, ◌∙◌, subst, arith}
 use Rattle.std.specs.Prelude.{if◌then◌else◌}
 use Rattle.std.specs.List.Sorted.{IsNonDecreasingBy}
 use Rattle.hep_source.specs.Units.{Units}
-use Rattle.hep_source.proofs.NameTests.{same_name-self}
 use Rattle.hep_machine.specs.Declarations.{BlockName, blocks_of, same_block}
 use Rattle.hep_machine.specs.Layout.{block_cells}
-use Rattle.hep_machine.proofs.Locations.{equal_blocks}
+use Rattle.hep_machine.proofs.Locations.{equal_blocks, block-self}
 use Rattle.hep_frames.specs.Rows.{Row, common_row, first_in, owner_in}
 use Rattle.hep_frames.proofs.Rows.{has_key}
 use Rattle.hep_image.specs.declared.owners.BlockStart.{BlockStart}
@@ -14,10 +13,6 @@ use Rattle.hep_image.specs.Owners.{IsBlockTold, block_start, block_starts, last_
 use Rattle.hep_image.proofs.Distinct.{AreDistinct, block_in, blocks_distinct, is_in}
 use Rattle.hep_image.proofs.Numbers.{block-inside}
 use Rattle.hep_image.proofs.RowOwners.{AreApart, AreFrom, from-firsts, from-found, from-rising, made, owner_key}
-
-self : (b : BlockName) → same_block b b ≡ true
-self None = refl
-self (Some x) = same_name-self x
 
 module _ (program : Units) where
   abbrev first_of : BlockStart → ℕ
@@ -34,13 +29,13 @@ module _ (program : Units) where
   in_row b [] = refl
   in_row b (c ∷ cs) = ap (λ t. if same_block b c then true else t) (in_row b cs)
 
-  apart : (bs : List BlockName) → AreDistinct same_block bs → AreApart (block_start program) first_of same_block self equal_blocks (row bs)
+  apart : (bs : List BlockName) → AreDistinct same_block bs → AreApart (block_start program) first_of same_block block-self equal_blocks (row bs)
   apart [] h = tt
   apart (b ∷ bs) h = (in_row b bs ∙ h.0, apart bs h.1)
 
   blocks_from : AreFrom (block_start program) first_of 0 (common_row program)
   blocks_from =
-      from-firsts (block_start program) first_of same_block self equal_blocks 0 (common_row program) (apart (blocks_of program) (blocks_distinct program))
+      from-firsts (block_start program) first_of same_block block-self equal_blocks 0 (common_row program) (apart (blocks_of program) (blocks_distinct program))
       (λ b h. zero_more (first_in (same_block b) (common_row program)))
     where
       zero_more : (n : ℕ) → n ≡ 0 + n
@@ -51,7 +46,7 @@ module _ (program : Units) where
   tells_block b i n e =
       let found = from-found (block_start program) first_of 0 n i b (common_row program) blocks_from e in
       let same : 0 + n ≡ n = omega arith in
-      let listed = owner_key same_block self (common_row program) n i b e in
+      let listed = owner_key same_block block-self (common_row program) n i b e in
       let among = sym (block_in b (blocks_of program)) ∙ (sym (in_row b (blocks_of program)) ∙ listed) in
       record {
         found = block_start program b;

@@ -1,5 +1,5 @@
 -- The variables of a frame tell whose its cells are.
-use Rattle.std.proofs.Common.{◌≡◌, ℕ, suc, ◌+◌, ◌-◌, Bool, true, false, List, [], ◌∷◌, ◌++◌, map, Some, None, refl, ap, ap₂, sym, ◌∙◌, subst, arith, append_assoc, true≢false}
+use Rattle.std.proofs.Common.{◌≡◌, ℕ, ◌+◌, ◌-◌, Bool, true, false, List, [], ◌∷◌, ◌++◌, map, Some, None, refl, ap, ap₂, sym, ◌∙◌, subst, arith, append_assoc, true≢false}
 use Rattle.std.specs.Prelude.{if◌then◌else◌, nat_le}
 use Rattle.std.specs.Option.{option_or}
 use Rattle.std.proofs.lemmas.Bool.{eq-eqb}
@@ -9,9 +9,9 @@ use Rattle.hep_source.specs.Names.{is_among, same_name}
 use Rattle.hep_source.specs.Units.{dummies_of}
 use Rattle.hep_source.proofs.NameTests.{same_name-self}
 use Rattle.hep_machine.specs.Defaults.{no_name}
-use Rattle.hep_machine.specs.Variables.{is_do, locals_of}
+use Rattle.hep_machine.specs.Variables.{locals_of}
 use Rattle.hep_frames.specs.Rows.{FramePart, Row, header, argument, variable, iteration, bounds, arguments_row, bounds_row, cells_in, first_in, frame_row, iterations_row, owner_in, same_part, variables_row}
-use Rattle.hep_frames.proofs.FrameRows.{equal_parts}
+use Rattle.hep_frames.proofs.FrameRows.{equal_parts, none-arguments, none-iterations, none-variables}
 use Rattle.hep_frames.proofs.Rows.{first-behind, first-within, has_key}
 use Rattle.hep_image.specs.declared.owners.FrameVariable.{FrameVariable}
 use Rattle.hep_image.specs.Owners.{AreGivenOnce, AreInOrder, IsTold, argument_at, frame_variables, last_before, variable_at}
@@ -35,25 +35,6 @@ in_arguments x (y ∷ ys) = ap (λ t. if same_name x y then true else t) (in_arg
 in_variables : (unit : List Statement) (x : Name) (xs : List Name) → has_key (same_part (variable x)) (variables_row unit xs) ≡ is_among x xs
 in_variables unit x [] = refl
 in_variables unit x (y ∷ ys) = ap (λ t. if same_name x y then true else t) (in_variables unit x ys)
-
-no_argument : (part : FramePart) (xs : List Name) → ((y : Name) → same_part part (argument y) ≡ false)
-    → has_key (same_part part) (arguments_row xs) ≡ false
-no_argument part [] other = refl
-no_argument part (x ∷ xs) other = rw (other x) (no_argument part xs other)
-
-no_variable : (part : FramePart) (unit : List Statement) (xs : List Name) → ((y : Name) → same_part part (variable y) ≡ false)
-    → has_key (same_part part) (variables_row unit xs) ≡ false
-no_variable part unit [] other = refl
-no_variable part unit (x ∷ xs) other = rw (other x) (no_variable part unit xs other)
-
-no_iteration : (part : FramePart) (k : ℕ) (ss : List Statement) → ((d : ℕ) → same_part part (iteration d) ≡ false)
-    → has_key (same_part part) (iterations_row k ss) ≡ false
-no_iteration part k [] other = refl
-no_iteration part k (s ∷ ss) other = by (is_do s.form) (no_iteration part (suc k) ss other) where
-  by : (b : Bool) → has_key (same_part part) (iterations_row (suc k) ss) ≡ false
-      → has_key (same_part part) (if b then (iteration k, 2) ∷ iterations_row (suc k) ss else iterations_row (suc k) ss) ≡ false
-  by true rest = rw (other k) rest
-  by false rest = rest
 
 no_bounds : (part : FramePart) (unit : List Statement) (xs : List Name) → ((y : Name) → same_part part (bounds y) ≡ false)
     → has_key (same_part part) (bounds_row unit xs) ≡ false
@@ -97,7 +78,7 @@ module _ (unit : List Statement) where
 
   no_others : (part : FramePart) → ((d : ℕ) → same_part part (iteration d) ≡ false) → ((y : Name) → same_part part (bounds y) ≡ false) → has_key (same_part part) others ≡ false
   no_others part no_do no_bound =
-      in_neither (same_part part) (iterations_row 0 unit) (bounds_row unit (dummies_of unit)) (no_iteration part 0 unit no_do) (no_bounds part unit (dummies_of unit) no_bound)
+      in_neither (same_part part) (iterations_row 0 unit) (bounds_row unit (dummies_of unit)) (none-iterations part 0 unit no_do) (no_bounds part unit (dummies_of unit) no_bound)
 
   made_variables : (xs : List Name) → made made_for first_of (variables_row unit xs) ≡ map (variable_at unit) xs
   made_variables [] = refl
@@ -118,12 +99,12 @@ module _ (unit : List Statement) where
   -- a local variable begins behind the dummy arguments
   variable_begins : (k : FramePart) → has_key (same_part k) variables ≡ true → first_of (made_for k) ≡ cells_in front + first_in (same_part k) variables
   variable_begins (variable x) h =
-      first-behind (same_part (variable x)) front (variables ++ others) (no_argument (variable x) (dummies_of unit) (λ y. refl))
+      first-behind (same_part (variable x)) front (variables ++ others) (none-arguments (variable x) (dummies_of unit) (λ y. refl))
       ∙ ap (λ n. cells_in front + n) (first-within (same_part (variable x)) variables others h)
-  variable_begins (argument x) h = absurd (true≢false (sym h ∙ no_variable (argument x) unit (locals_of unit) (λ y. refl)))
-  variable_begins header h = absurd (true≢false (sym h ∙ no_variable header unit (locals_of unit) (λ y. refl)))
-  variable_begins (iteration d) h = absurd (true≢false (sym h ∙ no_variable (iteration d) unit (locals_of unit) (λ y. refl)))
-  variable_begins (bounds x) h = absurd (true≢false (sym h ∙ no_variable (bounds x) unit (locals_of unit) (λ y. refl)))
+  variable_begins (argument x) h = absurd (true≢false (sym h ∙ none-variables (argument x) unit (locals_of unit) (λ y. refl)))
+  variable_begins header h = absurd (true≢false (sym h ∙ none-variables header unit (locals_of unit) (λ y. refl)))
+  variable_begins (iteration d) h = absurd (true≢false (sym h ∙ none-variables (iteration d) unit (locals_of unit) (λ y. refl)))
+  variable_begins (bounds x) h = absurd (true≢false (sym h ∙ none-variables (bounds x) unit (locals_of unit) (λ y. refl)))
 
   variables_from : AreFrom made_for first_of (cells_in front) variables
   variables_from =
@@ -132,10 +113,10 @@ module _ (unit : List Statement) where
   argument_begins : (k : FramePart) → has_key (same_part k) (arguments_row (dummies_of unit)) ≡ true
       → first_of (made_for k) ≡ 1 + first_in (same_part k) (arguments_row (dummies_of unit))
   argument_begins (argument x) h = ap (λ n. 1 + n) (first-within (same_part (argument x)) (arguments_row (dummies_of unit)) (variables ++ others) h)
-  argument_begins (variable x) h = absurd (true≢false (sym h ∙ no_argument (variable x) (dummies_of unit) (λ y. refl)))
-  argument_begins header h = absurd (true≢false (sym h ∙ no_argument header (dummies_of unit) (λ y. refl)))
-  argument_begins (iteration d) h = absurd (true≢false (sym h ∙ no_argument (iteration d) (dummies_of unit) (λ y. refl)))
-  argument_begins (bounds x) h = absurd (true≢false (sym h ∙ no_argument (bounds x) (dummies_of unit) (λ y. refl)))
+  argument_begins (variable x) h = absurd (true≢false (sym h ∙ none-arguments (variable x) (dummies_of unit) (λ y. refl)))
+  argument_begins header h = absurd (true≢false (sym h ∙ none-arguments header (dummies_of unit) (λ y. refl)))
+  argument_begins (iteration d) h = absurd (true≢false (sym h ∙ none-arguments (iteration d) (dummies_of unit) (λ y. refl)))
+  argument_begins (bounds x) h = absurd (true≢false (sym h ∙ none-arguments (bounds x) (dummies_of unit) (λ y. refl)))
 
   both_from : AreDistinct same_name (dummies_of unit) → AreFrom made_for first_of 1 (arguments_row (dummies_of unit) ++ variables)
   both_from h =
@@ -147,7 +128,7 @@ module _ (unit : List Statement) where
   pub tells_variable : (x : Name) (i n : ℕ) → owner_in (frame_row unit) n ≡ Some (variable x, i)
       → IsTold unit n x i
   tells_variable x i n e =
-      let there = owner_back same_part self front (variables ++ others) n i (variable x) (no_argument (variable x) (dummies_of unit) (λ y. refl)) e in
+      let there = owner_back same_part self front (variables ++ others) n i (variable x) (none-arguments (variable x) (dummies_of unit) (λ y. refl)) e in
       let none = no_others (variable x) (λ d. refl) (λ y. refl) in
       let mine = owner_front same_part self variables others (n - cells_in front) i (variable x) none there.1 in
       let found = from-found made_for first_of (cells_in front) (n - cells_in front) i (variable x) variables variables_from mine in
@@ -177,7 +158,7 @@ module _ (unit : List Statement) where
       let from = both_from (distinct_by_index (dummies_of unit) once) in
       let found = from-found made_for first_of 1 (n - 1) i (argument x) (dummies ++ variables) from mine in
       let back : 1 + (n - 1) ≡ n = omega (arith, there.0) in
-      let apart = no_variable (argument x) unit (locals_of unit) (λ y. refl) in
+      let apart = none-variables (argument x) unit (locals_of unit) (λ y. refl) in
       let own = owner_front same_part self dummies variables (n - 1) i (argument x) apart mine in
       let given = sym (in_arguments x (dummies_of unit)) ∙ owner_key same_part self dummies (n - 1) i (argument x) own in
       record {

@@ -18,6 +18,7 @@ use Rattle.hep_machine.proofs.Locations.{equal_blocks}
 use Rattle.hep_image.specs.declared.names.ProgramNames.{ProgramNames}
 use Rattle.hep_image.specs.Names.{AreNames, block_index, block_number, block_spelling, first_block, first_variable, names_in_order, spellings_of, variable_index, variable_number}
 use Rattle.hep_image.proofs.Members.{among-added, among-before, among-behind, among-filtered, indexed}
+use Rattle.hep_source.proofs.Tests.{at-front}
 
 -- ---- indexes
 
@@ -47,11 +48,6 @@ pub block-inside : (program : Units) (b : BlockName) → is_block_among b (block
 block-inside program b h = slice_get_within (blocks_of program) (block_index program b) b (block-at program b h)
 
 -- ---- lists one behind the other
-
-at-front : {A : Type 0} (xs ys : List A) (i : ℕ) (x : A) → slice_get xs i ≡ Some x → slice_get (xs ++ ys) i ≡ Some x
-at-front [] ys i x h = absurd cc
-at-front (z ∷ zs) ys zero x h = h
-at-front (z ∷ zs) ys (suc i) x h = at-front zs ys i x h
 
 at-behind : {A : Type 0} (xs ys : List A) (n i : ℕ) → n ≡ length xs + i → slice_get (xs ++ ys) n ≡ slice_get ys i
 at-behind [] ys n i h = let same : n ≡ i = omega (arith, h) in ap (slice_get ys) same

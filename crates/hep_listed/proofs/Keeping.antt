@@ -3,7 +3,7 @@ use Rattle.std.proofs.Common.{◌≡◌, ◌≢◌, inl, inr, ℕ, ◌&&◌, ◌
 use Rattle.std.specs.Prelude.{is_some, not, nat_eq}
 use Rattle.std.specs.Option.{unwrap_or}
 use Rattle.std.proofs.Math.Bool.{and-false, and-true, not-not, or-false}
-use Rattle.std.proofs.lemmas.Bool.{cases_eq}
+use Rattle.std.proofs.lemmas.Bool.{cases_eq, ne_eqb, eq-eqb}
 use Rattle.std.proofs.lemmas.Option.{none-some, same_Some}
 use Rattle.hep_source.specs.Units.{Units}
 use Rattle.hep_machine.specs.Processes.{is_number_among, living}
@@ -13,7 +13,6 @@ use Rattle.hep_machine.specs.State.{State}
 use Rattle.hep_machine.specs.Step.{is_waiting, step}
 use Rattle.hep_blocked.specs.declared.want.Want.{Want}
 use Rattle.hep_blocked.specs.Waiting.{waiting_at}
-use Rattle.hep_blocked.proofs.Adding.{is_eq, not_eq}
 use Rattle.hep_needs.specs.Awaiting.{NeedsCell}
 use Rattle.hep_needs.proofs.Awaiting.{stepped}
 use Rattle.hep_listed.specs.Listing.{AreListed, GoesAlong, GoesAlongEmptying, IsBlocked, IsReadyNoMore, WaitsNow, is_noted}
@@ -41,16 +40,16 @@ module _ (program : Units) (cells : ℕ) (choices : List ℕ) (x : Progress) (wa
     after = progress_after_entry program x (record { process = p; steps = 0 }) 0
 
     waits-here : (q : ℕ) → p ≡ q → waiting_at waiting_after q ≡ Some (unwrap_or (waiting_at waiting p) w)
-    waits-here q same = now q ∙ rw (is_eq p q same) refl
+    waits-here q same = now q ∙ rw (eq-eqb p q same) refl
 
     waits-before : (q : ℕ) → p ≢ q → waiting_at waiting_after q ≡ waiting_at waiting q
-    waits-before q other = now q ∙ rw (not_eq p q other) refl
+    waits-before q other = now q ∙ rw (ne_eqb p q other) refl
 
     entry-listed : (q : ℕ) → is_number_among q after.listed ≡ is_some (waiting_at waiting_after q)
     entry-listed q = elim (cases_eq p q) [
-      | inl same ↦ rw (is_eq q p (sym same)) (sym (ap is_some (waits-here q same)))
+      | inl same ↦ rw (eq-eqb q p (sym same)) (sym (ap is_some (waits-here q same)))
       | inr other ↦
-          rw (not_eq q p (λ e. other (sym e))) (
+          rw (ne_eqb q p (λ e. other (sym e))) (
           among-without p q x.listed other ∙ (are.listed q ∙ sym (ap is_some (waits-before q other))))
     ]
 
@@ -75,9 +74,9 @@ module _ (program : Units) (cells : ℕ) (choices : List ℕ) (x : Progress) (wa
         by_number : (not (is_number_among q after.listed) && is_some (living x.state q))
             ≡ (not (nat_eq p q) && (not (is_number_among q x.listed) && is_some (living x.state q)))
         by_number = elim (cases_eq p q) [
-          | inl same ↦ rw (is_eq q p (sym same), is_eq p q same) refl
+          | inl same ↦ rw (eq-eqb q p (sym same), eq-eqb p q same) refl
           | inr other ↦
-              rw (not_eq q p (λ e. other (sym e)), not_eq p q other) (
+              rw (ne_eqb q p (λ e. other (sym e)), ne_eqb p q other) (
               ap (λ b. not b && is_some (living x.state q)) (among-without p q x.listed other))
         ]
 
@@ -124,7 +123,7 @@ module _ (program : Units) (cells : ℕ) (choices : List ℕ) (x : Progress) (wa
         by_want None e =
             ap (λ b. is_waiting program t q && b) (and-false (not (nat_eq p q))) ∙ and-false (is_waiting program t q)
         by_want (Some v) e =
-            rw (not_eq p q (other-waits q v e)) (
+            rw (ne_eqb p q (other-waits q v e)) (
             and-true (is_waiting program t q) ∙ (waits q v e ∙ sym (awake-unless test v)))
 
     turned-blocked : (q : ℕ) (u : Want) → waiting_at waiting_after q ≡ Some u → IsBlocked program cells (choices ++ p ∷ []) q u
@@ -160,7 +159,7 @@ module _ (program : Units) (cells : ℕ) (choices : List ℕ) (x : Progress) (wa
         by_want (Some v) e =
             let lived : is_some (living s q) ≡ true = waits-live program q s (are.blocked q v e).1 in
             let old = old-is program p s t made q (living-within s q lived) in
-            let apart = not_eq p q (other-waits q v e) in
+            let apart = ne_eqb p q (other-waits q v e) in
             let lives : is_some (living t q) ≡ true = lives-after program p s t made q ∙ rw (lived, apart) refl in
             (λ i. test v || (noted-is q (Some v) e ∙ old) i)
             ∙ (or-false _ ∙ sym ((λ i. not (awake-unless test v i) && lives i) ∙ (and-true _ ∙ not-not (test v))))

@@ -1,8 +1,8 @@
 -- Which processes live: those that wait do, and have no step; and what a step changes in it.
-use Rattle.std.proofs.Common.{◌≡◌, ◌⊎◌, inl, inr, ℕ, zero, suc, ◌+◌, ◌<◌, ◌≤◌, ◌&&◌, ◌||◌, Bool, true, false, true≢false, List, [], ◌∷◌, ◌++◌, length, Option, Some, None, refl, sym, ap, ◌∙◌, arith}
+use Rattle.std.proofs.Common.{◌≡◌, ◌⊎◌, inl, inr, ℕ, zero, suc, ◌+◌, ◌<◌, ◌≤◌, ◌&&◌, ◌||◌, Bool, true, false, true≢false, List, [], ◌∷◌, length, Option, Some, None, refl, sym, ap, ◌∙◌, arith}
 use Rattle.std.specs.Prelude.{◌≢◌, if◌then◌else◌, is_some, not, nat_eq, nat_lt}
 use Rattle.std.proofs.Math.Bool.{and-false, and-true, or-false}
-use Rattle.std.proofs.lemmas.Bool.{cases_eq, cases_lt, le-ltb, lt-ltb}
+use Rattle.std.proofs.lemmas.Bool.{cases_eq, cases_lt, le-ltb, lt-ltb, ne_eqb, eq-eqb}
 use Rattle.std.proofs.lemmas.List.{length-append, length-set}
 use Rattle.std.proofs.lemmas.Option.{slice_get_past}
 use Rattle.hep_source.specs.Units.{Units}
@@ -11,8 +11,7 @@ use Rattle.hep_machine.specs.Processes.{living, numbered, top_of, with_numbered}
 use Rattle.hep_machine.specs.State.{Level, Process, State}
 use Rattle.hep_machine.specs.Step.{StepResult, absent, stepped, waiting, Top, is_waiting, state_made, step, step_result_of, step_result_of_top, wanted_of}
 use Rattle.hep_machine.proofs.Changes.{Change, HasStack, calls, creates, faults, leaves, moves, step_changes, stops, top_in}
-use Rattle.hep_machine.proofs.Others.{others_stay, processes_after}
-use Rattle.hep_blocked.proofs.Adding.{is_eq, not_eq}
+use Rattle.hep_machine.proofs.Others.{others_stay, processes_after, last-numbered}
 
 -- ---- processes that wait
 
@@ -52,10 +51,6 @@ dead-past s (suc i) past = ap (λ o. is_some (top_of o)) (slice_get_past s.proce
 
 -- ---- a new process
 
-numbered-last : {A : Type 0} (xs : List A) (x : A) → numbered (xs ++ x ∷ []) (suc (length xs)) ≡ Some x
-numbered-last [] x = refl
-numbered-last (y ∷ ys) x = numbered-last ys x
-
 stack-lives : (q : Process) (a : ℕ) → activations_on q ≡ a ∷ [] → is_some (top_of (Some q)) ≡ true
 stack-lives [] a e = absurd cc
 stack-lives (level ∷ levels) a e = refl
@@ -77,7 +72,7 @@ change-lives t s change more = by_change change where
       let set : List Process = with_numbered t.state.processes t.process q in
       let long : length s.processes ≡ suc (length set) = ap length e ∙ (length-append set (r ∷ []) ∙ omega arith) in
       (λ i. is_some (top_of (numbered (e i) (long i))))
-      ∙ (ap (λ o. is_some (top_of o)) (numbered-last set r) ∙ stack-lives r (length t.state.activations + 1) b)
+      ∙ (ap (λ o. is_some (top_of o)) (last-numbered set r) ∙ stack-lives r (length t.state.activations + 1) b)
   by_change (stops e k) = absurd (omega (arith, more, ap length e))
 
 -- ---- a step
@@ -99,7 +94,7 @@ module _ (program : Units) (p : ℕ) (s t : State) (made : step program p s ≡ 
   -- it isn't, where its number was given before
   pub old-is : (q : ℕ) → q ≤ length s.processes → is_new q ≡ false
   old-is q le = elim (cases_lt (length s.processes) (length t.processes)) [
-    | inl less ↦ rw (not_eq q (length t.processes) (λ same. omega arith)) (and-false _)
+    | inl less ↦ rw (ne_eqb q (length t.processes) (λ same. omega arith)) (and-false _)
     | inr past ↦ rw (le-ltb (length s.processes) (length t.processes) past) refl
   ]
 
@@ -110,7 +105,7 @@ module _ (program : Units) (p : ℕ) (s t : State) (made : step program p s ≡ 
   other-lives : (q : ℕ) → p ≢ q → q ≤ length s.processes → is_some (living t q) ≡ lives_on q
   other-lives q other le =
       ap (λ o. is_some (top_of o)) (others_stay program p q s t made other le)
-      ∙ sym (rw (not_eq p q other, old-is q le) (or-false _ ∙ and-true _))
+      ∙ sym (rw (ne_eqb p q other, old-is q le) (or-false _ ∙ and-true _))
 
   new-alone : (q : ℕ) → length s.processes < q → is_some (living t q) ≡ is_new q
   new-alone q past = elim count-after [
@@ -120,8 +115,8 @@ module _ (program : Units) (p : ℕ) (s t : State) (made : step program p s ≡ 
     | inr more ↦ elim (cases_eq q (length t.processes)) [
       | inl same ↦
           let made_one = lt-ltb (length s.processes) (length t.processes) (omega (arith, more)) in
-          ap (λ n. is_some (living t n)) same ∙ (new-lives more ∙ sym (rw (made_one, is_eq q (length t.processes) same) refl))
-      | inr apart ↦ dead-past t q (omega (arith, more)) ∙ sym (rw (not_eq q (length t.processes) apart) (and-false _))
+          ap (λ n. is_some (living t n)) same ∙ (new-lives more ∙ sym (rw (made_one, eq-eqb q (length t.processes) same) refl))
+      | inr apart ↦ dead-past t q (omega (arith, more)) ∙ sym (rw (ne_eqb q (length t.processes) apart) (and-false _))
     ]
   ]
 
@@ -130,7 +125,7 @@ module _ (program : Units) (p : ℕ) (s t : State) (made : step program p s ≡ 
     | inl same ↦
         let lived : is_some (living s q) ≡ true = ap (λ n. is_some (living s n)) (sym same) ∙ stepper-lives in
         let le : q ≤ length s.processes = living-within s q lived in
-        ap (λ n. is_some (living t n)) (sym same) ∙ sym (rw (is_eq p q same, old-is q le, lived) (or-false _))
+        ap (λ n. is_some (living t n)) (sym same) ∙ sym (rw (eq-eqb p q same, old-is q le, lived) (or-false _))
     | inr other ↦ elim (cases_lt (length s.processes) q) [
       | inl past ↦ new-alone q past ∙ sym (rw (dead-past s q past) refl)
       | inr le ↦ other-lives q other le

@@ -1,7 +1,7 @@
 -- Who goes on waiting, and who is woken, when another process steps.
 use Rattle.std.proofs.Common.{◌≡◌, ◌≢◌, inl, inr, ℕ, Bool, true, false, List, [], ◌∷◌, ◌++◌, Option, Some, None, refl, sym, ap, ◌∙◌}
 use Rattle.std.specs.Prelude.{◌&&◌, if◌then◌else◌, is_some, not}
-use Rattle.std.proofs.lemmas.Bool.{cases_eq}
+use Rattle.std.proofs.lemmas.Bool.{cases_eq, ne_eqb, eq-eqb}
 use Rattle.std.proofs.lemmas.Option.{none-some, same_Some}
 use mathlib.Core.Bool.{beq}
 use Rattle.hep_source.specs.Units.{Units}
@@ -11,7 +11,6 @@ use Rattle.hep_machine.specs.State.{Location, State}
 use Rattle.hep_machine.specs.Step.{is_waiting}
 use Rattle.hep_blocked.specs.declared.want.Want.{Want}
 use Rattle.hep_blocked.specs.Waiting.{waiting_at, want_eq}
-use Rattle.hep_blocked.proofs.Adding.{is_eq, not_eq}
 use Rattle.hep_frames.specs.Addresses.{address}
 use Rattle.hep_needs.specs.Awaiting.{NeedsCell}
 use Rattle.hep_needs.specs.Needs.{need_of, touched_by}
@@ -126,8 +125,8 @@ module _ (program : Units) (cells : ℕ) (choices : List ℕ) (p q : ℕ) (layou
     by_change (Some x) e = elim (cases_eq x.cell v.cell) [
       | inl same ↦
           let now = told.now x at e (kept ∙ ap (λ n. Some n) (sym same)) in
-          waits-after ∙ ((λ i. not (beq (now i) (needs.state i))) ∙ sym (rw (is_eq x.cell v.cell same) refl))
-      | inr apart ↦ untouched (elsewhere x e apart) ∙ (waits ∙ sym (rw (not_eq x.cell v.cell apart) refl))
+          waits-after ∙ ((λ i. not (beq (now i) (needs.state i))) ∙ sym (rw (eq-eqb x.cell v.cell same) refl))
+      | inr apart ↦ untouched (elsewhere x e apart) ∙ (waits ∙ sym (rw (ne_eqb x.cell v.cell apart) refl))
     ]
 
   -- where it empties the cell, q waits no more for it to be empty, and else it goes on waiting

@@ -1,7 +1,7 @@
 -- One unit more that was lowered.
 use Rattle.std.proofs.Common.{◌≡◌, ◌⊎◌, inl, inr, ℕ, zero, suc, ◌+◌, ◌<◌, ◌≤◌, List, [], ◌∷◌, ◌++◌, length, Option, Some, None, sym, ap, ◌∙◌, subst, arith, length-append}
 use Rattle.std.specs.Prelude.{slice_get}
-use Rattle.std.proofs.lemmas.Option.{same_Some, none-some}
+use Rattle.std.proofs.lemmas.Option.{same_Some}
 use Rattle.hep_source.specs.Units.{Units}
 use Rattle.hep_code.specs.Depths.{line_too_deep}
 use Rattle.hep_image.specs.declared.unit.UnitCode.{UnitCode}
@@ -11,6 +11,7 @@ use Rattle.hep_lower.specs.declared.units.LoweredUnit.TheVariants.{Runnable}
 use Rattle.hep_lower.specs.declared.units.LoweredUnits.{LoweredUnits}
 use Rattle.hep_lower.specs.Refusals.{IsFirstDeep, instructions_in}
 use Rattle.hep_lower.specs.Units.{AreUnits, IsUnit}
+use Rattle.hep_symbols.proofs.Passes.{within}
 
 -- a number below one more is below or the last one
 pub split : (u n : ℕ) → u < n + 1 → (u < n) ⊎ (u ≡ n)
@@ -36,11 +37,6 @@ item-before : {A : Type 0} (xs : List A) (x y : A) (u : ℕ) → u < length xs �
 item-before [] x y u h e = absurd (omega (arith, h))
 item-before (z ∷ zs) x y zero h e = e
 item-before (z ∷ zs) x y (suc u) h e = item-before zs x y u (omega (arith, h)) e
-
-item-within : {A : Type 0} (xs : List A) (u : ℕ) (y : A) → slice_get xs u ≡ Some y → u < length xs
-item-within [] u y e = absurd (none-some y e)
-item-within (z ∷ zs) zero y e = omega arith
-item-within (z ∷ zs) (suc u) y e = omega (arith, item-within zs u y e)
 
 pub suc-is : (n : ℕ) → n + 1 ≡ suc n
 suc-is n = omega arith
@@ -68,7 +64,7 @@ module _ (program : Units) (n : ℕ) (before after : LoweredUnits) (known : AreU
     each none u x e =
         let long = known.all (sym same ∙ none) in
         let there = ap (λ (xs : List UnitCode). slice_get xs u) (sym more) ∙ e in
-        elim (split u n (omega (arith, item-within after.codes.items u x e, all none))) [
+        elim (split u n (omega (arith, within after.codes.items u x e, all none))) [
           | inl less ↦ known.each (sym same ∙ none) u x (item-before before.codes.items unit x u (omega (arith, less, long)) there)
           | inr last ↦
               subst (λ v. IsUnitCode program v x) (sym last) (

@@ -1,5 +1,5 @@
 -- The starts that are kept for common blocks are their first cells.
-use Rattle.std.proofs.Common.{◌≡◌, ◌≤◌, Bool, true, false, ◌||◌, List, [], ◌∷◌, map, refl, ap, ◌∙◌}
+use Rattle.std.proofs.Common.{◌≡◌, ◌≤◌, true, ◌||◌, List, [], ◌∷◌, map, refl, ap, ◌∙◌}
 use Rattle.std.specs.Option.{unwrap_or}
 use Rattle.hep_source.specs.Names.{index_where}
 use Rattle.hep_source.specs.Units.{Units}
@@ -14,10 +14,7 @@ use Rattle.hep_common.specs.declared.common.CommonBlocks.{CommonBlocks}
 use Rattle.hep_common.specs.declared.starts.CommonStarts.{CommonStarts}
 use Rattle.hep_common.proofs.Beginnings.{first-start}
 use Rattle.hep_lower.specs.Blocks.{block_begun}
-
-or-true : (b : Bool) → (b || true) ≡ true
-or-true true = refl
-or-true false = refl
+use Rattle.hep_source.proofs.Tests.{or-true}
 
 module _ (program : Units) (blocks : CommonBlocks) (common : CommonStarts) (listed : blocks.blocks.keys ≡ blocks_of program) where
   all-begun : (bs : List BlockName) → ((b : BlockName) → is_block_among b bs ≡ true → start_in common b ≡ (block_start program b).first) → map (block_begun blocks common) bs ≡ map (block_start program) bs

@@ -36,7 +36,7 @@ keeps_all old = (common None 0, λ location other. refl)
 keeps-with_cell : (old : Store) (at : Location) (cell : Cell) → Keeps old (with_cell old at cell)
 keeps-with_cell old at cell = (at, λ location other. rw other refl)
 
-state-with_value : (old : Store) (at : Location) (v : Option Value) (location : Location) → (with_value old at v location).full ≡ (old location).full
+pub state-with_value : (old : Store) (at : Location) (v : Option Value) (location : Location) → (with_value old at v location).full ≡ (old location).full
 state-with_value old at v location = by_test (same_location location at) refl where
   by_test : (b : Bool) → same_location location at ≡ b → (with_value old at v location).full ≡ (old location).full
   by_test true e = rw e (ap (λ l. (old l).full) (sym (equal_locations location at e)))
@@ -88,11 +88,11 @@ kept-answer scope old (testing f r) = kept-answer_of_test_at f old (location_of_
 
 -- ---- binding
 
-state-with_actual : (old : Store) (a : ℕ) (x : Name) (y : Actual) (location : Location) → (with_actual old a x y location).full ≡ (old location).full
+pub state-with_actual : (old : Store) (a : ℕ) (x : Name) (y : Actual) (location : Location) → (with_actual old a x y location).full ≡ (old location).full
 state-with_actual old a x (evaluated v) location = state-with_value old (local a x 1) (Some v) location
 state-with_actual old a x (referred r) location = refl
 
-state-with_actuals : (old : Store) (a : ℕ) (xs : List Name) (ys : List Actual) (location : Location) → (with_actuals old a xs ys location).full ≡ (old location).full
+pub state-with_actuals : (old : Store) (a : ℕ) (xs : List Name) (ys : List Actual) (location : Location) → (with_actuals old a xs ys location).full ≡ (old location).full
 state-with_actuals old a [] ys location = refl
 state-with_actuals old a (x ∷ xs) [] location = refl
 state-with_actuals old a (x ∷ xs) (y ∷ ys) location =

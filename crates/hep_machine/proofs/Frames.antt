@@ -18,13 +18,13 @@ chosen : {A : Type 0} (b : Bool) (x : A) (o : Option A) (y : A) → (if b then S
 chosen true x o y e = inl (refl, same_Some x y e)
 chosen false x o y e = inr (refl, e)
 
-mapped_from : {A B : Type 0} (f : A → B) (o : Option A) (y : B) → option_map f o ≡ Some y → (x : A) × (o ≡ Some x) × (f x ≡ y)
+pub mapped_from : {A B : Type 0} (f : A → B) (o : Option A) (y : B) → option_map f o ≡ Some y → (x : A) × (o ≡ Some x) × (f x ≡ y)
 mapped_from f None y e = absurd (none-some y e)
 mapped_from f (Some x) y e = (x, refl, same_Some (f x) y e)
 
 -- ---- a new frame
 
-gap_after : (cells n from : ℕ) (fs : Layout) (first : ℕ) → StandApart cells from fs → lowest_gap cells n from fs ≡ Some first → from ≤ first
+pub gap_after : (cells n from : ℕ) (fs : Layout) (first : ℕ) → StandApart cells from fs → lowest_gap cells n from fs ≡ Some first → from ≤ first
 gap_after cells n from [] first h e =
     elim (chosen (nat_le (from + n) cells) from None first e) [ inl c ↦ omega arith | inr c ↦ absurd (none-some first c.1) ]
 gap_after cells n from (f ∷ fs) first h e =
@@ -56,7 +56,7 @@ apart-with_frame cells a n from (f ∷ fs) first some h e =
 
 -- ---- frames that are given back
 
-apart_further : (cells m n : ℕ) (fs : Layout) → m ≤ n → StandApart cells n fs → StandApart cells m fs
+pub apart_further : (cells m n : ℕ) (fs : Layout) → m ≤ n → StandApart cells n fs → StandApart cells m fs
 apart_further cells m n [] le h = omega arith
 apart_further cells m n (f ∷ fs) le h = (omega arith, h.1, h.2)
 

@@ -3,7 +3,7 @@ use Rattle.std.proofs.Common.{◌≡◌, ◌⊎◌, inl, inr, ℕ, zero, suc, �
 use Rattle.std.specs.Prelude.{◌||◌, ◌↔◌, if◌then◌else◌, slice_get, nat_eq}
 use Rattle.std.specs.Option.{option_map_or}
 use Rattle.std.specs.List.{flat_map}
-use Rattle.std.proofs.lemmas.Bool.{eq-eqb, false≢true}
+use Rattle.std.proofs.lemmas.Bool.{eq-eqb, false≢true, or_left, or_right, or_cases}
 use Rattle.std.proofs.lemmas.Bool.Decides.{eqb_tells}
 use Rattle.std.proofs.lemmas.List.Folds.{list_any-append}
 use Rattle.std.proofs.lemmas.Option.{none-some, same_Some}
@@ -17,28 +17,16 @@ use Rattle.hep_machine.proofs.Ages.{IsAged, aged, older_parent, on_stack_made}
 
 -- ---- numbers among others
 
-or_cases : (a b : Bool) → (a || b) ≡ true → (a ≡ true) ⊎ (b ≡ true)
-or_cases true b e = inl refl
-or_cases false b e = inr e
-
-or_left : (a b : Bool) → a ≡ true → (a || b) ≡ true
-or_left true b e = refl
-or_left false b e = absurd cc
-
-or_right : (a b : Bool) → b ≡ true → (a || b) ≡ true
-or_right true b e = refl
-or_right false b e = e
-
-among-append : (a : ℕ) (xs ys : List ℕ) → is_number_among a (xs ++ ys) ≡ (is_number_among a xs || is_number_among a ys)
+pub among-append : (a : ℕ) (xs ys : List ℕ) → is_number_among a (xs ++ ys) ≡ (is_number_among a xs || is_number_among a ys)
 among-append a xs ys = list_any-append (nat_eq a) xs ys
 
-among-head : (a : ℕ) (xs : List ℕ) → is_number_among a (a ∷ xs) ≡ true
+pub among-head : (a : ℕ) (xs : List ℕ) → is_number_among a (a ∷ xs) ≡ true
 among-head a xs = or_left (nat_eq a a) (is_number_among a xs) (eq-eqb a a refl)
 
 among-tail : (a b : ℕ) (xs : List ℕ) → is_number_among a xs ≡ true → is_number_among a (b ∷ xs) ≡ true
 among-tail a b xs h = or_right (nat_eq a b) (is_number_among a xs) h
 
-among-cases : (a b : ℕ) (xs : List ℕ) → is_number_among a (b ∷ xs) ≡ true → (a ≡ b) ⊎ (is_number_among a xs ≡ true)
+pub among-cases : (a b : ℕ) (xs : List ℕ) → is_number_among a (b ∷ xs) ≡ true → (a ≡ b) ⊎ (is_number_among a xs ≡ true)
 among-cases a b xs h = elim (or_cases (nat_eq a b) (is_number_among a xs) h) [
   | inl same ↦ elim (eqb_tells a b) [ inl t ↦ inl t.1 | inr t ↦ absurd cc ]
   | inr rest_after ↦ inr rest_after
@@ -173,7 +161,7 @@ all_closed s held (a ∷ ns) aged h =
 
 -- ---- the activations on stacks
 
-on_some : (a : ℕ) (qs : List Process) → is_number_among a (flat_map activations_on qs) ≡ true → (i : ℕ) × (q : Process) × (slice_get qs i ≡ Some q) × (is_number_among a (activations_on q) ≡ true)
+pub on_some : (a : ℕ) (qs : List Process) → is_number_among a (flat_map activations_on qs) ≡ true → (i : ℕ) × (q : Process) × (slice_get qs i ≡ Some q) × (is_number_among a (activations_on q) ≡ true)
 on_some a [] h = absurd cc
 on_some a (q ∷ qs) h =
     elim (or_cases (is_number_among a (activations_on q)) (is_number_among a (flat_map activations_on qs)) (sym (among-append a (activations_on q) (flat_map activations_on qs)) ∙ h)) [
@@ -181,7 +169,7 @@ on_some a (q ∷ qs) h =
       | inr rest_after ↦ let found = on_some a qs rest_after in (suc found.0, found.1, found.2, found.3)
     ]
 
-some_on : (a : ℕ) (qs : List Process) (i : ℕ) (q : Process) → slice_get qs i ≡ Some q → is_number_among a (activations_on q) ≡ true → is_number_among a (flat_map activations_on qs) ≡ true
+pub some_on : (a : ℕ) (qs : List Process) (i : ℕ) (q : Process) → slice_get qs i ≡ Some q → is_number_among a (activations_on q) ≡ true → is_number_among a (flat_map activations_on qs) ≡ true
 some_on a [] i q e h = absurd (none-some q e)
 some_on a (r ∷ rs) zero q e h =
     let here = subst (λ (p : Process). is_number_among a (activations_on p) ≡ true) (sym (same_Some r q e)) h in

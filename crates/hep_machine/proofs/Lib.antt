@@ -11,3 +11,4 @@ pub mod CellStates
 pub mod Purges
 pub mod Ages
 pub mod Held
+pub mod ConstantShapes

@@ -1,13 +1,13 @@
 -- What a step of one process leaves to the others, and how the numbers rise.
 use Rattle.std.proofs.Common.{◌≡◌, ◌⊎◌, inl, inr, ℕ, zero, suc, ◌+◌, ◌-◌, ◌<◌, ◌≤◌, List, [], ◌∷◌, ◌++◌, length, Option, Some, None, refl, sym, ap, ◌∙◌, subst, arith}
-use Rattle.std.specs.Prelude.{◌≢◌, slice_get, slice_set}
+use Rattle.std.specs.Prelude.{◌≢◌, false, if◌then◌else◌, slice_get, slice_set}
 use Rattle.std.specs.Option.{unwrap_or}
 use Rattle.std.proofs.lemmas.Bool.Decides.{eqb_tells}
 use Rattle.std.proofs.lemmas.List.{length-set, length-append}
 use Rattle.hep_machine.specs.Laws.{IsSameOrOneMore}
 use Rattle.hep_machine.specs.Run.{state_after_turn}
 use Rattle.hep_machine.specs.State.{Process, State}
-use Rattle.hep_machine.specs.Step.{Top, step}
+use Rattle.hep_machine.specs.Step.{Top, state_made, step, step_result_of, stepped}
 use Rattle.hep_source.specs.Units.{Units}
 use Rattle.hep_machine.specs.Processes.{top_of, living, numbered, with_numbered}
 use Rattle.hep_machine.proofs.Changes.{Change, moves, leaves, faults, calls, creates, stops, HasStack, HasStepped, top_in, step_changes}
@@ -21,7 +21,7 @@ other_kept (y ∷ ys) zero (suc j) x d = refl
 other_kept (y ∷ ys) (suc i) zero x d = refl
 other_kept (y ∷ ys) (suc i) (suc j) x d = other_kept ys i j x (λ e. d (ap suc e))
 
-front_kept : {A : Type 0} (xs ys : List A) (j : ℕ) → j < length xs → slice_get (xs ++ ys) j ≡ slice_get xs j
+pub front_kept : {A : Type 0} (xs ys : List A) (j : ℕ) → j < length xs → slice_get (xs ++ ys) j ≡ slice_get xs j
 front_kept [] ys j h = absurd (omega arith)
 front_kept (x ∷ xs) ys zero h = refl
 front_kept (x ∷ xs) ys (suc j) h = front_kept xs ys j (omega arith)
@@ -125,3 +125,12 @@ processes_after program p s =
     each_turn (λ t. (length t.processes ≡ length s.processes) ⊎ (length t.processes ≡ length s.processes + 1)) program p s (inl refl) (λ t e.
     let stepped = step_changes program p s t e in
     processes_rise (top_in s p stepped.top) t stepped.change)
+
+-- ---- the last of a list by its number, and a step that is made
+
+pub last-numbered : {A : Type 0} (xs : List A) (y : A) → numbered (xs ++ y ∷ []) (suc (length xs)) ≡ Some y
+last-numbered [] y = refl
+last-numbered (x ∷ xs) y = last-numbered xs y
+
+pub step-is : (program : Units) (p : ℕ) (s t : State) → s.halted ≡ false → step_result_of program p s ≡ stepped t → step program p s ≡ Some t
+step-is program p s t running made = ap (λ b. if b then None else state_made (step_result_of program p s)) running ∙ ap state_made made

@@ -27,7 +27,7 @@ steps_of_entries program s (e ∷ es) h =
 pub legal_steps : (program : Units) (cells limit : ℕ) (history : List Entry) → IsLegal program cells limit history → AreSteps program (opening program) (schedule_of history)
 legal_steps program cells limit history h = steps_of_entries program (opening program) history h.entries
 
-run_after : (program : Units) (s : State) (ps qs : List ℕ) → run_from program s (ps ++ qs) ≡ run_from program (run_from program s ps) qs
+pub run_after : (program : Units) (s : State) (ps qs : List ℕ) → run_from program s (ps ++ qs) ≡ run_from program (run_from program s ps) qs
 unfolding run_from
 run_after program s [] qs = refl
 run_after program s (p ∷ ps) qs = run_after program (state_after_turn program p s) ps qs

@@ -39,7 +39,7 @@ test-named ValueOf at w e = absurd (none-some w e)
 test-named SetEmpty at w e = absurd (none-some w e)
 test-named WaitFull at w e = wanted-named true true at w e
 
-need-named : (scope : Scope) (n : Next) (w : Wanted) → need_of_next scope n ≡ Some w
+pub need-named : (scope : Scope) (n : Next) (w : Wanted) → need_of_next scope n ≡ Some w
     → (r : Reference) × (location_of_name scope r.0 r.1 ≡ Ok w.at)
 need-named scope (wants (reading r)) w e = (r, wanted-named r.0.asynchronous true (location_of_name scope r.0 r.1) w e)
 need-named scope (wants (testing f r)) w e = (r, test-named f (location_of_name scope r.0 r.1) w e)

@@ -1,9 +1,8 @@
 -- A step that is no PURGE changes the state of no storage unit but the one that it touches.
-use Rattle.std.proofs.Common.{◌≡◌, ◌≢◌, ℕ, Bool, true, false, List, [], ◌∷◌, Option, Some, None, Result, Ok, Err, refl, sym, ap, ◌∙◌, subst}
+use Rattle.std.proofs.Common.{◌≡◌, ◌≢◌, ℕ, Bool, true, false, List, [], Option, Some, None, Result, Ok, Err, refl, sym, ap, ◌∙◌, subst}
 use Rattle.std.specs.Prelude.{ℤ, ◌+ℤ◌, if◌then◌else◌}
 use Rattle.hep_source.specs.declared.function.StateFunction.{StateFunction}
 use Rattle.hep_source.specs.declared.function.StateFunction.TheVariants.{IsFull, IsEmpty, ValueOf, SetEmpty, WaitFull}
-use Rattle.hep_source.specs.declared.name.Name.{Name}
 use Rattle.hep_source.specs.declared.statement.Statement.{Statement}
 use Rattle.hep_source.specs.declared.value.Value.{Value}
 use Rattle.hep_source.specs.declared.value.Value.TheVariants.{Int}
@@ -12,18 +11,19 @@ use Rattle.hep_machine.specs.declared.event.Kind.{Kind}
 use Rattle.hep_machine.specs.Access as access
 use Rattle.hep_machine.specs.Access.{Outcome, reading_asynchronous, setting_empty, with_stored, writing_asynchronous}
 use Rattle.hep_machine.specs.Arithmetic.{combined_value, function_value, integer_of, integer_or_overflow, negated_value, signed_value}
-use Rattle.hep_machine.specs.Binding.{Binding, binding_for, binding_with_shapes, dummies_for, with_actual, with_actuals, with_shapes, with_store}
+use Rattle.hep_machine.specs.Binding.{Binding, binding_for, binding_with_shapes, dummies_for, with_actuals, with_shapes, with_store}
 use Rattle.hep_machine.specs.Control.{level_after_statement, variable_of}
-use Rattle.hep_machine.specs.Evaluation.{Action, assigning, branching, calling, choosing, continuing, creating, ending_loop, entering_block, entering_loop, jumping, leaving, printing, purging, stopping, testing_condition, Actual, evaluated, referred, Next, does, wants, Redex, applying, combining, negating, reading, signing, testing, next_of}
+use Rattle.hep_machine.specs.Evaluation.{Action, assigning, branching, calling, choosing, continuing, creating, ending_loop, entering_block, entering_loop, jumping, leaving, printing, purging, stopping, testing_condition, Actual, Next, does, wants, Redex, applying, combining, negating, reading, signing, testing, next_of}
 use Rattle.hep_machine.specs.Laws.{is_purge, purges, top_purges}
 use Rattle.hep_machine.specs.Locations.{Scope, location_of_name}
 use Rattle.hep_machine.specs.Processes.{loop_at}
-use Rattle.hep_machine.specs.State.{Cell, Dummy, Level, Location, Loop, State, Store, local}
+use Rattle.hep_machine.specs.State.{Cell, Dummy, Level, Location, Loop, State, Store}
 use Rattle.hep_machine.specs.Step.{Answer, fails, gives, waits, Top, answer_at, answer_of, answer_of_read_at, answer_of_test_at, binding_of, by_result, iterations, next_activation, result_after_action, result_after_answer, result_after_assignment, result_after_call, result_after_create, result_after_do, result_after_increment, result_after_loop_end, result_after_loop_variable, result_after_next, result_after_write, scope_of, step, unit_called, unit_on_top, written}
-use Rattle.hep_machine.specs.Storage.{same_location, with_cell, with_value}
+use Rattle.hep_machine.specs.Storage.{same_location, with_cell}
 use Rattle.hep_machine.proofs.Changes.{Makes, by_step, next_on, top_in}
 use Rattle.hep_machine.proofs.Locations.{equal_locations}
 use Rattle.hep_needs.specs.Needs.{if_so, named_location, on_top, touched_by, touched_by_next, touched_by_test}
+use Rattle.hep_machine.proofs.CellStates.{state-with_actuals, state-with_value}
 
 -- ---- changes of the store
 
@@ -38,13 +38,6 @@ others-stay : (old : Store) (at : Location) (cell : Cell) → KeepsBut (Some at)
 others-stay old at cell l other = by_test (same_location l at) refl where
   by_test : (b : Bool) → same_location l at ≡ b → (if b then cell else old l).full ≡ (old l).full
   by_test true e = absurd (other (ap (λ m. Some m) (sym (equal_locations l at e))))
-  by_test false e = refl
-
--- a value alone changes no state
-value-stays : (old : Store) (at : Location) (value : Option Value) (l : Location) → (with_value old at value l).full ≡ (old l).full
-value-stays old at value l = by_test (same_location l at) refl where
-  by_test : (b : Bool) → same_location l at ≡ b → (if b then record { value = value; full = (old at).full } else old l).full ≡ (old l).full
-  by_test true e = ap (λ m. (old m).full) (sym (equal_locations l at e))
   by_test false e = refl
 
 -- ---- what is given
@@ -99,16 +92,6 @@ redex-touches scope old (applying f vs) = value-touches old (function_value f vs
 
 -- ---- binding
 
-actual-stays : (old : Store) (a : ℕ) (x : Name) (y : Actual) (at : Location) → (with_actual old a x y at).full ≡ (old at).full
-actual-stays old a x (evaluated v) at = value-stays old (local a x 1) (Some v) at
-actual-stays old a x (referred r) at = refl
-
-actuals-stay : (old : Store) (a : ℕ) (xs : List Name) (ys : List Actual) (at : Location)
-    → (with_actuals old a xs ys at).full ≡ (old at).full
-actuals-stay old a [] ys at = refl
-actuals-stay old a (x ∷ xs) [] at = refl
-actuals-stay old a (x ∷ xs) (y ∷ ys) at = actuals-stay (with_actual old a x y) a xs ys at ∙ actual-stays old a x y at
-
 abbrev BindsBut : Store → Result Binding Kind → Type 0
 BindsBut old (Err k) = Unit {0}
 BindsBut old (Ok b) = KeepsBut None old b.store
@@ -127,7 +110,7 @@ binding-stays : (scope : Scope) (old : Store) (unit : List Statement) (a : ℕ) 
     → BindsBut old (binding_for scope old unit a ys)
 binding-stays scope old unit a ys =
     dummies-stay unit a old (with_actuals old a (dummies_of unit) ys) (dummies_for scope a (dummies_of unit) ys) (λ at other.
-    actuals-stay old a (dummies_of unit) ys at)
+    state-with_actuals old a (dummies_of unit) ys at)
 
 -- ---- a turn
 
@@ -153,7 +136,7 @@ module _ (program : Units) (t : Top) where
   assignment-keeps : (asynchronous : Bool) (at : Result Location Kind) (v : Value)
       → Makes (Keeping (if_so asynchronous (named_location at))) (result_after_assignment program t asynchronous at v)
   assignment-keeps asynchronous (Err k) v = all-stay (if_so asynchronous None) t.state.store
-  assignment-keeps false (Ok at) v = λ l other. value-stays t.state.store at (Some v) l
+  assignment-keeps false (Ok at) v = λ l other. state-with_value t.state.store at (Some v) l
   assignment-keeps true (Ok at) v =
       write-keeps (Some at) (level_after_statement (unit_on_top program t) t.level) (
       answer_at t.state.store at (written true v (t.state.store at))) (
@@ -163,11 +146,11 @@ module _ (program : Units) (t : Top) where
       → Makes (Keeping None) (result_after_do program t at m increment count)
   do-keeps at m increment (Err k) = all-stay None t.state.store
   do-keeps (Err k) m increment (Ok count) = all-stay None t.state.store
-  do-keeps (Ok at) m increment (Ok count) = λ l other. value-stays t.state.store at (Some (Int m)) l
+  do-keeps (Ok at) m increment (Ok count) = λ l other. state-with_value t.state.store at (Some (Int m)) l
 
   increment-keeps : (l : Loop) (at : Location) (z : Result ℤ Kind) → Makes (Keeping None) (result_after_increment program t l at z)
   increment-keeps l at (Err k) = all-stay None t.state.store
-  increment-keeps l at (Ok z) = λ m other. value-stays t.state.store at (Some (Int z)) m
+  increment-keeps l at (Ok z) = λ m other. state-with_value t.state.store at (Some (Int z)) m
 
   variable-keeps : (l : Loop) (at : Location) (v : Option Value) → Makes (Keeping None) (result_after_loop_variable program t l at v)
   variable-keeps l at None = all-stay None t.state.store

@@ -6,7 +6,7 @@ use Rattle.hep_source.specs.declared.statement.Form.{Form}
 use Rattle.hep_text.specs.declared.statement.Stmt.{Stmt}
 use Rattle.hep_expression.specs.declared.characters.Sizes.{Sizes}
 use Rattle.hep_expression.specs.declared.characters.Sizes.TheVariants.{Fitting, Any}
-use Rattle.hep_expression.proofs.Leaves.{some_is, none_is, chosen}
+use Rattle.hep_expression.proofs.Leaves.{chosen}
 use Rattle.hep_parse.specs.declared.program.StatementClass.{StatementClass}
 use Rattle.hep_parse.specs.declared.program.StatementClass.TheVariants as part
 use Rattle.hep_parse.specs.declared.program.State.{State}
@@ -17,16 +17,18 @@ use Rattle.hep_parse.specs.ReadingProgram.{Refusal, or_refusal, left_out, with_l
 use Rattle.hep_statement.proofs.Forms.{form_is, form_read}
 use Rattle.hep_parse.proofs.LeftOut.{left_out_is, left_out_read}
 use Rattle.hep_statement.proofs.Sizes.{any_form}
-use Rattle.hep_parse.proofs.Programs.{not_false, ok, refused, refusal_is, not_both, stand_is, is_stand, is_empty, Stands, stands_first, next_state, stands_end, stands_other, state_is, end_or_other, stage_after_other}
+use Rattle.hep_parse.proofs.Programs.{ok, refused, refusal_is, not_both, stand_is, is_stand, is_empty, Stands, stands_first, next_state, stands_end, stands_other, state_is, end_or_other, stage_after_other}
+use Rattle.std.proofs.lemmas.Option.{same_Some, none-some}
+use Rattle.std.proofs.lemmas.Bool.{not-false}
 
 -- ---- readings
 
 -- a text has one form at most
 one_form : (z : Sizes) (s : List ℕ) (conditions more : List Tree) (f g : Form) → IsForm z s conditions f → IsForm z s more g → ◌≡◌ {A = List Tree × Form} (conditions, f) (more, g)
-one_form z s conditions more f g h k = some_is (conditions, f) (more, g) (sym (form_read z s conditions f h) ∙ form_read z s more g k)
+one_form z s conditions more f g h k = same_Some (conditions, f) (more, g) (sym (form_read z s conditions f h) ∙ form_read z s more g k)
 
 unread : (z : Sizes) (s : Stmt) → form z s.text ≡ None → HasNoReading z s
-unread z s e conditions f h = none_is (conditions, f) (sym e ∙ form_read z s.text conditions f h)
+unread z s e conditions f h = none-some (conditions, f) (sym e ∙ form_read z s.text conditions f h)
 
 word_left_out : (s : Stmt) (word : List ℕ) → IsLeftOutStatement s word → left_out (context Any s.text) (length s.text) s.text ≡ Some word
 word_left_out s word h = left_out_read (context Any s.text) h.0 (length s.text) s.text word (omega arith) h.1
@@ -49,14 +51,14 @@ IsDisplaced x before p begins = (MayStandAfter before p → ⊥) ⊎ ((before �
 
 displaced : (x : State) (before : List StatementClass) (p : StatementClass) (begins : Bool) → Stands x before → state_after_statement x p begins ≡ None → IsDisplaced x before p begins
 displaced x before p begins stands e = elim (chosen (may_follow x.stage p && not (is_start x.stage && x.has_main && begins)) (Some (next_state x p begins)) None None e) [
-  | inl g ↦ absurd (none_is (next_state x p begins) (sym g.1))
+  | inl g ↦ absurd (none-some (next_state x p begins) (sym g.1))
   | inr g ↦ go (may_follow x.stage p) refl g.0
 ]
   where
     go : (first : Bool) → may_follow x.stage p ≡ first → (first && not (is_start x.stage && x.has_main && begins)) ≡ false → IsDisplaced x before p begins
     go false is e = inl (λ h. let clash : true ≡ false = sym (stand_is before p h) ∙ stands.0 p ∙ is in cc)
     go true is e =
-        let second = both_of (is_start x.stage) x.has_main begins (not_false (is_start x.stage && x.has_main && begins) e) in
+        let second = both_of (is_start x.stage) x.has_main begins (not-false (is_start x.stage && x.has_main && begins) e) in
         inr (empty_is before (sym stands.1 ∙ second.0), second.1, second.2)
 
 not_displaced : (x : State) (before : List StatementClass) (p : StatementClass) (begins : Bool) → Stands x before → may_follow x.stage p ≡ true → (is_start x.stage && x.has_main && begins) ≡ false → IsDisplaced x before p begins → ⊥
@@ -122,7 +124,7 @@ module _ (x : State) (before : List StatementClass) (s : Stmt) (rest_after : Lis
   no_form none none_any no_word = (inl (refl, unread Any s none_any, no_words, refl), only, λ line. rw (none, none_any, no_word) refl)
     where
       no_words : (word : List ℕ) → IsLeftOutStatement s word → ⊥
-      no_words word h = none_is word (sym no_word ∙ word_left_out s word h)
+      no_words word h = none-some word (sym no_word ∙ word_left_out s word h)
 
       only : (m : ℕ) (v : List ℕ) → IsRefusedStatement before x.has_main s rest_after m v → (m ≡ 201) × (v ≡ [])
       only m v h = elim h [
@@ -147,7 +149,7 @@ module _ (x : State) (before : List StatementClass) (s : Stmt) (rest_after : Lis
       only m v h = elim h [
         | inl g ↦ absurd (g.2 word is)
         | inr g ↦ (elim g [
-          | inl w ↦ (w.0, some_is v word (sym (word_left_out s v w.2) ∙ found))
+          | inl w ↦ (w.0, same_Some v word (sym (word_left_out s v w.2) ∙ found))
           | inr w ↦ (elim w [
             | inl q ↦ absurd (unread Any s none_any q.1.0 q.1.1 q.1.2)
             | inr q ↦ absurd (unread Fitting s none q.1 q.2 q.3)

@@ -1,14 +1,13 @@
 -- What is read as a statement that the language leaves out is one, and the other way round.
 use Rattle.std.proofs.Common.{◌≡◌, ◌⊎◌, inl, inr, ℕ, zero, suc, ◌+◌, ◌-◌, ◌<◌, ◌≤◌, Bool, true, false, List, [], ◌∷◌, ◌++◌, length, Option, Some, None, refl, sym, ap, subst, ◌∙◌, arith}
 use Rattle.std.specs.Prelude.{◌≢◌, not, ◌&&◌, nat_eq}
-use Rattle.std.proofs.lemmas.Bool.Decides.{nat_tests}
 use Rattle.hep_source.specs.Tree.{Tree}
 use Rattle.hep_expression.specs.declared.unread.Unread.{Unread}
 use Rattle.hep_expression.specs.declared.unread.Unread.TheVariants as unread
 use Rattle.hep_expression.specs.declared.characters.Context.{Context}
 use Rattle.hep_expression.specs.Expression.{equivalence}
 use Rattle.hep_expression.specs.Reading.{◌>>=◌, if_some, Fails, after_text}
-use Rattle.hep_expression.proofs.Leaves.{bind_some, either_some, some_is, none_is, and_parts, text_is, fits}
+use Rattle.hep_expression.proofs.Leaves.{bind_some, either_some, text_is, fits}
 use Rattle.hep_statement.specs.declared.rule.Rule.{Rule}
 use Rattle.hep_statement.specs.declared.rule.Rule.TheVariants.{Assignment, BlockIf, SignIf, LogicalIf, Unclosed, Worded}
 use Rattle.hep_statement.specs.Statement.{rule_of, IsLogicalIf}
@@ -16,6 +15,8 @@ use Rattle.hep_parse.specs.Program.{left_out_words, BeginsWith, IsLeftOut}
 use Rattle.hep_statement.specs.ReadingStatement.{logical_if}
 use Rattle.hep_parse.specs.ReadingProgram.{word_at, by_rule, left_out}
 use Rattle.hep_statement.proofs.Forms.{logical_if_is, logical_if_read}
+use Rattle.std.proofs.lemmas.Option.{same_Some, none-some}
+use Rattle.std.proofs.lemmas.Bool.{and_parts, eq-eqb}
 
 -- ---- one iteration of the loop: n iterations are allowed, i of them are done
 
@@ -68,9 +69,9 @@ module _ (k : Context) (n i : ℕ) (s : List ℕ) (whole : Option (List ℕ)) wh
 -- ---- words
 
 word_is : (words : List (List ℕ × List ℕ)) (s w : List ℕ) → word_at words s ≡ Some w → BeginsWith words s w
-word_is [] s w e = none_is w e
+word_is [] s w e = none-some w e
 word_is (x ∷ more) s w e = elim (either_some (after_text x.0 s) (λ m. Some x.1) (word_at more s) w e) [
-  | inl g ↦ inl (g.0, text_is x.0 s g.0 g.1, sym (some_is x.1 w g.2))
+  | inl g ↦ inl (g.0, text_is x.0 s g.0 g.1, sym (same_Some x.1 w g.2))
   | inr g ↦ inr (word_is more s w g.1)
 ]
 
@@ -89,9 +90,6 @@ abbrev apart : List (List ℕ × List ℕ) → Bool
 apart [] = true
 apart (x ∷ more) = none_comparable x.0 more && apart more
 
-same_test : (c d : ℕ) → c ≡ d → nat_eq c d ≡ true
-same_test c d e = grind (arith, nat_tests)
-
 first_same : (c d : ℕ) (u v : List ℕ) → c ∷ u ≡ d ∷ v → (c ≡ d) × (u ≡ v)
 first_same c d u v e = (cc, cc)
 
@@ -100,7 +98,7 @@ both_begin [] v m n e = refl
 both_begin (c ∷ u) [] m n e = refl
 both_begin (c ∷ u) (d ∷ v) m n e =
     let same = first_same c d (u ++ m) (v ++ n) e in
-    rw (same_test c d same.0, both_begin u v m n same.1) refl
+    rw (eq-eqb c d same.0, both_begin u v m n same.1) refl
 
 alone : (u m s w : List ℕ) (words : List (List ℕ × List ℕ)) → none_comparable u words ≡ true → s ≡ u ++ m → BeginsWith words s w → ⊥
 alone u m s w [] clear is h = h
@@ -117,7 +115,7 @@ alone u m s w (x ∷ more) clear is h =
 
 text_read : (w m : List ℕ) → after_text w (w ++ m) ≡ Some m
 text_read [] m = refl
-text_read (c ∷ w) m = rw (same_test c c refl, text_read w m) refl
+text_read (c ∷ w) m = rw (eq-eqb c c refl, text_read w m) refl
 
 word_read : (words : List (List ℕ × List ℕ)) (s w : List ℕ) → apart words ≡ true → BeginsWith words s w → word_at words s ≡ Some w
 word_read [] s w clear h = absurd h
@@ -140,11 +138,11 @@ words_apart = refl
 -- ---- statements
 
 ruled : {A : Type 0} (rule : Rule) (held word : Option A) (w : A) → by_rule rule held word ≡ Some w → ((rule ≡ LogicalIf) × (held ≡ Some w)) ⊎ ((rule ≡ Worded) × (word ≡ Some w))
-ruled Assignment held word w e = absurd (none_is w e)
-ruled BlockIf held word w e = absurd (none_is w e)
-ruled SignIf held word w e = absurd (none_is w e)
+ruled Assignment held word w e = absurd (none-some w e)
+ruled BlockIf held word w e = absurd (none-some w e)
+ruled SignIf held word w e = absurd (none-some w e)
 ruled LogicalIf held word w e = inl (refl, e)
-ruled Unclosed held word w e = absurd (none_is w e)
+ruled Unclosed held word w e = absurd (none-some w e)
 ruled Worded held word w e = inr (refl, e)
 
 -- what a logical IF holds is shorter than it
@@ -153,7 +151,7 @@ held_fits k t s r h = omega (arith, ap length h.1, fits k t equivalence h.0 (41 
 
 pub left_out_is : (k : Context) (n : ℕ) (s w : List ℕ) → length s ≤ k.length → left_out k n s ≡ Some w → (conditions : List Tree) × IsLeftOut k conditions s w
 unfolding left_out
-left_out_is k zero s w fit e = absurd (none_is w e)
+left_out_is k zero s w fit e = absurd (none-some w e)
 left_out_is k (suc n) s w fit e = elim (ruled (rule_of s) (logical_if k s >>= λ x. left_out k n x.1) (word_at left_out_words s) w e) [
   | inl g ↦ (
       let b = bind_some (logical_if k s) (λ x. left_out k n x.1) w g.1 in
@@ -165,7 +163,7 @@ left_out_is k (suc n) s w fit e = elim (ruled (rule_of s) (logical_if k s >>= λ
 
 pub left_out_read : (k : Context) (conditions : List Tree) (n : ℕ) (s w : List ℕ) → length s ≤ n → IsLeftOut k conditions s w → left_out k n s ≡ Some w
 unfolding left_out
-left_out_read k [] zero [] w fit h = absurd (none_is w (word_read left_out_words [] w words_apart h.1))
+left_out_read k [] zero [] w fit h = absurd (none-some w (word_read left_out_words [] w words_apart h.1))
 left_out_read k [] zero (c ∷ s) w fit h = absurd (omega (arith, fit))
 left_out_read k [] (suc n) s w fit h = rw h.0 (word_read left_out_words s w words_apart h.1)
 left_out_read k (t ∷ more) zero s w fit h = absurd (omega (arith, fit, held_fits k t s h.0 h.1))

@@ -6,7 +6,7 @@ use Rattle.hep_source.specs.declared.statement.Form.{Form}
 use Rattle.hep_source.specs.declared.statement.Statement.{Statement}
 use Rattle.hep_text.specs.declared.statement.Stmt.{Stmt}
 use Rattle.hep_expression.specs.declared.characters.Sizes.TheVariants.{Fitting}
-use Rattle.hep_expression.proofs.Leaves.{some_is, none_is, chosen, and_parts}
+use Rattle.hep_expression.proofs.Leaves.{chosen}
 use Rattle.hep_parse.specs.declared.program.StatementClass.{StatementClass}
 use Rattle.hep_parse.specs.declared.program.StatementClass.TheVariants as part
 use Rattle.hep_parse.specs.declared.program.Stage.{Stage}
@@ -16,6 +16,9 @@ use Rattle.hep_parse.specs.Program.{IsStatement, class_of, may_precede, MayStand
 use Rattle.hep_statement.specs.ReadingStatement.{form}
 use Rattle.hep_parse.specs.ReadingProgram.{Refusal, or_refusal, with_line, refusal_of, statement, is_start, may_follow, stage_after, state_after_statement, placed, after_one, ended, units, nothing_read, program}
 use Rattle.hep_statement.proofs.Forms.{form_is, form_read}
+use Rattle.hep_source.proofs.Tests.{and-assoc, and-false, and-true}
+use Rattle.std.proofs.lemmas.Bool.{not-true, and_parts}
+use Rattle.std.proofs.lemmas.Option.{same_Some, none-some}
 
 -- ---- results
 
@@ -118,18 +121,10 @@ keeps_always Opening p = any_part (λ (q : StatementClass). keeps Opening q) ref
 keeps_always Specification p = any_part (λ (q : StatementClass). keeps Specification q) refl p
 keeps_always Actions p = any_part (λ (q : StatementClass). keeps Actions q) refl p
 
-pub not_true : (b : Bool) → not b ≡ true → b ≡ false
-not_true true e = absurd cc
-not_true false e = refl
-
-pub not_false : (b : Bool) → not b ≡ false → b ≡ true
-not_false true e = refl
-not_false false e = absurd cc
-
 pub stage_after_other : (stage : Stage) (p : StatementClass) → p ≢ part.End → is_start (stage_after stage p) ≡ false
 stage_after_other stage p other =
     let known : not (is_end p) ≡ true = rw (no_end p other) refl in
-    not_true (is_start (stage_after stage p)) (implied_is (not (is_end p)) (not (is_start (stage_after stage p))) (keeps_always stage p) known)
+    not-true (is_start (stage_after stage p)) (implied_is (not (is_end p)) (not (is_start (stage_after stage p))) (keeps_always stage p) known)
 
 pub end_or_other : (p : StatementClass) → (p ≡ part.End) ⊎ (p ≢ part.End)
 end_or_other part.Header = inr (λ e. cc)
@@ -153,25 +148,13 @@ pub is_stand : (before : List StatementClass) (x : StatementClass) → may_stand
 is_stand [] x h = tt
 is_stand (y ∷ before) x h = let parts = and_parts (may_precede y x) (may_stand before x) h in (parts.0, is_stand before x parts.1)
 
-and_nested : (a b c : Bool) → (a && (b && c)) ≡ ((a && b) && c)
-and_nested true b c = refl
-and_nested false b c = refl
-
-and_true : (a : Bool) → (a && true) ≡ a
-and_true true = refl
-and_true false = refl
-
 stand_more : (before : List StatementClass) (p x : StatementClass) → may_stand (before ++ p ∷ []) x ≡ (may_stand before x && may_precede p x)
-stand_more [] p x = and_true (may_precede p x)
-stand_more (y ∷ before) p x = ap (λ (b : Bool). may_precede y x && b) (stand_more before p x) ∙ and_nested (may_precede y x) (may_stand before x) (may_precede p x)
-
-and_false : (a : Bool) → (a && false) ≡ false
-and_false true = refl
-and_false false = refl
+stand_more [] p x = and-true (may_precede p x)
+stand_more (y ∷ before) p x = ap (λ (b : Bool). may_precede y x && b) (stand_more before p x) ∙ and-assoc (may_precede y x) (may_stand before x) (may_precede p x)
 
 nothing_after_end : (before : List StatementClass) (p x : StatementClass) → p ≡ part.End → MayStandAfter (before ++ p ∷ []) x → ⊥
 nothing_after_end before p x e h =
-    let none : may_stand (before ++ p ∷ []) x ≡ false = stand_more before p x ∙ rw e (and_false (may_stand before x)) in
+    let none : may_stand (before ++ p ∷ []) x ≡ false = stand_more before p x ∙ rw e (and-false (may_stand before x)) in
     let clash : true ≡ false = sym (stand_is (before ++ p ∷ []) x h) ∙ none in
     cc
 
@@ -210,8 +193,8 @@ pub state_is : (x next : State) (p : StatementClass) (begins : Bool) → state_a
 state_is x next p begins e = elim (chosen (may_follow x.stage p && not (is_start x.stage && x.has_main && begins)) (Some (next_state x p begins)) None (Some next) e) [
   | inl g ↦ (
       let parts = and_parts (may_follow x.stage p) (not (is_start x.stage && x.has_main && begins)) g.0 in
-      (parts.0, not_true (is_start x.stage && x.has_main && begins) parts.1, some_is (next_state x p begins) next g.1))
-  | inr g ↦ absurd (none_is next g.1)
+      (parts.0, not-true (is_start x.stage && x.has_main && begins) parts.1, same_Some (next_state x p begins) next g.1))
+  | inr g ↦ absurd (none-some next g.1)
 ]
 
 pub state_read : (x : State) (p : StatementClass) (begins : Bool) → may_follow x.stage p ≡ true → (is_start x.stage && x.has_main && begins) ≡ false → state_after_statement x p begins ≡ Some (next_state x p begins)

@@ -38,7 +38,8 @@ use Rattle.hep_image.specs.Within.{LiesIn}
 use Rattle.hep_finding.specs.Within.{ArePlacedArrays}
 use Rattle.hep_finding.proofs.Activations.{dummy-shape}
 use Rattle.hep_finding.proofs.Found.{IsFound}
-use Rattle.hep_finding.proofs.Named.{array-listed, at-index, constant-shape}
+use Rattle.hep_machine.proofs.ConstantShapes.{constant-shape}
+use Rattle.hep_finding.proofs.Named.{array-listed, at-index}
 use Rattle.hep_finding.proofs.Reached.{frame-reached}
 use Rattle.hep_finding.proofs.Within.{variable-within}
 use Rattle.hep_step.specs.declared.frame.Frame as arena

@@ -24,7 +24,8 @@ use Rattle.hep_placed.specs.Placed.{IsArrayAt, code_in}
 use Rattle.hep_placed.proofs.Coded.{AllMeet}
 use Rattle.hep_placed.proofs.Facts.{Facts, array_no_constant}
 use Rattle.hep_placed.proofs.Placed.{all_right, of_instruction, wishing, unit_of_program}
-use Rattle.hep_placed.proofs.Starts.{begins, name_of_unit}
+use Rattle.hep_placed.proofs.Starts.{begins}
+use Rattle.hep_accepted.proofs.Named.{name_of_unit}
 
 -- a name that is there is found
 index_there : (x : Name) (xs : List Name) → Has xs x → (i : ℕ) × (index_among x xs ≡ Some i) × (slice_get xs i ≡ Some x)
@@ -76,7 +77,7 @@ array_in_code program u i j n asynchronous x facts e g = of_instruction (IsThere
 
 -- ---- arrays of a unit
 
-kept_passes : (test : Name → Bool) (xs : List Name) (x : Name) → Has (filter test xs) x → Has xs x × (test x ≡ true)
+pub kept_passes : (test : Name → Bool) (xs : List Name) (x : Name) → Has (filter test xs) x → Has xs x × (test x ≡ true)
 kept_passes test [] x h = absurd (none-some x h.1)
 kept_passes test (y ∷ ys) x h = by_test (test y) refl h (kept_passes test ys x) where
   later : Has ys x × (test x ≡ true) → Has (y ∷ ys) x × (test x ≡ true)

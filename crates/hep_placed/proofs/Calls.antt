@@ -16,9 +16,10 @@ use Rattle.hep_accepted.specs.Agreement.{CallsSubroutine}
 use Rattle.hep_accepted.proofs.Agreed.{calls_agree}
 use Rattle.hep_placed.specs.Placed.{IsCalledWith, code_in}
 use Rattle.hep_placed.proofs.Coded.{AllMeet, Wish, code_meets}
-use Rattle.hep_placed.proofs.Facts.{Facts, unit_there}
+use Rattle.hep_placed.proofs.Facts.{Facts}
 use Rattle.hep_placed.proofs.Placed.{unit_of_program}
 use Rattle.hep_placed.proofs.Rights.{resolved, right}
+use Rattle.hep_image.proofs.Numbers.{unit-there}
 
 -- what has a name by which it is called is no main program
 pub named_subroutine : (o : Option Name) (x : Name) → is_named o x ≡ true → is_main o ≡ false
@@ -40,7 +41,7 @@ module _ (program : Units) (u : ℕ) (facts : Facts (unit_at program u)) (accept
   all_called =
       code_meets (unit_of_program program u) (calling program) (resolved (unit_of_program program u) facts (calling program) (λ x a v. tt)) (
       right (unit_of_program program u) facts (calling program) (λ p g varies. tt) (record {
-        called = λ s c g i. called program (unit_at program u) c (calls_agree program u g.0 i.0 (unit_at program u) s c accepted (unit_there program u h) g.1 i.1);
+        called = λ s c g i. called program (unit_at program u) c (calls_agree program u g.0 i.0 (unit_at program u) s c accepted (unit-there program u h) g.1 i.1);
         passed = λ s c t g i j. tt;
         creating = λ s p ts g e. tt;
         purging = λ s ts g e. tt;

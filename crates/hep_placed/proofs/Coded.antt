@@ -5,7 +5,6 @@ use Rattle.std.specs.List.{flat_map}
 use Rattle.std.proofs.lemmas.Option.{none-some}
 use Rattle.hep_source.specs.Tree.{Tree, Trees, constant, occurrence, with_list, parenthesized, signed, negated, binary, no_trees, trees, trees_of}
 use Rattle.hep_source.specs.declared.declaration.Target.{Target}
-use Rattle.hep_source.specs.declared.function.PureFunction.{PureFunction}
 use Rattle.hep_source.specs.declared.function.StateFunction.{StateFunction}
 use Rattle.hep_source.specs.declared.name.Name.{Name}
 use Rattle.hep_source.specs.declared.name.Occurrence.{Occurrence}
@@ -17,12 +16,12 @@ use Rattle.hep_source.specs.declared.statement.Form.TheVariants as form
 use Rattle.hep_source.specs.declared.statement.Statement.{Statement}
 use Rattle.hep_source.specs.declared.value.Value.{Value}
 use Rattle.hep_machine.specs.Constants.{constant_value}
-use Rattle.hep_machine.specs.Declarations.{is_array, is_constant_name, type_of, declarators_in, constants_in}
+use Rattle.hep_machine.specs.Declarations.{is_array, is_constant_name, type_of}
 use Rattle.hep_machine.specs.Evaluation.{increment_of}
-use Rattle.hep_machine.specs.Functions.{Meaning, element, pure, state, unknown, by_pure_function, function_named, listed_meaning}
+use Rattle.hep_machine.specs.Functions.{Meaning, element, pure, state, unknown, listed_meaning}
 use Rattle.hep_machine.specs.Variables.{array_occurrence, occurrences_in, occurrences_in_all}
 use Rattle.hep_check.specs.Arguments.{actual_class, given_with_list, is_asynchronous_scalar, value, variable, whole_array}
-use Rattle.hep_check.specs.Statements.{Calling, NameWithList, calls_in, names_with_lists_in, names_with_lists_in_all, targets_assigned, targets_purged, trees_in_form, trees_in_item, trees_in_statement, trees_in_declarator}
+use Rattle.hep_check.specs.Statements.{Calling, NameWithList, calls_in, names_with_lists_in, names_with_lists_in_all, targets_assigned, targets_purged, trees_in_form, trees_in_item, trees_in_statement}
 use Rattle.hep_check.specs.Types.{type_of_tree}
 use Rattle.hep_accepted.specs.Agreement.{IsOneAsynchronousScalar}
 use Rattle.hep_accepted.proofs.Members.{Has, flat_has, has_behind, has_either, has_first_or, has_front, has_one, map_at, has_more, has_flat}
@@ -39,9 +38,8 @@ use Rattle.hep_code.specs.StatementCode.{conditions_code, form_code, loop_end_co
 use Rattle.hep_machine.specs.Defaults.{no_value}
 use Rattle.hep_source.specs.declared.value.Value.TheVariants.{Int}
 use Rattle.hep_code.specs.UnitCode.{AddressedUnit, names_of, table_of, code_of}
-use Rattle.hep_machine.specs.Data.{groups_in}
-use Rattle.hep_source.specs.declared.declaration.DataGroup.{DataGroup}
-use Rattle.hep_source.specs.declared.declaration.NamedConstant.{NamedConstant}
+use Rattle.hep_accepted.proofs.Executed.{in_form}
+use Rattle.hep_accepted.proofs.Operands.{is_element}
 
 -- ---- what is asked of instructions
 
@@ -110,29 +108,6 @@ module _ (w : Wish) where
       let found = map_at f xs h.0 x h.1 in
       subst (Meets w) found.2 (each found.0 (h.0, found.1))
 
--- ---- expressions of statements
-
--- those of its form are among them
-pub tree_of_form : (s : Statement) (e : Tree) → Has (trees_in_form s.form) e → Has (trees_in_statement s) e
-tree_of_form s e h =
-    has_behind s.conditions _ e (
-    has_behind (flat_map trees_in_declarator (declarators_in s.form)) _ e (
-    has_behind (map (λ (c : NamedConstant). c.value) (constants_in s.form)) _ e (
-    has_behind (flat_map (λ (g : DataGroup). flat_map (λ (t : Target). t.subscripts) g.targets) (groups_in s.form)) (trees_in_form s.form) e h)))
-
--- ---- names with a list
-
-pub element_is_array : (unit : List Statement) (x : Name) → listed_meaning unit x ≡ element → is_array unit x ≡ true
-element_is_array unit x e = by_test (is_array unit x) refl e where
-  no_function : (f : Option PureFunction) (g : Option StateFunction) → by_pure_function f g ≡ element → ⊥
-  no_function (Some f) g d = cc
-  no_function None (Some g) d = cc
-  no_function None None d = cc
-
-  by_test : (b : Bool) → is_array unit x ≡ b → (if b then element else function_named x) ≡ element → is_array unit x ≡ true
-  by_test true f d = f
-  by_test false f d = absurd (no_function _ _ d)
-
 -- ---- a unit whose constants have values
 
 module _ (addressed : AddressedUnit) (w : Wish) where
@@ -191,7 +166,7 @@ module _ (addressed : AddressedUnit) (w : Wish) where
     one_asked (with_list p us) a n = by_meaning (listed_meaning addressed.unit p.name) refl a where
       by_meaning : (m : Meaning) → listed_meaning addressed.unit p.name ≡ m → is_asynchronous_scalar (given_with_list addressed.unit m p.name (type_of_tree addressed.unit (with_list p us))) ≡ true → w.variable (addressed.variables (asked_listed m p.name (count us)).0)
       by_meaning element e f =
-          array_named p (occurrences_in_all addressed.unit us) (λ q h. n q (has_front (array_occurrence addressed.unit p ++ occurrences_in_all addressed.unit us) [] q h)) (element_is_array addressed.unit p.name e)
+          array_named p (occurrences_in_all addressed.unit us) (λ q h. n q (has_front (array_occurrence addressed.unit p ++ occurrences_in_all addressed.unit us) [] q h)) (is_element addressed.unit p.name e)
       by_meaning (pure g) e f = absurd (true≢false (sym f))
       by_meaning (state g) e f = absurd (true≢false (sym f))
       by_meaning unknown e f = absurd (true≢false (sym f))
@@ -231,7 +206,7 @@ module _ (addressed : AddressedUnit) (w : Wish) where
     listed_meets : (line : ℕ) (p : Occurrence) (ts : Trees) (m : Meaning) → listed_meaning addressed.unit p.name ≡ m → AreNamed (array_occurrence addressed.unit p ++ occurrences_in_all addressed.unit ts) → ((f : StateFunction) → m ≡ state f → IsOneAsynchronousScalar addressed.unit ts) → AllMeet w (trees_code (names_of addressed) line ts) → AllMeet w (asked_code (names_of addressed) line ts)
         → AllMeet w (listed_code (names_of addressed) m line p.name ts (trees_code (names_of addressed) line ts) (asked_code (names_of addressed) line ts))
     listed_meets line p ts element e n one list subscripts =
-        behind_one w (trees_code (names_of addressed) line ts) (Step line (Evaluate (Load (addressed.variables p.name) (count ts)))) list (array_named p (occurrences_in_all addressed.unit ts) n (element_is_array addressed.unit p.name e))
+        behind_one w (trees_code (names_of addressed) line ts) (Step line (Evaluate (Load (addressed.variables p.name) (count ts)))) list (array_named p (occurrences_in_all addressed.unit ts) n (is_element addressed.unit p.name e))
     listed_meets line p ts (pure f) e n one list subscripts =
         behind_one w (trees_code (names_of addressed) line ts) (Step line (Evaluate (Apply f (count ts)))) list tt
     listed_meets line p ts (state f) e n one list subscripts =
@@ -404,7 +379,7 @@ module _ (addressed : AddressedUnit) (w : Wish) where
     statement_meets k s h =
         both_meet w (conditions_code (table_of addressed) s.line k s.conditions s.form) (loop_end_code (table_of addressed) k s.form) (
         conditions_meet s.line k s.conditions s.form (λ e g. h.expressions e (has_front s.conditions _ e g)) (
-        form_meets s.line k s.form (λ e g. h.expressions e (tree_of_form s e g)) h.rest)) (
+        form_meets s.line k s.form (λ e g. h.expressions e (in_form s e g)) h.rest)) (
         loop_end_meets k s.form h.rest)
 
     statements_meet : (k : ℕ) (ss : List Statement) → ((s : Statement) → Has ss s → IsRight s) → AllMeet w (statements_code (table_of addressed) k ss)

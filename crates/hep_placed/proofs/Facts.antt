@@ -2,7 +2,7 @@
 use Rattle.std.proofs.Common.{◌≡◌, ◌<◌, ℕ, Bool, true, false, List, [], ◌∷◌, Some, None, refl, sym, ap, ◌∙◌, true≢false}
 use Rattle.std.specs.Prelude.{slice_get, length, not, ◌&&◌}
 use Rattle.std.proofs.lemmas.Bool.{false_from_ne_true}
-use Rattle.std.proofs.lemmas.Option.{none-some, slice_get-get_or, unwrap_or-slice_get}
+use Rattle.std.proofs.lemmas.Option.{none-some}
 use Rattle.hep_source.specs.Tree.{Tree}
 use Rattle.hep_source.specs.declared.declaration.NamedConstant.{NamedConstant}
 use Rattle.hep_source.specs.declared.declaration.Target.{Target}
@@ -27,6 +27,7 @@ use Rattle.hep_accepted.proofs.Meant.{assigned_known, constant_is_scalar, consta
 use Rattle.hep_accepted.proofs.Members.{Has, among_has, map_at}
 use Rattle.hep_accepted.proofs.Nested.{held_is_allowed, loop_variable}
 use Rattle.hep_accepted.proofs.Valued.{ConstantsAgree}
+use Rattle.hep_image.proofs.Numbers.{unit-there}
 
 pub record Facts (unit : List Statement) : Type 0 where
   pub scalar : (x : Name) → is_constant_name unit x ≡ true → is_array unit x ≡ false
@@ -39,21 +40,17 @@ pub record Facts (unit : List Statement) : Type 0 where
   pub loop_variable : (k : ℕ) (s : Statement) (c : DoControl) → slice_get unit k ≡ Some s → s.conditions ≡ [] → s.form ≡ form.Do c → is_plain_integer_scalar unit c.variable.name ≡ true
   pub held : (k : ℕ) (s : Statement) (t : Tree) (ts : List Tree) → slice_get unit k ≡ Some s → s.conditions ≡ t ∷ ts → is_not_held s.form ≡ false
 
--- the unit of a number below the number of units
-pub unit_there : (program : Units) (u : ℕ) → u < length program → slice_get program u ≡ Some (unit_at program u)
-unit_there program u h = slice_get-get_or program u [] h ∙ ap (λ unit. Some unit) (sym (unwrap_or-slice_get program u []))
-
 pub facts_of : ConstantsAgree → (program : Units) (u : ℕ) → IsAccepted program → u < length program → Facts (unit_at program u)
 facts_of agrees program u accepted h = record {
-  scalar = λ x. constant_is_scalar program u (unit_at program u) x accepted (unit_there program u h);
-  valued = λ i c. constants_have_values agrees program u i (unit_at program u) c accepted (unit_there program u h);
-  assigned_variable = λ k i s t. constant_not_assigned program u k i (unit_at program u) s t accepted (unit_there program u h);
-  assigned_array = λ k i s t. assigned_known program u k i (unit_at program u) s t accepted (unit_there program u h);
-  purged_array = λ k i s t. purged_known program u k i (unit_at program u) s t accepted (unit_there program u h);
-  purged_variable = λ k i s t. purged_no_constant program u k i (unit_at program u) s t accepted (unit_there program u h);
-  tested = λ k i s r f. tested_are_asynchronous program u k i (unit_at program u) s r f accepted (unit_there program u h);
-  loop_variable = λ k s c. loop_variable program u k (unit_at program u) s c accepted (unit_there program u h);
-  held = λ k s t ts. held_is_allowed program u k (unit_at program u) s t ts accepted (unit_there program u h);
+  scalar = λ x. constant_is_scalar program u (unit_at program u) x accepted (unit-there program u h);
+  valued = λ i c. constants_have_values agrees program u i (unit_at program u) c accepted (unit-there program u h);
+  assigned_variable = λ k i s t. constant_not_assigned program u k i (unit_at program u) s t accepted (unit-there program u h);
+  assigned_array = λ k i s t. assigned_known program u k i (unit_at program u) s t accepted (unit-there program u h);
+  purged_array = λ k i s t. purged_known program u k i (unit_at program u) s t accepted (unit-there program u h);
+  purged_variable = λ k i s t. purged_no_constant program u k i (unit_at program u) s t accepted (unit-there program u h);
+  tested = λ k i s r f. tested_are_asynchronous program u k i (unit_at program u) s r f accepted (unit-there program u h);
+  loop_variable = λ k s c. loop_variable program u k (unit_at program u) s c accepted (unit-there program u h);
+  held = λ k s t ts. held_is_allowed program u k (unit_at program u) s t ts accepted (unit-there program u h);
 }
 
 -- ---- named constants

@@ -5,5 +5,5 @@ mod Rights
 pub mod Placed
 pub mod Values
 mod Shapes
-mod Arrays
+pub mod Arrays
 pub mod Calls

@@ -35,10 +35,12 @@ use Rattle.hep_image.specs.Places.{addresses_of, scalar, start_of, variable_by, 
 use Rattle.hep_accepted.proofs.Members.{Has, has_one}
 use Rattle.hep_placed.specs.Instructions.{variables_in, variables_in_argument, variables_in_evaluation, variables_in_operation}
 use Rattle.hep_placed.specs.Placed.{ArePlaced, IsPlaced, code_in}
-use Rattle.hep_placed.proofs.Coded.{AllMeet, Meets, MeetsEvaluation, MeetsOperation, Wish, array_named, code_meets, element_is_array}
+use Rattle.hep_placed.proofs.Coded.{AllMeet, Meets, MeetsEvaluation, MeetsOperation, Wish, array_named, code_meets}
 use Rattle.hep_placed.proofs.Facts.{Facts, without_value}
 use Rattle.hep_placed.proofs.Rights.{AllNamed, actual_in_unit, purged_in_unit, resolved, right}
-use Rattle.hep_placed.proofs.Starts.{begins, begun_placed, name_of_unit}
+use Rattle.hep_placed.proofs.Starts.{begins, begun_placed}
+use Rattle.hep_accepted.proofs.Named.{name_of_unit}
+use Rattle.hep_accepted.proofs.Operands.{is_element}
 
 -- ---- what is wanted, as variables in lists
 
@@ -93,7 +95,7 @@ module _ (addressed : AddressedUnit) (facts : Facts addressed.unit) (P : Variabl
   argument_right (with_list p ts) inside = by_meaning (listed_meaning addressed.unit p.name) refl where
     by_meaning : (m : Meaning) → listed_meaning addressed.unit p.name ≡ m → OfArgument P (argument_of_listed (names_of addressed) m p.name (count ts))
     by_meaning element e =
-        array_named addressed (wishing P) (resolved addressed facts (wishing P) (λ x a v. tt)) p (occurrences_in_all addressed.unit ts) (λ q h. named q (inside q h)) (element_is_array addressed.unit p.name e)
+        array_named addressed (wishing P) (resolved addressed facts (wishing P) (λ x a v. tt)) p (occurrences_in_all addressed.unit ts) (λ q h. named q (inside q h)) (is_element addressed.unit p.name e)
     by_meaning (pure f) e = tt
     by_meaning (state f) e = tt
     by_meaning unknown e = tt

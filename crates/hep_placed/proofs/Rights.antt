@@ -1,6 +1,5 @@
 -- The statements of a unit of an accepted program are as their code needs them, where its names and what it calls are.
-use Rattle.std.proofs.Common.{◌≡◌, zero, Bool, true, false, List, [], ◌∷◌, length, refl, sym, subst}
-use Rattle.std.specs.Prelude.{if◌then◌else◌}
+use Rattle.std.proofs.Common.{◌≡◌, zero, true, false, List, length, refl, sym, subst}
 use Rattle.std.specs.List.{flat_map}
 use Rattle.std.proofs.lemmas.Option.{none-some}
 use Rattle.hep_source.specs.Tree.{Tree}
@@ -10,24 +9,18 @@ use Rattle.hep_source.specs.declared.name.Occurrence.{Occurrence}
 use Rattle.hep_source.specs.declared.statement.Form.{Form}
 use Rattle.hep_source.specs.declared.statement.Form.TheVariants as form
 use Rattle.hep_source.specs.declared.statement.Statement.{Statement}
-use Rattle.hep_machine.specs.Declarations.{is_array, is_constant_name, is_nonempty}
-use Rattle.hep_machine.specs.Variables.{array_occurrence, occurrences_in, occurrences_in_form, occurrences_in_statement, occurrences_in_target, occurrences_of}
+use Rattle.hep_machine.specs.Declarations.{is_constant_name}
+use Rattle.hep_machine.specs.Variables.{occurrences_in, occurrences_in_form, occurrences_in_statement, occurrences_in_target, occurrences_of}
 use Rattle.hep_check.specs.Statements.{Calling, calls_in, names_with_lists_in, targets_assigned, targets_purged, trees_in_form, trees_in_statement}
 use Rattle.hep_accepted.proofs.Formed.{occurrence_in_statement}
 use Rattle.hep_accepted.proofs.Members.{Has, has_behind, has_flat, has_front, has_one}
 use Rattle.hep_code.specs.ExpressionCode.{argument_of, argument_of_target}
 use Rattle.hep_code.specs.UnitCode.{AddressedUnit, names_of}
-use Rattle.hep_placed.proofs.Coded.{IsResolved, IsRight, Wish, tree_of_form}
+use Rattle.hep_placed.proofs.Coded.{IsResolved, IsRight, Wish}
 use Rattle.hep_placed.proofs.Facts.{Facts, array_no_constant, loop_no_constant, without_value}
+use Rattle.hep_accepted.proofs.Executed.{target_occurs, in_form}
 
 -- ---- where names occur
-
--- what is assigned or purged is a name of the statement
-target_occurs : (unit : List Statement) (t : Target) → (is_nonempty t.subscripts ≡ true → is_array unit t.occurrence.name ≡ true) → Has (occurrences_in_target unit t) t.occurrence
-target_occurs unit t array = has_front (if is_nonempty t.subscripts then array_occurrence unit t.occurrence else t.occurrence ∷ []) (flat_map (occurrences_in unit) t.subscripts) t.occurrence (by_list (is_nonempty t.subscripts) array) where
-  by_list : (b : Bool) → (b ≡ true → is_array unit t.occurrence.name ≡ true) → Has (if b then array_occurrence unit t.occurrence else t.occurrence ∷ []) t.occurrence
-  by_list true f = subst (λ (b : Bool). Has (if b then t.occurrence ∷ [] else []) t.occurrence) (sym (f refl)) (zero, refl)
-  by_list false f = (zero, refl)
 
 assigned_occurs : (unit : List Statement) (f : Form) (t : Target) → Has (targets_assigned f) t → Has (occurrences_in_target unit t) t.occurrence → Has (occurrences_in_form unit f) t.occurrence
 assigned_occurs unit (form.Assign x e) t h g =
@@ -65,7 +58,7 @@ module _ (addressed : AddressedUnit) (facts : Facts addressed.unit) (w : Wish) w
 
   -- and each name in an actual argument
   pub actual_in_unit : (s : Statement) (c : Calling) (t : Tree) (p : Occurrence) → Has addressed.unit s → Has (calls_in s.form) c → Has c.actuals t → Has (occurrences_in addressed.unit t) p → Has (occurrences_of addressed.unit) p
-  actual_in_unit s c t p h g i j = tree_in_unit s t p h (tree_of_form s t (actual_tree s.form c t g i)) j
+  actual_in_unit s c t p h g i j = tree_in_unit s t p h (in_form s t (actual_tree s.form c t g i)) j
 
   abbrev pub AllNamed : Type 0
   AllNamed = (p : Occurrence) → Has (occurrences_of addressed.unit) p → is_constant_name addressed.unit p.name ≡ false → w.variable (addressed.variables p.name)

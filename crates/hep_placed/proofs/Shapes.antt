@@ -18,7 +18,7 @@ use Rattle.hep_source.specs.declared.value.Value.{Value}
 use Rattle.hep_source.specs.Units.{Units}
 use Rattle.hep_machine.specs.declared.shape.Bound.{Bound}
 use Rattle.hep_machine.specs.Arithmetic.{integer_of}
-use Rattle.hep_machine.specs.Constants.{Values, adjustable_dimensions, bound_before, bound_of, bounds_of, constant_shape, constant_value, if_shape, is_constant, is_constant_dimension, is_constant_lower, is_constant_upper, lower_value, shape_by, upper_value, value_among, value_of}
+use Rattle.hep_machine.specs.Constants.{Values, adjustable_dimensions, bound_before, bound_of, bounds_of, constant_shape, constant_value, is_constant, is_constant_dimension, is_constant_lower, is_constant_upper, upper_value, value_among, value_of}
 use Rattle.hep_machine.specs.Declarations.{declarators_in, dimensions_of, is_array, is_common, is_dummy, is_nonempty}
 use Rattle.hep_machine.specs.Shapes.{Bounds, is_shape}
 use Rattle.hep_machine.specs.Variables.{occurrences_in}
@@ -30,7 +30,7 @@ use Rattle.hep_accepted.proofs.Formed.{parameters_at, typed_statement}
 use Rattle.hep_accepted.proofs.Meant.{array_declarator}
 use Rattle.hep_accepted.proofs.Members.{Has, all_has, flat_has, has_behind, has_either, has_flat, has_front, has_more, has_one}
 use Rattle.hep_accepted.proofs.Parts.{some_of}
-use Rattle.hep_accepted.proofs.Shaped.{Extends, IsValued, extends_at, same_value, shut, take_drop}
+use Rattle.hep_accepted.proofs.Shaped.{Extends, IsValued, extends_at, same_value, shut, take_drop, lower_bound, none_open, shape_known}
 use Rattle.hep_accepted.proofs.Valued.{ConstantsAgree, valued}
 use Rattle.hep_placed.proofs.Facts.{plain_no_constant}
 use Rattle.hep_placed.proofs.Values.{names_valued, no_value_of_others}
@@ -70,12 +70,6 @@ bound_valued unit ps dummy t closed e c =
 abbrev Same : List Statement → Values → Values → List Dimension → Type 0
 Same unit old new ds = (bs : Bounds) × (bounds_of unit old ds ≡ Some bs) × (bounds_of unit new ds ≡ Some bs)
 
-lower_same : (unit : List Statement) (old new : Values) (o : Option Tree) → Extends old new → ((t : Tree) → Has (option_to_list o) t → IsValued unit old t) → (z : ℤ) × (lower_value unit old o ≡ Some z) × (lower_value unit new o ≡ Some z)
-lower_same unit old new None h each = (_, refl, refl)
-lower_same unit old new (Some t) h each =
-    let v = each t (0, refl) in
-    (integer_of v.0, ap (option_map integer_of) v.1, ap (option_map integer_of) (same_value unit old new t v.0 h v.1))
-
 upper_same : (unit : List Statement) (old new : Values) (b : UpperBound) → Extends old new → ((t : Tree) → Has (trees_in_upper b) t → IsValued unit old t) → (o : Option ℤ) × (upper_value unit old b ≡ Some o) × (upper_value unit new b ≡ Some o)
 upper_same unit old new bound.Open h each = (None, refl, refl)
 upper_same unit old new (bound.Expression t) h each =
@@ -85,7 +79,7 @@ upper_same unit old new (bound.Expression t) h each =
 all_same : (unit : List Statement) (old new : Values) (ds : List Dimension) → Extends old new → ((d : Dimension) (t : Tree) → Has ds d → Has (trees_in_dimension d) t → IsValued unit old t) → Same unit old new ds
 all_same unit old new [] h each = ([], refl, refl)
 all_same unit old new (d ∷ ds) h each =
-    let l = lower_same unit old new d.lower h (λ t g. each d t (0, refl) (has_front (option_to_list d.lower) (trees_in_upper d.upper) t g)) in
+    let l = lower_bound unit old new d.lower h (λ t g. each d t (0, refl) (has_front (option_to_list d.lower) (trees_in_upper d.upper) t g)) in
     let u = upper_same unit old new d.upper h (λ t g. each d t (0, refl) (has_behind (option_to_list d.lower) (trees_in_upper d.upper) t g)) in
     let more = all_same unit old new ds h (λ c t g. each c t (has_more d ds c g)) in
     let b : Bound = record { lower = l.0; upper = u.0 } in (
@@ -123,10 +117,6 @@ is_kept unit ps dummy d = list_all (is_dimension unit ps dummy) d.dimensions && 
 kept_by_list : (unit : List Statement) (ps : Parameters) (d : Declarator) → is_nonempty d.dimensions ≡ true → has_bounds unit ps d ≡ true → is_kept unit ps (is_dummy unit d.occurrence.name) d ≡ true
 kept_by_list unit ps d e f = subst (λ b. (if b then is_kept unit ps (is_dummy unit d.occurrence.name) d else true) ≡ true) e f
 
-none_open : (unit : List Statement) (ps : Parameters) (ts : List Tree) → ((t : Tree) → Has ts t → is_open unit ps t ≡ false) → list_any (is_open unit ps) ts ≡ false
-none_open unit ps [] h = refl
-none_open unit ps (t ∷ ts) h = (λ i. h t (0, refl) i || none_open unit ps ts (λ w g. h w (has_more t ts w g)) i)
-
 declared : (program : Units) (u k : ℕ) (unit : List Statement) (s : Statement) (d : Declarator) → IsAccepted program → slice_get program u ≡ Some unit → slice_get unit k ≡ Some s → Has (declarators_in s.form) d → is_nonempty d.dimensions ≡ true → list_all (is_constant_dimension unit) d.dimensions ≡ true
     → (parameters_at unit k).doubtful ≡ [] → Extends (value_among (parameters_at unit k).known) (constant_value unit)
     → (bs : Bounds) × (bounds_of unit (constant_value unit) d.dimensions ≡ Some bs) × (is_shape bs ≡ true)
@@ -153,11 +143,6 @@ none_adjustable unit x array e = by_list (dimensions_of unit x) array e where
   by_list : (ds : List Dimension) → is_nonempty ds ≡ true → (if list_all (is_constant_dimension unit) ds then 0 else length ds) ≡ 0 → list_all (is_constant_dimension unit) ds ≡ true
   by_list [] f g = absurd (true≢false (sym f))
   by_list (d ∷ ds) f g = by_test (list_all (is_constant_dimension unit) (d ∷ ds)) (length ds) g
-
-shape_known : (unit : List Statement) (x : Name) (bs : Bounds) → is_array unit x ≡ true → bounds_of unit (constant_value unit) (dimensions_of unit x) ≡ Some bs → is_shape bs ≡ true → constant_shape unit x ≡ Some bs
-shape_known unit x bs array e shape =
-    ap (λ b. if b then shape_by unit (constant_value unit) x else Some []) array
-    ∙ (ap if_shape e ∙ ap (λ b. if b then Some bs else None) shape)
 
 pub constant_shapes : ConstantsAgree → (program : Units) (u : ℕ) (unit : List Statement) (x : Name) → IsAccepted program → slice_get program u ≡ Some unit → is_array unit x ≡ true → adjustable_dimensions unit x ≡ 0 → (bs : Bounds) × (constant_shape unit x ≡ Some bs) × (is_shape bs ≡ true)
 constant_shapes agrees program u unit x accepted iu array e =

@@ -1,32 +1,23 @@
 -- Names that have storage units.
-use Rattle.std.proofs.Common.{◌≡◌, ℕ, zero, suc, Bool, true, false, List, [], ◌∷◌, ◌++◌, Option, Some, None, refl, sym, ap, ◌∙◌, subst}
+use Rattle.std.proofs.Common.{◌≡◌, ℕ, suc, Bool, true, false, List, [], ◌∷◌, Option, Some, None, refl, sym, ap, subst}
 use Rattle.std.specs.Prelude.{if◌then◌else◌, is_some, not, ◌&&◌}
 use Rattle.std.specs.Option.{option_map, unwrap_or}
-use Rattle.std.proofs.lemmas.Option.{none-some, same_Some}
-use Rattle.hep_source.proofs.NameTests.{same_name-self}
+use Rattle.std.proofs.lemmas.Option.{none-some}
 use Rattle.hep_source.specs.declared.name.Name.{Name}
-use Rattle.hep_source.specs.declared.name.Occurrence.{Occurrence}
 use Rattle.hep_source.specs.declared.statement.Statement.{Statement}
-use Rattle.hep_source.specs.Names.{index_among, is_among, same_name, with_name, with_names}
-use Rattle.hep_source.specs.Units.{Units, dummies_of, names_of_occurrences}
+use Rattle.hep_source.specs.Names.{index_among, is_among, same_name}
+use Rattle.hep_source.specs.Units.{Units, dummies_of}
 use Rattle.hep_machine.specs.Declarations.{BlockName, common_block, is_array, is_common, is_constant_name, is_dummy}
-use Rattle.hep_machine.specs.Variables.{is_local, locals_of, names_of, occurrences_of}
+use Rattle.hep_machine.specs.Variables.{is_local, locals_of, names_of}
 use Rattle.hep_code.specs.declared.variable.Variable.TheVariants as variables
 use Rattle.hep_image.specs.declared.array.Start.{Start}
 use Rattle.hep_image.specs.declared.array.Start.TheVariants.{Local, Common, Dummy}
 use Rattle.hep_image.specs.Places.{arrays_of, scalar, start_by, start_of, variable_by, variable_of}
-use Rattle.hep_accepted.proofs.Members.{Has, among_has, has_behind, has_filter, has_front, has_map}
+use Rattle.hep_accepted.proofs.Members.{Has, has_filter}
 use Rattle.hep_placed.specs.Placed.{IsPlaced}
+use Rattle.hep_accepted.proofs.Named.{has_among}
 
 -- ---- names among others
-
-pub has_among : (xs : List Name) (x : Name) → Has xs x → is_among x xs ≡ true
-has_among [] x h = absurd (none-some x h.1)
-has_among (y ∷ ys) x (zero, g) = ap (λ b. if b then true else is_among x ys) (ap (same_name x) (same_Some y x g) ∙ same_name-self x)
-has_among (y ∷ ys) x (suc i, g) = by_test (same_name x y) (has_among ys x (i, g)) where
-  by_test : (b : Bool) → is_among x ys ≡ true → (if b then true else is_among x ys) ≡ true
-  by_test true e = refl
-  by_test false e = e
 
 pub index_some : (x : Name) (xs : List Name) → index_among x xs ≡ None → is_among x xs ≡ false
 index_some x [] e = refl
@@ -38,33 +29,6 @@ index_some x (y ∷ ys) e = by_test (same_name x y) e (index_some x ys) where
   by_test : (b : Bool) → (if b then Some 0 else option_map suc (index_among x ys)) ≡ None → (index_among x ys ≡ None → is_among x ys ≡ false) → (if b then true else is_among x ys) ≡ false
   by_test true f more = absurd (none-some 0 (sym f))
   by_test false f more = more (none_behind (index_among x ys) f)
-
--- ---- the names of a unit
-
-kept_with : (xs : List Name) (y x : Name) → Has xs x → Has (with_name xs y) x
-kept_with xs y x h = by_test (is_among y xs) where
-  by_test : (b : Bool) → Has (if b then xs else xs ++ y ∷ []) x
-  by_test true = h
-  by_test false = has_front xs (y ∷ []) x h
-
-kept : (xs ys : List Name) (x : Name) → Has xs x → Has (with_names xs ys) x
-kept xs [] x h = h
-kept xs (y ∷ ys) x h = kept (with_name xs y) ys x (kept_with xs y x h)
-
-added : (xs : List Name) (y : Name) → Has (with_name xs y) y
-added xs y = by_test (is_among y xs) refl where
-  by_test : (b : Bool) → is_among y xs ≡ b → Has (if b then xs else xs ++ y ∷ []) y
-  by_test true e = among_has y xs e
-  by_test false e = has_behind xs (y ∷ []) y (zero, refl)
-
-all_added : (xs ys : List Name) (x : Name) → Has ys x → Has (with_names xs ys) x
-all_added xs [] x h = absurd (none-some x h.1)
-all_added xs (y ∷ ys) x (zero, g) = kept (with_name xs y) ys x (subst (λ z. Has (with_name xs y) z) (same_Some y x g) (added xs y))
-all_added xs (y ∷ ys) x (suc i, g) = all_added (with_name xs y) ys x (i, g)
-
--- each occurrence in a unit is one of a name of the unit
-pub name_of_unit : (unit : List Statement) (p : Occurrence) → Has (occurrences_of unit) p → Has (names_of unit) p.name
-name_of_unit unit p h = all_added [] (names_of_occurrences (occurrences_of unit)) p.name (has_map (λ (q : Occurrence). q.name) (occurrences_of unit) p h)
 
 -- ---- where variables begin
 

@@ -1,19 +1,15 @@
 -- What the laws of accepted programs say of the arrays of a unit.
-use Rattle.std.proofs.Common.{◌≡◌, ℕ, ◌<◌, Bool, true, false, List, [], length, Some, None, refl, ap, sym, ◌∙◌}
-use Rattle.std.specs.Prelude.{slice_get}
-use Rattle.std.proofs.lemmas.Option.{none-some, slice_get-get_or, unwrap_or-slice_get}
+use Rattle.std.proofs.Common.{◌≡◌, ◌<◌, Bool, true, false, List, None, refl, sym, ◌∙◌}
+use Rattle.std.proofs.lemmas.Option.{none-some}
 use Rattle.hep_source.specs.declared.name.Name.{Name}
 use Rattle.hep_source.specs.declared.statement.Statement.{Statement}
 use Rattle.hep_source.specs.Names.{index_among, is_among}
-use Rattle.hep_source.specs.Units.{Units, dummies_of, unit_at}
+use Rattle.hep_source.specs.Units.{dummies_of}
 use Rattle.hep_machine.specs.Constants.{cells_of}
 use Rattle.hep_machine.specs.Declarations.{is_dummy}
 use Rattle.hep_accepted.specs.Typing.{HasShape}
 use Rattle.hep_places.proofs.Few.{some-cells}
 use Rattle.hep_places.proofs.Right.{index-there}
-
-pub unit_there : (program : Units) (u : ℕ) → u < length program → slice_get program u ≡ Some (unit_at program u)
-unit_there program u h = slice_get-get_or program u [] h ∙ ap (λ unit. Some unit) (sym (unwrap_or-slice_get program u []))
 
 pub no-dummy : (unit : List Statement) (x : Name) → index_among x (dummies_of unit) ≡ None → is_dummy unit x ≡ false
 no-dummy unit x i = by (is_among x (dummies_of unit)) refl where

@@ -18,7 +18,7 @@ use Rattle.hep_image.specs.Places.{loop_cells, start_of}
 use Rattle.hep_image.specs.Places as image
 use Rattle.hep_frames.specs.Rows.{FramePart, Row, argument, block_row, bounds, cells_in, common_row, first_in, first_in_common, first_of_block, first_of_part, frame_row, iteration, same_part, size_in, variable}
 use Rattle.hep_frames.proofs.CommonRows.{block_row-below, common_row-cells}
-use Rattle.hep_frames.proofs.FrameRows.{argument-first, bounds-first, frame_row-cells, iteration-first, variable-first}
+use Rattle.hep_frames.proofs.FrameRows.{argument-first, bounds-first, frame_row-cells, iteration-first, variable-first, first-size}
 use Rattle.hep_frames.proofs.Rows.{has_key}
 use Rattle.hep_frames.proofs.Runs.{common-size}
 use Rattle.hep_common.specs.Starts.{AreStarts, narrowed, start_in}
@@ -29,13 +29,6 @@ use Rattle.hep_places.proofs.Narrowed.{narrowed-more, narrowed-small, narrowed-s
 use Rattle.hep_places.proofs.Taken.{behind-is, start-is}
 
 -- ---- rows
-
-pub first-within : {K : Type 0} (test : K → Bool) (es : Row K) → first_in test es + size_in test es ≤ cells_in es
-first-within test [] = omega arith
-first-within test (e ∷ es) = by (test e.0) (first-within test es) where
-  by : (t : Bool) → first_in test es + size_in test es ≤ cells_in es → (if t then 0 else e.1 + first_in test es) + (if t then e.1 else size_in test es) ≤ e.1 + cells_in es
-  by true h = omega arith
-  by false h = omega (arith, h)
 
 -- rows of names
 module _ (f : Name → ℕ) where
@@ -127,7 +120,7 @@ module _ (unit : List Statement) (small : frame_cells unit ≤ 16777216) where
   local_cells = cells_in (name_row unit (locals_of unit))
 
   part-small : (part : FramePart) → first_of_part unit part + size_in (same_part part) (frame_row unit) ≤ 16777216
-  part-small part = omega (arith, small, first-within (same_part part) (frame_row unit), frame_row-cells unit)
+  part-small part = omega (arith, small, first-size (same_part part) (frame_row unit), frame_row-cells unit)
 
   at-part : (part : FramePart) (n : ℕ) → first_of_part unit part ≡ n → narrowed n ≡ first_of_part unit part
   at-part part n e = narrowed-small n (omega (arith, e, part-small part)) ∙ sym e
@@ -202,11 +195,11 @@ module _ (program : Units) (u : ℕ) (unit : List Statement) (there : slice_get 
       let below : a + f ≤ 4294967295 = omega (
         arith,
         few,
-        first-within (same_block b) (common_row program),
+        first-size (same_block b) (common_row program),
         common_row-cells program,
         common-size program u unit x b there h,
         block_row-below program u unit b there,
-        first-within (same_name x) (block_row unit b),
+        first-size (same_name x) (block_row unit b),
       ) in
       (λ i. narrowed (begins i + unwrap_or (found i) 0)) ∙ (narrowed-sum (narrowed a) f ∙ (narrowed-more a f ∙ narrowed-small (a + f) below))
 

@@ -1,5 +1,5 @@
 -- Where names begin in common blocks, by one pass over all names in COMMON: X3.9-1978, 8.3.3.
-use Rattle.std.proofs.Common.{◌≡◌, ℕ, zero, suc, ◌+◌, Bool, true, false, ◌||◌, List, [], ◌∷◌, ◌++◌, map, Option, Some, None, refl, ap, sym, ◌∙◌, subst, arith, if◌then◌else◌}
+use Rattle.std.proofs.Common.{◌≡◌, ℕ, zero, suc, ◌+◌, Bool, true, false, List, [], ◌∷◌, ◌++◌, map, Option, Some, None, refl, ap, sym, ◌∙◌, subst, arith, if◌then◌else◌}
 use Rattle.std.specs.Prelude.{slice_get}
 use Rattle.std.specs.List.{flat_map}
 use Rattle.std.specs.Option.{option_map}
@@ -20,6 +20,8 @@ use Rattle.hep_common.specs.Starts.{narrowed}
 use Rattle.hep_places.specs.declared.blocks.Entry.{Entry}
 use Rattle.hep_places.specs.Found.{entries_in, entries_of, entry_of, lengthened, name_row, no_length, offset_among}
 use Rattle.hep_places.proofs.Narrowed.{narrowed-more, narrowed-zero}
+use Rattle.hep_common.proofs.Entries.{last-among}
+use Rattle.hep_machine.proofs.Locations.{block-stays}
 
 abbrev pub row_under : List Statement → BlockName → List Entry → Row Name
 row_under unit b [] = []
@@ -46,7 +48,7 @@ lengthened-at lengths b n c = by (same_block b c) where
 none-more : (n m : ℕ) → m ≡ 0 → n ≡ n + m
 none-more n m e = omega (arith, e)
 
-grouped : (a b c : ℕ) → a + b + c ≡ a + (b + c)
+pub grouped : (a b c : ℕ) → a + b + c ≡ a + (b + c)
 grouped a b c = omega arith
 
 first-after : (unit : List Statement) (x : Name) (e : Entry) (es : List Entry) (lengths : BlockName → ℕ) → same_name x e.name ≡ false → (b : BlockName)
@@ -118,7 +120,7 @@ row-is unit b (c ∷ cs) = row-one unit b (block_of c) c.entries (entries_in cs)
 
 -- ---- the offset of a name
 
-none-before : (f : ℕ) → 0 + f ≡ f
+pub none-before : (f : ℕ) → 0 + f ≡ f
 none-before f = omega arith
 
 pub offsets-are : (unit : List Statement) (x : Name) → offset_among unit no_length (entries_of unit) x ≡ option_map (λ b. narrowed (first_in (same_name x) (block_row unit b))) (common_block unit x)
@@ -157,37 +159,12 @@ held-by x b (c ∷ cs) e = by (is_among x (names_declared c.entries)) refl e (he
   by true t e rest = (c, (zero, refl), same_Some (block_of c) b e, t)
   by false t e rest = let found = rest e in (found.0, has_more c cs found.0 found.1, found.2, found.3)
 
-or-right : (a b : Bool) → b ≡ true → (a || b) ≡ true
-or-right true b e = refl
-or-right false b e = e
-
-or-left : (a b : Bool) → a ≡ true → (a || b) ≡ true
-or-left a b e = ap (λ c. c || b) e
-
-among-front : (b : BlockName) (bs cs : List BlockName) → is_block_among b bs ≡ true → is_block_among b (bs ++ cs) ≡ true
-among-front b [] cs h = absurd cc
-among-front b (k ∷ ks) cs h = by (same_block b k) h (among-front b ks cs) where
-  by : (t : Bool) → (t || is_block_among b ks) ≡ true → (is_block_among b ks ≡ true → is_block_among b (ks ++ cs) ≡ true) → (t || is_block_among b (ks ++ cs)) ≡ true
-  by true h rest = refl
-  by false h rest = rest h
-
-among-last : (b : BlockName) (bs : List BlockName) → is_block_among b (bs ++ b ∷ []) ≡ true
-among-last b [] = or-left (same_block b b) false (block-self b)
-among-last b (k ∷ ks) = or-right (same_block b k) (is_block_among b (ks ++ b ∷ [])) (among-last b ks)
-
-still-among : (b : BlockName) (bs : List BlockName) (cs : List CommonBlock) → is_block_among b bs ≡ true → is_block_among b (with_blocks bs cs) ≡ true
-still-among b bs [] h = h
-still-among b bs (c ∷ cs) h = still-among b (if is_block_among (block_of c) bs then bs else bs ++ block_of c ∷ []) cs (by (is_block_among (block_of c) bs)) where
-  by : (t : Bool) → is_block_among b (if t then bs else bs ++ block_of c ∷ []) ≡ true
-  by true = h
-  by false = among-front b bs (block_of c ∷ []) h
-
 each-among : (c : CommonBlock) (bs : List BlockName) (cs : List CommonBlock) → Has cs c → is_block_among (block_of c) (with_blocks bs cs) ≡ true
 each-among c bs [] h = absurd (none-some c h.1)
-each-among c bs (d ∷ ds) (zero, e) = still-among (block_of c) (if is_block_among (block_of d) bs then bs else bs ++ block_of d ∷ []) ds (subst (λ (k : CommonBlock). is_block_among (block_of k) (if is_block_among (block_of d) bs then bs else bs ++ block_of d ∷ []) ≡ true) (same_Some d c e) (by (is_block_among (block_of d) bs) refl)) where
+each-among c bs (d ∷ ds) (zero, e) = block-stays (block_of c) (if is_block_among (block_of d) bs then bs else bs ++ block_of d ∷ []) ds (subst (λ (k : CommonBlock). is_block_among (block_of k) (if is_block_among (block_of d) bs then bs else bs ++ block_of d ∷ []) ≡ true) (same_Some d c e) (by (is_block_among (block_of d) bs) refl)) where
   by : (t : Bool) → is_block_among (block_of d) bs ≡ t → is_block_among (block_of d) (if t then bs else bs ++ block_of d ∷ []) ≡ true
   by true t = t
-  by false t = among-last (block_of d) bs
+  by false t = last-among (block_of d) bs
 each-among c bs (d ∷ ds) (suc i, e) = each-among c (if is_block_among (block_of d) bs then bs else bs ++ block_of d ∷ []) ds (i, e)
 
 pub block-of-program : (program : Units) (u : ℕ) (unit : List Statement) (x : Name) (b : BlockName) → slice_get program u ≡ Some unit → common_block unit x ≡ Some b → is_block_among b (blocks_of program) ≡ true

@@ -1,11 +1,12 @@
 -- Lengths of common blocks, of which one is lengthened.
-use Rattle.std.proofs.Common.{◌≡◌, ℕ, ◌+◌, ◌≤◌, Bool, true, false, Option, Some, None, refl, ap, sym, ◌∙◌, arith, cond, if◌then◌else◌}
+use Rattle.std.proofs.Common.{◌≡◌, ℕ, ◌+◌, ◌≤◌, Bool, true, false, Option, Some, None, refl, ap, sym, ◌∙◌, cond, if◌then◌else◌}
 use Rattle.std.specs.Option.{option_eq, unwrap_or}
 use Rattle.hep_source.specs.Names.{name_eq}
 use Rattle.hep_machine.specs.Declarations.{BlockName, same_block}
 use Rattle.hep_values.proofs.BlockNames.{block-equal, changed}
 use Rattle.hep_common.specs.Starts.{narrowed}
 use Rattle.hep_places.proofs.Narrowed.{narrowed-small}
+use Rattle.hep_places.proofs.InBlocks.{none-before}
 
 abbrev Lengths : Type 0
 Lengths = BlockName → Option ℕ
@@ -24,9 +25,6 @@ length-set old one new k b n before v h e first second =
         → unwrap_or (if t then Some v else one b) 0 ≡ (if t then narrowed (unwrap_or (old b) 0 + n) else unwrap_or (old b) 0)
     by true f g = e ∙ ap (λ o. narrowed (unwrap_or o 0 + n)) (sym h ∙ ap old (block-equal k b f))
     by false f g = ap (λ o. unwrap_or o 0) g
-
-none-before : (n : ℕ) → 0 + n ≡ n
-none-before n = omega arith
 
 -- a block that had none gets its first one
 pub length-first : (old new : Lengths) (k b : BlockName) (n : ℕ) → old k ≡ None → n ≤ 4294967295 → IsSet k b n old new

@@ -32,22 +32,12 @@ use Rattle.hep_image.specs.Private.{is_private, private_cells}
 use Rattle.hep_values.proofs.CellCounts.{adjustable}
 use Rattle.hep_common.specs.Starts.{narrowed}
 use Rattle.hep_places.specs.Found.{Table, array_found, arrays_with, constant_extents, extents_found, variable_among, variable_found}
-use Rattle.hep_places.proofs.InBlocks.{held-by}
+use Rattle.hep_places.proofs.InBlocks.{held-by, none-before}
 use Rattle.hep_accepted.proofs.Named.{has_among, name_of_unit}
 use Rattle.hep_places.proofs.Narrowed.{narrowed-more, narrowed-small, narrowed-zero}
+use Rattle.hep_placed.proofs.Arrays.{kept_passes}
 
 -- ---- lists
-
-pub kept_passes : (test : Name → Bool) (xs : List Name) (x : Name) → Has (filter test xs) x → Has xs x × (test x ≡ true)
-kept_passes test [] x h = absurd (none-some x h.1)
-kept_passes test (y ∷ ys) x h = by_test (test y) refl h (kept_passes test ys x) where
-  later : Has ys x × (test x ≡ true) → Has (y ∷ ys) x × (test x ≡ true)
-  later g = (has_more y ys x g.0, g.1)
-
-  by_test : (b : Bool) → test y ≡ b → Has (cond b (y ∷ filter test ys) (filter test ys)) x → (Has (filter test ys) x → Has ys x × (test x ≡ true)) → Has (y ∷ ys) x × (test x ≡ true)
-  by_test true f (zero, g) more = ((zero, g), ap test (sym (same_Some y x g)) ∙ f)
-  by_test true f (suc i, g) more = later (more (i, g))
-  by_test false f g more = later (more g)
 
 pub map-same : {A : Type 0} (f g : Name → A) (xs : List Name) → ((x : Name) → Has xs x → f x ≡ g x) → map f xs ≡ map g xs
 map-same f g [] h = refl
@@ -187,9 +177,6 @@ none-there : (b : Bool) → unwrap_or (if b then Some variables.Absent else None
 none-there true = refl
 none-there false = refl
 
-zero-more : (k : ℕ) → 0 + k ≡ k
-zero-more k = omega arith
-
 array-right : (program : Units) (unit : List Statement) (x : Name) (o : Option Start) → length (arrays_of unit) ≤ 33554432 → is_array unit x ≡ true → start_of program unit x ≡ o
     → unwrap_or (option_map (λ k. variable_found unit (narrowed (0 + k)) x o) (index_among x (arrays_of unit))) variables.Absent ≡ variable_by unit x o
 array-right program unit x None few h e = none-found (index_among x (arrays_of unit))
@@ -197,7 +184,7 @@ array-right program unit x (Some at) few h e =
     let named = among_has x (names_of unit) (started-named program unit x at e) in
     let found = index-there x (arrays_of unit) (has_among (arrays_of unit) x (has_filter (is_array unit) (names_of unit) x named h)) in
     let small : 0 + found.0 ≤ 4294967295 = omega (arith, few, index-below x (arrays_of unit) found.0 found.1) in
-    let number : narrowed (0 + found.0) ≡ unwrap_or (index_among x (arrays_of unit)) 0 = narrowed-small (0 + found.0) small ∙ (zero-more found.0 ∙ ap (λ o. unwrap_or o 0) (sym found.1)) in
+    let number : narrowed (0 + found.0) ≡ unwrap_or (index_among x (arrays_of unit)) 0 = narrowed-small (0 + found.0) small ∙ (none-before found.0 ∙ ap (λ o. unwrap_or o 0) (sym found.1)) in
     ap (λ o. unwrap_or (option_map (λ k. variable_found unit (narrowed (0 + k)) x (Some at)) o) variables.Absent) found.1
     ∙ ap (λ n. if is_array unit x then variables.Array x.asynchronous n else scalar x.asynchronous at) number
 

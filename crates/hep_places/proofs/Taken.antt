@@ -1,11 +1,9 @@
 -- What tables have of names that stand one behind the other, name by name.
-use Rattle.std.proofs.Common.{◌≡◌, ℕ, suc, ◌+◌, Bool, true, false, List, [], ◌∷◌, length, Option, Some, None, refl, ap, sym, ◌∙◌, arith, if◌then◌else◌}
+use Rattle.std.proofs.Common.{◌≡◌, ℕ, ◌+◌, Bool, true, false, List, [], ◌∷◌, Option, Some, None, refl, ap, sym, ◌∙◌, arith, if◌then◌else◌}
 use Rattle.std.specs.Option.{option_or}
 use Rattle.hep_source.specs.declared.name.Name.{Name}
 use Rattle.hep_source.specs.declared.statement.Statement.{Statement}
-use Rattle.hep_source.specs.declared.name.Occurrence.{Occurrence}
 use Rattle.hep_source.specs.Names.{same_name}
-use Rattle.hep_source.specs.Units.{names_of_occurrences}
 use Rattle.hep_code.specs.declared.variable.Variable.{Variable}
 use Rattle.hep_frames.specs.Rows.{Row, cells_in, first_in}
 use Rattle.hep_frames.proofs.Rows.{has_key}
@@ -17,6 +15,7 @@ use Rattle.hep_common.specs.Starts.{narrowed}
 use Rattle.hep_places.specs.declared.blocks.Entry.{Entry}
 use Rattle.hep_places.specs.Found.{start_among, behind, arrays_with, lengthened, no_length, offset_among, variable_among, variable_found}
 use Rattle.hep_places.proofs.Narrowed.{narrowed-more}
+use Rattle.hep_places.proofs.InBlocks.{grouped}
 
 -- ---- a turn of a loop
 
@@ -75,18 +74,9 @@ start-is x (e ∷ es) n = by (same_name x e.0) (start-is x es (n + e.1)) where
 none-more : (n : ℕ) → n ≡ n + 0
 none-more n = omega arith
 
-grouped : (a b c : ℕ) → a + b + c ≡ a + (b + c)
-grouped a b c = omega arith
-
 pub behind-is : (row : Row Name) (n : ℕ) → behind (narrowed n) row ≡ narrowed (n + cells_in row)
 behind-is [] n = ap narrowed (none-more n)
 behind-is (e ∷ es) n = ap (λ k. behind k es) (narrowed-more n e.1) ∙ (behind-is es (n + e.1) ∙ ap narrowed (grouped n e.1 (cells_in es)))
-
--- ---- occurrences
-
-pub length-names : (ps : List Occurrence) → length (names_of_occurrences ps) ≡ length ps
-length-names [] = refl
-length-names (p ∷ ps) = ap suc (length-names ps)
 
 -- ---- the names in common blocks
 

@@ -21,7 +21,7 @@ use Rattle.hep_frames.proofs.Frames.{among-with_frame}
 use Rattle.hep_frames.proofs.Memory.{memory-entered, memory-fits, unmade}
 use Rattle.hep_frames.proofs.TreeSteps.{framed-entered, tree-entered, wanted-entered}
 use Rattle.hep_proc.specs.Keeping.{IsBegun, IsTaken, Keeps, with_unset}
-use Rattle.hep_proc.proofs.Slabs.{swapped}
+use Rattle.hep_source.proofs.Tests.{numbers-turned}
 
 -- the cells of the new one are unset
 unset-wanted : (a : ℕ) (wanted : Wanted) (c : FramePart × ℕ) (v : Slot) → with_unset a wanted a c ≡ Some v → v ≡ unset_cell
@@ -58,7 +58,7 @@ module _ (program : Units) (s t : State) (x : Activation) (on out : ℕ → Bool
   none = unmade program s t x layout first begun.activations_are kept.memory.laid
 
   now-framed : (b : ℕ) → is_some (frame_among b (with_frame layout frame)) ≡ also a out b
-  now-framed b = ap is_some (among-with_frame b layout frame none) ∙ by_test (nat_eq a b) (nat_eq b a) (swapped a b) where
+  now-framed b = ap is_some (among-with_frame b layout frame none) ∙ by_test (nat_eq a b) (nat_eq b a) (numbers-turned a b) where
     by_test : (p q : Bool) → p ≡ q → is_some (if p then Some frame else frame_among b layout) ≡ (if q then true else out b)
     by_test true true e = refl
     by_test true false e = absurd cc

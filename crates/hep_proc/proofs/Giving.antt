@@ -2,7 +2,7 @@
 use Rattle.std.proofs.Common.{◌≡◌, ◌⊎◌, ℕ, ◌+◌, ◌<◌, ◌≤◌, Bool, true, false, [], ◌∷◌, length, Option, Some, None, refl, sym, ap, ◌∙◌, subst}
 use Rattle.std.specs.Prelude.{if◌then◌else◌, nat_eq, slice_get, is_some}
 use Rattle.std.specs.Option.{option_map}
-use Rattle.std.proofs.lemmas.Bool.{eqb-false, eq-eqb}
+use Rattle.std.proofs.lemmas.Bool.{eqb-false, eq-eqb, ne_eqb}
 use Rattle.std.proofs.lemmas.Option.{same_Some, none-some}
 use Rattle.hep_source.specs.Units.{Units, unit_at}
 use Rattle.hep_machine.specs.Layout.{Frame, Layout, common_cells}
@@ -20,14 +20,14 @@ use Rattle.hep_frames.specs.References.{IsOwnedAbove}
 use Rattle.hep_frames.specs.Rows.{FramePart, place_of_part}
 use Rattle.hep_frames.specs.Tree.{activation_under, AreFramed, AreWantedBut, but, is_just, IsTree, Node, Nodes, with_end, with_ended, with_one_less, without_node}
 use Rattle.hep_frames.proofs.Descriptors.{described-left}
-use Rattle.hep_frames.proofs.Frames.{among, among-without, other-number}
+use Rattle.hep_frames.proofs.Frames.{among, among-without}
 use Rattle.hep_frames.proofs.Memory.{frame-is-out, memory-left}
 use Rattle.hep_frames.proofs.Tree.{but-parts, node-wanted, parent-apart, parent-counts, parent-kept, parent-out, tree-left, wanted-all, wanted-left}
 use Rattle.hep_frames.proofs.TreeSteps.{filter-without, framed-ended, framed-left, tree-ended, wanted-ended}
 use Rattle.hep_frames.proofs.Wants.{wanted-left as wanted_of-left}
 use Rattle.hep_proc.specs.Nodes.{IsCountedAbove}
 use Rattle.hep_proc.specs.Keeping.{frames_of, HasLeft, Keeps, KeysStay, LeadUpwards}
-use Rattle.hep_proc.proofs.Slabs.{swapped}
+use Rattle.hep_source.proofs.Tests.{numbers-turned}
 
 -- frames went back from an activation upwards, and what is under a key is looked at next
 pub record IsGiving (program : Units) (s : State) (on out : ℕ → Bool) (layout : Layout) (wanted : Wanted) (before : Space) (old : Nodes) (now : Space) (nodes : Nodes) (next : Option ℕ) : Type 0 where
@@ -167,7 +167,7 @@ module _ (program : Units) (s : State) (on out : ℕ → Bool) (layout : Layout)
         subst (IsMemory program s left_now after.contents) (sym holes_are) (memory-left program s n.activation g.left frame now.contents after.contents now.holes g.memory framed-here size (λ p o. kept_now p (subst (IsOut p) (sym holes_are) o)))
 
     frames-now : (a : ℕ) → is_some (frame_among a left_now) ≡ still_now a
-    frames-now a = ap is_some (among-without n.activation a g.left g.memory.laid.single) ∙ by_test (nat_eq n.activation a) (nat_eq a n.activation) (swapped n.activation a) where
+    frames-now a = ap is_some (among-without n.activation a g.left g.memory.laid.single) ∙ by_test (nat_eq n.activation a) (nat_eq a n.activation) (numbers-turned n.activation a) where
       by_test : (p q : Bool) → p ≡ q → is_some (if p then None else frame_among a g.left) ≡ (if q then false else g.still a)
       by_test true true e = refl
       by_test true false e = absurd cc
@@ -183,7 +183,7 @@ module _ (program : Units) (s : State) (on out : ℕ → Bool) (layout : Layout)
     not-owned : (a : ℕ) (l : Location) → still_now a ≡ true → IsOwnedAbove s a l → is_owned n.activation l ≡ false
     not-owned a (local b x i) o above =
         let there = above still_now o (λ c d e f. parent-out s on still_now (without_node nodes k n) c d tree-now e f) in
-        swapped n.activation b ∙ (but-parts n.activation b g.still there).0
+        numbers-turned n.activation b ∙ (but-parts n.activation b g.still there).0
     not-owned a (common b i) o above = refl
 
     wanted-now : LeadUpwards s → (a : ℕ) (c : FramePart × ℕ) → still_now a ≡ true → wanted_of program s left_now a c ≡ wanted_of program s layout a c
@@ -195,7 +195,7 @@ module _ (program : Units) (s : State) (on out : ℕ → Bool) (layout : Layout)
     keys-now l m e o =
         let parts = but-parts n.activation m.activation g.still o in
         let there = g.keys_stay l m e parts.1 in
-        let other : nat_eq l k ≡ false = other-number l k (λ same.
+        let other : nat_eq l k ≡ false = ne_eqb l k (λ same.
         let it : there.0 ≡ n = same_Some there.0 n (sym there.1 ∙ (ap nodes same ∙ at)) in
         eqb-false m.activation n.activation parts.0 (sym there.2 ∙ ap (λ (z : Node). z.activation) it)) in
         rw other (by_parent there.0 there.1 there.2 there.3 there.4 there.5 (is_just l n.parent))

@@ -1,5 +1,5 @@
 pub mod Slabs
-mod Begun
+pub mod Begun
 mod Opened
 mod Openings
 mod Giving

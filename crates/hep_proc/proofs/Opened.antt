@@ -24,7 +24,7 @@ use Rattle.hep_frames.proofs.HeldFrames.{opening-is}
 use Rattle.hep_frames.proofs.Memory.{memory-entered, memory-fits}
 use Rattle.hep_frames.proofs.Resting.{rest-same}
 use Rattle.hep_proc.specs.Keeping.{IsOpening, IsTaken, IsUnused, Keeps}
-use Rattle.hep_proc.proofs.Slabs.{swapped}
+use Rattle.hep_source.proofs.Tests.{numbers-turned}
 
 -- ---- the one activation
 
@@ -143,7 +143,7 @@ module _ (program : Units) (s : State) (wanted : Wanted) (before after : Space) 
     by_key false d = absurd (none-some n d)
 
   frames-now : (a : ℕ) → is_some (frame_among a (frame ∷ [])) ≡ nat_eq a 1
-  frames-now a = by_test (nat_eq 1 a) ∙ swapped 1 a where
+  frames-now a = by_test (nat_eq 1 a) ∙ numbers-turned 1 a where
     by_test : (b : Bool) → is_some (if b then Some frame else None) ≡ b
     by_test true = refl
     by_test false = refl

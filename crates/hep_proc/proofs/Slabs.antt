@@ -1,17 +1,14 @@
 -- What the calls of a slab make of the nodes that it shows.
-use Rattle.std.proofs.Common.{◌≡◌, ℕ, Bool, true, false, Option, Some, None, refl, sym, ap, ◌∙◌, arith}
+use Rattle.std.proofs.Common.{◌≡◌, ℕ, Bool, true, false, Option, Some, None, refl, sym, ap, ◌∙◌}
 use Rattle.std.specs.Prelude.{if◌then◌else◌, nat_eq, IsSome}
 use Rattle.std.specs.Option.{option_map}
 use Rattle.std.proofs.lemmas.Bool.{eqb-true, eqb-false}
-use Rattle.std.proofs.lemmas.Bool.Decides.{nat_tests}
 use Rattle.std.proofs.lemmas.Option.{same_Some, none-some}
 use Rattle.slab.specs.Slab.{Slab, get, Updates}
 use Rattle.hep_frames.specs.Tree.{first_nodes, is_just, Node as TreeNode, Nodes, with_node, with_one_less, with_one_more, without_node}
 use Rattle.hep_proc.specs.declared.nodes.Node.{Node}
 use Rattle.hep_proc.specs.Nodes.{HasChildren, IsCountedAbove, nodes_of, shown, with_fewer, with_more}
-
-pub swapped : (a b : ℕ) → nat_eq a b ≡ nat_eq b a
-swapped a b = grind (arith, nat_tests)
+use Rattle.hep_source.proofs.Tests.{numbers-turned}
 
 -- nodes that agree under each key are the same
 pub one-tree : (m n : Nodes) → ((k : ℕ) → m k ≡ n k) → m ≡ n
@@ -48,7 +45,7 @@ pub given-child : (old mid : Slab Node) (new : Nodes) (k above : ℕ) (r : Node)
     → (n : TreeNode) → nodes_of old k ≡ Some n → (l : ℕ) → new l ≡ without_node (nodes_of old) k n l
 given-child old mid new k above r e u f h n g l = h l ∙ by_key (nat_eq l k) refl where
   test : is_just l n.parent ≡ nat_eq l above
-  test = ap (is_just l) (sym (given-parent old k r e n g) ∙ f) ∙ swapped above l
+  test = ap (is_just l) (sym (given-parent old k r e n g) ∙ f) ∙ numbers-turned above l
 
   empty : (b : Bool) (o : Option TreeNode) → o ≡ None → (if b then option_map with_one_less o else o) ≡ None
   empty true o d = ap (option_map with_one_less) d

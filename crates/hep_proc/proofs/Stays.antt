@@ -1,8 +1,7 @@
 -- The frames of a state where another state has the same ones, where a cell is written, and after a run.
-use Rattle.std.proofs.Common.{◌≡◌, ℕ, ◌≤◌, Bool, true, List, [], length, arith, Option, Some, None, refl, sym, ap, ◌∙◌, subst}
+use Rattle.std.proofs.Common.{◌≡◌, ℕ, ◌≤◌, Bool, true, List, [], length, arith, Some, None, refl, sym, ap, ◌∙◌, subst}
 use Rattle.std.specs.Prelude.{slice_get, slice_set, is_some}
 use Rattle.std.specs.List.{filter}
-use Rattle.std.specs.Option.{option_map}
 use Rattle.std.proofs.lemmas.Option.{same_Some}
 use Rattle.hep_source.specs.Units.{Units}
 use Rattle.hep_machine.specs.declared.slot.Slot.{Slot}
@@ -23,10 +22,8 @@ use Rattle.hep_frames.proofs.Memory.{memory-fits, memory-same, memory-written}
 use Rattle.hep_frames.proofs.Tree.{rest-held}
 use Rattle.hep_proc.specs.Keeping.{HasLeft, IsEnded, IsUnused, Keeps, LeadUpwards, frames_of}
 use Rattle.hep_proc.proofs.Opened.{opening-gap}
-
--- tests that agree are one
-one-test : (p q : ℕ → Bool) → ((a : ℕ) → p a ≡ q a) → p ≡ q
-one-test p q h = λ i a. h a i
+use Rattle.hep_frames.proofs.Resting.{one-test}
+use Rattle.hep_source.proofs.Tests.{some-mapped}
 
 pub keeps-same : (program : Units) (s t : State) (on now out : ℕ → Bool) (layout : Layout) (wanted after : Wanted) (arena : Space) (nodes : Nodes)
     → Keeps program s on out layout wanted arena nodes → t.activations ≡ s.activations → t.store ≡ s.store → ((a : ℕ) → now a ≡ on a)
@@ -90,10 +87,6 @@ keeps-read program s on out layout wanted arena nodes at p slot h here there = s
 pub keeps-fits : (program : Units) (s : State) (on out : ℕ → Bool) (layout : Layout) (wanted : Wanted) (arena : Space) (nodes : Nodes) (n : ℕ)
     → Keeps program s on out layout wanted arena nodes → 1 ≤ n → is_some (first_fit n arena.holes) ≡ is_some (lowest_gap (length arena.contents) n (common_cells program) layout)
 keeps-fits program s on out layout wanted arena nodes n h one = ap is_some (memory-fits program s layout arena.contents arena.holes n h.memory one)
-
-some-mapped : {A B : Type 0} (f : A → B) (o : Option A) → is_some (option_map f o) ≡ is_some o
-some-mapped f None = refl
-some-mapped f (Some x) = refl
 
 pub unused-fits : (program : Units) (arena : Space) (nodes : Nodes) (n : ℕ)
     → IsUnused (common_cells program) arena nodes → n ≡ frame_of program (run program []) 1 → is_some (first_fit n arena.holes) ≡ is_some (opening_layout program (length arena.contents))

@@ -6,7 +6,7 @@ use Rattle.hep_source.specs.Units.{Units}
 use Rattle.hep_machine.specs.declared.slot.Slot.{Slot}
 use Rattle.hep_machine.specs.Access.{purged_cell, unset_cell}
 use Rattle.hep_machine.specs.Layout.{Layout}
-use Rattle.hep_machine.specs.State.{Location, State, Store, common, local}
+use Rattle.hep_machine.specs.State.{Location, State, Store}
 use Rattle.hep_machine.specs.Storage.{emptied_from, further, with_cell, with_empty}
 use Rattle.hep_arena.specs.Holes.{Hole}
 use Rattle.hep_frames.specs.Addresses.{IsLaid, IsMemory, address}
@@ -17,10 +17,7 @@ use Rattle.hep_frames.proofs.Memory.{address-same, memory-written}
 use Rattle.hep_frames.proofs.Runs.{runs-from}
 use Rattle.hep_image.specs.Finding.{cells_in}
 use Rattle.hep_purging.specs.Purged.{purged_from}
-
-pub no_further : (at : Location) → further at 0 ≡ at
-no_further (local a x i) = ap (local a x) (omega arith)
-no_further (common b i) = ap (common b) (omega arith)
+use Rattle.hep_finding.proofs.Dummies.{further-none}
 
 module _ (program : Units) (s : State) (layout : Layout) (holes : List Hole) (wanted : Wanted) where
   -- the arena of the state with a store
@@ -48,7 +45,7 @@ module _ (program : Units) (s : State) (layout : Layout) (holes : List Hole) (wa
   run-emptied zero at first store contents run keeps = keeps
   run-emptied (suc n) at first store contents run keeps =
       let begins : first + 0 ≡ first = omega arith in
-      let here : address program s layout at ≡ Some first = ap (address program s layout) (sym (no_further at)) ∙ (run 0 (omega arith) ∙ ap (λ p. Some p) begins) in
+      let here : address program s layout at ≡ Some first = ap (address program s layout) (sym (further-none at)) ∙ (run 0 (omega arith) ∙ ap (λ p. Some p) begins) in
       let next : first + 1 ≡ suc first = omega arith in
       let rest = subst (RunsFrom program s layout (further at 1) n) next (runs-from program s layout at (suc n) first 1 n run (omega arith)) in
       run-emptied n (further at 1) (suc first) (with_empty store at) (slice_set contents first (purged_cell (cells_in contents first))) rest (cell-emptied at first store contents here keeps)

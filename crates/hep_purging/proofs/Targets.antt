@@ -37,7 +37,8 @@ use Rattle.hep_passing.proofs.References.{caller-found, reference-passed}
 use Rattle.hep_purging.specs.declared.range.Range.{Range}
 use Rattle.hep_purging.specs.Purged.{purged, purged_from}
 use Rattle.hep_purging.specs.Ranges.{is_whole, range_for, range_in, ranges_of}
-use Rattle.hep_purging.proofs.Emptied.{Keeps, no_further, run-emptied}
+use Rattle.hep_purging.proofs.Emptied.{Keeps, run-emptied}
+use Rattle.hep_finding.proofs.Dummies.{further-none}
 
 -- each target's variable has storage units
 abbrev pub ArePlaced : (Name → Variable) → List Reference → Type 0
@@ -60,7 +61,7 @@ module _ (program : Units) (s : State) (layout : Layout) where
     one-purged : (whole : Bool) (element : Result ℕ Kind) (units : Result (ℕ × ℕ) Kind) → IsPassedAs program s layout units (from_element e (if whole then Ok 1 else element)) → IsOnePurged (range_in whole units) (after_one whole element)
     one-purged true element (Err k) h = absurd h
     one-purged true element (Ok units) h =
-        let begins : further e.start (1 - 1) ≡ e.start = no_further e.start in
+        let begins : further e.start (1 - 1) ≡ e.start = further-none e.start in
         let all : e.rest ≡ units.1 = let rest = h.rest in omega (arith, rest) in
         let counted : (e.rest + 1) - 1 ≡ units.1 = h.rest in (
           e.start,

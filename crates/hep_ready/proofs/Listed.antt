@@ -1,18 +1,11 @@
 -- The numbers where marks are set: after a mark is set or taken away, which comes first above a number, and where there is none.
 use Rattle.std.proofs.Common.{◌≡◌, ℕ, zero, suc, ◌+◌, ◌*◌, ◌<◌, ◌≤◌, Bool, true, false, List, [], ◌∷◌, ◌++◌, length, length-drop, drop, replicate, set, Option, Some, None, refl, sym, ap, ◌∙◌, inl, inr, arith}
-use Rattle.std.specs.Prelude.{◌==◌, not, nat_eq, slice_get}
-use Rattle.std.proofs.lemmas.Bool.{cases_lt, lt-ltb, le-ltb}
-use Rattle.std.proofs.lemmas.Bool.Decides.{nat_tests}
+use Rattle.std.specs.Prelude.{◌==◌, not, slice_get}
+use Rattle.std.proofs.lemmas.Bool.{cases_lt, lt-ltb, le-ltb, ne_eqb, eq-eqb}
 use Rattle.std.proofs.lemmas.List.{get_or_past}
 use Rattle.hep_machine.specs.Schedules.{first_above, without}
 use Rattle.hep_ready.specs.Numbers.{AreRising, numbers_from, with_number}
 use Rattle.hep_lengths.specs.Trees.{number}
-
-not_eq : (p q : ℕ) → (p ≡ q → ⊥) → nat_eq p q ≡ false
-not_eq p q h = grind (arith, nat_tests)
-
-is_eq : (p q : ℕ) → p ≡ q → nat_eq p q ≡ true
-is_eq p q h = grind (arith, nat_tests)
 
 -- ---- a number below all of them
 
@@ -23,31 +16,31 @@ with_number-below p n (zero ∷ ms) h = with_number-below p (suc n) ms (omega ar
 
 pub without-below : (p n : ℕ) (ms : List ℕ) → p < n → without p (numbers_from n ms) ≡ numbers_from n ms
 without-below p n [] h = refl
-without-below p n (suc m ∷ ms) h = rw (not_eq p n (λ same. omega arith)) (ap (λ (xs : List ℕ). n ∷ xs) (without-below p (suc n) ms (omega arith)))
+without-below p n (suc m ∷ ms) h = rw (ne_eqb p n (λ same. omega arith)) (ap (λ (xs : List ℕ). n ∷ xs) (without-below p (suc n) ms (omega arith)))
 without-below p n (zero ∷ ms) h = without-below p (suc n) ms (omega arith)
 
 pub without-above : (p n : ℕ) (ms : List ℕ) → n + length ms ≤ p → without p (numbers_from n ms) ≡ numbers_from n ms
 without-above p n [] h = refl
-without-above p n (suc m ∷ ms) h = rw (not_eq p n (λ same. omega arith)) (ap (λ (xs : List ℕ). n ∷ xs) (without-above p (suc n) ms (omega arith)))
+without-above p n (suc m ∷ ms) h = rw (ne_eqb p n (λ same. omega arith)) (ap (λ (xs : List ℕ). n ∷ xs) (without-above p (suc n) ms (omega arith)))
 without-above p n (zero ∷ ms) h = without-above p (suc n) ms (omega arith)
 
 -- ---- a mark is set or taken away
 
 pub numbers-with : (n i p : ℕ) (ms : List ℕ) → i < length ms → p ≡ n + i → numbers_from n (set ms i 1) ≡ with_number p (numbers_from n ms)
 numbers-with n i p [] h e = absurd (omega arith)
-numbers-with n zero p (suc m ∷ ms) h e = rw (le-ltb p n (omega arith), is_eq p n (omega arith)) refl
+numbers-with n zero p (suc m ∷ ms) h e = rw (le-ltb p n (omega arith), eq-eqb p n (omega arith)) refl
 numbers-with n zero p (zero ∷ ms) h e =
     let same : p ≡ n = omega arith in
     ap (λ (m : ℕ). m ∷ numbers_from (suc n) ms) (sym same) ∙ sym (with_number-below p (suc n) ms (omega arith))
 numbers-with n (suc i) p (suc m ∷ ms) h e =
-    rw (le-ltb p n (omega arith), not_eq p n (λ same. omega arith)) (ap (λ (xs : List ℕ). n ∷ xs) (numbers-with (suc n) i p ms (omega arith) (omega arith)))
+    rw (le-ltb p n (omega arith), ne_eqb p n (λ same. omega arith)) (ap (λ (xs : List ℕ). n ∷ xs) (numbers-with (suc n) i p ms (omega arith) (omega arith)))
 numbers-with n (suc i) p (zero ∷ ms) h e = numbers-with (suc n) i p ms (omega arith) (omega arith)
 
 pub numbers-without : (n i p : ℕ) (ms : List ℕ) → p ≡ n + i → numbers_from n (set ms i 0) ≡ without p (numbers_from n ms)
 numbers-without n i p [] e = refl
-numbers-without n zero p (suc m ∷ ms) e = rw (is_eq p n (omega arith)) (sym (without-below p (suc n) ms (omega arith)))
+numbers-without n zero p (suc m ∷ ms) e = rw (eq-eqb p n (omega arith)) (sym (without-below p (suc n) ms (omega arith)))
 numbers-without n zero p (zero ∷ ms) e = sym (without-below p (suc n) ms (omega arith))
-numbers-without n (suc i) p (suc m ∷ ms) e = rw (not_eq p n (λ same. omega arith)) (ap (λ (xs : List ℕ). n ∷ xs) (numbers-without (suc n) i p ms (omega arith)))
+numbers-without n (suc i) p (suc m ∷ ms) e = rw (ne_eqb p n (λ same. omega arith)) (ap (λ (xs : List ℕ). n ∷ xs) (numbers-without (suc n) i p ms (omega arith)))
 numbers-without n (suc i) p (zero ∷ ms) e = numbers-without (suc n) i p ms (omega arith)
 
 -- ---- marks behind that aren't set
@@ -115,8 +108,8 @@ numbers-some n (suc k) (zero ∷ ms) on = numbers-some (suc n) k ms on
 pub empty-told : (n : ℕ) (ms : List ℕ) (b : Bool) → (b ≡ true → (k : ℕ) × (1 ≤ number ms k)) → (b ≡ false → (k : ℕ) → number ms k < 1) → not b ≡ (length (numbers_from n ms) == 0)
 empty-told n ms true some none =
     let r = some refl in
-    sym (not_eq (length (numbers_from n ms)) 0 (λ e. omega (arith, numbers-some n r.0 ms r.1)))
-empty-told n ms false some none = sym (is_eq (length (numbers_from n ms)) 0 (ap length (numbers-none n ms (none refl))))
+    sym (ne_eqb (length (numbers_from n ms)) 0 (λ e. omega (arith, numbers-some n r.0 ms r.1)))
+empty-told n ms false some none = sym (eq-eqb (length (numbers_from n ms)) 0 (ap length (numbers-none n ms (none refl))))
 
 -- ---- in rising order
 

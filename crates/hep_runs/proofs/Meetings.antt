@@ -12,12 +12,10 @@ use Rattle.hep_runs.specs.Runs.{alike, positions_in, IsWithin, IsPlace, first_pl
 use Rattle.hep_runs.specs.declared.runs.Place.{Place}
 use Rattle.hep_runs.specs.declared.runs.Position.{Position}
 use Rattle.hep_runs.specs.declared.runs.Run.{Run}
+use Rattle.hep_source.proofs.NameTests.{equal_logicals, same_logical-self}
+use Rattle.std.proofs.lemmas.Bool.{and_parts}
 
 -- ---- positions are alike where they are the same
-
-logical-self : (a : Bool) → same_logical a a ≡ true
-logical-self true = refl
-logical-self false = refl
 
 type-self : (t : ValueType) → same_type t t ≡ true
 type-self Integer = refl
@@ -28,13 +26,7 @@ declared-self None = refl
 declared-self (Some t) = type-self t
 
 pub alike-self : (p : Position) → alike p p ≡ true
-alike-self p = rw (logical-self p.asynchronous, declared-self p.value_type) refl
-
-logical-equal : (a b : Bool) → same_logical a b ≡ true → a ≡ b
-logical-equal true true h = refl
-logical-equal false false h = refl
-logical-equal true false h = absurd (true≢false (sym h))
-logical-equal false true h = absurd (true≢false (sym h))
+alike-self p = rw (same_logical-self p.asynchronous, declared-self p.value_type) refl
 
 type-equal : (t u : ValueType) → same_type t u ≡ true → t ≡ u
 type-equal Integer Integer h = refl
@@ -48,14 +40,10 @@ declared-equal (Some t) (Some u) h = ap Some (type-equal t u h)
 declared-equal None (Some u) h = absurd (true≢false (sym h))
 declared-equal (Some t) None h = absurd (true≢false (sym h))
 
-both-true : (a b : Bool) → (a && b) ≡ true → (a ≡ true) × (b ≡ true)
-both-true true b h = (refl, h)
-both-true false b h = absurd (true≢false (sym h))
-
 pub alike-equal : (p q : Position) → alike p q ≡ true → p ≡ q
 alike-equal p q h =
-    let parts = both-true (same_logical p.asynchronous q.asynchronous) (same_declared p.value_type q.value_type) h in
-    let a = logical-equal p.asynchronous q.asynchronous parts.0 in
+    let parts = and_parts (same_logical p.asynchronous q.asynchronous) (same_declared p.value_type q.value_type) h in
+    let a = equal_logicals p.asynchronous q.asynchronous parts.0 in
     let t = declared-equal p.value_type q.value_type parts.1 in
     λ i. record { asynchronous = a i; value_type = t i }
 
@@ -201,7 +189,7 @@ pub parted-here : (p q : Place) (xs ys : List Run) (d e : Run) (step : ℕ) (dif
 parted-here p q xs ys d e step differs lt mt k t f =
     let x = get_or xs p.run d in
     let y = get_or ys q.run e in
-    let parts = both-true (nat_lt 0 step) (not (alike x.position y.position)) (sym t ∙ f) in
+    let parts = and_parts (nat_lt 0 step) (not (alike x.position y.position)) (sym t ∙ f) in
     let some : 0 < step = grind (arith, nat_tests, parts.0) in
     ap (λ rs. heads_differ (later_places rs p.before) (rest q ys)) (drop_more xs p.run d lt)
     ∙ (ap (λ rs. heads_differ (later_places (x ∷ drop (p.run + 1) xs) p.before) (later_places rs q.before)) (drop_more ys q.run e mt)

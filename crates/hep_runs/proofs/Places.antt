@@ -1,9 +1,10 @@
 -- Lists in runs, place by place.
-use Rattle.std.proofs.Common.{◌≡◌, ◌≤◌, ℕ, zero, suc, ◌+◌, Bool, true, false, not, ◌&&◌, ◌||◌, nat_lt, List, [], ◌∷◌, refl, ap, ◌∙◌, arith}
+use Rattle.std.proofs.Common.{◌≡◌, ◌≤◌, ℕ, zero, suc, ◌+◌, Bool, true, false, not, ◌&&◌, ◌||◌, nat_lt, List, [], ◌∷◌, refl, sym, ap, ◌∙◌, arith}
 use Rattle.std.proofs.lemmas.Bool.Decides.{nat_tests}
 use Rattle.hep_machine.specs.Data.{Repeated}
 use Rattle.hep_check.specs.Known.{meet, holds_within, holds_from, holds_at_each_place}
 use Rattle.hep_runs.specs.Spread.{repeat_before, spread, agree_as_far}
+use Rattle.hep_source.proofs.Tests.{and-assoc, and-true}
 
 -- ---- places in common
 
@@ -32,14 +33,6 @@ meet-same : (i s : ℕ) → meet i s i s ≡ nat_lt 0 s
 meet-same i s = grind (arith, nat_tests)
 
 -- ---- tests
-
-and-true : (a : Bool) → (a && true) ≡ a
-and-true true = refl
-and-true false = refl
-
-and-assoc : (a b c : Bool) → ((a && b) && c) ≡ (a && (b && c))
-and-assoc true b c = refl
-and-assoc false b c = refl
 
 either-split : (p q t : Bool) → (not (p || q) || t) ≡ ((not p || t) && (not q || t))
 either-split true true true = refl
@@ -89,7 +82,7 @@ module _ {B : Type 0} (test : B → Bool) where
   within-second_parts i m j s r b ys =
       let e : j + (s + r) ≡ j + s + r = omega arith in
       rw (meet-second_parts i m j s r, e, either-split (meet i m j s) (meet i m (j + s) r) (test b))
-      (and-assoc (not (meet i m j s) || test b) (not (meet i m (j + s) r) || test b) (holds_within test i m (j + s + r) ys))
+      (sym (and-assoc (not (meet i m j s) || test b) (not (meet i m (j + s) r) || test b) (holds_within test i m (j + s + r) ys)))
 
   within-before : (i m j c : ℕ) (b : B) (ys : List (Repeated B)) → j + c ≤ i → holds_within test i m j (record { item = b; count = c } ∷ ys) ≡ holds_within test i m (j + c) ys
   within-before i m j c b ys h = rw (meet-before i m j c h) refl
@@ -125,7 +118,7 @@ module _ {A B : Type 0} (test : A → B → Bool) where
   on-first_parts i j s r a xs ys =
       let e : i + (s + r) ≡ i + s + r = omega arith in
       rw (within-first_parts (test a) i s r j ys, e)
-      (and-assoc (holds_within (test a) i s j ys) (holds_within (test a) (i + s) r j ys) (holds_on (i + s + r) j xs ys))
+      (sym (and-assoc (holds_within (test a) i s j ys) (holds_within (test a) (i + s) r j ys) (holds_on (i + s + r) j xs ys)))
 
   on-second_parts : (i j s r : ℕ) (b : B) (xs : List (Repeated A)) (ys : List (Repeated B))
       → holds_on i j xs (record { item = b; count = s + r } ∷ ys) ≡ holds_on i j xs (record { item = b; count = s } ∷ record { item = b; count = r } ∷ ys)

@@ -13,6 +13,7 @@ use Rattle.hep_machine.specs.Schedules.{Progress, progress_after_entry, progress
 use Rattle.hep_machine.specs.State.{State}
 use Rattle.hep_machine.specs.Step.{is_waiting, step}
 use Rattle.hep_frames.proofs.HeldFrames.{run-last}
+use Rattle.hep_machine.proofs.Replays.{run_after}
 
 -- ---- the state
 
@@ -42,14 +43,9 @@ pub state-is : (program : Units) (es : List Entry) → state_after program es �
 unfolding state_after
 state-is program es = refl
 
-run_from-append : (program : Units) (s : State) (ps qs : List ℕ) → run_from program s (ps ++ qs) ≡ run_from program (run_from program s ps) qs
-unfolding run_from
-run_from-append program s [] qs = refl
-run_from-append program s (p ∷ ps) qs = run_from-append program (state_after_turn program p s) ps qs
-
 turned : (program : Units) (es : List Entry) (p : ℕ) → state_after program (es ++ record { process = p; steps = 1 } ∷ []) ≡ state_after_turn program p (state_after program es)
 unfolding state_after run run_from
-turned program es p = ap (run_from program (opening program)) (schedule-stepped es p) ∙ run_from-append program (opening program) (schedule_of es) (p ∷ [])
+turned program es p = ap (run_from program (opening program)) (schedule-stepped es p) ∙ run_after program (opening program) (schedule_of es) (p ∷ [])
 
 -- an entry of one step leads to the step's state
 pub state-stepped : (program : Units) (es : List Entry) (p : ℕ) (s : State) → step program p (state_after program es) ≡ Some s → state_after program (es ++ record { process = p; steps = 1 } ∷ []) ≡ s
@@ -87,7 +83,7 @@ entries-last : (program : Units) (es : List Entry) (e : Entry) (s : State) → A
 unfolding run_from schedule_of
 entries-last program [] e s h g = (g, tt)
 entries-last program (x ∷ es) e s h g =
-    let state = run_from-append program s (schedule_of_entry x) (schedule_of es) in
+    let state = run_after program s (schedule_of_entry x) (schedule_of es) in
     (h.0, entries-last program es e (run_from program s (schedule_of_entry x)) h.1 (subst (λ t. IsEntry program t e) state g))
 
 some-step : (o : Option State) (s : State) → o ≡ Some s → o ≢ None

@@ -1,5 +1,5 @@
 -- What follows from what a machine keeps of the state after a history.
-use Rattle.std.proofs.Common.{◌≡◌, ◌≢◌, ℕ, zero, suc, true, false, ◌<◌, ◌≤◌, List, [], ◌∷◌, ◌++◌, length, length-append, arith, refl, sym, ap, ◌∙◌, subst, Option, Some, None}
+use Rattle.std.proofs.Common.{◌≡◌, ◌≢◌, ℕ, true, false, ◌<◌, ◌≤◌, List, [], ◌∷◌, ◌++◌, length, length-append, arith, refl, sym, ap, ◌∙◌, subst, Option, Some, None}
 use Rattle.std.specs.Prelude.{IsSome, is_some}
 use Rattle.std.specs.Global.{Global}
 use Rattle.std.specs.declared.vec.Vec.{Vec}
@@ -8,7 +8,6 @@ use Rattle.hep_machine.specs.declared.event.Entry.{Entry}
 use Rattle.hep_machine.specs.Histories.{IsLegal}
 use Rattle.hep_machine.specs.Layout.{is_held, layout_of}
 use Rattle.hep_machine.specs.Opening.{opening}
-use Rattle.hep_machine.specs.Processes.{living}
 use Rattle.hep_machine.specs.Run.{run, run_from, schedule_of, state_after}
 use Rattle.hep_machine.specs.Schedules.{progress_after, progress_after_entry, progress_after_step}
 use Rattle.hep_machine.specs.State.{State}
@@ -27,14 +26,11 @@ use Rattle.hep_scheduler.specs.Value.{IsStop}
 use Rattle.hep_scheduler.specs.declared.scheduler.Core.TheInside.{Inside}
 use Rattle.hep_scheduler.specs.declared.stop.Stop.{Stop}
 use Rattle.hep_scheduler.proofs.Histories.{legal-stepped, legal-waited, progress-last, progress-stepped, schedule-stepped, schedule-waited, state-is, state-stepped}
+use Rattle.hep_source.proofs.Tests.{some-there}
 
 -- what is seen of machines: `hep_views`
 abbrev pub AreSeen : Units → ℕ → Type 0
 AreSeen program cells = (choices : List ℕ) (m : Snapshot) → IsAfter program cells choices m → machine_view program m ≡ view_of program is_held (run program choices)
-
-pub none-of : {A : Type 0} (o : Option A) → is_some o ≡ false → o ≡ None
-none-of None e = refl
-none-of (Some x) e = absurd cc
 
 pub some-of : {A : Type 0} (o : Option A) → is_some o ≡ true → o ≢ None
 some-of None e f = absurd cc
@@ -43,14 +39,6 @@ some-of (Some x) e f = absurd cc
 pub there-is : (o : Option State) → o ≢ None → (s : State) × (o ≡ Some s)
 there-is None h = absurd (h refl)
 there-is (Some s) h = (s, refl)
-
-pub is-some : {A : Type 0} (o : Option A) (x : A) → o ≡ Some x → IsSome o
-is-some o x e = subst IsSome (sym e) refl
-
--- process 0 never lives
-pub has-number : (s : State) (p : ℕ) → living s p ≢ None → 1 ≤ p
-has-number s zero alive = absurd (alive refl)
-has-number s (suc k) alive = omega arith
 
 module _ (program : Units) (cells : ℕ) (history : List Entry) (m : Snapshot) (after : IsAfter program cells (schedule_of history) m) where
   pub halted-is : m.halted ≡ (state_after program history).halted
@@ -63,7 +51,7 @@ module _ (program : Units) (cells : ℕ) (history : List Entry) (m : Snapshot) (
   faults-are = after.shows.faults ∙ ap (λ (s : State). s.faults) (sym (state-is program history))
 
   pub laid-out : IsSome (layout_of program cells is_held (schedule_of history))
-  laid-out = is-some (layout_of program cells is_held (schedule_of history)) after.layout after.laid
+  laid-out = some-there (layout_of program cells is_held (schedule_of history)) after.layout after.laid
 
   pub view-is : AreSeen program cells → machine_view program m ≡ view_of program is_held (state_after program history)
   view-is seen = seen (schedule_of history) m after ∙ ap (view_of program is_held) (sym (state-is program history))

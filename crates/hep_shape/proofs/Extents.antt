@@ -12,7 +12,7 @@ pub by_test : {P : Type 0} (t : Bool) → (t ≡ true → P) → (t ≡ false �
 by_test true f g = f refl
 by_test false f g = g refl
 
-some_natural : (z : ℤ) → pos 1 ≤ℤ z → 1 ≤ natural z
+pub some_natural : (z : ℤ) → pos 1 ≤ℤ z → 1 ≤ natural z
 some_natural (pos n) h = omega (arith, ints)
 some_natural (negsuc n) h = absurd (omega (arith, ints))
 

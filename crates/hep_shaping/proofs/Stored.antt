@@ -16,7 +16,7 @@ use Rattle.hep_machine.specs.Layout.{Layout}
 use Rattle.hep_machine.specs.Locations.{Scope, dummy_at, own_storage}
 use Rattle.hep_machine.specs.Processes.{activation_of, unit_of}
 use Rattle.hep_machine.specs.State.{Dummy, Location, local, common, State, Store}
-use Rattle.hep_machine.specs.Storage.{further, same_location, with_value}
+use Rattle.hep_machine.specs.Storage.{same_location, with_value}
 use Rattle.hep_machine.proofs.Locations.{equal_locations}
 use Rattle.hep_arena.specs.Gaps.{frame_among}
 use Rattle.hep_arena.specs.Holes.{Hole, IsOut}
@@ -31,6 +31,7 @@ use Rattle.hep_passing.specs.Agreement.{AreGiven, AreUnitsOf, IsGiven}
 use Rattle.hep_shaping.specs.Given.{AreReadable, IsCell, IsFirstCell, IsReadable, stored_by, stored_for, stored_in}
 use Rattle.hep_bounds.specs.Sources.{AreStored, IsNamedOnce, adjustable_code, source_by, source_of}
 use Rattle.hep_shaping.proofs.Readable.{dimensions_readable}
+use Rattle.hep_finding.proofs.Dummies.{further-none}
 
 -- ---- names and locations
 
@@ -45,10 +46,6 @@ index_less x (y ∷ ys) k h = by_test (same_name x y) (index_less x ys) h where
   by_test true less h = let same : 0 ≡ k = ap (λ o. unwrap_or o 0) h in omega (arith, same)
   by_test false less h = by_index (index_among x ys) less h
 
-further_none : (at : Location) → further at 0 ≡ at
-further_none (local a x i) = let same : i + 0 ≡ i = omega arith in ap (local a x) same
-further_none (common b i) = let same : i + 0 ≡ i = omega arith in ap (common b) same
-
 abbrev name_in : Name → Location → Name
 name_in z (local a x i) = x
 name_in z (common b i) = z
@@ -58,7 +55,7 @@ begins_at : (program : Units) (s : State) (layout : Layout) (d : Dummy) (first c
 begins_at program s layout d first count h =
     let some : 0 < d.rest = omega (arith, h.some, h.rest) in
     let zero_more : first + 0 ≡ first = omega arith in
-    ap (address program s layout) (sym (further_none d.start)) ∙ (h.run 0 some ∙ ap (λ n. Some n) zero_more)
+    ap (address program s layout) (sym (further-none d.start)) ∙ (h.run 0 some ∙ ap (λ n. Some n) zero_more)
 
 -- ---- a new activation, which has no frame
 

@@ -10,7 +10,7 @@ use Rattle.hep_source.specs.Names.{name_eq, same_logical, same_name, same_letter
 
 -- ---- names are the same where they are equal
 
-equal_logicals : (a b : Bool) → same_logical a b ≡ true → a ≡ b
+pub equal_logicals : (a b : Bool) → same_logical a b ≡ true → a ≡ b
 equal_logicals true true e = refl
 equal_logicals true false e = absurd cc
 equal_logicals false true e = absurd cc
@@ -31,7 +31,7 @@ equal_names x y e =
     let l = equal_letters x.letters y.letters h.1 in
     λ i. record { asynchronous = t i; letters = l i }
 
-same_logical-self : (a : Bool) → same_logical a a ≡ true
+pub same_logical-self : (a : Bool) → same_logical a a ≡ true
 same_logical-self true = refl
 same_logical-self false = refl
 

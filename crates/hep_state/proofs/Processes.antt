@@ -8,7 +8,7 @@ use Rattle.std.specs.Option.{option_map}
 use Rattle.hep_source.specs.declared.value.Value.{Value}
 use Rattle.hep_source.specs.Units.{Units}
 use Rattle.hep_machine.specs.Processes.{numbered, with_numbered}
-use Rattle.hep_accepted.proofs.Members.{front_at, image_at, map_at}
+use Rattle.hep_accepted.proofs.Members.{image_at, map_at}
 use Rattle.hep_code.specs.Depths.{deepest}
 use Rattle.hep_step.specs.Simulation.{unit_code}
 use Rattle.hep_state.specs.declared.machine.Level.{Level}
@@ -18,6 +18,7 @@ use Rattle.hep_state.specs.Snapshots.{Stack, stack_of}
 use Rattle.hep_state.specs.Taking.{stack_with}
 use Rattle.hep_state.proofs.Settled.{has-levels}
 use Rattle.hep_state.proofs.Stacked.{levels-are}
+use Rattle.hep_source.proofs.Tests.{at-front}
 
 -- ---- numbered processes
 
@@ -91,7 +92,7 @@ all-set P (x ∷ xs) (suc j) r each here (suc i) q e = all-set P xs j r (λ k z 
 -- a process with fewer levels
 pub room-fewer : (program : Units) (q r : Process) (l : Level) → q.levels.items ≡ r.levels.items ++ l ∷ [] → vec_capacity q.operands ≤ vec_capacity r.operands → HasRoom program q → HasRoom program r
 room-fewer program q r l fewer more room i m e =
-    let here = room i m (subst (λ (xs : List Level). slice_get xs i ≡ Some m) (sym fewer) (front_at r.levels.items (l ∷ []) i m e)) in
+    let here = room i m (subst (λ (xs : List Level). slice_get xs i ≡ Some m) (sym fewer) (at-front r.levels.items (l ∷ []) i m e)) in
     omega (arith, here, more)
 
 pub room-none : (program : Units) (r : Process) → r.levels.items ≡ [] → HasRoom program r

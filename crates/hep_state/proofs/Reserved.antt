@@ -5,7 +5,6 @@ use Rattle.std.proofs.lemmas.List.{map-set, reverse-append, set-get_or}
 use Rattle.std.proofs.lemmas.Option.{none-some, same_Some}
 use Rattle.hep_source.specs.declared.value.Value.{Value}
 use Rattle.hep_source.specs.Units.{Units}
-use Rattle.hep_accepted.proofs.Members.{front_at}
 use Rattle.hep_code.specs.Depths.{deepest}
 use Rattle.hep_step.specs.Simulation.{unit_code}
 use Rattle.hep_state.specs.declared.machine.Level.{Level}
@@ -14,6 +13,7 @@ use Rattle.hep_state.specs.Rooms.{HasRoom}
 use Rattle.hep_state.specs.Snapshots.{stack_of}
 use Rattle.hep_state.specs.Taking.{stack_with}
 use Rattle.hep_state.proofs.Stacked.{last-there, levels-are}
+use Rattle.hep_source.proofs.Tests.{at-front}
 
 -- what was put in a place is there
 pub set-there : {A : Type 0} (xs : List A) (i : ℕ) (x y : A) → slice_get (slice_set xs i x) i ≡ Some y → x ≡ y
@@ -52,7 +52,7 @@ room-above program q r l added next ls was left before after more enough room i 
     let enter : HasEnough program r added = omega (arith, enough, more) in
     let top : HasEnough program r (record l { index = next }) = omega (arith, room (length (reverse ls)) l (last-there q l ls was before), more) in
     let below : (k : ℕ) (x : Level) → slice_get (reverse ls) k ≡ Some x → HasEnough program r x =
-    λ k x d. let here = room k x (subst (λ (xs : List Level). slice_get xs k ≡ Some x) (sym (levels-are q l ls was before)) (front_at (reverse ls) (l ∷ []) k x d)) in omega (arith, here, more) in
+    λ k x d. let here = room k x (subst (λ (xs : List Level). slice_get xs k ≡ Some x) (sym (levels-are q l ls was before)) (at-front (reverse ls) (l ∷ []) k x d)) in omega (arith, here, more) in
     let old = all-behind (HasEnough program r) (reverse ls) (record l { index = next }) below top in
     all-behind (HasEnough program r) (reverse ls ++ record l { index = next } ∷ []) added old enter i m
     (subst (λ (xs : List Level). slice_get xs i ≡ Some m) (levels-are r added (record l { index = next } ∷ ls) left after ∙ ap (λ (xs : List Level). xs ++ added ∷ []) (reverse-append (record l { index = next } ∷ []) ls)) e)

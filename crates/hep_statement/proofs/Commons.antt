@@ -8,7 +8,7 @@ use Rattle.hep_source.specs.declared.statement.Form.TheVariants as form
 use Rattle.hep_expression.specs.declared.characters.Context.{Context}
 use Rattle.hep_expression.specs.Characters.{ReadsPlainOccurrence}
 use Rattle.hep_expression.specs.Reading.{◌>>=◌, after, plain_occurrence_at}
-use Rattle.hep_expression.proofs.Leaves.{bind_some, either_some, some_is, none_is, after_is, place_fits, is_plain_place}
+use Rattle.hep_expression.proofs.Leaves.{bind_some, either_some, after_is, place_fits, is_plain_place}
 use Rattle.hep_expression.proofs.Complete.{plain_place_read}
 use Rattle.hep_statement.specs.Lists.{AreListed}
 use Rattle.hep_statement.specs.ReadingLists.{part_after_comma, listed}
@@ -19,6 +19,7 @@ use Rattle.hep_statement.proofs.Targets.{begins_name, first_is, place_begins, Af
 use Rattle.hep_statement.proofs.Headers.{carried}
 use Rattle.hep_statement.proofs.Declarators.{declarator_shortens, declarator_sound, declarator_complete}
 use Rattle.hep_statement.proofs.Ends.{AreToEnd, TakesSome, to_end_sound, to_end_complete}
+use Rattle.std.proofs.lemmas.Option.{same_Some, none-some}
 
 module _ (k : Context) where
   -- the text begins with this block and goes on with r
@@ -93,7 +94,7 @@ module _ (k : Context) where
       subst (λ (m : List ℕ). ReadsBlock x.0 m x.1) (sym is) (after_sound b.0 x fit' b.2)
 
   chained : {A B C : Type 0} (o : Option A) (f : A → Option B) (g : B → Option C) (y : B) → (o >>= f) ≡ Some y → (o >>= λ x. f x >>= g) ≡ g y
-  chained None f g y e = absurd (none_is y e)
+  chained None f g y e = absurd (none-some y e)
   chained (Some x) f g y e = ap (λ (z : _). z >>= g) e
 
   block_complete : IsComplete ReadsBlock (block_at k) AfterEntries
@@ -193,7 +194,7 @@ module _ (k : Context) where
       let one = first_sound m b.0 fit b.1 in
       let fit' : length b.0.1 ≤ k.length = omega (arith, first_shortens b.0.0 m one.0 b.0.1 one.1 one.2) in
       let two = to_end_sound ReadsBlock block_takes k (block_at k) block_sound b.0.0 b.0.1 c.0 fit' c.1 in
-      (c.0, sym (some_is (form.Common c.0) f c.2), subst (λ (xs : List CommonBlock). AreBlocks k xs m) (sym two.1) (one.0, b.0.1, one.1, one.2, more_are two.0 b.0.1 two.2))
+      (c.0, sym (same_Some (form.Common c.0) f c.2), subst (λ (xs : List CommonBlock). AreBlocks k xs m) (sym two.1) (one.0, b.0.1, one.1, one.2, more_are two.0 b.0.1 two.2))
 
   pub common_read : (xs : List CommonBlock) (m : List ℕ) → AreBlocks k xs m → common k m ≡ Some (form.Common xs)
   unfolding common block_at

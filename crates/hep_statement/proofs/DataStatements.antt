@@ -18,7 +18,7 @@ use Rattle.hep_source.specs.declared.statement.Form.TheVariants as form
 use Rattle.hep_expression.specs.declared.characters.Context.{Context}
 use Rattle.hep_expression.specs.Characters.{is_digit, is_letter, IsName, name_sign, ReadsPlainOccurrence, IsDigits, IsInteger, logical_spelling}
 use Rattle.hep_expression.specs.Reading.{◌>>=◌, if_some, after, plain_occurrence_at, integer_at, logical_at}
-use Rattle.hep_expression.proofs.Leaves.{bind_some, either_some, some_is, none_is, chosen, and_parts, le_of, after_is, one_is, shorter, place_fits, is_plain_place, is_constant}
+use Rattle.hep_expression.proofs.Leaves.{bind_some, either_some, chosen, after_is, one_is, shorter, place_fits, is_plain_place, is_constant}
 use Rattle.hep_expression.proofs.Complete.{above, digit_from, letter_from, letter_is_no_digit, plain_place_read, digits_read}
 use Rattle.hep_statement.specs.Lists.{AreListed}
 use Rattle.hep_statement.specs.ReadingLists.{listed}
@@ -30,12 +30,14 @@ use Rattle.hep_statement.proofs.Lists.{IsSound, Shortens, IsComplete, listed_sho
 use Rattle.hep_statement.proofs.Targets.{begins_name, place_begins, AfterName, target_shortens, target_sound, target_complete}
 use Rattle.hep_statement.proofs.Headers.{carried, AfterWord, Any}
 use Rattle.hep_statement.proofs.Ends.{AreToEnd, TakesSome, to_end_sound, to_end_complete}
+use Rattle.std.proofs.lemmas.Option.{same_Some, none-some}
+use Rattle.std.proofs.lemmas.Bool.{and_parts, leb-true}
 
 -- ---- with which character a text begins
 
 digit_is_no_letter : (c : ℕ) → is_digit c ≡ true → is_letter c ≡ false
 digit_is_no_letter c h =
-    let to : c ≤ 57 = le_of c 57 (and_parts (nat_le 48 c) (nat_le c 57) h).1 in
+    let to : c ≤ 57 = leb-true c 57 (and_parts (nat_le 48 c) (nat_le c 57) h).1 in
     let under : nat_le 65 c ≡ false = grind (arith, nat_tests) in
     rw under refl
 
@@ -159,7 +161,7 @@ module _ (k : Context) where
       let one = is_constant k s b.0 b.1 in
       let is = one.2 ∙ ap (λ (l : List ℕ). one.0 ++ l) (after_is 42 b.0.1 c.0 c.1) ∙ sym (star_after one.0 c.0) in
       elim (chosen (is_zero b.0.0) None (Some (Count b.0.0, c.0)) (Some x) c.2) [
-        | inl d ↦ absurd (none_is x d.1)
+        | inl d ↦ absurd (none-some x d.1)
         | inr d ↦ carried (λ (y : Repeat × List ℕ). ReadsRepeat k (Some y.0) s y.1) (Count b.0.0, c.0) x d.1 (one.0, one.1, is, one.3, zero_is b.0.0 d.0)
       ]
 
@@ -274,7 +276,7 @@ module _ (k : Context) where
       let one = group_sound m b.0 fit b.1 in
       let fit' : length b.0.1 ≤ k.length = omega (arith, group_takes b.0.0 m b.0.1 one) in
       let two = to_end_sound (ReadsGroup k) group_takes k (group_at k) group_sound b.0.0 b.0.1 c.0 fit' c.1 in
-      (c.0, sym (some_is (form.Data c.0) f c.2), subst (λ (xs : List DataGroup). AreGroups k xs m) (sym two.1) (b.0.1, one, more_are two.0 b.0.1 two.2))
+      (c.0, sym (same_Some (form.Data c.0) f c.2), subst (λ (xs : List DataGroup). AreGroups k xs m) (sym two.1) (b.0.1, one, more_are two.0 b.0.1 two.2))
 
   pub data_statement_read : (xs : List DataGroup) (m : List ℕ) → AreGroups k xs m → data_statement k m ≡ Some (form.Data xs)
   unfolding data_statement

@@ -8,7 +8,6 @@ use Rattle.hep_source.specs.declared.statement.Form.{Form}
 use Rattle.hep_source.specs.declared.statement.Form.TheVariants as forms
 use Rattle.hep_expression.specs.declared.characters.Context.{Context}
 use Rattle.hep_expression.specs.Reading.{◌>>=◌}
-use Rattle.hep_expression.proofs.Leaves.{none_is}
 use Rattle.hep_statement.specs.declared.keyword.Keyword.{Keyword}
 use Rattle.hep_statement.specs.declared.keyword.Keyword.TheVariants as words
 use Rattle.hep_statement.specs.Declaration.{type_spelling, ReadsDeclarator}
@@ -20,6 +19,7 @@ use Rattle.hep_statement.proofs.Headers.{program_header_is, program_header_read,
 use Rattle.hep_statement.proofs.Declarators.{declare_is, declare_read, dimension_statement_is, dimension_statement_read}
 use Rattle.hep_statement.proofs.Commons.{common_is, common_read}
 use Rattle.hep_statement.proofs.DataStatements.{data_statement_is, data_statement_read}
+use Rattle.std.proofs.lemmas.Option.{none-some}
 
 module _ (k : Context) where
   declared_is : (t : ValueType) (s m : List ℕ) (f : Form) → length m ≤ k.length → s ≡ type_spelling t ++ m → (x : List _) × (f ≡ forms.Declare t x) × AreListed (ReadsDeclarator k) x m [] → IsWorded k f s
@@ -42,7 +42,7 @@ module _ (k : Context) where
       let h = parameter_is k m f fit e in subst (λ (g : Form). IsWorded k g s) (sym h.1) (m, is, h.2)
   declaration_is words.Data s m f fit is e =
       let h = data_statement_is k m f fit e in subst (λ (g : Form). IsWorded k g s) (sym h.1) (m, is, h.2)
-  declaration_is _ s m f fit is e = absurd (none_is f e)
+  declaration_is _ s m f fit is e = absurd (none-some f e)
 
   -- a text that begins with this word is read as what follows it says
   rest_after : (w : Keyword) (s m : List ℕ) (f : Form) → s ≡ spelling w ++ m → keyword_at (spelling w ++ m) ≡ Some (w, m) → after_word k w m ≡ Some f → worded k s ≡ Some f

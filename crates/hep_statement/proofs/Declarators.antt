@@ -1,6 +1,6 @@
 -- What is read as declarators is so by the grammar, and the other way round: type statements and
 -- DIMENSION.
-use Rattle.std.proofs.Common.{◌≡◌, ◌≢◌, inl, inr, ℕ, ◌≤◌, Bool, true, false, List, [], ◌∷◌, length, Option, Some, None, refl, sym, ap, subst, arith}
+use Rattle.std.proofs.Common.{◌≡◌, ◌≢◌, inl, inr, ℕ, ◌≤◌, true, false, List, [], ◌∷◌, length, Option, Some, None, refl, sym, ap, subst, arith}
 use Rattle.std.specs.Prelude.{nat_le, not, if◌then◌else◌}
 use Rattle.std.specs.List.{list_all}
 use Rattle.hep_source.specs.Tree.{Tree}
@@ -16,7 +16,7 @@ use Rattle.hep_expression.specs.Expression as levels
 use Rattle.hep_expression.specs.Expression.{Reads}
 use Rattle.hep_expression.specs.Reading.{◌>>=◌, all_read, after, occurrence_at}
 use Rattle.hep_expression.specs.ReadingExpression.{expression_at}
-use Rattle.hep_expression.proofs.Leaves.{bind_some, either_some, none_is, chosen, and_parts, le_of, le_test, after_is, place_fits, is_place, fits}
+use Rattle.hep_expression.proofs.Leaves.{bind_some, either_some, chosen, after_is, place_fits, is_place, fits}
 use Rattle.hep_expression.proofs.Sound.{expression_at_sound}
 use Rattle.hep_expression.proofs.Complete.{place_read, AfterExpression, after_comma, after_parenthesis, after_colon, expression_read}
 use Rattle.hep_statement.specs.Lists.{AreAfter, AreListed}
@@ -26,6 +26,8 @@ use Rattle.hep_statement.specs.ReadingDeclaration.{upper_bound_at, dimension_aft
 use Rattle.hep_statement.proofs.Lists.{IsSound, Shortens, IsComplete, optional_shortens, listed_sound, optional_sound, listed_complete, optional_complete}
 use Rattle.hep_statement.proofs.Targets.{begins_expression, expression_begins, AfterName, name_ends}
 use Rattle.hep_statement.proofs.Headers.{carried, all_read_is, whole_is}
+use Rattle.std.proofs.lemmas.Bool.{not-true, and_parts, leb-true, le-leb}
+use Rattle.std.proofs.lemmas.Option.{none-some}
 
 -- ---- bounds and dimensions
 
@@ -99,16 +101,12 @@ dimension_complete k x s r h f = dimension_read k x.lower x.upper s h.0 r h.1 h.
 
 -- ---- which dimensions an array can have
 
-not_true : (b : Bool) → not b ≡ true → b ≡ false
-not_true true e = absurd cc
-not_true false e = refl
-
 last_open_is : (xs : List Dimension) → only_last_open xs ≡ true → OnlyLastOpen xs
 last_open_is [] e = tt
 last_open_is (x ∷ []) e = tt
 last_open_is (x ∷ y ∷ more) e =
     let b = and_parts (not (is_open x.upper)) (only_last_open (y ∷ more)) e in
-    (not_true (is_open x.upper) b.0, last_open_is (y ∷ more) b.1)
+    (not-true (is_open x.upper) b.0, last_open_is (y ∷ more) b.1)
 
 last_open_test : (xs : List Dimension) → OnlyLastOpen xs → only_last_open xs ≡ true
 last_open_test [] h = refl
@@ -132,8 +130,8 @@ declarator_sound k s x fit e =
       | inl d ↦ (
           let a = and_parts (nat_le (length c.0.0) 7) (only_last_open c.0.0) d.0 in
           carried (λ (y : Declarator × List ℕ). ReadsDeclarator k y.0 s y.1) (record { occurrence = b.0.0; dimensions = c.0.0 }, c.0.1) x d.1
-          (b.0.1, one, two, le_of (length c.0.0) 7 a.0, last_open_is c.0.0 a.1))
-      | inr d ↦ absurd (none_is x d.1)
+          (b.0.1, one, two, leb-true (length c.0.0) 7 a.0, last_open_is c.0.0 a.1))
+      | inr d ↦ absurd (none-some x d.1)
     ]
 
 pub declarator_complete : (k : Context) → IsComplete (ReadsDeclarator k) (declarator_at k) AfterName
@@ -141,7 +139,7 @@ unfolding declarator_at
 declarator_complete k x s r h f =
     let one = place_read k x.occurrence s h.0 h.1 (name_ends (ReadsDimension k) x.dimensions h.0 r h.2 f.0) in
     let two = optional_complete (ReadsDimension k) (dimension_shortens k) (dimension_at k) AfterDimension (dimension_complete k) (λ m. (after_comma m, refl)) (λ m. (after_parenthesis m, refl)) x.dimensions h.0 r h.2 f.1 in
-    rw (one, two, le_test (length x.dimensions) 7 h.3, last_open_test x.dimensions h.4) refl
+    rw (one, two, le-leb (length x.dimensions) 7 h.3, last_open_test x.dimensions h.4) refl
 
 -- ---- type statements
 
@@ -201,7 +199,7 @@ dimension_statement_is k m f fit e =
       | inl d ↦ (
           let a = all_read_is (form.Dimension b.0.0) f b.0.1 d.1 in
           (b.0.0, sym a.1, subst (λ (r : List ℕ). AreListed (ReadsArrayDeclarator k) b.0.0 m r) a.0 (arrays_are k b.0.0 m b.0.1 d.0 one)))
-      | inr d ↦ absurd (none_is f d.1)
+      | inr d ↦ absurd (none-some f d.1)
     ]
 
 pub dimension_statement_read : (k : Context) (xs : List Declarator) (m : List ℕ) → AreListed (ReadsArrayDeclarator k) xs m [] → dimension k m ≡ Some (form.Dimension xs)

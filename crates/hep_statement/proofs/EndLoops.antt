@@ -3,9 +3,9 @@ use Rattle.std.proofs.Common.{◌≡◌, ℕ, suc, ◌+◌, ◌-◌, ◌<◌, �
 use Rattle.hep_expression.specs.declared.unread.Unread.{Unread}
 use Rattle.hep_expression.specs.declared.unread.Unread.TheVariants as unread
 use Rattle.hep_expression.specs.Reading.{Reader, ◌>>=◌, Gives, all_read}
-use Rattle.hep_expression.proofs.Leaves.{some_is, none_is}
 use Rattle.hep_statement.specs.ReadingLists.{after_optional_comma}
 use Rattle.hep_statement.specs.ReadingDeclaration.{parts_to_end}
+use Rattle.std.proofs.lemmas.Option.{same_Some, none-some}
 
 -- parts that were read before the others
 abbrev pub with_before : {A : Type 0} → List A → Option (List A) → Option (List A)
@@ -45,8 +45,8 @@ module _ {A : Type 0} where
 
 -- what all_read gives, seen by a view
 pub read_as : {X Y : Type 0} (view : X → Y) (r : Result X Unread) (x : X) (s : List ℕ) → Gives (λ y. y) r (all_read x s) → Gives view r (all_read (view x) s)
-read_as view (Ok y) x [] h = ap (λ z. Some (view z)) (some_is x y h)
-read_as view (Ok y) x (c ∷ s) h = absurd (none_is y h)
+read_as view (Ok y) x [] h = ap (λ z. Some (view z)) (same_Some x y h)
+read_as view (Ok y) x (c ∷ s) h = absurd (none-some y h)
 read_as view (Err unread.NoMemory) x s h = tt
-read_as view (Err unread.NoReading) x [] h = absurd (none_is x (sym h))
+read_as view (Err unread.NoReading) x [] h = absurd (none-some x (sym h))
 read_as view (Err unread.NoReading) x (c ∷ s) h = refl

@@ -2,11 +2,12 @@
 use Rattle.std.proofs.Common.{◌≡◌, inl, inr, ℕ, zero, suc, ◌+◌, ◌≤◌, List, [], ◌∷◌, length, Option, Some, None, refl, sym, ap, subst, ◌∙◌, arith}
 use Rattle.hep_expression.specs.declared.characters.Context.{Context}
 use Rattle.hep_expression.specs.Reading.{Reader, ◌>>=◌, all_read, after}
-use Rattle.hep_expression.proofs.Leaves.{bind_some, either_some, some_is, none_is, after_is}
+use Rattle.hep_expression.proofs.Leaves.{bind_some, either_some, after_is}
 use Rattle.hep_statement.specs.Lists.{IsOptionalComma}
 use Rattle.hep_statement.specs.ReadingLists.{after_optional_comma}
 use Rattle.hep_statement.specs.ReadingDeclaration.{parts_to_end, up_to_end}
 use Rattle.hep_statement.proofs.Lists.{IsSound, IsComplete}
+use Rattle.std.proofs.lemmas.Option.{same_Some, none-some}
 
 -- ---- a comma that may be missing
 
@@ -14,7 +15,7 @@ optional_comma : (o : Option (List ℕ)) (s : List ℕ) → after 44 s ≡ o →
 optional_comma None s e = inl refl
 optional_comma (Some m) s e = inr (after_is 44 s m e)
 
-comma_shortens : (s m : List ℕ) → IsOptionalComma s m → length m ≤ length s
+pub comma_shortens : (s m : List ℕ) → IsOptionalComma s m → length m ≤ length s
 comma_shortens s m h = elim h [ inl e ↦ omega (arith, ap length e) | inr e ↦ omega (arith, ap length e) ]
 
 module _ {A : Type 0} (P : A → List ℕ → List ℕ → Type 0) where
@@ -36,8 +37,8 @@ module _ {A : Type 0} (P : A → List ℕ → List ℕ → Type 0) where
 
     module _ (k : Context) (next : Reader A) (sound : IsSound k P next) where
       nothing_is : (s : List ℕ) (xs : List A) → all_read [] s ≡ Some xs → AreToEnd xs s
-      nothing_is [] xs e = subst (λ (z : List A). AreToEnd z []) (some_is [] xs e) refl
-      nothing_is (c ∷ s) xs e = absurd (none_is xs e)
+      nothing_is [] xs e = subst (λ (z : List A). AreToEnd z []) (same_Some [] xs e) refl
+      nothing_is (c ∷ s) xs e = absurd (none-some xs e)
 
       parts_sound : (n : ℕ) (s : List ℕ) (xs : List A) → length s ≤ k.length → parts_to_end next n s ≡ Some xs → AreToEnd xs s
       unfolding parts_to_end
@@ -49,14 +50,14 @@ module _ {A : Type 0} (P : A → List ℕ → List ℕ → Type 0) where
             let one = sound (after_optional_comma s) g.0 fit' g.1 in
             let b = bind_some (parts_to_end next n g.0.1) (λ more. Some (g.0.0 ∷ more)) xs g.2 in
             let fit2 : length g.0.1 ≤ k.length = omega (arith, some g.0.0 (after_optional_comma s) g.0.1 one) in
-            subst (λ (z : List A). AreToEnd z s) (some_is (g.0.0 ∷ b.0) xs b.2) (after_optional_comma s, g.0.1, comma, one, parts_sound n g.0.1 b.0 fit2 b.1))
+            subst (λ (z : List A). AreToEnd z s) (same_Some (g.0.0 ∷ b.0) xs b.2) (after_optional_comma s, g.0.1, comma, one, parts_sound n g.0.1 b.0 fit2 b.1))
         | inr g ↦ nothing_is s xs g.1
       ]
 
       pub to_end_sound : (x : A) (s : List ℕ) (ys : List A) → length s ≤ k.length → up_to_end next x s ≡ Some ys → (xs : List A) × (ys ≡ x ∷ xs) × AreToEnd xs s
       to_end_sound x s ys fit e =
           let b = bind_some (parts_to_end next (length s) s) (λ more. Some (x ∷ more)) ys e in
-          (b.0, sym (some_is (x ∷ b.0) ys b.2), parts_sound (length s) s b.0 fit b.1)
+          (b.0, sym (same_Some (x ∷ b.0) ys b.2), parts_sound (length s) s b.0 fit b.1)
 
     -- ---- what is so is read
 

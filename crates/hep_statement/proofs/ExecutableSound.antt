@@ -11,7 +11,7 @@ use Rattle.hep_expression.specs.Characters.{ReadsOccurrence, IsDigits}
 use Rattle.hep_expression.specs.Expression.{ReadsExpression, Reads, equivalence}
 use Rattle.hep_expression.specs.Reading.{◌>>=◌, if_some, all_read, after, after_text, occurrence_at, plain_occurrence_at}
 use Rattle.hep_expression.specs.ReadingExpression.{expression_at, whole_expression}
-use Rattle.hep_expression.proofs.Leaves.{bind_some, either_some, some_is, after_is, text_is, is_place, is_plain_place, place_fits, fits}
+use Rattle.hep_expression.proofs.Leaves.{bind_some, either_some, after_is, text_is, is_place, is_plain_place, place_fits, fits}
 use Rattle.hep_expression.proofs.Sound.{expression_at_sound, is_expression}
 use Rattle.hep_statement.specs.Lists.{AreAfter, AreListed}
 use Rattle.hep_statement.specs.Target.{ReadsTarget}
@@ -27,7 +27,9 @@ use Rattle.hep_statement.specs.ReadingExecutable.{print, assignment, computed_go
 use Rattle.hep_statement.proofs.Lists.{enclosed_shortens, listed_sound, enclosed_sound, arguments_sound}
 use Rattle.hep_statement.proofs.Targets.{expression_part_shortens, expression_part_sound, target_shortens, target_sound}
 use Rattle.hep_statement.proofs.Items.{item_shortens, item_sound}
-use Rattle.hep_statement.proofs.Parts.{all_is, whole_is, comma_is, comma_shortens, few_are, label_is, label_shortens, label_sound, constant_is}
+use Rattle.hep_statement.proofs.Parts.{all_is, whole_is, comma_is, few_are, label_is, label_shortens, label_sound, constant_is}
+use Rattle.hep_statement.proofs.Ends.{comma_shortens}
+use Rattle.std.proofs.lemmas.Option.{same_Some}
 
 module _ (k : Context) where
   -- ---- PRINT
@@ -61,7 +63,7 @@ module _ (k : Context) where
       let is = after_is 61 b.0.1 c.0 c.1 in
       let fit' : length c.0 ≤ k.length = omega (arith, ap length is, target_shortens k b.0.0 s b.0.1 at) in
       let at' : ReadsTarget k b.0.0 s (61 ∷ c.0) = subst (λ (r : List ℕ). ReadsTarget k b.0.0 s r) is at in
-      subst (λ (g : Form). IsOfAssignment k g s) (some_is (Assign b.0.0 d.0) f d.2) (c.0, at', is_expression k c.0 d.0 fit' d.1)
+      subst (λ (g : Form). IsOfAssignment k g s) (same_Some (Assign b.0.0 d.0) f d.2) (c.0, at', is_expression k c.0 d.0 fit' d.1)
 
   -- ---- GO TO
 
@@ -73,7 +75,7 @@ module _ (k : Context) where
       let c = bind_some (whole_expression k q) (λ t. Some (ComputedGoTo b.0.0 t)) f b.2 in
       let labels = enclosed_sound ReadsLabel label_shortens k (label_part k) (label_sound k) m b.0 fit b.1 in
       let fit' : length q ≤ k.length = omega (arith, enclosed_shortens ReadsLabel label_shortens b.0.0 m b.0.1 labels, comma_shortens b.0.1 q (comma_is b.0.1)) in
-      subst (λ (g : Form). IsWorded k g s) (some_is (ComputedGoTo b.0.0 c.0) f c.2) (m, b.0.1, q, is, labels, comma_is b.0.1, is_expression k q c.0 fit' c.1)
+      subst (λ (g : Form). IsWorded k g s) (same_Some (ComputedGoTo b.0.0 c.0) f c.2) (m, b.0.1, q, is, labels, comma_is b.0.1, is_expression k q c.0 fit' c.1)
 
   pub go_to_is : (s m : List ℕ) (f : Form) → length m ≤ k.length → s ≡ codes "GOTO" ++ m → go_to k m ≡ Some f → IsWorded k f s
   unfolding go_to
@@ -113,7 +115,7 @@ module _ (k : Context) where
       let c = bind_some (after 41 b.0.1) (λ r. Some (b.0.0, r)) x b.2 in
       let one = expression_at_sound k s b.0.1 b.0.0 fit b.1 in
       let two = subst (λ (r : List ℕ). Reads k b.0.0 equivalence s r) (after_is 41 b.0.1 c.0 c.1) one in
-      subst (λ (y : Tree × List ℕ). Reads k y.0 equivalence s (41 ∷ y.1)) (some_is (b.0.0, c.0) x c.2) two
+      subst (λ (y : Tree × List ℕ). Reads k y.0 equivalence s (41 ∷ y.1)) (same_Some (b.0.0, c.0) x c.2) two
 
   pub if_condition_is : (s : List ℕ) (x : Tree × List ℕ) → length s ≤ k.length → if_condition_at k s ≡ Some x → (m : List ℕ) × (s ≡ codes "IF(" ++ m) × Reads k x.0 equivalence m (41 ∷ x.1)
   if_condition_is s x fit e =
@@ -128,7 +130,7 @@ module _ (k : Context) where
       let c = bind_some (sign_labels b.0.1) (λ y. Some (ArithmeticIf b.0.0 y)) f b.2 in
       let i = if_condition_is s b.0 fit b.1 in
       let l = sign_labels_are b.0.1 c.0 c.1 in
-      subst (λ (g : Form). IsOfSignIf k g s) (some_is (ArithmeticIf b.0.0 c.0) f c.2) (i.0, b.0.1, l.0, l.1, i.1, i.2, l.2, l.3, l.4)
+      subst (λ (g : Form). IsOfSignIf k g s) (same_Some (ArithmeticIf b.0.0 c.0) f c.2) (i.0, b.0.1, l.0, l.1, i.1, i.2, l.2, l.3, l.4)
 
   then_is : (x : Tree × List ℕ) (t : Tree) → before_then x ≡ Some t → (x.1 ≡ codes "THEN") × (x.0 ≡ t)
   then_is x t e =
@@ -148,14 +150,14 @@ module _ (k : Context) where
       let b = bind_some (if_condition_at k s) (λ x. before_then x >>= λ t. Some (IfThen t)) f e in
       let c = bind_some (before_then b.0) (λ t. Some (IfThen t)) f b.2 in
       let i = if_condition_is s b.0 fit b.1 in
-      subst (λ (g : Form). IsOfBlockIf k g s) (some_is (IfThen c.0) f c.2) (i.0, i.1, with_then b.0 c.0 i.0 c.1 i.2)
+      subst (λ (g : Form). IsOfBlockIf k g s) (same_Some (IfThen c.0) f c.2) (i.0, i.1, with_then b.0 c.0 i.0 c.1 i.2)
 
   pub else_if_is : (s m : List ℕ) (f : Form) → length m ≤ k.length → s ≡ codes "ELSEIF(" ++ m → else_if k m ≡ Some f → IsWorded k f s
   unfolding else_if
   else_if_is s m f fit is e =
       let b = bind_some (condition_at k m) (λ x. before_then x >>= λ t. Some (ElseIf t)) f e in
       let c = bind_some (before_then b.0) (λ t. Some (ElseIf t)) f b.2 in
-      subst (λ (g : Form). IsWorded k g s) (some_is (ElseIf c.0) f c.2) (m, is, with_then b.0 c.0 m c.1 (condition_is m b.0 fit b.1))
+      subst (λ (g : Form). IsWorded k g s) (same_Some (ElseIf c.0) f c.2) (m, is, with_then b.0 c.0 m c.1 (condition_is m b.0 fit b.1))
 
   -- ---- DO
 
@@ -170,7 +172,7 @@ module _ (k : Context) where
             let is = after_is 44 b.0.1 g.0 g.1 in
             let fit' : length g.0 ≤ k.length = omega (arith, ap length is, fits k b.0.0 equivalence s b.0.1 one) in
             let limit = subst (λ (r : List ℕ). Reads k b.0.0 equivalence s r) is one in
-            subst (λ (z : Tree × Option Tree). AreLimits k z.0 z.1 s) (some_is (b.0.0, Some c.0) y c.2) (g.0, limit, is_expression k g.0 c.0 fit' c.1))
+            subst (λ (z : Tree × Option Tree). AreLimits k z.0 z.1 s) (same_Some (b.0.0, Some c.0) y c.2) (g.0, limit, is_expression k g.0 c.0 fit' c.1))
         | inr g ↦ (
             let a = all_is (b.0.0, None) b.0.1 y g.1 in
             let limit = subst (λ (r : List ℕ). Reads k b.0.0 equivalence s r) a.0 one in
@@ -202,7 +204,7 @@ module _ (k : Context) where
       let fit_l : length l ≤ k.length = omega (arith, fits k a.0 equivalence q a.1 initial, ap length is_l) in
       let at = subst (λ (r : List ℕ). ReadsOccurrence k v.0 p r) is_q variable in
       let first = subst (λ (r : List ℕ). Reads k a.0 equivalence q r) is_l initial in
-      subst (λ (y : Form). IsWorded k y s) (some_is (Do (record { terminal = x.0; variable = v.0; initial = a.0; limit = i.0.0; increment = i.0.1 })) f i.2)
+      subst (λ (y : Form). IsWorded k y s) (same_Some (Do (record { terminal = x.0; variable = v.0; initial = a.0; limit = i.0.0; increment = i.0.1 })) f i.2)
       (m, x.1, p, q, l, is, label, comma_is x.1, at, first, limits_are l i.0 fit_l i.1)
 
   -- ---- CALL, CREATE and PURGE
@@ -215,7 +217,7 @@ module _ (k : Context) where
       let at = is_plain_place k m b.0 fit b.1 in
       let fit' : length b.0.1 ≤ k.length = omega (arith, place_fits k b.0.0 m b.0.1 at.1) in
       let actuals = arguments_sound (ReadsExpression k) (expression_part_shortens k) k (expression_part k) (expression_part_sound k) b.0.1 c.0 fit' c.1 in
-      subst (λ (g : Form). IsWorded k g s) (some_is (Call b.0.0 c.0) f c.2) (m, b.0.1, is, at, actuals)
+      subst (λ (g : Form). IsWorded k g s) (same_Some (Call b.0.0 c.0) f c.2) (m, b.0.1, is, at, actuals)
 
   pub create_is : (s m : List ℕ) (f : Form) → length m ≤ k.length → s ≡ codes "CREATE" ++ m → create k m ≡ Some f → IsWorded k f s
   unfolding create
@@ -225,7 +227,7 @@ module _ (k : Context) where
       let at = is_plain_place k m b.0 fit b.1 in
       let fit' : length b.0.1 ≤ k.length = omega (arith, place_fits k b.0.0 m b.0.1 at.1) in
       let actuals = arguments_sound (ReadsExpression k) (expression_part_shortens k) k (expression_part k) (expression_part_sound k) b.0.1 c.0 fit' c.1 in
-      subst (λ (g : Form). IsWorded k g s) (some_is (Create b.0.0 c.0) f c.2) (m, b.0.1, is, at, actuals)
+      subst (λ (g : Form). IsWorded k g s) (same_Some (Create b.0.0 c.0) f c.2) (m, b.0.1, is, at, actuals)
 
   pub purge_is : (s m : List ℕ) (f : Form) → length m ≤ k.length → s ≡ codes "PURGE" ++ m → purge k m ≡ Some f → IsWorded k f s
   unfolding purge
@@ -261,7 +263,7 @@ module _ (k : Context) where
 
   stop_text_is : (m : List ℕ) (f : Form) → stop m ≡ Some f → IsStop f m
   unfolding stop
-  stop_text_is [] f e = (some_is Stop f e, inl refl)
+  stop_text_is [] f e = (same_Some Stop f e, inl refl)
   stop_text_is (c ∷ m) f e = some_is_stop (c ∷ m) f e
 
   pub stop_is : (s m : List ℕ) (f : Form) → s ≡ codes "STOP" ++ m → stop m ≡ Some f → IsWorded k f s

@@ -12,7 +12,7 @@ use Rattle.hep_expression.specs.declared.characters.Sizes.{Sizes}
 use Rattle.hep_expression.specs.declared.characters.Context.{Context}
 use Rattle.hep_expression.specs.Expression.{Reads, equivalence}
 use Rattle.hep_expression.specs.Reading.{◌>>=◌, all_read}
-use Rattle.hep_expression.proofs.Leaves.{bind_some, some_is, none_is, chosen, AllOf, one_is, shorter, fits}
+use Rattle.hep_expression.proofs.Leaves.{bind_some, chosen, AllOf, one_is, shorter, fits}
 use Rattle.hep_statement.specs.declared.rule.Rule.{Rule}
 use Rattle.hep_statement.specs.declared.rule.Rule.TheVariants.{Assignment, BlockIf, SignIf, LogicalIf, Unclosed, Worded}
 use Rattle.hep_statement.specs.declared.keyword.Keyword.{Keyword}
@@ -26,6 +26,7 @@ use Rattle.hep_statement.proofs.Parts.{all_is}
 use Rattle.hep_statement.proofs.ExecutableSound.{print_is, assignment_is, go_to_is, if_condition_is, arithmetic_if_is, if_then_is, else_if_is, do_is, call_is, create_is, purge_is, stop_is}
 use Rattle.hep_statement.proofs.ExecutableComplete.{print_read, assignment_read, go_to_read, computed_go_to_read, if_condition_read, arithmetic_if_read, if_then_read, else_if_read, do_read, call_read, create_read, purge_read, stop_read}
 use Rattle.hep_statement.proofs.Declarations.{declaration_is, declarations_read}
+use Rattle.std.proofs.lemmas.Option.{same_Some, none-some}
 
 module _ (k : Context) where
   -- ---- forms that begin with their words
@@ -77,20 +78,20 @@ module _ (k : Context) where
   form_by_is Assignment s f fit e = assignment_is k s f fit e
   form_by_is BlockIf s f fit e = if_then_is k s f fit e
   form_by_is SignIf s f fit e = arithmetic_if_is k s f fit e
-  form_by_is LogicalIf s f fit e = absurd (none_is f e)
-  form_by_is Unclosed s f fit e = absurd (none_is f e)
+  form_by_is LogicalIf s f fit e = absurd (none-some f e)
+  form_by_is Unclosed s f fit e = absurd (none-some f e)
   form_by_is Worded s f fit e = worded_is s f fit e
 
   -- ---- logical IFs
 
   closed_is : (o : Option (List ℕ)) (y x : Tree × List ℕ) → closed_there o y ≡ Some x → (o ≡ Some x.1) × (y ≡ x)
-  closed_is None y x e = absurd (none_is x e)
+  closed_is None y x e = absurd (none-some x e)
   closed_is (Some r) y x e = elim (chosen (pointwise nat_eq y.1 r) (Some y) None (Some x) e) [
     | inl h ↦ (
         let same : y.1 ≡ r = same_text y.1 r (sym h.0) in
-        let is = some_is y x h.1 in
+        let is = same_Some y x h.1 in
         (ap (λ (m : List ℕ). Some m) (sym same) ∙ ap (λ (z : Tree × List ℕ). Some z.1) is, is))
-    | inr h ↦ absurd (none_is x h.1)
+    | inr h ↦ absurd (none-some x h.1)
   ]
 
   pub logical_if_is : (s : List ℕ) (x : Tree × List ℕ) → length s ≤ k.length → logical_if k s ≡ Some x → IsLogicalIf k x.0 s x.1
@@ -107,11 +108,11 @@ module _ (k : Context) where
 
       go : (rule : Rule) → rule_of s ≡ rule → held_by k rule s ≡ Some x → IsLogicalIf k x.0 s x.1
       go LogicalIf is e = held is e
-      go Assignment is e = absurd (none_is x e)
-      go BlockIf is e = absurd (none_is x e)
-      go SignIf is e = absurd (none_is x e)
-      go Unclosed is e = absurd (none_is x e)
-      go Worded is e = absurd (none_is x e)
+      go Assignment is e = absurd (none-some x e)
+      go BlockIf is e = absurd (none-some x e)
+      go SignIf is e = absurd (none-some x e)
+      go Unclosed is e = absurd (none-some x e)
+      go Worded is e = absurd (none-some x e)
 
   logical_if_shortens : (t : Tree) (s r : List ℕ) → IsLogicalIf k t s r → 1 + length r ≤ length s
   logical_if_shortens t s r h = omega (arith, ap length h.1, fits k t equivalence h.0 (41 ∷ r) h.4)
@@ -170,8 +171,8 @@ form_is z s x e =
     let b = bind_some (form_by k (rule_of y.1) y.1) (λ f. if may_stand y.0 f then Some (y.0, f) else None) x e in
     let fit : length y.1 ≤ k.length = conditions_fit k (length s) s (omega arith) in
     elim (chosen (may_stand y.0 b.0) (Some (y.0, b.0)) None (Some x) b.2) [
-      | inl h ↦ subst (λ (v : List Tree × Form). IsForm z s v.0 v.1) (some_is (y.0, b.0) x h.1) (says k (length s) s b.0 (omega arith) (form_by_is k (rule_of y.1) y.1 b.0 fit b.1) h.0)
-      | inr h ↦ absurd (none_is x h.1)
+      | inl h ↦ subst (λ (v : List Tree × Form). IsForm z s v.0 v.1) (same_Some (y.0, b.0) x h.1) (says k (length s) s b.0 (omega arith) (form_by_is k (rule_of y.1) y.1 b.0 fit b.1) h.0)
+      | inr h ↦ absurd (none-some x h.1)
     ]
 
 module _ (k : Context) where

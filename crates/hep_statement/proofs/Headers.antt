@@ -15,7 +15,7 @@ use Rattle.hep_expression.specs.Characters.{is_letter, is_letter_or_digit, Reads
 use Rattle.hep_expression.specs.Expression as levels
 use Rattle.hep_expression.specs.Reading.{◌>>=◌, if_some, all_read, begins, after, plain_occurrence_at}
 use Rattle.hep_expression.specs.ReadingExpression.{expression_at}
-use Rattle.hep_expression.proofs.Leaves.{bind_some, either_some, some_is, none_is, chosen, le_of, le_test, after_is, one_is, shorter, place_fits, is_place, is_plain_place, fits}
+use Rattle.hep_expression.proofs.Leaves.{bind_some, either_some, chosen, after_is, one_is, shorter, place_fits, is_place, is_plain_place, fits}
 use Rattle.hep_expression.proofs.Sound.{expression_at_sound}
 use Rattle.hep_expression.proofs.Complete.{place_read, plain_place_read, AfterExpression, after_comma, after_parenthesis, expression_read}
 use Rattle.hep_statement.specs.Lists.{AreListed, AreEnclosed, AreArguments}
@@ -24,12 +24,14 @@ use Rattle.hep_statement.specs.Declaration.{type_spelling, ReadsLetters, ReadsIm
 use Rattle.hep_statement.specs.ReadingDeclaration.{program_header, dummy_at, subroutine_header, letter_at, letter_range_at, letter_range_part, value_type_at, implicit_group_at, implicit, named_constant_at, parameter}
 use Rattle.hep_statement.proofs.Lists.{IsSound, Shortens, IsComplete, enclosed_shortens, listed_sound, enclosed_sound, arguments_sound, listed_complete, enclosed_complete, arguments_complete}
 use Rattle.hep_statement.proofs.Targets.{begins_name, place_begins}
+use Rattle.std.proofs.lemmas.Option.{same_Some, none-some}
+use Rattle.std.proofs.lemmas.Bool.{leb-true, le-leb}
 
 -- ---- whole texts
 
 pub all_read_is : {A : Type 0} (x y : A) (r : List ℕ) → all_read x r ≡ Some y → (r ≡ []) × (x ≡ y)
-all_read_is x y [] e = (refl, some_is x y e)
-all_read_is x y (c ∷ r) e = absurd (none_is y e)
+all_read_is x y [] e = (refl, same_Some x y e)
+all_read_is x y (c ∷ r) e = absurd (none-some y e)
 
 pub whole_is : {A B : Type 0} (f : A → B) (read : Option (A × List ℕ)) (y : B) → whole f read ≡ Some y → (x : A) × (read ≡ Some (x, [])) × (y ≡ f x)
 whole_is {A} f read y e =
@@ -40,7 +42,7 @@ whole_is {A} f read y e =
 
 -- what holds of what a reader made holds of what it answered
 pub carried : {A : Type 0} (P : A → Type 0) (a x : A) → Some a ≡ Some x → P a → P x
-carried P a x e h = subst P (some_is a x e) h
+carried P a x e h = subst P (same_Some a x e) h
 
 -- ---- the header of a main program
 
@@ -83,7 +85,7 @@ subroutine_header_is k m f fit e =
     let c = bind_some (arguments (dummy_at k) b.0.1) (λ ds. Some (form.Subroutine b.0.0 ds)) f b.2 in
     let one = is_plain_place k m b.0 fit b.1 in
     let fit' : length b.0.1 ≤ k.length = omega (arith, place_fits k b.0.0 m b.0.1 one.1) in
-    (b.0.0, c.0, b.0.1, sym (some_is (form.Subroutine b.0.0 c.0) f c.2), one, arguments_sound (ReadsOccurrence k) (dummy_shortens k) k (dummy_at k) (dummy_sound k) b.0.1 c.0 fit' c.1)
+    (b.0.0, c.0, b.0.1, sym (same_Some (form.Subroutine b.0.0 c.0) f c.2), one, arguments_sound (ReadsOccurrence k) (dummy_shortens k) k (dummy_at k) (dummy_sound k) b.0.1 c.0 fit' c.1)
 
 pub subroutine_header_read : (k : Context) (p : Occurrence) (ds : List Occurrence) (m n : List ℕ) → ReadsPlainOccurrence k p m n → AreArguments (ReadsOccurrence k) ds n → subroutine_header k m ≡ Some (form.Subroutine p ds)
 unfolding subroutine_header
@@ -95,10 +97,10 @@ subroutine_header_read k p ds m n h g =
 -- ---- IMPLICIT
 
 letter_is : (s : List ℕ) (x : ℕ × List ℕ) → letter_at s ≡ Some x → (s ≡ x.0 ∷ x.1) × (is_letter x.0 ≡ true)
-letter_is [] x e = absurd (none_is x e)
+letter_is [] x e = absurd (none-some x e)
 letter_is (c ∷ s) x e = elim (chosen (is_letter c) (Some (c, s)) None (Some x) e) [
   | inl h ↦ carried (λ (y : ℕ × List ℕ). (c ∷ s ≡ y.0 ∷ y.1) × (is_letter y.0 ≡ true)) (c, s) x h.1 (refl, h.0)
-  | inr h ↦ absurd (none_is x h.1)
+  | inr h ↦ absurd (none-some x h.1)
 ]
 
 letters_shorten : Shortens ReadsLetters
@@ -114,8 +116,8 @@ letters_sound k s x fit e =
           let u = letter_is g.0 c.0 c.1 in
           let is : s ≡ b.0.0 ∷ 45 ∷ c.0.0 ∷ c.0.1 = l.0 ∙ ap (λ (m : List ℕ). b.0.0 ∷ m) (after_is 45 b.0.1 g.0 g.1 ∙ ap (λ (m : List ℕ). 45 ∷ m) u.0) in
           elim (chosen (nat_le b.0.0 c.0.0) (Some (record { first = b.0.0; last = c.0.0 }, c.0.1)) None (Some x) c.2) [
-            | inl d ↦ carried (λ (y : LetterRange × List ℕ). ReadsLetters y.0 s y.1) (record { first = b.0.0; last = c.0.0 }, c.0.1) x d.1 (l.1, u.1, le_of b.0.0 c.0.0 d.0, inr is)
-            | inr d ↦ absurd (none_is x d.1)
+            | inl d ↦ carried (λ (y : LetterRange × List ℕ). ReadsLetters y.0 s y.1) (record { first = b.0.0; last = c.0.0 }, c.0.1) x d.1 (l.1, u.1, leb-true b.0.0 c.0.0 d.0, inr is)
+            | inr d ↦ absurd (none-some x d.1)
           ])
       | inr g ↦ carried (λ (y : LetterRange × List ℕ). ReadsLetters y.0 s y.1) (record { first = b.0.0; last = b.0.0 }, b.0.1) x g.1 (l.1, l.1, omega arith, inl (refl, l.0))
     ]
@@ -129,7 +131,7 @@ letters_complete k x s r h f = elim h.3 [
   | inl g ↦ (
       let one : letter_range_at s ≡ Some (record { first = x.first; last = x.first }, r) = rw (g.1, h.0, f) refl in
       one ∙ ap (λ (c : ℕ). Some (record { first = x.first; last = c }, r)) g.0)
-  | inr g ↦ rw (g, h.0, h.1, le_test x.first x.last h.2) refl
+  | inr g ↦ rw (g, h.0, h.1, le-leb x.first x.last h.2) refl
 ]
 
 implicit_group_shortens : Shortens ReadsImplicit

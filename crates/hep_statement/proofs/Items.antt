@@ -6,7 +6,7 @@ use Rattle.hep_expression.specs.declared.characters.Context.{Context}
 use Rattle.hep_expression.specs.Expression.{equivalence}
 use Rattle.hep_expression.specs.Reading.{◌>>=◌, after}
 use Rattle.hep_expression.specs.ReadingExpression.{expression_at}
-use Rattle.hep_expression.proofs.Leaves.{bind_some, either_some, some_is, after_is, fits}
+use Rattle.hep_expression.proofs.Leaves.{bind_some, either_some, after_is, fits}
 use Rattle.hep_expression.proofs.Sound.{expression_at_sound}
 use Rattle.hep_expression.proofs.Complete.{AfterExpression, expression_read}
 use Rattle.hep_statement.specs.Constant.{quoted, ReadsItem}
@@ -14,6 +14,7 @@ use Rattle.hep_statement.specs.ReadingConstant.{constant_after, item_at}
 use Rattle.hep_statement.proofs.Lists.{IsSound, Shortens, IsComplete}
 use Rattle.hep_statement.proofs.Targets.{expression_begins_not}
 use Rattle.hep_statement.proofs.Parts.{constant_is, constant_read}
+use Rattle.std.proofs.lemmas.Option.{same_Some}
 
 -- what may follow an item
 abbrev pub AfterItem : List ℕ → Type 0
@@ -31,10 +32,10 @@ module _ (k : Context) where
         | inl g ↦ (
             let b = bind_some (constant_after g.0) (λ y. Some (Characters y.0, y.1)) x g.2 in
             let c = constant_is g.0 b.0 b.1 in
-            subst (λ (y : PrintItem × List ℕ). ReadsItem k y.0 s y.1) (some_is (Characters b.0.0, b.0.1) x b.2) (c.0, after_is 39 s g.0 g.1 ∙ ap (λ (l : List ℕ). 39 ∷ l) c.1))
+            subst (λ (y : PrintItem × List ℕ). ReadsItem k y.0 s y.1) (same_Some (Characters b.0.0, b.0.1) x b.2) (c.0, after_is 39 s g.0 g.1 ∙ ap (λ (l : List ℕ). 39 ∷ l) c.1))
         | inr g ↦ (
             let b = bind_some (expression_at k s) (λ y. Some (Expression y.0, y.1)) x g.1 in
-            subst (λ (y : PrintItem × List ℕ). ReadsItem k y.0 s y.1) (some_is (Expression b.0.0, b.0.1) x b.2) (expression_at_sound k s b.0.1 b.0.0 fit b.1))
+            subst (λ (y : PrintItem × List ℕ). ReadsItem k y.0 s y.1) (same_Some (Expression b.0.0, b.0.1) x b.2) (expression_at_sound k s b.0.1 b.0.0 fit b.1))
       ]
 
   pub item_complete : IsComplete (ReadsItem k) (item_at k) AfterItem

@@ -2,9 +2,10 @@
 use Rattle.std.proofs.Common.{◌≡◌, inl, inr, ℕ, zero, suc, ◌+◌, ◌≤◌, List, [], ◌∷◌, length, Option, Some, None, refl, sym, ap, subst, ◌∙◌, arith}
 use Rattle.hep_expression.specs.declared.characters.Context.{Context}
 use Rattle.hep_expression.specs.Reading.{Reader, ◌>>=◌, all_read, after}
-use Rattle.hep_expression.proofs.Leaves.{bind_some, either_some, some_is, none_is, after_is}
+use Rattle.hep_expression.proofs.Leaves.{bind_some, either_some, after_is}
 use Rattle.hep_statement.specs.Lists.{AreAfter, AreListed, AreEnclosed, AreOptional, AreArguments}
 use Rattle.hep_statement.specs.ReadingLists.{part_after_comma, with_part, parts_after, listed, closed, enclosed, optional, whole, arguments_within, arguments}
+use Rattle.std.proofs.lemmas.Option.{same_Some, none-some}
 
 module _ {A : Type 0} where
   -- what a reader reads of the rest of a statement's text is so
@@ -41,7 +42,7 @@ module _ {A : Type 0} where
     module _ (k : Context) (next : Reader A) (sound : IsSound k P next) where
       after_sound : (n : ℕ) (s : List ℕ) (y : List A × List ℕ) → length s ≤ k.length → parts_after next n s ≡ Some y → AreAfter P y.0 s y.1
       unfolding parts_after
-      after_sound zero s y fit e = subst (λ (z : List A × List ℕ). AreAfter P z.0 s z.1) (some_is ([], s) y e) refl
+      after_sound zero s y fit e = subst (λ (z : List A × List ℕ). AreAfter P z.0 s z.1) (same_Some ([], s) y e) refl
       after_sound (suc n) s y fit e = elim (either_some (part_after_comma next s) (λ x. with_part x.0 (parts_after next n x.1)) (Some ([], s)) y e) [
         | inl g ↦ (
             let x = g.0 in
@@ -51,8 +52,8 @@ module _ {A : Type 0} where
             let one = sound b.0 x fit' b.2 in
             let c = bind_some (parts_after next n x.1) (λ z. Some (x.0 ∷ z.0, z.1)) y g.2 in
             let fit2 : length x.1 ≤ k.length = omega (arith, shorter x.0 b.0 x.1 one) in
-            subst (λ (z : List A × List ℕ). AreAfter P z.0 s z.1) (some_is (x.0 ∷ c.0.0, c.0.1) y c.2) (b.0, x.1, is, one, after_sound n x.1 c.0 fit2 c.1))
-        | inr g ↦ subst (λ (z : List A × List ℕ). AreAfter P z.0 s z.1) (some_is ([], s) y g.1) refl
+            subst (λ (z : List A × List ℕ). AreAfter P z.0 s z.1) (same_Some (x.0 ∷ c.0.0, c.0.1) y c.2) (b.0, x.1, is, one, after_sound n x.1 c.0 fit2 c.1))
+        | inr g ↦ subst (λ (z : List A × List ℕ). AreAfter P z.0 s z.1) (same_Some ([], s) y g.1) refl
       ]
 
       pub listed_sound : (s : List ℕ) (y : List A × List ℕ) → length s ≤ k.length → listed next s ≡ Some y → AreListed P y.0 s y.1
@@ -63,7 +64,7 @@ module _ {A : Type 0} where
           let one = sound s x fit b.1 in
           let c = bind_some (parts_after next (length s) x.1) (λ z. Some (x.0 ∷ z.0, z.1)) y b.2 in
           let fit2 : length x.1 ≤ k.length = omega (arith, shorter x.0 s x.1 one) in
-          subst (λ (z : List A × List ℕ). AreListed P z.0 s z.1) (some_is (x.0 ∷ c.0.0, c.0.1) y c.2) (x.1, one, after_sound (length s) x.1 c.0 fit2 c.1)
+          subst (λ (z : List A × List ℕ). AreListed P z.0 s z.1) (same_Some (x.0 ∷ c.0.0, c.0.1) y c.2) (x.1, one, after_sound (length s) x.1 c.0 fit2 c.1)
 
       pub closed_sound : (s : List ℕ) (y : List A × List ℕ) → length s ≤ k.length → closed next s ≡ Some y → AreListed P y.0 s (41 ∷ y.1)
       unfolding closed
@@ -71,7 +72,7 @@ module _ {A : Type 0} where
           let b = bind_some (listed next s) (λ x. after 41 x.1 >>= λ r. Some (x.0, r)) y e in
           let c = bind_some (after 41 b.0.1) (λ r. Some (b.0.0, r)) y b.2 in
           let one = subst (λ (m : List ℕ). AreListed P b.0.0 s m) (after_is 41 b.0.1 c.0 c.1) (listed_sound s b.0 fit b.1) in
-          subst (λ (z : List A × List ℕ). AreListed P z.0 s (41 ∷ z.1)) (some_is (b.0.0, c.0) y c.2) one
+          subst (λ (z : List A × List ℕ). AreListed P z.0 s (41 ∷ z.1)) (same_Some (b.0.0, c.0) y c.2) one
 
       pub enclosed_sound : (s : List ℕ) (y : List A × List ℕ) → length s ≤ k.length → enclosed next s ≡ Some y → AreEnclosed P y.0 s y.1
       unfolding enclosed
@@ -89,22 +90,22 @@ module _ {A : Type 0} where
       optional_sound s y fit e = go (after 40 s) refl e
         where
           go : (o : Option (List ℕ)) → after 40 s ≡ o → (elim o [ None ↦ Some ([], s) | Some m ↦ closed next m ]) ≡ Some y → AreOptional P y.0 s y.1
-          go None q e = subst (λ (z : List A × List ℕ). AreOptional P z.0 s z.1) (some_is ([], s) y e) refl
+          go None q e = subst (λ (z : List A × List ℕ). AreOptional P z.0 s z.1) (same_Some ([], s) y e) refl
           go (Some m) q e =
               let is = after_is 40 s m q in
               some_enclosed y.0 s y.1 (m, is, closed_sound m y (omega (arith, ap length is)) e)
 
       whole_is : (xs : List A) (r : List ℕ) (ys : List A) (s : List ℕ) → all_read xs r ≡ Some ys → AreListed P xs s (41 ∷ r) → AreListed P ys s (41 ∷ [])
-      whole_is xs [] ys s e h = subst (λ (z : List A). AreListed P z s (41 ∷ [])) (some_is xs ys e) h
-      whole_is xs (c ∷ r) ys s e h = absurd (none_is ys e)
+      whole_is xs [] ys s e h = subst (λ (z : List A). AreListed P z s (41 ∷ [])) (same_Some xs ys e) h
+      whole_is xs (c ∷ r) ys s e h = absurd (none-some ys e)
 
       empty_is : (r : List ℕ) (ys : List A) (s : List ℕ) → all_read [] r ≡ Some ys → s ≡ 40 ∷ 41 ∷ r → AreArguments P ys s
-      empty_is [] ys s e is = subst (λ (z : List A). AreArguments P z s) (some_is [] ys e) (inr is)
-      empty_is (c ∷ r) ys s e is = absurd (none_is ys e)
+      empty_is [] ys s e is = subst (λ (z : List A). AreArguments P z s) (same_Some [] ys e) (inr is)
+      empty_is (c ∷ r) ys s e is = absurd (none-some ys e)
 
       missing_is : (s : List ℕ) (ys : List A) → all_read [] s ≡ Some ys → AreArguments P ys s
-      missing_is [] ys e = subst (λ (z : List A). AreArguments P z []) (some_is [] ys e) (inl refl)
-      missing_is (c ∷ s) ys e = absurd (none_is ys e)
+      missing_is [] ys e = subst (λ (z : List A). AreArguments P z []) (same_Some [] ys e) (inl refl)
+      missing_is (c ∷ s) ys e = absurd (none-some ys e)
 
       some_arguments : (xs : List A) (s : List ℕ) → AreEnclosed P xs s [] → AreArguments P xs s
       some_arguments [] s h = absurd h.2

@@ -1,12 +1,12 @@
 -- Labels and character constants: what is read is so by the grammar, and the other way round.
 use Rattle.std.proofs.Common.{◌≡◌, ◌≢◌, inl, inr, ℕ, zero, suc, ◌<◌, ◌≤◌, Bool, true, false, List, [], ◌∷◌, ◌++◌, length, Option, Some, None, refl, sym, ap, subst, ◌∙◌, arith, length-append}
 use Rattle.std.specs.Prelude.{nat_eq, nat_le, ◌&&◌, if◌then◌else◌}
-use Rattle.std.proofs.lemmas.Bool.{eqb-true}
+use Rattle.std.proofs.lemmas.Bool.{eqb-true, and_parts, leb-true, le-leb}
 use Rattle.std.proofs.lemmas.Bool.Decides.{nat_tests}
 use Rattle.hep_expression.specs.declared.characters.Context.{Context}
 use Rattle.hep_expression.specs.Characters.{is_digit, IsDigits, number_of_digits}
 use Rattle.hep_expression.specs.Reading.{◌>>=◌, all_read, begins, front, rest_after, after}
-use Rattle.hep_expression.proofs.Leaves.{bind_some, either_some, some_is, none_is, chosen, and_parts, le_of, le_test, after_is, front_splits, front_row, digits_are}
+use Rattle.hep_expression.proofs.Leaves.{bind_some, either_some, chosen, after_is, front_splits, front_row, digits_are}
 use Rattle.hep_statement.specs.Lists.{IsOptionalComma}
 use Rattle.hep_expression.specs.Label.{ReadsLabel}
 use Rattle.hep_statement.specs.Constant.{quoted}
@@ -14,12 +14,13 @@ use Rattle.hep_statement.specs.ReadingLists.{with_part, whole, after_optional_co
 use Rattle.hep_expression.specs.ReadingLabel.{few_digits_at, not_zero, label_at, label_part}
 use Rattle.hep_statement.specs.ReadingConstant.{character_at, characters, some_characters, constant_after}
 use Rattle.hep_statement.proofs.Lists.{IsSound, Shortens, IsComplete}
+use Rattle.std.proofs.lemmas.Option.{same_Some, none-some}
 
 -- ---- the end of a text, and a comma that may be missing
 
 pub all_is : {A : Type 0} (x : A) (r : List ℕ) (y : A) → all_read x r ≡ Some y → (r ≡ []) × (x ≡ y)
-all_is x [] y e = (refl, some_is x y e)
-all_is x (c ∷ r) y e = absurd (none_is y e)
+all_is x [] y e = (refl, same_Some x y e)
+all_is x (c ∷ r) y e = absurd (none-some y e)
 
 pub whole_is : {A B : Type 0} (f : A → B) (o : Option (A × List ℕ)) (y : B) → whole f o ≡ Some y → (x : A) × (o ≡ Some (x, [])) × (f x ≡ y)
 whole_is f o y e =
@@ -34,10 +35,6 @@ comma_is s = go (after 44 s) refl
     go None e = inl refl
     go (Some m) e = inr (after_is 44 s m e)
 
-pub comma_shortens : (s r : List ℕ) → IsOptionalComma s r → length r ≤ length s
-comma_shortens s r (inl e) = omega (arith, ap length e)
-comma_shortens s r (inr e) = omega (arith, ap length e)
-
 pub comma_read : (s r : List ℕ) → IsOptionalComma s r → after 44 r ≡ None → after_optional_comma s ≡ r
 comma_read s r (inl e) none = ap after_optional_comma e ∙ ap (λ (o : Option (List ℕ)). elim o [ None ↦ r | Some m ↦ m ]) none
 comma_read s r (inr e) none = rw e refl
@@ -48,9 +45,9 @@ pub few_are : (s : List ℕ) (x : ℕ × List ℕ) → few_digits_at s ≡ Some 
 few_are s x e = elim (chosen (begins is_digit s && nat_le (length (front is_digit s)) 5) (Some (number_of_digits (front is_digit s), rest_after is_digit s)) None (Some x) e) [
   | inl h ↦ (
       let b = and_parts (begins is_digit s) (nat_le (length (front is_digit s)) 5) h.0 in
-      subst (λ (y : ℕ × List ℕ). (d : List ℕ) × IsDigits d × (length d ≤ 5) × (s ≡ d ++ y.1) × (y.0 ≡ number_of_digits d)) (some_is (number_of_digits (front is_digit s), rest_after is_digit s) x h.1)
-      (front is_digit s, digits_are s b.0, le_of (length (front is_digit s)) 5 b.1, (front_splits is_digit s).1, refl))
-  | inr h ↦ absurd (none_is x h.1)
+      subst (λ (y : ℕ × List ℕ). (d : List ℕ) × IsDigits d × (length d ≤ 5) × (s ≡ d ++ y.1) × (y.0 ≡ number_of_digits d)) (same_Some (number_of_digits (front is_digit s), rest_after is_digit s) x h.1)
+      (front is_digit s, digits_are s b.0, leb-true (length (front is_digit s)) 5 b.1, (front_splits is_digit s).1, refl))
+  | inr h ↦ absurd (none-some x h.1)
 ]
 
 -- no digit comes next
@@ -61,7 +58,7 @@ pub few_read : (d r : List ℕ) → IsDigits d → length d ≤ 5 → AfterDigit
 few_read [] r h le q = absurd h
 few_read (c ∷ d) r h le q =
     let row = front_row is_digit d r h.1 q in
-    rw (h.0, row.0, row.1, le_test (length (c ∷ d)) 5 le) refl
+    rw (h.0, row.0, row.1, le-leb (length (c ∷ d)) 5 le) refl
 
 is_not_zero : (n : ℕ) → nat_eq n 0 ≡ false → n ≢ 0
 is_not_zero n e h = grind (arith, nat_tests)
@@ -74,8 +71,8 @@ label_is s x e =
     let b = bind_some (few_digits_at s) not_zero x e in
     let f = few_are s b.0 b.1 in
     elim (chosen (nat_eq b.0.0 0) None (Some b.0) (Some x) b.2) [
-      | inl h ↦ absurd (none_is x h.1)
-      | inr h ↦ subst (λ (y : ℕ × List ℕ). ReadsLabel y.0 s y.1) (some_is b.0 x h.1) (f.0, f.1, f.2, f.3, f.4, is_not_zero b.0.0 h.0)
+      | inl h ↦ absurd (none-some x h.1)
+      | inr h ↦ subst (λ (y : ℕ × List ℕ). ReadsLabel y.0 s y.1) (same_Some b.0 x h.1) (f.0, f.1, f.2, f.3, f.4, is_not_zero b.0.0 h.0)
     ]
 
 pub label_read : (x : ℕ) (s r : List ℕ) → ReadsLabel x s r → AfterDigits r → label_at s ≡ Some (x, r)
@@ -99,32 +96,32 @@ label_complete k x s r h q = label_read x s r h q
 -- ---- character constants
 
 character_is : (s : List ℕ) (x : ℕ × List ℕ) (t r : List ℕ) → character_at s ≡ Some x → x.1 ≡ quoted t ++ 39 ∷ r → s ≡ quoted (x.0 ∷ t) ++ 39 ∷ r
-character_is [] x t r e h = absurd (none_is x e)
+character_is [] x t r e h = absurd (none-some x e)
 character_is (c ∷ s) x t r e h = elim (chosen (nat_eq c 39) (after 39 s >>= λ r. Some (39, r)) (Some (c, s)) (Some x) e) [
   | inl g ↦ (
       let b = bind_some (after 39 s) (λ r. Some (39, r)) x g.1 in
-      let is_x : (39, b.0) ≡ x = some_is (39, b.0) x b.2 in
+      let is_x : (39, b.0) ≡ x = same_Some (39, b.0) x b.2 in
       let rest : b.0 ≡ quoted t ++ 39 ∷ r = ap (λ (y : ℕ × List ℕ). y.1) is_x ∙ h in
       let is_c : c ≡ 39 = eqb-true c 39 g.0 in
       let is_s : s ≡ 39 ∷ (quoted t ++ 39 ∷ r) = after_is 39 s b.0 b.1 ∙ ap (λ (l : List ℕ). 39 ∷ l) rest in
       subst (λ (y : ℕ × List ℕ). c ∷ s ≡ quoted (y.0 ∷ t) ++ 39 ∷ r) is_x (rw (is_c, is_s) refl))
   | inr g ↦ (
-      let is_x : (c, s) ≡ x = some_is (c, s) x g.1 in
+      let is_x : (c, s) ≡ x = same_Some (c, s) x g.1 in
       let is_s : s ≡ quoted t ++ 39 ∷ r = ap (λ (y : ℕ × List ℕ). y.1) is_x ∙ h in
       subst (λ (y : ℕ × List ℕ). c ∷ s ≡ quoted (y.0 ∷ t) ++ 39 ∷ r) is_x (rw (g.0, is_s) refl))
 ]
 
 characters_are : (n : ℕ) (s : List ℕ) (x : List ℕ × List ℕ) → characters n s ≡ Some x → s ≡ quoted x.0 ++ 39 ∷ x.1
 unfolding characters
-characters_are zero s x e = absurd (none_is x e)
+characters_are zero s x e = absurd (none-some x e)
 characters_are (suc n) s x e = elim (either_some (character_at s) (λ y. with_part y.0 (characters n y.1)) (after 39 s >>= λ r. Some ([], r)) x e) [
   | inl g ↦ (
       let b = bind_some (characters n g.0.1) (λ y. Some (g.0.0 ∷ y.0, y.1)) x g.2 in
       let rest = characters_are n g.0.1 b.0 b.1 in
-      subst (λ (y : List ℕ × List ℕ). s ≡ quoted y.0 ++ 39 ∷ y.1) (some_is (g.0.0 ∷ b.0.0, b.0.1) x b.2) (character_is s g.0 b.0.0 b.0.1 g.1 rest))
+      subst (λ (y : List ℕ × List ℕ). s ≡ quoted y.0 ++ 39 ∷ y.1) (same_Some (g.0.0 ∷ b.0.0, b.0.1) x b.2) (character_is s g.0 b.0.0 b.0.1 g.1 rest))
   | inr g ↦ (
       let b = bind_some (after 39 s) (λ r. Some ([], r)) x g.1 in
-      subst (λ (y : List ℕ × List ℕ). s ≡ quoted y.0 ++ 39 ∷ y.1) (some_is ([], b.0) x b.2) (after_is 39 s b.0 b.1))
+      subst (λ (y : List ℕ × List ℕ). s ≡ quoted y.0 ++ 39 ∷ y.1) (same_Some ([], b.0) x b.2) (after_is 39 s b.0 b.1))
 ]
 
 character_found : (c : ℕ) (t r : List ℕ) → character_at (quoted (c ∷ t) ++ 39 ∷ r) ≡ Some (c, quoted t ++ 39 ∷ r)
@@ -156,8 +153,8 @@ constant_is s x e =
     some b.0.0 b.0.1 (characters_are (length s) s b.0 b.1) b.2
   where
     some : (t r : List ℕ) → s ≡ quoted t ++ 39 ∷ r → some_characters (t, r) ≡ Some x → (x.0 ≢ []) × (s ≡ quoted x.0 ++ 39 ∷ x.1)
-    some [] r h e = absurd (none_is x e)
-    some (c ∷ t) r h e = subst (λ (y : List ℕ × List ℕ). (y.0 ≢ []) × (s ≡ quoted y.0 ++ 39 ∷ y.1)) (some_is (c ∷ t, r) x e) ((λ n. cc), h)
+    some [] r h e = absurd (none-some x e)
+    some (c ∷ t) r h e = subst (λ (y : List ℕ × List ℕ). (y.0 ≢ []) × (s ≡ quoted y.0 ++ 39 ∷ y.1)) (same_Some (c ∷ t, r) x e) ((λ n. cc), h)
 
 pub constant_read : (t r : List ℕ) → t ≢ [] → after 39 r ≡ None → constant_after (quoted t ++ 39 ∷ r) ≡ Some (t, r)
 unfolding constant_after

@@ -10,9 +10,9 @@ use Rattle.hep_source.specs.declared.declaration.Target.{Target}
 use Rattle.hep_expression.specs.declared.characters.Context.{Context}
 use Rattle.hep_expression.specs.Characters.{is_digit, is_letter, is_letter_or_digit, IsName, name_sign, IsDigits, ReadsOccurrence}
 use Rattle.hep_expression.specs.Expression as levels
-use Rattle.hep_expression.specs.Expression.{Reads, ReadsExpression, left, spelling, sign_spelling}
+use Rattle.hep_expression.specs.Expression.{Reads, ReadsExpression, left, spelling}
 use Rattle.hep_expression.specs.Reading.{◌>>=◌, begins, after, occurrence_at}
-use Rattle.hep_expression.proofs.Leaves.{bind_some, some_is, place_fits, is_place, fits}
+use Rattle.hep_expression.proofs.Leaves.{bind_some, place_fits, is_place, fits}
 use Rattle.hep_expression.proofs.Sound.{expression_at_sound}
 use Rattle.hep_expression.proofs.Complete.{place_read, AfterExpression, after_comma, after_parenthesis, expression_read}
 use Rattle.hep_statement.specs.Lists.{AreOptional}
@@ -20,6 +20,7 @@ use Rattle.hep_statement.specs.ReadingLists.{optional}
 use Rattle.hep_statement.specs.Target.{ReadsTarget}
 use Rattle.hep_statement.specs.ReadingTarget.{expression_part, target_at}
 use Rattle.hep_statement.proofs.Lists.{IsSound, Shortens, IsComplete, optional_shortens, optional_sound, optional_complete}
+use Rattle.std.proofs.lemmas.Option.{same_Some}
 
 -- ---- with which characters a text begins
 
@@ -125,7 +126,7 @@ target_sound k s x fit e =
     let one = is_place k s b.0 fit b.1 in
     let fit' : length b.0.1 ≤ k.length = omega (arith, place_fits k b.0.0 s b.0.1 one) in
     let two = optional_sound (ReadsExpression k) (expression_part_shortens k) k (expression_part k) (expression_part_sound k) b.0.1 c.0 fit' c.1 in
-    subst (λ (y : Target × List ℕ). ReadsTarget k y.0 s y.1) (some_is (record { occurrence = b.0.0; subscripts = c.0.0 }, c.0.1) x c.2) (b.0.1, one, two)
+    subst (λ (y : Target × List ℕ). ReadsTarget k y.0 s y.1) (same_Some (record { occurrence = b.0.0; subscripts = c.0.0 }, c.0.1) x c.2) (b.0.1, one, two)
 
 pub target_complete : (k : Context) → IsComplete (ReadsTarget k) (target_at k) AfterName
 unfolding target_at

@@ -12,7 +12,6 @@ use Rattle.hep_expression.specs.declared.characters.Sizes.TheVariants.{Fitting, 
 use Rattle.hep_expression.specs.Characters.{named}
 use Rattle.hep_expression.specs.ReadingExpression as reading
 use Rattle.hep_expression.specs.ReadingExpression.{chain, in_parentheses, primary, power_of, term, first_term, sum, relation, negation, conjunction, disjunction, expression, power, expression_at, whole_expression}
-use Rattle.hep_expression.proofs.Leaves.{none_is}
 use Rattle.hep_statement.specs.Statement.{IsForm}
 use Rattle.hep_statement.specs.ReadingLists.{parts_after, closed, enclosed, optional, arguments_within, arguments}
 use Rattle.hep_statement.specs.ReadingLists as lists
@@ -22,6 +21,7 @@ use Rattle.hep_statement.specs.ReadingExecutable.{print, assignment, computed_go
 use Rattle.hep_statement.specs.ReadingDeclaration.{declare, declarator_at}
 use Rattle.hep_statement.specs.ReadingStatement.{worded, logical_if, conditions, form}
 use Rattle.hep_statement.proofs.Forms.{form_is, form_read}
+use Rattle.std.proofs.lemmas.Option.{none-some}
 
 -- the text has this form after these conditions, or none whatever the size of its constants
 abbrev HasForm : List ℕ → List Tree → Form → Type 0
@@ -34,7 +34,7 @@ says : (s : List ℕ) (ts : List Tree) (f : Form) → form Fitting s ≡ Some (t
 says s ts f e = form_is Fitting s (ts, f) e
 
 says_nothing : (s : List ℕ) → form Any s ≡ None → SaysNothing s
-says_nothing s e ts f h = none_is (ts, f) (sym e ∙ form_read Any s ts f h)
+says_nothing s e ts f h = none-some (ts, f) (sym e ∙ form_read Any s ts f h)
 
 abbrev int : ℕ → Tree
 int n = constant (Int (pos n))

@@ -22,7 +22,6 @@ use Rattle.hep_expression.specs.declared.characters.Sizes.TheVariants.{Fitting, 
 use Rattle.hep_expression.specs.declared.characters.Context.{Context}
 use Rattle.hep_expression.specs.Characters.{named}
 use Rattle.hep_expression.specs.ReadingExpression as expressions
-use Rattle.hep_expression.proofs.Leaves.{none_is}
 use Rattle.hep_statement.specs.Lists.{AreListed, AreEnclosed}
 use Rattle.hep_statement.specs.ReadingLists.{parts_after, listed, closed, enclosed, optional}
 use Rattle.hep_statement.specs.Declaration.{ReadsImplicit, ReadsDeclarator, ReadsArrayDeclarator, AreBlocks, ReadsNamedConstant, AreGroups}
@@ -32,6 +31,7 @@ use Rattle.hep_statement.proofs.Headers.{implicit_is, implicit_read, parameter_i
 use Rattle.hep_statement.proofs.Declarators.{declare_is, declare_read, dimension_statement_read}
 use Rattle.hep_statement.proofs.Commons.{common_is, common_read}
 use Rattle.hep_statement.proofs.DataStatements.{data_statement_is, data_statement_read}
+use Rattle.std.proofs.lemmas.Option.{none-some}
 
 abbrev all_of : List ℕ → Context
 all_of s = record { sizes = Fitting; length = length s }
@@ -81,7 +81,7 @@ gives s xs e =
     subst (λ (ys : List ImplicitGroup). Gives s ys) same w.2
 
 gives_nothing : (s : List ℕ) → implicit (of_any_size s) s ≡ None → GivesNothing s
-gives_nothing s e xs h = none_is (form.Implicit xs) (sym e ∙ implicit_read (of_any_size s) xs s h)
+gives_nothing s e xs h = none-some (form.Implicit xs) (sym e ∙ implicit_read (of_any_size s) xs s h)
 
 declares : (s : List ℕ) (xs : List Declarator) → declare (all_of s) Integer s ≡ Some (form.Declare Integer xs) → Declares s xs
 declares s xs e =
@@ -90,10 +90,10 @@ declares s xs e =
     subst (λ (ys : List Declarator). Declares s ys) same w.2
 
 declares_nothing : (s : List ℕ) → declare (of_any_size s) Integer s ≡ None → DeclaresNothing s
-declares_nothing s e xs h = none_is (form.Declare Integer xs) (sym e ∙ declare_read (of_any_size s) Integer xs s h)
+declares_nothing s e xs h = none-some (form.Declare Integer xs) (sym e ∙ declare_read (of_any_size s) Integer xs s h)
 
 no_arrays : (s : List ℕ) → dimension (of_any_size s) s ≡ None → NoArrays s
-no_arrays s e xs h = none_is (form.Dimension xs) (sym e ∙ dimension_statement_read (of_any_size s) xs s h)
+no_arrays s e xs h = none-some (form.Dimension xs) (sym e ∙ dimension_statement_read (of_any_size s) xs s h)
 
 shares : (s : List ℕ) (xs : List CommonBlock) → common (all_of s) s ≡ Some (form.Common xs) → Shares s xs
 shares s xs e =
@@ -102,7 +102,7 @@ shares s xs e =
     subst (λ (ys : List CommonBlock). Shares s ys) same w.2
 
 shares_nothing : (s : List ℕ) → common (of_any_size s) s ≡ None → SharesNothing s
-shares_nothing s e xs h = none_is (form.Common xs) (sym e ∙ common_read (of_any_size s) xs s h)
+shares_nothing s e xs h = none-some (form.Common xs) (sym e ∙ common_read (of_any_size s) xs s h)
 
 names : (s : List ℕ) (xs : List NamedConstant) → parameter (all_of s) s ≡ Some (form.Parameter xs) → Names s xs
 names s xs e =
@@ -111,7 +111,7 @@ names s xs e =
     subst (λ (ys : List NamedConstant). Names s ys) same w.2
 
 names_nothing : (s : List ℕ) → parameter (of_any_size s) s ≡ None → NamesNothing s
-names_nothing s e xs h = none_is (form.Parameter xs) (sym e ∙ parameter_read (of_any_size s) xs s h)
+names_nothing s e xs h = none-some (form.Parameter xs) (sym e ∙ parameter_read (of_any_size s) xs s h)
 
 begins : (s : List ℕ) (xs : List DataGroup) → data_statement (all_of s) s ≡ Some (form.Data xs) → Begins s xs
 begins s xs e =
@@ -120,7 +120,7 @@ begins s xs e =
     subst (λ (ys : List DataGroup). Begins s ys) same w.2
 
 begins_nothing : (s : List ℕ) → data_statement (of_any_size s) s ≡ None → BeginsNothing s
-begins_nothing s e xs h = none_is (form.Data xs) (sym e ∙ data_statement_read (of_any_size s) xs s h)
+begins_nothing s e xs h = none-some (form.Data xs) (sym e ∙ data_statement_read (of_any_size s) xs s h)
 
 -- ---- the parts
 

@@ -1,8 +1,7 @@
 -- DO: its count is set, or one iteration is over, and its variable is set. X3.9-1978, 11.10.3 to 11.10.7.
 use Rattle.std.proofs.Common.{◌≡◌, ◌≢◌, ℕ, suc, ◌+◌, ◌-◌, ℤ, Bool, true, false, List, [], ◌∷◌, drop, length, Option, Some, None, Result, Ok, Err, refl, ap, sym, ◌∙◌, subst, arith}
 use Rattle.std.specs.Prelude.{pos, ◌+ℤ◌, ◌-ℤ◌, int_lt, nat_eq, if◌then◌else◌, slice_set}
-use Rattle.std.proofs.lemmas.Bool.{eq-eqb}
-use Rattle.std.proofs.lemmas.Bool.Decides.{nat_tests}
+use Rattle.std.proofs.lemmas.Bool.{eq-eqb, ne_eqb}
 use Rattle.std.proofs.lemmas.List.{length-set}
 use Rattle.hep_source.specs.declared.name.Name.{Name}
 use Rattle.hep_source.specs.declared.value.Value.{Value}
@@ -54,14 +53,11 @@ use Rattle.hep_step.proofs.Running.{action_made, fault_is, is_at, next_is}
 abbrev pub counts_with : Counts → ℕ → ℕ × ℤ → Counts
 counts_with old d pair e = if nat_eq e d then pair else old e
 
-other : (e d : ℕ) → e ≢ d → nat_eq e d ≡ false
-other e d ne = grind (arith, nat_tests)
-
 counted_so : (addressed : AddressedUnit) (d : ℕ) (pair : ℕ × ℤ) (old : Counts) → IsCounted addressed d pair old (counts_with old d pair)
 counted_so addressed d pair old =
     record {
       written = ap (λ b. if b then pair else old d) (eq-eqb d d refl);
-      others = λ e is_loop ne. ap (λ b. if b then pair else old e) (other e d ne);
+      others = λ e is_loop ne. ap (λ b. if b then pair else old e) (ne_eqb e d ne);
     }
 
 -- ---- the level in the range or after the DO has the DOs of the one before

@@ -1,15 +1,10 @@
 -- The first of violations, as loops keep it.
-use Rattle.std.proofs.Common.{◌≡◌, ◌<◌, ◌+◌, ℕ, Option, List, ◌∷◌, ◌++◌, get_or, length, drop, append_assoc, ap, sym, ◌∙◌}
-use Rattle.std.proofs.lemmas.List.{drop_more}
+use Rattle.std.proofs.Common.{◌≡◌, ◌+◌, Option, List, ◌∷◌, ◌++◌, append_assoc, ap, sym, ◌∙◌}
 use Rattle.std.specs.List.{flat_map}
 use Rattle.hep_check.specs.declared.violation.Violation.{Violation}
 use Rattle.hep_check.specs.Violations.{Violations, first_of}
 use Rattle.hep_check.specs.Reported.{first_of_two}
 use Rattle.hep_check.proofs.First.{first_of-next, first_of-append}
-
-pub next_first : {A : Type 0} (f : A → Violations) (best : Option Violation) (x : A) (xs : List A)
-    → first_of_two (first_of_two best (first_of (f x))) (first_of (flat_map f xs)) ≡ first_of_two best (first_of (flat_map f (x ∷ xs)))
-next_first f best x xs = first_of-next f best x xs
 
 -- an iteration of a loop over elements, of which this one is next
 pub turn : {A : Type 0} (f : A → Violations) (best found next whole : Option Violation) (x : A) (xs ys : List A)
@@ -17,11 +12,7 @@ pub turn : {A : Type 0} (f : A → Violations) (best found next whole : Option V
     → first_of_two next (first_of (flat_map f ys)) ≡ whole
 turn f best found next whole x xs ys h n e d =
     ap (λ o. first_of_two o (first_of (flat_map f ys))) (n ∙ ap (first_of_two best) e)
-    ∙ (next_first f best x ys ∙ (ap (λ zs. first_of_two best (first_of (flat_map f zs))) (sym d) ∙ h))
-
--- an element that was read is the next one
-pub ahead : {A : Type 0} (xs : List A) (i : ℕ) (x : A) → i < length xs → x ≡ get_or xs i x → drop i xs ≡ x ∷ drop (i + 1) xs
-ahead xs i x h e = drop_more xs i x h ∙ ap (λ y. y ∷ drop (i + 1) xs) (sym e)
+    ∙ (first_of-next f best x ys ∙ (ap (λ zs. first_of_two best (first_of (flat_map f zs))) (sym d) ∙ h))
 
 -- three lists, one after the other
 pub three : (us vs ws : Violations) (x y z : Option Violation) → x ≡ first_of us → y ≡ first_of vs → z ≡ first_of ws → first_of_two x (first_of_two y z) ≡ first_of (us ++ (vs ++ ws))

@@ -9,6 +9,7 @@ use Rattle.hep_machine.specs.Declarations.{block_of, block_holding, entries_of_b
 use Rattle.hep_source.specs.declared.declaration.CommonBlock.{CommonBlock}
 use Rattle.hep_symbols.specs.Tables.{are_new, by_name, by_declarators}
 use Rattle.hep_symbols.proofs.Notes.{or-assoc}
+use Rattle.hep_source.proofs.Tests.{and-true, or-turned}
 
 pub and-assoc : (a b c : Bool) → ((a && b) && c) ≡ (a && (b && c))
 and-assoc true b c = refl
@@ -18,11 +19,6 @@ and-assoc false b c = refl
 pub new-same : (xs : List Name) (p q : Name → Bool) → ((x : Name) → p x ≡ q x) → are_new p xs ≡ are_new q xs
 new-same [] p q h = refl
 new-same (x ∷ xs) p q h = ap (λ b. not b && are_new (λ y. same_name y x || p y) xs) (h x) ∙ ap (λ b. not (q x) && b) (new-same xs (λ y. same_name y x || p y) (λ y. same_name y x || q y) (λ y. ap (λ b. same_name y x || b) (h y)))
-
-or-swap : (a b c : Bool) → (a || (b || c)) ≡ (b || (a || c))
-or-swap true true c = refl
-or-swap true false c = refl
-or-swap false b c = refl
 
 among-or : (x y : Name) (xs : List Name) → is_among y (x ∷ xs) ≡ (same_name y x || is_among y xs)
 among-or x y xs = by (same_name y x)
@@ -38,7 +34,7 @@ new-append (x ∷ xs) ys seen =
     ap (λ b. not (seen x) && b) (new-append xs ys (λ y. same_name y x || seen y))
     ∙ (sym (and-assoc (not (seen x)) (are_new (λ y. same_name y x || seen y) xs) (are_new (λ y. is_among y xs || (same_name y x || seen y)) ys))
     ∙ ap (λ b. (not (seen x) && are_new (λ y. same_name y x || seen y) xs) && b)
-    (new-same ys (λ y. is_among y xs || (same_name y x || seen y)) (λ y. is_among y (x ∷ xs) || seen y) (λ y. or-swap (is_among y xs) (same_name y x) (seen y) ∙ (or-group (same_name y x) (is_among y xs) (seen y) ∙ ap (λ b. b || seen y) (sym (among-or x y xs))))))
+    (new-same ys (λ y. is_among y xs || (same_name y x || seen y)) (λ y. is_among y (x ∷ xs) || seen y) (λ y. or-turned (is_among y xs) (same_name y x) (seen y) ∙ (or-group (same_name y x) (is_among y xs) (seen y) ∙ ap (λ b. b || seen y) (sym (among-or x y xs))))))
   where
     or-group : (a b c : Bool) → (a || (b || c)) ≡ ((a || b) || c)
     or-group true b c = refl
@@ -77,10 +73,6 @@ new-turn xs ys was is_new now old seen all h n e s =
     ∙ (ap (λ b. (was && are_new old xs) && b) (new-same ys seen (λ y. is_among y xs || old y) s)
     ∙ (and-assoc was (are_new old xs) (are_new (λ y. is_among y xs || old y) ys)
     ∙ (ap (λ b. was && b) (sym (new-append xs ys old)) ∙ h)))
-
-pub and-true : (b : Bool) → (b && true) ≡ b
-and-true true = refl
-and-true false = refl
 
 pub one-new : (x : Name) (seen : Name → Bool) → are_new seen (x ∷ []) ≡ not (seen x)
 one-new x seen = and-true (not (seen x))

@@ -52,10 +52,6 @@ module _ {A : Type 0} (name x : Name) (value : A) (old : Name → Option A) wher
       by true e = some (old x) (Some value) (ap (λ n. is_some (old n)) (equal_names x name e) ∙ h)
       by false e = sym (or-none (old x))
 
-pub none-from-not : {A : Type 0} (o : Option A) → is_some o ≡ false → o ≡ None
-none-from-not None h = refl
-none-from-not (Some a) h = absurd (true≢false h)
-
 -- a name that a set gets
 pub added : (name x : Name) (old : Bool) → cond (name_eq name x) true old ≡ either old (same_name x name)
 added name x old = ap (λ b. cond b true old) (name_eq-is name x ∙ same_name-turned name x) ∙ by old (same_name x name)

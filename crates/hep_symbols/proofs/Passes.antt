@@ -19,6 +19,7 @@ use Rattle.hep_check.specs.Counts.{count_of, takes_actuals}
 use Rattle.hep_check.specs.Statements.{targets_assigned, targets_in_data, targets_purged, targets_of_groups}
 use Rattle.std.proofs.lemmas.Grind.{flat_map-append}
 use Rattle.hep_symbols.specs.Passes.{takes_dummies, unknown_target, unknown_in_group, unknown_in_form}
+use Rattle.std.proofs.lemmas.Option.{get_or_from_slice_get}
 
 pub count_is_length : (ts : List Tree) → count_of (trees_of ts) ≡ length ts
 count_is_length [] = refl
@@ -60,21 +61,16 @@ dummies_counted ps unit h = sym (length-map ps (λ (p : Occurrence). p.name)) �
 
 -- ---- reading
 
-within : {A : Type 0} (xs : List A) (k : ℕ) (u : A) → slice_get xs k ≡ Some u → k < length xs
+pub within : {A : Type 0} (xs : List A) (k : ℕ) (u : A) → slice_get xs k ≡ Some u → k < length xs
 within [] k u h = cc
 within (x ∷ xs) zero u h = omega arith
 within (x ∷ xs) (suc k) u h = let p = within xs k u h in omega arith
-
-get_or-found : {A : Type 0} (xs : List A) (k : ℕ) (u d : A) → slice_get xs k ≡ Some u → get_or xs k d ≡ u
-get_or-found [] k u d h = cc
-get_or-found (x ∷ xs) zero u d h = cc
-get_or-found (x ∷ xs) (suc k) u d h = get_or-found xs k u d h
 
 -- what was read is the element that is there
 pub item-read : {A : Type 0} (P : Bor A → Type 0) (xs : List A) (k : ℕ) (r : Option (Bor A)) (u : A) → MatchOption r (length xs ≤ k) P
     → IfSome r (λ x. x.now ≡ get_or xs k x.now) → slice_get xs k ≡ Some u → option_copied r ≡ Some u
 item-read P xs k None u m i h = let p = within xs k u h in absurd (omega arith)
-item-read P xs k (Some x) u m i h = ap Some (i ∙ get_or-found xs k u x.now h)
+item-read P xs k (Some x) u m i h = ap Some (i ∙ get_or_from_slice_get xs k u x.now h)
 
 -- ---- letters
 

@@ -1,10 +1,11 @@
 -- Cutting a text into lines.
-use Rattle.std.proofs.Common.{◌≡◌, ℕ, zero, suc, ◌+◌, ◌<◌, ◌≤◌, Bool, true, false, List, [], ◌∷◌, length, take, drop, get_or, refl, sym, ap, ◌∙◌, arith, add-one}
+use Rattle.std.proofs.Common.{◌≡◌, ℕ, zero, suc, ◌+◌, ◌<◌, ◌≤◌, true, false, List, [], ◌∷◌, length, take, drop, get_or, refl, sym, ap, ◌∙◌, arith, add-one}
 use Rattle.std.specs.Prelude.{nat_eq, ◌-◌, ◌&&◌}
 use Rattle.std.proofs.Math.Seq.{take-length, drop-length}
 use Rattle.std.proofs.lemmas.List.{length-drop, take_all, drop_all}
 use Rattle.std.specs.List.{onto_first}
 use Rattle.hep_text.specs.Line.{lines}
+use Rattle.std.proofs.lemmas.Bool.{and_parts}
 
 -- bytes in front of the first of some lines
 abbrev pub with_bytes : List ℕ → List (List ℕ) → List (List ℕ)
@@ -40,13 +41,9 @@ at_return [] i h e f g = absurd (omega arith)
 at_return (c ∷ s) zero h e f g = after_return c s e f g
 at_return (c ∷ s) (suc i) h e f g = ap (onto_first c) (at_return s i (omega arith) e f g)
 
-both : (a b : Bool) → (a && b) ≡ true → (a ≡ true) × (b ≡ true)
-both true b h = (refl, h)
-both false b h = absurd (cc (h))
-
 pub ends_at_return : (s : List ℕ) (i : ℕ) → i < length s → nat_eq (get_or s i 0) 10 ≡ false → (nat_eq (get_or s i 0) 13 && nat_eq (get_or s (i + 1) 32) 10) ≡ true → lines s ≡ with_bytes (take i s) (lines (drop i s)) → lines s ≡ take i s ∷ lines (take (length s - (i + 2)) (drop (i + 2) s))
 ends_at_return s i h e f so_far =
-    let g : (nat_eq (get_or s i 0) 13 ≡ true) × (nat_eq (get_or s (suc i) 32) 10 ≡ true) = both _ _ (rw add-one at f) in
+    let g : (nat_eq (get_or s i 0) 13 ≡ true) × (nat_eq (get_or s (suc i) 32) 10 ≡ true) = and_parts _ _ (rw add-one at f) in
     let two : i + 2 ≡ suc (suc i) = omega arith in
     rw rest_is (rw two (so_far ∙ at_return s i h e g.0 g.1))
 

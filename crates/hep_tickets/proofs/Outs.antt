@@ -1,14 +1,9 @@
 -- Which processes are out, after a ticket more and after a process that came back; and which of them still live.
 use Rattle.std.proofs.Common.{◌≡◌, ◌≢◌, ◌⊎◌, ℕ, ◌&&◌, ◌||◌, Bool, true, false, List, [], ◌∷◌, ◌++◌, inl, inr, refl, sym, ◌∙◌}
 use Rattle.std.specs.Prelude.{nat_eq}
-use Rattle.std.proofs.lemmas.Bool.{cases_Bool, cases_eq}
-use Rattle.hep_blocked.proofs.Adding.{is_eq, not_eq}
+use Rattle.std.proofs.lemmas.Bool.{cases_Bool, cases_eq, ne_eqb, eq-eqb}
 use Rattle.hep_tickets.specs.declared.ticket.TicketId.{TicketId}
 use Rattle.hep_tickets.specs.Tickets.{has_ticket, is_out, without_process}
-
-either : (a b : Bool) → (a || b) ≡ true → (a ≡ true) ⊎ (b ≡ true)
-either true b is = inl refl
-either false b is = inr is
 
 both-of : (a b c d : Bool) → ((a && b) || c) ≡ true → (c ≡ true → d ≡ true) → (a || d) ≡ true
 both-of true b c d is further = refl
@@ -23,7 +18,7 @@ out-by id (t ∷ ts) is =
 pub out-more : (p : ℕ) (id : TicketId) (out : List TicketId) → is_out p (out ++ id ∷ []) ≡ true → (is_out p out ≡ true) ⊎ (id.process ≡ p)
 out-more p id [] is = elim (cases_eq id.process p) [
   | inl same ↦ inr same
-  | inr apart ↦ absurd (apart-out (rw (not_eq id.process p apart) at is))
+  | inr apart ↦ absurd (apart-out (rw (ne_eqb id.process p apart) at is))
 ] where
   apart-out : (false || false) ≡ true → ⊥
   apart-out e = cc
@@ -40,12 +35,12 @@ pub out-still : (p q : ℕ) (out : List TicketId) → is_out q (without_process 
 out-still p q [] is = absurd cc
 out-still p q (t ∷ ts) is = elim (cases_eq t.process p) [
   | inl same ↦
-      let rest = out-still p q ts (rw (is_eq t.process p same) at is) in
+      let rest = out-still p q ts (rw (eq-eqb t.process p same) at is) in
       (or-true (nat_eq t.process q) rest.0, rest.1)
   | inr apart ↦ elim (cases_eq t.process q) [
-    | inl here ↦ (rw (is_eq t.process q here) refl, λ same. apart (here ∙ sym same))
+    | inl here ↦ (rw (eq-eqb t.process q here) refl, λ same. apart (here ∙ sym same))
     | inr other ↦
-        let rest = out-still p q ts (rw (not_eq t.process p apart, not_eq t.process q other) at is) in
+        let rest = out-still p q ts (rw (ne_eqb t.process p apart, ne_eqb t.process q other) at is) in
         (or-true (nat_eq t.process q) rest.0, rest.1)
   ]
 ] where

@@ -18,19 +18,6 @@ use hep_image::Array;
 use hep_source::{StateFunction, Value};
 use hep_step::{Frame, address};
 
-// Whether a variable has `$`.
-fn is_asynchronous(variable: Variable) -> bool
-    ensures { result ≡ replies.is_asynchronous variable }
-{
-    match variable {
-        Variable::Local { asynchronous, .. }
-        | Variable::Common { asynchronous, .. }
-        | Variable::Dummy { asynchronous, .. }
-        | Variable::Array { asynchronous, .. } => asynchronous,
-        Variable::Absent => false,
-    }
-}
-
 // The cell of a variable, or of its element with these subscripts, if there is one.
 fn cell_of(
     arrays: &[Array],
@@ -86,7 +73,7 @@ fn touched_by_evaluation(
     ensures out { IfSome result (λ cell. IsOut cell arena.now.holes) }
 {
     let variable = match evaluation {
-        Evaluation::Load { variable, .. } if is_asynchronous(variable) => variable,
+        Evaluation::Load { variable, .. } if variable.is_asynchronous() => variable,
         Evaluation::Test {
             function: StateFunction::SetEmpty,
             variable,
@@ -113,7 +100,7 @@ fn touched_by_store(
     ensures inside { IfSome result (λ cell. cell < length arena.now.contents) }
     ensures out { IfSome result (λ cell. IsOut cell arena.now.holes) }
 {
-    if !is_asynchronous(variable) {
+    if !variable.is_asynchronous() {
         return None;
     }
     cell_of(arrays, arena, frame, variable, subscripts_of(operands))

@@ -1,31 +1,29 @@
 -- In a run of an accepted program each activation has the dummy arguments of its unit.
-use Rattle.std.proofs.Common.{◌≡◌, ◌⊎◌, inl, inr, ℕ, zero, suc, ◌≤◌, Bool, true, false, List, [], ◌∷◌, ◌++◌, length, Option, Some, None, Result, Ok, Err, refl, sym, ap, ◌∙◌, subst, arith}
-use Rattle.std.specs.Prelude.{ℤ, ◌+ℤ◌, get_or, if◌then◌else◌, slice_get}
+use Rattle.std.proofs.Common.{◌≡◌, inl, inr, ℕ, zero, suc, ◌≤◌, Bool, true, false, List, [], ◌∷◌, ◌++◌, length, Some, Result, Ok, Err, refl, sym, ap, ◌∙◌, subst, arith}
+use Rattle.std.specs.Prelude.{get_or, if◌then◌else◌, slice_get}
 use Rattle.std.specs.Option.{option_map, unwrap_or}
 use Rattle.std.proofs.lemmas.Option.{none-some, same_Some, slice_get-get_or}
 use Rattle.hep_source.specs.declared.name.Name.{Name}
 use Rattle.hep_source.specs.declared.statement.Statement.{Statement}
-use Rattle.hep_source.specs.declared.value.Value.{Value}
 use Rattle.hep_source.specs.Names.{index_among, same_name}
 use Rattle.hep_source.specs.Units.{Units, dummies_of, main_unit, unit_at}
 use Rattle.hep_source.proofs.NameTests.{equal_names, same_name-self}
 use Rattle.hep_machine.specs.declared.event.Kind.{Kind}
-use Rattle.hep_machine.specs.Arithmetic.{integer_of, integer_or_overflow}
 use Rattle.hep_machine.specs.Binding.{Binding, binding_for, binding_with_shapes, dummies_for, dummy_before, dummy_for, with_actuals, with_shape, with_shapes, with_store}
-use Rattle.hep_machine.specs.Control.{level_after_statement, variable_of}
 use Rattle.hep_machine.specs.Defaults.{no_activation}
-use Rattle.hep_machine.specs.Evaluation.{Actual, Action, assigning, jumping, choosing, branching, testing_condition, entering_block, entering_loop, ending_loop, calling, creating, purging, printing, continuing, leaving, stopping, Next, wants, does}
-use Rattle.hep_machine.specs.Locations.{Scope, location_of_name}
+use Rattle.hep_machine.specs.Evaluation.{Actual, Next}
+use Rattle.hep_machine.specs.Locations.{Scope}
 use Rattle.hep_machine.specs.Opening.{opening}
-use Rattle.hep_machine.specs.Processes.{activation_of, loop_at, unit_of}
+use Rattle.hep_machine.specs.Processes.{activation_of, unit_of}
 use Rattle.hep_machine.specs.Run.{run, run_from}
-use Rattle.hep_machine.specs.State.{Activation, Dummy, Level, Location, Loop, State, Store}
-use Rattle.hep_machine.specs.Step.{Answer, gives, waits, fails, answer_at, answer_of, binding_of, iterations, next_activation, result_after_action, result_after_answer, result_after_assignment, result_after_call, result_after_create, result_after_do, result_after_increment, result_after_loop_end, result_after_loop_variable, result_after_next, result_after_purge, result_after_write, scope_of, step, store_after_purge, Top, unit_called, unit_on_top, written}
+use Rattle.hep_machine.specs.State.{Activation, Dummy, State, Store}
+use Rattle.hep_machine.specs.Step.{binding_of, next_activation, result_after_next, scope_of, step, Top}
 use Rattle.hep_machine.proofs.Changes.{Makes, by_step, next_on, top_in}
 use Rattle.hep_check.specs.Conditions.{IsAccepted}
 use Rattle.hep_accepted.proofs.Meant.{dummies_once}
 use Rattle.hep_frames.proofs.References.{each-state}
-use Rattle.hep_finding.specs.Bound.{Agrees, CallsAgree, IsBound, NextAgrees}
+use Rattle.hep_finding.proofs.Added.{Adds, Binds, added-next}
+use Rattle.hep_finding.specs.Bound.{CallsAgree, IsBound, NextAgrees}
 use Rattle.hep_seen.specs.Reading.{HasDummies}
 
 -- ---- how many are bound
@@ -72,87 +70,16 @@ count-bound scope store unit a ys e =
 abbrev IsCounted : Units → Activation → Type 0
 IsCounted program x = length x.dummies ≡ length (dummies_of (unit_at program x.unit))
 
--- it makes no activation, or one with the dummy arguments of its unit
-abbrev HasCounted : Units → Top → State → Type 0
-HasCounted program t s = (s.activations ≡ t.state.activations) ⊎ ((x : Activation) × (s.activations ≡ t.state.activations ++ x ∷ []) × IsCounted program x)
+counted-next : (program : Units) (t : Top) → (m : Next) → NextAgrees program m → Makes (Adds program t (IsCounted program)) (result_after_next program t m)
+counted-next program t = added-next program t (IsCounted program) binds where
+  as-counted : (u : ℕ) (b : Result Binding Kind) → BindsCount (unit_at program u) b → Binds program t (IsCounted program) u b
+  as-counted u (Err k) h = tt
+  as-counted u (Ok b) h = h
 
-module _ (program : Units) (t : Top) where
-  abbrev old : Store
-  old = t.state.store
-
-  abbrev scope : Scope
-  scope = scope_of program t.state t.level.activation
-
-  same : (t.state.activations ≡ t.state.activations) ⊎ ((x : Activation) × (t.state.activations ≡ t.state.activations ++ x ∷ []) × IsCounted program x)
-  same = inl refl
-
-  counted-answer : (a : Answer) → Makes (HasCounted program t) (result_after_answer program t a)
-  counted-answer (gives v store) = same
-  counted-answer (waits w) = tt
-  counted-answer (fails k) = same
-
-  counted-write : (level : Level) (a : Answer) → Makes (HasCounted program t) (result_after_write program t level a)
-  counted-write level (gives v store) = same
-  counted-write level (waits w) = tt
-  counted-write level (fails k) = same
-
-  counted-assignment : (asynchronous : Bool) (at : Result Location Kind) (v : Value) → Makes (HasCounted program t) (result_after_assignment program t asynchronous at v)
-  counted-assignment asynchronous (Err k) v = same
-  counted-assignment asynchronous (Ok at) v = counted-write (level_after_statement (unit_on_top program t) t.level) (answer_at old at (written asynchronous v (old at)))
-
-  counted-purge : (r : Result Store Kind) → Makes (HasCounted program t) (result_after_purge program t r)
-  counted-purge (Err k) = same
-  counted-purge (Ok store) = same
-
-  counted-do : (at : Result Location Kind) (m increment : ℤ) (count : Result ℤ Kind) → Makes (HasCounted program t) (result_after_do program t at m increment count)
-  counted-do at m increment (Err k) = same
-  counted-do (Err k) m increment (Ok count) = same
-  counted-do (Ok at) m increment (Ok count) = same
-
-  counted-increment : (l : Loop) (at : Location) (z : Result ℤ Kind) → Makes (HasCounted program t) (result_after_increment program t l at z)
-  counted-increment l at (Err k) = same
-  counted-increment l at (Ok z) = same
-
-  counted-variable : (l : Loop) (at : Location) (v : Option Value) → Makes (HasCounted program t) (result_after_loop_variable program t l at v)
-  counted-variable l at None = same
-  counted-variable l at (Some v) = counted-increment l at (integer_or_overflow (integer_of v +ℤ l.increment))
-
-  counted-loop_end : (l : Loop) (at : Result Location Kind) → Makes (HasCounted program t) (result_after_loop_end program t l at)
-  counted-loop_end l (Err k) = same
-  counted-loop_end l (Ok at) = counted-variable l at (old at).value
-
-  -- a new activation
-  counted-call : (u : ℕ) (b : Result Binding Kind) → BindsCount (unit_at program u) b → Makes (HasCounted program t) (result_after_call program t u b)
-  counted-call u (Err k) h = same
-  counted-call u (Ok b) h = inr (record { unit = u; parent = Some t.level.activation; dummies = b.dummies }, refl, h)
-
-  counted-create : (u : ℕ) (b : Result Binding Kind) → BindsCount (unit_at program u) b → Makes (HasCounted program t) (result_after_create program t u b)
-  counted-create u (Err k) h = same
-  counted-create u (Ok b) h = inr (record { unit = u; parent = Some t.level.activation; dummies = b.dummies }, refl, h)
-
-  binds : (u : ℕ) (ys : List Actual) → length ys ≡ length (dummies_of (unit_at program u)) → BindsCount (unit_at program u) (binding_of program t u ys)
-  binds u ys = count-bound scope old (unit_at program u) (next_activation t.state) ys
-
-  counted-action : (a : Action) → Agrees program a → Makes (HasCounted program t) (result_after_action program t a)
-  counted-action (assigning r v) h = counted-assignment r.0.asynchronous (location_of_name scope r.0 r.1) v
-  counted-action (jumping l) h = same
-  counted-action (choosing labels v) h = same
-  counted-action (branching labels v) h = same
-  counted-action (testing_condition v) h = same
-  counted-action (entering_block v) h = same
-  counted-action (entering_loop x m k l) h = counted-do (location_of_name scope x []) (integer_of m) (integer_of l) (iterations (integer_of m) (integer_of k) (integer_of l))
-  counted-action (ending_loop d) h = counted-loop_end (loop_at t.level.loops d) (location_of_name scope (variable_of (unit_on_top program t) d) [])
-  counted-action (calling x actuals) h = counted-call (unit_called program x) (binding_of program t (unit_called program x) actuals) (binds (unit_called program x) actuals h)
-  counted-action (creating x actuals) h = counted-create (unit_called program x) (binding_of program t (unit_called program x) actuals) (binds (unit_called program x) actuals h)
-  counted-action (purging targets) h = counted-purge (store_after_purge scope targets old)
-  counted-action (printing items) h = same
-  counted-action continuing h = same
-  counted-action leaving h = same
-  counted-action stopping h = same
-
-  counted-next : (m : Next) → NextAgrees program m → Makes (HasCounted program t) (result_after_next program t m)
-  counted-next (wants r) h = counted-answer (answer_of scope old r)
-  counted-next (does a) h = counted-action a h
+  binds : (u : ℕ) (ys : List Actual) → length ys ≡ length (dummies_of (unit_at program u)) → Binds program t (IsCounted program) u (binding_of program t u ys)
+  binds u ys e =
+      as-counted u (binding_of program t u ys) (
+      count-bound (scope_of program t.state t.level.activation) t.state.store (unit_at program u) (next_activation t.state) ys e)
 
 -- ---- runs
 
@@ -167,7 +94,7 @@ counted-more program (z ∷ xs) x h k (suc i) y e = counted-more program xs x (�
 
 counted-turn : (program : Units) → CallsAgree program → (ps : List ℕ) (p : ℕ) (t : State) → step program p (run program ps) ≡ Some t → AreCounted program (run program ps).activations → AreCounted program t.activations
 counted-turn program agree ps p t e h =
-    let found = by_step (HasCounted program) program p (run program ps) t (λ top lives. counted-next program (top_in (run program ps) p top) (next_on program (run program ps) top) (agree ps p top lives)) e in
+    let found = by_step (λ top. Adds program top (IsCounted program)) program p (run program ps) t (λ top lives. counted-next program (top_in (run program ps) p top) (next_on program (run program ps) top) (agree ps p top lives)) e in
     elim found.2 [
       | inl same ↦ subst (AreCounted program) (sym same) h
       | inr new ↦ subst (AreCounted program) (sym new.1) (counted-more program (run program ps).activations new.0 h new.2)

@@ -2,8 +2,8 @@
 use Rattle.std.proofs.Common.{◌≡◌, inl, inr, ℕ, zero, suc, ◌+◌, ◌≤◌, Bool, true, false, List, [], ◌∷◌, ◌++◌, length, refl, sym, ap, ◌∙◌, arith, Option, Some, None, true≢false}
 use Rattle.std.specs.Prelude.{if◌then◌else◌, is_some, nat_eq, slice_get}
 use Rattle.std.specs.List.{flat_map}
-use Rattle.std.specs.Option.{option_map, option_map_or, option_or}
-use Rattle.std.proofs.lemmas.Bool.{eqb-true, eq-eqb}
+use Rattle.std.specs.Option.{option_map_or, option_or}
+use Rattle.std.proofs.lemmas.Bool.{eqb-true, eq-eqb, or_cases}
 use Rattle.std.proofs.lemmas.Option.{same_Some, none-some}
 use Rattle.hep_source.specs.declared.value.Value.{Value}
 use Rattle.hep_source.specs.Units.{Units}
@@ -14,8 +14,8 @@ use Rattle.hep_machine.specs.Run.{run}
 use Rattle.hep_machine.specs.State.{Process, State}
 use Rattle.hep_machine.proofs.Ages.{run_older}
 use Rattle.hep_machine.proofs.Held.{held_is}
-use Rattle.hep_frames.specs.Tree.{activation_under, IsTree, Node, Nodes}
-use Rattle.hep_frames.proofs.Tree.{or-parts}
+use Rattle.hep_frames.specs.Tree.{IsTree, Node, Nodes}
+use Rattle.hep_frames.proofs.Tree.{under-parts}
 use Rattle.hep_state.specs.declared.machine.Level.{Level}
 use Rattle.hep_state.specs.Snapshots.{Stack}
 use Rattle.hep_state.specs.Tops.{keys_of}
@@ -101,7 +101,7 @@ module _ (program : Units) (s : State) (nodes : Nodes) (a n : ℕ) where
   found-below : (ls : List Level) (q : Process) → AreStandingBelow program s nodes ls q → is_number_among a (activations_on q) ≡ true → IsFound nodes a (suc n) (keys_of ls)
   found-below [] [] h among = absurd (true≢false (sym among))
   found-below (l ∷ ls) (level ∷ levels) h among =
-      elim (or-parts (nat_eq a level.activation) (is_number_among a (activations_on levels)) among) [
+      elim (or_cases (nat_eq a level.activation) (is_number_among a (activations_on levels)) among) [
         | inl here ↦ found-here l (keys_of ls) level.activation h.0.here here
         | inr rest ↦ found-behind nodes a (suc n) (l.key ∷ []) (keys_of ls) (found-below ls levels h.1 rest)
       ]
@@ -111,7 +111,7 @@ module _ (program : Units) (s : State) (nodes : Nodes) (a n : ℕ) where
   pub found-on : (vs : List Value) (ls : List Level) (q : Process) → AreStanding program s nodes vs ls q → is_number_among a (activations_on q) ≡ true → IsFound nodes a (suc n) (keys_of ls)
   found-on vs [] [] h among = absurd (true≢false (sym among))
   found-on vs (l ∷ ls) (level ∷ levels) h among =
-      elim (or-parts (nat_eq a level.activation) (is_number_among a (activations_on levels)) among) [
+      elim (or_cases (nat_eq a level.activation) (is_number_among a (activations_on levels)) among) [
         | inl here ↦ found-here l (keys_of ls) level.activation h.0.here here
         | inr rest ↦ found-behind nodes a (suc n) (l.key ∷ []) (keys_of ls) (found-below ls levels h.1 rest)
       ]
@@ -119,13 +119,6 @@ module _ (program : Units) (s : State) (nodes : Nodes) (a n : ℕ) where
   found-on vs (l ∷ ls) [] h among = absurd h
 
 -- ---- the parent of one that is found
-
-under-parts : (nodes : Nodes) (o : Option ℕ) (a : ℕ) → activation_under nodes o ≡ Some (Some a) → (key : ℕ) × (x : Node) × (o ≡ Some key) × (nodes key ≡ Some x) × (x.activation ≡ a)
-under-parts nodes None a e = absurd (none-some a (same_Some None (Some a) e))
-under-parts nodes (Some key) a e = by_node (nodes key) refl e where
-  by_node : (o : Option Node) → nodes key ≡ o → option_map (λ (x : Node). Some x.activation) o ≡ Some (Some a) → (l : ℕ) × (x : Node) × (Some key ≡ Some l) × (nodes l ≡ Some x) × (x.activation ≡ a)
-  by_node None there h = absurd (none-some (Some a) h)
-  by_node (Some x) there h = (key, x, refl, there, same_Some x.activation a (same_Some (Some x.activation) (Some a) h))
 
 module _ (s : State) (on out : ℕ → Bool) (nodes : Nodes) (tree : IsTree s on out nodes) (c a : ℕ) (parent : parent_of s c ≡ Some a) where
   -- above the child's node, one step further

@@ -1,6 +1,6 @@
 mod Found
 mod Nodes
-mod Cells
+pub mod Cells
 mod Dummies
 pub mod Wants
 mod Ahead
@@ -8,4 +8,4 @@ pub mod Stopping
 mod Stopped
 mod Going
 mod Waits
-mod Views
+pub mod Views

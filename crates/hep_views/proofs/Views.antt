@@ -1,6 +1,6 @@
 -- What is seen of a machine is what is seen of the state that it keeps, also what its processes wait for.
-use Rattle.std.proofs.Common.{◌≡◌, ℕ, suc, ◌+◌, true, false, List, [], ◌∷◌, ◌++◌, map, drop, length, refl, sym, ap, ◌∙◌, arith, Option, Some, None, append_assoc}
-use Rattle.std.specs.Prelude.{is_some, slice_get}
+use Rattle.std.proofs.Common.{◌≡◌, ℕ, suc, ◌+◌, true, List, [], ◌∷◌, ◌++◌, map, drop, length, refl, sym, ap, ◌∙◌, arith, Option, Some, None, append_assoc}
+use Rattle.std.specs.Prelude.{slice_get}
 use Rattle.std.specs.Option.{unwrap_or}
 use Rattle.hep_source.specs.declared.value.Value.{Value}
 use Rattle.hep_source.specs.Units.{Units, line_at, unit_at}
@@ -32,10 +32,11 @@ use Rattle.hep_views.specs.Nodes.{node_of}
 use Rattle.hep_views.specs.Seen.{frame_seen, frames_seen, machine_view, process_seen, processes_seen}
 use Rattle.hep_views.specs.Waited.{wanted_by_levels, wanted_by_stack, wanted_seen}
 use Rattle.hep_views.proofs.Nodes.{framed-at, unheld, unit-at}
+use Rattle.hep_source.proofs.Tests.{none-from-not}
 
 -- ---- the line of the operation ahead
 
-line-after : (vs : List Value) (is : List Instruction) → line_ahead (map Push vs ++ is) ≡ line_ahead is
+pub line-after : (vs : List Value) (is : List Instruction) → line_ahead (map Push vs ++ is) ≡ line_ahead is
 line-after [] is = refl
 line-after (v ∷ vs) is = line-after vs is
 
@@ -49,10 +50,6 @@ module _ (addressed : AddressedUnit) (k : ℕ) (work : Work) where
       sym (line-after operands (drop index (code_of addressed))) ∙ ap line_ahead (sym stands.same) ∙ line-of-next (next_of addressed.unit work) _ stands.rest (work_is addressed k work)
 
 -- ---- what is seen
-
-none-of : {A : Type 0} (o : Option A) → is_some o ≡ false → o ≡ None
-none-of None e = refl
-none-of (Some x) e = absurd cc
 
 module _ (program : Units) (cells : ℕ) (choices : List ℕ) (m : Snapshot) (after : IsAfter program cells choices m) where
   abbrev s : State
@@ -95,7 +92,7 @@ module _ (program : Units) (cells : ℕ) (choices : List ℕ) (m : Snapshot) (af
   frame-is : (a : ℕ) (x : Activation) → activation_of s a ≡ x → frame_seen program m.arena.contents a (node_of m a) ≡ frame_read_in program m.arena.contents a x (frame_among a layout)
   frame-is a x is = by_node (node_of m a) refl where
     by_node : (o : Option Node) → node_of m a ≡ o → frame_seen program m.arena.contents a o ≡ frame_read_in program m.arena.contents a x (frame_among a layout)
-    by_node None e = sym (ap (frame_read_in program m.arena.contents a x) (none-of (frame_among a layout) (after.shows.keeps.frames_are a ∙ unheld program cells choices m after a e)))
+    by_node None e = sym (ap (frame_read_in program m.arena.contents a x) (none-from-not (frame_among a layout) (after.shows.keeps.frames_are a ∙ unheld program cells choices m after a e)))
     by_node (Some n) e =
         let unit : n.unit ≡ x.unit = unit-at program cells choices m after a n e ∙ ap (λ (y : Activation). y.unit) is in
         ap (λ u. frame_read m.arena.contents a (unit_at program u) n.first) unit ∙ sym (ap (frame_read_in program m.arena.contents a x) (framed-at program cells choices m after a n e))

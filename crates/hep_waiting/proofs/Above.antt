@@ -1,35 +1,25 @@
 -- From an activation upwards: whose parent is above it, and what a name stands for is of it or of one above it.
-use Rattle.std.proofs.Common.{◌≡◌, inl, inr, ℕ, ◌-◌, ◌||◌, Bool, true, false, true≢false, List, Option, Some, None, refl, sym, ap, ◌∙◌, subst}
+use Rattle.std.proofs.Common.{◌≡◌, inl, inr, ℕ, ◌-◌, ◌||◌, true, List, Option, Some, None, refl, sym, ap, ◌∙◌, subst}
 use Rattle.std.specs.Prelude.{Result, Ok, Err, nat_eq}
-use Rattle.std.proofs.lemmas.Bool.{eqb-true, eq-eqb}
+use Rattle.std.proofs.lemmas.Bool.{eqb-true, eq-eqb, or_left, or_right, or_cases}
 use Rattle.std.proofs.lemmas.Option.{none-some, same_Some}
-use Rattle.hep_source.specs.declared.function.StateFunction.{StateFunction}
-use Rattle.hep_source.specs.declared.function.StateFunction.TheVariants.{IsFull, IsEmpty, ValueOf, SetEmpty, WaitFull}
 use Rattle.hep_source.specs.declared.name.Name.{Name}
 use Rattle.hep_source.specs.declared.value.Value.{Value}
 use Rattle.hep_source.specs.Names.{index_among}
 use Rattle.hep_source.specs.Units.{Units, dummies_of, unit_at}
 use Rattle.hep_machine.specs.declared.event.Kind.{Kind}
 use Rattle.hep_machine.specs.Declarations.{BlockName, common_block}
-use Rattle.hep_machine.specs.Evaluation.{assigning, Next, does, wants, reading, testing, Reference, next_of}
+use Rattle.hep_machine.specs.Evaluation.{next_of}
 use Rattle.hep_machine.specs.Locations.{Scope, dummy_at, element_of, location_in, location_of_name, start_by_block, storage_by_dummy, storage_of}
 use Rattle.hep_machine.specs.Processes.{activation_of, living, parent_of, unit_of}
 use Rattle.hep_machine.specs.State.{Level, Location, Process, State, common, local}
 use Rattle.hep_machine.specs.Step.{Wanted, scope_of}
 use Rattle.hep_machine.specs.Storage.{further}
 use Rattle.hep_frames.specs.References.{IsAbove, IsOwnedAbove}
-use Rattle.hep_frames.proofs.Tree.{or-parts}
-use Rattle.hep_needs.specs.Needs.{if_so, named_location, need_of, need_of_next, need_of_test, on_top, wanted_at}
+use Rattle.hep_needs.specs.Needs.{need_of, need_of_next, on_top}
+use Rattle.hep_needs.proofs.Holding.{need-named}
 
 -- ---- what is above an activation and isn't it is above its parent
-
-or-true : (b c : Bool) → c ≡ true → (b || c) ≡ true
-or-true true c e = refl
-or-true false c e = e
-
-or-left : (b c : Bool) → b ≡ true → (b || c) ≡ true
-or-left true c e = refl
-or-left false c e = absurd (true≢false (sym e))
 
 module _ (s : State) (above a : ℕ) (other : a ≡ above → ⊥) (is_above : IsAbove s above a) where
   -- an activation has a parent, where another one is above it
@@ -40,18 +30,18 @@ module _ (s : State) (above a : ℕ) (other : a ≡ above → ⊥) (is_above : I
 
   above-next : (b : ℕ) → parent_of s a ≡ Some b → IsAbove s above b
   above-next b parent among here closed =
-      let with_a = or-left (nat_eq a a) (among a) (eq-eqb a a refl) in
-      elim (or-parts (nat_eq above a) (among above) (is_above (λ c. nat_eq c a || among c) with_a more)) [
+      let with_a = or_left (nat_eq a a) (among a) (eq-eqb a a refl) in
+      elim (or_cases (nat_eq above a) (among above) (is_above (λ c. nat_eq c a || among c) with_a more)) [
         | inl t ↦ absurd (other (sym (eqb-true above a t)))
         | inr t ↦ t
       ]
     where
       more : (c d : ℕ) → (nat_eq c a || among c) ≡ true → parent_of s c ≡ Some d → (nat_eq d a || among d) ≡ true
-      more c d t e = elim (or-parts (nat_eq c a) (among c) t) [
+      more c d t e = elim (or_cases (nat_eq c a) (among c) t) [
         | inl same ↦
             let next : b ≡ d = same_Some b d (sym parent ∙ ap (parent_of s) (sym (eqb-true c a same)) ∙ e) in
-            or-true (nat_eq d a) (among d) (ap among (sym next) ∙ here)
-        | inr inside ↦ or-true (nat_eq d a) (among d) (closed c d inside e)
+            or_right (nat_eq d a) (among d) (ap among (sym next) ∙ here)
+        | inr inside ↦ or_right (nat_eq d a) (among d) (closed c d inside e)
       ]
 
   pub above-parent : (b : ℕ) × (parent_of s a ≡ Some b) × IsAbove s above b
@@ -59,28 +49,6 @@ module _ (s : State) (above a : ℕ) (other : a ≡ above → ⊥) (is_above : I
     by_parent : (o : Option ℕ) → parent_of s a ≡ o → (b : ℕ) × (parent_of s a ≡ Some b) × IsAbove s above b
     by_parent None e = absurd (lone e)
     by_parent (Some b) e = (b, e, above-next b e)
-
--- ---- what is needed has a name
-
-wanted-named : (asynchronous full : Bool) (at : Result Location Kind) (w : Wanted)
-    → if_so asynchronous (wanted_at full (named_location at)) ≡ Some w → at ≡ Ok w.at
-wanted-named false full at w e = absurd (none-some w e)
-wanted-named true full (Err k) w e = absurd (none-some w e)
-wanted-named true full (Ok at) w e = ap (λ (z : Wanted). Ok z.at) (same_Some (record { at = at; full = full }) w e)
-
-test-named : (f : StateFunction) (at : Result Location Kind) (w : Wanted) → need_of_test f (named_location at) ≡ Some w → at ≡ Ok w.at
-test-named IsFull at w e = absurd (none-some w e)
-test-named IsEmpty at w e = absurd (none-some w e)
-test-named ValueOf at w e = absurd (none-some w e)
-test-named SetEmpty at w e = absurd (none-some w e)
-test-named WaitFull at w e = wanted-named true true at w e
-
-need-named : (scope : Scope) (n : Next) (w : Wanted) → need_of_next scope n ≡ Some w
-    → (r : Reference) × (location_of_name scope r.0 r.1 ≡ Ok w.at)
-need-named scope (wants (reading r)) w e = (r, wanted-named r.0.asynchronous true (location_of_name scope r.0 r.1) w e)
-need-named scope (wants (testing f r)) w e = (r, test-named f (location_of_name scope r.0 r.1) w e)
-need-named scope (does (assigning r v)) w e = (r, wanted-named r.0.asynchronous false (location_of_name scope r.0 r.1) w e)
-need-named scope n w e = absurd (none-some w e)
 
 -- ---- what a name stands for
 

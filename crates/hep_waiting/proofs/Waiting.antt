@@ -5,8 +5,7 @@ use Rattle.std.proofs.lemmas.Option.{none-some, same_Some}
 use Rattle.hep_source.specs.declared.value.Value.{Value}
 use Rattle.hep_source.specs.Units.{Units, line_at, unit_at}
 use Rattle.hep_machine.specs.Evaluation.{Next, wants, does, next_of}
-use Rattle.hep_machine.specs.Locations.{dummy_at}
-use Rattle.hep_machine.specs.Processes.{activation_of, living, numbered, top_of, unit_of}
+use Rattle.hep_machine.specs.Processes.{living, numbered, top_of, unit_of}
 use Rattle.hep_machine.specs.Run.{run}
 use Rattle.hep_machine.specs.State.{Level as SourceLevel, Process, State, Store, Work}
 use Rattle.hep_machine.specs.Step.{Wanted, wanted_by}
@@ -20,7 +19,9 @@ use Rattle.hep_code.specs.UnitCode.{AddressedUnit, code_of}
 use Rattle.hep_code.proofs.Works.{NextIs, work_is}
 use Rattle.hep_frames.specs.References.{IsOwnedAbove}
 use Rattle.hep_frames.specs.Tree.{Node, Nodes}
+use Rattle.hep_frames.proofs.References.{references}
 use Rattle.hep_needs.specs.Needs.{need_of, unmet}
+use Rattle.hep_needs.proofs.Waiting.{waits-unmet}
 use Rattle.hep_proc.specs.Nodes.{nodes_of}
 use Rattle.hep_state.specs.declared.machine.Level.{Level}
 use Rattle.hep_state.specs.declared.machine.Machine.{Machine}
@@ -34,12 +35,9 @@ use Rattle.hep_waiting.specs.declared.place.Place.{Place}
 use Rattle.hep_waiting.specs.Listed.{listed_by, listed_with, place_of}
 use Rattle.hep_waiting.specs.Sought.{IsSought}
 use Rattle.hep_waiting.proofs.Above.{need-above}
+use Rattle.hep_views.proofs.Views.{line-after}
 
 -- ---- the line of the operation ahead
-
-line-after : (vs : List Value) (is : List Instruction) → line_ahead (map Push vs ++ is) ≡ line_ahead is
-line-after [] is = refl
-line-after (v ∷ vs) is = line-after vs is
 
 module _ (addressed : AddressedUnit) (k : ℕ) (work : Work) where
   line-of-next : (n : Next) (after : Value → List Instruction) (rest : List Instruction)
@@ -138,11 +136,11 @@ module _ (program : Units) (cells : ℕ) (choices : List ℕ) (m : Machine) (h :
     pub sought : IsSought program cells choices m is_top.l.key want.cell wanted.at
 
   pub blocked-waits : (p : ℕ) (want : Want) → IsBlocked program cells choices p want
-      → ((a k : ℕ) → IsOwnedAbove s a (dummy_at (activation_of s a).dummies k).start)
-      → wanted_by program p s ≡ unmet (need_of program p s) s.store → Waits p want
-  blocked-waits p want blocked references law =
+      → Waits p want
+  blocked-waits p want blocked =
       let w = blocked.0.wanted in
-      let above = need-above program s p w references blocked.0.needed in
+      let law = waits-unmet program p s in
+      let above = need-above program s p w (references program choices) blocked.0.needed in
       let top = top-is p above.0 above.1 in
       record {
         wanted = w;

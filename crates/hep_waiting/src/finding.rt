@@ -23,17 +23,11 @@ ghost use Rattle.hep_waiting.specs.Sought.{IsSought, has_cell as frame_has_cell,
 
 use crate::listed::Listed;
 use crate::place::Place;
-use hep_accepted::names::names_are_given_once;
 use hep_blocked::Want;
 use hep_code::Instruction;
-use hep_frames::laws::references_lead_upwards;
 use hep_image::Image;
-use hep_image::laws::cells_tell_their_variables;
-use hep_needs::laws::waits_are_unmet_needs;
 use hep_proc::Frames;
 use hep_state::{Level, Machine};
-use hep_views::laws::cells_tell_their_units;
-use hep_works::laws::units_are_there;
 
 // The level of the top activation of process p.
 fn top(machine: &Machine, p: u64) -> Level
@@ -127,10 +121,6 @@ fn place_at(machine: &Machine, image: &Image, key: usize, cell: u32) -> Place
         → result ≡ place_of image.now (run image.now choices) at }
 {
     image.is_runnable();
-    cells_tell_their_units();
-    cells_tell_their_variables();
-    names_are_given_once();
-    units_are_there();
     if cell < image.common() {
         return in_common(image, cell);
     }
@@ -154,8 +144,6 @@ pub fn listed(machine: &Machine, image: &Image, p: u64, want: Want) -> Listed
     ensures { (cells : ℕ) (choices : List ℕ) → IsMachineAfter image.now cells choices machine.now → IsBlocked image.now cells choices p want
         → listed_by image.now p (run image.now choices) ≡ Some result }
 {
-    references_lead_upwards();
-    waits_are_unmet_needs();
     let level = top(machine, p);
     let unit = image.unit(level.unit as usize);
     let line = line_from(unit.code.as_slice(), level.index);

@@ -13,9 +13,10 @@ use Rattle.hep_machine.specs.Opening.{opening}
 use Rattle.hep_machine.specs.Run.{state_after_turn, run_from, schedule_of_entry, schedule_of}
 use Rattle.hep_machine.specs.Schedules.{Progress, progress_after_step, progress_after_entry, progress_from, progress_after, ready_in, last_process, next_of_ready, next_ready}
 use Rattle.hep_machine.specs.State.{State}
-use Rattle.hep_machine.specs.Step.{StepResult, Wanted, stepped, waiting, absent, step_result_of, state_made, wanted_of, step}
+use Rattle.hep_machine.specs.Step.{StepResult, Wanted, stepped, waiting, absent, step_result_of, wanted_of, step}
 use Rattle.hep_source.specs.Units.{Units}
 use Rattle.hep_worked.proofs.SerialRuns.{Course, Ending, halted, entry, last_of, with_step, with_turn, turned, next_of, if_next, if_turned, course_from, first_course, course_in, course}
+use Rattle.hep_machine.proofs.Others.{step-is}
 
 -- ---- one entry more
 
@@ -78,10 +79,6 @@ abbrev OnCourse : (Course → Type 0) → Result Course Ending → Type 0
 OnCourse P (Ok d) = P d
 OnCourse P (Err e) = Unit {0}
 
--- where the machine isn't halted, a turn that makes a step leads to its state
-step_made : (program : Units) (p : ℕ) (s t : State) → s.halted ≡ false → step_result_of program p s ≡ stepped t → step program p s ≡ Some t
-step_made program p s t h e = ap (λ (b : Bool). if b then None else state_made (step_result_of program p s)) h ∙ ap state_made e
-
 one_step : (program : Units) (s t : State) (p : ℕ) → step program p s ≡ Some t → IsEntry program s (entry p 1)
 one_step program s t p e = inr (omega arith, omega arith, ((λ n. let both : Some t ≡ None = sym e ∙ n in cc), tt))
 
@@ -105,7 +102,7 @@ step_holds program cells has c p s (Some layout) h e l =
 turn_holds : (program : Units) (cells : ℕ) (has : Frames) (c : Course) (p : ℕ) (t : StepResult) → Holds program cells has c → c.progress.state.halted ≡ false → step_result_of program p c.progress.state ≡ t → OnCourse (Holds program cells has) (with_turn program cells has c p t)
 unfolding placing_from run_from
 turn_holds program cells has c p (stepped s) h running e =
-    step_holds program cells has c p s (layout_after_step program cells has c.progress.state s c.layout) h (step_made program p c.progress.state s running e) refl
+    step_holds program cells has c p s (layout_after_step program cells has c.progress.state s c.layout) h (step-is program p c.progress.state s running e) refl
 turn_holds program cells has c p (waiting w) h running e =
     record {
       progress = ap (λ (x : Progress). progress_after_entry program x (entry p 0) 0) h.progress ∙ sym (progress_after_one program c.history (entry p 0));

@@ -2,7 +2,7 @@
 use Rattle.std.proofs.Common.{◌≡◌, ◌≢◌, inl, inr, ℕ, zero, suc, ◌+◌, ◌≤◌, ◌<◌, ◌&&◌, Bool, true, false, true≢false, List, [], ◌∷◌, ◌++◌, Option, Some, None, length, replicate, drop, get_or, refl, sym, ap, ◌∙◌, arith, if◌then◌else◌}
 use Rattle.std.specs.Prelude.{MatchBool, option_and_then, slice_get, slice_set}
 use Rattle.std.specs.List.{list_all}
-use Rattle.std.proofs.lemmas.Bool.{cases_lt}
+use Rattle.std.proofs.lemmas.Bool.{cases_lt, and_parts}
 use Rattle.std.proofs.lemmas.Bool.Decides.{nat_tests}
 use Rattle.std.proofs.lemmas.Grind.{common_steps}
 use Rattle.std.proofs.lemmas.List.{length-replicate, length-set}
@@ -76,10 +76,6 @@ set-is None is some = absurd (some refl)
 set-is (Some true) is some = refl
 set-is (Some false) is some = cc
 
-both : (a b : Bool) → (a && b) ≡ true → (a ≡ true) × (b ≡ true)
-both true b is = (refl, is)
-both false b is = cc
-
 other-fails : (a b : Bool) → (a && b) ≡ false → a ≡ true → b ≡ false
 other-fails true b is on = is
 other-fails false b is on = cc
@@ -104,7 +100,7 @@ module _ (history : List Entry) where
         → ((u : List Bool) → marked history u rs ≡ Some after → HasMarked u after rs) → HasMarked before after (r ∷ rs)
     marked-first true is ended others =
         let rest = others (slice_set before r.index true) ended in
-        let tests = both (is_named_by r (slice_get history r.index)) (is_unset (slice_get before r.index)) is in
+        let tests = and_parts (is_named_by r (slice_get history r.index)) (is_unset (slice_get before r.index)) is in
         record {
           named = (named-is r (slice_get history r.index) tests.0, rest.named);
           counted = λ i. let more = rest.counted i in let one = one-mark-more before r.index (unset-is (slice_get before r.index) tests.1) i in omega arith;
@@ -124,7 +120,7 @@ module _ (history : List Entry) where
         → option_and_then (λ u. marked history u rs) (if b then Some (slice_set marks r.index true) else None) ≡ None
         → ((u : List Bool) → length u ≡ length history → marked history u rs ≡ None → ((i : ℕ) → marks_at u i + times_named i rs ≤ 1) → ⊥) → ⊥
     unmarked-first true is failed others =
-        let tests = both (is_named_by r (slice_get history r.index)) (is_unset (slice_get marks r.index)) is in
+        let tests = and_parts (is_named_by r (slice_get history r.index)) (is_unset (slice_get marks r.index)) is in
         others (slice_set marks r.index true) (length-set marks r.index true ∙ size) failed
         (λ i. let one = one-mark-more marks r.index (unset-is (slice_get marks r.index) tests.1) i in let f = few i in omega arith)
     unmarked-first false is failed others =

@@ -3,7 +3,7 @@ use Rattle.std.proofs.Common.{◌≡◌, inl, inr, ℕ, zero, suc, Bool, true, f
 use Rattle.std.specs.Prelude.{◌&&◌, not, if◌then◌else◌, slice_get, map}
 use Rattle.std.specs.List.{flat_map}
 use Rattle.std.specs.Option.{unwrap_or}
-use Rattle.std.proofs.lemmas.Bool.{and_parts}
+use Rattle.std.proofs.lemmas.Bool.{and_parts, not-true}
 use Rattle.std.proofs.lemmas.Option.{none-some, same_Some, slice_get_within}
 use Rattle.hep_source.specs.Names.{same_logical, spelling}
 use Rattle.hep_source.specs.Tree.{Tree, Trees, constant, occurrence, with_list, parenthesized, signed, negated, binary, no_trees, trees}
@@ -41,12 +41,13 @@ use Rattle.hep_accepted.proofs.Valued.{ConstantsAgree}
 use Rattle.hep_image.specs.Places.{variable_of}
 use Rattle.hep_placed.specs.Placed.{IsPlaced}
 use Rattle.hep_placed.proofs.Facts.{Facts, array_no_constant, facts_of, without_value}
-use Rattle.hep_placed.proofs.Starts.{begins, begun_placed, name_of_unit}
+use Rattle.hep_placed.proofs.Starts.{begins, begun_placed}
 use Rattle.hep_placed.proofs.Values.{no_value_of_others}
 use Rattle.hep_works.specs.Actuals.{FitsDummy, IsGivenTo, IsVariableOf}
 use Rattle.hep_works.specs.Filled.{AreEach, AreFilled, IsFilled, IsFilledActual, IsFilledList}
 use Rattle.hep_works.specs.Works.{IsCalledBy}
 use Rattle.hep_works.proofs.Calls.{IsActual, are-actuals, callee, calls-subroutine}
+use Rattle.hep_accepted.proofs.Named.{name_of_unit}
 
 -- ---- named constants
 
@@ -73,10 +74,6 @@ equal-types (Some Integer) (Some Integer) e = refl
 equal-types (Some Integer) (Some Logical) e = absurd (true≢false (sym e))
 equal-types (Some Logical) (Some Integer) e = absurd (true≢false (sym e))
 equal-types (Some Logical) (Some Logical) e = refl
-
-not-true : (b : Bool) → not b ≡ true → b ≡ false
-not-true true e = absurd (true≢false (sym e))
-not-true false e = refl
 
 module _ (called : List Statement) (y : Name) where
   value-fits : (t : KnownType) → fits_dummy called y (value t) ≡ true → (y.asynchronous ≡ false) × (is_array called y ≡ false)

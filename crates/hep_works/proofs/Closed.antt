@@ -17,10 +17,10 @@ use Rattle.hep_check.specs.Conditions.{IsAccepted}
 use Rattle.hep_accepted.specs.Typing.{HasShape}
 use Rattle.hep_accepted.proofs.Parts.{found_at}
 use Rattle.hep_finding.specs.Bound.{AreClosed}
-use Rattle.hep_placed.proofs.Facts.{unit_there}
 use Rattle.hep_placed.proofs.Starts.{index_some}
 use Rattle.hep_works.proofs.Calls.{calls-there}
 use Rattle.hep_works.proofs.Levels.{every-numbered, in-run}
+use Rattle.hep_image.proofs.Numbers.{unit-there}
 
 -- ---- units
 
@@ -43,7 +43,7 @@ units-there program ps (suc i) accepted has one le =
     let is : numbered (run program ps).activations (suc i) ≡ Some (get_or (run program ps).activations i no_activation) = slice_get-get_or (run program ps).activations i no_activation (omega (arith, le)) in
     let less : (get_or (run program ps).activations i no_activation).unit < length program = every-numbered (λ (x : Activation). x.unit < length program) (run program ps).activations (suc i) (get_or (run program ps).activations i no_activation) state.0 is in
     subst (λ (o : Option Activation). slice_get program (unwrap_or o no_activation).unit ≡ Some (unit_at program (unwrap_or o no_activation).unit)) (sym is) (
-    unit_there program (get_or (run program ps).activations i no_activation).unit less)
+    unit-there program (get_or (run program ps).activations i no_activation).unit less)
 
 -- ---- the main program
 

@@ -1,8 +1,9 @@
 use Rattle.std.proofs.Common.{◌∙◌, sym}
 use Rattle.indexmap.specs.IndexMap.{get}
 use Rattle.hep_blocked.specs.Waiting.{want_eq}
-use Rattle.hep_blocked.proofs.Tying.{list-opened, none-from-not}
+use Rattle.hep_blocked.proofs.Tying.{list-opened}
 use Rattle.hep_blocked.proofs.lists.open_list.Goals as goal
+use Rattle.hep_source.proofs.Tests.{none-from-not}
 
 pub returns-in_ok-insert-clause-same : goal.returns-in_ok-insert-clause-same
 returns-in_ok-insert-clause-same c =

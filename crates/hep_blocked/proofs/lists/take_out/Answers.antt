@@ -3,8 +3,9 @@ use Rattle.std.proofs.lemmas.Fn.{filter_same}
 use Rattle.indexmap.specs.IndexMap.{get}
 use Rattle.hep_machine.specs.Schedules.{without}
 use Rattle.hep_blocked.specs.Waiting.{want_eq}
-use Rattle.hep_blocked.proofs.Removing.{list-left, some-there}
+use Rattle.hep_blocked.proofs.Removing.{list-left}
 use Rattle.hep_blocked.proofs.lists.take_out.Goals as goal
+use Rattle.hep_source.proofs.Tests.{some-there}
 
 pub returns-in-Some-clause-left : goal.returns-in-Some-clause-left
 returns-in-Some-clause-left c =

@@ -1,8 +1,8 @@
 use Rattle.std.proofs.Common.{◌≤◌, ◌+◌, drop, length, refl, arith}
 use Rattle.hep_machine.specs.Variables as variables
-use Rattle.hep_symbols.proofs.Firsts.{ahead}
 use Rattle.hep_checked.proofs.Sums.{loops-turn, at-most-one, nothing-left}
 use Rattle.hep_checked.proofs.frames.do_statements.Goals as goal
+use Rattle.hep_source.proofs.Tests.{drop_at}
 
 pub overflow_add-count : goal.overflow_add-count
 overflow_add-count c =
@@ -17,7 +17,7 @@ loop-statement-preserved c =
     let one = at-most-one c.loop_count-count.result (variables.is_do s.form) c.loop_count-count.ensures in
     record {
       counted = loops-turn c.loop-statement.count c.loop_count-count.result _ s (drop i ss) (drop (i + 1) ss) c.loop-statement.invariant.counted c.loop_count-count.ensures
-          (ahead ss i s c.loop-statement-test.true c.statement-item.is);
+          (drop_at ss i s c.loop-statement-test.true c.statement-item.is);
       bounded = omega (arith, one, c.loop-statement.invariant.bounded);
     }
 

@@ -1,10 +1,11 @@
 use Rattle.std.proofs.Common.{◌≡◌, ◌<◌, ◌+◌, ◌++◌, ◌∙◌, ap, sym, drop, length, get_or, arith}
-use Rattle.hep_symbols.proofs.Firsts.{ahead, grow}
+use Rattle.hep_symbols.proofs.Firsts.{grow}
 use Rattle.hep_source.specs.Units.{unit_name, unit_at}
 use Rattle.hep_machine.specs.Variables.{frame_cells}
 use Rattle.hep_checked.specs.Listing.{unit_text, unit_line}
 use Rattle.hep_checked.proofs.Sums.{unit-read}
 use Rattle.hep_checked.proofs.listing.append_units.Goals as goal
+use Rattle.hep_source.proofs.Tests.{drop_at}
 
 pub frame_cells-requires : goal.frame_cells-requires
 frame_cells-requires c = omega (arith, c.loop-number-test.true, ap length (c.as_slice-unit-items.ensures ∙ c.program.ensures))
@@ -23,4 +24,4 @@ loop-number-preserved c =
     grow unit_line found c.append_unit.new.text.items _ unit (drop i us) (drop (i + 1) us) c.loop-number.invariant
     (c.in_ok-append_unit.ensures
     ∙ (ap (λ n. found ++ unit_text n c.frame_cells.result) name ∙ ap (λ n. found ++ unit_text (unit_name unit) n) (c.frame_cells.ensures ∙ ap frame_cells read)))
-    (ahead us i unit within is)
+    (drop_at us i unit within is)

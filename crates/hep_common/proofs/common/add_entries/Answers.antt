@@ -1,8 +1,8 @@
 use Rattle.std.proofs.Common.{◌+◌, ◌++◌, ◌∙◌, ap, drop}
-use Rattle.hep_symbols.proofs.Firsts.{ahead}
 use Rattle.hep_common.specs.Lengths.{entries_in_lists}
 use Rattle.hep_common.proofs.Entries.{entries-turn}
 use Rattle.hep_common.proofs.common.add_entries.Goals as goal
+use Rattle.hep_source.proofs.Tests.{drop_at}
 
 pub loop-statement-preserved : goal.loop-statement-preserved
 loop-statement-preserved c =
@@ -11,4 +11,4 @@ loop-statement-preserved c =
     let found = c.loop-statement.entries.items in
     entries-turn found c.add_lists.new.entries.items _ c.statement-item.result (drop i ss) (drop (i + 1) ss) c.loop-statement.invariant
     (c.in_ok-add_lists.ensures ∙ ap (λ cs. found ++ entries_in_lists cs) c.blocks_in.ensures)
-    (ahead ss i c.statement-item.result c.loop-statement-test.true c.statement-item.is)
+    (drop_at ss i c.statement-item.result c.loop-statement-test.true c.statement-item.is)

@@ -4,12 +4,12 @@ use Rattle.indexmap.specs.IndexMap.{get}
 use Rattle.hep_source.specs.declared.declaration.Target.{Target}
 use Rattle.hep_source.specs.Names.{name_eq}
 use Rattle.std.proofs.lemmas.List.{drop_all}
-use Rattle.hep_symbols.proofs.Firsts.{ahead}
 use Rattle.hep_data.specs.Cells.{Gives}
 use Rattle.hep_data.specs.Given.{all_cells_named, cells_named}
 use Rattle.hep_data.specs.Left.{left}
 use Rattle.hep_data.proofs.Giving.{both_given, nothing_given}
 use Rattle.hep_data.proofs.rows.add_targets.Goals as goal
+use Rattle.hep_source.proofs.Tests.{drop_at}
 
 pub loop-target-preserved : goal.loop-target-preserved
 loop-target-preserved c = λ after new g.
@@ -22,7 +22,7 @@ loop-target-preserved c = λ after new g.
     let here = option_to_list (cells_named f.symbols.now table f.arrays.now f.common c.target-item.result) in
     let behind = all_cells_named f.symbols.now table f.arrays.now f.common (drop (i + 1) ts) in
     c.loop-target.invariant after new (
-    subst (λ (us : List Target). Gives (all_cells_named f.symbols.now table f.arrays.now f.common us) r v after new) (sym (ahead ts i c.target-item.result c.loop-target-test.true c.target-item.is)) (
+    subst (λ (us : List Target). Gives (all_cells_named f.symbols.now table f.arrays.now f.common us) r v after new) (sym (drop_at ts i c.target-item.result c.loop-target-test.true c.target-item.is)) (
     both_given here behind r c.add_target.new.rows.items after v (left c.add_target.new.values) new c.in_ok-add_target.ensures g))
 
 pub returns : goal.returns

@@ -16,9 +16,10 @@ use Rattle.hep_proc.proofs.Slabs.{some-value}
 use Rattle.hep_entering.specs.Calling.{called_activation, layout_with, state_begun}
 use Rattle.hep_entering.specs.Writing.{IsBinding}
 use Rattle.hep_entering.proofs.Begun.{begins, binding, long, stored}
-use Rattle.hep_entering.proofs.Blocks.{block-inside, block-out, fit-first}
+use Rattle.hep_entering.proofs.Blocks.{block-inside, block-out}
 use Rattle.hep_entering.proofs.Nodes.{node-new}
 use Rattle.hep_entering.proofs.beginning.begin.Goals as goal
+use Rattle.hep_proc.proofs.Begun.{fit-there}
 
 -- the frame has entered, where the activations are these
 abbrev HasBegun : Units → State → Layout → (ℕ → Bool) → ℕ → List Activation → Space → Nodes → Type 0
@@ -31,7 +32,7 @@ node-there old new key a u first cells parent e = ap (λ (z : Nodes). z key) e �
 
 pub first-first-requires : goal.first-first-requires
 first-first-requires c =
-    let fit = fit-first (first_fit c.args.cells c.args.frames.now.arena.holes) c.requires.gap in
+    let fit = fit-there (first_fit c.args.cells c.args.frames.now.arena.holes) c.requires.gap in
     let old = nodes_of c.args.frames.now.nodes in
     let new = nodes_of c.enter-key.new.self.nodes in
     some-value c.enter-key.new.self.nodes c.enter-key.result (new_node c.args.activation c.args.unit fit.0 c.args.cells c.args.parent) (
@@ -39,7 +40,7 @@ first-first-requires c =
 
 pub bind-requires-clause-inside : goal.bind-requires-clause-inside
 bind-requires-clause-inside c =
-    let fit = fit-first (first_fit c.args.cells c.args.frames.now.arena.holes) c.requires.gap in
+    let fit = fit-there (first_fit c.args.cells c.args.frames.now.arena.holes) c.requires.gap in
     let old = nodes_of c.args.frames.now.nodes in
     let new = nodes_of c.enter-key.new.self.nodes in
     let first = c.first-first.ensures (new_node c.args.activation c.args.unit fit.0 c.args.cells c.args.parent) (node-there old new c.enter-key.result c.args.activation c.args.unit fit.0 c.args.cells c.args.parent (c.enter-key.ensures.nodes fit.0 fit.1)) in
@@ -49,7 +50,7 @@ bind-requires-clause-inside c =
 
 pub bind-requires-clause-out : goal.bind-requires-clause-out
 bind-requires-clause-out c p low high =
-    let fit = fit-first (first_fit c.args.cells c.args.frames.now.arena.holes) c.requires.gap in
+    let fit = fit-there (first_fit c.args.cells c.args.frames.now.arena.holes) c.requires.gap in
     let old = nodes_of c.args.frames.now.nodes in
     let new = nodes_of c.enter-key.new.self.nodes in
     let first = c.first-first.ensures (new_node c.args.activation c.args.unit fit.0 c.args.cells c.args.parent) (node-there old new c.enter-key.result c.args.activation c.args.unit fit.0 c.args.cells c.args.parent (c.enter-key.ensures.nodes fit.0 fit.1)) in

@@ -33,15 +33,10 @@ loop-one-preserved c = (
   bound-next c.args.first c.args.given.now c.args.frames.now.arena (nodes_of c.args.frames.now.nodes) c.loop-one.one-index c.loop-one.at _ c.loop-one.frames.arena c.put.new.frames.arena (nodes_of c.loop-one.frames.nodes) (nodes_of c.put.new.frames.nodes) c.loop-one-test.true c.loop-one.invariant.0 c.put.ensures.put c.put.ensures.nodes c.loop-one.invariant.4,
 )
 
-pub returns-clause-bound : goal.returns-clause-bound
-returns-clause-bound c =
-    bound-ends c.args.first c.args.given.now c.args.frames.now.arena (nodes_of c.args.frames.now.nodes) c.loop-one.one-index c.loop-one.frames.arena (nodes_of c.loop-one.frames.nodes) (omega (arith, c.loop-one-test.false, c.loop-one.auto.one-index-end)) c.loop-one.invariant.4
-
-pub returns-clause-holes : goal.returns-clause-holes
-returns-clause-holes c = c.loop-one.invariant.2
-
-pub returns-clause-cells : goal.returns-clause-cells
-returns-clause-cells c = c.loop-one.invariant.1
-
-pub returns-clause-nodes : goal.returns-clause-nodes
-returns-clause-nodes c = c.loop-one.invariant.3
+pub returns : goal.returns
+returns c = record {
+  bound = bound-ends c.args.first c.args.given.now c.args.frames.now.arena (nodes_of c.args.frames.now.nodes) c.loop-one.one-index c.loop-one.frames.arena (nodes_of c.loop-one.frames.nodes) (omega (arith, c.loop-one-test.false, c.loop-one.auto.one-index-end)) c.loop-one.invariant.4;
+  nodes = c.loop-one.invariant.3;
+  holes = c.loop-one.invariant.2;
+  cells = c.loop-one.invariant.1;
+}

@@ -1,8 +1,5 @@
 use Rattle.hep_entering.proofs.Leading.{called-step, created-step}
 use Rattle.hep_entering.proofs.laws.calls_make_activations.Goals as goal
 
-pub returns-clause-called : goal.returns-clause-called
-returns-clause-called c = called-step
-
-pub returns-clause-created : goal.returns-clause-created
-returns-clause-created c = created-step
+pub returns : goal.returns
+returns c = record { called = called-step; created = created-step }

@@ -33,15 +33,10 @@ loop-bound-preserved c = (
   shaped-next c.args.at c.args.bounds.now c.args.frames.now.arena (nodes_of c.args.frames.now.nodes) c.loop-bound.bound-index c.loop-bound.next _ c.loop-bound.frames.arena c.put_bound.new.frames.arena (nodes_of c.loop-bound.frames.nodes) (nodes_of c.put_bound.new.frames.nodes) c.loop-bound-test.true c.loop-bound.invariant.0 c.put_bound.ensures.put c.put_bound.ensures.nodes c.loop-bound.invariant.4,
 )
 
-pub returns-clause-shaped : goal.returns-clause-shaped
-returns-clause-shaped c =
-    shaped-ends c.args.at c.args.bounds.now c.args.frames.now.arena (nodes_of c.args.frames.now.nodes) c.loop-bound.bound-index c.loop-bound.frames.arena (nodes_of c.loop-bound.frames.nodes) (omega (arith, c.loop-bound-test.false, c.loop-bound.auto.bound-index-end)) c.loop-bound.invariant.4
-
-pub returns-clause-nodes : goal.returns-clause-nodes
-returns-clause-nodes c = c.loop-bound.invariant.3
-
-pub returns-clause-holes : goal.returns-clause-holes
-returns-clause-holes c = c.loop-bound.invariant.2
-
-pub returns-clause-cells : goal.returns-clause-cells
-returns-clause-cells c = c.loop-bound.invariant.1
+pub returns : goal.returns
+returns c = record {
+  shaped = shaped-ends c.args.at c.args.bounds.now c.args.frames.now.arena (nodes_of c.args.frames.now.nodes) c.loop-bound.bound-index c.loop-bound.frames.arena (nodes_of c.loop-bound.frames.nodes) (omega (arith, c.loop-bound-test.false, c.loop-bound.auto.bound-index-end)) c.loop-bound.invariant.4;
+  nodes = c.loop-bound.invariant.3;
+  holes = c.loop-bound.invariant.2;
+  cells = c.loop-bound.invariant.1;
+}

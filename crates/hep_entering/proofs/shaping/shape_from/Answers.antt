@@ -28,15 +28,10 @@ loop-one-preserved c = (
   all-shaped-next c.args.at c.args.shapes.now c.args.frames.now.arena (nodes_of c.args.frames.now.nodes) c.loop-one.one-index c.loop-one.next _ _ c.loop-one.frames.arena c.shape_one-next.new.frames.arena (nodes_of c.loop-one.frames.nodes) (nodes_of c.shape_one-next.new.frames.nodes) (slice_get-get_or c.args.shapes.now c.loop-one.one-index c.one-item.result c.loop-one-test.true ∙ ap (λ z. Some z) (sym c.one-item.is)) c.shape_one-next.ensures.next c.shape_one-next.ensures.none c.shape_one-next.ensures.shaped c.shape_one-next.ensures.nodes c.loop-one.invariant.5,
 )
 
-pub returns-clause-shaped : goal.returns-clause-shaped
-returns-clause-shaped c =
-    all-shaped-ends c.args.at c.args.shapes.now c.args.frames.now.arena (nodes_of c.args.frames.now.nodes) c.loop-one.one-index c.loop-one.next c.loop-one.frames.arena (nodes_of c.loop-one.frames.nodes) (omega (arith, c.loop-one-test.false, c.loop-one.auto.one-index-end)) c.loop-one.invariant.5
-
-pub returns-clause-nodes : goal.returns-clause-nodes
-returns-clause-nodes c = c.loop-one.invariant.4
-
-pub returns-clause-holes : goal.returns-clause-holes
-returns-clause-holes c = c.loop-one.invariant.3
-
-pub returns-clause-cells : goal.returns-clause-cells
-returns-clause-cells c = c.loop-one.invariant.2
+pub returns : goal.returns
+returns c = record {
+  shaped = all-shaped-ends c.args.at c.args.shapes.now c.args.frames.now.arena (nodes_of c.args.frames.now.nodes) c.loop-one.one-index c.loop-one.next c.loop-one.frames.arena (nodes_of c.loop-one.frames.nodes) (omega (arith, c.loop-one-test.false, c.loop-one.auto.one-index-end)) c.loop-one.invariant.5;
+  nodes = c.loop-one.invariant.4;
+  holes = c.loop-one.invariant.3;
+  cells = c.loop-one.invariant.2;
+}

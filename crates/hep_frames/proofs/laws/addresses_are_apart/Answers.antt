@@ -3,11 +3,9 @@ use Rattle.hep_arena.specs.Holes.{IsOut}
 use Rattle.hep_frames.proofs.Addresses.{address-out, one-location}
 use Rattle.hep_frames.proofs.laws.addresses_are_apart.Goals as goal
 
-pub returns-clause-one : goal.returns-clause-one
-returns-clause-one c = one-location
-
-pub returns-clause-inside : goal.returns-clause-inside
-returns-clause-inside c program s cells layout at p laid e = (address-out program s cells layout at p laid e).0
-
-pub returns-clause-out : goal.returns-clause-out
-returns-clause-out c program s layout contents holes at p h e = subst (IsOut p) (sym h.holes_are) (address-out program s (length contents) layout at p h.laid e).1
+pub returns : goal.returns
+returns c = record {
+  one = one-location;
+  inside = λ program s cells layout at p laid e. (address-out program s cells layout at p laid e).0;
+  out = λ program s layout contents holes at p h e. subst (IsOut p) (sym h.holes_are) (address-out program s (length contents) layout at p h.laid e).1;
+}

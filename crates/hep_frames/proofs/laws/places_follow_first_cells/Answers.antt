@@ -4,11 +4,9 @@ use Rattle.hep_frames.specs.Rows.{block_row, common_row, frame_row, same_part}
 use Rattle.hep_frames.proofs.Rows.{place-is}
 use Rattle.hep_frames.proofs.laws.places_follow_first_cells.Goals as goal
 
-pub returns-clause-frame : goal.returns-clause-frame
-returns-clause-frame c unit part i = place-is (same_part part) i (frame_row unit)
-
-pub returns-clause-common : goal.returns-clause-common
-returns-clause-common c program b i = place-is (same_block b) i (common_row program)
-
-pub returns-clause-block : goal.returns-clause-block
-returns-clause-block c unit b x i = place-is (same_name x) i (block_row unit b)
+pub returns : goal.returns
+returns c = record {
+  frame = λ unit part i. place-is (same_part part) i (frame_row unit);
+  common = λ program b i. place-is (same_block b) i (common_row program);
+  block = λ unit b x i. place-is (same_name x) i (block_row unit b);
+}

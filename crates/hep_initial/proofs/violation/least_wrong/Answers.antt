@@ -1,11 +1,11 @@
 use Rattle.std.proofs.Common.{◌≤◌, ◌+◌, ◌∙◌, [], ap, drop, length, arith}
 use Rattle.hep_machine.specs.Constants.{value_among, given_by}
 use Rattle.hep_check.specs.Data.{elements_in}
-use Rattle.hep_symbols.proofs.Firsts.{ahead}
 use Rattle.hep_initial.specs.Given.{given_after}
 use Rattle.hep_initial.specs.Groups.{data_line}
 use Rattle.hep_initial.proofs.DataTurns.{data-turn, data-end}
 use Rattle.hep_initial.proofs.violation.least_wrong.Goals as goal
+use Rattle.hep_source.proofs.Tests.{drop_at}
 
 pub loop-statement-init : goal.loop-statement-init
 loop-statement-init c =
@@ -27,7 +27,7 @@ loop-statement-preserved c =
         given_after so_far.0 (elements_in unit known s),
         turned.1,
         data-turn unit known so_far.0 s (drop i ss) (drop (i + 1) ss) c.give.new.constants c.loop-statement.least c.line_when.result c.lesser-least.result _ c.in_ok-is_wrong.is_wrong
-            (ahead ss i s c.loop-statement-test.true c.statement-item.is) so_far.2 turned.0 c.line_when.ensures c.lesser-least.ensures
+            (drop_at ss i s c.loop-statement-test.true c.statement-item.is) so_far.2 turned.0 c.line_when.ensures c.lesser-least.ensures
             (c.in_ok-give.ensures ∙ ap (λ cs. value_among (given_by unit known cs)) c.constants_in.ensures),
       ),
     )

@@ -5,10 +5,10 @@ use Rattle.hep_text.specs.declared.statement.Stmt.{Stmt}
 use Rattle.hep_base.specs.declared.refusal.Refusal.{Refusal as ParseFault}
 use Rattle.hep_parse.specs.declared.program.State.{State}
 use Rattle.hep_parse.specs.ReadingProgram.{Misses, units, program}
-use Rattle.hep_parse.proofs.Programs.{not_true, not_false}
 use Rattle.hep_parse.proofs.UnitLoops.{with_units, left_at, failed, within, at_its_end, is_missed, has_no_end, has_no_main, is_over}
 use Rattle.hep_parse.proofs.program.units.Goals as goal
 use Rattle.hep_parse.proofs.program.units.Goals.{then-is_start+in_ok-push-2, else-is_start}
+use Rattle.std.proofs.lemmas.Bool.{not-true, not-false}
 
 -- the invariant in the loop and after it, with what is left of the statements said otherwise
 turned : (x : State) (line : ℕ) (done : List (List Statement)) (unit : List Statement) (given left : List Stmt) (i : ℕ) → drop i given ≡ left → with_units done unit (units x line (drop i given)) ≡ program given → with_units done unit (units x line left) ≡ program given
@@ -43,10 +43,10 @@ returns-then-not-is_start c =
 pub returns-then-not-state : goal.returns-then-not-state
 returns-then-not-state c =
     let over = turned c.loop-given.state c.loop-given.last_line c.loop-given.units.items c.loop-given.unit.items c.args.statements.now [] c.loop-given.given-index (drop_all c.loop-given.given-index c.args.statements.now c.loop-given-test.false) c.loop-given.invariant.0 in
-    subst (λ (z : ParseFault). Misses z (program c.args.statements.now)) (sym c.refused-then-not-state.ensures) (has_no_main c.loop-given.state c.loop-given.last_line c.loop-given.units.items c.loop-given.unit.items (program c.args.statements.now) (sym c.if-not-is_start.ensures) (not_true c.loop-given.state.has_main c.if-not-state.true) over)
+    subst (λ (z : ParseFault). Misses z (program c.args.statements.now)) (sym c.refused-then-not-state.ensures) (has_no_main c.loop-given.state c.loop-given.last_line c.loop-given.units.items c.loop-given.unit.items (program c.args.statements.now) (sym c.if-not-is_start.ensures) (not-true c.loop-given.state.has_main c.if-not-state.true) over)
 
 pub returns : goal.returns
 returns c =
     let over = turned c.loop-given.state c.loop-given.last_line c.loop-given.units.items c.loop-given.unit.items c.args.statements.now [] c.loop-given.given-index (drop_all c.loop-given.given-index c.args.statements.now c.loop-given-test.false) c.loop-given.invariant.0 in
     let start = sym c.if-not-is_start.ensures in
-    is_over c.loop-given.state c.loop-given.last_line c.loop-given.units.items c.loop-given.unit.items (program c.args.statements.now) start (not_false c.loop-given.state.has_main c.if-not-state.false) (c.loop-given.invariant.1 start) over
+    is_over c.loop-given.state c.loop-given.last_line c.loop-given.units.items c.loop-given.unit.items (program c.args.statements.now) start (not-false c.loop-given.state.has_main c.if-not-state.false) (c.loop-given.invariant.1 start) over

@@ -3,11 +3,9 @@ use Rattle.hep_placed.proofs.Placed.{variables_of_all, variables_of_operations}
 use Rattle.hep_placed.proofs.Starts.{placed_begins}
 use Rattle.hep_placed.proofs.laws.variables_of_the_code_are_placed.Goals as goal
 
-pub returns-clause-operations : goal.returns-clause-operations
-returns-clause-operations c = λ program u i line o accepted h e. variables_of_operations program u (facts_of c.constants_agree.ensures program u accepted h) i line o e
-
-pub returns-clause-all : goal.returns-clause-all
-returns-clause-all c = λ program u i x accepted h e. variables_of_all program u (facts_of c.constants_agree.ensures program u accepted h) i x e
-
-pub returns-clause-begun : goal.returns-clause-begun
-returns-clause-begun c = placed_begins
+pub returns : goal.returns
+returns c = record {
+  operations = λ program u i line o accepted h e. variables_of_operations program u (facts_of c.constants_agree.ensures program u accepted h) i line o e;
+  all = λ program u i x accepted h e. variables_of_all program u (facts_of c.constants_agree.ensures program u accepted h) i x e;
+  begun = placed_begins;
+}

@@ -3,10 +3,10 @@ use Rattle.indexmap.specs.IndexSet.{contains}
 use Rattle.hep_source.specs.Names.{is_among, name_eq}
 use Rattle.hep_source.specs.declared.statement.Statement.{Statement}
 use Rattle.hep_symbols.specs.Tables.{either}
-use Rattle.hep_symbols.proofs.Firsts.{ahead}
 use Rattle.hep_image.specs.Private.{bare_actuals_in}
 use Rattle.hep_places.proofs.Gathered.{among-next}
 use Rattle.hep_places.proofs.actuals.bare_actuals.Goals as goal
+use Rattle.hep_source.proofs.Tests.{drop_at}
 
 pub loop-statement-preserved : goal.loop-statement-preserved
 loop-statement-preserved c = λ x.
@@ -15,5 +15,5 @@ loop-statement-preserved c = λ x.
     let old = contains name_eq c.loop-statement.names x in
     among-next x (λ (s : Statement). bare_actuals_in s.form) old _ _ c.statement-item.result (drop i ss) (drop (i + 1) ss)
     (c.loop-statement.invariant x)
-    (ahead ss i c.statement-item.result c.loop-statement-test.true c.statement-item.is)
+    (drop_at ss i c.statement-item.result c.loop-statement-test.true c.statement-item.is)
     (c.in_ok-add_names.ensures x ∙ ap (λ ys. either old (is_among x ys)) c.actuals_in.ensures)

@@ -5,13 +5,13 @@ use Rattle.hep_source.specs.Names.{name_eq}
 use Rattle.hep_source.specs.Units.{names_of_occurrences}
 use Rattle.hep_common.specs.Starts.{narrowed}
 use Rattle.hep_places.specs.Found.{adjustable_row, behind, behind_loops, first_bound, first_local, first_loop, loops_from, name_row, start_among}
-use Rattle.hep_places.proofs.Taken.{length-names}
 use Rattle.hep_places.proofs.tables.tables_of.Goals as goal
+use Rattle.hep_source.proofs.Statements.{names-length}
 
 pub returns : goal.returns
 returns c =
     let unit = c.args.symbols.now in
-    let count = sym (length-names c.dummies.result.now) ∙ ap length c.dummies.ensures in
+    let count = sym (names-length c.dummies.result.now) ∙ ap length c.dummies.ensures in
     let first : c.in_ok-locals.locals.next ≡ first_local unit = c.in_ok-locals.ensures.next ∙ (c.behind_pairs-first.ensures ∙ ap (λ n. narrowed (1 + 2 * n)) count) in
     let second : c.new-loops.result.next ≡ first_loop unit = c.new-loops.ensures.next ∙ (c.in_ok-add_variables.ensures.next ∙ (λ i. behind (first i) (name_row unit (c.locals-2.ensures i)))) in
     let third : c.in_ok-bounds.bounds.next ≡ first_bound unit = c.in_ok-bounds.ensures.next ∙ (c.in_ok-add_statements.ensures.next ∙ (λ i. behind_loops (second i) (c.statements.ensures i))) in

@@ -14,10 +14,11 @@ use Rattle.hep_places.specs.declared.unit.UnitPlaces.{UnitPlaces}
 use Rattle.hep_places.specs.Dummies.{dummy_found, source_found, source_in}
 use Rattle.hep_places.specs.Found.{array_found, variable_among}
 use Rattle.hep_places.specs.Owners.{variables_found}
-use Rattle.hep_places.proofs.Accepted.{no-dummy, unit_there}
+use Rattle.hep_places.proofs.Accepted.{no-dummy}
 use Rattle.hep_places.proofs.Final.{IsFound, found_start, places-right}
 use Rattle.hep_places.proofs.Right.{constant-is-fixed}
 use Rattle.hep_places.proofs.unit.unit_places.Goals as goal
+use Rattle.hep_image.proofs.Numbers.{unit-there}
 
 pub returns : goal.returns
 unfolding source_in
@@ -34,7 +35,7 @@ returns c = λ program u accepted inside same starts few small.
       dummies = c.in_ok-dummies.dummies;
       frame_variables = c.in_ok-frame_variables.frame_variables;
     } in
-    let there = unit_there program u inside in
+    let there = unit-there program u inside in
     let names : c.as_slice-names.result.now ≡ names_of now = c.as_slice-names.ensures.keys ∙ c.names.ensures in
     places-right program u unit common t p there
     (record {

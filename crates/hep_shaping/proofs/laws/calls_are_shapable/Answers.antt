@@ -1,12 +1,12 @@
 use Rattle.hep_source.specs.Units.{unit_at}
-use Rattle.hep_placed.proofs.Facts.{unit_there}
 use Rattle.hep_shaping.proofs.CommonCells.{common_some}
 use Rattle.hep_shaping.proofs.Shapable.{call_shapable}
 use Rattle.hep_shaping.proofs.laws.calls_are_shapable.Goals as goal
+use Rattle.hep_image.proofs.Numbers.{unit-there}
 
 pub returns : goal.returns
 returns c = λ program s layout contents holes u a room actuals given ds accepted less.
-    let there = unit_there program u less in
+    let there = unit-there program u less in
     call_shapable program u (unit_at program u) there
     (λ x. common_some (unit_at program u) x
     (c.names_stand_for_one_thing.ensures.one program u (unit_at program u) x accepted there)

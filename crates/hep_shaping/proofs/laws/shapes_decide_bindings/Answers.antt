@@ -1,12 +1,12 @@
 use Rattle.hep_source.specs.Units.{unit_at}
-use Rattle.hep_placed.proofs.Facts.{unit_there}
 use Rattle.hep_shaping.proofs.Bound.{fit_bound, unfit_faults}
 use Rattle.hep_shaping.proofs.CommonCells.{common_some}
 use Rattle.hep_shaping.proofs.laws.shapes_decide_bindings.Goals as goal
+use Rattle.hep_image.proofs.Numbers.{unit-there}
 
 pub returns-clause-fit : goal.returns-clause-fit
 returns-clause-fit c = λ program s layout contents u a scope actuals given ds accepted less frameless holds gives bound.
-    let there = unit_there program u less in
+    let there = unit-there program u less in
     fit_bound program u (unit_at program u) there
     (λ x is none. let known = c.constant_shapes.ensures program u x accepted less is none in (known.0, known.1))
     (λ x. common_some (unit_at program u) x
@@ -18,7 +18,7 @@ returns-clause-fit c = λ program s layout contents u a scope actuals given ds a
 
 pub returns-clause-unfit : goal.returns-clause-unfit
 returns-clause-unfit c = λ program s layout contents u a scope actuals given ds accepted less frameless holds gives bound.
-    let there = unit_there program u less in
+    let there = unit-there program u less in
     unfit_faults program u (unit_at program u) there
     (λ x is none. let known = c.constant_shapes.ensures program u x accepted less is none in (known.0, known.1))
     (λ x. common_some (unit_at program u) x

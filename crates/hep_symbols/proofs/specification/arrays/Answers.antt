@@ -6,9 +6,9 @@ use Rattle.hep_machine.specs.Declarations.{declarator_among, declarators_in}
 use Rattle.hep_symbols.specs.Statements.{rest_after}
 use Rattle.hep_symbols.specs.Tables.{seen, first_in, declarator_by_form}
 use Rattle.hep_symbols.proofs.ArraysAmong.{among_arrays}
-use Rattle.hep_symbols.proofs.Firsts.{ahead}
 use Rattle.hep_symbols.proofs.Notes.{or-assoc}
 use Rattle.hep_symbols.proofs.specification.arrays.Goals as goal
+use Rattle.hep_source.proofs.Tests.{drop_at}
 
 pub loop-statement-preserved : goal.loop-statement-preserved
 loop-statement-preserved c = λ x.
@@ -21,4 +21,4 @@ loop-statement-preserved c = λ x.
     ap (declarator_among x) (ap rest_after c.deref.ensures.value ∙ c.in_ok-declarators.ensures) ∙ among_arrays x (declarators_in s.form) in
     ap (λ o. option_or o (first_in says (drop (i + 1) xs))) (c.in_ok-note_arrays.ensures x ∙ ap (option_or old) given)
     ∙ (or-assoc old (says s.form) (first_in says (drop (i + 1) xs))
-    ∙ (ap (λ ss. option_or old (first_in says ss)) (sym (ahead xs i s c.loop-statement-test.true c.statement-item.is)) ∙ c.loop-statement.invariant x))
+    ∙ (ap (λ ss. option_or old (first_in says ss)) (sym (drop_at xs i s c.loop-statement-test.true c.statement-item.is)) ∙ c.loop-statement.invariant x))

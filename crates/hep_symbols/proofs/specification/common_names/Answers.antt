@@ -5,10 +5,10 @@ use Rattle.indexmap.specs.IndexMap.{get}
 use Rattle.hep_source.specs.Names.{is_among, name_eq}
 use Rattle.hep_machine.specs.Declarations.{block_holding, blocks_in, entries_of_blocks, names_declared}
 use Rattle.hep_symbols.specs.Tables as tables
-use Rattle.hep_symbols.proofs.Firsts.{ahead}
-use Rattle.hep_symbols.proofs.News.{and-true, new-turn, seen-held}
+use Rattle.hep_symbols.proofs.News.{new-turn, seen-held}
 use Rattle.hep_symbols.proofs.Notes.{or-assoc, or-none}
 use Rattle.hep_symbols.proofs.specification.common_names.Goals as goal
+use Rattle.hep_source.proofs.Tests.{drop_at, and-true}
 
 pub loop-statement-preserved : goal.loop-statement-preserved
 loop-statement-preserved c =
@@ -16,7 +16,7 @@ loop-statement-preserved c =
     let i = c.loop-statement.statement-index in
     let s = c.statement-item.result in
     let rest = drop (i + 1) ss in
-    let next = ahead ss i s c.loop-statement-test.true c.statement-item.is in
+    let next = drop_at ss i s c.loop-statement-test.true c.statement-item.is in
     let old = get name_eq c.loop-statement.blocks in
     let new = get name_eq c.note_blocks.new.blocks in
     let named = c.blocks_in.result.now in

@@ -3,16 +3,16 @@ use Rattle.indexmap.specs.IndexMap.{get}
 use Rattle.hep_source.specs.Names.{name_eq}
 use Rattle.hep_machine.specs.Declarations.{names_declared}
 use Rattle.hep_symbols.specs.Tables.{are_new}
-use Rattle.hep_symbols.proofs.Firsts.{ahead}
 use Rattle.hep_symbols.proofs.News.{declared-turn, new-turn, one-new, seen-one}
 use Rattle.hep_symbols.proofs.specification.note_block.Goals as goal
+use Rattle.hep_source.proofs.Tests.{drop_at}
 
 pub loop-entry-preserved : goal.loop-entry-preserved
 loop-entry-preserved c =
     let ds = c.args.entries.now in
     let i = c.loop-entry.entry-index in
     let d = c.entry-item.result in
-    let next = ahead ds i d c.loop-entry-test.true c.entry-item.is in
+    let next = drop_at ds i d c.loop-entry-test.true c.entry-item.is in
     let old = get name_eq c.loop-entry.blocks in
     let new = get name_eq c.note_first.new.table in
     record {

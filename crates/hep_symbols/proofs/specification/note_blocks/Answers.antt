@@ -3,9 +3,9 @@ use Rattle.indexmap.specs.IndexMap.{get}
 use Rattle.hep_source.specs.Names.{is_among, name_eq}
 use Rattle.hep_machine.specs.Declarations.{entries_of_blocks, names_declared}
 use Rattle.hep_symbols.specs.Tables.{are_new}
-use Rattle.hep_symbols.proofs.Firsts.{ahead}
 use Rattle.hep_symbols.proofs.News.{declared-append, holding-turn, new-turn, seen-declared}
 use Rattle.hep_symbols.proofs.specification.note_blocks.Goals as goal
+use Rattle.hep_source.proofs.Tests.{drop_at}
 
 pub loop-block-preserved : goal.loop-block-preserved
 loop-block-preserved c =
@@ -13,7 +13,7 @@ loop-block-preserved c =
     let i = c.loop-block.block-index in
     let b = c.block-item.result in
     let rest = drop (i + 1) bs in
-    let next = ahead bs i b c.loop-block-test.true c.block-item.is in
+    let next = drop_at bs i b c.loop-block-test.true c.block-item.is in
     let old = get name_eq c.loop-block.blocks in
     let new = get name_eq c.note_block.new.blocks in
     record {

@@ -6,10 +6,10 @@ use Rattle.hep_symbols.specs.Statements.{rest_after}
 use Rattle.hep_source.specs.Names.{name_eq}
 use Rattle.hep_machine.specs.Declarations.{declarator_among, declarators_in}
 use Rattle.hep_symbols.proofs.ArraysAmong.{among_arrays}
-use Rattle.hep_symbols.proofs.Firsts.{ahead}
 use Rattle.hep_types.specs.Bounds.{shape_given}
 use Rattle.hep_types.proofs.KnownShapes.{next-shape}
 use Rattle.hep_types.proofs.shapes.shapes_of.Goals as goal
+use Rattle.hep_source.proofs.Tests.{drop_at}
 
 pub loop-statement-preserved : goal.loop-statement-preserved
 loop-statement-preserved c = λ x.
@@ -23,4 +23,4 @@ loop-statement-preserved c = λ x.
     next-shape unit c.loop-statement.parameters c.add_all.new.self x (declarators_in form) old (get name_eq c.note_shapes.new.shapes x) c.statement-item.result (drop i xs) (drop (i + 1) xs) _
     (c.loop-statement.invariant x) (c.in_ok-note_shapes.ensures x ∙ ap (λ o. option_or old (option_map (shape_given unit c.loop-statement.parameters) o)) given) refl
     (c.in_ok-add_all.ensures.taken ∙ ap (with_parameters unit c.loop-statement.parameters) c.constants_in.ensures)
-    (ahead xs i c.statement-item.result c.loop-statement-test.true c.statement-item.is)
+    (drop_at xs i c.statement-item.result c.loop-statement-test.true c.statement-item.is)

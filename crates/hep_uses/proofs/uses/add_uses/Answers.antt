@@ -1,12 +1,13 @@
 use Rattle.std.proofs.Common.{◌+◌, drop}
 use Rattle.hep_source.specs.declared.statement.Statement.{Statement}
 use Rattle.hep_uses.specs.Uses.{used_at, names_by}
-use Rattle.hep_symbols.proofs.Firsts.{grow, ahead}
+use Rattle.hep_symbols.proofs.Firsts.{grow}
 use Rattle.hep_uses.proofs.uses.add_uses.Goals as goal
+use Rattle.hep_source.proofs.Tests.{drop_at}
 
 pub loop-statement-preserved : goal.loop-statement-preserved
 loop-statement-preserved c =
     let ss = c.statements-statement-items.result.now in
     let i = c.loop-statement.statement-index in
     grow (λ (s : Statement). used_at s.line (names_by c.args.symbols.now c.args.way s)) c.loop-statement.uses.items c.add_in.new.uses.items _ c.statement-item.result (drop i ss) (drop (i + 1) ss)
-    c.loop-statement.invariant c.in_ok-add_in.ensures (ahead ss i c.statement-item.result c.loop-statement-test.true c.statement-item.is)
+    c.loop-statement.invariant c.in_ok-add_in.ensures (drop_at ss i c.statement-item.result c.loop-statement-test.true c.statement-item.is)

@@ -2,16 +2,16 @@ use Rattle.std.proofs.Common.{◌≤◌, ◌+◌, ◌∙◌, [], ap, sym, drop, 
 use Rattle.std.proofs.lemmas.List.{drop_all}
 use Rattle.hep_machine.specs.Constants.{value_among, given_by}
 use Rattle.hep_machine.specs.Declarations.{named_constants}
-use Rattle.hep_symbols.proofs.Firsts.{ahead}
 use Rattle.hep_values.proofs.GivenInTurn.{constants-turn}
 use Rattle.hep_values.proofs.given.constants.Goals as goal
+use Rattle.hep_source.proofs.Tests.{drop_at}
 
 pub loop-statement-preserved : goal.loop-statement-preserved
 loop-statement-preserved c =
     let ss = c.statements-statement-items.result.now in
     let i = c.loop-statement.statement-index in
     constants-turn c.args.symbols.now (drop i ss) (drop (i + 1) ss) c.statement-item.result c.constants_in.result.now c.loop-statement.constants c.give.new.constants _
-    (ahead ss i c.statement-item.result c.loop-statement-test.true c.statement-item.is) c.loop-statement.invariant c.constants_in.ensures c.in_ok-give.ensures
+    (drop_at ss i c.statement-item.result c.loop-statement-test.true c.statement-item.is) c.loop-statement.invariant c.constants_in.ensures c.in_ok-give.ensures
 
 pub returns : goal.returns
 returns c =

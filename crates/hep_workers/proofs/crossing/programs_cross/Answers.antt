@@ -33,234 +33,194 @@ use Rattle.hep_source.specs.contracts.statement.Form as form
 use Rattle.hep_source.specs.contracts.statement.Statement as statement
 use Rattle.hep_workers.proofs.crossing.programs_cross.Goals as goal
 
-name-send : IsSend name.the_row
-name-send = search (crosses, sendable, declared_send, as_row_send, array_field_send) depth 30 fits 5000
+-- may be sent and shared
+abbrev Crosses : RattleType → Type 0
+Crosses row = IsSend row × IsSync row
 
-occurrence-send : IsSend occurrence.the_row
-occurrence-send = search (crosses, sendable, declared_send, as_row_send, name-send) depth 30 fits 5000
+name-crosses : Crosses name.the_row
+name-crosses = (
+  search (crosses, sendable, declared_send, as_row_send, array_field_send) depth 30 fits 5000,
+  search (crosses, sendable, declared_sync, as_row_sync, array_field_sync) depth 30 fits 5000,
+)
 
-value-send : IsSend value.the_row
-value-send = search (crosses, sendable, declared_send, variants_send, as_row_send) depth 20
+occurrence-crosses : Crosses occurrence.the_row
+occurrence-crosses = (
+  search (crosses, sendable, declared_send, as_row_send, name-crosses.0) depth 30 fits 5000,
+  search (crosses, sendable, declared_sync, as_row_sync, name-crosses.1) depth 30 fits 5000,
+)
 
-u8-send : IsSend u8
-u8-send = search sendable depth 20
+value-crosses : Crosses value.the_row
+value-crosses = (search (crosses, sendable, declared_send, variants_send, as_row_send) depth 20, search (crosses, sendable, declared_sync, variants_sync, as_row_sync) depth 20)
 
-u32-send : IsSend u32
-u32-send = search sendable depth 20
+u8-crosses : Crosses u8
+u8-crosses = (search sendable depth 20, search sendable depth 20)
 
-repeat-send : IsSend repeat.the_row
-repeat-send = search (crosses, sendable, variants_send, as_row_send, occurrence-send) depth 20
+u32-crosses : Crosses u32
+u32-crosses = (search sendable depth 20, search sendable depth 20)
 
-datum-send : IsSend datum.the_row
-datum-send = search (crosses, sendable, variants_send, as_row_send, occurrence-send, value-send) depth 20
+repeat-crosses : Crosses repeat.the_row
+repeat-crosses = (search (crosses, sendable, variants_send, as_row_send, occurrence-crosses.0) depth 20, search (crosses, sendable, variants_sync, as_row_sync, occurrence-crosses.1) depth 20)
 
-given-send : IsSend given.the_row
-given-send = search (crosses, sendable, declared_send, variants_send, as_row_send, repeat-send, datum-send) depth 20
+datum-crosses : Crosses datum.the_row
+datum-crosses = (
+  search (crosses, sendable, variants_send, as_row_send, occurrence-crosses.0, value-crosses.0) depth 20,
+  search (crosses, sendable, variants_sync, as_row_sync, occurrence-crosses.1, value-crosses.1) depth 20,
+)
 
-range-send : IsSend range.the_row
-range-send = search (crosses, sendable, declared_send, as_row_send) depth 20
+given-crosses : Crosses given.the_row
+given-crosses = (
+  search (crosses, sendable, declared_send, variants_send, as_row_send, repeat-crosses.0, datum-crosses.0) depth 20,
+  search (crosses, sendable, declared_sync, variants_sync, as_row_sync, repeat-crosses.1, datum-crosses.1) depth 20,
+)
 
-type-send : IsSend type.the_row
-type-send = search (crosses, sendable, variants_send, as_row_send) depth 20
+range-crosses : Crosses range.the_row
+range-crosses = (search (crosses, sendable, declared_send, as_row_send) depth 20, search (crosses, sendable, declared_sync, as_row_sync) depth 20)
+
+type-crosses : Crosses type.the_row
+type-crosses = (search (crosses, sendable, variants_send, as_row_send) depth 20, search (crosses, sendable, variants_sync, as_row_sync) depth 20)
 
 sequence-send : (T : RattleType) → IsSend T → IsSend (sequence.the_row T)
 sequence-send T s = search (crosses, sendable, declared_send, as_row_send) depth 20
 
-signs-send : IsSend signs.the_row
-signs-send = search (sendable, declared_send, as_row_send) depth 20
-
-text-send : IsSend (sequence.the_row u8)
-text-send = sequence-send u8 u8-send
-
-labels-send : IsSend (sequence.the_row u32)
-labels-send = sequence-send u32 u32-send
-
-names-send : IsSend (sequence.the_row occurrence.the_row)
-names-send = sequence-send occurrence.the_row occurrence-send
-
-module _ (expression-send : IsSend expression.the_row) where
-  target-send : IsSend target.the_row
-  target-send = search (tt, declared_send, as_row_send, occurrence-send, sequence-send, expression-send) depth 20
-
-  control-send : IsSend control.the_row
-  control-send = search (crosses, sendable, declared_send, variants_send, as_row_send, occurrence-send, expression-send) depth 20
-
-  item-send : IsSend item.the_row
-  item-send = search (sendable, variants_send, as_row_send, text-send, expression-send) depth 20
-
-  group-send : IsSend group.the_row
-  group-send = search (tt, declared_send, as_row_send, sequence-send, target-send, given-send) depth 20
-
-  bound-send : IsSend bound.the_row
-  bound-send = search (tt, variants_send, as_row_send, expression-send) depth 20
-
-  dimension-send : IsSend dimension.the_row
-  dimension-send = search (crosses, sendable, declared_send, variants_send, as_row_send, bound-send, expression-send) depth 20
-
-  declarator-send : IsSend declarator.the_row
-  declarator-send = search (tt, declared_send, as_row_send, sequence-send, occurrence-send, dimension-send) depth 20
-
-  block-send : IsSend block.the_row
-  block-send = search (crosses, sendable, declared_send, variants_send, as_row_send, sequence-send, occurrence-send, declarator-send) depth 20
-
-  letters-send : IsSend letters.the_row
-  letters-send = search (tt, declared_send, as_row_send, sequence-send, type-send, range-send) depth 20
-
-  constant-send : IsSend constant.the_row
-  constant-send = search (tt, declared_send, as_row_send, occurrence-send, expression-send) depth 20
-
-  occurrence-part : IsSend (occurrence.the_field).row
-  occurrence-part = search (crosses, sendable) depth 30 fits 5000
-
-  type-part : IsSend (type.the_field).row
-  type-part = search (crosses, sendable) depth 30 fits 5000
-
-  signs-part : IsSend (signs.the_field).row
-  signs-part = search (crosses, sendable) depth 30 fits 5000
-
-  target-part : IsSend (target.the_field).row
-  target-part = search (crosses, sendable, occurrence-part, sequence-send, expression-send) depth 30 fits 5000
-
-  control-part : IsSend (control.the_field).row
-  control-part = search (crosses, sendable, variants_send, as_row_send, occurrence-part, expression-send) depth 30 fits 5000
-
-  form-part : IsSend (form.the_field).row
-  form-part =
-      let actuals = sequence-send expression.the_row expression-send in
-      let ranges = sequence-send letters.the_row letters-send in
-      let declarators = sequence-send declarator.the_row declarator-send in
-      let blocks = sequence-send block.the_row block-send in
-      let constants = sequence-send constant.the_row constant-send in
-      let groups = sequence-send group.the_row group-send in
-      let targets = sequence-send target.the_row target-send in
-      let items = sequence-send item.the_row item-send in
-      enum_send (shape form.the_type) ((occurrence-part, tt), ((occurrence-part, (names-send, tt)), ((ranges, tt), ((type-part, (declarators, tt)), ((declarators, tt), ((blocks, tt), ((constants, tt), ((groups, tt), ((target-part, (expression-send, tt)), ((u32-send, tt), ((labels-send, (expression-send, tt)), ((expression-send, (signs-part, tt)), ((expression-send, tt), ((expression-send, tt), (tt, (tt, ((control-part, tt), ((occurrence-part, (actuals, tt)), ((occurrence-part, (actuals, tt)), ((targets, tt), ((items, tt), (tt, (tt, (tt, (tt, tt)))))))))))))))))))))))))
-
-  statement-send : IsSend statement.the_row
-  statement-send = search (crosses, sendable, declared_send, variants_send, as_row_send, sequence-send, expression-send, form-part) depth 30
-
-  unit-send : IsSend unit.the_row
-  unit-send = view_send (units.the_row) _ _ _ _ (declared_send units.the_type (search (crosses, as_row_send, statement-send) depth 10, tt))
-
-  program-send : IsSend program.the_row
-  program-send = view_send (programs.the_row) _ _ _ _ (declared_send programs.the_type (search (crosses, as_row_send, unit-send) depth 10, tt))
-
--- ---- to be shared
-
-name-sync : IsSync name.the_row
-name-sync = search (crosses, sendable, declared_sync, as_row_sync, array_field_sync) depth 30 fits 5000
-
-occurrence-sync : IsSync occurrence.the_row
-occurrence-sync = search (crosses, sendable, declared_sync, as_row_sync, name-sync) depth 30 fits 5000
-
-value-sync : IsSync value.the_row
-value-sync = search (crosses, sendable, declared_sync, variants_sync, as_row_sync) depth 20
-
-u8-sync : IsSync u8
-u8-sync = search sendable depth 20
-
-u32-sync : IsSync u32
-u32-sync = search sendable depth 20
-
-repeat-sync : IsSync repeat.the_row
-repeat-sync = search (crosses, sendable, variants_sync, as_row_sync, occurrence-sync) depth 20
-
-datum-sync : IsSync datum.the_row
-datum-sync = search (crosses, sendable, variants_sync, as_row_sync, occurrence-sync, value-sync) depth 20
-
-given-sync : IsSync given.the_row
-given-sync = search (crosses, sendable, declared_sync, variants_sync, as_row_sync, repeat-sync, datum-sync) depth 20
-
-range-sync : IsSync range.the_row
-range-sync = search (crosses, sendable, declared_sync, as_row_sync) depth 20
-
-type-sync : IsSync type.the_row
-type-sync = search (crosses, sendable, variants_sync, as_row_sync) depth 20
-
 sequence-sync : (T : RattleType) → IsSync T → IsSync (sequence.the_row T)
 sequence-sync T s = search (crosses, sendable, declared_sync, as_row_sync) depth 20
 
-signs-sync : IsSync signs.the_row
-signs-sync = search (sendable, declared_sync, as_row_sync) depth 20
+signs-crosses : Crosses signs.the_row
+signs-crosses = (search (sendable, declared_send, as_row_send) depth 20, search (sendable, declared_sync, as_row_sync) depth 20)
 
-text-sync : IsSync (sequence.the_row u8)
-text-sync = sequence-sync u8 u8-sync
+text-crosses : Crosses (sequence.the_row u8)
+text-crosses = (sequence-send u8 u8-crosses.0, sequence-sync u8 u8-crosses.1)
 
-labels-sync : IsSync (sequence.the_row u32)
-labels-sync = sequence-sync u32 u32-sync
+labels-crosses : Crosses (sequence.the_row u32)
+labels-crosses = (sequence-send u32 u32-crosses.0, sequence-sync u32 u32-crosses.1)
 
-names-sync : IsSync (sequence.the_row occurrence.the_row)
-names-sync = sequence-sync occurrence.the_row occurrence-sync
+names-crosses : Crosses (sequence.the_row occurrence.the_row)
+names-crosses = (sequence-send occurrence.the_row occurrence-crosses.0, sequence-sync occurrence.the_row occurrence-crosses.1)
 
-module _ (expression-sync : IsSync expression.the_row) where
-  target-sync : IsSync target.the_row
-  target-sync = search (tt, declared_sync, as_row_sync, occurrence-sync, sequence-sync, expression-sync) depth 20
+module _ (expression-crosses : Crosses expression.the_row) where
+  target-crosses : Crosses target.the_row
+  target-crosses = (
+    search (tt, declared_send, as_row_send, occurrence-crosses.0, sequence-send, expression-crosses.0) depth 20,
+    search (tt, declared_sync, as_row_sync, occurrence-crosses.1, sequence-sync, expression-crosses.1) depth 20,
+  )
 
-  control-sync : IsSync control.the_row
-  control-sync = search (crosses, sendable, declared_sync, variants_sync, as_row_sync, occurrence-sync, expression-sync) depth 20
+  control-crosses : Crosses control.the_row
+  control-crosses = (
+    search (crosses, sendable, declared_send, variants_send, as_row_send, occurrence-crosses.0, expression-crosses.0) depth 20,
+    search (crosses, sendable, declared_sync, variants_sync, as_row_sync, occurrence-crosses.1, expression-crosses.1) depth 20,
+  )
 
-  item-sync : IsSync item.the_row
-  item-sync = search (sendable, variants_sync, as_row_sync, text-sync, expression-sync) depth 20
+  item-crosses : Crosses item.the_row
+  item-crosses = (
+    search (sendable, variants_send, as_row_send, text-crosses.0, expression-crosses.0) depth 20,
+    search (sendable, variants_sync, as_row_sync, text-crosses.1, expression-crosses.1) depth 20,
+  )
 
-  group-sync : IsSync group.the_row
-  group-sync = search (tt, declared_sync, as_row_sync, sequence-sync, target-sync, given-sync) depth 20
+  group-crosses : Crosses group.the_row
+  group-crosses = (
+    search (tt, declared_send, as_row_send, sequence-send, target-crosses.0, given-crosses.0) depth 20,
+    search (tt, declared_sync, as_row_sync, sequence-sync, target-crosses.1, given-crosses.1) depth 20,
+  )
 
-  bound-sync : IsSync bound.the_row
-  bound-sync = search (tt, variants_sync, as_row_sync, expression-sync) depth 20
+  bound-crosses : Crosses bound.the_row
+  bound-crosses = (search (tt, variants_send, as_row_send, expression-crosses.0) depth 20, search (tt, variants_sync, as_row_sync, expression-crosses.1) depth 20)
 
-  dimension-sync : IsSync dimension.the_row
-  dimension-sync = search (crosses, sendable, declared_sync, variants_sync, as_row_sync, bound-sync, expression-sync) depth 20
+  dimension-crosses : Crosses dimension.the_row
+  dimension-crosses = (
+    search (crosses, sendable, declared_send, variants_send, as_row_send, bound-crosses.0, expression-crosses.0) depth 20,
+    search (crosses, sendable, declared_sync, variants_sync, as_row_sync, bound-crosses.1, expression-crosses.1) depth 20,
+  )
 
-  declarator-sync : IsSync declarator.the_row
-  declarator-sync = search (tt, declared_sync, as_row_sync, sequence-sync, occurrence-sync, dimension-sync) depth 20
+  declarator-crosses : Crosses declarator.the_row
+  declarator-crosses = (
+    search (tt, declared_send, as_row_send, sequence-send, occurrence-crosses.0, dimension-crosses.0) depth 20,
+    search (tt, declared_sync, as_row_sync, sequence-sync, occurrence-crosses.1, dimension-crosses.1) depth 20,
+  )
 
-  block-sync : IsSync block.the_row
-  block-sync = search (crosses, sendable, declared_sync, variants_sync, as_row_sync, sequence-sync, occurrence-sync, declarator-sync) depth 20
+  block-crosses : Crosses block.the_row
+  block-crosses = (
+    search (crosses, sendable, declared_send, variants_send, as_row_send, sequence-send, occurrence-crosses.0, declarator-crosses.0) depth 20,
+    search (crosses, sendable, declared_sync, variants_sync, as_row_sync, sequence-sync, occurrence-crosses.1, declarator-crosses.1) depth 20,
+  )
 
-  letters-sync : IsSync letters.the_row
-  letters-sync = search (tt, declared_sync, as_row_sync, sequence-sync, type-sync, range-sync) depth 20
+  letters-crosses : Crosses letters.the_row
+  letters-crosses = (
+    search (tt, declared_send, as_row_send, sequence-send, type-crosses.0, range-crosses.0) depth 20,
+    search (tt, declared_sync, as_row_sync, sequence-sync, type-crosses.1, range-crosses.1) depth 20,
+  )
 
-  constant-sync : IsSync constant.the_row
-  constant-sync = search (tt, declared_sync, as_row_sync, occurrence-sync, expression-sync) depth 20
+  constant-crosses : Crosses constant.the_row
+  constant-crosses = (
+    search (tt, declared_send, as_row_send, occurrence-crosses.0, expression-crosses.0) depth 20,
+    search (tt, declared_sync, as_row_sync, occurrence-crosses.1, expression-crosses.1) depth 20,
+  )
 
-  occurrence-share : IsSync (occurrence.the_field).row
-  occurrence-share = search (crosses, sendable) depth 30 fits 5000
+  occurrence-part : Crosses (occurrence.the_field).row
+  occurrence-part = (search (crosses, sendable) depth 30 fits 5000, search (crosses, sendable) depth 30 fits 5000)
 
-  type-share : IsSync (type.the_field).row
-  type-share = search (crosses, sendable) depth 30 fits 5000
+  type-part : Crosses (type.the_field).row
+  type-part = (search (crosses, sendable) depth 30 fits 5000, search (crosses, sendable) depth 30 fits 5000)
 
-  signs-share : IsSync (signs.the_field).row
-  signs-share = search (crosses, sendable) depth 30 fits 5000
+  signs-part : Crosses (signs.the_field).row
+  signs-part = (search (crosses, sendable) depth 30 fits 5000, search (crosses, sendable) depth 30 fits 5000)
 
-  target-share : IsSync (target.the_field).row
-  target-share = search (crosses, sendable, occurrence-share, sequence-sync, expression-sync) depth 30 fits 5000
+  target-part : Crosses (target.the_field).row
+  target-part = (
+    search (crosses, sendable, occurrence-part.0, sequence-send, expression-crosses.0) depth 30 fits 5000,
+    search (crosses, sendable, occurrence-part.1, sequence-sync, expression-crosses.1) depth 30 fits 5000,
+  )
 
-  control-share : IsSync (control.the_field).row
-  control-share = search (crosses, sendable, variants_sync, as_row_sync, occurrence-share, expression-sync) depth 30 fits 5000
+  control-part : Crosses (control.the_field).row
+  control-part = (
+    search (crosses, sendable, variants_send, as_row_send, occurrence-part.0, expression-crosses.0) depth 30 fits 5000,
+    search (crosses, sendable, variants_sync, as_row_sync, occurrence-part.1, expression-crosses.1) depth 30 fits 5000,
+  )
 
-  form-share : IsSync (form.the_field).row
-  form-share =
-      let actuals = sequence-sync expression.the_row expression-sync in
-      let ranges = sequence-sync letters.the_row letters-sync in
-      let declarators = sequence-sync declarator.the_row declarator-sync in
-      let blocks = sequence-sync block.the_row block-sync in
-      let constants = sequence-sync constant.the_row constant-sync in
-      let groups = sequence-sync group.the_row group-sync in
-      let targets = sequence-sync target.the_row target-sync in
-      let items = sequence-sync item.the_row item-sync in
-      enum_sync (shape form.the_type) ((occurrence-share, tt), ((occurrence-share, (names-sync, tt)), ((ranges, tt), ((type-share, (declarators, tt)), ((declarators, tt), ((blocks, tt), ((constants, tt), ((groups, tt), ((target-share, (expression-sync, tt)), ((u32-sync, tt), ((labels-sync, (expression-sync, tt)), ((expression-sync, (signs-share, tt)), ((expression-sync, tt), ((expression-sync, tt), (tt, (tt, ((control-share, tt), ((occurrence-share, (actuals, tt)), ((occurrence-share, (actuals, tt)), ((targets, tt), ((items, tt), (tt, (tt, (tt, (tt, tt)))))))))))))))))))))))))
+  form-part : Crosses (form.the_field).row
+  form-part = (of-send, of-share) where
+    of-send : IsSend (form.the_field).row
+    of-send =
+        let actuals = sequence-send expression.the_row expression-crosses.0 in
+        let ranges = sequence-send letters.the_row letters-crosses.0 in
+        let declarators = sequence-send declarator.the_row declarator-crosses.0 in
+        let blocks = sequence-send block.the_row block-crosses.0 in
+        let constants = sequence-send constant.the_row constant-crosses.0 in
+        let groups = sequence-send group.the_row group-crosses.0 in
+        let targets = sequence-send target.the_row target-crosses.0 in
+        let items = sequence-send item.the_row item-crosses.0 in
+        enum_send (shape form.the_type) ((occurrence-part.0, tt), ((occurrence-part.0, (names-crosses.0, tt)), ((ranges, tt), ((type-part.0, (declarators, tt)), ((declarators, tt), ((blocks, tt), ((constants, tt), ((groups, tt), ((target-part.0, (expression-crosses.0, tt)), ((u32-crosses.0, tt), ((labels-crosses.0, (expression-crosses.0, tt)), ((expression-crosses.0, (signs-part.0, tt)), ((expression-crosses.0, tt), ((expression-crosses.0, tt), (tt, (tt, ((control-part.0, tt), ((occurrence-part.0, (actuals, tt)), ((occurrence-part.0, (actuals, tt)), ((targets, tt), ((items, tt), (tt, (tt, (tt, (tt, tt)))))))))))))))))))))))))
 
-  statement-sync : IsSync statement.the_row
-  statement-sync = search (crosses, sendable, declared_sync, variants_sync, as_row_sync, sequence-sync, expression-sync, form-share) depth 30
+    of-share : IsSync (form.the_field).row
+    of-share =
+        let actuals = sequence-sync expression.the_row expression-crosses.1 in
+        let ranges = sequence-sync letters.the_row letters-crosses.1 in
+        let declarators = sequence-sync declarator.the_row declarator-crosses.1 in
+        let blocks = sequence-sync block.the_row block-crosses.1 in
+        let constants = sequence-sync constant.the_row constant-crosses.1 in
+        let groups = sequence-sync group.the_row group-crosses.1 in
+        let targets = sequence-sync target.the_row target-crosses.1 in
+        let items = sequence-sync item.the_row item-crosses.1 in
+        enum_sync (shape form.the_type) ((occurrence-part.1, tt), ((occurrence-part.1, (names-crosses.1, tt)), ((ranges, tt), ((type-part.1, (declarators, tt)), ((declarators, tt), ((blocks, tt), ((constants, tt), ((groups, tt), ((target-part.1, (expression-crosses.1, tt)), ((u32-crosses.1, tt), ((labels-crosses.1, (expression-crosses.1, tt)), ((expression-crosses.1, (signs-part.1, tt)), ((expression-crosses.1, tt), ((expression-crosses.1, tt), (tt, (tt, ((control-part.1, tt), ((occurrence-part.1, (actuals, tt)), ((occurrence-part.1, (actuals, tt)), ((targets, tt), ((items, tt), (tt, (tt, (tt, (tt, tt)))))))))))))))))))))))))
 
-  unit-sync : IsSync unit.the_row
-  unit-sync = view_sync (units.the_row) _ _ _ _ (declared_sync units.the_type (search (crosses, as_row_sync, statement-sync) depth 10, tt))
+  statement-crosses : Crosses statement.the_row
+  statement-crosses = (
+    search (crosses, sendable, declared_send, variants_send, as_row_send, sequence-send, expression-crosses.0, form-part.0) depth 30,
+    search (crosses, sendable, declared_sync, variants_sync, as_row_sync, sequence-sync, expression-crosses.1, form-part.1) depth 30,
+  )
 
-  program-sync : IsSync program.the_row
-  program-sync = view_sync (programs.the_row) _ _ _ _ (declared_sync programs.the_type (search (crosses, as_row_sync, unit-sync) depth 10, tt))
+  unit-crosses : Crosses unit.the_row
+  unit-crosses = (
+    view_send (units.the_row) _ _ _ _ (declared_send units.the_type (search (crosses, as_row_send, statement-crosses.0) depth 10, tt)),
+    view_sync (units.the_row) _ _ _ _ (declared_sync units.the_type (search (crosses, as_row_sync, statement-crosses.1) depth 10, tt)),
+  )
 
-pub returns-clause-send : goal.returns-clause-send
-returns-clause-send c = program-send c.expressions_cross.ensures.send
+  program-crosses : Crosses program.the_row
+  program-crosses = (
+    view_send (programs.the_row) _ _ _ _ (declared_send programs.the_type (search (crosses, as_row_send, unit-crosses.0) depth 10, tt)),
+    view_sync (programs.the_row) _ _ _ _ (declared_sync programs.the_type (search (crosses, as_row_sync, unit-crosses.1) depth 10, tt)),
+  )
 
-pub returns-clause-sync : goal.returns-clause-sync
-returns-clause-sync c = program-sync c.expressions_cross.ensures.sync
+pub returns : goal.returns
+returns c =
+    let program = program-crosses (c.expressions_cross.ensures.send, c.expressions_cross.ensures.sync) in
+    record { send = program.0; sync = program.1 }

@@ -1,8 +1,5 @@
 use Rattle.hep_works.proofs.Levels.{top-comes, works-come}
 use Rattle.hep_works.proofs.laws.works_come_from_statements.Goals as goal
 
-pub returns-clause-level : goal.returns-clause-level
-returns-clause-level c = works-come
-
-pub returns-clause-top : goal.returns-clause-top
-returns-clause-top c = top-comes
+pub returns : goal.returns
+returns c = record { level = works-come; top = top-comes }

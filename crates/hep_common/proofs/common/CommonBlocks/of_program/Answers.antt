@@ -3,12 +3,12 @@ use Rattle.std.specs.List.{flat_map}
 use Rattle.std.specs.Option.{option_eq}
 use Rattle.indexmap.specs.IndexMap.{get}
 use Rattle.hep_source.specs.Names.{name_eq}
-use Rattle.hep_symbols.proofs.Firsts.{ahead}
 use Rattle.hep_machine.specs.Declarations.{blocks_of_unit, with_blocks}
 use Rattle.hep_common.specs.Lengths.{entries_of, entries_of_program}
 use Rattle.hep_common.proofs.Tables.{row-next, row-end, blocks-next, lengths-next, start-length, start-unread, end-length}
 use Rattle.hep_common.proofs.Totals.{common-few}
 use Rattle.hep_common.proofs.common.CommonBlocks.of_program.Goals as goal
+use Rattle.hep_source.proofs.Tests.{drop_at}
 
 pub loop-number-init : goal.loop-number-init
 loop-number-init c =
@@ -31,7 +31,7 @@ loop-number-preserved c =
     let keys = c.loop-number.common.blocks.keys in
     let old = get (option_eq name_eq) c.loop-number.common.lengths in
     let new = get (option_eq name_eq) c.read_unit.new.self.lengths in
-    let next = ahead us i unit within is in
+    let next = drop_at us i unit within is in
     record {
       blocks = blocks-next keys c.read_unit.new.self.blocks.keys _ unit (drop i us) (drop (i + 1) us) c.loop-number.invariant.blocks next c.in_ok-read_unit.ensures.blocks;
       lengths = λ b. lengths-next b unit (drop i us) (drop (i + 1) us) (old b) (new b) _ (c.loop-number.invariant.lengths b) next (c.in_ok-read_unit.ensures.lengths b);

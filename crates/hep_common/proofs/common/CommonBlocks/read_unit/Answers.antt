@@ -7,14 +7,15 @@ use Rattle.hep_source.specs.Names.{name_eq}
 use Rattle.hep_machine.specs.Declarations.{BlockName, same_block}
 use Rattle.hep_common.specs.Lengths.{cells_in_block, greatest_length, lengthened, with_blocks_of}
 use Rattle.hep_common.proofs.Entries.{unit-blocks, unit-cells}
-use Rattle.hep_common.proofs.Tables.{lengthened-at, blocks-entry, cells-next, longest-next, unread-next, bounded-next, start-cells, start-longest, start-few, end-blocks, end-cells}
+use Rattle.hep_common.proofs.Tables.{lengthened-at, blocks-entry, cells-next, longest-next, unread-next, bounded-next, start-longest, start-few, end-blocks, end-cells}
 use Rattle.hep_common.proofs.common.CommonBlocks.read_unit.Goals as goal
+use Rattle.hep_common.proofs.Beginnings.{from-zero}
 
 pub loop-entry-init : goal.loop-entry-init
 loop-entry-init c =
     record {
       blocks = refl;
-      cells = λ b. start-cells _ _ (c.requires.unread b c.args.unit (omega arith));
+      cells = λ b. from-zero _ _ (c.requires.unread b c.args.unit (omega arith));
       longest = λ b. start-longest _ _ (c.requires.unread b c.args.unit (omega arith));
       kept = c.requires.kept;
       unread = λ b v lt. c.requires.unread b v (omega (arith, lt));

@@ -23,38 +23,58 @@ use Rattle.hep_scheduler.specs.Value.{IsStop, stop_after}
 use Rattle.hep_scheduler.specs.Waking.{AreInArena, awake_after, is_woken_after}
 use Rattle.hep_scheduler.specs.declared.stop.Stop.TheVariants.{ArenaFull, Halted}
 use Rattle.hep_scheduler.proofs.Histories.{state-is}
-use Rattle.hep_scheduler.proofs.Kept.{AreSeen, halted-is, halted-next, named-left, next, none-of, some-of, state-next, stepped-kept, steps-on, unturned-kept, unturned-view, view-left, view-next, waited-kept}
+use Rattle.hep_scheduler.proofs.Kept.{AreSeen, halted-is, halted-next, named-left, next, some-of, state-next, stepped-kept, steps-on, unturned-kept, unturned-view, view-left, view-next, waited-kept}
 use Rattle.hep_scheduler.proofs.Turning.{IsNoWait, along, along-emptying, as-many, blocked-now, emptied-to-lists, in-arena, made-step, no-memory, told-to-lists, waits-unstepped, within}
-use Rattle.hep_scheduler.proofs.scheduler.Core.choose.Goals.{After-wait, After-wake_after}
+use Rattle.hep_scheduler.proofs.scheduler.Core.choose.Goals.{After-len, After-lives, After-turn, After-wait, After-wake_after}
 use Rattle.hep_scheduler.proofs.scheduler.Core.choose.Goals as goal
+use Rattle.hep_source.proofs.Tests.{none-from-not}
+
+-- ---- what is known once a turn is asked for
+
+going-on : (c : After-lives) → (c.self.inside.stop ≡ None) × IsStop c.self.inside.image c.self.inside.cells c.self.inside.limit c.self.inside.history.items None
+going-on c =
+    let i = c.self.inside in
+    let none : i.stop ≡ None = search rules in
+    (none, subst (IsStop i.image i.cells i.limit i.history.items) none c.self.invariant.named)
+
+is-alive : (c : After-len) → living (state_after c.self.inside.image c.self.inside.history.items) c.args.p ≢ None
+is-alive c =
+    let i = c.self.inside in
+    let lives : c.lives.result ≡ true = search rules in
+    some-of (living (state_after i.image i.history.items) c.args.p) (ap (λ (s : State). is_some (living s c.args.p)) (state-is i.image i.history.items) ∙ sym (c.lives.ensures.lives i.image i.cells (schedule_of i.history.items) c.self.invariant.after.after) ∙ lives)
+
+is-asked : (c : After-turn) → length c.self.inside.history.items < c.self.inside.limit
+is-asked c = omega (arith, c.len.ensures)
+
+are-seen : (c : After-turn) → AreSeen c.self.inside.image c.self.inside.cells
+are-seen c choices n = c.views_are_of_states.ensures c.self.inside.image c.self.inside.cells choices n c.is_runnable.ensures.accepted c.is_runnable.ensures.main
+
+-- ---- no turn is asked for
 
 pub returns-then-not-lives : goal.returns-then-not-lives
 returns-then-not-lives c =
     let i = c.self.inside in
     let h = i.history.items in
-    let none : i.stop ≡ None = search rules in
-    let going = subst (IsStop i.image i.cells i.limit h) none c.self.invariant.named in
+    let going = going-on (goal.at.returns-then-not-lives c).After-lives in
     let dead : c.lives.result ≡ false = search rules in
-    let ended = none-of (living (state_after i.image h) c.args.p) (ap (λ (s : State). is_some (living s c.args.p)) (state-is i.image h) ∙ sym (c.lives.ensures.lives i.image i.cells (schedule_of h) c.self.invariant.after.after) ∙ dead) in
-    rw (← c.self.view_is) ((none, going), ended, refl)
+    let ended = none-from-not (living (state_after i.image h) c.args.p) (ap (λ (s : State). is_some (living s c.args.p)) (state-is i.image h) ∙ sym (c.lives.ensures.lives i.image i.cells (schedule_of h) c.self.invariant.after.after) ∙ dead) in
+    rw (← c.self.view_is) (going, ended, refl)
 
 pub returns-then-self-len : goal.returns-then-self-len
 returns-then-self-len c =
     let i = c.self.inside in
     let h = i.history.items in
-    let none : i.stop ≡ None = search rules in
-    let going = subst (IsStop i.image i.cells i.limit h) none c.self.invariant.named in
-    let lives : c.lives.result ≡ true = search rules in
-    let alive = some-of (living (state_after i.image h) c.args.p) (ap (λ (s : State). is_some (living s c.args.p)) (state-is i.image h) ∙ sym (c.lives.ensures.lives i.image i.cells (schedule_of h) c.self.invariant.after.after) ∙ lives) in
+    let going = going-on (goal.at.returns-then-self-len c).After-lives in
+    let alive = is-alive (goal.at.returns-then-self-len c).After-len in
     let full : length h ≡ i.limit = omega (arith, c.len.ensures, c.if-self-len.true, c.self.invariant.legal.within) in
-    rw (← c.self.view_is) (inr (inl ((none, going), alive, full, refl, refl)))
+    rw (← c.self.view_is) (inr (inl (going, alive, full, refl, refl)))
 
 pub turn-requires-clause-running : goal.turn-requires-clause-running
 turn-requires-clause-running c =
     let i = c.self.inside in
     let h = i.history.items in
-    let none : i.stop ≡ None = search rules in
-    halted-is i.image i.cells h (snapshot_of i.machine) c.self.invariant.after.after ∙ subst (IsStop i.image i.cells i.limit h) none c.self.invariant.named
+    let going = going-on (goal.at.turn-requires-clause-running c).After-lives in
+    halted-is i.image i.cells h (snapshot_of i.machine) c.self.invariant.after.after ∙ going.1
 
 -- each activation was made by an entry of its own, and the history is a vector
 pub turn-requires-clause-countable : goal.turn-requires-clause-countable
@@ -77,45 +97,40 @@ pub returns-in-Err-NoMemory : goal.returns-in-Err-NoMemory
 returns-in-Err-NoMemory c =
     let i = c.self.inside in
     let h = i.history.items in
-    let none : i.stop ≡ None = search rules in
-    let going = subst (IsStop i.image i.cells i.limit h) none c.self.invariant.named in
-    let lives : c.lives.result ≡ true = search rules in
-    let alive = some-of (living (state_after i.image h) c.args.p) (ap (λ (s : State). is_some (living s c.args.p)) (state-is i.image h) ∙ sym (c.lives.ensures.lives i.image i.cells (schedule_of h) c.self.invariant.after.after) ∙ lives) in
-    let lt : length h < i.limit = omega (arith, c.len.ensures) in
-    let seen : AreSeen i.image i.cells = λ choices n. c.views_are_of_states.ensures i.image i.cells choices n c.is_runnable.ensures.accepted c.is_runnable.ensures.main in
+    let going = going-on (goal.at.returns-in-Err-NoMemory c).After-lives in
+    let alive = is-alive (goal.at.returns-in-Err-NoMemory c).After-len in
+    let lt = is-asked (goal.at.returns-in-Err-NoMemory c).After-turn in
+    let seen = are-seen (goal.at.returns-in-Err-NoMemory c).After-turn in
     let after = c.in-Err-NoMemory.ensures.refused i.cells (schedule_of h) c.self.invariant.after in
     let gapped = subst (λ e. IsUnturned e i.image i.cells (schedule_of h) c.args.p) c.in-Err-NoMemory.field-0-is (c.in-Err-NoMemory.ensures.unturned i.cells (schedule_of h) c.self.invariant.after) in
     let view = unturned-view i c.self.invariant c.turn.new.history c.turn.new.self c.turn.new.ready c.turn.ensures.entries after c.turn.ensures.ready c.turn.ensures.numbers (omega (arith, c.self.invariant.waiting, c.turn.ensures.grows)) seen in
     let value : record (core_value i) { history = c.turn.new.history.items; view = machine_view i.image (snapshot_of c.turn.new.self) } ≡ core_value i = λ j. record (core_value i) { history = c.turn.ensures.entries j; view = view j } in
-    rw (← c.self.view_is) ((none, going), alive, lt, (λ gap. gapped gap.full), value)
+    rw (← c.self.view_is) (going, alive, lt, (λ gap. gapped gap.full), value)
 
 pub invariant_of-self-in-Err-ArenaFull : goal.invariant_of-self-in-Err-ArenaFull
 invariant_of-self-in-Err-ArenaFull c =
     let i = c.self.inside in
     let h = i.history.items in
-    let none : i.stop ≡ None = search rules in
-    let going = subst (IsStop i.image i.cells i.limit h) none c.self.invariant.named in
+    let going = going-on (goal.at.invariant_of-self-in-Err-ArenaFull c).After-lives in
     let k = c.self.invariant in
     let after = c.in-Err-ArenaFull.ensures.refused i.cells (schedule_of h) k.after in
     let gap = subst (λ e. IsUnturned e i.image i.cells (schedule_of h) c.args.p) c.in-Err-ArenaFull.field-0-is (c.in-Err-ArenaFull.ensures.unturned i.cells (schedule_of h) k.after) in
-    unturned-kept i k c.turn.new.history c.turn.new.self c.turn.new.ready c.turn.ensures.entries after c.turn.ensures.ready c.turn.ensures.numbers (omega (arith, k.waiting, c.turn.ensures.grows)) i.waits refl (Some ArenaFull) (going, (c.args.p, gap))
+    unturned-kept i k c.turn.new.history c.turn.new.self c.turn.new.ready c.turn.ensures.entries after c.turn.ensures.ready c.turn.ensures.numbers (omega (arith, k.waiting, c.turn.ensures.grows)) i.waits refl (Some ArenaFull) (going.1, (c.args.p, gap))
 
 pub returns-in-Err-ArenaFull : goal.returns-in-Err-ArenaFull
 returns-in-Err-ArenaFull c =
     let i = c.self.inside in
     let h = i.history.items in
-    let none : i.stop ≡ None = search rules in
-    let going = subst (IsStop i.image i.cells i.limit h) none c.self.invariant.named in
-    let lives : c.lives.result ≡ true = search rules in
-    let alive = some-of (living (state_after i.image h) c.args.p) (ap (λ (s : State). is_some (living s c.args.p)) (state-is i.image h) ∙ sym (c.lives.ensures.lives i.image i.cells (schedule_of h) c.self.invariant.after.after) ∙ lives) in
-    let lt : length h < i.limit = omega (arith, c.len.ensures) in
-    let seen : AreSeen i.image i.cells = λ choices n. c.views_are_of_states.ensures i.image i.cells choices n c.is_runnable.ensures.accepted c.is_runnable.ensures.main in
+    let going = going-on (goal.at.returns-in-Err-ArenaFull c).After-lives in
+    let alive = is-alive (goal.at.returns-in-Err-ArenaFull c).After-len in
+    let lt = is-asked (goal.at.returns-in-Err-ArenaFull c).After-turn in
+    let seen = are-seen (goal.at.returns-in-Err-ArenaFull c).After-turn in
     let after = c.in-Err-ArenaFull.ensures.refused i.cells (schedule_of h) c.self.invariant.after in
     let gap = subst (λ e. IsUnturned e i.image i.cells (schedule_of h) c.args.p) c.in-Err-ArenaFull.field-0-is (c.in-Err-ArenaFull.ensures.unturned i.cells (schedule_of h) c.self.invariant.after) in
     let view = unturned-view i c.self.invariant c.turn.new.history c.turn.new.self c.turn.new.ready c.turn.ensures.entries after c.turn.ensures.ready c.turn.ensures.numbers (omega (arith, c.self.invariant.waiting, c.turn.ensures.grows)) seen in
     let value : record (core_value i) { history = c.turn.new.history.items; stop = Some ArenaFull; view = machine_view i.image (snapshot_of c.turn.new.self) } ≡ record (core_value i) { stop = Some ArenaFull } =
     λ j. record (core_value i) { history = c.turn.ensures.entries j; stop = Some ArenaFull; view = view j } in
-    rw (← c.self.view_is) (inr (inr ((none, going), alive, lt, gap, refl, value)))
+    rw (← c.self.view_is) (inr (inr (going, alive, lt, gap, refl, value)))
 
 -- ---- a turn that made a step
 
@@ -195,7 +210,7 @@ invariant_of-self-then-self c =
     let h = i.history.items in
     let p = c.args.p in
     let done = stepped-now at in
-    let lt : length h < i.limit = omega (arith, c.len.ensures) in
+    let lt = is-asked (goal.at.invariant_of-self-then-self c).After-turn in
     stepped-kept i c.self.invariant p lt c.note-in_default-turned.new.history (entry-is at) c.turn.new.self done.0 done.1 c.wake_after.new.waits c.wake_after.new.ready (lists-now at)
     (omega (arith, c.turn.ensures.numbers, c.note_ready.ensures.room, c.wake_after.ensures.room)) (omega (arith, c.self.invariant.waiting, c.wake_after.ensures.size, c.turn.ensures.grows, c.note_ready.ensures.room, c.wake_after.ensures.room)) (Some Halted)
     (ap (λ (s : State). s.halted) (state-next i.image i.cells h p c.note-in_default-turned.new.history.items (entry-is at) done.0) ∙ sym (halted-next i.image i.cells h p c.note-in_default-turned.new.history.items (entry-is at) done.0 c.turn.new.self done.1) ∙ c.if-self.true)
@@ -207,11 +222,11 @@ invariant_of-self-else-self c =
     let h = i.history.items in
     let p = c.args.p in
     let done = stepped-now at in
-    let none : i.stop ≡ None = search rules in
-    let lt : length h < i.limit = omega (arith, c.len.ensures) in
+    let going = going-on (goal.at.invariant_of-self-else-self c).After-lives in
+    let lt = is-asked (goal.at.invariant_of-self-else-self c).After-turn in
     stepped-kept i c.self.invariant p lt c.note-in_default-turned.new.history (entry-is at) c.turn.new.self done.0 done.1 c.wake_after.new.waits c.wake_after.new.ready (lists-now at)
     (omega (arith, c.turn.ensures.numbers, c.note_ready.ensures.room, c.wake_after.ensures.room)) (omega (arith, c.self.invariant.waiting, c.wake_after.ensures.size, c.turn.ensures.grows, c.note_ready.ensures.room, c.wake_after.ensures.room)) i.stop
-    (subst (IsStop i.image i.cells i.limit c.note-in_default-turned.new.history.items) (sym none) (ap (λ (s : State). s.halted) (state-next i.image i.cells h p c.note-in_default-turned.new.history.items (entry-is at) done.0) ∙ sym (halted-next i.image i.cells h p c.note-in_default-turned.new.history.items (entry-is at) done.0 c.turn.new.self done.1) ∙ c.if-self.false))
+    (subst (IsStop i.image i.cells i.limit c.note-in_default-turned.new.history.items) (sym going.0) (ap (λ (s : State). s.halted) (state-next i.image i.cells h p c.note-in_default-turned.new.history.items (entry-is at) done.0) ∙ sym (halted-next i.image i.cells h p c.note-in_default-turned.new.history.items (entry-is at) done.0 c.turn.new.self done.1) ∙ c.if-self.false))
 
 pub returns-then-self : goal.returns-then-self
 returns-then-self c =
@@ -221,15 +236,14 @@ returns-then-self c =
     let p = c.args.p in
     let is = entry-is at in
     let done = stepped-now at in
-    let lt : length h < i.limit = omega (arith, c.len.ensures) in
-    let none : i.stop ≡ None = search rules in
-    let going = subst (IsStop i.image i.cells i.limit h) none c.self.invariant.named in
+    let lt = is-asked (goal.at.returns-then-self c).After-turn in
+    let going = going-on (goal.at.returns-then-self c).After-lives in
     let s = next i.image i.cells h p c.note-in_default-turned.new.history.items is done.0 in
     let halted : s.halted ≡ true = sym (halted-next i.image i.cells h p c.note-in_default-turned.new.history.items is done.0 c.turn.new.self done.1) ∙ c.if-self.true in
     let stop : Some Halted ≡ stop_after s = rw halted refl in
-    let seen : AreSeen i.image i.cells = λ choices n. c.views_are_of_states.ensures i.image i.cells choices n c.is_runnable.ensures.accepted c.is_runnable.ensures.main in
+    let seen = are-seen (goal.at.returns-then-self c).After-turn in
     let view = view-next i.image i.cells h p c.note-in_default-turned.new.history.items is done.0 c.turn.new.self done.1 seen in
-    rw (← c.self.view_is) ((none, going), lt, (s, steps-on i.image i.cells h p c.note-in_default-turned.new.history.items is done.0, λ j. record (core_value i) { history = is j; stop = stop j; view = view j }))
+    rw (← c.self.view_is) (going, lt, (s, steps-on i.image i.cells h p c.note-in_default-turned.new.history.items is done.0, λ j. record (core_value i) { history = is j; stop = stop j; view = view j }))
 
 pub returns-else-self : goal.returns-else-self
 returns-else-self c =
@@ -239,15 +253,14 @@ returns-else-self c =
     let p = c.args.p in
     let is = entry-is at in
     let done = stepped-now at in
-    let lt : length h < i.limit = omega (arith, c.len.ensures) in
-    let none : i.stop ≡ None = search rules in
-    let going = subst (IsStop i.image i.cells i.limit h) none c.self.invariant.named in
+    let lt = is-asked (goal.at.returns-else-self c).After-turn in
+    let going = going-on (goal.at.returns-else-self c).After-lives in
     let s = next i.image i.cells h p c.note-in_default-turned.new.history.items is done.0 in
     let halted : s.halted ≡ false = sym (halted-next i.image i.cells h p c.note-in_default-turned.new.history.items is done.0 c.turn.new.self done.1) ∙ c.if-self.false in
-    let stop : i.stop ≡ stop_after s = none ∙ rw halted refl in
-    let seen : AreSeen i.image i.cells = λ choices n. c.views_are_of_states.ensures i.image i.cells choices n c.is_runnable.ensures.accepted c.is_runnable.ensures.main in
+    let stop : i.stop ≡ stop_after s = going.0 ∙ rw halted refl in
+    let seen = are-seen (goal.at.returns-else-self c).After-turn in
     let view = view-next i.image i.cells h p c.note-in_default-turned.new.history.items is done.0 c.turn.new.self done.1 seen in
-    rw (← c.self.view_is) ((none, going), lt, (s, steps-on i.image i.cells h p c.note-in_default-turned.new.history.items is done.0, λ j. record (core_value i) { history = is j; stop = stop j; view = view j }))
+    rw (← c.self.view_is) (going, lt, (s, steps-on i.image i.cells h p c.note-in_default-turned.new.history.items is done.0, λ j. record (core_value i) { history = is j; stop = stop j; view = view j }))
 
 pub wake_after-requires-clause-few : goal.wake_after-requires-clause-few
 wake_after-requires-clause-few c =
@@ -285,17 +298,15 @@ returns-in_err-wait-in-Waits c =
     let k = c.self.invariant in
     let done = waited-now (goal.at.returns-in_err-wait-in-Waits c).After-wait in
     let same = c.in_err-wait-in-Waits.ensures.refused in
-    let none : i.stop ≡ None = search rules in
-    let going = subst (IsStop i.image i.cells i.limit h) none k.named in
-    let lives : c.lives.result ≡ true = search rules in
-    let alive = some-of (living (state_after i.image h) c.args.p) (ap (λ (s : State). is_some (living s c.args.p)) (state-is i.image h) ∙ sym (c.lives.ensures.lives i.image i.cells (schedule_of h) k.after.after) ∙ lives) in
-    let lt : length h < i.limit = omega (arith, c.len.ensures) in
-    let seen : AreSeen i.image i.cells = λ choices n. c.views_are_of_states.ensures i.image i.cells choices n c.is_runnable.ensures.accepted c.is_runnable.ensures.main in
+    let going = going-on (goal.at.returns-in_err-wait-in-Waits c).After-lives in
+    let alive = is-alive (goal.at.returns-in_err-wait-in-Waits c).After-len in
+    let lt = is-asked (goal.at.returns-in_err-wait-in-Waits c).After-turn in
+    let seen = are-seen (goal.at.returns-in_err-wait-in-Waits c).After-turn in
     let view = unturned-view i k c.turn.new.history c.turn.new.self c.wait.new.ready c.turn.ensures.entries done.1 (ap (λ (r : Numbers). r.ready) same.1 ∙ c.turn.ensures.ready) (omega (arith, c.turn.ensures.numbers, c.wait.ensures.room))
     (omega (arith, k.waiting, c.turn.ensures.grows, c.wait.ensures.room)) seen in
     let value : record (core_value i) { history = c.turn.new.history.items; view = machine_view i.image (snapshot_of c.turn.new.self) } ≡ core_value i = λ j. record (core_value i) { history = c.turn.ensures.entries j; view = view j } in
     let unstepped = waits-unstepped i.image c.args.p (run i.image (schedule_of h)) done.0.wanted done.0.waits in
-    rw (← c.self.view_is) (no-memory (core_value i) c.args.p c.from_residual.result (record (core_value i) { history = c.turn.new.history.items; view = machine_view i.image (snapshot_of c.turn.new.self) }) c.from_residual.ensures.1 ((none, going), alive, lt, (λ gap. gap.stepped unstepped), value))
+    rw (← c.self.view_is) (no-memory (core_value i) c.args.p c.from_residual.result (record (core_value i) { history = c.turn.new.history.items; view = machine_view i.image (snapshot_of c.turn.new.self) }) c.from_residual.ensures.1 (going, alive, lt, (λ gap. gap.stepped unstepped), value))
 
 pub invariant_of-self-in-Waits : goal.invariant_of-self-in-Waits
 invariant_of-self-in-Waits c =
@@ -307,8 +318,8 @@ invariant_of-self-in-Waits c =
     let done = waited-now at in
     let blocked = is-blocked at in
     let is : c.note.new.history.items ≡ h ++ record { process = p; steps = 0 } ∷ [] = c.note.ensures ∙ ap (λ (es : List Entry). es ++ record { process = p; steps = 0 } ∷ []) c.turn.ensures.entries in
-    let lt : length h < i.limit = omega (arith, c.len.ensures) in
-    let none : i.stop ≡ None = search rules in
+    let lt = is-asked (goal.at.invariant_of-self-in-Waits c).After-turn in
+    let going = going-on (goal.at.invariant_of-self-in-Waits c).After-lives in
     let listed = c.waiting_processes_are_listed.ensures i.image i.cells (schedule_of h) (progress_after i.image h) i.waits c.wait.new.waits i.ready.ready c.wait.new.ready.ready p c.in-Waits.want k.listed blocked
     c.in_ok-wait-in-Waits.ensures.waits (subst (λ ns. IsReadyNoMore p ns c.wait.new.ready.ready) c.turn.ensures.ready c.in_ok-wait-in-Waits.ensures.ready) in
     let lives : c.lives.result ≡ true = search rules in
@@ -318,7 +329,7 @@ invariant_of-self-in-Waits c =
     let numbers : length c.turn.new.self.processes.items ≤ c.wait.new.ready.room = omega (arith, c.turn.ensures.numbers, c.wait.ensures.room) in
     let room : length c.wait.new.waits ≤ c.wait.new.ready.room = omega (arith, k.waiting, c.turn.ensures.grows, c.wait.ensures.room, c.in_ok-wait-in-Waits.ensures.size, numbered, numbers) in
     waited-kept i k p lt c.note.new.history is c.turn.new.self done.1 blocked.1 c.wait.new.waits c.wait.new.ready listed numbers room i.stop
-    (subst (IsStop i.image i.cells i.limit c.note.new.history.items) (sym none) (named-left i k p lt c.note.new.history is c.turn.new.self done.1 blocked.1 c.wait.new.waits c.wait.new.ready listed numbers room (subst (IsStop i.image i.cells i.limit h) none k.named)))
+    (subst (IsStop i.image i.cells i.limit c.note.new.history.items) (sym going.0) (named-left i k p lt c.note.new.history is c.turn.new.self done.1 blocked.1 c.wait.new.waits c.wait.new.ready listed numbers room going.1))
 
 pub returns-in_ok-wait-in-Waits : goal.returns-in_ok-wait-in-Waits
 returns-in_ok-wait-in-Waits c =
@@ -328,10 +339,9 @@ returns-in_ok-wait-in-Waits c =
     let p = c.args.p in
     let done = waited-now at in
     let is : c.note.new.history.items ≡ h ++ record { process = p; steps = 0 } ∷ [] = c.note.ensures ∙ ap (λ (es : List Entry). es ++ record { process = p; steps = 0 } ∷ []) c.turn.ensures.entries in
-    let lt : length h < i.limit = omega (arith, c.len.ensures) in
-    let none : i.stop ≡ None = search rules in
-    let going = subst (IsStop i.image i.cells i.limit h) none c.self.invariant.named in
-    let stop : i.stop ≡ stop_after (state_after i.image h) = none ∙ rw going refl in
-    let seen : AreSeen i.image i.cells = λ choices n. c.views_are_of_states.ensures i.image i.cells choices n c.is_runnable.ensures.accepted c.is_runnable.ensures.main in
+    let lt = is-asked (goal.at.returns-in_ok-wait-in-Waits c).After-turn in
+    let going = going-on (goal.at.returns-in_ok-wait-in-Waits c).After-lives in
+    let stop : i.stop ≡ stop_after (state_after i.image h) = going.0 ∙ rw going.1 refl in
+    let seen = are-seen (goal.at.returns-in_ok-wait-in-Waits c).After-turn in
     let view = view-left i.image i.cells h p c.note.new.history.items is c.turn.new.self done.1 seen in
-    rw (← c.self.view_is) ((none, going), lt, (ap (λ (s : State). is_waiting i.image s p) (state-is i.image h) ∙ (is-blocked at).1, λ j. record (core_value i) { history = is j; stop = stop j; view = view j }))
+    rw (← c.self.view_is) (going, lt, (ap (λ (s : State). is_waiting i.image s p) (state-is i.image h) ∙ (is-blocked at).1, λ j. record (core_value i) { history = is j; stop = stop j; view = view j }))

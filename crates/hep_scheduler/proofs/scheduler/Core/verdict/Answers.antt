@@ -8,11 +8,12 @@ use Rattle.hep_machine.specs.Run.{schedule_of, state_after}
 use Rattle.hep_machine.specs.Schedules.{Progress, living_from, progress_after, ready_in}
 use Rattle.hep_machine.specs.State.{State}
 use Rattle.hep_listed.specs.Listing.{AreListed}
-use Rattle.hep_listed.proofs.Members.{among-first, among-living, among-ready, none-among}
+use Rattle.hep_listed.proofs.Members.{among-living, among-ready, none-among}
 use Rattle.hep_scheduler.specs.Value.{verdict_by}
 use Rattle.hep_scheduler.specs.declared.stop.Verdict.TheVariants.{Done, Running, Waiting}
 use Rattle.hep_scheduler.proofs.Histories.{state-is}
 use Rattle.hep_scheduler.proofs.scheduler.Core.verdict.Goals as goal
+use Rattle.hep_machine.proofs.Held.{among-head}
 
 -- ---- lists that have a member and those that have none
 
@@ -24,7 +25,7 @@ no-members (n ∷ ns) e = absurd (true≢false (sym e ∙ none (length ns))) whe
 
 some-member : (ns : List ℕ) → ((length ns == 0) ≡ false) → (q : ℕ) × (is_number_among q ns ≡ true)
 some-member [] e = absurd cc
-some-member (n ∷ ns) e = (n, among-first n ns)
+some-member (n ∷ ns) e = (n, among-head n ns)
 
 not-empty : (ns : List ℕ) (q : ℕ) → is_number_among q ns ≡ true → ns ≢ []
 not-empty ns q e is = true≢false (sym e ∙ ap (is_number_among q) is)

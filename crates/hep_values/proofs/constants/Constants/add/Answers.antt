@@ -1,8 +1,8 @@
 use Rattle.std.proofs.Common.{◌∙◌, ◌∷◌, [], ◌++◌, ap, sym, is_some, if◌then◌else◌}
 use Rattle.hep_machine.specs.Constants.{value_among}
-use Rattle.hep_symbols.proofs.Notes.{none-from-not}
 use Rattle.hep_values.proofs.Tables.{given-last, given-before}
 use Rattle.hep_values.proofs.constants.Constants.add.Goals as goal
+use Rattle.hep_source.proofs.Tests.{none-from-not}
 
 pub returns-in_ok-insert : goal.returns-in_ok-insert
 returns-in_ok-insert c =
