@@ -51,12 +51,9 @@ fn is_reference_given(symbols: &Symbols, reference: &NameWithList) -> bool
 pub(crate) fn are_references_given(symbols: &Symbols, references: &[NameWithList]) -> bool
     ensures { result ≡ list_all (conditions.is_reference_given symbols.now) (map listed references.now) }
 {
-    for reference in references {
-        if !is_reference_given(symbols, reference) {
-            return false;
-        }
-    }
-    true
+    references
+        .iter()
+        .all(|reference| is_reference_given(symbols, reference))
 }
 
 // What is purged is an asynchronous variable, array or element, and no named constant.
@@ -72,12 +69,7 @@ fn is_purgeable(symbols: &Symbols, target: &Target) -> bool
 fn are_purgeable(symbols: &Symbols, targets: &[Target]) -> bool
     ensures { result ≡ list_all (conditions.is_purgeable symbols.now) targets.now }
 {
-    for target in targets {
-        if !is_purgeable(symbols, target) {
-            return false;
-        }
-    }
-    true
+    targets.iter().all(|target| is_purgeable(symbols, target))
 }
 
 // A statement purges nothing else.

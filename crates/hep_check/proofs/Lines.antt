@@ -124,7 +124,7 @@ least_line_of-both a b [] = refl
 least_line_of-both a b (x ∷ xs) =
     ap (least_line (least_line (a x) (b x))) (least_line_of-both a b xs) ∙ least_line-swap (a x) (b x) (least_line_of a xs) (least_line_of b xs)
 
-least_line_of-nones : {A : Type 0} (xs : List A) → least_line_of (λ x. None) xs ≡ None
+pub least_line_of-nones : {A : Type 0} (xs : List A) → least_line_of (λ x. None) xs ≡ None
 least_line_of-nones [] = refl
 least_line_of-nones (x ∷ xs) = least_line_of-nones xs
 

@@ -7,10 +7,11 @@ use Rattle.hep_source.specs.declared.name.Name.{Name}
 use Rattle.hep_source.specs.declared.statement.Statement.{Statement}
 use Rattle.hep_machine.specs.Constants.{cells_of, cells_of_all}
 use Rattle.hep_machine.specs.Declarations.{BlockName, same_block, block_of, blocks_in, blocks_of_unit, names_in_block, entries_under, names_declared, is_block_among, with_blocks}
-use Rattle.hep_values.proofs.BlockNames.{names-append}
-use Rattle.hep_values.proofs.BlockNames.{block-self, or-true}
+use Rattle.hep_machine.proofs.Locations.{block-self}
 use Rattle.hep_common.specs.declared.common.Entry.{Entry}
 use Rattle.hep_common.specs.Lengths.{entry_of, entries_listed, entries_in_list, entries_in_lists, entries_of, cells_of_entry, cells_in_block, with_block, with_blocks_of}
+use Rattle.hep_symbols.proofs.News.{declared-append}
+use Rattle.std.proofs.lemmas.Bool.{or_right}
 
 -- ---- cells
 
@@ -58,7 +59,7 @@ lists-cells unit b (c ∷ cs) =
   where
     by : (t : Bool) → (if t then cells_of_all unit (names_declared c.entries) else 0) + cells_of_all unit (names_declared (entries_under b cs))
         ≡ cells_of_all unit (names_declared (if t then c.entries ++ entries_under b cs else entries_under b cs))
-    by true = sym (ap (cells_of_all unit) (names-append c.entries (entries_under b cs)) ∙ all-append unit (names_declared c.entries) (names_declared (entries_under b cs)))
+    by true = sym (ap (cells_of_all unit) (declared-append c.entries (entries_under b cs)) ∙ all-append unit (names_declared c.entries) (names_declared (entries_under b cs)))
     by false = sym (ahead-of-none (cells_of_all unit (names_declared (entries_under b cs))))
 
 pub unit-cells : (unit : List Statement) (b : BlockName) → cells_in_block unit b (entries_of unit) ≡ cells_of_all unit (names_in_block unit b)
@@ -77,7 +78,7 @@ names-blocks k bs (d ∷ ds) h = ap (λ t. with_blocks_of (if t then bs else bs 
 
 pub last-among : (b : BlockName) (bs : List BlockName) → is_block_among b (bs ++ b ∷ []) ≡ true
 last-among b [] = ap (λ t. t || false) (block-self b)
-last-among b (c ∷ cs) = or-true (same_block b c) (is_block_among b (cs ++ b ∷ [])) (last-among b cs)
+last-among b (c ∷ cs) = or_right (same_block b c) (is_block_among b (cs ++ b ∷ [])) (last-among b cs)
 
 pub this-among : (b : BlockName) (bs : List BlockName) → is_block_among b (with_block bs b) ≡ true
 this-among b bs = by (is_block_among b bs) refl

@@ -4,9 +4,9 @@ use Rattle.std.specs.List.{flat_map}
 use Rattle.hep_source.specs.Units.{Units}
 use Rattle.hep_source.specs.declared.declaration.CommonBlock.{CommonBlock}
 use Rattle.hep_machine.specs.Declarations.{BlockName, same_block, block_of, blocks_of_unit, blocks_of, is_block_among, with_blocks}
-use Rattle.hep_values.proofs.BlockNames.{block-equal}
 use Rattle.hep_common.specs.Lengths.{with_block}
 use Rattle.hep_common.proofs.Entries.{grouped}
+use Rattle.hep_machine.proofs.Locations.{equal_blocks}
 
 abbrev pub occurrences : BlockName → List BlockName → ℕ
 occurrences k [] = 0
@@ -58,7 +58,7 @@ single-added bs b h = by (is_block_among b bs) refl
   where
     once : (k : BlockName) (t : Bool) → same_block k b ≡ t → occurrences b bs ≡ 0 → occurrences k (bs ++ b ∷ []) ≡ occurrences k bs + (if t then 1 else 0) → occurrences k (bs ++ b ∷ []) ≤ 1
     once k true e none more =
-        let here : occurrences k bs ≡ 0 = subst (λ c. occurrences c bs ≡ 0) (sym (block-equal k b e)) none in
+        let here : occurrences k bs ≡ 0 = subst (λ c. occurrences c bs ≡ 0) (sym (equal_blocks k b e)) none in
         omega (arith, here, more)
     once k false e none more = omega (arith, h k, more)
 

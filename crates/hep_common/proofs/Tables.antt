@@ -12,7 +12,7 @@ use Rattle.hep_machine.specs.Constants.{cells_of_all}
 use Rattle.hep_machine.specs.Declarations.{BlockName, same_block, blocks_of_unit, names_in_block, is_block_among, with_blocks}
 use Rattle.hep_machine.specs.Layout.{block_cells}
 use Rattle.hep_values.proofs.BlockNames.{block_eq-is}
-use Rattle.hep_values.proofs.BlockNames.{block-equal}
+use Rattle.hep_machine.proofs.Locations.{equal_blocks}
 use Rattle.hep_common.specs.declared.common.Entry.{Entry}
 use Rattle.hep_common.specs.declared.common.Length.{Length}
 use Rattle.hep_common.specs.Lengths.{entries_of, entries_of_program, cells_of_entry, cells_in_block, with_block, with_blocks_of, cells_so_far, greatest_length, lengthened, AreKept}
@@ -54,7 +54,7 @@ pub kept-next : (bs ks : List BlockName) (k b : BlockName) (l : Length) (old : B
 kept-next bs ks k b l old new kept e n h = ap (is_block_among b) e ∙ by (same_block k b) refl (sym (ap is_some n) ∙ h)
   where
     by : (t : Bool) → same_block k b ≡ t → is_some (if t then Some l else old b) ≡ true → is_block_among b (with_block bs k) ≡ true
-    by true f g = ap (λ c. is_block_among c (with_block bs k)) (sym (block-equal k b f)) ∙ this-among k bs
+    by true f g = ap (λ c. is_block_among c (with_block bs k)) (sym (equal_blocks k b f)) ∙ this-among k bs
     by false f g = among-more b k bs (kept b g)
 
 -- ---- one entry more of a unit
@@ -69,7 +69,7 @@ pub lengthened-at : (unit n : ℕ) (k b : BlockName) (old new : BlockName → Op
 lengthened-at unit n k b old new h = h ∙ by (same_block k b) refl
   where
     by : (t : Bool) → same_block k b ≡ t → (if t then Some (lengthened (old k) unit n) else old b) ≡ (if t then Some (lengthened (old b) unit n) else old b)
-    by true e = ap (λ c. Some (lengthened (old c) unit n)) (block-equal k b e)
+    by true e = ap (λ c. Some (lengthened (old c) unit n)) (equal_blocks k b e)
     by false e = refl
 
 so_far-next : (unit n : ℕ) (t : Bool) (o : Option Length) → cells_so_far unit (next unit n t o) ≡ cells_so_far unit o + (if t then n else 0)

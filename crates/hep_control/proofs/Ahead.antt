@@ -12,20 +12,9 @@ use Rattle.hep_source.specs.Units.{is_executable, passed_over, executable_from, 
 use Rattle.hep_machine.specs.Control.{Role, opens, alternative, otherwise, closes, other, role_of_form, role_after, role_of, to_end_if, before_end_if, to_alternative, before_alternative, end_if_after, past_block, following, past_else, alternative_of}
 use Rattle.hep_control.specs.declared.successors.Successors as code
 use Rattle.hep_control.specs.Successors.{successors_seen, successors_at, successors_from, Ahead, innermost, without_innermost, successors_before, with_role, with_statement, at_end, ahead_of}
+use Rattle.hep_source.proofs.Statements.{first_of_rest, rest_of_rest}
 
 -- ---- statements of a unit
-
-at-index : (unit : List Statement) (k : ℕ) (s : Statement) (ss : List Statement) → drop k unit ≡ s ∷ ss → statement_at unit k ≡ s
-at-index [] zero s ss h = cc
-at-index [] (suc k) s ss h = cc
-at-index (x ∷ xs) zero s ss h = cc
-at-index (x ∷ xs) (suc k) s ss h = at-index xs k s ss h
-
-after-index : (unit : List Statement) (k : ℕ) (s : Statement) (ss : List Statement) → drop k unit ≡ s ∷ ss → drop (suc k) unit ≡ ss
-after-index [] zero s ss h = cc
-after-index [] (suc k) s ss h = cc
-after-index (x ∷ xs) zero s ss h = cc
-after-index (x ∷ xs) (suc k) s ss h = after-index xs k s ss h
 
 past-end : (unit : List Statement) (k : ℕ) → drop k unit ≡ [] → statement_at unit k ≡ no_statement
 past-end [] zero h = refl
@@ -75,13 +64,13 @@ module _ (unit : List Statement) where
   -- an executable statement with a role at index k
   module _ (k : ℕ) (s : Statement) (ss : List Statement) (a : Ahead) (here : drop k unit ≡ s ∷ ss) (h : Stands (suc k) ss a) where
     role_here : role_of (statement_at unit k) ≡ role_of s
-    role_here = ap role_of (at-index unit k s ss here)
+    role_here = ap role_of (first_of_rest unit k s ss here)
 
     end_if_here : innermost a.end_ifs a.past ≡ end_if_after unit k
-    end_if_here = h.end_ifs_are 0 ∙ ap (λ l. suc k + before_end_if l 0) (sym (after-index unit k s ss here))
+    end_if_here = h.end_ifs_are 0 ∙ ap (λ l. suc k + before_end_if l 0) (sym (rest_of_rest unit k s ss here))
 
     executable_after : a.executable ≡ executable_from unit (suc k)
-    executable_after = h.executable_is ∙ ap (λ l. suc k + passed_over l) (sym (after-index unit k s ss here))
+    executable_after = h.executable_is ∙ ap (λ l. suc k + passed_over l) (sym (rest_of_rest unit k s ss here))
 
     next_by : (r : Role) → (with_role a k r).next ≡ past_block unit k r
     next_by opens = refl
@@ -170,7 +159,7 @@ module _ (unit : List Statement) where
 
   stands : (k : ℕ) (ss : List Statement) (past : ℕ) → drop k unit ≡ ss → k + length ss ≡ past → Stands k ss (ahead_of past ss k)
   stands k [] past h l = subst (λ n. Stands k [] (at_end n)) (sym (plus-none k) ∙ l) (stands-end k h)
-  stands k (s ∷ ss) past h l = stands-next k s ss (ahead_of past ss (suc k)) h (stands (suc k) ss past (after-index unit k s ss h) (one-later k (length ss) ∙ l))
+  stands k (s ∷ ss) past h l = stands-next k s ss (ahead_of past ss (suc k)) h (stands (suc k) ss past (rest_of_rest unit k s ss h) (one-later k (length ss) ∙ l))
 
   -- where one goes from a statement
   successors-are : (k past : ℕ) → past ≡ length unit → k < length unit → successors_before (ahead_of past (drop (suc k) unit) (suc k)) ≡ successors_at unit k

@@ -1,5 +1,5 @@
 -- What questions give that stand after values, in a list without order.
-use Rattle.std.proofs.Common.{◌≡◌, ℕ, Bool, true, false, ◌&&◌, ◌||◌, nat_lt, List, [], ◌∷◌, ◌++◌, map, Option, None, refl, ◌∙◌, ap}
+use Rattle.std.proofs.Common.{◌≡◌, ℕ, Bool, false, ◌&&◌, ◌||◌, nat_lt, List, [], ◌∷◌, ◌++◌, map, Option, None, refl, ◌∙◌, ap}
 use Rattle.std.specs.List.{list_any}
 use Rattle.std.proofs.lemmas.List.Folds.{list_any-append}
 use Rattle.hep_check.specs.Reported.{least_line, line_when, least_line_of}
@@ -7,6 +7,7 @@ use Rattle.hep_check.proofs.Lines.{least_line_of-append}
 use Rattle.hep_control.specs.declared.sweep.Event.{Event}
 use Rattle.hep_control.specs.declared.sweep.Event.TheVariants.{Value, Question}
 use Rattle.hep_control.specs.Sweep.{is_within, comes_before, line_asked, least_met}
+use Rattle.hep_source.proofs.Tests.{or-false}
 
 module _ {A B : Type 0} (vk vv : A → ℕ) (qk low high line : B → ℕ) where
   abbrev value : A → Event
@@ -26,10 +27,6 @@ module _ {A B : Type 0} (vk vv : A → ℕ) (qk low high line : B → ℕ) where
   by_values : (y : B) (xs : List A) → list_any (comes_before (qk y) (low y) (high y)) (map value xs) ≡ list_any (answers y) xs
   by_values y [] = refl
   by_values y (x ∷ xs) = ap (λ b. answers y x || b) (by_values y xs)
-
-  or-false : (b : Bool) → (b || false) ≡ b
-  or-false true = refl
-  or-false false = refl
 
   one : (xs : List A) (ys : List B) (y : B)
       → line_asked (map value xs ++ map question ys) (question y) ≡ line_when (list_any (answers y) xs) (line y)

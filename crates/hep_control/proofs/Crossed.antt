@@ -16,18 +16,15 @@ use Rattle.hep_control.specs.Blocks.{block_if}
 use Rattle.hep_control.specs.Ranges.{do_range}
 use Rattle.hep_control.specs.Sweep.{is_within, least_met}
 use Rattle.hep_control.specs.Crossing.{value_of_range, question_of_range, question_of_block, BlockEnd, ends_from, ends_in, value_of_end, values_in, question_in_range, least_shared}
-use Rattle.hep_control.proofs.Sets.{or-assoc, any-same, any-map, any-flat}
+use Rattle.hep_control.proofs.Sets.{any-same, any-map}
 use Rattle.hep_control.proofs.Moved.{least_line_of-reverse, any-reverse}
-use Rattle.hep_control.proofs.Leaps.{least_line_of-map}
+use Rattle.hep_control.proofs.Leaps.{least_line_of-map, strictly_after}
 use Rattle.hep_control.proofs.Asked.{met-asked}
 use Rattle.hep_control.proofs.Nested.{crossed, shared, left_by_block, left_by_range, reported-nesting}
 use Rattle.hep_control.proofs.Shared.{least-shared}
+use Rattle.hep_source.proofs.Tests.{and-assoc, or-false, or-assoc, any-flat}
 
 -- ---- block IFs that leave a range
-
-and-assoc : (a b c : Bool) → (a && (b && c)) ≡ ((a && b) && c)
-and-assoc true b c = refl
-and-assoc false b c = refl
 
 ends_before : (t : ℕ) (o : Option ℕ) → nat_lt t (unwrap_or o 0) ≡ ends_after t o
 ends_before t None = grind (arith, nat_tests)
@@ -40,9 +37,6 @@ one-leaves_range r b =
     ∙ and-assoc (nat_lt r.start b.start) (nat_le b.start r.terminal) (ends_after r.terminal b.end)
 
 -- ---- ranges that leave a block
-
-strictly_after : (a b : ℕ) → nat_le (suc a) b ≡ nat_lt a b
-strictly_after a b = grind (arith, nat_tests)
 
 at_or_before : (a b : ℕ) → nat_lt a (suc b) ≡ nat_le a b
 at_or_before a b = grind (arith, nat_tests)
@@ -60,10 +54,6 @@ nothing false = refl
 first_end : (a b c : Bool) → ((a && b) || (a && c)) ≡ (a && (b || c))
 first_end true b c = refl
 first_end false b c = refl
-
-or-false : (b : Bool) → (b || false) ≡ b
-or-false true = refl
-or-false false = refl
 
 any-ends : (r : DoRange) (start : ℕ) (ds : List ℕ) (o : Option ℕ)
     → list_any (answers r) (ends_from start ds o) ≡ (nat_lt start r.start && (list_any (is_between r.start r.terminal) ds || end_between r.start r.terminal o))

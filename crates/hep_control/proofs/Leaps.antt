@@ -7,7 +7,7 @@ use Rattle.hep_source.specs.declared.statement.Statement.{Statement}
 use Rattle.hep_source.specs.Units.{statement_at}
 use Rattle.hep_machine.specs.Control.{role_of, index_labelled}
 use Rattle.hep_check.specs.Nesting as nesting
-use Rattle.hep_check.specs.Nesting.{IndexedStatement, indexed_statements, is_in, enters, is_division, is_wrong_jump, jump_to, jump_violations, regions_of}
+use Rattle.hep_check.specs.Nesting.{IndexedStatement, indexed_statements, enters, is_division, is_wrong_jump, jump_to, jump_violations, regions_of}
 use Rattle.hep_check.specs.Statements.{targets_of_jump}
 use Rattle.hep_check.specs.Violations.{Violations, first_of}
 use Rattle.hep_check.specs.Reported.{reported, least_line, line_when, least_line_of}
@@ -18,6 +18,8 @@ use Rattle.hep_control.specs.Sweep.{is_within, least_met}
 use Rattle.hep_control.specs.Jumps.{region, Leap, leap, leap_to, leaps_at, leaps_of, value_by_start, question_by_start, value_by_end, question_by_end, line_to_division}
 use Rattle.hep_control.proofs.Sets.{any-same, any-map}
 use Rattle.hep_control.proofs.Asked.{met-asked}
+use Rattle.std.proofs.lemmas.Bool.{ltb-true}
+use Rattle.hep_source.proofs.Tests.{any-or}
 
 -- ---- jump by jump
 
@@ -51,9 +53,6 @@ enters_late j r = nat_lt r.after j.to && is_within (suc j.to) (suc j.from) r.bef
 abbrev pub enters_early : Jump → Region → Bool
 enters_early j r = nat_lt (MAX - r.before) (MAX - j.to) && is_within j.from j.to r.after
 
-below-true : (a b : ℕ) → nat_lt a b ≡ true → a < b
-below-true a b e = grind (arith, nat_tests, e)
-
 below-false : (a b : ℕ) → nat_lt a b ≡ false → a < b → ⊥
 below-false a b e l = grind (arith, nat_tests, e, l)
 
@@ -63,8 +62,8 @@ lt-alike a b c d f g = by (nat_lt a b) (nat_lt c d) refl refl
     by : (p q : Bool) → nat_lt a b ≡ p → nat_lt c d ≡ q → p ≡ q
     by true true e k = refl
     by false false e k = refl
-    by true false e k = absurd (below-false c d k (f (below-true a b e)))
-    by false true e k = absurd (below-false a b e (g (below-true c d k)))
+    by true false e k = absurd (below-false c d k (f (ltb-true a b e)))
+    by false true e k = absurd (below-false a b e (g (ltb-true c d k)))
 
 from_end : (before to : ℕ) → before ≤ MAX → nat_lt (MAX - before) (MAX - to) ≡ nat_lt to before
 from_end before to h = lt-alike (MAX - before) (MAX - to) to before (λ l. omega (arith, h, l)) (λ l. omega (arith, h, l))
@@ -75,7 +74,7 @@ at_or_after a b = grind (arith, nat_tests)
 at_or_before : (a b : ℕ) → nat_lt b (suc a) ≡ not (nat_lt a b)
 at_or_before a b = grind (arith, nat_tests)
 
-strictly_after : (a b : ℕ) → nat_le (suc a) b ≡ nat_lt a b
+pub strictly_after : (a b : ℕ) → nat_le (suc a) b ≡ nat_lt a b
 strictly_after a b = grind (arith, nat_tests)
 
 -- in the region with p and q, and out of it without u or w
@@ -100,16 +99,6 @@ plain from to after before =
 
 one-enters : (j : Jump) (r : Region) → enters j.from j.to (region r) ≡ (enters_late j r || enters_early j r)
 one-enters j r = plain j.from j.to r.after r.before ∙ ap (λ b. (nat_lt r.after j.to && is_within (suc j.to) (suc j.from) r.before) || (b && is_within j.from j.to r.after)) (sym (from_end r.before j.to r.counted))
-
-pub any-or : {A : Type 0} (p q : A → Bool) (xs : List A) → list_any (λ x. p x || q x) xs ≡ (list_any p xs || list_any q xs)
-any-or p q [] = refl
-any-or p q (x ∷ xs) = ap (λ b. (p x || q x) || b) (any-or p q xs) ∙ turn (p x) (q x) (list_any p xs) (list_any q xs)
-  where
-    turn : (a b c d : Bool) → ((a || b) || (c || d)) ≡ ((a || c) || (b || d))
-    turn true b c d = refl
-    turn false true true d = refl
-    turn false true false d = refl
-    turn false false c d = refl
 
 any-enters : (j : Jump) (rs : List Region) → list_any (enters j.from j.to) (map region rs) ≡ (list_any (enters_late j) rs || list_any (enters_early j) rs)
 any-enters j rs =

@@ -11,6 +11,8 @@ use Rattle.hep_source.specs.declared.statement.Statement.{Statement}
 use Rattle.hep_machine.specs.Control.{index_labelled, index_of_label, terminal_by_form, is_ended_at, loops_among, loops_ending_at, loops_around}
 use Rattle.hep_control.specs.Loops.{innermost_loop, outer_loop, terminal_at, with_loop, loop_met, innermost_among}
 use Rattle.hep_control.proofs.Labelled.{index_labelled-below}
+use Rattle.std.proofs.lemmas.Bool.{eqb-true, ltb-false, ltb-true, ne_eqb}
+use Rattle.hep_source.proofs.Tests.{and-false, number-self}
 
 -- ---- lists
 
@@ -77,33 +79,8 @@ none-at (suc n) (suc k) l = none-at n k (omega (arith, l))
 
 -- ---- tests of numbers
 
-and-false : (b : Bool) → (b && false) ≡ false
-and-false true = refl
-and-false false = refl
-
-are-equal : (a b : ℕ) → nat_eq a b ≡ true → a ≡ b
-are-equal a b h = grind (arith, nat_tests, h)
-
 are-other : (a b : ℕ) → nat_eq a b ≡ false → a ≢ b
 are-other a b h e = grind (arith, nat_tests, h, e)
-
-self-equal : (a : ℕ) → nat_eq a a ≡ true
-self-equal a = grind (arith, nat_tests)
-
-not-equal : (a b : ℕ) → a ≢ b → nat_eq a b ≡ false
-not-equal a b h = grind (arith, nat_tests, h)
-
-is-below : (a b : ℕ) → a < b → nat_lt a b ≡ true
-is-below a b l = grind (arith, nat_tests, l)
-
-not-below : (a b : ℕ) → b ≤ a → nat_lt a b ≡ false
-not-below a b l = grind (arith, nat_tests, l)
-
-below-is : (a b : ℕ) → nat_lt a b ≡ true → a < b
-below-is a b h = grind (arith, nat_tests, h)
-
-below-not : (a b : ℕ) → nat_lt a b ≡ false → b ≤ a
-below-not a b h = grind (arith, nat_tests, h)
 
 -- ---- the DOs that are found
 
@@ -132,11 +109,11 @@ module _ (unit : List Statement) (k : ℕ) where
     where
       by : (b : Bool) → nat_lt m k ≡ b → found (suc m) ≡ (if (b && ended (statement_at unit m)) then m ∷ found m else found m)
       by true e =
-          let less : m < k = below-is m k e in
+          let less : m < k = ltb-true m k e in
           ap (λ xs. loops_among unit k 0 xs []) (take-more unit k m less l)
           ∙ (among-more 0 (take m (take k unit)) (statement_at unit m) []
           ∙ ap (λ n. if ended (statement_at unit m) then n ∷ found m else found m) (let none : 0 + length (take m (take k unit)) ≡ length (take m (take k unit)) = omega arith in none ∙ take-length unit k m less l))
-      by false e = ap (λ xs. loops_among unit k 0 xs []) (take-done unit k m (below-not m k e))
+      by false e = ap (λ xs. loops_among unit k 0 xs []) (take-done unit k m (ltb-false m k e))
 
   found-all : found (length unit) ≡ loops_ending_at unit k
   found-all = ap (λ xs. loops_among unit k 0 xs []) (take-whole unit k)
@@ -145,7 +122,7 @@ module _ (unit : List Statement) (k : ℕ) where
   found-none = refl
 
   past : (d m : ℕ) (es : List ℕ) → m ≢ d → loops_around d (m ∷ es) ≡ loops_around d es
-  past d m es ne = ap (λ b. if b then es else loops_around d es) (not-equal m d ne)
+  past d m es ne = ap (λ b. if b then es else loops_around d es) (ne_eqb m d ne)
 
   past-by : (b : Bool) (d m : ℕ) (es : List ℕ) → m ≢ d → loops_around d (if b then m ∷ es else es) ≡ loops_around d es
   past-by true d m es ne = past d m es ne
@@ -158,7 +135,7 @@ module _ (unit : List Statement) (k : ℕ) where
       let less : d < length unit = omega (arith, l) in
       ap (λ m. loops_around d (found m)) e
       ∙ (ap (loops_around d) (found-more d less ∙ ap (λ b. if b then d ∷ found d else found d) is)
-      ∙ ap (λ b. if b then found d else loops_around d (found d)) (self-equal d))
+      ∙ ap (λ b. if b then found d else loops_around d (found d)) (number-self d))
   around-from d (suc n) is l =
       let e : suc d + suc n ≡ suc (suc d + n) = omega arith in
       let less : suc d + n < length unit = omega (arith, l) in
@@ -200,10 +177,10 @@ module _ (unit : List Statement) where
   loop-cases : (m t k : ℕ) (loops : List (Option ℕ)) (before : List ℕ) → slice_get loops k ≡ Some (slice_get before 0) → (b c : Bool) → nat_eq t k ≡ b → nat_lt m k ≡ c
       → slice_get (if nat_lt m t then slice_set loops t (Some m) else loops) k ≡ Some (slice_get (if (c && b) then m ∷ before else before) 0)
   loop-cases m t k loops before h true true e f =
-      ap (λ n. slice_get (if nat_lt m n then slice_set loops n (Some m) else loops) k) (are-equal t k e)
+      ap (λ n. slice_get (if nat_lt m n then slice_set loops n (Some m) else loops) k) (eqb-true t k e)
       ∙ (ap (λ b. slice_get (if b then slice_set loops k (Some m) else loops) k) f ∙ set-same loops k (Some m) (slice_get before 0) h)
   loop-cases m t k loops before h true false e f =
-      ap (λ n. slice_get (if nat_lt m n then slice_set loops n (Some m) else loops) k) (are-equal t k e)
+      ap (λ n. slice_get (if nat_lt m n then slice_set loops n (Some m) else loops) k) (eqb-true t k e)
       ∙ (ap (λ b. slice_get (if b then slice_set loops k (Some m) else loops) k) f ∙ h)
   loop-cases m t k loops before h false true e f = other-index (nat_lt m t) ∙ h
     where
@@ -240,7 +217,7 @@ module _ (unit : List Statement) where
           → (if b then unwrap_or (slice_get loops (index_of_label unit label)) None else None) ≡ slice_get (loops_around m (loops_ending_at unit (index_of_label unit label))) 0
       one_loop label e true f =
           let t = index_of_label unit label in
-          let is : is_one unit t m ≡ true = ap (λ o. nat_lt m t && is_ended_at unit t o) e ∙ (ap (λ b. b && nat_eq t t) f ∙ self-equal t) in
+          let is : is_one unit t m ≡ true = ap (λ o. nat_lt m t && is_ended_at unit t o) e ∙ (ap (λ b. b && nat_eq t t) f ∙ number-self t) in
           ap (λ o. unwrap_or o None) (h t (index-below label)) ∙ ap (λ ls. slice_get ls 0) (sym (around-one unit t m is l))
       one_loop label e false f =
           let t = index_of_label unit label in
@@ -296,8 +273,8 @@ module _ (unit : List Statement) where
       below_or_last d b = by (nat_lt d m) refl
         where
           by : (t : Bool) → nat_lt d m ≡ t → (d < m) ⊎ (d ≡ m)
-          by true e = inl (below-is d m e)
-          by false e = let le : m ≤ d = below-not d m e in inr (omega (arith, le, b))
+          by true e = inl (ltb-true d m e)
+          by false e = let le : m ≤ d = ltb-false d m e in inr (omega (arith, le, b))
 
   pub all-innermost : (innermost outer : List (Option ℕ)) (k : ℕ) → Passed (length unit) innermost outer → k ≤ length unit → slice_get innermost k ≡ Some (innermost_loop unit k)
   all-innermost innermost outer k h l = h.found_are k l ∙ ap (λ ls. Some (slice_get ls 0)) (found-all unit k)

@@ -7,7 +7,7 @@ use Rattle.hep_check.specs.Nesting.{DoRange, BlockIf, ranges_of, block_ifs_of, r
 use Rattle.hep_check.specs.Violations.{first_of, when, at_line}
 use Rattle.hep_check.specs.Reported.{reported, least_line, line_when, least_line_of}
 use Rattle.hep_check.proofs.Lines.{reported-append, reported-when, reported-of, least_line-or, least_line_of-same, least_line_of-both, least_line_of-any, least_line_of-turned}
-use Rattle.hep_control.proofs.Leaps.{any-or}
+use Rattle.hep_source.proofs.Tests.{any-or}
 
 module _ (unit : List Statement) where
   abbrev rs : List DoRange

@@ -1,5 +1,5 @@
 -- The regions of a unit in another order.
-use Rattle.std.proofs.Common.{◌≡◌, ℕ, Bool, true, false, ◌||◌, List, [], ◌∷◌, ◌++◌, map, reverse, Option, Some, None, refl, ◌∙◌, sym, ap, append_assoc}
+use Rattle.std.proofs.Common.{◌≡◌, ℕ, Bool, ◌||◌, List, [], ◌∷◌, ◌++◌, map, reverse, Option, Some, None, refl, ◌∙◌, sym, ap, append_assoc}
 use mathlib.Core.List.{reverse_aux}
 use Rattle.std.specs.List.{flat_map, list_any}
 use Rattle.std.proofs.lemmas.List.Folds.{list_any-append}
@@ -9,8 +9,9 @@ use Rattle.hep_check.specs.Nesting.{regions_before, regions_to_last, block_regio
 use Rattle.hep_control.specs.declared.blocks.BlockIf.{BlockIf}
 use Rattle.hep_control.specs.Blocks.{block_if}
 use Rattle.hep_control.specs.Jumps.{blocks_from, blocks_in}
-use Rattle.hep_control.proofs.Sets.{or-comm, any-same, any-map, any-flat}
+use Rattle.hep_control.proofs.Sets.{or-comm, any-same, any-map}
 use Rattle.hep_control.proofs.Moved.{any-reverse}
+use Rattle.hep_source.proofs.Tests.{or-false, or-assoc, any-flat}
 
 reverse_aux-append : {A : Type 0} (xs ys : List A) → reverse_aux xs ys ≡ reverse_aux xs [] ++ ys
 reverse_aux-append [] ys = refl
@@ -35,10 +36,6 @@ last-first s d (k ∷ xs) = before-first s k d xs
 module _ (test : nesting.Region → Bool) where
   last_first : (rs : List nesting.Region) (r : nesting.Region) → list_any test (rs ++ r ∷ []) ≡ (test r || list_any test rs)
   last_first rs r = list_any-append test rs (r ∷ []) ∙ (ap (λ b. list_any test rs || b) (or-false (test r)) ∙ or-comm (list_any test rs) (test r))
-    where
-      or-false : (b : Bool) → (b || false) ≡ b
-      or-false true = refl
-      or-false false = refl
 
   closed : (s e : ℕ) (ds : List ℕ) → list_any test (blocks_from s ds (Some e)) ≡ list_any test (regions_before s e (reverse ds))
   closed s e [] = refl
@@ -79,7 +76,3 @@ module _ (test : nesting.Region → Bool) where
       ∙ sym (list_any-append test (map range_region (ranges_of unit)) (flat_map block_regions (block_ifs_of unit).closed ++ flat_map block_regions (block_ifs_of unit).unclosed)
       ∙ (ap (λ b. list_any test (map range_region (ranges_of unit)) || b) (list_any-append test (flat_map block_regions (block_ifs_of unit).closed) (flat_map block_regions (block_ifs_of unit).unclosed))
       ∙ sym (or-assoc (list_any test (map range_region (ranges_of unit))) (list_any test (flat_map block_regions (block_ifs_of unit).closed)) (list_any test (flat_map block_regions (block_ifs_of unit).unclosed)))))))))
-    where
-      or-assoc : (a b c : Bool) → ((a || b) || c) ≡ (a || (b || c))
-      or-assoc true b c = refl
-      or-assoc false b c = refl

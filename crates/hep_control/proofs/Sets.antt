@@ -1,6 +1,6 @@
 -- Lists and sets of numbers, as tests of some element see them.
 use Rattle.std.proofs.Common.{◌≡◌, ℕ, ◌≤◌, Bool, true, false, ◌||◌, is_some, List, [], ◌∷◌, map, refl, ◌∙◌, sym, ap, arith, slice_get, if◌then◌else◌}
-use Rattle.std.specs.List.{flat_map, list_any, filter}
+use Rattle.std.specs.List.{list_any, filter}
 use Rattle.std.specs.BTreeSet.{insert_key}
 use Rattle.std.specs.Ordering.{nat_cmp, match_ordering}
 use Rattle.std.specs.declared.cmp.Ordering.{Ordering}
@@ -8,9 +8,9 @@ use Rattle.std.specs.declared.cmp.Ordering.TheVariants.{Less, Equal, Greater}
 use Rattle.std.specs.declared.ops.Bound.TheVariants.{Included, Excluded}
 use Rattle.std.specs.BTreeMap.Range.{range_contains}
 use Rattle.std.proofs.lemmas.Bool.Decides.{nat_tests}
-use Rattle.std.proofs.lemmas.List.Folds.{list_any-append}
 use Rattle.std.proofs.lemmas.Map.Lookups.{exact_unsigned}
 use Rattle.hep_control.specs.Sweep.{is_within}
+use Rattle.hep_source.proofs.Tests.{or-turned}
 
 pub or-comm : (a b : Bool) → (a || b) ≡ (b || a)
 or-comm true true = refl
@@ -18,18 +18,9 @@ or-comm true false = refl
 or-comm false true = refl
 or-comm false false = refl
 
-pub or-assoc : (a b c : Bool) → ((a || b) || c) ≡ (a || (b || c))
-or-assoc true b c = refl
-or-assoc false b c = refl
-
 or-again : (a b : Bool) → (a || b) ≡ (a || (a || b))
 or-again true b = refl
 or-again false b = refl
-
-or-turn : (a b c : Bool) → (a || (b || c)) ≡ (b || (a || c))
-or-turn true true c = refl
-or-turn true false c = refl
-or-turn false b c = refl
 
 pub any-insert_key : (test : ℕ → Bool) (ks : List ℕ) (k : ℕ) → list_any test (insert_key nat_cmp ks k) ≡ list_any test (k ∷ ks)
 any-insert_key test [] k = refl
@@ -39,7 +30,7 @@ any-insert_key test (x ∷ xs) k = by (nat_cmp k x) refl (any-insert_key test xs
         → list_any test (match_ordering o (k ∷ x ∷ xs) (x ∷ xs) (x ∷ insert_key nat_cmp xs k)) ≡ list_any test (k ∷ x ∷ xs)
     by Less e h = refl
     by Equal e h = or-again (test x) (list_any test xs) ∙ ap (λ y. test y || list_any test (x ∷ xs)) (sym (exact_unsigned k x e))
-    by Greater e h = ap (λ t. test x || t) h ∙ or-turn (test x) (test k) (list_any test xs)
+    by Greater e h = ap (λ t. test x || t) h ∙ or-turned (test x) (test k) (list_any test xs)
 
 any-filter : (test : ℕ → Bool) (ks : List ℕ) → is_some (slice_get (filter test ks) 0) ≡ list_any test ks
 any-filter test [] = refl
@@ -57,10 +48,6 @@ any-same p q h (x ∷ xs) = rw (h x, any-same p q h xs) refl
 pub any-map : {A B : Type 0} (test : B → Bool) (f : A → B) (xs : List A) → list_any test (map f xs) ≡ list_any (λ x. test (f x)) xs
 any-map test f [] = refl
 any-map test f (x ∷ xs) = ap (λ b. test (f x) || b) (any-map test f xs)
-
-pub any-flat : {A B : Type 0} (test : B → Bool) (f : A → List B) (xs : List A) → list_any test (flat_map f xs) ≡ list_any (λ x. list_any test (f x)) xs
-any-flat test f [] = refl
-any-flat test f (x ∷ xs) = list_any-append test (f x) (flat_map f xs) ∙ ap (λ b. list_any test (f x) || b) (any-flat test f xs)
 
 pub any-none : {A : Type 0} (p : A → Bool) → ((x : A) → p x ≡ false) → (xs : List A) → list_any p xs ≡ false
 any-none p h [] = refl

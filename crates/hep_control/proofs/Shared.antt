@@ -15,6 +15,8 @@ use Rattle.hep_check.specs.Reported.{least_line, line_when, least_line_of}
 use Rattle.hep_check.proofs.Lines.{least_line-assoc}
 use Rattle.hep_control.specs.Ranges.{range_at}
 use Rattle.hep_control.specs.Crossing.{later, with_range, reaches, least_shared}
+use Rattle.std.proofs.lemmas.Bool.{le-ltb, lt-ltb}
+use Rattle.hep_source.proofs.Tests.{or-false}
 
 -- ---- the pass
 
@@ -128,22 +130,16 @@ started-later : (m n : ℕ) (rs : List DoRange) → m ≤ n → Started m rs →
 started-later m n [] l h = tt
 started-later m n (r ∷ rs) l h = (omega (arith, l, h.0), started-later m n rs l h.1)
 
-is_below : (a b : ℕ) → a < b → nat_lt a b ≡ true
-is_below a b l = grind (arith, nat_tests, l)
-
-not_below : (a b : ℕ) → b ≤ a → nat_lt a b ≡ false
-not_below a b l = grind (arith, nat_tests, l)
-
 before-shares : (b : DoRange) (rs : List DoRange) → Started b.start rs → list_any (λ a. shares_variable a b) rs ≡ list_any (reaches_by b.start b.variable) rs
 before-shares b [] h = refl
 before-shares b (r ∷ rs) h =
-    ap (λ t. (t && reaches_by b.start b.variable r) || list_any (λ a. shares_variable a b) rs) (is_below r.start b.start h.0)
+    ap (λ t. (t && reaches_by b.start b.variable r) || list_any (λ a. shares_variable a b) rs) (lt-ltb r.start b.start h.0)
     ∙ ap (λ t. reaches_by b.start b.variable r || t) (before-shares b rs h.1)
 
 after-shares : (b : DoRange) (n : ℕ) (rs : List DoRange) → b.start ≤ n → Rising n rs → list_any (λ a. shares_variable a b) rs ≡ false
 after-shares b n [] l h = refl
 after-shares b n (r ∷ rs) l h =
-    ap (λ t. (t && reaches_by b.start b.variable r) || list_any (λ a. shares_variable a b) rs) (not_below r.start b.start (omega (arith, l, h.0)))
+    ap (λ t. (t && reaches_by b.start b.variable r) || list_any (λ a. shares_variable a b) rs) (le-ltb r.start b.start (omega (arith, l, h.0)))
     ∙ after-shares b (suc r.start) rs (omega (arith, l, h.0)) h.1
 
 -- all ranges are those that were met and those ahead
@@ -158,10 +154,6 @@ together-next met ahead all r h test = h test ∙ turn (list_any test met) (test
     turn true false c = refl
     turn false true c = refl
     turn false false c = refl
-
-or-false : (b : Bool) → (b || false) ≡ b
-or-false true = refl
-or-false false = refl
 
 shares-here : (met ahead all : List DoRange) (r : DoRange) → Started r.start met → Rising (suc r.start) ahead → Together met (r ∷ ahead) all
     → reaches (latest met r.variable) r.start ≡ list_any (λ a. shares_variable a r) all

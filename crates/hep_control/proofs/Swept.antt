@@ -10,6 +10,7 @@ use Rattle.hep_control.specs.declared.sweep.Event.{Event}
 use Rattle.hep_control.specs.declared.sweep.Event.TheVariants.{Value, Question}
 use Rattle.hep_control.specs.Sweep.{is_within, comes_before, line_asked, least_met, rank, line_met, with_event, least_swept}
 use Rattle.hep_control.proofs.Moved.{least_line_of-permutation, any-permutation}
+use Rattle.hep_source.proofs.Tests.{or-false}
 
 -- ---- what a pass keeps
 
@@ -96,10 +97,6 @@ all_before key low high (Value k v ∷ es) b =
     ap (λ t. (t && is_within low high v) || list_any (comes_before key low high) es) (is_below k key b.0)
     ∙ ap (λ t. is_within low high v || t) (all_before key low high es b.1)
 all_before key low high (Question k l m line ∷ es) b = all_before key low high es b.1
-
-or-false : (b : Bool) → (b || false) ≡ b
-or-false true = refl
-or-false false = refl
 
 values_of-push : (es : List Event) (e : Event) → Alike (values_of (es ++ e ∷ [])) (with_event e (values_of es))
 unfolding values_of

@@ -13,7 +13,7 @@ ghost use Rattle.hep_control.specs.Crossing as spec;
 
 use crate::blocks::{BlockIf, BlockIfs};
 use crate::do_range::DoRange;
-use crate::sweep::{Event, least_met};
+use crate::sweep::{Event, least_met, question, value};
 use hep_check::reported::{lesser, line_when};
 use hep_source::{Name, Statement};
 use indexmap::IndexMap;
@@ -23,10 +23,7 @@ use std::alloc::{AllocError, Global};
 pub(crate) fn line_at(unit: &[Statement], index: usize) -> u32
     ensures { result ≡ units.line_at unit.now index }
 {
-    match unit.get(index) {
-        Some(statement) => statement.line,
-        None => 0,
-    }
+    unit.get(index).map_or(0, |statement| statement.line)
 }
 
 // The least line of a DO or a block IF that isn't nested in the ranges and blocks around it.
@@ -57,17 +54,14 @@ fn events_of_ranges(
     ensures { IfOk result (λ events. events.items ≡ map spec.value_of_range ranges.now
         ++ map (spec.question_of_range unit.now) ranges.now) }
 {
-    let mut events = Vec::new(alloc);
-    add_ranges(&mut events, ranges)?;
-    for range in ranges {
-        events.push(Event::Question {
-            key: range.start,
-            low: range.start,
-            high: range.terminal,
-            line: line_at(unit, range.start),
-        })?;
-    }
-    Ok(events)
+    let values = ranges
+        .iter()
+        .map(|range| value(range.start, range.terminal));
+    let questions = ranges.iter().map(|range| {
+        let line = line_at(unit, range.start);
+        question(range.start, range.start, range.terminal, line)
+    });
+    values.chain(questions).collect(alloc)
 }
 
 // The ranges, and the same of each block IF.
@@ -80,17 +74,14 @@ fn events_of_blocks(
     ensures { IfOk result (λ events. events.items ≡ map spec.value_of_range ranges.now
         ++ map (spec.question_of_block unit.now) blocks.now) }
 {
-    let mut events = Vec::new(alloc);
-    add_ranges(&mut events, ranges)?;
-    for block in blocks {
-        events.push(Event::Question {
-            key: block.start,
-            low: block.start,
-            high: block.end.unwrap_or(0),
-            line: line_at(unit, block.start),
-        })?;
-    }
-    Ok(events)
+    let values = ranges
+        .iter()
+        .map(|range| value(range.start, range.terminal));
+    let questions = blocks.iter().map(|block| {
+        let line = line_at(unit, block.start);
+        question(block.start, block.start, block.end.unwrap_or(0), line)
+    });
+    values.chain(questions).collect(alloc)
 }
 
 // Where blocks end, and of each range whether one of a block IF that begins before it ends in it.
@@ -106,26 +97,10 @@ fn events_in_blocks(
     let mut events = Vec::new(alloc);
     add_all_ends(&mut events, blocks)?;
     for range in ranges {
-        events.push(Event::Question {
-            key: range.start,
-            low: range.start + 1,
-            high: range.terminal + 1,
-            line: line_at(unit, range.start),
-        })?;
+        let (start, terminal) = (range.start, range.terminal);
+        events.push(question(start, start + 1, terminal + 1, line_at(unit, start)))?;
     }
     Ok(events)
-}
-
-fn add_ranges(events: &mut Vec<Event>, ranges: &[DoRange]) -> Result<(), AllocError>
-    ensures { OnOk result (events.new.items ≡ events.old.items ++ map spec.value_of_range ranges.now) }
-{
-    for range in ranges {
-        events.push(Event::Value {
-            key: range.start,
-            value: range.terminal,
-        })?;
-    }
-    Ok(())
 }
 
 fn add_all_ends(events: &mut Vec<Event>, blocks: &[BlockIf]) -> Result<(), AllocError>
@@ -142,16 +117,10 @@ fn add_ends(events: &mut Vec<Event>, block: &BlockIf) -> Result<(), AllocError>
     ensures { OnOk result (events.new.items ≡ events.old.items ++ spec.values_in block.now) }
 {
     for division in &block.divisions {
-        events.push(Event::Value {
-            key: block.start,
-            value: *division,
-        })?;
+        events.push(value(block.start, *division))?;
     }
     if let Some(end) = block.end {
-        events.push(Event::Value {
-            key: block.start,
-            value: end,
-        })?;
+        events.push(value(block.start, end))?;
     }
     Ok(())
 }
@@ -188,17 +157,11 @@ fn is_shared(last: &mut IndexMap<Name, usize>, range: &DoRange) -> Result<bool, 
 fn later(before: Option<usize>, terminal: usize) -> usize
     ensures { result ≡ spec.later before terminal }
 {
-    match before {
-        Some(before) => before.max(terminal),
-        None => terminal,
-    }
+    before.map_or(terminal, |before| before.max(terminal))
 }
 
 fn reaches(terminal: Option<usize>, index: usize) -> bool
     ensures { result ≡ spec.reaches terminal index }
 {
-    match terminal {
-        Some(terminal) => index <= terminal,
-        None => false,
-    }
+    terminal.is_some_and(|terminal| index <= terminal)
 }

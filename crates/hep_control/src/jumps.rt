@@ -12,7 +12,7 @@ ghost use Rattle.hep_control.specs.Jumps as spec;
 use crate::labels::Labels;
 use crate::region::{Jump, Region};
 use crate::regions::regions_of;
-use crate::sweep::{Event, least_met};
+use crate::sweep::{Event, least_met, question, value};
 use hep_check::Violation;
 use hep_check::reported::{lesser, line_when, reported};
 use hep_source::{Form, Statement};
@@ -117,22 +117,16 @@ fn events_by_start(
 ) -> Result<Vec<Event>, AllocError>
     ensures { IfOk result (λ events. events.items ≡ map spec.value_by_start regions.now ++ map spec.question_by_start jumps.now) }
 {
-    let mut events = Vec::new(alloc);
-    for region in regions {
-        events.push(Event::Value {
-            key: region.after,
-            value: region.before,
-        })?;
-    }
-    for jump in jumps {
-        events.push(Event::Question {
-            key: jump.to,
-            low: jump.to + 1,
-            high: jump.from + 1,
-            line: jump.line,
-        })?;
-    }
-    Ok(events)
+    let values = regions
+        .iter()
+        .map(|region| value(region.after, region.before));
+    let questions = jumps.iter().map(|jump| question(
+        jump.to,
+        jump.to + 1,
+        jump.from + 1,
+        jump.line,
+    ));
+    values.chain(questions).collect(alloc)
 }
 
 // Asks of each jump whether it comes into a region from before the region's start: some region ends after
@@ -144,22 +138,16 @@ fn events_by_end(
 ) -> Result<Vec<Event>, AllocError>
     ensures { IfOk result (λ events. events.items ≡ map spec.value_by_end regions.now ++ map spec.question_by_end jumps.now) }
 {
-    let mut events = Vec::new(alloc);
-    for region in regions {
-        events.push(Event::Value {
-            key: usize::MAX - region.before,
-            value: region.after,
-        })?;
-    }
-    for jump in jumps {
-        events.push(Event::Question {
-            key: usize::MAX - jump.to,
-            low: jump.from,
-            high: jump.to,
-            line: jump.line,
-        })?;
-    }
-    Ok(events)
+    let values = regions
+        .iter()
+        .map(|region| value(usize::MAX - region.before, region.after));
+    let questions = jumps.iter().map(|jump| question(
+        usize::MAX - jump.to,
+        jump.from,
+        jump.to,
+        jump.line,
+    ));
+    values.chain(questions).collect(alloc)
 }
 
 // The least line of a jump to an ELSE IF or ELSE.

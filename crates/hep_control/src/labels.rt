@@ -84,10 +84,7 @@ impl<'a> Labels<'a> {
     pub fn index_of_label(&self, label: u32) -> usize
         ensures { result ≡ control.index_of_label self.now label }
     {
-        match self.index_labelled(label) {
-            Some(index) => index,
-            None => self.unit.len(),
-        }
+        self.index_labelled(label).unwrap_or(self.unit.len())
     }
 
     fn is_absent(&self, label: u32) -> bool

@@ -87,10 +87,7 @@ fn least_statement(labels: &Labels, loop_variables: &[bool]) -> Option<u32>
 fn is_loop_variable(loop_variables: &[bool], index: usize) -> bool
     ensures { result ≡ unwrap_or (slice_get loop_variables.now index) true }
 {
-    match loop_variables.get(index) {
-        Some(is_variable) => *is_variable,
-        None => true,
-    }
+    loop_variables.get(index).copied().unwrap_or(true)
 }
 
 // The line at which a statement by itself is reported, if it is. `is_variable` says whether the variable

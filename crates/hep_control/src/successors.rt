@@ -137,10 +137,7 @@ impl Ahead {
 fn innermost(indexes: &[usize], past: usize) -> usize
     ensures { result ≡ spec.innermost (reverse indexes.now) past }
 {
-    match indexes.last() {
-        Some(index) => *index,
-        None => past,
-    }
+    indexes.last().copied().unwrap_or(past)
 }
 
 /// Where one goes from each statement of a unit.

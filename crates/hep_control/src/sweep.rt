@@ -24,6 +24,23 @@ pub(crate) enum Event {
     },
 }
 
+pub(crate) fn value(key: usize, value: usize) -> Event
+    ensures { result ≡ Event.Value key value }
+{
+    Event::Value { key, value }
+}
+
+pub(crate) fn question(key: usize, low: usize, high: usize, line: u32) -> Event
+    ensures { result ≡ Event.Question key low high line }
+{
+    Event::Question {
+        key,
+        low,
+        high,
+        line,
+    }
+}
+
 // A question comes before the values with its key.
 fn rank(event: &Event) -> u128
     ensures { result ≡ sweep.rank event.now }

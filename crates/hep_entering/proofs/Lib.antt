@@ -11,7 +11,7 @@ mod Kept
 pub mod Calls
 mod Leading
 mod Places
-mod Rest
+pub mod Rest
 mod Shaped
 pub mod AllShaped
 mod Blocks

@@ -51,7 +51,7 @@ module _ (program : Units) (t : State) (a : ℕ) (layout : Layout) (level : Leve
 
 -- ---- the level of the new activation
 
-set-numbered : {A : Type 0} (xs : List A) (p : ℕ) (x y : A) → numbered xs p ≡ Some x → numbered (with_numbered xs p y) p ≡ Some y
+pub set-numbered : {A : Type 0} (xs : List A) (p : ℕ) (x y : A) → numbered xs p ≡ Some x → numbered (with_numbered xs p y) p ≡ Some y
 set-numbered xs zero x y e = absurd (none-some x e)
 set-numbered xs (suc i) x y e = let same : suc i - 1 ≡ i = omega arith in rw same (at xs i e) where
   at : {A : Type 0} (xs : List A) (i : ℕ) {x y : A} → slice_get xs i ≡ Some x → slice_get (slice_set xs i y) i ≡ Some y

@@ -51,7 +51,7 @@ pub runs-entered : (program : Units) (s t : State) (x : Activation) (layout : La
     → RunsFrom program s layout start count first → RunsFrom program t (with_frame layout (frame_from program t (length t.activations) entered)) start count first
 runs-entered program s t x layout entered cells start count first laid more h k less = address-entered program s t x layout entered more cells (further start k) (first + k) laid (h k less)
 
-owned-further : (a : ℕ) (at : Location) (k : ℕ) → is_owned a (further at k) ≡ is_owned a at
+pub owned-further : (a : ℕ) (at : Location) (k : ℕ) → is_owned a (further at k) ≡ is_owned a at
 owned-further a (local b x i) k = refl
 owned-further a (common b i) k = refl
 

@@ -1,17 +1,18 @@
 -- A text of lines has one reading at most.
 use Rattle.std.proofs.Common.{◌≡◌, ◌≢◌, inl, inr, ℕ, ◌+◌, ◌^◌, ◌<◌, ◌≤◌, List, [], ◌∷◌, ◌++◌, length, refl, sym, ap, ◌∙◌, arith, append_assoc, append-nil, length-append}
 use Rattle.std.specs.List.{AllByRecursion, flat_map}
-use Rattle.hep_history.specs.Lines.{AreLines, IsFirstBad, IsRefusedText, most_bytes}
+use Rattle.hep_history.specs.Lines.{AreApart, AreLines, IsFirstBad, IsRefusedText, most_bytes}
 
 -- nothing is left after the lines
 nothing_left : (text front rest : List ℕ) → text ≡ front ++ rest → length rest ≡ 0 → text ≡ front
 nothing_left text front [] e h = e ∙ append-nil front
 nothing_left text front (c ∷ rest) e h = absurd (omega arith)
 
--- no line is empty or begins another
-pub record AreApart {A : Type 0} (line : A → List ℕ) (Allows : A → Type 0) : Type 0 where
-  pub filled : (x : A) → 0 < length (line x)
-  pub apart : (x y : A) (a b : List ℕ) → Allows x → Allows y → line x ++ a ≡ line y ++ b → (x ≡ y) × (a ≡ b)
+-- of a text that isn't too long, these lines were read, and this rest is left
+pub record IsReadTo {A : Type 0} (line : A → List ℕ) (Allows : A → Type 0) (text rest : List ℕ) (xs : List A) : Type 0 where
+  pub size : length text ≤ most_bytes
+  pub split : text ≡ flat_map line xs ++ rest
+  pub each : AllByRecursion Allows xs
 
 module _ {A : Type 0} (line : A → List ℕ) (Allows : A → Type 0) (lines : AreApart line Allows) where
   -- no line stands at the front
@@ -54,20 +55,19 @@ module _ {A : Type 0} (line : A → List ℕ) (Allows : A → Type 0) (lines : A
       let same = (same_lines p.before q.before p.rest q.rest p.each q.each p.none q.none (sym p.whole ∙ q.whole)).0 in
       p.place ∙ ap (λ (xs : List A). length xs + 1) same ∙ sym q.place
 
-  -- of a text that isn't too long, these lines were read, and a rest is left
-  module _ (text rest : List ℕ) (xs : List A) (size : length text ≤ most_bytes) (split : text ≡ flat_map line xs ++ rest) (each : AllByRecursion Allows xs) where
-    -- the number of the next line fits
-    pub count_fits : length xs + 1 < 2 ^ 32
-    count_fits = omega (arith, size, count_within xs, ap length split, length-append (flat_map line xs) rest)
+  -- the number of the next line fits
+  pub count_fits : {text rest : List ℕ} {xs : List A} → IsReadTo line Allows text rest xs → length xs + 1 < 2 ^ 32
+  count_fits {text} {rest} {xs} read = omega (arith, read.size, count_within xs, ap length read.split, length-append (flat_map line xs) rest)
 
-    -- nothing is left, and whatever the text is the lines of is what was read
-    pub read_whole : length rest ≡ 0 → (ys : List A) → AreLines line Allows text ys → xs ≡ ys
-    read_whole none ys h = one_reading text xs ys (record { size = size; whole = nothing_left text (flat_map line xs) rest split none; each = each }) h
+  -- nothing is left, and whatever the text is the lines of is what was read
+  pub read_whole : {text rest : List ℕ} {xs : List A} → IsReadTo line Allows text rest xs → length rest ≡ 0 → (ys : List A) → AreLines line Allows text ys → xs ≡ ys
+  read_whole {text} {rest} {xs} read none ys h =
+      one_reading text xs ys (record { size = read.size; whole = nothing_left text (flat_map line xs) rest read.split none; each = read.each }) h
 
-    -- no line stands in front of what is left, and the text is the lines of nothing
-    pub read_short : rest ≢ [] → Stops rest → (ys : List A) → AreLines line Allows text ys → ⊥
-    read_short some none ys h =
-        not_both text (length xs + 1) ys (inr (size, record { before = xs; rest = rest; place = refl; whole = split; each = each; some = some; none = none })) h
+  -- no line stands in front of what is left, and the text is the lines of nothing
+  pub read_short : {text rest : List ℕ} {xs : List A} → IsReadTo line Allows text rest xs → rest ≢ [] → Stops rest → (ys : List A) → AreLines line Allows text ys → ⊥
+  read_short {text} {rest} {xs} read some none ys h =
+      not_both text (length xs + 1) ys (inr (read.size, record { before = xs; rest = rest; place = refl; whole = read.split; each = read.each; some = some; none = none })) h
 
   pub one_refusal : (text : List ℕ) (j k : ℕ) → IsRefusedText line Allows text j → IsRefusedText line Allows text k → j ≡ k
   one_refusal text j k (inl p) (inl q) = p.0 ∙ sym q.0
@@ -83,7 +83,3 @@ module _ {A : Type 0} (line : A → List ℕ) (Allows : A → Type 0) (lines : A
 pub lines_more : {A B : Type 0} (line : A → List B) (xs : List A) (x : A) → flat_map line (xs ++ x ∷ []) ≡ flat_map line xs ++ line x
 lines_more line [] x = append-nil (line x)
 lines_more line (y ∷ xs) x = ap (λ l. line y ++ l) (lines_more line xs x) ∙ sym (append_assoc (line y) (flat_map line xs) (line x))
-
-pub all_more : {A : Type 0} (P : A → Type 0) (xs : List A) (x : A) → AllByRecursion P xs → P x → AllByRecursion P (xs ++ x ∷ [])
-all_more P [] x h p = (p, tt)
-all_more P (y ∷ xs) x h p = (h.0, all_more P xs x h.1 p)

@@ -8,8 +8,8 @@ use Rattle.std.proofs.Math.Seq.{take-append_seam, drop-append_seam}
 use Rattle.hep_machine.specs.declared.event.Entry.{Entry}
 use Rattle.hep_history.specs.Choices.{choice_text, IsProcess}
 use Rattle.hep_history.specs.Histories.{entry_text, IsAllowed}
+use Rattle.hep_history.specs.Lines.{AreApart}
 use Rattle.hep_history.proofs.Digits.{digits_end, decimal_digits}
-use Rattle.hep_history.proofs.Readings.{AreApart}
 
 -- a number with a mark after it
 abbrev pub marked : ℕ → ℕ → List ℕ → List ℕ

@@ -22,6 +22,8 @@ use Rattle.hep_scheduler.specs.declared.stop.Turn.{Turn as CoreTurn}
 use Rattle.hep_scheduler.specs.Value.{CoreValue, state_of, core_after_choice, stop_after, HasNoStop, IsTurn, IsChoice}
 use Rattle.hep_history.specs.Progress.{IsStanding, longer, HasTurn, turn_entry, TurnMade}
 use Rattle.hep_history.specs.Replays.{HaveGaps, most_entries, standing}
+use Rattle.hep_listed.proofs.Living.{waits-idle}
+use Rattle.hep_machine.proofs.Replays.{run_after}
 
 -- ---- what a process does next
 
@@ -41,9 +43,6 @@ waits_still t true w = refl
 waits_still (stepped s) false w = absurd (cc (w))
 waits_still (waiting x) false w = refl
 waits_still absent false w = refl
-
-pub waiting_stays : (program : Units) (p : ℕ) (s : State) → is_waiting program s p ≡ true → step program p s ≡ None
-waiting_stays program p s w = waits_still (step_result_of program p s) s.halted w
 
 -- a halted machine makes no step
 pub halted_stays : (program : Units) (p : ℕ) (s : State) → s.halted ≡ true → step program p s ≡ None
@@ -67,11 +66,6 @@ pub schedule_of-append : (es fs : List Entry) → schedule_of (es ++ fs) ≡ sch
 unfolding schedule_of
 schedule_of-append [] fs = refl
 schedule_of-append (e ∷ es) fs = ap (λ ps. replicate e.steps e.process ++ ps) (schedule_of-append es fs) ∙ sym (append_assoc (replicate e.steps e.process) (schedule_of es) (schedule_of fs))
-
-run_after : (program : Units) (s : State) (ps qs : List ℕ) → run_from program s (ps ++ qs) ≡ run_from program (run_from program s ps) qs
-unfolding run_from
-run_after program s [] qs = refl
-run_after program s (p ∷ ps) qs = run_after program (state_after_turn program p s) ps qs
 
 pub state_after_statement : (program : Units) (es fs : List Entry) → state_after program (es ++ fs) ≡ run_from program (state_after program es) (schedule_of fs)
 unfolding state_after run
@@ -101,7 +95,7 @@ no_gaps program cells es p gap gaps =
 -- what made a step for which there is no gap isn't waiting
 no_gap_waits : (program : Units) (cells : ℕ) (es : List Entry) (p : ℕ) → HasNoGap program cells (schedule_of es) p → is_waiting program (state_after program es) p ≡ true → ⊥
 unfolding state_after
-no_gap_waits program cells es p gap waits = gap.stepped (waiting_stays program p (run program (schedule_of es)) waits)
+no_gap_waits program cells es p gap waits = gap.stepped (waits-idle program p (run program (schedule_of es)) waits)
 
 no_gap_turns : (program : Units) (cells : ℕ) (es : List Entry) (p : ℕ) (waits : Bool) → HasNoGap program cells (schedule_of es) p → HasTurn program (state_after program es) p waits
     → HaveGaps program cells (es ++ turn_entry p waits ∷ []) → ⊥
@@ -135,7 +129,7 @@ limit_is old h = ap (λ c. c.limit) h
 turned : (old new : CoreValue) (p n : ℕ) (blocked waits : Bool) → IsStanding old → HasNoStop old → length old.history < old.limit → IsTurn old p n blocked new → TurnMade old p waits (Ok (beq blocked waits)) new
 turned old new p zero true true h going room t =
     (omega (arith, limit_is old h), (going.1, t.0), t.1 ∙ grown_is old p 0 (state_of old) (limit_is old h) (state_waited old.program old.history p))
-turned old new p zero true false h going room t = λ within has gaps. has (waiting_stays old.program p (state_of old) t.0)
+turned old new p zero true false h going room t = λ within has gaps. has (waits-idle old.program p (state_of old) t.0)
 turned old new p (suc zero) false true h going room t = λ within has gaps. step_or_wait old.program p (state_of old) t.0 t.1 has.1
 turned old new p (suc zero) false false h going room t = (
   omega (arith, limit_is old h),

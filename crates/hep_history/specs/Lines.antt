@@ -14,6 +14,11 @@ pub record AreLines {A : Type 0} (line : A → List ℕ) (Allows : A → Type 0)
   pub whole : text ≡ flat_map line xs
   pub each : AllByRecursion Allows xs
 
+-- no line is empty or begins another
+pub record AreApart {A : Type 0} (line : A → List ℕ) (Allows : A → Type 0) : Type 0 where
+  pub filled : (x : A) → 0 < length (line x)
+  pub apart : (x y : A) (a b : List ℕ) → Allows x → Allows y → line x ++ a ≡ line y ++ b → (x ≡ y) × (a ≡ b)
+
 -- the lines before line k are those of things that are allowed; there is a line k, and it is that of none
 pub record IsFirstBad {A : Type 0} (line : A → List ℕ) (Allows : A → Type 0) (text : List ℕ) (k : ℕ) : Type 0 where
   pub before : List A

@@ -1,10 +1,11 @@
 //! The text of a history.
-ghost use Rattle.std.specs.Prelude.{◌≡◌, ◌≢◌, ℕ, ◌++◌, List, IfOk, IfErr, OnOk, IfSome, IfNone, MatchResult};
+ghost use Rattle.std.specs.Prelude.{◌≡◌, ◌++◌, List, IfOk, IfErr, OnOk, MatchResult};
 ghost use Rattle.hep_machine.specs.declared.event.Entry.{Entry};
 ghost use Rattle.hep_base.specs.declared.refusal.Refusal.TheVariants.{NoMemory};
 ghost use Rattle.hep_history.specs.Lines.{AreLines, IsRefusedText, ReportsLine};
 ghost use Rattle.hep_history.specs.Histories.{entry_text, history_text, IsAllowed};
 
+use crate::lines::{FromLine, read_lines};
 use crate::number::{append_number, number_before};
 use hep_base::{Refusal as HistoryFault, Sequence};
 use hep_machine::Entry;
@@ -48,20 +49,20 @@ pub fn write_text(alloc: Global, history: &[Entry]) -> Result<Vec<u8>, AllocErro
     Ok(text)
 }
 
-// The entry whose line stands at the front of a text, and the text after it.
-fn entry_at(text: &[u8]) -> Option<(Entry, &[u8])>
-    ensures allowed { IfSome result (λ found. IsAllowed found.0) }
-    ensures found { IfSome result (λ found. text.now ≡ entry_text found.0 ++ found.1.now) }
-    ensures none { IfNone result ((e : Entry) (more : List ℕ) → IsAllowed e
-        → text.now ≢ entry_text e ++ more) }
-{
-    let (process, rest_after) = number_before(text, b' ', MOST_PROCESS)?;
-    let (steps, rest) = number_before(rest_after, b'\n', MOST_STEPS)?;
-    if process == 0 {
-        return None;
+impl FromLine for Entry {
+    ghost line = { entry_text };
+
+    ghost allows = { IsAllowed };
+
+    fn from_front(text: &[u8]) -> Option<(Entry, &[u8])> {
+        let (process, rest_after) = number_before(text, b' ', MOST_PROCESS)?;
+        let (steps, rest) = number_before(rest_after, b'\n', MOST_STEPS)?;
+        if process == 0 {
+            return None;
+        }
+        let steps = steps as u32;
+        Some((Entry { process, steps }, rest))
     }
-    let steps = steps as u32;
-    Some((Entry { process, steps }, rest))
 }
 
 /// The history that a text has.
@@ -77,17 +78,5 @@ pub fn read_text(alloc: Global, text: &[u8]) -> Result<History, HistoryFault>
     ensures accepted { (es : List Entry) → AreLines entry_text IsAllowed text.now es
         → MatchResult result (λ history. history ≡ es) (λ fault. fault ≡ NoMemory) }
 {
-    if MOST_BYTES < text.len() {
-        return Err(HistoryFault::refused(alloc, 601, 0));
-    }
-    let mut entries = Vec::new(alloc);
-    let mut rest = text;
-    while !rest.is_empty() {
-        let Some((entry, rest_after)) = entry_at(rest) else {
-            return Err(HistoryFault::refused(alloc, 601, entries.len() as u32 + 1));
-        };
-        entries.push(entry)?;
-        rest = rest_after;
-    }
-    Ok(History::from(entries))
+    read_lines(alloc, text, 601)
 }

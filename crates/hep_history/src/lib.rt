@@ -9,6 +9,7 @@ pub mod choices;
 pub mod fault;
 pub mod history;
 pub mod laws;
+mod lines;
 mod number;
 pub mod replays;
 

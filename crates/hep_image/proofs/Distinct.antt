@@ -76,7 +76,7 @@ pub locals_distinct : (unit : List Statement) → AreDistinct same_name (locals_
 locals_distinct unit = fewer_distinct same_name same_name-turned (is_local unit) (names_of unit) (names_distinct unit)
 
 -- names of which no two are one, by their indexes
-index_of : (x : Name) (xs : List Name) → is_among x xs ≡ true → (i : ℕ) × (slice_get xs i ≡ Some x)
+pub index_of : (x : Name) (xs : List Name) → is_among x xs ≡ true → (i : ℕ) × (slice_get xs i ≡ Some x)
 index_of x [] h = absurd cc
 index_of x (y ∷ ys) h = by (same_name x y) refl h (index_of x ys) where
   by : (t : Bool) → same_name x y ≡ t → (if t then true else is_among x ys) ≡ true → (is_among x ys ≡ true → (i : ℕ) × (slice_get ys i ≡ Some x))

@@ -1,5 +1,5 @@
 -- The line that is reported of DATA, statement by statement.
-use Rattle.std.proofs.Common.{◌≡◌, Bool, true, false, not, ◌&&◌, ◌||◌, List, [], ◌∷◌, ◌++◌, is_some, refl, ap, sym, ◌∙◌}
+use Rattle.std.proofs.Common.{◌≡◌, Bool, not, ◌&&◌, ◌||◌, List, [], ◌∷◌, ◌++◌, is_some, refl, ap, sym, ◌∙◌}
 use Rattle.std.specs.Prelude.{option_to_list}
 use Rattle.std.specs.List.{flat_map, list_any}
 use Rattle.std.specs.Option.{option_map}
@@ -19,6 +19,7 @@ use Rattle.hep_check.proofs.Lines.{reported-when, reported-append}
 use Rattle.hep_values.proofs.GivenInTurn.{given-same}
 use Rattle.hep_initial.specs.Given.{given_after}
 use Rattle.hep_initial.specs.Groups.{is_wrong, wrong_line, twice_line}
+use Rattle.hep_source.proofs.Tests.{or-assoc, or-turned}
 
 -- ---- what is reported
 
@@ -87,15 +88,6 @@ twice-same unit (s ∷ ss) k m given h =
     ∙ ap (λ es. least_line (line_when (is_given_twice given es) s.line) (twice_line unit (given_by unit m (constants_in s.form)) (es ++ given) ss)) e
 
 -- ---- the order of what was given values before doesn't matter
-
-or-assoc : (a b c : Bool) → ((a || b) || c) ≡ (a || (b || c))
-or-assoc true b c = refl
-or-assoc false b c = refl
-
-or-turned : (a b c : Bool) → (a || (b || c)) ≡ (b || (a || c))
-or-turned true true c = refl
-or-turned true false c = refl
-or-turned false b c = refl
 
 any-between : {A : Type 0} (test : A → Bool) (x : A) (xs ys : List A) → list_any test (xs ++ x ∷ ys) ≡ (test x || list_any test (xs ++ ys))
 any-between test x [] ys = refl

@@ -1,6 +1,6 @@
 -- One stretch of elements more that DATA gives values.
 use Rattle.std.proofs.Common.{◌≡◌, ◌≤◌, ℕ, ◌*◌, ℤ, Bool, true, false, ◌&&◌, ◌||◌, nat_eq, if◌then◌else◌, List, [], ◌∷◌, length, Option, Some, None, refl, ap, sym, ◌∙◌, arith, true≢false, cond}
-use Rattle.std.specs.Prelude.{nat_le, IfSome, Result, Ok, Err, IfOk, OnOk}
+use Rattle.std.specs.Prelude.{nat_le, IfSome}
 use Rattle.std.specs.List.{list_any}
 use Rattle.std.specs.Ordering.{int_eq}
 use Rattle.std.specs.Cmp.Lexicographic.{pointwise}
@@ -21,15 +21,13 @@ use Rattle.hep_source.proofs.NameTests.{name_eq-is, equal_names, same_name-turne
 use Rattle.hep_initial.specs.Given.{element_eq, IsNamed, Describes}
 use Rattle.hep_initial.specs.declared.given.Element.{Element}
 use Rattle.hep_initial.specs.declared.given.Stretch.TheVariants.{One, All}
-use Rattle.hep_values.proofs.Elements.{number-within, same-element, product-parts}
+use Rattle.hep_values.proofs.Elements.{number-within, same-element, product-parts, some-equal}
+use Rattle.hep_source.proofs.Tests.{and-true, number-self}
 
 -- ---- shapes
 
 bounds-equal : (bs cs : Bounds) → Some bs ≡ Some cs → bs ≡ cs
 bounds-equal bs cs h = cc
-
-counts-equal : (m n : ℕ) → Some m ≡ Some n → m ≡ n
-counts-equal m n h = cc
 
 dimensions-of : (unit : List Statement) (x : Name) (bs : Bounds) → constant_shape unit x ≡ Some bs → are_dimensions bs ≡ true
 dimensions-of unit x bs h = by (is_nonempty (dimensions_of unit x)) (bounds_of unit (constant_value unit) (dimensions_of unit x)) h
@@ -52,10 +50,10 @@ some-product m n c h k e = grind arith
 
 some-size : (o : Option ℕ) (m : ℕ) → IfSome o (λ e. 1 ≤ e) → o ≡ Some m → 1 ≤ m
 some-size None m h e = absurd cc
-some-size (Some n) m h e = let f = counts-equal n m e in omega (arith, f, h)
+some-size (Some n) m h e = let f = some-equal n m e in omega (arith, f, h)
 
 some-elements : (bs : Bounds) (c : ℕ) → are_dimensions bs ≡ true → elements bs ≡ Some c → 1 ≤ c
-some-elements [] c d h = let e = counts-equal 1 c h in omega (arith, e)
+some-elements [] c d h = let e = some-equal 1 c h in omega (arith, e)
 some-elements (b ∷ bs) c d h =
     let dimensions = and_parts (is_between b.lower b.upper bs) (are_dimensions bs) d in
     let parts = product-parts (extent b) (elements bs) c h in
@@ -101,9 +99,6 @@ element-added f e old = ap (λ b. cond b true old) (element-turned f e) ∙ by o
     by false true = refl
     by false false = refl
 
-number-self : (n : ℕ) → nat_eq n n ≡ true
-number-self n = grind (arith, nat_tests)
-
 -- ---- whether two stretches share an element
 
 meet-one : (m n : ℕ) → meet m 1 n 1 ≡ nat_eq m n
@@ -125,10 +120,6 @@ for-name x y b c h = by (same_name x y) refl
     by : (t : Bool) → same_name x y ≡ t → (t && b) ≡ (t && c)
     by true e = h (equal_names x y e)
     by false e = refl
-
-and-true : (b : Bool) → (b && true) ≡ b
-and-true true = refl
-and-true false = refl
 
 module _ (unit : List Statement) where
   one-one : (e f : Element) (s t : Stretch) → IsNamed unit (One e) s → IsNamed unit (One f) t → share_element s t ≡ element_eq e f
@@ -165,7 +156,7 @@ module _ (unit : List Statement) where
               sym (ints-self e.subscripts.items) ∙ (ap (pointwise int_eq e.subscripts.items) w ∙ q)
           by false true p q =
               let w = ints-equal e.subscripts.items f.subscripts.items q in
-              let n : s.first ≡ t.first = counts-equal s.first t.first (sym one.2 ∙ (ap (element_number one.0) w ∙ there)) in
+              let n : s.first ≡ t.first = some-equal s.first t.first (sym one.2 ∙ (ap (element_number one.0) w ∙ there)) in
               sym p ∙ (ap (nat_eq s.first) (sym n) ∙ number-self s.first)
 
   one-all : (e : Element) (x : Name) (c : ℕ) (s t : Stretch) → IsNamed unit (One e) s → IsNamed unit (All x c) t → share_element s t ≡ same_name e.name x
@@ -211,7 +202,7 @@ module _ (unit : List Statement) where
       within : x ≡ y → meet 1 c 1 d ≡ true
       within same =
           let shapes = bounds-equal h.3.0 k.3.0 (sym h.3.1 ∙ (ap (constant_shape unit) same ∙ k.3.1)) in
-          let sizes : c ≡ d = counts-equal c d (sym h.3.2 ∙ (ap elements shapes ∙ k.3.2)) in
+          let sizes : c ≡ d = some-equal c d (sym h.3.2 ∙ (ap elements shapes ∙ k.3.2)) in
           let some = some-elements h.3.0 c (dimensions-of unit x h.3.0 h.3.1) h.3.2 in
           ap (meet 1 c 1) (sym sizes) ∙ meet-all c some
 
@@ -266,13 +257,3 @@ module _ (unit : List Statement) (given : List Stretch) (names arrays : Name →
         ap (λ b. b || list_any (share_element s) given) (all-all unit x n y c s t h named)
         ∙ (ap (λ b. same_name x y || b) (described.together x n s h) ∙ (name-more (same_name x y) (names x) ∙ sym (new_names x)));
   }
-
--- ---- outcomes
-
-pub on-three : {A E P Q R S : Type 0} (r : Result A E) → OnOk r P → OnOk r Q → OnOk r R → (P → Q → R → S) → OnOk r S
-on-three (Ok x) p q r f = f p q r
-on-three (Err e) p q r f = tt
-
-pub if-so : {A E : Type 0} (P Q : A → Type 0) (r : Result A E) → IfOk r P → ((x : A) → P x → Q x) → IfOk r Q
-if-so P Q (Ok x) p f = f x p
-if-so P Q (Err e) p f = tt

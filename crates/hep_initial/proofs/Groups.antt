@@ -1,6 +1,6 @@
 -- Lists of names and of values in runs, by their types.
-use Rattle.std.proofs.Common.{◌≡◌, ℕ, zero, suc, ◌+◌, Bool, true, false, not, ◌&&◌, ◌||◌, nat_eq, List, [], ◌∷◌, ◌++◌, map, length, Option, Some, None, append-nil, append_assoc, refl, ap, sym, ◌∙◌, arith, ◌≤◌, drop, subst}
-use Rattle.std.proofs.lemmas.List.{drop_all}
+use Rattle.std.proofs.Common.{◌≡◌, ◌+◌, Bool, not, ◌&&◌, ◌||◌, nat_eq, List, [], ◌∷◌, ◌++◌, map, length, Option, Some, None, is_some, append_assoc, refl, ap, sym, ◌∙◌}
+use Rattle.std.proofs.lemmas.List.{length-map}
 use Rattle.hep_source.specs.declared.declaration.DataValue.{DataValue}
 use Rattle.hep_source.specs.declared.name.Name.{Name}
 use Rattle.hep_source.specs.declared.statement.Statement.{Statement}
@@ -11,27 +11,16 @@ use Rattle.hep_check.specs.Data.{has_type, known_values}
 use Rattle.hep_check.specs.Known.{known_before, Known, count_of_items, same_length, holds_at_each_place}
 use Rattle.hep_runs.specs.Spread.{repeat_before, spread, agree_as_far}
 use Rattle.hep_runs.specs.Runs.{alike, positions_in}
-use Rattle.hep_initial.specs.Groups.{position_of_name, position_of_value, run_of_value, run_of_values}
+use Rattle.hep_initial.specs.Groups.{position_of_name, position_of_value, run_of_values, run_given}
+use Rattle.hep_initial.specs.Named.{places_before, places_of, are_known}
 use Rattle.hep_runs.specs.declared.runs.Position.{Position}
 use Rattle.hep_runs.specs.declared.runs.Run.{Run}
-use Rattle.hep_runs.proofs.Meetings.{repeat-append, positions-append}
+use Rattle.hep_runs.proofs.Meetings.{length-repeat, map-repeat, repeat-append, positions-append}
 use Rattle.hep_runs.proofs.Places.{at_each_place}
-
-length-repeat : {A : Type 0} (n : ℕ) (x : A) (xs : List A) → length (repeat_before n x xs) ≡ n + length xs
-length-repeat zero x xs = omega arith
-length-repeat (suc n) x xs = let e = length-repeat n x xs in omega (arith, e)
 
 count-spread : {A : Type 0} (xs : List (Repeated A)) → count_of_items xs ≡ length (spread xs)
 count-spread [] = refl
 count-spread (x ∷ xs) = ap (λ n. x.count + n) (count-spread xs) ∙ sym (length-repeat x.count x.item (spread xs))
-
-length-mapped : {A B : Type 0} (f : A → B) (xs : List A) → length (map f xs) ≡ length xs
-length-mapped f [] = refl
-length-mapped f (x ∷ xs) = ap suc (length-mapped f xs)
-
-pub map-repeat : {A B : Type 0} (f : A → B) (n : ℕ) (x : A) (xs : List A) → map f (repeat_before n x xs) ≡ repeat_before n (f x) (map f xs)
-map-repeat f zero x xs = refl
-map-repeat f (suc n) x xs = ap (λ ys. f x ∷ ys) (map-repeat f n x xs)
 
 -- ---- the places of two lists, by what is asked of their items
 
@@ -53,60 +42,31 @@ pub lengths-agree : (unit : List Statement) (xs : Known Name) (vs : Known Value)
     → ps ≡ map (position_of_name unit) (spread xs.items) → qs ≡ map position_of_value (spread vs.items) → p ≡ xs.whole → q ≡ vs.whole
     → (not (p && q) || nat_eq (length ps) (length qs)) ≡ same_length xs vs
 lengths-agree unit xs vs ps qs p q h k e f i =
-    not (e i && f i) || nat_eq ((ap length h ∙ (length-mapped (position_of_name unit) (spread xs.items) ∙ sym (count-spread xs.items))) i) ((ap length k ∙ (length-mapped position_of_value (spread vs.items) ∙ sym (count-spread vs.items))) i)
+    not (e i && f i) || nat_eq ((ap length h ∙ (length-map (spread xs.items) (position_of_name unit) ∙ sym (count-spread xs.items))) i) ((ap length k ∙ (length-map (spread vs.items) position_of_value ∙ sym (count-spread vs.items))) i)
 
--- ---- one run more
+-- ---- runs up to the first that isn't known
 
-pub one-run : {A : Type 0} (f : A → Position) (rs : List Run) (r : Run) (x : A) (after : List A) → r.position ≡ f x
-    → positions_in (rs ++ r ∷ []) ++ map f after ≡ positions_in rs ++ map f (repeat_before r.count x after)
-one-run f rs r x after e =
-    ap (λ ps. ps ++ map f after) (positions-append rs (r ∷ []))
-    ∙ (append_assoc (positions_in rs) (repeat_before r.count r.position []) (map f after)
-    ∙ ap (λ ps. positions_in rs ++ ps)
-    (sym (repeat-append r.count r.position (map f after)) ∙ (ap (λ p. repeat_before r.count p (map f after)) e ∙ sym (map-repeat f r.count x after))))
+-- one run more
+pub known-turn : (os more : List (Option Run)) (o : Option Run) (rs qs : List Run) (r : Run) (all : List Position) (whole : Bool) → os ≡ o ∷ more
+    → (positions_in rs ++ places_of os ≡ all) × (are_known os ≡ whole) → o ≡ Some r → qs ≡ rs ++ r ∷ []
+    → (positions_in qs ++ places_of more ≡ all) × (are_known more ≡ whole)
+known-turn os more o rs qs r all whole next h f g = (
+  ap (λ ps. positions_in ps ++ places_of more) g
+      ∙ (ap (λ ps. ps ++ places_of more) (positions-append rs (r ∷ []))
+      ∙ (append_assoc (positions_in rs) (repeat_before r.count r.position []) (places_of more)
+      ∙ (ap (λ ps. positions_in rs ++ ps) (sym (repeat-append r.count r.position (places_of more)))
+      ∙ (ap (λ w. positions_in rs ++ places_before w (places_of more)) (sym f) ∙ (ap (λ ms. positions_in rs ++ places_of ms) (sym next) ∙ h.0))))),
+  ap (λ w. is_some w && are_known more) (sym f) ∙ (ap are_known (sym next) ∙ h.1),
+)
 
--- what is known with one item more, or up to an open part
-pub run-turn : {A : Type 0} (f : A → Position) (x : Repeated A) (after : List (Repeated A)) (rs : List Run) (r : Run) (all : List Position)
-    → r.position ≡ f x.item → r.count ≡ x.count → positions_in rs ++ map f (spread (x ∷ after)) ≡ all → positions_in (rs ++ r ∷ []) ++ map f (spread after) ≡ all
-run-turn f x after rs r all e n h = one-run f rs r x.item (spread after) e ∙ (ap (λ k. positions_in rs ++ map f (repeat_before k x.item (spread after))) n ∙ h)
-
--- ---- values
-
-abbrev SoFar : List Run → Known Value → List Position → Bool → Type 0
-SoFar rs ahead all whole = (positions_in rs ++ map position_of_value (spread ahead.items) ≡ all) × (ahead.whole ≡ whole)
-
-some-run : (r q : Run) → Some r ≡ Some q → r ≡ q
-some-run r q h = cc
-
-value-more : (w : Option (Repeated Value)) (ahead : Known Value) (rs : List Run) (r : Run) (all : List Position) (whole : Bool)
-    → run_of_values w ≡ Some r → SoFar rs (known_before w ahead) all whole → SoFar (rs ++ r ∷ []) ahead all whole
-value-more None ahead rs r all whole e h = absurd cc
-value-more (Some x) ahead rs r all whole e h =
-    let same = some-run (run_of_value x) r e in
-    (run-turn position_of_value x ahead.items rs r all (sym (ap (λ (q : Run). q.position) same)) (sym (ap (λ (q : Run). q.count) same)) h.0, h.1)
-
-value-open : (w : Option (Repeated Value)) (ahead : Known Value) (rs : List Run) (all : List Position) (whole : Bool)
-    → run_of_values w ≡ None → SoFar rs (known_before w ahead) all whole → (positions_in rs ≡ all) × (false ≡ whole)
-value-open None ahead rs all whole e h = (sym (append-nil (positions_in rs)) ∙ h.0, h.1)
-value-open (Some x) ahead rs all whole e h = absurd cc
-
-module _ (known : Constants) (vs more : List DataValue) (v : DataValue) (rs : List Run) (all : List Position) (whole : Bool) (next : vs ≡ v ∷ more)
-    (so_far : (positions_in rs ++ map position_of_value (spread (known_values known vs).items) ≡ all) × ((known_values known vs).whole ≡ whole)) where
-  here : SoFar rs (known_before (values_given (value_among known) v) (known_values known more)) all whole
-  here = subst (λ us. SoFar rs (known_values known us) all whole) next so_far
-
-  pub values-turn : (o : Option Run) (r : Run) (qs : List Run) → o ≡ run_of_values (values_given (value_among known) v) → o ≡ Some r → qs ≡ rs ++ r ∷ []
-      → (positions_in qs ++ map position_of_value (spread (known_values known more).items) ≡ all) × ((known_values known more).whole ≡ whole)
-  values-turn o r qs e f g =
-      subst (λ ps. SoFar ps (known_values known more) all whole) (sym g)
-      (value-more (values_given (value_among known) v) (known_values known more) rs r all whole (sym e ∙ f) here)
-
-  pub values-none : (o : Option Run) → o ≡ run_of_values (values_given (value_among known) v) → o ≡ None → (positions_in rs ≡ all) × (false ≡ whole)
-  values-none o e f = value-open (values_given (value_among known) v) (known_values known more) rs all whole (sym e ∙ f) here
-
-pub values-end : (known : Constants) (vs : List DataValue) (i : ℕ) (rs : List Run) (all : List Position) (whole : Bool) → length vs ≤ i
-    → (positions_in rs ++ map position_of_value (spread (known_values known (drop i vs)).items) ≡ all) × ((known_values known (drop i vs)).whole ≡ whole)
-    → (positions_in rs ≡ all) × (true ≡ whole)
-values-end known vs i rs all whole h so_far =
-    let end = subst (λ us. SoFar rs (known_values known us) all whole) (drop_all i vs h) so_far in
-    (sym (append-nil (positions_in rs)) ∙ end.0, end.1)
+-- what is known of values
+pub values-known : (known : Constants) (vs : List DataValue)
+    → (places_of (map (run_given known) vs) ≡ map position_of_value (spread (known_values known vs).items)) × (are_known (map (run_given known) vs) ≡ (known_values known vs).whole)
+values-known known [] = (refl, refl)
+values-known known (v ∷ vs) = by (values_given (value_among known) v) (values-known known vs)
+  where
+    by : (o : Option (Repeated Value)) → (places_of (map (run_given known) vs) ≡ map position_of_value (spread (known_values known vs).items)) × (are_known (map (run_given known) vs) ≡ (known_values known vs).whole)
+        → (places_before (run_of_values o) (places_of (map (run_given known) vs)) ≡ map position_of_value (spread (known_before o (known_values known vs)).items))
+        × ((is_some (run_of_values o) && are_known (map (run_given known) vs)) ≡ (known_before o (known_values known vs)).whole)
+    by None h = (refl, refl)
+    by (Some x) h = (ap (repeat_before x.count (position_of_value x.item)) h.0 ∙ sym (map-repeat position_of_value x.count x.item (spread (known_values known vs).items)), h.1)

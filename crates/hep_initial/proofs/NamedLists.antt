@@ -1,8 +1,7 @@
 -- Lists of what names in DATA stand for.
-use Rattle.std.proofs.Common.{◌≡◌, ◌<◌, ◌+◌, ℕ, suc, Bool, true, false, not, nat_eq, ◌&&◌, if◌then◌else◌, List, [], ◌∷◌, ◌++◌, map, take, get_or, length, Option, Some, None, is_some, append_assoc, ◌||◌, refl, ap, sym, ◌∙◌, subst}
+use Rattle.std.proofs.Common.{◌≡◌, ◌<◌, ◌+◌, ℕ, Bool, true, false, not, nat_eq, ◌&&◌, List, [], ◌∷◌, ◌++◌, map, take, get_or, length, Option, Some, None, is_some, ◌||◌, refl, ap, sym, ◌∙◌, subst}
 use Rattle.std.specs.Option.{option_map}
 use Rattle.std.proofs.lemmas.List.{take_more}
-use Rattle.hep_source.specs.Names.{same_name, is_among, index_among}
 use Rattle.hep_source.specs.declared.declaration.Target.{Target}
 use Rattle.hep_source.specs.declared.name.Name.{Name}
 use Rattle.hep_source.specs.declared.statement.Statement.{Statement}
@@ -13,9 +12,9 @@ use Rattle.hep_source.specs.declared.declaration.DataGroup.{DataGroup}
 use Rattle.hep_source.specs.declared.declaration.DataValue.{DataValue}
 use Rattle.hep_check.specs.Data.{name_repeated, known_targets, known_values, is_target_outside, is_forbidden, is_value, is_wrong_group, has_type}
 use Rattle.hep_check.specs.Known.{Known, known_before, same_length, holds_at_each_place}
-use Rattle.hep_initial.specs.Groups.{position_of_name, position_of_value}
-use Rattle.hep_initial.specs.Named.{NamedAll, is_outside_named, run_named, places_before, places_named, whole_named}
-use Rattle.hep_runs.specs.Runs.{alike, positions_in}
+use Rattle.hep_initial.specs.Groups.{position_of_name, run_given}
+use Rattle.hep_initial.specs.Named.{NamedAll, is_outside_named, run_named, places_before, places_of, are_known}
+use Rattle.hep_runs.specs.Runs.{alike}
 use Rattle.hep_initial.specs.Shapes.{Names}
 use Rattle.hep_runs.specs.Spread.{repeat_before, spread, agree_as_far}
 use Rattle.hep_initial.specs.declared.given.Stretch.TheVariants.{One, All}
@@ -23,21 +22,9 @@ use Rattle.hep_runs.specs.declared.runs.Position.{Position}
 use Rattle.hep_runs.specs.declared.runs.Run.{Run}
 use Rattle.hep_initial.specs.declared.shapes.Named.{Named}
 use Rattle.hep_initial.specs.declared.shapes.Named.TheVariants.{Open, Outside, Elements}
-use Rattle.hep_initial.proofs.Groups.{map-repeat, types-agree, lengths-agree}
-use Rattle.hep_runs.proofs.Meetings.{positions-append, repeat-append}
-
--- a name that has a number among others is one of them
-pub among-index : (x : Name) (xs : List Name) → is_some (index_among x xs) ≡ is_among x xs
-among-index x [] = refl
-among-index x (y ∷ ys) = by (same_name x y) (index_among x ys) (among-index x ys)
-  where
-    mapped : (f : ℕ → ℕ) (o : Option ℕ) → is_some (option_map f o) ≡ is_some o
-    mapped f None = refl
-    mapped f (Some n) = refl
-
-    by : (b : Bool) (o : Option ℕ) → is_some o ≡ is_among x ys → is_some (if b then Some 0 else option_map suc o) ≡ (if b then true else is_among x ys)
-    by true o h = refl
-    by false o h = mapped suc o ∙ h
+use Rattle.hep_initial.proofs.Groups.{types-agree, lengths-agree, values-known}
+use Rattle.hep_runs.proofs.Meetings.{map-repeat}
+use Rattle.hep_source.proofs.Tests.{any-or}
 
 module _ (unit : List Statement) (known : Constants) where
   named-last : (ts : List Target) (ns : List Named) (t : Target) (n : Named) → NamedAll unit known ts ns → Names unit known t n → NamedAll unit known (ts ++ t ∷ []) (ns ++ n ∷ [])
@@ -83,14 +70,14 @@ module _ (unit : List Statement) (known : Constants) where
 
   -- what is known of the names is what is known of what they stand for
   pub places-known : (ts : List Target) (ns : List Named) → NamedAll unit known ts ns
-      → (places_named unit ns ≡ map (position_of_name unit) (spread (known_targets unit known ts).items)) × (whole_named unit ns ≡ (known_targets unit known ts).whole)
+      → (places_of (map (run_named unit) ns) ≡ map (position_of_name unit) (spread (known_targets unit known ts).items)) × (are_known (map (run_named unit) ns) ≡ (known_targets unit known ts).whole)
   unfolding Ahead
   places-known [] [] h = (refl, refl)
   places-known [] (n ∷ ns) h = absurd h
   places-known (t ∷ ts) [] h = absurd h
   places-known (t ∷ ts) (n ∷ ns) h =
       let more = places-known ts ns h.1 in
-      let here = named-run t n h.0 (places_named unit ns) (known_targets unit known ts) more.0 in
+      let here = named-run t n h.0 (places_of (map (run_named unit) ns)) (known_targets unit known ts) more.0 in
       (here.0, ap (λ b. is_some (run_named unit n) && b) more.1 ∙ here.1)
 
   -- an element is outside its bounds
@@ -104,29 +91,6 @@ module _ (unit : List Statement) (known : Constants) where
   outside-all [] (n ∷ ns) h = absurd h
   outside-all (t ∷ ts) [] h = absurd h
   outside-all (t ∷ ts) (n ∷ ns) h = λ i. outside-one t n h.0 i || outside-all ts ns h.1 i
-
-pub any-either : {A : Type 0} (p q : A → Bool) (xs : List A) → list_any (λ x. p x || q x) xs ≡ (list_any p xs || list_any q xs)
-any-either p q [] = refl
-any-either p q (x ∷ xs) = ap (λ b. (p x || q x) || b) (any-either p q xs) ∙ regrouped (p x) (q x) (list_any p xs) (list_any q xs)
-  where
-    regrouped : (a b c d : Bool) → ((a || b) || (c || d)) ≡ ((a || c) || (b || d))
-    regrouped true b c d = refl
-    regrouped false true true d = refl
-    regrouped false true false d = refl
-    regrouped false false c d = refl
-
--- what names stand for, with one more
-pub elements-turn : (unit : List Statement) (ns more : List Named) (n : Named) (rs qs : List Run) (o : Option Run) (r : Run) (all : List Position) (whole : Bool) → ns ≡ n ∷ more
-    → (positions_in rs ++ places_named unit ns ≡ all) × (whole_named unit ns ≡ whole) → o ≡ run_named unit n → o ≡ Some r → qs ≡ rs ++ r ∷ []
-    → (positions_in qs ++ places_named unit more ≡ all) × (whole_named unit more ≡ whole)
-elements-turn unit ns more n rs qs o r all whole next h e f g = (
-  ap (λ ps. positions_in ps ++ places_named unit more) g
-      ∙ (ap (λ ps. ps ++ places_named unit more) (positions-append rs (r ∷ []))
-      ∙ (append_assoc (positions_in rs) (repeat_before r.count r.position []) (places_named unit more)
-      ∙ (ap (λ ps. positions_in rs ++ ps) (sym (repeat-append r.count r.position (places_named unit more)))
-      ∙ (ap (λ w. positions_in rs ++ places_before w (places_named unit more)) (sym f ∙ e) ∙ (ap (λ ms. positions_in rs ++ places_named unit ms) (sym next) ∙ h.0))))),
-  ap (λ w. is_some w && whole_named unit more) (sym f ∙ e) ∙ (ap (whole_named unit) (sym next) ∙ h.1),
-)
 
 -- ---- a group
 
@@ -142,16 +106,17 @@ wrong_by unit known ts vs =
     || not (holds_at_each_place (has_type unit) (known_targets unit known ts).items (known_values known vs).items)))
 
 pub wrong-group : (unit : List Statement) (known : Constants) (g : DataGroup) (ts : List Target) (vs : List DataValue) (ns : List Named) (ps qs : List Position) (p q refused none fits all : Bool)
-    → ts ≡ g.targets → vs ≡ g.values → NamedAll unit known ts ns → ps ≡ places_named unit ns → p ≡ whole_named unit ns
-    → qs ≡ map position_of_value (spread (known_values known vs).items) → q ≡ (known_values known vs).whole
+    → ts ≡ g.targets → vs ≡ g.values → NamedAll unit known ts ns → ps ≡ places_of (map (run_named unit) ns) → p ≡ are_known (map (run_named unit) ns)
+    → qs ≡ places_of (map (run_given known) vs) → q ≡ are_known (map (run_given known) vs)
     → refused ≡ (list_any (λ (t : Target). is_forbidden unit t.occurrence.name) ts || list_any is_outside_named ns) → none ≡ list_any (λ (v : DataValue). not (is_value known v)) vs
     → fits ≡ ((not (p && q) || nat_eq (length ps) (length qs)) && agree_as_far alike ps qs) → all ≡ (refused || (none || not fits)) → all ≡ is_wrong_group unit known g
 wrong-group unit known g ts vs ns ps qs p q refused none fits all et ev named ep ew eq eo er en ef ea =
     let places = places-known unit known ts ns named in
-    let one = lengths-agree unit (known_targets unit known ts) (known_values known vs) ps qs p q (ep ∙ places.0) eq (ew ∙ places.1) eo in
-    let two = types-agree unit (known_targets unit known ts).items (known_values known vs).items ps qs (ep ∙ places.0) eq in
+    let values = values-known known vs in
+    let one = lengths-agree unit (known_targets unit known ts) (known_values known vs) ps qs p q (ep ∙ places.0) (eq ∙ values.0) (ew ∙ places.1) (eo ∙ values.1) in
+    let two = types-agree unit (known_targets unit known ts).items (known_values known vs).items ps qs (ep ∙ places.0) (eq ∙ values.0) in
     let outside = ap (λ b. list_any (λ (t : Target). is_forbidden unit t.occurrence.name) ts || b) (outside-all unit known ts ns named)
-    ∙ sym (any-either (λ (t : Target). is_forbidden unit t.occurrence.name) (is_target_outside unit known) ts) in
+    ∙ sym (any-or (λ (t : Target). is_forbidden unit t.occurrence.name) (is_target_outside unit known) ts) in
     ea
     ∙ (ap (λ b. b || (none || not fits)) (er ∙ outside)
     ∙ (ap (λ b. list_any (λ (t : Target). is_forbidden unit t.occurrence.name || is_target_outside unit known t) ts || (b || not fits)) en

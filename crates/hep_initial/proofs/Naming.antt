@@ -20,6 +20,7 @@ use Rattle.hep_initial.specs.declared.given.Stretch.TheVariants.{One, All}
 use Rattle.hep_initial.specs.declared.shapes.ArrayShape.{ArrayShape}
 use Rattle.hep_initial.specs.declared.shapes.Named.{Named}
 use Rattle.hep_initial.specs.declared.shapes.Named.TheVariants.{Open, Outside, Elements}
+use Rattle.std.proofs.lemmas.Bool.{and_right}
 
 scalar-shape : (unit : List Statement) (x : Name) → is_array unit x ≡ false → constant_shape unit x ≡ Some []
 scalar-shape unit x h = ap (λ b. if b then shape_by unit (constant_value unit) x else Some []) h
@@ -30,10 +31,6 @@ array-shape unit x h = ap (λ b. if b then shape_by unit (constant_value unit) x
 length-integers : (vs : List Value) → length (integers_of vs) ≡ length vs
 length-integers [] = refl
 length-integers (v ∷ vs) = ap suc (length-integers vs)
-
-and-false : (a b : Bool) → b ≡ false → (a && b) ≡ false
-and-false true b h = h
-and-false false b h = refl
 
 some-is : (o : Option ℕ) → is_some o ≡ true → (n : ℕ) × (o ≡ Some n)
 some-is None h = absurd (true≢false (sym h))
@@ -91,7 +88,7 @@ scalar-named unit known t alone n h k e = names-by unit known t n (by alone k e)
         )
     by false g f =
         subst (λ m. NamesBy unit x (is_nonempty t.subscripts) (is_array unit x) (constant_shape unit x) vs m) (sym f) (
-          and-false (is_nonempty t.subscripts) (is_array unit x && is_outside (constant_shape unit x) vs) (ap (λ b. b && is_outside (constant_shape unit x) vs) h),
+          and_right (is_nonempty t.subscripts) (is_array unit x && is_outside (constant_shape unit x) vs) (ap (λ b. b && is_outside (constant_shape unit x) vs) h),
           ap (λ b. named_by x b (constant_shape unit x) vs) g ∙ (ap (λ s. element_with x s vs) (scalar-shape unit x h) ∙ listed-scalar unit (value_among known) x t.subscripts g),
         )
 
@@ -123,7 +120,7 @@ module _ (unit : List Statement) (x : Name) where
   )
   element-by-named bs ws (Elements (One e)) h w =
       let found = some-is (element_number bs (integers_of ws)) w.2 in (
-        and-false (nat_eq (length bs) (length ws)) (is_none (element_number bs (integers_of ws))) (ap is_none found.1),
+        and_right (nat_eq (length bs) (length ws)) (is_none (element_number bs (integers_of ws))) (ap is_none found.1),
         (
           record { name = x; first = found.0; count = 1 },
           ap (option_map (λ m. record { name = x; first = m; count = 1 })) found.1,

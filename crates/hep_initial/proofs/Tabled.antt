@@ -11,9 +11,7 @@ use Rattle.hep_source.specs.Names.{name_eq}
 use Rattle.hep_source.proofs.NameTests.{name_eq-is, equal_names}
 use Rattle.hep_initial.specs.Shapes.{IsShaped, IsTable}
 use Rattle.hep_initial.specs.declared.shapes.ArrayShape.{ArrayShape}
-
-some-same : {A : Type 0} (x y : A) → Some x ≡ Some y → x ≡ y
-some-same x y h = cc
+use Rattle.std.proofs.lemmas.Option.{same_Some}
 
 pub table-turn : (unit : List Statement) (constants : Constants) (old new : Name → Option (Option ArrayShape)) (x : Name) (value : Option ArrayShape) (o : Option Bounds) (ds : List Dimension)
     → IsTable unit constants old → ((y : Name) → new y ≡ cond (name_eq x y) (Some value) (old y)) → IsShaped value (if_shape o) → o ≡ bounds_of unit (value_among constants) ds
@@ -29,5 +27,5 @@ table-turn unit constants old new x value o ds table updated is e f = record {
     by : (b : Bool) (y : Name) → name_eq x y ≡ b → (s : Option ArrayShape) → cond b (Some value) (old y) ≡ Some s → IsShaped s (shape_by unit (constant_value unit) y)
     by true y g s h =
         subst (λ z. IsShaped s (shape_by unit (constant_value unit) z)) (equal_names x y (sym (name_eq-is x y) ∙ g))
-        (subst (λ v. IsShaped v (shape_by unit (constant_value unit) x)) (some-same value s h) here)
+        (subst (λ v. IsShaped v (shape_by unit (constant_value unit) x)) (same_Some value s h) here)
     by false y g s h = table.shaped y s h

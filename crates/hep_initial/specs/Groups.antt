@@ -2,12 +2,13 @@
 use Rattle.std.specs.Prelude.{◌≡◌, ℕ, Bool, false, ◌||◌, List, [], ◌∷◌, ◌++◌, Option, Some, None, option_to_list}
 use Rattle.std.specs.List.{flat_map, list_any}
 use Rattle.hep_source.specs.declared.declaration.DataGroup.{DataGroup}
+use Rattle.hep_source.specs.declared.declaration.DataValue.{DataValue}
 use Rattle.hep_source.specs.declared.declaration.Target.{Target}
 use Rattle.hep_source.specs.declared.name.Name.{Name}
 use Rattle.hep_source.specs.declared.statement.Statement.{Statement}
 use Rattle.hep_source.specs.declared.value.Value.{Value}
 use Rattle.hep_machine.specs.Constants.{Constants, value_among, given_by}
-use Rattle.hep_machine.specs.Data.{Repeated, groups_in, Stretch, elements_named}
+use Rattle.hep_machine.specs.Data.{Repeated, groups_in, Stretch, elements_named, values_given}
 use Rattle.hep_machine.specs.Declarations.{type_of, constants_in}
 use Rattle.hep_check.specs.Data.{is_misplaced, is_wrong_group, is_given_twice, elements_in}
 use Rattle.hep_check.specs.Reported.{least_line, line_when}
@@ -30,6 +31,10 @@ run_of_value r = record { position = position_of_value r.item; count = r.count }
 abbrev pub run_of_values : Option (Repeated Value) → Option Run
 run_of_values None = None
 run_of_values (Some r) = Some (run_of_value r)
+
+-- a value as often as it is given, by its type
+abbrev pub run_given : Constants → DataValue → Option Run
+run_given known v = run_of_values (values_given (value_among known) v)
 
 -- ---- lines
 

@@ -34,11 +34,11 @@ abbrev pub places_before : Option Run → List Position → List Position
 places_before None ps = []
 places_before (Some r) ps = repeat_before r.count r.position ps
 
--- the places of names up to the first that is open
-abbrev pub places_named : List Statement → List Named → List Position
-places_named unit [] = []
-places_named unit (n ∷ ns) = places_before (run_named unit n) (places_named unit ns)
+-- the places of runs up to the first that isn't known, and whether all are known
+abbrev pub places_of : List (Option Run) → List Position
+places_of [] = []
+places_of (r ∷ rs) = places_before r (places_of rs)
 
-abbrev pub whole_named : List Statement → List Named → Bool
-whole_named unit [] = true
-whole_named unit (n ∷ ns) = is_some (run_named unit n) && whole_named unit ns
+abbrev pub are_known : List (Option Run) → Bool
+are_known [] = true
+are_known (r ∷ rs) = is_some r && are_known rs

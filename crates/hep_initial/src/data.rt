@@ -6,32 +6,22 @@ ghost use Rattle.hep_source.specs.declared.declaration.DataValue.{DataValue as P
 ghost use Rattle.hep_source.specs.declared.declaration.Target.{Target as PureTarget};
 ghost use Rattle.hep_source.specs.Names.{name_eq};
 ghost use Rattle.hep_initial.specs.Shapes.{IsTable};
-ghost use Rattle.hep_machine.specs.Constants.{value_among};
-ghost use Rattle.hep_machine.specs.Data as machine;
 ghost use Rattle.hep_machine.specs.Declarations as declarations;
 ghost use Rattle.hep_check.specs.Data as conditions;
 ghost use Rattle.hep_check.specs.Types as types;
 ghost use Rattle.hep_initial.specs.Groups as groups;
 ghost use Rattle.hep_initial.specs.Named as lists;
 ghost use Rattle.hep_runs.specs.Runs.{alike, positions_in};
-ghost use Rattle.hep_runs.specs.Spread.{agree_as_far, spread};
+ghost use Rattle.hep_runs.specs.Spread.{agree_as_far};
 
 use crate::given::Stretch;
 use crate::shapes::{Named, ShapeTable};
 use hep_runs::{Known, Position, Run, agree};
-use hep_source::{DataConstant, DataGroup, DataValue, Name, Repeat, Target, Value, ValueType};
+use hep_source::{DataGroup, DataValue, Name, Target};
 use hep_symbols::Symbols;
+use hep_types::{is_dummy, type_of_value};
 use hep_values::{Constants, repeat_of, value_of_constant};
 use std::alloc::{AllocError, Global};
-
-fn type_of_value(value: Value) -> ValueType
-    ensures { result ≡ types.type_of_value value }
-{
-    match value {
-        Value::Int(_) => ValueType::Integer,
-        Value::Truth(_) => ValueType::Logical,
-    }
-}
 
 // A name in the place of a value or a repeat count is that of a constant given before.
 fn is_value(constants: &Constants, value: &DataValue) -> bool
@@ -44,17 +34,12 @@ fn is_value(constants: &Constants, value: &DataValue) -> bool
 fn is_any_no_value(constants: &Constants, values: &[DataValue]) -> bool
     ensures { result ≡ list_any (λ (v : PureValue). not (conditions.is_value constants.now v)) values.now }
 {
-    for value in values {
-        if !is_value(constants, value) {
-            return true;
-        }
-    }
-    false
+    values.iter().any(|value| !is_value(constants, value))
 }
 
 // A value as often as it is given, by its type.
 fn run_of(constants: &Constants, value: &DataValue) -> Option<Run>
-    ensures { result ≡ groups.run_of_values (machine.values_given (value_among constants.now) value.now) }
+    ensures { result ≡ groups.run_given constants.now value.now }
 {
     let count = repeat_of(constants, value.repeat)?;
     let item = value_of_constant(constants, value.constant)?;
@@ -67,32 +52,17 @@ fn run_of(constants: &Constants, value: &DataValue) -> Option<Run>
     })
 }
 
-// The types of values, as far as they are known.
-fn known_values(
+fn runs_given(
     alloc: Global,
     constants: &Constants,
     values: &[DataValue],
-) -> Result<Known, AllocError>
-    ensures places { IfOk result (λ list. positions_in list.runs.items
-        ≡ map groups.position_of_value (spread (conditions.known_values constants.now values.now).items)) }
-    ensures whole { IfOk result (λ list. list.is_whole ≡ (conditions.known_values constants.now values.now).whole) }
+) -> Result<Vec<Option<Run>>, AllocError>
+    ensures { IfOk result (λ runs. runs.items ≡ map (groups.run_given constants.now) values.now) }
 {
-    let mut runs = Vec::new(alloc);
-    for value in values {
-        match run_of(constants, value) {
-            Some(run) => runs.push(run)?,
-            None => {
-                return Ok(Known {
-                    runs,
-                    is_whole: false,
-                });
-            }
-        }
-    }
-    Ok(Known {
-        runs,
-        is_whole: true,
-    })
+    values
+        .iter()
+        .map(|value| run_of(constants, value))
+        .collect(alloc)
 }
 
 // What each name stands for.
@@ -117,18 +87,7 @@ fn named_all(
 fn is_any_outside(named: &[Named]) -> bool
     ensures { result ≡ list_any lists.is_outside_named named.now }
 {
-    for one in named {
-        if let Named::Outside = one {
-            return true;
-        }
-    }
-    false
-}
-
-fn is_dummy(symbols: &Symbols, name: &Name) -> bool
-    ensures { result ≡ declarations.is_dummy symbols.now name.now }
-{
-    symbols.dummy_position(name).is_some()
+    named.iter().any(|one| matches!(one, Named::Outside))
 }
 
 fn is_forbidden(symbols: &Symbols, name: &Name) -> bool
@@ -140,12 +99,9 @@ fn is_forbidden(symbols: &Symbols, name: &Name) -> bool
 fn is_any_forbidden(symbols: &Symbols, targets: &[Target]) -> bool
     ensures { result ≡ list_any (λ (t : PureTarget). conditions.is_forbidden symbols.now t.occurrence.name) targets.now }
 {
-    for target in targets {
-        if is_forbidden(symbols, &target.occurrence.name) {
-            return true;
-        }
-    }
-    false
+    targets
+        .iter()
+        .any(|target| is_forbidden(symbols, &target.occurrence.name))
 }
 
 // What a name stands for, by its type and as often as it has elements.
@@ -166,15 +122,28 @@ fn run_named(symbols: &Symbols, named: &Named) -> Option<Run>
     })
 }
 
-// The types of what is given values, as far as they are known.
-fn known_elements(alloc: Global, symbols: &Symbols, named: &[Named]) -> Result<Known, AllocError>
-    ensures places { IfOk result (λ list. positions_in list.runs.items ≡ lists.places_named symbols.now named.now) }
-    ensures whole { IfOk result (λ list. list.is_whole ≡ lists.whole_named symbols.now named.now) }
+fn runs_named(
+    alloc: Global,
+    symbols: &Symbols,
+    named: &[Named],
+) -> Result<Vec<Option<Run>>, AllocError>
+    ensures { IfOk result (λ runs. runs.items ≡ map (lists.run_named symbols.now) named.now) }
+{
+    named
+        .iter()
+        .map(|one| run_named(symbols, one))
+        .collect(alloc)
+}
+
+// Runs up to the first that isn't known.
+fn known(alloc: Global, found: &[Option<Run>]) -> Result<Known, AllocError>
+    ensures places { IfOk result (λ list. positions_in list.runs.items ≡ lists.places_of found.now) }
+    ensures whole { IfOk result (λ list. list.is_whole ≡ lists.are_known found.now) }
 {
     let mut runs = Vec::new(alloc);
-    for one in named {
-        match run_named(symbols, one) {
-            Some(run) => runs.push(run)?,
+    for run in found {
+        match run {
+            Some(run) => runs.push(*run)?,
             None => {
                 return Ok(Known {
                     runs,
@@ -226,8 +195,10 @@ pub(crate) fn is_wrong_group(
     let targets = group.targets.as_slice();
     let values = group.values.as_slice();
     let named = named_all(alloc, symbols, shapes, constants, targets)?;
-    let elements = known_elements(alloc, symbols, &named)?;
-    let given = known_values(alloc, constants, values)?;
+    let named_runs = runs_named(alloc, symbols, &named)?;
+    let elements = known(alloc, &named_runs)?;
+    let given_runs = runs_given(alloc, constants, values)?;
+    let given = known(alloc, &given_runs)?;
     let is_refused = is_any_refused(symbols, targets, &named);
     let has_none = is_any_no_value(constants, values);
     let is_misfit = !fit(&elements, &given);

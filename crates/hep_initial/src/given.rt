@@ -71,36 +71,6 @@ impl Given {
         }
     }
 
-    fn give_one(&mut self, element: Element) -> Result<bool, AllocError>
-        ensures was { IfOk result (λ was. was
-            ≡ either (contains element_eq self.old.elements element) (contains name_eq self.old.arrays element.name)) }
-        ensures arrays { OnOk result ((x : PureName) → contains name_eq self.new.arrays x ≡ contains name_eq self.old.arrays x) }
-        ensures names { OnOk result ((x : PureName) → contains name_eq self.new.names x
-            ≡ either (contains name_eq self.old.names x) (same_name x element.name)) }
-        ensures elements { OnOk result ((e : PureElement)
-            → contains element_eq self.new.elements e ≡ either (contains element_eq self.old.elements e) (element_eq e element)) }
-    {
-        let was = self.elements.contains(&element) || self.arrays.contains(&element.name);
-        add(&mut self.names, element.name)?;
-        self.elements.insert(element)?;
-        Ok(was)
-    }
-
-    fn give_all(&mut self, name: Name) -> Result<bool, AllocError>
-        ensures was { IfOk result (λ was. was ≡ contains name_eq self.old.names name) }
-        ensures arrays { OnOk result ((x : PureName) → contains name_eq self.new.arrays x
-            ≡ either (contains name_eq self.old.arrays x) (same_name x name)) }
-        ensures names { OnOk result ((x : PureName) → contains name_eq self.new.names x
-            ≡ either (contains name_eq self.old.names x) (same_name x name)) }
-        ensures elements { OnOk result ((e : PureElement)
-            → contains element_eq self.new.elements e ≡ contains element_eq self.old.elements e) }
-    {
-        let was = self.names.contains(&name);
-        add(&mut self.names, name)?;
-        add(&mut self.arrays, name)?;
-        Ok(was)
-    }
-
     /// Gives these elements values: whether one of them had one.
     ///
     /// # Errors
@@ -113,8 +83,18 @@ impl Given {
             → IsGiven unit given self.old → IsNamed unit stretch e → IsGiven unit (e ∷ given) self.new) }
     {
         match stretch {
-            Stretch::One(element) => self.give_one(element),
-            Stretch::All(name, _) => self.give_all(name),
+            Stretch::One(element) => {
+                let was = self.elements.contains(&element) || self.arrays.contains(&element.name);
+                add(&mut self.names, element.name)?;
+                self.elements.insert(element)?;
+                Ok(was)
+            }
+            Stretch::All(name, _) => {
+                let was = self.names.contains(&name);
+                add(&mut self.names, name)?;
+                add(&mut self.arrays, name)?;
+                Ok(was)
+            }
         }
     }
 }

@@ -167,12 +167,8 @@ fn least_wrong(alloc: Global, symbols: &Symbols) -> Result<Option<u32>, AllocErr
             statement,
         )?;
         least = lesser(least, line_when(is_wrong, statement.line));
-        give(
-            alloc,
-            symbols,
-            &mut constants,
-            constants_in(&statement.form),
-        )?;
+        let behind = constants_in(&statement.form);
+        give(alloc, symbols, &mut constants, behind)?;
     }
     Ok(least)
 }

@@ -22,7 +22,7 @@ waits-live program p s = by_top (living s p) where
   by_top None waits = waits
   by_top (Some top) waits = refl
 
-waits-idle : (program : Units) (p : ℕ) (s : State) → is_waiting program s p ≡ true → step program p s ≡ None
+pub waits-idle : (program : Units) (p : ℕ) (s : State) → is_waiting program s p ≡ true → step program p s ≡ None
 waits-idle program p s = by_result s.halted (step_result_of program p s) where
   by_result : (halted : Bool) (result : StepResult) → is_some (wanted_of result) ≡ true
       → (if halted then None else state_made result) ≡ None

@@ -5,7 +5,6 @@ use Rattle.hep_source.specs.Names.{index_where}
 use Rattle.hep_source.specs.Units.{Units}
 use Rattle.hep_machine.specs.Declarations.{BlockName, blocks_of, is_block_among, same_block}
 use Rattle.hep_machine.specs.Layout.{common_cells}
-use Rattle.hep_values.proofs.BlockNames.{block-self}
 use Rattle.hep_image.specs.declared.owners.BlockStart.{BlockStart}
 use Rattle.hep_image.specs.Image.{most_cells}
 use Rattle.hep_image.specs.Owners.{block_start, block_starts}
@@ -15,6 +14,7 @@ use Rattle.hep_common.specs.declared.starts.CommonStarts.{CommonStarts}
 use Rattle.hep_common.proofs.Beginnings.{first-start}
 use Rattle.hep_lower.specs.Blocks.{block_begun}
 use Rattle.hep_source.proofs.Tests.{or-true}
+use Rattle.hep_machine.proofs.Locations.{block-self}
 
 module _ (program : Units) (blocks : CommonBlocks) (common : CommonStarts) (listed : blocks.blocks.keys ≡ blocks_of program) where
   all-begun : (bs : List BlockName) → ((b : BlockName) → is_block_among b bs ≡ true → start_in common b ≡ (block_start program b).first) → map (block_begun blocks common) bs ≡ map (block_start program) bs

@@ -136,7 +136,7 @@ makes-result_after_create program t u (Ok b) =
     creates (level_after_statement (unit_on_top program t) t.level ∷ t.below) (entry_level (unit_at program u) (next_activation t.state) ∷ []) _
     (ap (λ a. a ∷ activations_on t.below) (stays-level_after_statement (unit_on_top program t) t.level)) refl refl (refl, refl)
 
-on-stack_after_return : (program : Units) (s : State) (below : Process) → activations_on (stack_after_return program s below) ≡ activations_on below
+pub on-stack_after_return : (program : Units) (s : State) (below : Process) → activations_on (stack_after_return program s below) ≡ activations_on below
 on-stack_after_return program s [] = refl
 on-stack_after_return program s (level ∷ levels) = ap (λ a. a ∷ activations_on levels) (stays-level_after_statement (unit_at program (unit_of s level.activation)) level)
 

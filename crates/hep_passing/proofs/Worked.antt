@@ -1,37 +1,20 @@
 -- Worked actual arguments: a frame of eleven cells behind two of COMMON, with a dummy array that has two storage units left.
-use Rattle.std.specs.Prelude.{◌≡◌, ℕ, pos, false, List, [], ◌∷◌, Result, Ok, Err, Some, refl}
+use Rattle.std.specs.Prelude.{◌≡◌, ℕ, pos, false, List, [], ◌∷◌, Result, Ok, Err, refl}
 use Rattle.hep_source.specs.declared.value.Value.{Value}
 use Rattle.hep_source.specs.declared.value.Value.TheVariants.{Int}
 use Rattle.hep_machine.specs.declared.event.Kind.{Kind}
 use Rattle.hep_machine.specs.declared.event.Kind.TheVariants.{Range}
-use Rattle.hep_machine.specs.declared.slot.Slot.{Slot}
-use Rattle.hep_machine.specs.Access.{unset_cell}
 use Rattle.hep_code.specs.declared.instruction.Argument.TheVariants.{Evaluated, Referred}
 use Rattle.hep_code.specs.declared.instruction.Instruction.{Instruction}
 use Rattle.hep_code.specs.declared.instruction.Instruction.TheVariants.{Pass}
 use Rattle.hep_code.specs.declared.variable.Variable.{Variable}
 use Rattle.hep_code.specs.declared.variable.Variable.TheVariants as variables
 use Rattle.hep_code.specs.Passing.{passed_from}
-use Rattle.hep_image.specs.declared.array.Array.{Array}
-use Rattle.hep_image.specs.declared.array.Extents.TheVariants.{Adjustable}
-use Rattle.hep_image.specs.declared.array.Start.TheVariants.{Dummy}
 use Rattle.hep_image.specs.Finding.{cells_in}
+use Rattle.hep_step.proofs.Worked.{array, contents}
 use Rattle.hep_passing.specs.declared.given.Given.{Given}
 use Rattle.hep_passing.specs.declared.given.Given.TheVariants as giving
 use Rattle.hep_passing.specs.Passing.{given_by, passed_at}
-
-abbrev number : ℕ → Slot
-number n = record { value = Some (Int (pos n)); full = false }
-
--- two cells of COMMON, and from cell 2 on: a local scalar, the two cells of the dummy array, the two of a dummy argument that
--- stands for an expression, the bounds 1:3 and 1:*, and two more
-abbrev contents : List Slot
-contents =
-    number 40 ∷ number 41
-    ∷ (number 7 ∷ (number 0 ∷ number 2 ∷ (number 9 ∷ unset_cell ∷ (number 1 ∷ number 3 ∷ (number 1 ∷ unset_cell ∷ (number 4 ∷ unset_cell ∷ []))))))
-
-abbrev array : Array
-array = record { start = Dummy 1; extents = Adjustable 5 2 }
 
 abbrev values : List ℕ → List Value
 values [] = []

@@ -13,7 +13,6 @@ use Rattle.hep_source.specs.Units.{Units}
 use Rattle.hep_machine.specs.Constants.{cells_of}
 use Rattle.hep_machine.specs.Declarations.{BlockName, block_holding, block_of, blocks_of, blocks_of_unit, common_block, entries_under, is_block_among, names_declared, same_block, with_blocks}
 use Rattle.hep_accepted.proofs.Members.{Has, has_flat, has_more}
-use Rattle.hep_values.proofs.BlockNames.{block-self}
 use Rattle.hep_frames.specs.Rows.{Row, block_row, first_in}
 use Rattle.hep_frames.proofs.Rows.{has_key}
 use Rattle.hep_common.specs.Starts.{narrowed}
@@ -21,7 +20,7 @@ use Rattle.hep_places.specs.declared.blocks.Entry.{Entry}
 use Rattle.hep_places.specs.Found.{entries_in, entries_of, entry_of, lengthened, name_row, no_length, offset_among}
 use Rattle.hep_places.proofs.Narrowed.{narrowed-more, narrowed-zero}
 use Rattle.hep_common.proofs.Entries.{last-among}
-use Rattle.hep_machine.proofs.Locations.{block-stays}
+use Rattle.hep_machine.proofs.Locations.{block-stays, block-self}
 
 abbrev pub row_under : List Statement → BlockName → List Entry → Row Name
 row_under unit b [] = []

@@ -3,10 +3,11 @@ use Rattle.std.proofs.Common.{◌≡◌, ℕ, ◌+◌, ◌≤◌, Bool, true, fa
 use Rattle.std.specs.Option.{option_eq, unwrap_or}
 use Rattle.hep_source.specs.Names.{name_eq}
 use Rattle.hep_machine.specs.Declarations.{BlockName, same_block}
-use Rattle.hep_values.proofs.BlockNames.{block-equal, changed}
+use Rattle.hep_values.proofs.BlockNames.{changed}
 use Rattle.hep_common.specs.Starts.{narrowed}
 use Rattle.hep_places.proofs.Narrowed.{narrowed-small}
 use Rattle.hep_places.proofs.InBlocks.{none-before}
+use Rattle.hep_machine.proofs.Locations.{equal_blocks}
 
 abbrev Lengths : Type 0
 Lengths = BlockName → Option ℕ
@@ -23,7 +24,7 @@ length-set old one new k b n before v h e first second =
   where
     by : (t : Bool) → same_block k b ≡ t → one b ≡ (if t then Some n else old b)
         → unwrap_or (if t then Some v else one b) 0 ≡ (if t then narrowed (unwrap_or (old b) 0 + n) else unwrap_or (old b) 0)
-    by true f g = e ∙ ap (λ o. narrowed (unwrap_or o 0 + n)) (sym h ∙ ap old (block-equal k b f))
+    by true f g = e ∙ ap (λ o. narrowed (unwrap_or o 0 + n)) (sym h ∙ ap old (equal_blocks k b f))
     by false f g = ap (λ o. unwrap_or o 0) g
 
 -- a block that had none gets its first one
@@ -33,5 +34,5 @@ length-first old new k b n h few first =
     ap (λ o. unwrap_or o 0) (first ∙ changed k b (Some n) (old b)) ∙ by (same_block k b) refl
   where
     by : (t : Bool) → same_block k b ≡ t → unwrap_or (if t then Some n else old b) 0 ≡ (if t then narrowed (unwrap_or (old b) 0 + n) else unwrap_or (old b) 0)
-    by true f = sym (ap narrowed (none-before n) ∙ narrowed-small n few) ∙ ap (λ o. narrowed (unwrap_or o 0 + n)) (sym h ∙ ap old (block-equal k b f))
+    by true f = sym (ap narrowed (none-before n) ∙ narrowed-small n few) ∙ ap (λ o. narrowed (unwrap_or o 0 + n)) (sym h ∙ ap old (equal_blocks k b f))
     by false f = refl

@@ -1,5 +1,5 @@
 -- The outcome of a run, from the core that it left.
-use Rattle.std.proofs.Common.{◌≡◌, ℕ, Option, Some, None, Result, Ok, Err, refl, subst, inl, inr}
+use Rattle.std.proofs.Common.{◌≡◌, ℕ, List, Option, Some, None, Result, Ok, Err, refl, subst, inl, inr}
 use Rattle.std.specs.Prelude.{IfOk}
 use Rattle.hep_machine.specs.Histories.{IsLegal}
 use Rattle.hep_source.specs.Units.{Units}
@@ -8,13 +8,18 @@ use Rattle.hep_scheduler.specs.declared.stop.Stop.TheVariants.{Halted, ArenaFull
 use Rattle.hep_scheduler.specs.Value as core
 use Rattle.hep_scheduler.specs.Value.{CoreValue}
 use Rattle.hep_run.specs.declared.options.Options.{Options}
+use Rattle.hep_run.specs.declared.options.Run.{Run}
+use Rattle.hep_run.specs.declared.transcript.Transcript.{Transcript}
 use Rattle.hep_run.specs.declared.run.Halt.TheVariants.{NoSuchProcess}
 use Rattle.hep_run.specs.Outcome.{Outcome, IsHistory, IsOver, IsRunOutcome, next_process, outcome_of_refused_choice, outcome_of_end}
+use Rattle.hep_run.specs.Delivery.{LeavesOneOf}
+use Rattle.hep_run.specs.Transcripts.{LeavesMade, outcome_of}
 use Rattle.hep_run.specs.Progress.{IsStopOfRun, IsRunning, IsHaltedBy}
 
-pub if_ok : {A E : Type 0} (r : Result A E) (P Q : A → Type 0) → ((x : A) → P x → Q x) → IfOk r P → IfOk r Q
-if_ok (Ok x) P Q f p = f x p
-if_ok (Err e) P Q f p = tt
+-- what is left of a transcript that was made, where its outcome is one of these
+pub made_left : {E : Type 0} (Is : Outcome → Type 0) (r : Result Transcript E) (run : Run) (output output' messages messages' : Option (List ℕ)) → IfOk r (λ t. Is (outcome_of t)) → LeavesMade r run output output' messages messages' → LeavesOneOf Is run output output' messages messages'
+made_left Is (Ok t) run output output' messages messages' is left = inr (outcome_of t, is, left)
+made_left Is (Err e) run output output' messages messages' is left = inl left
 
 made : (options : Options) (core : CoreValue) → IsRunning options core → IsLegal core.program core.cells core.limit core.history → IsHistory core.program options core.history
 made options core running legal =

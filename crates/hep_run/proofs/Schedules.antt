@@ -5,6 +5,7 @@ use Rattle.std.specs.List.{filter}
 use Rattle.hep_state.specs.Turns.{HasNoGap}
 use Rattle.hep_scheduler.specs.declared.stop.Stop.{Stop}
 use Rattle.hep_scheduler.specs.declared.stop.Stop.TheVariants.{ArenaFull, Halted, StepLimit}
+use Rattle.hep_scheduler.specs.declared.fault.ChooseFault.{ChooseFault}
 use Rattle.hep_scheduler.specs.declared.fault.ChooseFault.TheVariants.{NoSuchProcess, Stopped}
 use Rattle.std.proofs.lemmas.Bool.{cases_lt}
 use Rattle.std.proofs.lemmas.List.{take-append-le}
@@ -23,6 +24,7 @@ use Rattle.hep_run.specs.declared.options.Options.{Options}
 use Rattle.hep_run.specs.declared.run.Halt.TheVariants as halts
 use Rattle.hep_run.specs.Outcome.{first_choice, next_process, IsNextEntry, IsScheduled}
 use Rattle.hep_run.specs.Progress.{IsHaltedBy, IsStopOfRun, IsRunning}
+use Rattle.hep_machine.proofs.Replays.{run_after}
 
 -- without a STOP the choice comes next, or what is ready
 pub next_is_chosen : (program : Units) (choices : List ℕ) (history : List Entry) → (state_after program history).halted ≡ false → next_process program choices history ≡ first_choice (slice_get choices (length history)) (next_ready program history)
@@ -174,18 +176,13 @@ unfolding run_from
 entry_state program x e zero = refl
 entry_state program x e (suc n) = steps_state program x e.process (suc n)
 
-run_from-append : (program : Units) (s : State) (ps qs : List ℕ) → run_from program s (ps ++ qs) ≡ run_from program (run_from program s ps) qs
-unfolding run_from
-run_from-append program s [] qs = refl
-run_from-append program s (p ∷ ps) qs = run_from-append program (state_after_turn program p s) ps qs
-
 from_state : (program : Units) (x : Progress) (es : List Entry) → (progress_from program x es).state ≡ run_from program x.state (schedule_of es)
 unfolding progress_from run_from schedule_of
 from_state program x [] = refl
 from_state program x (e ∷ es) =
     from_state program (progress_after_entry program x e e.steps) es
     ∙ ap (λ s. run_from program s (schedule_of es)) (entry_state program x e e.steps)
-    ∙ sym (run_from-append program x.state (replicate e.steps e.process) (schedule_of es))
+    ∙ sym (run_after program x.state (replicate e.steps e.process) (schedule_of es))
 
 progress_state : (program : Units) (history : List Entry) → (progress_after program history).state ≡ state_after program history
 unfolding state_after run
@@ -214,14 +211,18 @@ none_is_next program choices history h none =
     elim (state_after program history).halted as (λ b. (if b then None else first_choice (slice_get choices (length history)) (next_ready program history)) ≡ None)
     [ true ↦ refl | false ↦ choice_or_ready program choices history h ∙ none ]
 
+-- what a choice is that was refused for this reason
+pub refused_for : (old new : CoreValue) (p : ℕ) (fault reason : ChooseFault) → fault ≡ reason → IsChoice old p (Err fault) new → IsChoice old p (Err reason) new
+refused_for old new p fault reason is c = subst (λ (f : ChooseFault). IsChoice old p (Err f) new) is c
+
 -- a choice that meets a stop leaves the run at it
-pub stopped : (options : Options) (old new : CoreValue) (p : ℕ) (stop : Stop) → IsChoice old p (Err (Stopped stop)) new → IsRunning options old → (HasNoStop old → next_process old.program options.choices old.history ≡ Some p) → IsRunning options new × (new.program ≡ old.program) × (new.stop ≢ None)
+pub stopped : (options : Options) (old new : CoreValue) (p : ℕ) (stop : Stop) → IsChoice old p (Err (Stopped stop)) new → IsRunning options old → (HasNoStop old → next_process old.program options.choices old.history ≡ Some p) → IsRunning options new
 stopped options old new p stop c running next = elim c [ inl before ↦ at_stop before | inr now ↦ elim now [ inl limit ↦ at_limit limit | inr gap ↦ at_gap gap ] ]
   where
-    at_stop : (old.stop ≡ Some stop) × (new ≡ old) → IsRunning options new × (new.program ≡ old.program) × (new.stop ≢ None)
-    at_stop (is, same) = (subst (IsRunning options) (sym same) running, ap (λ (v : CoreValue). v.program) same, λ none. absurd (let some : new.stop ≡ Some stop = ap (λ (v : CoreValue). v.stop) same ∙ is in cc))
+    at_stop : (old.stop ≡ Some stop) × (new ≡ old) → IsRunning options new
+    at_stop (is, same) = subst (IsRunning options) (sym same) running
 
-    at_limit : HasNoStop old × (living (state_of old) p ≢ None) × (length old.history ≡ old.limit) × (stop ≡ StepLimit) × (new ≡ record old { stop = Some StepLimit }) → IsRunning options new × (new.program ≡ old.program) × (new.stop ≢ None)
+    at_limit : HasNoStop old × (living (state_of old) p ≢ None) × (length old.history ≡ old.limit) × (stop ≡ StepLimit) × (new ≡ record old { stop = Some StepLimit }) → IsRunning options new
     at_limit (going, alive, full, is, same) =
         let cut : IsRunning options (record old { stop = Some StepLimit }) = record {
           cells = running.cells;
@@ -229,9 +230,9 @@ stopped options old new p stop c running next = elim c [ inl before ↦ at_stop 
           scheduled = running.scheduled;
           stop = (full ∙ running.limit, p, next going, alive);
         } in
-        (subst (IsRunning options) (sym same) cut, ap (λ (v : CoreValue). v.program) same, λ none. absurd (let some : new.stop ≡ Some StepLimit = ap (λ (v : CoreValue). v.stop) same in cc))
+        subst (IsRunning options) (sym same) cut
 
-    at_gap : HasNoStop old × (living (state_of old) p ≢ None) × (length old.history < old.limit) × HasNoGap old.program old.cells (schedule_of old.history) p × (stop ≡ ArenaFull) × (new ≡ record old { stop = Some ArenaFull }) → IsRunning options new × (new.program ≡ old.program) × (new.stop ≢ None)
+    at_gap : HasNoStop old × (living (state_of old) p ≢ None) × (length old.history < old.limit) × HasNoGap old.program old.cells (schedule_of old.history) p × (stop ≡ ArenaFull) × (new ≡ record old { stop = Some ArenaFull }) → IsRunning options new
     at_gap (going, alive, room, gap, is, same) =
         let full : IsRunning options (record old { stop = Some ArenaFull }) = record {
           cells = running.cells;
@@ -239,7 +240,7 @@ stopped options old new p stop c running next = elim c [ inl before ↦ at_stop 
           scheduled = running.scheduled;
           stop = (omega (arith, room, running.limit), p, next going, subst (λ (n : ℕ). HasNoGap old.program n (schedule_of old.history) p) running.cells gap);
         } in
-        (subst (IsRunning options) (sym same) full, ap (λ (v : CoreValue). v.program) same, λ none. absurd (let some : new.stop ≡ Some ArenaFull = ap (λ (v : CoreValue). v.stop) same in cc))
+        subst (IsRunning options) (sym same) full
 
 -- a choice of a process that doesn't live is refused by its number
 pub nobody_chosen : (options : Options) (old new : CoreValue) (p i : ℕ) → IsChoice old p (Err NoSuchProcess) new → IsRunning options old → length old.history ≡ i → slice_get options.choices i ≡ Some p → IsHaltedBy options new (halts.NoSuchProcess (i + 1))

@@ -1,10 +1,10 @@
 -- What `check` and `list` of a source come to, from its bytes to the bytes that they write: docs/MACHINE.md, "The program".
-use Rattle.std.specs.Prelude.{◌≡◌, ◌⊎◌, ℕ, List, []}
-use Rattle.hep_source.specs.Units.{Units}
+use Rattle.std.specs.Prelude.{◌≡◌, ℕ, List, []}
+use Rattle.hep_check.specs.Conditions.{IsAccepted}
 use Rattle.hep_checked.specs.Listing.{listing}
 use Rattle.hep_run.specs.declared.status.Status.TheVariants as statuses
-use Rattle.hep_run.specs.Sources.{IsRefusedSource, IsUnacceptedSource, IsRunnableSource, IsAcceptedSource}
-use Rattle.hep_run.specs.Outcome.{Outcome, refused}
+use Rattle.hep_run.specs.Sources.{IsViolatingProgram}
+use Rattle.hep_run.specs.Outcome.{Outcome, ComesTo, RunsTo}
 
 -- this text is the answer
 abbrev pub outcome_of_text : List ℕ → Outcome
@@ -12,12 +12,8 @@ outcome_of_text text = record { output = text; messages = []; status = statuses.
 
 -- what `check` comes to: why the source isn't run, or nothing
 abbrev pub IsCheckOutcome : List ℕ → Outcome → Type 0
-IsCheckOutcome source o =
-    ((number : ℕ) × (line : ℕ) × (name : List ℕ) × IsRefusedSource source number line name × (o ≡ refused number line name))
-    ⊎ ((program : Units) × IsRunnableSource source program × (o ≡ outcome_of_text []))
+IsCheckOutcome source o = RunsTo (λ program end. end ≡ outcome_of_text []) source o
 
 -- what `list` comes to: why the source isn't accepted, or the lines of its units and common blocks; it may pass a limit
 abbrev pub IsListOutcome : List ℕ → Outcome → Type 0
-IsListOutcome source o =
-    ((number : ℕ) × (line : ℕ) × (name : List ℕ) × IsUnacceptedSource source number line name × (o ≡ refused number line name))
-    ⊎ ((program : Units) × IsAcceptedSource source program × (o ≡ outcome_of_text (listing program)))
+IsListOutcome source o = ComesTo IsViolatingProgram IsAccepted (λ program end. end ≡ outcome_of_text (listing program)) source o

@@ -21,7 +21,7 @@ use Rattle.hep_run.specs.declared.status.Status.TheVariants as statuses
 use Rattle.hep_output.specs.Records.{records_text}
 use Rattle.hep_dump.specs.Faults.{faults_text}
 use Rattle.hep_dump.specs.Waiting.{waiting_text}
-use Rattle.hep_run.specs.Sources.{IsRefusedSource, IsRunnableSource}
+use Rattle.hep_run.specs.Sources.{IsRefusedFor, IsRefusedProgram, IsRunnable, IsSourceOf}
 use Rattle.hep_run.specs.Texts.{refusal_text, stop_text, choice_text}
 
 -- what a run writes to its two outputs, its status, and its history
@@ -139,8 +139,16 @@ IsRunOutcome program options o =
 abbrev pub IsProgramOutcome : Units → Options → Outcome → Type 0
 IsProgramOutcome program options o = ((opening_layout program options.arena ≡ None) × (o ≡ outcome_of_full_arena)) ⊎ IsRunOutcome program options o
 
+-- what a source comes to: a refusal of it, whose program may be refused so; or what comes of its program, of which this holds
+abbrev pub ComesTo : (Units → ℕ → ℕ → List ℕ → Type 0) → (Units → Type 0) → (Units → Outcome → Type 0) → List ℕ → Outcome → Type 0
+ComesTo IsRefused Holds Comes source o =
+    ((number : ℕ) × (line : ℕ) × (name : List ℕ) × IsRefusedFor IsRefused source number line name × (o ≡ refused number line name))
+    ⊎ ((program : Units) × IsSourceOf Holds source program × Comes program o)
+
+-- what it comes to where a core is to run its program
+abbrev pub RunsTo : (Units → Outcome → Type 0) → List ℕ → Outcome → Type 0
+RunsTo Comes source o = ComesTo IsRefusedProgram IsRunnable Comes source o
+
 -- what a run of a source comes to by these options
 abbrev pub IsOutcome : Options → List ℕ → Outcome → Type 0
-IsOutcome options source o =
-    ((number : ℕ) × (line : ℕ) × (name : List ℕ) × IsRefusedSource source number line name × (o ≡ refused number line name))
-    ⊎ ((program : Units) × IsRunnableSource source program × IsProgramOutcome program options o)
+IsOutcome options source o = RunsTo (λ program. IsProgramOutcome program options) source o

@@ -13,8 +13,7 @@ use Rattle.hep_history.specs.Lines.{AreLines, IsRefusedText}
 use Rattle.hep_history.specs.Histories.{entry_text, IsAllowed}
 use Rattle.hep_history.specs.Replays.{replayed, ArePossible, IsFirstImpossible}
 use Rattle.hep_run.specs.declared.status.Status.TheVariants as statuses
-use Rattle.hep_run.specs.Sources.{IsRefusedSource, IsRunnableSource}
-use Rattle.hep_run.specs.Outcome.{Outcome, dump_text, refused, outcome_of_full_arena, status_of}
+use Rattle.hep_run.specs.Outcome.{Outcome, RunsTo, dump_text, outcome_of_full_arena, status_of}
 use Rattle.hep_run.specs.Texts.{refusal_text, stop_text}
 
 -- ---- outcomes
@@ -56,6 +55,4 @@ IsTextOutcome text cells program o =
 
 -- what a replay of a source by this text comes to, in an arena of so many cells
 abbrev pub IsReplayOutcome : List ℕ → ℕ → List ℕ → Outcome → Type 0
-IsReplayOutcome text cells source o =
-    ((number : ℕ) × (line : ℕ) × (name : List ℕ) × IsRefusedSource source number line name × (o ≡ refused number line name))
-    ⊎ ((program : Units) × IsRunnableSource source program × IsTextOutcome text cells program o)
+IsReplayOutcome text cells source o = RunsTo (IsTextOutcome text cells) source o

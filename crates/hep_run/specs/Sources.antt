@@ -40,10 +40,13 @@ IsRefusedSource source number line name = IsRefusedFor IsRefusedProgram source n
 
 -- ---- programs
 
+-- the source is this program, of which this holds
+abbrev pub IsSourceOf : (Units → Type 0) → List ℕ → Units → Type 0
+IsSourceOf Is source program = (statements : List Stmt) × (statements_of source ≡ Ok statements) × IsProgram statements program × Is program
+
 -- the source is this program, which is accepted
 abbrev pub IsAcceptedSource : List ℕ → Units → Type 0
-IsAcceptedSource source program =
-    (statements : List Stmt) × (statements_of source ≡ Ok statements) × IsProgram statements program × IsAccepted program
+IsAcceptedSource source program = IsSourceOf IsAccepted source program
 
 -- a core runs the program: it is accepted and within the limits
 abbrev pub IsRunnable : Units → Type 0
@@ -51,5 +54,4 @@ IsRunnable program = IsAccepted program × IsLowered program
 
 -- the source is this program, which a core runs
 abbrev pub IsRunnableSource : List ℕ → Units → Type 0
-IsRunnableSource source program =
-    (statements : List Stmt) × (statements_of source ≡ Ok statements) × IsProgram statements program × IsRunnable program
+IsRunnableSource source program = IsSourceOf IsRunnable source program

@@ -10,8 +10,7 @@ use Rattle.hep_scheduler.specs.declared.stop.Verdict.TheVariants.{Running}
 use Rattle.hep_scheduler.specs.Value.{IsStop}
 use Rattle.hep_workers.specs.declared.options.WorkOptions.{WorkOptions}
 use Rattle.hep_run.specs.declared.status.Status.TheVariants as statuses
-use Rattle.hep_run.specs.Outcome.{Outcome, outcome_of_end, outcome_of_full_arena, refused, verdict_after}
-use Rattle.hep_run.specs.Sources.{IsRefusedSource, IsRunnableSource}
+use Rattle.hep_run.specs.Outcome.{Outcome, RunsTo, outcome_of_end, outcome_of_full_arena, verdict_after}
 use Rattle.hep_run.specs.Texts.{workers_text}
 
 -- the workers' history is a legal one of the program by these options, with the stop that it says, after which the run is over
@@ -36,6 +35,4 @@ IsImageWorked program options o =
 
 -- what a run of a source by workers comes to by these options
 abbrev pub IsWorkOutcome : WorkOptions → List ℕ → Outcome → Type 0
-IsWorkOutcome options source o =
-    ((number : ℕ) × (line : ℕ) × (name : List ℕ) × IsRefusedSource source number line name × (o ≡ refused number line name))
-    ⊎ ((program : Units) × IsRunnableSource source program × IsImageWorked program options o)
+IsWorkOutcome options source o = RunsTo (λ program. IsImageWorked program options) source o

@@ -2,16 +2,18 @@
 ghost use Rattle.std.specs.Prelude.{OnOk, IfErr};
 ghost use Rattle.std.specs.Io.KnownBytes.{Appends};
 ghost use Rattle.hep_run.specs.Texts.{write_fault_text};
-ghost use Rattle.hep_run.specs.Transcripts.{outcome_of};
+ghost use Rattle.hep_run.specs.Transcripts.{LeavesMade, outcome_of};
 ghost use Rattle.hep_run.specs.Delivery.{Leaves, SaysLines, WritesMessages, SomeOf};
 ghost use Rattle.hep_run.specs.Files.{PutsText};
 
 use crate::options::Run;
+use crate::source::NO_MEMORY;
 use crate::status::Status;
 use crate::transcript::Transcript;
 use hep_history::History;
 use hep_output::{PutFault, put_all};
 use itoa::Buffer;
+use std::alloc::{AllocError, Global};
 use std::io::Write;
 
 /// Says how many bytes a stream took before it failed.
@@ -100,4 +102,21 @@ pub fn deliver<W: Write, E: Write>(transcript: Transcript, output: &mut W, messa
         return Run::new(Status::DeviceFailed, history);
     }
     write_messages(messages, &lines, status, history)
+}
+
+// Writes the transcript that was made, as `deliver` does, or that memory was refused for it.
+pub(crate) fn deliver_made<W: Write, E: Write>(
+    alloc: Global,
+    made: Result<Transcript, AllocError>,
+    output: &mut W,
+    messages: &mut E,
+) -> Run
+    ensures { LeavesMade made result (W.contents output.old) (W.contents output.new)
+        (E.contents messages.old) (E.contents messages.new) }
+{
+    let none = History::from(Vec::new(alloc));
+    match made {
+        Ok(transcript) => deliver(transcript, output, messages),
+        Err(_) => write_messages(messages, NO_MEMORY, Status::NoMemory, none),
+    }
 }

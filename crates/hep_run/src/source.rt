@@ -6,13 +6,12 @@ ghost use Rattle.hep_run.specs.Outcome.{IsOutcome};
 ghost use Rattle.hep_run.specs.Replay.{IsReplayOutcome};
 
 use crate::checks::{check_transcript, list_transcript};
-use crate::deliver::{deliver, say, write_messages};
+use crate::deliver::deliver_made;
 use crate::files::say_unread;
 use crate::input::read_input;
 use crate::options::{Options, Run};
 use crate::replay::replay_transcript;
 use crate::run::transcript_of;
-use crate::status::Status;
 use hep_history::History;
 use std::alloc::Global;
 use std::io::{Read, Write};
@@ -26,22 +25,6 @@ pub const MOST_BYTES: usize = 4_194_304;
 
 /// The line where memory was refused.
 pub const NO_MEMORY: &[u8] = b"NO MEMORY\n";
-
-fn check_bytes<W: Write, E: Write>(
-    alloc: Global,
-    source: &[u8],
-    output: &mut W,
-    messages: &mut E,
-) -> u8
-    ensures { LeavesOneOf (IsCheckOutcome source.now) (status_alone result)
-        (W.contents output.old) (W.contents output.new)
-        (E.contents messages.old) (E.contents messages.new) }
-{
-    match check_transcript(alloc, source) {
-        Ok(transcript) => deliver(transcript, output, messages).status,
-        Err(_) => say(messages, NO_MEMORY, Status::NoMemory),
-    }
-}
 
 /// Checks a source: reads it, and writes to `messages` why it is refused, if it is. Where it
 /// isn't, nothing is written, and `run_source` would run it.
@@ -58,24 +41,8 @@ pub fn check_source<R: Read, W: Write, E: Write>(
         (E.contents messages.old) (E.contents messages.new) }
 {
     match read_input(alloc, source, MOST_BYTES) {
-        Ok(bytes) => check_bytes(alloc, &bytes, output, messages),
+        Ok(bytes) => deliver_made(alloc, check_transcript(alloc, &bytes), output, messages).status,
         Err(fault) => say_unread(messages, fault),
-    }
-}
-
-fn list_bytes<W: Write, E: Write>(
-    alloc: Global,
-    source: &[u8],
-    output: &mut W,
-    messages: &mut E,
-) -> u8
-    ensures { LeavesOneOf (IsListOutcome source.now) (status_alone result)
-        (W.contents output.old) (W.contents output.new)
-        (E.contents messages.old) (E.contents messages.new) }
-{
-    match list_transcript(alloc, source) {
-        Ok(transcript) => deliver(transcript, output, messages).status,
-        Err(_) => say(messages, NO_MEMORY, Status::NoMemory),
     }
 }
 
@@ -94,7 +61,7 @@ pub fn list_source<R: Read, W: Write, E: Write>(
         (E.contents messages.old) (E.contents messages.new) }
 {
     match read_input(alloc, source, MOST_BYTES) {
-        Ok(bytes) => list_bytes(alloc, &bytes, output, messages),
+        Ok(bytes) => deliver_made(alloc, list_transcript(alloc, &bytes), output, messages).status,
         Err(fault) => say_unread(messages, fault),
     }
 }
@@ -114,11 +81,8 @@ pub fn run_bytes<W: Write, E: Write>(
         (W.contents output.old) (W.contents output.new)
         (E.contents messages.old) (E.contents messages.new) }
 {
-    let none = History::from(Vec::new(alloc));
-    match transcript_of(alloc, source, options) {
-        Ok(transcript) => deliver(transcript, output, messages),
-        Err(_) => write_messages(messages, NO_MEMORY, Status::NoMemory, none),
-    }
+    let made = transcript_of(alloc, source, options);
+    deliver_made(alloc, made, output, messages)
 }
 
 /// Runs a source: reads it, checks it, runs it by the options, and then writes the records to
@@ -163,11 +127,8 @@ pub fn replay_bytes<W: Write, E: Write>(
         (W.contents output.old) (W.contents output.new)
         (E.contents messages.old) (E.contents messages.new) }
 {
-    let none = History::from(Vec::new(alloc));
-    match replay_transcript(alloc, source, history, cells) {
-        Ok(transcript) => deliver(transcript, output, messages),
-        Err(_) => write_messages(messages, NO_MEMORY, Status::NoMemory, none),
-    }
+    let made = replay_transcript(alloc, source, history, cells);
+    deliver_made(alloc, made, output, messages)
 }
 
 /// Reads a source and makes the steps of a history of it again, as `replay_bytes` does.

@@ -1,16 +1,15 @@
 //! A source's run by workers.
 ghost use Rattle.std.specs.Prelude.{◌≡◌, IfOk};
-ghost use Rattle.hep_run.specs.Delivery.{LeavesOneOf, LeavesOfSource};
+ghost use Rattle.hep_run.specs.Delivery.{LeavesOfSource};
 ghost use Rattle.hep_run.specs.Transcripts.{outcome_of};
 ghost use Rattle.hep_run.specs.Workers.{IsImageWorked, IsWorkOutcome};
 
-use crate::deliver::{deliver, write_messages};
+use crate::deliver::deliver_made;
 use crate::files::say_unread;
 use crate::front::image_of_source;
 use crate::input::read_input;
 use crate::options::Run;
-use crate::source::{MOST_BYTES, NO_MEMORY};
-use crate::status::Status;
+use crate::source::MOST_BYTES;
 use crate::transcript::{
     Transcript, ended_transcript, full_transcript, refused_transcript, workers_transcript,
 };
@@ -65,26 +64,6 @@ fn work_transcript<H: Threads + Wait + Sync, G: Gate + Sync>(
     }
 }
 
-fn work_bytes<H: Threads + Wait + Sync, G: Gate + Sync, W: Write, E: Write>(
-    rt: &H,
-    alloc: Global,
-    source: &[u8],
-    options: WorkOptions,
-    gate: &G,
-    output: &mut W,
-    messages: &mut E,
-) -> Run
-    ensures { LeavesOneOf (IsWorkOutcome options source.now) result
-        (W.contents output.old) (W.contents output.new)
-        (E.contents messages.old) (E.contents messages.new) }
-{
-    let none = History::from(Vec::new(alloc));
-    match work_transcript(rt, alloc, source, options, gate) {
-        Ok(transcript) => deliver(transcript, output, messages),
-        Err(_) => write_messages(messages, NO_MEMORY, Status::NoMemory, none),
-    }
-}
-
 /// Runs a source by workers: reads it, checks it, has threads take its steps, and then writes as `run_source` does, or `WORKERS REFUSED`
 /// with a number to `messages` where the workers gave up.
 ///
@@ -103,7 +82,10 @@ pub fn work_source<H: Threads + Wait + Sync, G: Gate + Sync, R: Read, W: Write, 
         (E.contents messages.old) (E.contents messages.new) }
 {
     match read_input(alloc, source, MOST_BYTES) {
-        Ok(bytes) => work_bytes(rt, alloc, &bytes, options, gate, output, messages),
+        Ok(bytes) => {
+            let made = work_transcript(rt, alloc, &bytes, options, gate);
+            deliver_made(alloc, made, output, messages)
+        }
         Err(fault) => Run {
             status: say_unread(messages, fault),
             history: History::from(Vec::new(alloc)),

@@ -1,5 +1,5 @@
 -- How far two lists in runs are the same.
-use Rattle.std.proofs.Common.{◌≡◌, ◌≤◌, ◌<◌, ℕ, zero, suc, ◌+◌, ◌-◌, min, Bool, true, false, not, ◌&&◌, ◌||◌, nat_lt, nat_eq, List, [], ◌∷◌, ◌++◌, take, drop, length, get_or, append-nil, append_assoc, refl, ap, sym, ◌∙◌, arith, true≢false, if◌then◌else◌, subst}
+use Rattle.std.proofs.Common.{◌≡◌, ◌≤◌, ◌<◌, ℕ, zero, suc, ◌+◌, ◌-◌, min, Bool, true, false, not, ◌&&◌, ◌||◌, nat_lt, nat_eq, List, [], ◌∷◌, ◌++◌, take, drop, length, map, get_or, append-nil, append_assoc, refl, ap, sym, ◌∙◌, arith, true≢false, if◌then◌else◌, subst}
 use Rattle.std.proofs.lemmas.Bool.Decides.{nat_tests}
 use Rattle.std.proofs.lemmas.List.{take-append-drop, take_more, drop_more, drop_all}
 use Rattle.hep_source.specs.declared.declaration.ValueType.{ValueType}
@@ -48,6 +48,10 @@ alike-equal p q h =
     λ i. record { asynchronous = a i; value_type = t i }
 
 -- ---- what stands several times
+
+pub map-repeat : {A B : Type 0} (f : A → B) (n : ℕ) (x : A) (xs : List A) → map f (repeat_before n x xs) ≡ repeat_before n (f x) (map f xs)
+map-repeat f zero x xs = refl
+map-repeat f (suc n) x xs = ap (λ ys. f x ∷ ys) (map-repeat f n x xs)
 
 pub repeat-append : {A : Type 0} (n : ℕ) (x : A) (xs : List A) → repeat_before n x xs ≡ repeat_before n x [] ++ xs
 repeat-append zero x xs = refl
@@ -214,7 +218,7 @@ differ-disagree (a ∷ cs) (b ∷ ds) h = by (alike a b) h
     by true g = absurd (true≢false (sym g))
     by false g = refl
 
-rest-none : (p : Place) (rs : List Run) → length rs ≤ p.run → rest p rs ≡ []
+pub rest-none : (p : Place) (rs : List Run) → length rs ≤ p.run → rest p rs ≡ []
 rest-none p rs h = ap (λ qs. later_places qs p.before) (drop_all p.run rs h)
 
 -- two lists agree where one of them ends before they part
@@ -243,19 +247,11 @@ agreed p q xs ys is at same parted = by (nat_eq p.run (length xs)) (nat_eq q.run
         let l : q.run < length ys = grind (arith, nat_tests) in
         sym (differ-disagree (rest p xs) (rest q ys) (parted k l))
 
-pub either-first : (a b : Bool) → a ≡ true → a ≡ (a || b)
-either-first true b h = refl
-either-first false b h = absurd (true≢false (sym h))
-
-pub either-second : (a b : Bool) → a ≡ false → b ≡ (a || b)
-either-second false b h = refl
-either-second true b h = absurd (true≢false h)
-
 -- ---- how many places
 
-length-repeat : (n : ℕ) (p : Position) (ps : List Position) → length (repeat_before n p ps) ≡ n + length ps
-length-repeat zero p ps = omega arith
-length-repeat (suc n) p ps = let e = length-repeat n p ps in omega (arith, e)
+pub length-repeat : {A : Type 0} (n : ℕ) (x : A) (xs : List A) → length (repeat_before n x xs) ≡ n + length xs
+length-repeat zero x xs = omega arith
+length-repeat (suc n) x xs = let e = length-repeat n x xs in omega (arith, e)
 
 pub count-turn : (rs : List Run) (i : ℕ) (d : Run) (n count total : ℕ) → i < length rs → count + length (positions_in (drop i rs)) ≡ total → n ≡ (get_or rs i d).count
     → count + n + length (positions_in (drop (i + 1) rs)) ≡ total

@@ -81,6 +81,18 @@ in-arena program cells choices p (Waits want) new h = tt
 pub as-many : (program : Units) (cells : ℕ) (choices : List ℕ) (m : Machine) → IsAfter program cells choices (snapshot_of m) → length m.processes.items ≡ length (run program choices).processes
 as-many program cells choices m after = sym (length-map m.processes.items stack_of) ∙ after.shows.processes
 
+-- who is ready once those who were woken and those who are noted are
+noted-so : (program : Units) (choices : List ℕ) (p : ℕ) (woken : ℕ → Bool) (ready noted left : List ℕ) (before now : ℕ)
+    → before ≡ length (run program choices).processes → now ≡ length (run program (choices ++ p ∷ [])).processes
+    → ((q : ℕ) → is_number_among q noted ≡ is_noted p (is_some (living (run program (choices ++ p ∷ [])) p)) before now ready q)
+    → ((q : ℕ) → is_number_among q left ≡ (woken q || is_number_among q noted))
+    → (q : ℕ) → is_number_among q left
+    ≡ (woken q || is_noted p (is_some (living (run program (choices ++ p ∷ [])) p)) (length (run program choices).processes) (length (run program (choices ++ p ∷ [])).processes) ready q)
+noted-so program choices p woken ready noted left before now counted many are is q =
+    is q
+    ∙ (ap (λ b. woken q || b) (are q)
+    ∙ λ i. woken q || is_noted p (is_some (living (run program (choices ++ p ∷ [])) p)) (counted i) (many i) ready q)
+
 -- the lists once those are woken that waited, and the others are noted
 pub along : (program : Units) (choices : List ℕ) (p : ℕ) (changed : Option Want) (waiting after : List (Option Want)) (ready noted left : List ℕ) (before now : ℕ)
     → before ≡ length (run program choices).processes → now ≡ length (run program (choices ++ p ∷ [])).processes
@@ -91,10 +103,7 @@ pub along : (program : Units) (choices : List ℕ) (p : ℕ) (changed : Option W
 along program choices p changed waiting after ready noted left before now counted many waits are woken =
     record {
       waits = waits;
-      are_ready = λ q.
-          woken q
-          ∙ (ap (λ b. is_woken changed waiting q || b) (are q)
-          ∙ λ i. is_woken changed waiting q || is_noted p (is_some (living (run program (choices ++ p ∷ [])) p)) (counted i) (many i) ready q);
+      are_ready = noted-so program choices p (is_woken changed waiting) ready noted left before now counted many are woken;
     }
 
 pub along-emptying : (program : Units) (choices : List ℕ) (p : ℕ) (emptied : ℕ → Bool) (waiting after : List (Option Want)) (ready noted left : List ℕ) (before now : ℕ)
@@ -106,10 +115,7 @@ pub along-emptying : (program : Units) (choices : List ℕ) (p : ℕ) (emptied :
 along-emptying program choices p emptied waiting after ready noted left before now counted many waits are woken =
     record {
       waits = waits;
-      are_ready = λ q.
-          woken q
-          ∙ (ap (λ b. is_woken_where emptied waiting q || b) (are q)
-          ∙ λ i. is_woken_where emptied waiting q || is_noted p (is_some (living (run program (choices ++ p ∷ [])) p)) (counted i) (many i) ready q);
+      are_ready = noted-so program choices p (is_woken_where emptied waiting) ready noted left before now counted many are woken;
     }
 
 -- ---- a process that waits

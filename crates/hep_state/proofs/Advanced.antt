@@ -11,9 +11,9 @@ use Rattle.hep_step.specs.Simulation.{unit_addressed, unit_code}
 use Rattle.hep_state.specs.declared.machine.Level.{Level}
 use Rattle.hep_state.specs.Taking.{IsSettled}
 
--- what holds of three values holds of those that they are equal to
-pub of-equals : {A B C : Type 0} (P : A → B → C → Type 0) (a x : A) (b y : B) (c z : C) → a ≡ x → b ≡ y → c ≡ z → P a b c → P x y z
-of-equals P a x b y c z e f g h = subst (λ w. P w y z) e (subst (λ w. P a w z) f (subst (P a b) g h))
+-- what holds of some values holds of those that they are equal to
+pub carry : {S T : Type 0} → S ≡ T → S → T
+carry same h = subst (λ (U : Type 0). U) same h
 
 pub settled-here : (program : Units) (top l : Level) (was operands new : List Value) (index : ℕ) (code : List Instruction) → code ≡ unit_code program top.unit → top ≡ l → was ≡ operands
     → IsPastPushes code index

@@ -1,20 +1,17 @@
 -- What a core keeps after a CALL or CREATE shows the state then.
 use Rattle.std.proofs.Common.{◌≡◌, ◌⊎◌, inl, inr, ℕ, zero, suc, ◌+◌, ◌≤◌, Bool, true, false, List, [], ◌∷◌, ◌++◌, length, Some, refl, sym, ap, ◌∙◌, subst, arith}
-use Rattle.std.specs.Prelude.{if◌then◌else◌, nat_eq, nat_lt, slice_get}
-use Rattle.std.specs.Option.{option_map, unwrap_or}
-use Rattle.std.proofs.lemmas.Bool.{eqb-true, eqb-false}
-use Rattle.std.proofs.lemmas.Bool.Decides.{nat_tests}
+use Rattle.std.specs.Prelude.{if◌then◌else◌, nat_eq, slice_get}
+use Rattle.std.proofs.lemmas.Bool.{eqb-true}
 use Rattle.std.proofs.lemmas.List.{length-append, length-set}
 use Rattle.std.proofs.lemmas.Option.{same_Some, none-some, slice_get_within}
 use Rattle.hep_source.specs.declared.value.Value.{Value}
 use Rattle.hep_source.specs.Units.{Units, executable_from, unit_at}
 use Rattle.hep_machine.specs.Binding.{Binding}
 use Rattle.hep_machine.specs.Control.{level_after_statement}
-use Rattle.hep_machine.specs.Layout.{Layout, frame_of, is_held, layout_after_step, layout_of, remaining_layout, with_frame}
+use Rattle.hep_machine.specs.Layout.{Layout, frame_of, is_held, layout_of}
 use Rattle.hep_machine.specs.Processes.{numbered, unit_of, with_numbered}
 use Rattle.hep_machine.specs.Run.{run}
 use Rattle.hep_machine.specs.State.{Activation, Level as SourceLevel, Process, State}
-use Rattle.hep_machine.proofs.Others.{other_numbered}
 use Rattle.hep_arena.specs.Space.{Space}
 use Rattle.hep_code.specs.Standing.{Stands}
 use Rattle.hep_code.proofs.Moves.{StandsAt, after_statement_stands, entry_stands}
@@ -31,14 +28,13 @@ use Rattle.hep_state.specs.Turns.{HasStepped}
 use Rattle.hep_state.proofs.Kept.{kept-entered}
 use Rattle.hep_state.proofs.Levels.{AreOn}
 use Rattle.hep_state.proofs.Moved.{standing-before, there}
-use Rattle.hep_state.proofs.Runs.{frames-all, layout-last, turned}
-use Rattle.hep_state.proofs.Shown.{from-one, numbered-set, remaining-after, shows-after, stepped-after}
-use Rattle.hep_state.proofs.Standing.{AreStanding, AreStandingBelow, IsHere, StandsOnTop, stack-standing}
+use Rattle.hep_state.proofs.Runs.{layout-more, turned}
+use Rattle.hep_state.proofs.Shown.{all-remain, standing-changed, stepped-after}
+use Rattle.hep_state.proofs.Standing.{AreMade, AreStanding, AreStandingBelow, IsHere, StandsOnTop, below-still, here-at, here-still, made-more}
 use Rattle.hep_entering.specs.Calling.{called_activation, layout_with, state_called, state_created}
 use Rattle.hep_state.specs.Calls.{HasEntered, IsAfterCall, entered_level, snapshot_called, snapshot_created}
 use Rattle.hep_entering.proofs.Calls.{after, after-keeps, called-keeps, called-stacks, created-keeps, created-stacks, entry, entry-number}
 use Rattle.hep_entering.proofs.Nodes.{node-new, node-stays}
-use Rattle.hep_state.proofs.Entered.{below-more, here-more, standing-more}
 
 -- ---- numbered elements, with one more
 
@@ -84,21 +80,16 @@ module _ (program : Units) (cells : ℕ) (choices : List ℕ) (m : Snapshot) (p 
 
     laid : layout_of program cells is_held (choices ++ p ∷ []) ≡ Some (layout_with program t h.after.layout e.first)
     laid =
-        let less : nat_lt (length old.activations) (length t.activations) ≡ true = grind (arith, nat_tests, long) in
-        layout-last program cells choices p layout h.after.laid
-        ∙ (ap (λ o. layout_after_step program cells is_held old (unwrap_or o old) layout) e.made
-        ∙ (rw less (ap (λ o. option_map (remaining_layout is_held t) (option_map (λ first. with_frame layout (record { activation = n; first = first; cells = frame_of program t n })) o)) e.gap)
-        ∙ ap (λ (fs : Layout). Some fs) (sym (remaining-after program cells choices p t next now (also n (is_held old)) arena nodes keeps now) ∙ frames-all (also n (is_held old)) now keeps.frames_are)))
+        layout-more program cells choices p layout t (Some e.first) h.after.laid e.made long e.gap
+        ∙ all-remain program cells choices p t next now (also n (is_held old)) arena nodes keeps
 
-    stay : (k : ℕ) (q : Node) → m.nodes k ≡ Some q → (r : Node) × (nodes k ≡ Some r) × (r.activation ≡ q.activation)
-    stay k q at =
+    stay : (k : ℕ) (q : Node) → m.nodes k ≡ Some q → is_stacked t q.activation ≡ true → (r : Node) × (nodes k ≡ Some r) × (r.activation ≡ q.activation)
+    stay k q at on =
         let kept = node-stays m.nodes key (new_node n u e.first (frame_of program t n) l.key) l.key e.vacant k q at in
         (kept.0, ap (λ (z : Nodes). z k) e.nodes_are ∙ kept.1, kept.2)
 
-    -- each process that was there stands where it stood
-    others : (i : ℕ) (k : Stack) (q : Process) → numbered m.processes i ≡ Some k → numbered old.processes i ≡ Some q → AreStanding program t nodes k.operands k.levels q
-    others i k q here on-it =
-        standing-more program old t x m.nodes nodes more stay k.operands k.levels q (stack-standing program old m.nodes m.arena.contents k q (h.after.shows.stacks i k q here on-it))
+    made : AreMade old t
+    made = made-more old t x more
 
     -- the new activation
     new-stands : (level : SourceLevel) → level.activation ≡ length t.activations → Stands (unit_addressed program u) level.statement level.work [] (entered_level program u key).index → StandsOnTop program t nodes [] (entered_level program u key) level
@@ -118,13 +109,32 @@ module _ (program : Units) (cells : ℕ) (choices : List ℕ) (m : Snapshot) (p 
         }
 
     -- the one that made it
-    maker-here : (index : ℕ) (a : ℕ) → a ≡ top.0.activation → IsHere program t nodes (record l { index = index }) a
-    maker-here index a same =
-        let here = here-more program old t x m.nodes nodes more stay l top.0.activation (standing-before program cells choices m p l ls vs top h).0.here in
-        record { inside = here.inside; node = here.node; there = here.there; activation = same ∙ here.activation; made = subst (λ z. (1 ≤ z) × (z ≤ length t.activations)) (sym same) here.made; unit = ap (unit_of t) same ∙ here.unit }
+    maker-here : (index : ℕ) (a : ℕ) → a ≡ top.0.activation → is_stacked t a ≡ true → IsHere program t nodes (record l { index = index }) a
+    maker-here index a same on =
+        here-at program t nodes l index top.0.activation a same (
+        here-still program old t m.nodes nodes made stay l top.0.activation (standing-before program cells choices m p l ls vs top h).0.here (sym (ap (is_stacked t) same) ∙ on))
 
-    below-stand : AreStandingBelow program t nodes ls top.1
-    below-stand = below-more program old t x m.nodes nodes more stay ls top.1 (standing-before program cells choices m p l ls vs top h).1
+    below-stand : AreOn t top.1 → AreStandingBelow program t nodes ls top.1
+    below-stand = below-still program old t m.nodes nodes made stay ls top.1 (standing-before program cells choices m p l ls vs top h).1
+
+    -- each process, where p has another stack
+    all-stand : (k : Stack) (q : Process) → (AreOn t q → AreStanding program t nodes k.operands k.levels q)
+        → (i : ℕ) (j : Stack) (r : Process) → numbered (with_numbered m.processes p k) i ≡ Some j → numbered (with_numbered old.processes p q) i ≡ Some r → AreOn t r → AreStanding program t nodes j.operands j.levels r
+    all-stand k q =
+        standing-changed program old t layout m nodes h.after.shows p (record { levels = l ∷ ls; operands = vs }) k (top.0 ∷ top.1) q h.kept (there program cells choices m p l ls vs top h) made stay
+
+    -- and there is one process more
+    more-stand : (k last : Stack) (q newest : Process) → length (with_numbered m.processes p k) ≡ length (with_numbered old.processes p q)
+        → (AreOn t q → AreStanding program t nodes k.operands k.levels q) → AreStanding program t nodes last.operands last.levels newest
+        → (i : ℕ) (j : Stack) (r : Process) → numbered (with_numbered m.processes p k ++ last ∷ []) i ≡ Some j → numbered (with_numbered old.processes p q ++ newest ∷ []) i ≡ Some r → AreOn t r → AreStanding program t nodes j.operands j.levels r
+    more-stand k last q newest count own new i j r here on-it on =
+        by_places (numbered-last (with_numbered m.processes p k) last j i here) (numbered-last (with_numbered old.processes p q) newest r i on-it) where
+          by_places : (numbered (with_numbered m.processes p k) i ≡ Some j) ⊎ ((i ≡ suc (length (with_numbered m.processes p k))) × (last ≡ j)) → (numbered (with_numbered old.processes p q) i ≡ Some r) ⊎ ((i ≡ suc (length (with_numbered old.processes p q))) × (newest ≡ r))
+              → AreStanding program t nodes j.operands j.levels r
+          by_places (inl f) (inl g) = all-stand k q own i j r f g on
+          by_places (inl f) (inr g) = absurd (omega (arith, numbered-within (with_numbered m.processes p k) i j f, g.0, count))
+          by_places (inr f) (inl g) = absurd (omega (arith, numbered-within (with_numbered old.processes p q) i r g, f.0, count))
+          by_places (inr f) (inr g) = subst (λ (z : Stack). AreStanding program t nodes z.operands z.levels r) f.1 (subst (λ z. AreStanding program t nodes last.operands last.levels z) g.1 new)
 
     -- what the dummy arguments of each activation stand for, that of the new one and of those that were there
     kept-then : ((a : ℕ) → is_stacked t a ≡ also (length t.activations) (is_stacked (run program choices)) a) → (a : ℕ) → is_stacked t a ≡ true → AreKept program t (layout_with program t h.after.layout e.first) a
@@ -142,38 +152,7 @@ module _ (program : Units) (cells : ℕ) (choices : List ℕ) (m : Snapshot) (p 
         let s = h.after.shows in
         let new : Snapshot = record m { arena = arena; nodes = nodes; processes = processes; activations = m.activations + 1 } in
         let made_so_far : m.activations + 1 ≡ length t.activations = omega (arith, s.activations, long) in
-        stepped-after program cells choices p t next new now e.made laid e.size (
-        shows-after program cells choices p t next new now (also n (is_held old)) keeps (kept-then on_stacks) count standing made_so_far (s.records ∙ sym records) (s.faults ∙ sym faults) (s.halted ∙ sym halted))
-
-  -- where a process has another stack
-  set-stacks : (t : State) (nodes : Nodes) (k : Stack) (q : Process) → AreStanding program t nodes k.operands k.levels q
-      → ((i : ℕ) (j : Stack) (r : Process) → numbered m.processes i ≡ Some j → numbered (run program choices).processes i ≡ Some r → AreStanding program t nodes j.operands j.levels r)
-      → (i : ℕ) (j : Stack) (r : Process) → numbered (with_numbered m.processes p k) i ≡ Some j → numbered (with_numbered (run program choices).processes p q) i ≡ Some r → AreStanding program t nodes j.operands j.levels r
-  set-stacks t nodes k q own others i j r here on-it = by_number (nat_eq p i) refl where
-    by_number : (c : Bool) → nat_eq p i ≡ c → AreStanding program t nodes j.operands j.levels r
-    by_number true d =
-        let number = eqb-true p i d in
-        let stack : k ≡ j = same_Some k j (sym (numbered-set m.processes p (record { levels = l ∷ ls; operands = vs }) k h.kept) ∙ ap (numbered (with_numbered m.processes p k)) number ∙ here) in
-        let process : q ≡ r = same_Some q r (sym (numbered-set old.processes p (top.0 ∷ top.1) q (there program cells choices m p l ls vs top h)) ∙ ap (numbered (with_numbered old.processes p q)) number ∙ on-it) in
-        subst (λ (z : Stack). AreStanding program t nodes z.operands z.levels r) stack (subst (λ z. AreStanding program t nodes k.operands k.levels z) process own)
-    by_number false d =
-        let other = eqb-false p i d in
-        let one = from-one old.processes p (top.0 ∷ top.1) (there program cells choices m p l ls vs top h) in
-        others i j r (sym (other_numbered m.processes p i k one other) ∙ here) (sym (other_numbered old.processes p i q one other) ∙ on-it)
-
-  -- and there is one process more
-  either : (t : State) (nodes : Nodes) (k last : Stack) (q newest : Process) → length (with_numbered m.processes p k) ≡ length (with_numbered (run program choices).processes p q)
-      → AreStanding program t nodes k.operands k.levels q → AreStanding program t nodes last.operands last.levels newest
-      → ((i : ℕ) (j : Stack) (r : Process) → numbered m.processes i ≡ Some j → numbered (run program choices).processes i ≡ Some r → AreStanding program t nodes j.operands j.levels r)
-      → (i : ℕ) (j : Stack) (r : Process) → numbered (with_numbered m.processes p k ++ last ∷ []) i ≡ Some j → numbered (with_numbered (run program choices).processes p q ++ newest ∷ []) i ≡ Some r → AreStanding program t nodes j.operands j.levels r
-  either t nodes k last q newest count own new others i j r here on-it =
-      by_places (numbered-last (with_numbered m.processes p k) last j i here) (numbered-last (with_numbered old.processes p q) newest r i on-it) where
-        by_places : (numbered (with_numbered m.processes p k) i ≡ Some j) ⊎ ((i ≡ suc (length (with_numbered m.processes p k))) × (last ≡ j)) → (numbered (with_numbered old.processes p q) i ≡ Some r) ⊎ ((i ≡ suc (length (with_numbered old.processes p q))) × (newest ≡ r))
-            → AreStanding program t nodes j.operands j.levels r
-        by_places (inl f) (inl g) = set-stacks t nodes k q own others i j r f g
-        by_places (inl f) (inr g) = absurd (omega (arith, numbered-within (with_numbered m.processes p k) i j f, g.0, count))
-        by_places (inr f) (inl g) = absurd (omega (arith, numbered-within (with_numbered old.processes p q) i r g, f.0, count))
-        by_places (inr f) (inr g) = subst (λ (z : Stack). AreStanding program t nodes z.operands z.levels r) f.1 (subst (λ z. AreStanding program t nodes last.operands last.levels z) g.1 new)
+        stepped-after program cells choices p t next new now (also n (is_held old)) keeps (kept-then on_stacks) count standing e.made laid e.size made_so_far (s.records ∙ sym records) (s.faults ∙ sym faults) (s.halted ∙ sym halted)
 
   -- ---- CALL
 
@@ -185,11 +164,12 @@ module _ (program : Units) (cells : ℕ) (choices : List ℕ) (m : Snapshot) (p 
       let k : Stack = record { levels = entered_level program u key ∷ (record l { index = index } ∷ ls); operands = [] } in
       let q : Process = entry program choices p top u b h.lives ∷ (top.0 ∷ top.1) in
       let count : length (with_numbered m.processes p k) ≡ length (with_numbered old.processes p q) = length-set m.processes _ k ∙ (h.after.shows.processes ∙ sym (length-set old.processes _ q)) in
-      let own : AreStanding program t nodes [] k.levels q = (
+      let own : AreOn t q → AreStanding program t nodes [] k.levels q =
+      λ on. (
         new-stands t refl key arena nodes e keeps (entry program choices p top u b h.lives) (entry-number program choices p top u b h.lives) (entry_stands (unit_addressed program u) (entry program choices p top u b h.lives) (executable_from (unit_at program u) 0)),
-        (record { here = maker-here t refl key arena nodes e keeps index top.0.activation refl; index = at }, below-stand t refl key arena nodes e keeps),
+        (record { here = maker-here t refl key arena nodes e keeps index top.0.activation refl on.2.1; index = at }, below-stand t refl key arena nodes e keeps on.2.2),
       ) in
-      shown t refl key arena nodes e keeps (with_numbered m.processes p k) (called-stacks program choices p top u b h.lives) count (λ i j r here on-it on. set-stacks t nodes k q own (others t refl key arena nodes e keeps) i j r here on-it) refl refl refl
+      shown t refl key arena nodes e keeps (with_numbered m.processes p k) (called-stacks program choices p top u b h.lives) count (all-stand t refl key arena nodes e keeps k q own) refl refl refl
 
   -- ---- CREATE
 
@@ -207,17 +187,18 @@ module _ (program : Units) (cells : ℕ) (choices : List ℕ) (m : Snapshot) (p 
       length-append (with_numbered m.processes p k) (k2 ∷ []) ∙ (ap (λ z. z + 1) set ∙ sym (length-append (with_numbered old.processes p q) (q2 ∷ []))) in
       let addressed = unit_addressed program l.unit in
       let unit_is = (standing-before program cells choices m p l ls vs top h).0.here.unit in
-      let own : AreStanding program t nodes [] k.levels q = (
+      let own : AreOn t q → AreStanding program t nodes [] k.levels q =
+      λ on. (
         record {
-          here = maker-here t refl key arena nodes e keeps index (after program choices p top u b h.lives).activation (after-keeps program choices p top u b h.lives).1;
+          here = maker-here t refl key arena nodes e keeps index (after program choices p top u b h.lives).activation (after-keeps program choices p top u b h.lives).1 on.1;
           stands =
               subst (λ v. Stands addressed (level_after_statement (unit_at program v) top.0).statement (level_after_statement (unit_at program v) top.0).work [] index) (sym unit_is) (
               subst (StandsAt addressed (level_after_statement (unit_at program l.unit) top.0)) (sym at) (after_statement_stands addressed top.0));
         },
-        below-stand t refl key arena nodes e keeps,
+        below-stand t refl key arena nodes e keeps on.2,
       ) in
       let newest : AreStanding program t nodes [] k2.levels q2 = (
         new-stands t refl key arena nodes e keeps (entry program choices p top u b h.lives) (entry-number program choices p top u b h.lives) (entry_stands (unit_addressed program u) (entry program choices p top u b h.lives) (executable_from (unit_at program u) 0)),
         tt,
       ) in
-      shown t refl key arena nodes e keeps (with_numbered m.processes p k ++ k2 ∷ []) (created-stacks program choices p top u b h.lives) count (λ i j r here on-it on. either t nodes k k2 q q2 set own newest (others t refl key arena nodes e keeps) i j r here on-it) refl refl refl
+      shown t refl key arena nodes e keeps (with_numbered m.processes p k ++ k2 ∷ []) (created-stacks program choices p top u b h.lives) count (more-stand t refl key arena nodes e keeps k k2 q q2 set own newest) refl refl refl

@@ -1,8 +1,7 @@
 -- What the actual arguments of a CALL give, and the dummy arguments that they bind: one by one, and as the source machine has them.
-use Rattle.std.proofs.Common.{◌≡◌, ◌≢◌, inl, inr, ℕ, suc, ◌<◌, Bool, false, List, [], ◌∷◌, ◌++◌, drop, length, map, Option, Some, None, Result, Ok, Err, refl, sym, ap, subst, arith}
+use Rattle.std.proofs.Common.{◌≡◌, ◌≢◌, ℕ, suc, ◌<◌, Bool, false, List, [], ◌∷◌, ◌++◌, drop, length, map, Option, Some, None, Result, Ok, Err, refl, sym, ap, subst, arith}
 use Rattle.std.specs.Prelude.{slice_get}
 use Rattle.std.specs.List.{flat_map}
-use Rattle.std.proofs.lemmas.Option.{slice_get_cases, slice_get_within}
 use Rattle.hep_source.specs.declared.name.Name.{Name}
 use Rattle.hep_source.specs.declared.statement.Statement.{Statement}
 use Rattle.hep_source.specs.declared.value.Value.{Value}
@@ -45,15 +44,12 @@ use Rattle.hep_entering.specs.Giving.{AreDistinct}
 use Rattle.hep_state.specs.declared.upcoming.CallAhead.{CallAhead}
 use Rattle.hep_state.specs.Calls.{IsAfterCall, IsMaking, state_made}
 use Rattle.hep_state.specs.CallsAhead.{IsAtCall, given_of, operation_of}
+use Rattle.hep_state.specs.Known.{IsKnown}
 use Rattle.hep_state.specs.Snapshots.{Snapshot}
 use Rattle.hep_state.specs.Taking.{IsEnding}
 use Rattle.hep_state.specs.Tops.{frame_under, top_after}
-use Rattle.hep_state.proofs.Callers.{IsKnown, any-running, ahead-on-top, as-many, called-inside, caller-unit, calls, calls-so, from, passed-by, runs}
-
--- ---- lists that are as long
-
-there-too : {A B : Type 0} (xs : List A) (ys : List B) (j : ℕ) (x : A) → length xs ≡ length ys → slice_get xs j ≡ Some x → (y : B) × (slice_get ys j ≡ Some y)
-there-too xs ys j x same e = elim (slice_get_cases ys j).1 [ inl there ↦ (there.0, there.2) | inr past ↦ absurd (omega (arith, slice_get_within xs j x e, past.0, same)) ]
+use Rattle.hep_state.proofs.Settled.{there-too}
+use Rattle.hep_state.proofs.Callers.{ahead-on-top, as-many, called-inside, caller-unit, calls, calls-so, from, passed-by, runs}
 
 -- ---- actual arguments have storage units
 
@@ -154,7 +150,7 @@ module _ (program : Units) (all : IsKnownToBind program) (cells : ℕ) (choices 
       let ahead = calls program all.known cells choices p m call at in
       let f = frame_under m.nodes at.l.key in
       passed-by program all.known cells choices p m call at (λ arrays passed. AreGivenAs program old layout (next_activation old) xs actuals (given_by (cells_in m.arena.contents) f.first arrays passed) bound) (
-      all.passed old layout m.arena.contents at.top.0.activation (next_activation old) f xs actuals ahead.more (calls-so program (any-running program all.known) cells choices p m call.line (operation_of call) at) actuals-placed (sym (as-many program all.known cells choices p m call at)))
+      all.passed old layout m.arena.contents at.top.0.activation (next_activation old) f xs actuals ahead.more (calls-so program all.known.running cells choices p m call.line (operation_of call) at) actuals-placed (sym (as-many program all.known cells choices p m call at)))
 
   -- ---- a fault
 
@@ -166,16 +162,10 @@ module _ (program : Units) (all : IsKnownToBind program) (cells : ℕ) (choices 
   pub fault-ends : (k : Kind) → binding ≡ Err k → IsEnding program cells choices p m (fails call.line k)
   fault-ends k e =
       let ahead = calls program all.known cells choices p m call at in
-      record {
-        l = at.l;
-        ls = at.ls;
-        operands = at.operands;
-        top = at.top;
-        turning = at.turning;
-        simulated =
-            all.faults call.creates (top_after program choices p at.top) layout (frame_under m.nodes at.l.key) m.arena.contents m.arena.holes at.operands at.l.index call.line call.unit call.count call.next at.behind
-            (runs program (any-running program all.known) cells choices p m call.line (operation_of call) at) (ahead-on-top program (any-running program all.known) cells choices p m call.line (operation_of call) at) ahead k e;
-      }
+      let simulated =
+      all.faults call.creates (top_after program choices p at.top) layout (frame_under m.nodes at.l.key) m.arena.contents m.arena.holes at.operands at.l.index call.line call.unit call.count call.next at.behind
+      (runs program all.known.running cells choices p m call.line (operation_of call) at) (ahead-on-top program all.known.running cells choices p m call.line (operation_of call) at) ahead k e in
+      record { l = at.l; ls = at.ls; operands = at.operands; top = at.top; turning = at.turning; simulated = simulated }
 
   -- ---- none
 
@@ -217,5 +207,5 @@ module _ (program : Units) (all : IsKnownToBind program) (cells : ℕ) (choices 
         shaped = shaped;
         passed = all-passed program old layout (scope_of program old at.top.0.activation) (next_activation old) xs actuals gs dummies.0 dummies.1 dummies.2;
         made = subst (λ u. step program p old ≡ Some (state_made call.creates program choices p at.top u b)) (sym ahead.unit) step_so;
-        after = subst (λ u. IsAfterCall program u at.top.0.statement call.next) (caller-unit program (any-running program all.known) cells choices p m call.line (operation_of call) at) ahead.onward;
+        after = subst (λ u. IsAfterCall program u at.top.0.statement call.next) (caller-unit program all.known.running cells choices p m call.line (operation_of call) at) ahead.onward;
       }

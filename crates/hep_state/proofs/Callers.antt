@@ -1,69 +1,30 @@
 -- What a process calls whose top activation is at a CALL, and that this can pass its actual arguments.
-use Rattle.std.proofs.Common.{◌≡◌, ℕ, ◌<◌, ◌≤◌, Bool, List, ◌∷◌, ◌++◌, drop, length, map, Some, sym, ap, ◌∙◌, subst}
-use Rattle.std.specs.Prelude.{slice_get}
+use Rattle.std.proofs.Common.{◌≡◌, ℕ, ◌<◌, List, ◌∷◌, ◌++◌, drop, length, map, sym, ap, ◌∙◌, subst}
 use Rattle.std.specs.List.{flat_map}
 use Rattle.hep_source.specs.declared.name.Name.{Name}
-use Rattle.hep_source.specs.declared.statement.Statement.{Statement}
-use Rattle.hep_source.specs.declared.value.Value.{Value}
 use Rattle.hep_source.specs.Units.{Units, dummies_of, unit_at}
-use Rattle.hep_machine.specs.declared.slot.Slot.{Slot}
-use Rattle.hep_machine.specs.Evaluation.{Actual, does, next_of}
-use Rattle.hep_machine.specs.Layout.{Frame, Layout}
-use Rattle.hep_machine.specs.Processes.{living, unit_of}
+use Rattle.hep_machine.specs.Processes.{unit_of}
 use Rattle.hep_machine.specs.Run.{run}
-use Rattle.hep_machine.specs.State.{Level as SourceLevel, Process, State, Work}
-use Rattle.hep_machine.specs.Step.{Top, unit_called}
-use Rattle.hep_arena.specs.Holes.{Hole}
-use Rattle.hep_code.specs.declared.instruction.Instruction.{Instruction}
+use Rattle.hep_machine.specs.State.{State}
+use Rattle.hep_machine.specs.Step.{Top}
 use Rattle.hep_code.specs.declared.instruction.Operation.{Operation}
 use Rattle.hep_code.specs.declared.instruction.Instruction.TheVariants.{Pass, Step}
 use Rattle.hep_code.specs.declared.variable.Variable.{Variable}
 use Rattle.hep_code.specs.Actions.{argument_of_actual, operands_of_actual}
 use Rattle.hep_code.specs.Passing.{Passed, passed_from}
-use Rattle.hep_finding.specs.Bound.{AreClosed, IsBound}
 use Rattle.hep_image.specs.declared.array.Array.{Array}
 use Rattle.hep_image.specs.Places.{variable_of}
 use Rattle.hep_passing.specs.Agreement.{IsCaller, arrays_at}
-use Rattle.hep_step.specs.Calls.{IsCallAhead, made_by, making}
+use Rattle.hep_step.specs.Calls.{IsCallAhead}
 use Rattle.hep_step.specs.Simulation.{IsRunning, code_on_top, unit_arrays, unit_code}
-use Rattle.hep_works.specs.Works.{ComesFrom, IsCalledBy}
-use Rattle.hep_state.specs.declared.machine.Level.{Level}
+use Rattle.hep_works.specs.Works.{IsCalledBy}
 use Rattle.hep_state.specs.declared.upcoming.CallAhead.{CallAhead}
 use Rattle.hep_state.specs.CallsAhead.{IsAtCall, IsAtStep, operation_of}
+use Rattle.hep_state.specs.Known.{AreRunning, IsKnown}
 use Rattle.hep_state.specs.Snapshots.{Snapshot}
-use Rattle.hep_state.specs.Tops.{IsTurning, frame_under, top_after}
+use Rattle.hep_state.specs.Tops.{frame_under, top_after}
 use Rattle.hep_state.proofs.Levels.{are-on}
 use Rattle.hep_state.proofs.Moved.{standing-before, there, unit-is}
-
--- what is known of an accepted program with a main program
-pub record IsKnown (program : Units) : Type 0 where
-  -- of its units, and of activations in its runs
-  pub closed : AreClosed program
-  pub units : (choices : List ℕ) (a : ℕ) → 1 ≤ a → a ≤ length (run program choices).activations → slice_get program (unit_of (run program choices) a) ≡ Some (unit_at program (unit_of (run program choices) a))
-  pub bound : (choices : List ℕ) (a : ℕ) → 1 ≤ a → a ≤ length (run program choices).activations → IsBound program (run program choices) a
-  -- of what is called
-  pub works : (choices : List ℕ) (p : ℕ) (top : SourceLevel × Process) → living (run program choices) p ≡ Some top → ComesFrom (unit_at program (unit_of (run program choices) top.0.activation)) top.0.statement top.0.work
-  pub called : (creates : Bool) (unit : List Statement) (k : ℕ) (work : Work) (x : Name) (actuals : List Actual) → ComesFrom unit k work → next_of unit work ≡ does (made_by creates x actuals) → IsCalledBy unit k x actuals
-  pub subroutine : (u k : ℕ) (x : Name) (actuals : List Actual) → IsCalledBy (unit_at program u) k x actuals → unit_called program x < length program
-  pub arguments : (u k : ℕ) (x : Name) (actuals : List Actual) → IsCalledBy (unit_at program u) k x actuals → length actuals ≡ length (dummies_of (unit_at program (unit_called program x)))
-  -- of the top activation of a process
-  pub running : (cells : ℕ) (choices : List ℕ) (m : Snapshot) (p : ℕ) (l : Level) (ls : List Level) (operands : List Value) (top : SourceLevel × Process)
-      → (turning : IsTurning program cells choices m p l ls operands top)
-      → IsRunning program (top_after program choices p top) turning.after.layout (frame_under m.nodes l.key) m.arena.contents m.arena.holes operands l.index
-  pub ahead : (creates : Bool) (t : Top) (layout : Layout) (f : Frame) (contents : List Slot) (holes : List Hole) (operands : List Value) (index line u count next : ℕ) (behind : List Instruction)
-      → IsRunning program t layout f contents holes operands index → drop index (code_on_top program t) ≡ Step line (making creates u count next) ∷ behind → IsCallAhead creates program t operands u count next behind
-
--- what of it is known of the top activation of a process at any operation
-pub record AreRunning (program : Units) : Type 0 where
-  pub closed : AreClosed program
-  pub units : (choices : List ℕ) (a : ℕ) → 1 ≤ a → a ≤ length (run program choices).activations → slice_get program (unit_of (run program choices) a) ≡ Some (unit_at program (unit_of (run program choices) a))
-  pub bound : (choices : List ℕ) (a : ℕ) → 1 ≤ a → a ≤ length (run program choices).activations → IsBound program (run program choices) a
-  pub running : (cells : ℕ) (choices : List ℕ) (m : Snapshot) (p : ℕ) (l : Level) (ls : List Level) (operands : List Value) (top : SourceLevel × Process)
-      → (turning : IsTurning program cells choices m p l ls operands top)
-      → IsRunning program (top_after program choices p top) turning.after.layout (frame_under m.nodes l.key) m.arena.contents m.arena.holes operands l.index
-
-pub any-running : (program : Units) → IsKnown program → AreRunning program
-any-running program known = record { closed = known.closed; units = known.units; bound = known.bound; running = known.running }
 
 -- at any operation
 module _ (program : Units) (known : AreRunning program) (cells : ℕ) (choices : List ℕ) (p : ℕ) (m : Snapshot) (line : ℕ) (o : Operation) (at : IsAtStep program cells choices p m line o) where
@@ -106,11 +67,11 @@ module _ (program : Units) (known : IsKnown program) (cells : ℕ) (choices : Li
   top = top_after program choices p at.top
 
   here-unit : unit_of old caller ≡ at.l.unit
-  here-unit = caller-unit program (any-running program known) cells choices p m call.line (operation_of call) at
+  here-unit = caller-unit program known.running cells choices p m call.line (operation_of call) at
 
   -- what is called, and by which statement
   pub calls : IsCallAhead call.creates program top at.operands call.unit call.count call.next at.behind
-  calls = known.ahead call.creates top at.turning.after.layout (frame_under m.nodes at.l.key) m.arena.contents m.arena.holes at.operands at.l.index call.line call.unit call.count call.next at.behind (runs program (any-running program known) cells choices p m call.line (operation_of call) at) (ahead-on-top program (any-running program known) cells choices p m call.line (operation_of call) at)
+  calls = known.ahead call.creates top at.turning.after.layout (frame_under m.nodes at.l.key) m.arena.contents m.arena.holes at.operands at.l.index call.line call.unit call.count call.next at.behind (runs program known.running cells choices p m call.line (operation_of call) at) (ahead-on-top program known.running cells choices p m call.line (operation_of call) at)
 
   pub from : IsCalledBy (unit_at program (unit_of old caller)) at.top.0.statement calls.name calls.actuals
   from = known.called call.creates (unit_at program (unit_of old caller)) at.top.0.statement at.top.0.work calls.name calls.actuals (known.works choices p at.top at.turning.lives) calls.does_so

@@ -1,16 +1,16 @@
 -- Activations end, by RETURN, END or a fault: their frames can go back, and what shows the state then.
 use Rattle.std.proofs.Common.{◌≡◌, ℕ, ◌≤◌, Bool, true, false, List, [], ◌∷◌, ◌++◌, length, Some, refl, sym, ap, ◌∙◌, subst, arith}
 use Rattle.std.specs.Prelude.{◌||◌, if◌then◌else◌, nat_eq}
-use Rattle.std.specs.Option.{unwrap_or}
 use Rattle.std.proofs.lemmas.Bool.{eq-eqb}
 use Rattle.std.proofs.lemmas.List.{length-set}
+use Rattle.std.proofs.lemmas.Option.{same_Some}
 use Rattle.hep_source.specs.declared.value.Value.{Value}
 use Rattle.hep_source.specs.Units.{Units}
 use Rattle.hep_machine.specs.declared.event.Fault.{Fault}
 use Rattle.hep_machine.specs.declared.event.Kind.{Kind}
 use Rattle.hep_machine.specs.Layout.{Layout, activations_on, is_held, layout_of}
 use Rattle.hep_machine.specs.Locations.{dummy_at}
-use Rattle.hep_machine.specs.Processes.{activation_of, is_number_among, with_numbered, with_process}
+use Rattle.hep_machine.specs.Processes.{activation_of, is_number_among, numbered, with_numbered, with_process}
 use Rattle.hep_machine.specs.Run.{run}
 use Rattle.hep_machine.specs.State.{Activation, Level as SourceLevel, Location, Process, State, common, local}
 use Rattle.hep_machine.specs.Step.{fault_of, stack_after_return, step_result_of, stepped}
@@ -24,21 +24,23 @@ use Rattle.hep_frames.proofs.StackChanges.{stacks-emptied, stacks-ended}
 use Rattle.hep_frames.proofs.Stacks.{once, times_on-numbered}
 use Rattle.hep_frames.proofs.Tree.{on-stacked}
 use Rattle.hep_finding.specs.Bound.{AreKept as kept_of}
-use Rattle.hep_proc.specs.Keeping.{AreOfSomeState, CanAllLeave, CanLeave, HasLeft, IsEnded, Keeps, LeadUpwards, all_but, frames_of}
+use Rattle.hep_proc.specs.Keeping.{AreOfSomeState, CanAllLeave, CanLeave, HasLeft, IsEnded, LeadUpwards, all_but, frames_of}
 use Rattle.hep_step.specs.Effects.{fails, returns}
 use Rattle.hep_step.specs.Simulation.{Simulates}
 use Rattle.hep_state.specs.declared.machine.Level.{Level}
-use Rattle.hep_state.specs.Showing.{no_node, node_under}
+use Rattle.hep_state.specs.Showing.{node_under}
 use Rattle.hep_state.specs.Snapshots.{Snapshot, Stack}
 use Rattle.hep_state.specs.Tops.{IsTurning, frame_under, keys_of, snapshot_failed, snapshot_returned, state_failed, state_returned, top_after}
 use Rattle.hep_state.specs.Turns.{HasStepped}
 use Rattle.hep_state.proofs.Kept.{all-fewer, but-fewer, kept-left, still-above}
-use Rattle.hep_state.proofs.Leaving.{all_but-is, caller-numbers, caller-of, no-more, none-of}
+use Rattle.hep_state.proofs.Leaving.{all_but-is, caller-of, no-more, none-of}
 use Rattle.hep_state.proofs.Levels.{AreOn}
 use Rattle.hep_state.proofs.Moved.{standing-before, there, unit-is}
-use Rattle.hep_state.proofs.Runs.{layout-left, step-is, turned}
-use Rattle.hep_state.proofs.Shown.{held-after, remaining-after, shows-after, standing-changed, stepped-after}
+use Rattle.hep_state.proofs.Runs.{layout-left, turned}
+use Rattle.hep_state.proofs.Shown.{held-after, remaining-after, standing-changed, stepped-after}
 use Rattle.hep_state.proofs.Standing.{AreStanding, AreStandingBelow, IsHere, caller-stands, made-same, standing-still}
+use Rattle.hep_machine.proofs.Changes.{on-stack_after_return}
+use Rattle.hep_machine.proofs.Others.{step-is}
 
 -- what dummy arguments of a run stand for leads upwards, in a state with the same activations too
 owned-same : (s t : State) (a : ℕ) (at : Location) → t.activations ≡ s.activations → IsOwnedAbove s a at → IsOwnedAbove t a at
@@ -69,8 +71,7 @@ module _ (program : Units) (s : State) (nodes : Nodes) where
   all-here : (ls : List Level) (levels : Process) → AreStandingBelow program s nodes ls levels → AreHere ls levels
   all-here [] [] h = tt
   all-here (l ∷ ls) (level ∷ levels) h = (h.0.here, all-here ls levels h.1)
-  all-here [] (level ∷ levels) h = absurd h
-  all-here (l ∷ ls) [] h = absurd h
+  all-here _ _ h = absurd h
 
   leaving : (on : ℕ → Bool) (ls : List Level) (levels : Process) → AreHere ls levels → ((a : ℕ) → is_number_among a (activations_on levels) ≡ true → on a ≡ true) → ((a : ℕ) → times a (activations_on levels) ≤ 1)
       → CanLeave nodes on (keys_of ls) (activations_on levels)
@@ -93,8 +94,7 @@ module _ (program : Units) (s : State) (nodes : Nodes) where
             let all = few a in
             absurd (omega (arith, one, some, all))
         by_number false n = stacked a (ap (λ b. b || is_number_among a (activations_on levels)) n ∙ among)
-  leaving on [] (level ∷ levels) here stacked few = absurd here
-  leaving on (l ∷ ls) [] here stacked few = absurd here
+  leaving on _ _ here stacked few = absurd here
 
 module _ (program : Units) (cells : ℕ) (choices : List ℕ) (m : Snapshot) (p : ℕ) (l : Level) (ls : List Level) (vs : List Value) (top : SourceLevel × Process) (h : IsTurning program cells choices m p l ls vs top) where
   abbrev old : State
@@ -108,6 +108,11 @@ module _ (program : Units) (cells : ℕ) (choices : List ℕ) (m : Snapshot) (p 
 
   pub top-node : m.nodes l.key ≡ Some (node_under m.nodes l.key)
   top-node = (h.after.shows.stacks p (record { levels = l ∷ ls; operands = vs }) (top.0 ∷ top.1) h.kept (there program cells choices m p l ls vs top h)).there.0.1
+
+  pub top-activation : (node_under m.nodes l.key).activation ≡ top.0.activation
+  top-activation =
+      let here = (standing-before program cells choices m p l ls vs top h).0.here in
+      ap (λ (n : Node). n.activation) (same_Some (node_under m.nodes l.key) here.node (sym top-node ∙ here.there)) ∙ sym here.activation
 
   -- ---- where they have ended
 
@@ -129,42 +134,31 @@ module _ (program : Units) (cells : ℕ) (choices : List ℕ) (m : Snapshot) (p 
           let above = still-above program (choices ++ p ∷ []) t left.still next (held-after program cells choices p t next (frames_of left.still layout) left.still arena nodes left.keeps) in
           kept-left program old t layout same left.still above a (left.keeps.tree.stacked a on) (h.after.shows.kept a (fewer a on))
 
-      pub ended-shown : (new : Snapshot) (k : Stack) → new.arena ≡ arena → new.nodes ≡ nodes → new.processes ≡ with_numbered m.processes p k → length arena.contents ≡ length m.arena.contents
-          → ((a : ℕ) → is_stacked t a ≡ true → is_stacked old a ≡ true) → (AreOn t q → AreStanding program t nodes k.operands k.levels q) → new.activations ≡ m.activations → new.records ≡ t.records → new.faults ≡ t.faults → new.halted ≡ t.halted → HasStepped program cells choices p new
-      ended-shown new k arena_is nodes_are changed size fewer standing activations records faults halted =
+      pub ended-shown : (k : Stack) (faults : List Fault) → length arena.contents ≡ length m.arena.contents → ((a : ℕ) → is_stacked t a ≡ true → is_stacked old a ≡ true) → (AreOn t q → AreStanding program t nodes k.operands k.levels q)
+          → t.records ≡ old.records → faults ≡ t.faults → t.halted ≡ old.halted → HasStepped program cells choices p (record m { arena = arena; nodes = nodes; processes = with_numbered m.processes p k; faults = faults })
+      ended-shown k faults size fewer standing records told halted =
+          let new : Snapshot = record m { arena = arena; nodes = nodes; processes = with_numbered m.processes p k; faults = faults } in
           let s = h.after.shows in
           let before : Stack = record { levels = l ∷ ls; operands = vs } in
-          let there_is = there program cells choices m p l ls vs top h in
-          let remains = frames_of left.still layout in
-          let count : length new.processes ≡ length t.processes = ap length changed ∙ (length-set m.processes _ k ∙ s.processes ∙ sym (ap length set ∙ length-set old.processes _ q)) in
-          let keeps : Keeps program t (is_stacked t) left.still remains (wanted_of program t remains) new.arena new.nodes =
-          subst (λ z. Keeps program t (is_stacked t) left.still remains (wanted_of program t remains) new.arena z) (sym nodes_are) (
-          subst (λ z. Keeps program t (is_stacked t) left.still remains (wanted_of program t remains) z nodes) (sym arena_is) left.keeps) in
-          stepped-after program cells choices p t next new remains (step-is program p old t h.running made) laid (ap (λ (a : Space). length a.contents) arena_is ∙ (size ∙ h.after.size)) (
-          shows-after program cells choices p t next new remains left.still keeps (kept fewer) count
-          (standing-changed program old t layout m new s p before k (top.0 ∷ top.1) q h.kept there_is changed set (made-same old t same)
-          (λ key n e on. let kept = stay key n e on in (kept.0, ap (λ (z : Nodes). z key) nodes_are ∙ kept.1, kept.2))
-          (λ on. subst (λ z. AreStanding program t z k.operands k.levels q) (sym nodes_are) (standing on)))
-          (activations ∙ (s.activations ∙ sym (ap length same))) records faults halted)
+          let count : length new.processes ≡ length t.processes = length-set m.processes _ k ∙ s.processes ∙ sym (ap length set ∙ length-set old.processes _ q) in
+          stepped-after program cells choices p t next new (frames_of left.still layout) left.still left.keeps (kept fewer) count
+          (λ i j r here on-it.
+          standing-changed program old t layout m nodes s p before k (top.0 ∷ top.1) q h.kept (there program cells choices m p l ls vs top h) (made-same old t same) stay standing i j r here (sym (ap (λ qs. numbered qs i) set) ∙ on-it))
+          (step-is program p old t h.running made) laid (size ∙ h.after.size) (s.activations ∙ sym (ap length same)) (s.records ∙ sym records) told (s.halted ∙ sym halted)
 
   -- ---- RETURN, and END of a unit
 
   pub returned-ended : IsEnded program layout (but (node_under m.nodes l.key).activation (is_stacked old)) old (state_returned program choices p top)
   returned-ended =
       let q = stack_after_return program old top.1 in
-      let s0 = standing-before program cells choices m p l ls vs top h in
-      let node : top.0.activation ≡ (node_under m.nodes l.key).activation = s0.0.here.activation ∙ ap (λ (n : Node). n.activation) (node-one s0.0.here.there) in
       record {
         activations_are = refl;
         store_is = refl;
         stacks_are = λ a.
-            stacks-ended old (with_process old p q) p top q h.lives refl a (once program choices a).0 (caller-numbers program old top.1)
-            ∙ ap (λ b. but b (is_stacked old) a) node;
+            stacks-ended old (with_process old p q) p top q h.lives refl a (once program choices a).0 (on-stack_after_return program old top.1)
+            ∙ ap (λ b. but b (is_stacked old) a) (sym top-activation);
         no_more = no-more program choices (with_process old p q) layout p (top.0 ∷ top.1) q (there program cells choices m p l ls vs top h) refl refl (caller-of program old top.0 top.1);
       }
-    where
-      node-one : {n : Node} → m.nodes l.key ≡ Some n → n ≡ node_under m.nodes l.key
-      node-one {n} e = sym (ap (λ o. unwrap_or o no_node) e)
 
   pub returned-shown : (arena : Space) (nodes : Nodes) → HasLeft program (state_returned program choices p top) (is_stacked (state_returned program choices p top)) (is_held old) layout m.arena arena m.nodes nodes → length arena.contents ≡ length m.arena.contents
       → Simulates program (top_after program choices p top) layout (frame_under m.nodes l.key) m.arena.holes m.arena.contents returns → HasStepped program cells choices p (snapshot_returned m p ls arena nodes)
@@ -173,8 +167,8 @@ module _ (program : Units) (cells : ℕ) (choices : List ℕ) (m : Snapshot) (p 
       let t = with_process old p q in
       let s = h.after.shows in
       let below : AreStanding program old m.nodes [] ls q = caller-stands program old m.nodes ls top.1 (standing-before program cells choices m p l ls vs top h).1 in
-      ended-shown t q refl refl made arena nodes left (snapshot_returned m p ls arena nodes) (record { levels = ls; operands = [] }) refl refl refl size
-      (λ a on. but-fewer (node_under m.nodes l.key).activation a (is_stacked old) (sym ((returned-ended).stacks_are a) ∙ on)) (λ on. standing-still program old t m.nodes nodes (made-same old t refl) (stay t q refl refl made arena nodes left) [] ls q below on) refl s.records s.faults s.halted
+      ended-shown t q refl refl made arena nodes left (record { levels = ls; operands = [] }) m.faults size
+      (λ a on. but-fewer (node_under m.nodes l.key).activation a (is_stacked old) (sym ((returned-ended).stacks_are a) ∙ on)) (λ on. standing-still program old t m.nodes nodes (made-same old t refl) (stay t q refl refl made arena nodes left) [] ls q below on) refl s.faults refl
 
   -- ---- a fault
 
@@ -199,8 +193,8 @@ module _ (program : Units) (cells : ℕ) (choices : List ℕ) (m : Snapshot) (p 
       let fault : Fault = record { process = p; unit = l.unit; line = line; kind = k } in
       let unit = unit-is program cells choices m p l ls vs top h in
       let same : fault_of program (top_after program choices p top) k ≡ fault = λ i. record { process = p; unit = unit i; line = made.1 i; kind = k } in
-      ended-shown t [] refl refl made.0 arena nodes left (snapshot_failed m p fault arena nodes) (record { levels = []; operands = [] }) refl refl refl size
-      (λ a on. all-fewer (activations_on (top.0 ∷ top.1)) a (is_stacked old) (sym ((failed-ended k).stacks_are a) ∙ on)) (λ on. tt) refl s.records (λ i. s.faults i ++ sym same i ∷ []) s.halted
+      ended-shown t [] refl refl made.0 arena nodes left (record { levels = []; operands = [] }) (m.faults ++ fault ∷ []) size
+      (λ a on. all-fewer (activations_on (top.0 ∷ top.1)) a (is_stacked old) (sym ((failed-ended k).stacks_are a) ∙ on)) (λ on. tt) refl (λ i. s.faults i ++ sym same i ∷ []) refl
 
   -- ---- the levels of a process can leave one after the other
 

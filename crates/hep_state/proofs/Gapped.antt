@@ -1,16 +1,14 @@
 -- Whether the frame of an activation that is to begin has a gap.
-use Rattle.std.proofs.Common.{◌≡◌, ℕ, suc, Bool, true, List, [], ◌∷◌, ◌++◌, length, Option, Some, None, refl, sym, ap, ◌∙◌, arith}
-use Rattle.std.specs.Prelude.{is_some, nat_lt, IsSome}
-use Rattle.std.specs.Option.{option_map, unwrap_or}
-use Rattle.std.proofs.lemmas.Bool.Decides.{nat_tests}
+use Rattle.std.proofs.Common.{◌≡◌, ℕ, Bool, true, List, [], ◌∷◌, ◌++◌, length, Option, Some, None, refl, sym, ap, ◌∙◌, arith}
+use Rattle.std.specs.Prelude.{is_some, IsSome}
+use Rattle.std.specs.Option.{option_map}
 use Rattle.std.proofs.lemmas.Option.{none-some}
 use Rattle.hep_source.specs.Units.{Units, unit_at}
 use Rattle.hep_machine.specs.declared.event.Kind.{Kind}
-use Rattle.hep_machine.specs.Layout.{Layout, common_cells, frame_of, is_held, layout_after_step, layout_of, lowest_gap, remaining_layout, with_frame}
+use Rattle.hep_machine.specs.Layout.{Layout, common_cells, frame_of, is_held, layout_of, lowest_gap, remaining_layout, with_frame}
 use Rattle.hep_machine.specs.Run.{run}
 use Rattle.hep_machine.specs.Shapes.{Bounds}
 use Rattle.hep_machine.specs.State.{State}
-use Rattle.hep_machine.specs.Step.{step}
 use Rattle.hep_machine.specs.Variables.{frame_cells}
 use Rattle.hep_arena.specs.Holes.{first_fit}
 use Rattle.hep_frames.specs.Addresses.{frame_from}
@@ -23,19 +21,8 @@ use Rattle.hep_state.specs.Taking.{IsEnding}
 use Rattle.hep_state.specs.Tops.{state_failed}
 use Rattle.hep_state.specs.Turns.{HasGaps, HasNoGap}
 use Rattle.hep_state.proofs.Made.{dummies-fit, made-number, made-unit}
-use Rattle.hep_state.proofs.Runs.{layout-last, layout-left, step-is}
-
--- ---- the layout after a step that makes an activation
-
--- where this is its lowest gap
-layout-more : (program : Units) (cells : ℕ) (choices : List ℕ) (p : ℕ) (layout : Layout) (t : State) (gap : Option ℕ) → layout_of program cells is_held choices ≡ Some layout → step program p (run program choices) ≡ Some t
-    → length t.activations ≡ suc (length (run program choices).activations) → lowest_gap cells (frame_of program t (length t.activations)) (common_cells program) layout ≡ gap
-    → layout_of program cells is_held (choices ++ p ∷ []) ≡ option_map (remaining_layout is_held t) (option_map (λ first. with_frame layout (frame_from program t (length t.activations) first)) gap)
-layout-more program cells choices p layout t gap e made long is =
-    let s = run program choices in
-    let one : nat_lt (length s.activations) (length t.activations) ≡ true = grind (arith, nat_tests) in
-    layout-last program cells choices p layout e
-    ∙ (ap (λ o. layout_after_step program cells is_held s (unwrap_or o s) layout) made ∙ rw one (ap (λ o. option_map (remaining_layout is_held t) (option_map (λ first. with_frame layout (frame_from program t (length t.activations) first)) o)) is))
+use Rattle.hep_state.proofs.Runs.{layout-left, layout-more}
+use Rattle.hep_machine.proofs.Others.{step-is}
 
 -- ---- CALL and CREATE
 

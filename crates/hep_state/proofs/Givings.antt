@@ -10,23 +10,19 @@ use Rattle.hep_source.specs.declared.value.Value.{Value}
 use Rattle.hep_source.specs.Units.{Units, main_unit, unit_at}
 use Rattle.hep_machine.specs.declared.slot.Slot.{Slot}
 use Rattle.hep_machine.specs.Layout.{common_cells, opening_layout}
-use Rattle.hep_machine.specs.Opening.{cell_given, opening}
-use Rattle.hep_machine.specs.Run.{run}
+use Rattle.hep_machine.specs.Opening.{cell_given}
 use Rattle.hep_machine.specs.Variables.{frame_cells}
 use Rattle.hep_arena.specs.Holes.{IsOut, first_fit}
 use Rattle.hep_arena.specs.Space.{Space}
 use Rattle.hep_arena.proofs.Gaps.{fit-gaps}
-use Rattle.hep_frames.specs.Addresses.{address}
 use Rattle.hep_frames.specs.Tree.{Node, Nodes, first_nodes}
 use Rattle.hep_frames.proofs.Addresses.{address-out}
-use Rattle.hep_frames.proofs.HeldFrames.{opening-is}
-use Rattle.hep_frames.proofs.Memory.{address-same}
 use Rattle.hep_image.specs.declared.data.DataRow.{DataRow}
 use Rattle.hep_image.specs.Data.{AreOfUnits, first_frames, value_in_rows}
 use Rattle.hep_proc.specs.Keeping.{IsUnused}
 use Rattle.hep_state.specs.Givings.{AreOut}
 use Rattle.hep_state.specs.Openings.{IsEntered, IsGiven, unset_opening}
-use Rattle.hep_state.proofs.Opened.{frames-first}
+use Rattle.hep_state.proofs.Opened.{opening-address}
 
 -- ---- a row
 
@@ -148,14 +144,10 @@ row-out rows row i arena inside is out p v e =
 -- those of the opening are in COMMON and in the main program's frame
 pub entered-out : (program : Units) (cells key : ℕ) (arena : Space) (nodes : Nodes) (rows : List DataRow) → IsEntered program cells key arena nodes → AreOfUnits program rows → AreOut rows arena
 entered-out program cells key arena nodes rows h units p v e =
-    let s = unset_opening program in
-    let t = run program [] in
     let unit = units p v e in
-    let layout_is : h.layout ≡ first_frames program = frames-first program cells h.layout h.laid in
-    let same : address program s h.layout unit.0 ≡ address program (opening program) (first_frames program) unit.0 =
-    address-same program t s h.layout unit.0 refl ∙ (λ i. address program (opening-is program i) (layout_is i) unit.0) in
     let memory = h.keeps.memory in
-    let out = address-out program s (length arena.contents) h.layout unit.0 p memory.laid (same ∙ unit.1) in
+    let same = opening-address program cells h.layout h.laid unit.0 in
+    let out = address-out program (unset_opening program) (length arena.contents) h.layout unit.0 p memory.laid (same ∙ unit.1) in
     (out.0, subst (IsOut p) (sym memory.holes_are) out.1)
 
 -- ---- the main program's frame enters

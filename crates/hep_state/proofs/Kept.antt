@@ -17,7 +17,7 @@ use Rattle.hep_frames.specs.Tree.{but}
 use Rattle.hep_frames.proofs.Addresses.{address-alike}
 use Rattle.hep_frames.proofs.Memory.{activation-kept, address-same, same-activation}
 use Rattle.hep_frames.proofs.References.{references-held}
-use Rattle.hep_frames.proofs.Runs.{runs-entered}
+use Rattle.hep_frames.proofs.Runs.{runs-entered, owned-further}
 use Rattle.hep_finding.specs.Bound.{AreKept}
 use Rattle.hep_proc.specs.Keeping.{all_but, frames_of}
 use Rattle.hep_state.proofs.Leaving.{all_but-is}
@@ -58,10 +58,6 @@ frame-left still a (g ∷ gs) on = by_tests (frame-left still a gs on) (still g.
   by_tests rest false true stays own = let both : true ≡ false = sym on ∙ (ap still (sym (eqb-true g.activation a own)) ∙ stays) in absurd cc
   by_tests rest false false stays own = rest
 
-owner-further : (a : ℕ) (at : Location) (i : ℕ) → is_owned a (further at i) ≡ is_owned a at
-owner-further a (local b x n) i = refl
-owner-further a (common b n) i = refl
-
 module _ (program : Units) (s t : State) (layout : Layout) (same : t.activations ≡ s.activations) where
   -- where the frames are the same
   pub kept-same : (a : ℕ) → AreKept program s layout a → AreKept program t layout a
@@ -80,7 +76,7 @@ module _ (program : Units) (s t : State) (layout : Layout) (same : t.activations
           runs.0,
           λ i less.
               address-alike program s t layout (frames_of still layout) (further start i) (λ o owned.
-              let owner = ap (λ (z : Activation). is_owned o (dummy_at z.dummies k).start) one ∙ (sym (owner-further o start i) ∙ owned) in
+              let owner = ap (λ (z : Activation). is_owned o (dummy_at z.dummies k).start) one ∙ (sym (owned-further o start i) ∙ owned) in
               (same-activation s t o same, frame-left still o layout (above a k o on owner)))
               ∙ runs.1 i less,
         ))

@@ -1,10 +1,7 @@
 -- What is on stacks, and what is wanted of frames, once activations of a process have ended.
-use Rattle.std.proofs.Common.{◌≡◌, ◌⊎◌, inl, inr, ℕ, zero, suc, ◌-◌, ◌≤◌, Bool, true, false, List, [], ◌∷◌, ◌++◌, Option, Some, None, refl, sym, ap, ◌∙◌, subst, arith}
-use Rattle.std.specs.Prelude.{◌||◌, if◌then◌else◌, nat_eq, slice_set}
-use Rattle.std.specs.List.{find}
-use Rattle.std.proofs.lemmas.Bool.{eqb-true}
-use Rattle.std.proofs.lemmas.Option.{same_Some, none-some}
-use Rattle.hep_source.specs.declared.name.Name.{Name}
+use Rattle.std.proofs.Common.{◌≡◌, inl, inr, ℕ, ◌-◌, ◌≤◌, Bool, true, false, List, [], ◌∷◌, Option, Some, None, refl, sym, ap, ◌∙◌, subst, arith}
+use Rattle.std.specs.Prelude.{◌||◌, if◌then◌else◌, nat_eq}
+use Rattle.std.proofs.lemmas.Option.{none-some}
 use Rattle.hep_source.specs.Units.{Units}
 use Rattle.hep_machine.specs.declared.slot.Slot.{Slot}
 use Rattle.hep_machine.specs.Layout.{Layout, activations_on}
@@ -21,34 +18,7 @@ use Rattle.hep_frames.proofs.Descriptors.{wanted-same}
 use Rattle.hep_frames.proofs.Stacks.{once}
 use Rattle.hep_step.specs.Simulation.{unit_addressed}
 use Rattle.hep_proc.specs.Keeping.{all_but}
-use Rattle.hep_state.proofs.Levels.{IsAmong, all_levels, among-all, among-behind, among-front, found, is_of, times-all}
-
--- ---- a level that is found
-
-find-among : (a : ℕ) (ls : List Level) (level : Level) → find (is_of a) ls ≡ Some level → IsAmong level ls × (level.activation ≡ a)
-find-among a [] level e = absurd (none-some level e)
-find-among a (l ∷ ls) level e = by_test (find-among a ls level) (nat_eq l.activation a) refl e where
-  by_test : (find (is_of a) ls ≡ Some level → IsAmong level ls × (level.activation ≡ a)) → (b : Bool) → nat_eq l.activation a ≡ b → (if b then Some l else find (is_of a) ls) ≡ Some level → IsAmong level (l ∷ ls) × (level.activation ≡ a)
-  by_test rest true n e = let same = same_Some l level e in (inl same, sym (ap (λ (z : Level). z.activation) same) ∙ eqb-true l.activation a n)
-  by_test rest false n e = let more = rest e in (inr more.0, more.1)
-
-among-parts : (level : Level) (xs ys : List Level) → IsAmong level (xs ++ ys) → IsAmong level xs ⊎ IsAmong level ys
-among-parts level [] ys h = inr h
-among-parts level (x ∷ xs) ys (inl same) = inl (inl same)
-among-parts level (x ∷ xs) ys (inr more) = elim (among-parts level xs ys more) [ inl front ↦ inl (inr front) | inr behind ↦ inr behind ]
-
--- where a process has another stack, each level is of that or was there
-among-set : (level : Level) (qs : List Process) (i : ℕ) (q : Process) → IsAmong level (all_levels (slice_set qs i q)) → IsAmong level q ⊎ IsAmong level (all_levels qs)
-among-set level [] i q h = inr h
-among-set level (r ∷ rs) zero q h = elim (among-parts level q (all_levels rs) h) [ inl own ↦ inl own | inr other ↦ inr (among-behind level r (all_levels rs) other) ]
-among-set level (r ∷ rs) (suc i) q h = elim (among-parts level r (all_levels (slice_set rs i q)) h) [
-  | inl front ↦ inr (among-front level r (all_levels rs) front)
-  | inr rest ↦ elim (among-set level rs i q rest) [ inl own ↦ inl own | inr other ↦ inr (among-behind level r (all_levels rs) other) ]
-]
-
-among-numbered : (level : Level) (qs : List Process) (p : ℕ) (q : Process) → numbered qs p ≡ Some q → IsAmong level q → IsAmong level (all_levels qs)
-among-numbered level qs zero q e h = absurd (none-some q e)
-among-numbered level qs (suc i) q e h = among-all level qs i q e h
+use Rattle.hep_entering.proofs.Found.{IsAmong, all_levels, among-numbered, among-set, find-among, found, times-all}
 
 -- ---- stacks that leave
 
@@ -72,15 +42,8 @@ caller-of program s level (l ∷ ls) x (inl same) =
     (l, inr (inl refl), (sym keeps.1 ∙ ap (λ (z : Level). z.activation) same, sym keeps.0 ∙ ap (λ (z : Level). z.loops) same))
 caller-of program s level (l ∷ ls) x (inr more) = (x, inr (inr more), (refl, refl))
 
-pub caller-numbers : (program : Units) (s : State) (levels : Process) → activations_on (stack_after_return program s levels) ≡ activations_on levels
-caller-numbers program s [] = refl
-caller-numbers program s (l ∷ ls) = ap (λ b. b ∷ activations_on ls) (after_statement_keeps (unit_addressed program (unit_of s l.activation)) l).1
-
-no-argument : (x : Name) (d i j : ℕ) → ◌≡◌ {A = FramePart × ℕ} (argument x, i) (iteration d, j) → ⊥
-no-argument x d i j e = let part : ◌≡◌ {A = FramePart} (argument x) (iteration d) = ap (λ (c : FramePart × ℕ). c.0) e in absurd cc
-
-no-bounds : (x : Name) (d i j : ℕ) → ◌≡◌ {A = FramePart × ℕ} (bounds x, i) (iteration d, j) → ⊥
-no-bounds x d i j e = let part : ◌≡◌ {A = FramePart} (bounds x) (iteration d) = ap (λ (c : FramePart × ℕ). c.0) e in absurd cc
+no-iteration : (part : FramePart) (d i j : ℕ) → (part ≡ iteration d → ⊥) → ◌≡◌ {A = FramePart × ℕ} (part, i) (iteration d, j) → ⊥
+no-iteration part d i j other e = other (ap (λ (c : FramePart × ℕ). c.0) e)
 
 -- no more is wanted of their cells
 module _ (program : Units) (choices : List ℕ) (t : State) (layout : Layout) (p : ℕ) (before q : Process) (there : numbered (run program choices).processes p ≡ Some before) (set : t.processes ≡ with_numbered (run program choices).processes p q)
@@ -102,8 +65,8 @@ module _ (program : Units) (choices : List ℕ) (t : State) (layout : Layout) (p
   pub no-more : (a : ℕ) (c : FramePart × ℕ) (v : Slot) → wanted_of program t layout a c ≡ Some v → wanted_of program s layout a c ≡ Some v
   no-more a (header, i) v w = absurd (none-some v w)
   no-more a (variable x, i) v w = absurd (none-some v w)
-  no-more a (argument x, i) v w = sym (wanted-same program s t layout a (argument x, i) same (λ d j e. absurd (no-argument x d i j e))) ∙ w
-  no-more a (bounds x, i) v w = sym (wanted-same program s t layout a (bounds x, i) same (λ d j e. absurd (no-bounds x d i j e))) ∙ w
+  no-more a (argument x, i) v w = sym (wanted-same program s t layout a (argument x, i) same (λ d j e. absurd (no-iteration (argument x) d i j (λ same. cc) e))) ∙ w
+  no-more a (bounds x, i) v w = sym (wanted-same program s t layout a (bounds x, i) same (λ d j e. absurd (no-iteration (bounds x) d i j (λ same. cc) e))) ∙ w
   no-more a (iteration d, i) v w = by_level (level_of t a) refl w where
     by_level : (o : Option Level) → level_of t a ≡ o → slot_on_level o d i ≡ Some v → slot_on_level (level_of s a) d i ≡ Some v
     by_level None e w = absurd (none-some v w)

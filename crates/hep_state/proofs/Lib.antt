@@ -17,7 +17,6 @@ pub mod Taken
 pub mod Givings
 pub mod MachineOpened
 pub mod Made
-pub mod Entered
 pub mod Gapped
 pub mod Callers
 pub mod Bindings

@@ -14,6 +14,7 @@ use Rattle.hep_state.specs.Openings.{snapshot_opened}
 use Rattle.hep_state.specs.Rooms.{HasRoom, HasRoomToPass, IsMachineAfter}
 use Rattle.hep_state.specs.Snapshots.{snapshot_of, stack_of}
 use Rattle.hep_state.specs.Turns.{IsAfter}
+use Rattle.hep_state.proofs.Processes.{room-alone}
 
 the-only : {A : Type 0} (x y : A) (i : ℕ) → slice_get (x ∷ []) i ≡ Some y → x ≡ y
 the-only x y zero e = same_Some x y e
@@ -51,13 +52,8 @@ module _ (program : Units) (cells key entry : ℕ) (m : Machine) (q : Process) (
       }
 
   module _ (enough : deepest (unit_code program main) ≤ vec_capacity q.operands) where
-    has-room : HasRoom program q
-    has-room i l e =
-        let one : level ≡ l = the-only level l i (ap (λ (ls : List Level). slice_get ls i) (sym begun.levels) ∙ e) in
-        subst (λ (x : Level). deepest (unit_code program x.unit) ≤ vec_capacity q.operands) one enough
-
     all-room : (i : ℕ) (r : Process) → slice_get m.processes.items i ≡ Some r → HasRoom program r
-    all-room i r e = subst (HasRoom program) (the-only q r i (ap (λ (qs : List Process). slice_get qs i) (sym begun.alone) ∙ e)) has-room
+    all-room i r e = subst (HasRoom program) (the-only q r i (ap (λ (qs : List Process). slice_get qs i) (sym begun.alone) ∙ e)) (room-alone program q level begun.levels enough)
 
     pub machine-opened : cells ≤ most_cells → HasRoomToPass program m.passing → IsAfter program cells [] (snapshot_opened program key entry m.frames.arena (nodes_of m.frames.nodes)) → IsMachineAfter program cells [] m
     machine-opened few to_pass after = record { after = subst (IsAfter program cells []) (sym snapshot-is) after; few = few; to_pass = to_pass; room = all-room }

@@ -60,13 +60,11 @@ frames-first program cells layout e = by_fit (nat_le (common_cells program + fra
   by_fit true h = sym (same_Some (frame_at program (common_cells program) ∷ []) layout h)
   by_fit false h = absurd (none-some layout h)
 
-opened-unit : (program : Units) → unit_of (run program []) 1 ≡ main_unit program
-unfolding run run_from opening
-opened-unit program = refl
-
-opened-activations : (program : Units) → length (run program []).activations ≡ 1
-unfolding run run_from opening
-opened-activations program = refl
+-- addresses at the opening
+pub opening-address : (program : Units) (cells : ℕ) (layout : Layout) → opening_layout program cells ≡ Some layout → (at : Location) → address program (unset_opening program) layout at ≡ address program (opening program) (first_frames program) at
+opening-address program cells layout laid at =
+    let same = frames-first program cells layout laid in
+    address-same program (run program []) (unset_opening program) layout at refl ∙ (λ i. address program (opening-is program i) (same i) at)
 
 opened-dummies : (program : Units) (a : ℕ) → (activation_of (run program []) a).dummies ≡ []
 unfolding run run_from opening
@@ -74,13 +72,18 @@ opened-dummies program zero = refl
 opened-dummies program (suc zero) = refl
 opened-dummies program (suc (suc i)) = refl
 
-opened-processes : (program : Units) → (run program []).processes ≡ (entry_level (unit_at program (main_unit program)) 1 ∷ []) ∷ []
-unfolding run run_from opening
-opened-processes program = refl
+-- the opening's parts
+record IsOpened (program : Units) (s : State) : Type 0 where
+  pub unit : unit_of s 1 ≡ main_unit program
+  pub activations : length s.activations ≡ 1
+  pub processes : s.processes ≡ (entry_level (unit_at program (main_unit program)) 1 ∷ []) ∷ []
+  pub records : s.records ≡ []
+  pub faults : s.faults ≡ []
+  pub running : s.halted ≡ false
 
-opened-rest : (program : Units) → ((run program []).records ≡ []) × ((run program []).faults ≡ []) × ((run program []).halted ≡ false)
+opened : (program : Units) → IsOpened program (run program [])
 unfolding run run_from opening
-opened-rest program = (refl, refl, refl)
+opened program = record { unit = refl; activations = refl; processes = refl; records = refl; faults = refl; running = refl }
 
 -- ---- with what DATA gives
 
@@ -91,18 +94,11 @@ module _ (program : Units) (cells key entry : ℕ) (rows : List DataRow) (before
   abbrev t : State
   t = run program []
 
-  layout-is : h.layout ≡ first_frames program
-  layout-is = frames-first program cells h.layout h.laid
-
-  -- addresses at the opening
-  opening-address : (at : Location) → address program s h.layout at ≡ address program (opening program) (first_frames program) at
-  opening-address at = address-same program t s h.layout at refl ∙ (λ i. address program (opening-is program i) (layout-is i) at)
-
   holds : Holds program t h.layout after.contents
   holds at p here =
       let there : address program s h.layout at ≡ Some p = address-same program t s h.layout at refl ∙ here in
       let first = h.keeps.memory.holds at p there in
-      let value = initial at p (sym (opening-address at) ∙ there) in
+      let value = initial at p (sym (opening-address program cells h.layout h.laid at) ∙ there) in
       given.given p ∙ (ap (option_map (cell_given (value_in_rows rows p))) first ∙ ap (λ (c : Slot). Some c) (sym value ∙ ap (λ (z : State). z.store at) (sym (opening-is program))))
 
   memory : IsMemory program t h.layout after.contents after.holes
@@ -121,7 +117,7 @@ module _ (program : Units) (cells key entry : ℕ) (rows : List DataRow) (before
     by_value None e there = there ∙ ap (λ o. Some (cell_given o slot)) e
     by_value (Some v) e there =
         let unit = units p v e in
-        absurd (descriptor-apart program s (length before.contents) h.layout unit.0 a p c h.keeps.memory.laid (opening-address unit.0 ∙ unit.1) here is)
+        absurd (descriptor-apart program s (length before.contents) h.layout unit.0 a p c h.keeps.memory.laid (opening-address program cells h.layout h.laid unit.0 ∙ unit.1) here is)
 
   keeps-opened : Keeps program t (is_stacked t) (λ a. nat_eq a 1) h.layout (wanted_of program t h.layout) after nodes
   keeps-opened =
@@ -145,7 +141,7 @@ module _ (program : Units) (cells key entry : ℕ) (rows : List DataRow) (before
     standing : AreStanding program t nodes [] (record { key = key; unit = main_unit program; index = entry } ∷ []) (entry_level (unit_at program (main_unit program)) 1 ∷ [])
     standing =
         let addressed = unit_addressed program (main_unit program) in
-        let one = opened-activations program in (
+        let one = (opened program).activations in (
           record {
             here = record {
               inside = inside;
@@ -153,7 +149,7 @@ module _ (program : Units) (cells key entry : ℕ) (rows : List DataRow) (before
               there = h.there;
               activation = sym h.first;
               made = (omega arith, omega (arith, one));
-              unit = opened-unit program;
+              unit = (opened program).unit;
             };
             stands = subst (StandsAt addressed (entry_level addressed.unit 1)) (sym entry_is) (entry_stands addressed (entry_level addressed.unit 1) (executable_from addressed.unit 0));
           },
@@ -163,7 +159,7 @@ module _ (program : Units) (cells key entry : ℕ) (rows : List DataRow) (before
     stacks : (n : ℕ) (k : Stack) (q : Process) → numbered (record { levels = record { key = key; unit = main_unit program; index = entry } ∷ []; operands = [] } ∷ []) n ≡ Some k → numbered t.processes n ≡ Some q
         → IsStack program t after.contents nodes k q
     stacks n k q kept there =
-        stack-again program t nodes after.contents h.layout keeps-held.described keeps-held.framed k q (by_number n kept (sym (ap (λ (qs : List Process). numbered qs n) (opened-processes program)) ∙ there)) (are-on program [] n q there)
+        stack-again program t nodes after.contents h.layout keeps-held.described keeps-held.framed k q (by_number n kept (sym (ap (λ (qs : List Process). numbered qs n) ((opened program).processes)) ∙ there)) (are-on program [] n q there)
       where
         by_number : (n : ℕ) → numbered (record { levels = record { key = key; unit = main_unit program; index = entry } ∷ []; operands = [] } ∷ []) n ≡ Some k → numbered ((entry_level (unit_at program (main_unit program)) 1 ∷ []) ∷ []) n ≡ Some q
             → AreStanding program t nodes k.operands k.levels q
@@ -177,7 +173,6 @@ module _ (program : Units) (cells key entry : ℕ) (rows : List DataRow) (before
 
     pub opened-shown : IsAfter program cells [] (snapshot_opened program key entry after nodes)
     opened-shown =
-        let rest = opened-rest program in
         record {
           layout = h.layout;
           laid = laid-opening program cells ∙ h.laid;
@@ -185,12 +180,12 @@ module _ (program : Units) (cells key entry : ℕ) (rows : List DataRow) (before
           shows = record {
             keeps = keeps-held;
             kept = λ a on. none-kept program t h.layout a (opened-dummies program a);
-            processes = sym (ap length (opened-processes program));
+            processes = sym (ap length ((opened program).processes));
             stacks = stacks;
-            activations = sym (opened-activations program);
-            records = sym rest.0;
-            faults = sym rest.1;
-            halted = sym rest.2;
+            activations = sym (opened program).activations;
+            records = sym (opened program).records;
+            faults = sym (opened program).faults;
+            halted = sym (opened program).running;
           };
         }
 

@@ -2,13 +2,12 @@
 use Rattle.std.proofs.Common.{◌≡◌, ℕ, zero, suc, ◌-◌, ◌<◌, ◌≤◌, true, false, not, nat_eq, List, [], ◌∷◌, ◌++◌, length, map, get_or, reverse, Some, None, refl, sym, ap, ◌∙◌, subst, arith}
 use Rattle.std.specs.Prelude.{slice_get, slice_set, vec_capacity}
 use Rattle.std.proofs.lemmas.Bool.Decides.{nat_tests}
-use Rattle.std.proofs.lemmas.List.{length-map, map-append, map-set, reverse-append}
+use Rattle.std.proofs.lemmas.List.{length-map, map-set, reverse-append}
 use Rattle.std.proofs.lemmas.Option.{same_Some, none-some, slice_get-get_or, slice_get-map, slice_get_past, slice_get_within}
 use Rattle.std.specs.Option.{option_map}
 use Rattle.hep_source.specs.declared.value.Value.{Value}
 use Rattle.hep_source.specs.Units.{Units}
 use Rattle.hep_machine.specs.Processes.{numbered, with_numbered}
-use Rattle.hep_accepted.proofs.Members.{image_at, map_at}
 use Rattle.hep_code.specs.Depths.{deepest}
 use Rattle.hep_step.specs.Simulation.{unit_code}
 use Rattle.hep_state.specs.declared.machine.Level.{Level}
@@ -17,7 +16,7 @@ use Rattle.hep_state.specs.Rooms.{HasRoom}
 use Rattle.hep_state.specs.Snapshots.{Stack, stack_of}
 use Rattle.hep_state.specs.Taking.{stack_with}
 use Rattle.hep_state.proofs.Settled.{has-levels}
-use Rattle.hep_state.proofs.Stacked.{levels-are}
+use Rattle.hep_state.proofs.Stacked.{last-there, levels-are}
 use Rattle.hep_source.proofs.Tests.{at-front}
 
 -- ---- numbered processes
@@ -48,6 +47,10 @@ process-at qs p k q kept is =
       there = there;
       stack = same_Some (stack_of q) k (sym (slice_get-map stack_of qs (p - 1) ∙ ap (option_map stack_of) there) ∙ (numbered-one (map stack_of qs) p k kept).1);
     }
+
+-- where other processes are the same as these
+pub process-still : (old new : List Process) (p : ℕ) (k : Stack) (q : Process) → new ≡ old → numbered (map stack_of old) p ≡ Some k → q ≡ get_or new (p - 1) q → IsAt new p k q
+process-still old new p k q same kept is = process-at new p k q (ap (λ qs. numbered (map stack_of qs) p) same ∙ kept) is
 
 pub stacks-set : (qs : List Process) (p : ℕ) (r : Process) (k : Stack) → stack_of r ≡ k → map stack_of (slice_set qs (p - 1) r) ≡ with_numbered (map stack_of qs) p k
 stacks-set qs p r k is = map-set stack_of qs (p - 1) r ∙ ap (λ z. with_numbered (map stack_of qs) p z) is
@@ -98,20 +101,6 @@ room-fewer program q r l fewer more room i m e =
 pub room-none : (program : Units) (r : Process) → r.levels.items ≡ [] → HasRoom program r
 room-none program r none i m e = absurd (none-some m (subst (λ (xs : List Level). slice_get xs i ≡ Some m) none e))
 
--- a process whose top level is at another index
-pub room-moved : (program : Units) (q r : Process) (l : Level) (next : ℕ) (ls : List Level) (was left : List Value) → stack_of q ≡ stack_with l ls was → stack_of r ≡ stack_with (record l { index = next }) ls left → vec_capacity q.operands ≤ vec_capacity r.operands
-    → HasRoom program q → HasRoom program r
-room-moved program q r l next ls was left before after more room i m e =
-    let units : (k : Level) → map unit_of (reverse ls ++ k ∷ []) ≡ map unit_of (reverse ls) ++ k.unit ∷ [] = λ k. map-append unit_of (reverse ls) (k ∷ []) in
-    let same : map unit_of r.levels.items ≡ map unit_of q.levels.items =
-    ap (map unit_of) (levels-are r (record l { index = next }) ls left after) ∙ (units (record l { index = next }) ∙ (sym (units l) ∙ sym (ap (map unit_of) (levels-are q l ls was before)))) in
-    let old = map_at unit_of q.levels.items i m.unit (sym (ap (λ us. slice_get us i) same) ∙ image_at unit_of r.levels.items i m e) in
-    let here = room i old.0 old.1 in
-    omega (arith, here, more, ap (λ u. deepest (unit_code program u)) old.2)
-  where
-    unit_of : Level → ℕ
-    unit_of k = k.unit
-
 -- what holds of all elements and of one more holds of all of them together
 pub all-more : {A : Type 0} (P : A → Type 0) (xs : List A) (y : A) → ((i : ℕ) (m : A) → slice_get xs i ≡ Some m → P m) → P y → (i : ℕ) (m : A) → slice_get (xs ++ y ∷ []) i ≡ Some m → P m
 all-more P [] y each one zero m e = subst P (same_Some y m e) one
@@ -119,26 +108,29 @@ all-more P [] y each one (suc i) m e = absurd (none-some m e)
 all-more P (x ∷ xs) y each one zero m e = each zero m e
 all-more P (x ∷ xs) y each one (suc i) m e = all-more P xs y (λ j k f. each (suc j) k f) one i m e
 
--- a process with one level more, above its top one, which is at another index then
+-- the operands of a process have room for its levels, the top one at another index
+moved-enough : (program : Units) (q : Process) (l : Level) (next : ℕ) (ls : List Level) (was : List Value) → stack_of q ≡ stack_with l ls was → HasRoom program q
+    → (i : ℕ) (m : Level) → slice_get (reverse ls ++ record l { index = next } ∷ []) i ≡ Some m → deepest (unit_code program m.unit) ≤ vec_capacity q.operands
+moved-enough program q l next ls was before room =
+    all-more (λ (k : Level). deepest (unit_code program k.unit) ≤ vec_capacity q.operands) (reverse ls) (record l { index = next })
+    (λ j k e. room j k (subst (λ (xs : List Level). slice_get xs j ≡ Some k) (sym (levels-are q l ls was before)) (at-front (reverse ls) (l ∷ []) j k e)))
+    (room (length (reverse ls)) l (last-there q l ls was before))
+
+-- a process whose top level is at another index
+pub room-moved : (program : Units) (q r : Process) (l : Level) (next : ℕ) (ls : List Level) (was left : List Value) → stack_of q ≡ stack_with l ls was → stack_of r ≡ stack_with (record l { index = next }) ls left → vec_capacity q.operands ≤ vec_capacity r.operands
+    → HasRoom program q → HasRoom program r
+room-moved program q r l next ls was left before after more room i m e =
+    let here = moved-enough program q l next ls was before room i m (subst (λ (xs : List Level). slice_get xs i ≡ Some m) (levels-are r (record l { index = next }) ls left after) e) in
+    omega (arith, here, more)
+
+-- and one with one level more above that
 pub room-more : (program : Units) (q r : Process) (l new : Level) (next : ℕ) (ls : List Level) (was left : List Value) → stack_of q ≡ stack_with l ls was → stack_of r ≡ stack_with new (record l { index = next } ∷ ls) left → vec_capacity q.operands ≤ vec_capacity r.operands
     → deepest (unit_code program new.unit) ≤ vec_capacity r.operands → HasRoom program q → HasRoom program r
 room-more program q r l new next ls was left before after more enough room i m e =
-    all-more (λ k. deepest (unit_code program k.unit) ≤ vec_capacity r.operands) (reverse (later ∷ ls)) new front enough i m (subst (λ (xs : List Level). slice_get xs i ≡ Some m) (levels-are r new (later ∷ ls) left after) e)
-  where
-    later : Level
-    later = record l { index = next }
-
-    unit_of : Level → ℕ
-    unit_of k = k.unit
-
-    front : (j : ℕ) (k : Level) → slice_get (reverse (later ∷ ls)) j ≡ Some k → deepest (unit_code program k.unit) ≤ vec_capacity r.operands
-    front j k f =
-        let units : (x : Level) → map unit_of (reverse ls ++ x ∷ []) ≡ map unit_of (reverse ls) ++ x.unit ∷ [] = λ x. map-append unit_of (reverse ls) (x ∷ []) in
-        let same : map unit_of (reverse (later ∷ ls)) ≡ map unit_of q.levels.items =
-        ap (map unit_of) (reverse-append (later ∷ []) ls) ∙ (units later ∙ (sym (units l) ∙ sym (ap (map unit_of) (levels-are q l ls was before)))) in
-        let old = map_at unit_of q.levels.items j k.unit (sym (ap (λ us. slice_get us j) same) ∙ image_at unit_of (reverse (later ∷ ls)) j k f) in
-        let here = room j old.0 old.1 in
-        omega (arith, here, more, ap (λ u. deepest (unit_code program u)) old.2)
+    let later : Level = record l { index = next } in
+    let levels = levels-are r new (later ∷ ls) left after ∙ ap (λ (xs : List Level). xs ++ new ∷ []) (reverse-append (later ∷ []) ls) in
+    all-more (λ (k : Level). deepest (unit_code program k.unit) ≤ vec_capacity r.operands) (reverse ls ++ later ∷ []) new (λ j k f. let here = moved-enough program q l next ls was before room j k f in omega (arith, here, more)) enough i m
+    (subst (λ (xs : List Level). slice_get xs i ≡ Some m) levels e)
 
 -- one that has one level has room for the unit of that
 pub room-alone : (program : Units) (q : Process) (level : Level) → q.levels.items ≡ level ∷ [] → deepest (unit_code program level.unit) ≤ vec_capacity q.operands → HasRoom program q

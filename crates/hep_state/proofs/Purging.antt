@@ -2,7 +2,7 @@
 use Rattle.std.proofs.Common.{◌≡◌, ℕ, suc, ◌+◌, ◌<◌, true, false, List, [], ◌∷◌, ◌++◌, length, Option, Some, None, refl, sym, ap, ◌∙◌, subst, true≢false, arith}
 use Rattle.std.specs.Prelude.{Result, Ok, Err, slice_get}
 use Rattle.std.specs.Option.{unwrap_or}
-use Rattle.std.proofs.lemmas.Option.{none-some, slice_get-get_or, slice_get_within}
+use Rattle.std.proofs.lemmas.Option.{none-some, same_Some, slice_get-get_or, slice_get_within}
 use Rattle.hep_source.specs.declared.value.Value.{Value}
 use Rattle.hep_source.specs.Units.{Units}
 use Rattle.hep_machine.specs.declared.event.Kind.{Kind}
@@ -35,17 +35,19 @@ use Rattle.hep_step.specs.Simulation.{Simulates, arrays_on_top, unit_arrays}
 use Rattle.hep_state.specs.declared.upcoming.PurgeAhead.{PurgeAhead}
 use Rattle.hep_state.specs.declared.machine.Level.{Level}
 use Rattle.hep_state.specs.CallsAhead.{IsAtPurge, ranges_ahead}
+use Rattle.hep_state.specs.Known.{AreRunning}
 use Rattle.hep_state.specs.Outcomes.{HasPurged}
 use Rattle.hep_state.specs.Showing.{node_under}
 use Rattle.hep_state.specs.Snapshots.{Snapshot}
 use Rattle.hep_state.specs.Taking.{IsEnding}
 use Rattle.hep_state.specs.Tops.{IsTurning, frame_under, snapshot_moved, top_after}
 use Rattle.hep_state.specs.Turns.{HasGaps, HasStepped}
-use Rattle.hep_state.proofs.Callers.{AreRunning, caller-unit}
+use Rattle.hep_state.proofs.Callers.{caller-unit}
 use Rattle.hep_state.proofs.Moved.{moved-shown}
-use Rattle.hep_state.proofs.Runs.{step-is, turned}
+use Rattle.hep_state.proofs.Runs.{turned}
 use Rattle.hep_state.proofs.Taken.{inside}
 use Rattle.hep_state.proofs.Tops.{dropped-behind}
+use Rattle.hep_machine.proofs.Others.{step-is}
 
 -- ---- cells
 
@@ -85,9 +87,7 @@ module _ (program : Units) (cells : ℕ) (choices : List ℕ) (p : ℕ) (m : Sna
   Does effect = Simulates program (top_after program choices p top) turning.after.layout (frame_under m.nodes l.key) m.arena.holes m.arena.contents effect
 
   same-layout : (layout : Layout) → layout_of program cells is_held choices ≡ Some layout → turning.after.layout ≡ layout
-  same-layout layout laid = some-same (sym turning.after.laid ∙ laid) where
-    some-same : {a b : Layout} → Some a ≡ Some b → a ≡ b
-    some-same e = cc
+  same-layout layout laid = same_Some turning.after.layout layout (sym turning.after.laid ∙ laid)
 
   -- a fault empties nothing
   pub nothing-purged : (line : ℕ) (kind : Kind) → Does (fails line kind) → HasPurged program cells choices p []

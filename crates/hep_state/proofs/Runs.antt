@@ -8,20 +8,18 @@ use Rattle.std.proofs.lemmas.Bool.Decides.{nat_tests}
 use Rattle.std.proofs.lemmas.List.{length-append}
 use Rattle.hep_source.specs.Units.{Units}
 use Rattle.hep_machine.specs.Laws.{IsSameOrOneMore}
-use Rattle.hep_machine.specs.Layout.{Frame, Layout, Placing, frame_of, is_held, layout_after_step, layout_after_turn, layout_of, layout_with_activation, opening_layout, placing_from, placing_turn, remaining_layout}
+use Rattle.hep_machine.specs.Layout.{Frame, Layout, Placing, common_cells, frame_of, is_held, layout_after_step, layout_after_turn, layout_of, layout_with_activation, lowest_gap, opening_layout, placing_from, placing_turn, remaining_layout, with_frame}
 use Rattle.hep_machine.specs.Opening.{opening}
 use Rattle.hep_machine.specs.Run.{run, run_from, state_after_turn}
 use Rattle.hep_machine.specs.State.{State}
-use Rattle.hep_machine.specs.Step.{state_made, step, step_result_of, stepped}
+use Rattle.hep_machine.specs.Step.{step}
 use Rattle.hep_machine.proofs.Others.{activations_after}
 use Rattle.hep_arena.specs.Gaps.{frame_among}
+use Rattle.hep_frames.specs.Addresses.{frame_from}
 use Rattle.hep_frames.proofs.HeldFrames.{run-last}
 use Rattle.hep_proc.specs.Keeping.{frames_of}
 
 -- ---- the state
-
-pub step-is : (program : Units) (p : ℕ) (s t : State) → s.halted ≡ false → step_result_of program p s ≡ stepped t → step program p s ≡ Some t
-step-is program p s t running made = ap (λ b. if b then None else state_made (step_result_of program p s)) running ∙ ap state_made made
 
 pub turned : (program : Units) (choices : List ℕ) (p : ℕ) (t : State) → step program p (run program choices) ≡ Some t → run program (choices ++ p ∷ []) ≡ t
 turned program choices p t e = run-last program choices p ∙ ap (λ o. unwrap_or o (run program choices)) e
@@ -99,14 +97,15 @@ layout-left program cells choices p layout t e made same =
     let after : state_after_turn program p s ≡ t = ap (λ o. unwrap_or o s) made in
     layout-stays program cells choices p layout e (ap (λ (u : State). u.activations) after ∙ same) ∙ ap (λ (u : State). Some (remaining_layout is_held u layout)) after
 
--- where one is, it is what is left of the layout with its frame
-pub layout-begun : (program : Units) (cells : ℕ) (choices : List ℕ) (p : ℕ) (layout new : Layout) (t : State) → layout_of program cells is_held choices ≡ Some layout → step program p (run program choices) ≡ Some t
-    → length t.activations ≡ suc (length (run program choices).activations) → layout_with_activation program cells layout (length t.activations) (frame_of program t (length t.activations)) ≡ Some new
-    → layout_of program cells is_held (choices ++ p ∷ []) ≡ Some (remaining_layout is_held t new)
-layout-begun program cells choices p layout new t e made long entered =
+-- where one is, it is what is left of the layout with its frame, in its lowest gap
+pub layout-more : (program : Units) (cells : ℕ) (choices : List ℕ) (p : ℕ) (layout : Layout) (t : State) (gap : Option ℕ) → layout_of program cells is_held choices ≡ Some layout → step program p (run program choices) ≡ Some t
+    → length t.activations ≡ suc (length (run program choices).activations) → lowest_gap cells (frame_of program t (length t.activations)) (common_cells program) layout ≡ gap
+    → layout_of program cells is_held (choices ++ p ∷ []) ≡ option_map (remaining_layout is_held t) (option_map (λ first. with_frame layout (frame_from program t (length t.activations) first)) gap)
+layout-more program cells choices p layout t gap e made long is =
     let s = run program choices in
     let one : nat_lt (length s.activations) (length t.activations) ≡ true = grind (arith, nat_tests) in
-    layout-last program cells choices p layout e ∙ (ap (λ o. layout_after_step program cells is_held s (unwrap_or o s) layout) made ∙ rw one (ap (option_map (remaining_layout is_held t)) entered))
+    layout-last program cells choices p layout e
+    ∙ (ap (λ o. layout_after_step program cells is_held s (unwrap_or o s) layout) made ∙ rw one (ap (λ o. option_map (remaining_layout is_held t) (option_map (λ first. with_frame layout (frame_from program t (length t.activations) first)) o)) is))
 
 -- ---- how many activations there are
 

@@ -1,11 +1,11 @@
 -- What stays the same: the values that stand ahead are put behind the operands, or no step is made.
-use Rattle.std.proofs.Common.{◌≡◌, inl, inr, ℕ, zero, suc, ◌-◌, true, false, List, [], ◌∷◌, length, Option, Some, None, refl, sym, ap, ◌∙◌, arith}
-use Rattle.std.specs.Prelude.{Bool, is_some, slice_get, slice_set}
+use Rattle.std.proofs.Common.{◌≡◌, inl, inr, ℕ, zero, suc, true, false, List, [], ◌∷◌, length, Option, Some, None, refl, sym, ap, ◌∙◌, arith}
+use Rattle.std.specs.Prelude.{Bool, is_some, slice_get}
 use Rattle.std.proofs.lemmas.List.{length-set}
-use Rattle.std.proofs.lemmas.Option.{same_Some, none-some}
+use Rattle.std.proofs.lemmas.Option.{none-some, slice_get_cases, slice_get_within}
 use Rattle.hep_source.specs.declared.value.Value.{Value}
 use Rattle.hep_source.specs.Units.{Units}
-use Rattle.hep_machine.specs.Processes.{living, numbered, top_of, with_numbered}
+use Rattle.hep_machine.specs.Processes.{living, numbered, top_of}
 use Rattle.hep_machine.specs.Run.{run}
 use Rattle.hep_machine.specs.State.{Level as SourceLevel, Process, State, Work}
 use Rattle.hep_code.specs.Standing.{Stands}
@@ -17,17 +17,9 @@ use Rattle.hep_state.specs.Tops.{IsTurning, with_stack}
 use Rattle.hep_state.specs.Turns.{IsAbsent, IsAfter}
 use Rattle.hep_state.proofs.Levels.{are-on}
 use Rattle.hep_state.proofs.Moved.{standing-before, there}
-use Rattle.hep_state.proofs.Shown.{numbered-set, standing-changed}
+use Rattle.hep_state.proofs.Shown.{set-same, standing-changed}
 use Rattle.hep_state.proofs.Standing.{AreStanding, made-same, stack-again, stack-standing, top-stands}
-
--- an element in its own place
-set-same : {A : Type 0} (xs : List A) (p : ℕ) (x : A) → numbered xs p ≡ Some x → xs ≡ with_numbered xs p x
-set-same xs zero x e = absurd (none-some x e)
-set-same {A} xs (suc i) x e = let same : suc i - 1 ≡ i = omega arith in rw same (at xs i e) where
-  at : (ys : List A) (j : ℕ) → slice_get ys j ≡ Some x → ys ≡ slice_set ys j x
-  at [] j e = refl
-  at (y ∷ ys) zero e = ap (λ z. z ∷ ys) (same_Some y x e)
-  at (y ∷ ys) (suc j) e = ap (λ zs. y ∷ zs) (at ys j e)
+use Rattle.hep_entering.proofs.Rest.{set-numbered}
 
 module _ (program : Units) (cells : ℕ) (choices : List ℕ) (m : Snapshot) (p : ℕ) (l : Level) (ls : List Level) (vs : List Value) (top : SourceLevel × Process) (h : IsTurning program cells choices m p l ls vs top) where
   pub settled : (operands : List Value) (index : ℕ)
@@ -52,7 +44,7 @@ module _ (program : Units) (cells : ℕ) (choices : List ℕ) (m : Snapshot) (p 
         stacks = λ i j r here on-it.
             let on = are-on program choices i r on-it in
             stack-again program old m.nodes m.arena.contents layout s.keeps.described s.keeps.framed j r (
-            standing-changed program old old layout m new s p before k q q h.kept there_is refl (set-same old.processes p q there_is) (made-same old old refl) (λ key x e on. (x, e, refl)) (λ on. moved) i j r here on-it on) on;
+            standing-changed program old old layout m m.nodes s p before k q q h.kept there_is (made-same old old refl) (λ key x e on. (x, e, refl)) (λ on. moved) i j r here (sym (ap (λ qs. numbered qs i) (set-same old.processes p q there_is)) ∙ on-it) on) on;
         activations = s.activations;
         records = s.records;
         faults = s.faults;
@@ -61,20 +53,19 @@ module _ (program : Units) (cells : ℕ) (choices : List ℕ) (m : Snapshot) (p 
       record {
         after = record { layout = layout; laid = h.after.laid; size = h.after.size; shows = shown };
         running = h.running;
-        kept = numbered-set m.processes p before k h.kept;
+        kept = set-numbered m.processes p before k h.kept;
         lives = h.lives;
       }
 
 -- ---- which processes live
 
+-- where lists are as long
+pub there-too : {A B : Type 0} (xs : List A) (ys : List B) (j : ℕ) (x : A) → length xs ≡ length ys → slice_get xs j ≡ Some x → (y : B) × (slice_get ys j ≡ Some y)
+there-too xs ys j x same e = elim (slice_get_cases ys j).1 [ inl there ↦ (there.0, there.2) | inr past ↦ absurd (omega (arith, slice_get_within xs j x e, past.0, same)) ]
+
 numbered-there : {A B : Type 0} (xs : List A) (ys : List B) (p : ℕ) (x : A) → length xs ≡ length ys → numbered xs p ≡ Some x → (y : B) × (numbered ys p ≡ Some y)
 numbered-there xs ys zero x e there = absurd (none-some x there)
-numbered-there {A} {B} xs ys (suc i) x e there = at xs ys i e there where
-  at : (xs : List A) (ys : List B) (i : ℕ) → length xs ≡ length ys → slice_get xs i ≡ Some x → (y : B) × (slice_get ys i ≡ Some y)
-  at [] ys i e there = absurd (none-some x there)
-  at (z ∷ zs) [] i e there = absurd (omega (arith, e))
-  at (z ∷ zs) (y ∷ ys) zero e there = (y, refl)
-  at (z ∷ zs) (y ∷ ys) (suc i) e there = at zs ys i (omega (arith, e)) there
+numbered-there xs ys (suc i) x e there = there-too xs ys i x e there
 
 -- a process has levels
 abbrev pub has-levels : List Level → Bool
@@ -129,5 +120,4 @@ module _ (program : Units) (cells : ℕ) (choices : List ℕ) (m : Snapshot) (p 
       by_levels : (ls : List Level) (q : Process) → numbered old.processes p ≡ Some q → AreStanding program old m.nodes k.operands ls q → is_some (living old p) ≡ has-levels ls
       by_levels [] [] on-it standing = ap (λ o. is_some (top_of o)) on-it
       by_levels (l ∷ ls) (level ∷ levels) on-it standing = ap (λ o. is_some (top_of o)) on-it
-      by_levels [] (level ∷ levels) on-it standing = absurd standing
-      by_levels (l ∷ ls) [] on-it standing = absurd standing
+      by_levels _ _ on-it standing = absurd standing

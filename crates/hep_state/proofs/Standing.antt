@@ -76,14 +76,12 @@ module _ (program : Units) (s : State) (nodes : Nodes) where
     standing-below : (ls : List Level) (levels : Process) → AreThere program nodes ls → AreBelow program (addresses_of program) s (map (code_level program contents nodes []) ls) levels → AreStandingBelow ls levels
     standing-below [] [] there h = tt
     standing-below (l ∷ ls) (level ∷ levels) there h = (record { here = is-here [] l level there.0 h.0.is_of; index = h.0.index }, standing-below ls levels there.1 h.1)
-    standing-below [] (level ∷ levels) there h = absurd h
-    standing-below (l ∷ ls) [] there h = absurd h
+    standing-below _ _ there h = absurd h
 
     pub standing : (vs : List Value) (ls : List Level) (levels : Process) → AreThere program nodes ls → AreLevels program (addresses_of program) s (code_levels program contents nodes vs ls) levels → AreStanding vs ls levels
     standing vs [] [] there h = tt
     standing vs (l ∷ ls) (level ∷ levels) there h = (record { here = is-here vs l level there.0 h.0.is_of; stands = h.0.at.stands }, standing-below ls levels there.1 h.1)
-    standing vs [] (level ∷ levels) there h = absurd h
-    standing vs (l ∷ ls) [] there h = absurd h
+    standing vs _ _ there h = absurd h
 
     -- ---- and back, where the cells of DOs hold what is wanted
 
@@ -117,8 +115,7 @@ module _ (program : Units) (s : State) (nodes : Nodes) where
             (there-again l level.activation h.0.here, rest.0),
             (record { is_of = of-again [] l level h.0.here; index = h.0.index; operands = refl; loops = loops-again l level h.0.here on.0 }, rest.1),
           )
-      below-again [] (level ∷ levels) h on = absurd h
-      below-again (l ∷ ls) [] h on = absurd h
+      below-again _ _ h on = absurd h
 
       levels-again : (vs : List Value) (ls : List Level) (levels : Process) → AreStanding vs ls levels → AreOn s levels → AreThere program nodes ls × AreLevels program (addresses_of program) s (code_levels program contents nodes vs ls) levels
       levels-again vs [] [] h on = (tt, tt)
@@ -127,8 +124,7 @@ module _ (program : Units) (s : State) (nodes : Nodes) where
             (there-again l level.activation h.0.here, rest.0),
             (record { is_of = of-again vs l level h.0.here; at = record { stands = h.0.stands; loops = loops-again l level h.0.here on.0 } }, rest.1),
           )
-      levels-again vs [] (level ∷ levels) h on = absurd h
-      levels-again vs (l ∷ ls) [] h on = absurd h
+      levels-again vs _ _ h on = absurd h
 
       pub stack-again : (k : Stack) (q : Process) → AreStanding k.operands k.levels q → AreOn s q → IsStack program s contents nodes k q
       stack-again k q h on = let both = levels-again k.operands k.levels q h on in record { there = both.0; levels = both.1 }
@@ -169,29 +165,25 @@ module _ (program : Units) (s t : State) (old new : Nodes) (made : AreMade s t)
   pub below-still : (ls : List Level) (levels : Process) → AreStandingBelow program s old ls levels → AreOn t levels → AreStandingBelow program t new ls levels
   below-still [] [] h on = tt
   below-still (l ∷ ls) (level ∷ levels) h on = (record { here = here-still l level.activation h.0.here on.1; index = h.0.index }, below-still ls levels h.1 on.2)
-  below-still [] (level ∷ levels) h on = absurd h
-  below-still (l ∷ ls) [] h on = absurd h
+  below-still _ _ h on = absurd h
 
   pub standing-still : (vs : List Value) (ls : List Level) (levels : Process) → AreStanding program s old vs ls levels → AreOn t levels → AreStanding program t new vs ls levels
   standing-still vs [] [] h on = tt
   standing-still vs (l ∷ ls) (level ∷ levels) h on = (record { here = here-still l level.activation h.0.here on.1; stands = h.0.stands }, below-still ls levels h.1 on.2)
-  standing-still vs [] (level ∷ levels) h on = absurd h
-  standing-still vs (l ∷ ls) [] h on = absurd h
+  standing-still vs _ _ h on = absurd h
 
 -- ---- the top
 
 module _ (program : Units) (s : State) (nodes : Nodes) where
+  -- where it is at another index, and its activation is told otherwise
+  pub here-at : (l : Level) (index a b : ℕ) → b ≡ a → IsHere program s nodes l a → IsHere program s nodes (record l { index = index }) b
+  here-at l index a b same h =
+      record { inside = h.inside; node = h.node; there = h.there; activation = same ∙ h.activation; made = subst (λ c. (1 ≤ c) × (c ≤ length s.activations)) (sym same) h.made; unit = ap (unit_of s) same ∙ h.unit }
+
   -- another level of its activation, where that stands
   pub top-stands : (vs new : List Value) (l : Level) (ls : List Level) (level after : SourceLevel) (levels : Process) (index : ℕ) → AreStanding program s nodes vs (l ∷ ls) (level ∷ levels)
       → after.activation ≡ level.activation → Stands (unit_addressed program l.unit) after.statement after.work new index → AreStanding program s nodes new (record l { index = index } ∷ ls) (after ∷ levels)
-  top-stands vs new l ls level after levels index h same stands =
-      let here = h.0.here in (
-        record {
-          here = record { inside = here.inside; node = here.node; there = here.there; activation = same ∙ here.activation; made = subst (λ a. (1 ≤ a) × (a ≤ length s.activations)) (sym same) here.made; unit = ap (unit_of s) same ∙ here.unit };
-          stands = stands;
-        },
-        h.1,
-      )
+  top-stands vs new l ls level after levels index h same stands = (record { here = here-at l index level.activation after.activation same h.0.here; stands = stands }, h.1)
 
   -- once it has ended its caller goes on
   pub caller-stands : (ls : List Level) (levels : Process) → AreStandingBelow program s nodes ls levels → AreStanding program s nodes [] ls (stack_after_return program s levels)
@@ -203,10 +195,9 @@ module _ (program : Units) (s : State) (nodes : Nodes) where
       let same = (after_statement_keeps addressed level).1 in
       subst (λ u. AreStanding program s nodes [] (l ∷ ls) (level_after_statement (unit_at program u) level ∷ levels)) (sym here.unit) (
         record {
-          here = record { inside = here.inside; node = here.node; there = here.there; activation = same ∙ here.activation; made = subst (λ a. (1 ≤ a) × (a ≤ length s.activations)) (sym same) here.made; unit = ap (unit_of s) same ∙ here.unit };
+          here = subst (IsHere program s nodes l) (sym same) here;
           stands = subst (StandsAt addressed after) (sym h.0.index) (after_statement_stands addressed level);
         },
         h.1,
       )
-  caller-stands [] (level ∷ levels) h = absurd h
-  caller-stands (l ∷ ls) [] h = absurd h
+  caller-stands _ _ h = absurd h

@@ -1,12 +1,11 @@
 -- The top activation of a process whose turn it is runs as the laws of steps ask.
-use Rattle.std.proofs.Common.{◌≡◌, Bool, ◌≢◌, inl, ℕ, zero, suc, ◌+◌, ◌<◌, ◌≤◌, true, false, List, [], ◌∷◌, drop, length, Some, None, refl, sym, ap, ◌∙◌, subst, arith}
-use Rattle.std.specs.Prelude.{◌||◌, if◌then◌else◌, slice_get}
+use Rattle.std.proofs.Common.{◌≡◌, ◌≢◌, inl, ℕ, zero, suc, ◌+◌, ◌<◌, ◌≤◌, true, List, [], ◌∷◌, drop, length, Some, None, refl, sym, ap, ◌∙◌, subst, arith}
+use Rattle.std.specs.Prelude.{◌||◌, slice_get}
 use Rattle.std.proofs.lemmas.Bool.{eq-eqb}
 use Rattle.std.proofs.lemmas.Option.{same_Some, none-some}
 use Rattle.hep_source.specs.declared.name.Name.{Name}
 use Rattle.hep_source.specs.declared.value.Value.{Value}
-use Rattle.hep_source.specs.Names.{index_among, is_among, same_name}
-use Rattle.hep_source.proofs.NameTests.{equal_names}
+use Rattle.hep_source.specs.Names.{index_among}
 use Rattle.hep_machine.specs.Declarations.{is_array}
 use Rattle.hep_source.specs.Units.{Units, dummies_of, unit_at}
 use Rattle.hep_machine.specs.declared.slot.Slot.{Slot}
@@ -38,7 +37,6 @@ use Rattle.hep_finding.proofs.Within.{few-dimensions}
 use Rattle.hep_finding.specs.Within.{ArePlacedArrays}
 use Rattle.hep_image.specs.Places.{arrays_of, start_of, variable_of}
 use Rattle.hep_image.specs.declared.array.Start.{Start}
-use Rattle.hep_image.proofs.Members.{indexed}
 use Rattle.hep_image.proofs.Numbers.{unit-there}
 use Rattle.hep_placed.specs.Instructions.{variables_in_operation}
 use Rattle.hep_placed.specs.Placed.{ArePlaced, code_in}
@@ -46,10 +44,11 @@ use Rattle.hep_step.specs.Simulation.{IsRunning, counts_in, found_in, unit_addre
 use Rattle.hep_state.specs.declared.machine.Level.{Level}
 use Rattle.hep_state.specs.Snapshots.{Snapshot}
 use Rattle.hep_state.specs.Tops.{IsTurning, frame_under, top_after}
-use Rattle.hep_state.proofs.Ended.{top-node}
-use Rattle.hep_state.proofs.Levels.{all_levels, among-all, found, times-all}
+use Rattle.hep_state.proofs.Ended.{top-activation, top-node}
+use Rattle.hep_entering.proofs.Found.{all_levels, among-numbered, found, times-all}
 use Rattle.hep_state.proofs.Moved.{standing-before, there}
-use Rattle.hep_state.proofs.Shown.{numbered-set}
+use Rattle.hep_image.proofs.Distinct.{index_of}
+use Rattle.hep_entering.proofs.Rest.{set-numbered}
 
 -- what is known of each unit of an accepted program that has a main program, and of the activations in its runs
 pub record IsKnown (program : Units) : Type 0 where
@@ -88,9 +87,6 @@ none_absent line _ h e = absurd cc
 
 -- ---- arrays
 
-among-at : (x : Name) (xs : List Name) → is_among x xs ≡ true → (i : ℕ) × (slice_get xs i ≡ Some x)
-among-at x xs h = let found = indexed x xs h in (found.0, found.2)
-
 -- one that is no dummy argument has a constant shape
 own-shaped : (program : Units) → AreClosed program → (u : ℕ) → u < length program → (x : Name) → index_among x (dummies_of (unit_at program u)) ≡ None → HasConstantShape (unit_at program u) x
 own-shaped program closed u inside x none array = let shape = closed u (unit_at program u) x (unit-there program u inside) array none in (shape.0, shape.1)
@@ -117,27 +113,24 @@ module _ (program : Units) (known : IsKnown program) (cells : ℕ) (choices : Li
   inside = subst (λ u. u < length program) (sym unit-is) (standing-before program cells choices m p l ls vs top h).0.here.inside
 
   framed : frame_among top.0.activation layout ≡ Some (frame_under m.nodes l.key)
-  framed =
-      let here = (standing-before program cells choices m p l ls vs top h).0.here in
-      let node = top-node program cells choices m p l ls vs top h in
-      let same = same_Some here.node _ (sym here.there ∙ node) in
-      ap (λ a. frame_among a layout) (here.activation ∙ ap (λ n. n.activation) same) ∙ h.after.shows.keeps.framed l.key _ node
+  framed = ap (λ a. frame_among a layout) (sym (top-activation program cells choices m p l ls vs top h)) ∙ h.after.shows.keeps.framed l.key _ (top-node program cells choices m p l ls vs top h)
 
   -- another level of the activation is found by it
   itself : (after : SourceLevel) → after.activation ≡ top.0.activation → level_of (state_with_level t after) top.0.activation ≡ Some after
-  itself after same = by_number p (there program cells choices m p l ls vs top h) refl where
-    few : times top.0.activation (activations_on (all_levels (with_numbered old.processes p (after ∷ top.1)))) ≤ 1
-    few =
-        let qs = with_numbered old.processes p (after ∷ top.1) in
-        let a = top.0.activation in
-        let alike : times a (activations_on (after ∷ top.1)) ≡ times a (activations_on (top.0 ∷ top.1)) = ap (λ b. times a (b ∷ activations_on top.1)) same in
-        omega (arith, times-all a qs, times_on-numbered a old.processes p (top.0 ∷ top.1) (after ∷ top.1) (there program cells choices m p l ls vs top h), alike, (once program choices a).0)
+  itself after same = found a (all_levels qs) after few (among-numbered after qs p (after ∷ top.1) (set-numbered old.processes p (top.0 ∷ top.1) (after ∷ top.1) there_is) (inl refl)) same where
+    a : ℕ
+    a = top.0.activation
 
-    by_number : (n : ℕ) → numbered old.processes n ≡ Some (top.0 ∷ top.1) → n ≡ p → level_of (state_with_level t after) top.0.activation ≡ Some after
-    by_number zero e same_number = absurd (none-some (top.0 ∷ top.1) e)
-    by_number (suc i) e same_number =
-        let set : numbered (with_numbered old.processes p (after ∷ top.1)) (suc i) ≡ Some (after ∷ top.1) = subst (λ n. numbered (with_numbered old.processes n (after ∷ top.1)) (suc i) ≡ Some (after ∷ top.1)) same_number (numbered-set old.processes (suc i) (top.0 ∷ top.1) (after ∷ top.1) e) in
-        found top.0.activation (all_levels (with_numbered old.processes p (after ∷ top.1))) after few (among-all after (with_numbered old.processes p (after ∷ top.1)) i (after ∷ top.1) set (inl refl)) same
+    qs : List Process
+    qs = with_numbered old.processes p (after ∷ top.1)
+
+    there_is : numbered old.processes p ≡ Some (top.0 ∷ top.1)
+    there_is = there program cells choices m p l ls vs top h
+
+    few : times a (activations_on (all_levels qs)) ≤ 1
+    few =
+        let alike : times a (activations_on (after ∷ top.1)) ≡ times a (activations_on (top.0 ∷ top.1)) = ap (λ b. times a (b ∷ activations_on top.1)) same in
+        omega (arith, times-all a qs, times_on-numbered a old.processes p (top.0 ∷ top.1) (after ∷ top.1) there_is, alike, (once program choices a).0)
 
   bound : IsBound program old top.0.activation
   bound = let here = (standing-before program cells choices m p l ls vs top h).0.here in known.bound choices top.0.activation here.made.0 here.made.1
@@ -183,7 +176,7 @@ module _ (program : Units) (known : IsKnown program) (cells : ℕ) (choices : Li
   pub arrays-placed : ArePlacedArrays program (unit_at program l.unit)
   arrays-placed =
       subst (λ u. ArePlacedArrays program (unit_at program u)) unit-is (λ x array.
-      let listed = among-at x (arrays_of (unit_at program number)) (array-listed x (unit_at program number) array) in
+      let listed = index_of x (arrays_of (unit_at program number)) (array-listed x (unit_at program number) array) in
       let begun = known.begun number listed.0 x inside listed.1 in
       record {
         begins = λ none. none-some begun.0 (sym none ∙ begun.2);

@@ -1,9 +1,9 @@
 -- What the operation ahead of a process may fill or empty is what its next step may.
-use Rattle.std.proofs.Common.{◌≡◌, ℕ, Bool, true, false, List, ◌∷◌, Option, Some, drop, refl, sym, ap, ◌∙◌, subst, true≢false}
+use Rattle.std.proofs.Common.{◌≡◌, ℕ, true, false, List, ◌∷◌, Option, Some, drop, sym, ap, ◌∙◌, subst, true≢false}
+use Rattle.std.proofs.lemmas.Option.{same_Some}
 use Rattle.hep_source.specs.declared.value.Value.{Value}
 use Rattle.hep_source.specs.Units.{Units}
 use Rattle.hep_machine.specs.Laws.{is_purge}
-use Rattle.hep_machine.specs.Layout.{Layout}
 use Rattle.hep_machine.specs.Processes.{unit_of}
 use Rattle.hep_machine.specs.Run.{run}
 use Rattle.hep_machine.specs.State.{Level as SourceLevel, Location, Process as SourceProcess}
@@ -24,10 +24,7 @@ use Rattle.hep_state.specs.Showing.{node_under}
 use Rattle.hep_state.specs.Snapshots.{Snapshot}
 use Rattle.hep_state.specs.Tops.{IsTurning, frame_under, top_after}
 use Rattle.hep_state.proofs.Moved.{unit-is}
-
-pub not-true : (b : Bool) → (b ≡ true → ⊥) → b ≡ false
-not-true false never = refl
-not-true true never = absurd (never refl)
+use Rattle.std.proofs.lemmas.Bool.{false_from_ne_true}
 
 module _ (program : Units) (cells : ℕ) (choices : List ℕ) (m : Snapshot) (p : ℕ) (l : Level) (ls : List Level) (vs : List Value) (top : SourceLevel × SourceProcess) (turning : IsTurning program cells choices m p l ls vs top) where
   abbrev t : Top
@@ -52,7 +49,7 @@ module _ (program : Units) (cells : ℕ) (choices : List ℕ) (m : Snapshot) (p 
     past-here = subst (λ u. IsPastPushes (unit_code program u) l.index) (sym unit-here) past
 
     no-purge : IsNotLeftOut (unit_code program l.unit) l.index → TellsPurge → is_purge program (run program choices) p ≡ false
-    no-purge others tells = not-true _ (λ is.
+    no-purge others tells = false_from_ne_true _ (λ is.
         let s = step_is_ahead (addressed_on_top program t) top.0.statement top.0.work vs l.index runs.stands past-here in
         let told = tells _ s.0 s.1 runs s.2 is in
         let out : is_left_out s.0 ≡ false = others _ s.0 s.1 (ap (λ u. drop l.index (unit_code program u)) (sym unit-here) ∙ s.2) in
@@ -67,8 +64,5 @@ module _ (program : Units) (cells : ℕ) (choices : List ℕ) (m : Snapshot) (p 
           told = λ layout at laid touched.
               let told = cell-told at runs past-here touched in
               let found = is ∙ (ap (λ u. touched_at (unit_code program u) (unit_arrays program u) (node_under m.nodes l.key).first m.arena.contents vs l.index) (sym unit-here) ∙ told.1) in
-              (told.0, found, subst (λ layout. address program (run program choices) layout at ≡ Some told.0) (same-layout (sym turning.after.laid ∙ laid)) told.2);
+              (told.0, found, subst (λ layout. address program (run program choices) layout at ≡ Some told.0) (same_Some turning.after.layout layout (sym turning.after.laid ∙ laid)) told.2);
         }
-      where
-        same-layout : {a b : Layout} → Some a ≡ Some b → a ≡ b
-        same-layout e = cc

@@ -1,17 +1,19 @@
 -- A machine that keeps what it kept: where only room was made, or what a CALL gives was written.
-use Rattle.std.proofs.Common.{◌≡◌, ℕ, List, Result, Ok, Err, Option, Some, None, refl, sym, ap, ◌∙◌, subst}
-use Rattle.std.specs.Prelude.{true, false, IfErr, IfOk, IsSome, MatchOption, OnErr, is_some, slice_get}
+use Rattle.std.proofs.Common.{◌≡◌, ℕ, ◌+◌, List, Result, Ok, Err, Option, Some, None, sym, ap, ◌∙◌, subst}
+use Rattle.std.specs.Prelude.{true, IfErr, IfOk, IsSome, MatchOption, OnErr, is_some, slice_get, slice_set}
 use Rattle.std.specs.Result.{IsErr, IsErrAnd}
 use Rattle.std.proofs.lemmas.Result.{err_from_is_err_and}
 use Rattle.hep_source.specs.Units.{Units}
 use Rattle.hep_blocked.specs.declared.want.Want.{Want}
 use Rattle.hep_state.specs.declared.machine.Machine.{Machine}
+use Rattle.hep_state.specs.declared.machine.Process.{Process}
 use Rattle.hep_state.specs.declared.turn.TurnFault.{TurnFault}
 use Rattle.hep_state.specs.declared.turn.TurnFault.TheVariants.{NoMemory}
 use Rattle.hep_state.specs.Outcomes.{IsInState, IsNow, IsTold, cell_wanted}
-use Rattle.hep_state.specs.Rooms.{HasRoomToPass, HaveRoom, IsMachineAfter}
+use Rattle.hep_state.specs.Rooms.{HasRoom, HasRoomToPass, HaveRoom, IsMachineAfter}
 use Rattle.hep_state.specs.Snapshots.{Snapshot, snapshot_of}
 use Rattle.hep_state.specs.Turns.{IsAfter}
+use Rattle.hep_state.proofs.Processes.{all-set}
 
 -- ---- answers
 
@@ -43,10 +45,6 @@ pub some-of : {A : Type 0} (o : Option A) → is_some o ≡ true → IsSome o
 some-of None e = absurd cc
 some-of (Some x) e = cc
 
-pub none-of : {A : Type 0} (o : Option A) → is_some o ≡ false → o ≡ None
-none-of None e = refl
-none-of (Some x) e = absurd cc
-
 -- ---- machines
 
 pub rooms-of : (program : Units) (cells : ℕ) (choices : List ℕ) (m : Machine) → IsMachineAfter program cells choices m → HaveRoom program cells m
@@ -54,6 +52,19 @@ rooms-of program cells choices m h = record { few = h.few; to_pass = h.to_pass; 
 
 pub machine-of : (program : Units) (cells : ℕ) (choices : List ℕ) (m : Machine) → IsAfter program cells choices (snapshot_of m) → HaveRoom program cells m → IsMachineAfter program cells choices m
 machine-of program cells choices m after rooms = record { after = after; few = rooms.few; to_pass = rooms.to_pass; room = rooms.room }
+
+-- in which one process is another one
+pub rooms-set : (program : Units) (cells : ℕ) (old new : Machine) (j : ℕ) (r : Process) → new.processes.items ≡ slice_set old.processes.items j r → new.passing ≡ old.passing → HasRoom program r → HaveRoom program cells old → HaveRoom program cells new
+rooms-set program cells old new j r set passing room h =
+    record { few = h.few; to_pass = subst (HasRoomToPass program) (sym passing) h.to_pass; room = λ i q e. all-set (HasRoom program) old.processes.items j r h.room room i q (ap (λ qs. slice_get qs i) (sym set) ∙ e) }
+
+-- in which room was made
+pub machine-reserved : (program : Units) (cells : ℕ) (choices : List ℕ) (old new : Machine) → snapshot_of new ≡ snapshot_of old → (HaveRoom program cells old → HaveRoom program cells new) → IsMachineAfter program cells choices old → IsMachineAfter program cells choices new
+machine-reserved program cells choices old new shown rooms h = machine-of program cells choices new (subst (IsAfter program cells choices) (sym shown) h.after) (rooms (rooms-of program cells choices old h))
+
+-- in which an activation has begun
+pub rooms-begun : (program : Units) (cells : ℕ) (old new : Machine) → new ≡ record old { frames = new.frames; activations = old.activations + 1 } → HaveRoom program cells old → HaveRoom program cells new
+rooms-begun program cells old new others h = subst (HaveRoom program cells) (sym others) (record { few = h.few; to_pass = h.to_pass; room = h.room })
 
 -- another one that shows the same, with the same processes and the same room to pass
 pub machine-same : (program : Units) (cells : ℕ) (choices : List ℕ) (old new : Machine) → snapshot_of new ≡ snapshot_of old → new.processes ≡ old.processes → new.passing ≡ old.passing → IsMachineAfter program cells choices old → IsMachineAfter program cells choices new

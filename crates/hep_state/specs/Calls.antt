@@ -19,8 +19,10 @@ use Rattle.hep_frames.specs.Tree.{Nodes, new_node, with_node}
 use Rattle.hep_passing.specs.declared.given.Given.{Given}
 use Rattle.hep_passing.specs.Shapes.{AreShapesOf}
 use Rattle.hep_step.specs.Simulation.{unit_addressed}
+use Rattle.hep_state.specs.declared.calling.Called.{Called}
 use Rattle.hep_state.specs.declared.machine.Level.{Level}
-use Rattle.hep_state.specs.Snapshots.{Snapshot}
+use Rattle.hep_state.specs.declared.machine.Machine.{Machine}
+use Rattle.hep_state.specs.Snapshots.{Snapshot, snapshot_of}
 use Rattle.hep_state.specs.Tops.{IsTurning, with_stack}
 use Rattle.hep_entering.specs.Calling.{ArePassed, IsAllWritten, IsPassing, layout_with, state_called, state_created}
 
@@ -89,9 +91,7 @@ abbrev pub state_made : Bool → Units → List ℕ → ℕ → SourceLevel × P
 state_made false = state_called
 state_made true = state_created
 
--- by CALL, and by CREATE
-abbrev pub IsCalling : Units → ℕ → List ℕ → ℕ → Snapshot → ℕ → ℕ → List Given → List (Option Bounds) → Type 0
-IsCalling = IsMaking state_called
-
-abbrev pub IsCreating : Units → ℕ → List ℕ → ℕ → Snapshot → ℕ → ℕ → List Given → List (Option Bounds) → Type 0
-IsCreating = IsMaking state_created
+-- so it is in a machine, where just this is given, and this is called
+pub record Makes (creates : Bool) (program : Units) (cells : ℕ) (choices : List ℕ) (p : ℕ) (m : Machine) (called : Called) (index : ℕ) : Type 0 where
+  pub making : IsMaking (state_made creates) program cells choices p (snapshot_of m) called.unit index m.passing.given.items m.passing.shapes.items
+  pub unit : IsUnit program called.unit called.cells called.entry

@@ -10,3 +10,4 @@ pub mod Givings
 pub mod CallsAhead
 pub mod Unturned
 pub mod Outcomes
+pub mod Known

@@ -1,14 +1,19 @@
 -- One turn of a process in what a core keeps, in its parts: docs/MACHINE.md, "Steps".
-use Rattle.std.specs.Prelude.{◌≡◌, ◌<◌, ℕ, List, [], ◌∷◌, ◌++◌, length, Some, OnErr, IfOk, Result}
+use Rattle.std.specs.Prelude.{◌≡◌, ◌<◌, ◌+◌, ℕ, List, [], ◌∷◌, ◌++◌, drop, length, Some, OnErr, IfOk, Result}
 use Rattle.hep_source.specs.declared.value.Value.{Value}
 use Rattle.hep_source.specs.Units.{Units}
 use Rattle.hep_machine.specs.Processes.{numbered}
 use Rattle.hep_machine.specs.State.{Level as SourceLevel, Process as SourceProcess, Work}
 use Rattle.hep_arena.specs.Space.{Space}
+use Rattle.hep_code.specs.declared.instruction.Instruction.{Instruction}
 use Rattle.hep_code.specs.Ahead.{IsPastPushes}
 use Rattle.hep_code.specs.Standing.{Stands}
 use Rattle.hep_frames.specs.Tree.{Nodes}
 use Rattle.hep_cells.specs.Outcomes.{is_full_state}
+use Rattle.hep_image.specs.declared.array.Array.{Array}
+use Rattle.hep_image.specs.declared.unit.UnitCode.{UnitCode}
+use Rattle.hep_image.specs.Image.{IsUnitCode}
+use Rattle.hep_step.specs.declared.frame.Frame.{Frame as CellFrame}
 use Rattle.hep_step.specs.declared.effect.Effect.{Effect}
 use Rattle.hep_step.specs.declared.effect.Effect.TheVariants.{Moved, Printed, Failed, Waits, Returned, Stopped, LeftOut}
 use Rattle.hep_step.specs.Effects as effects
@@ -31,6 +36,20 @@ stack_with l ls operands = record { levels = l ∷ ls; operands = operands }
 -- process p has activations
 abbrev pub HasLevels : Snapshot → ℕ → Type 0
 HasLevels m p = (l : Level) × (ls : List Level) × (operands : List Value) × (numbered m.processes p ≡ Some (stack_with l ls operands))
+
+-- ---- where the top activation of a process is
+
+-- that of a level: its unit, its frame in the arena, and its index in the unit's code
+pub record IsPlace (program : Units) (nodes : Nodes) (l : Level) (unit : UnitCode) (frame : CellFrame) (index : ℕ) : Type 0 where
+  pub code : IsUnitCode program l.unit unit
+  pub framed : frame ≡ frame_in_arena (frame_under nodes l.key)
+  pub at : index ≡ l.index
+
+-- what is behind its operation in the code, its unit's arrays, and its frame
+pub record IsBehind (program : Units) (nodes : Nodes) (l : Level) (entries : List Instruction) (arrays : List Array) (frame : CellFrame) : Type 0 where
+  pub behind : entries ≡ drop (l.index + 1) (unit_code program l.unit)
+  pub arrays_are : arrays ≡ unit_arrays program l.unit
+  pub framed : frame ≡ frame_in_arena (frame_under nodes l.key)
 
 -- ---- the operation ahead is performed
 

@@ -7,15 +7,15 @@ ghost use Rattle.hep_code.specs.Ahead.{values_ahead};
 ghost use Rattle.hep_proc.specs.Nodes.{nodes_of};
 ghost use Rattle.hep_step.specs.Simulation.{unit_arrays, unit_code};
 ghost use Rattle.hep_state.specs.declared.machine.Level.{Level as ALevel};
-ghost use Rattle.hep_state.specs.Showing.{node_under};
+ghost use Rattle.hep_state.specs.Showing.{IsThere, node_under};
 ghost use Rattle.hep_state.specs.Snapshots.{stack_of};
-ghost use Rattle.hep_state.specs.Taking.{CanAdvance, IsAdvanced, IsSettled, stack_with};
+ghost use Rattle.hep_state.specs.Taking.{CanAdvance, IsAdvanced, IsBehind, IsPlace, IsSettled, stack_with};
 ghost use Rattle.hep_touched.specs.Touched.{touched_at};
 
 use crate::machine::{Level, Process};
 use hep_code::Instruction;
 use hep_code::operands::settle;
-use hep_image::Image;
+use hep_image::{Array, Image, UnitCode};
 use hep_proc::Frames;
 use hep_step::{Effect, Frame, perform};
 use hep_touched::touched;
@@ -29,6 +29,41 @@ impl Process {
             → result ≡ l }
     {
         self.levels[self.levels.len() - 1]
+    }
+
+    // Where its top activation is: its unit, its frame in the arena, and its index in the unit's code.
+    pub(crate) fn place<'a>(
+        &self,
+        frames: &Frames,
+        image: &'a Image,
+    ) -> (&'a UnitCode, Frame, usize)
+        requires { (l : ALevel) × (ls : List ALevel) × (operands : List OperandValue) × (stack_of self.now ≡ stack_with l ls operands)
+            × IsThere image.now (nodes_of frames.now.nodes) l }
+        ensures { (l : ALevel) (ls : List ALevel) (operands : List OperandValue) → stack_of self.now ≡ stack_with l ls operands
+            → IsPlace image.now (nodes_of frames.now.nodes) l result.0.now result.1 result.2 }
+    {
+        let Level { key, unit, index } = self.top();
+        let frame = Frame {
+            first: frames.first(key),
+            cells: frames.cells(key),
+        };
+        (image.unit(unit as usize), frame, index)
+    }
+
+    // What is behind the operation ahead of it in its unit's code, the unit's arrays, and its frame in the arena.
+    pub(crate) fn behind<'a>(
+        &self,
+        frames: &Frames,
+        image: &'a Image,
+    ) -> (&'a [Instruction], &'a [Array], Frame)
+        requires { (l : ALevel) × (ls : List ALevel) × (operands : List OperandValue) × (stack_of self.now ≡ stack_with l ls operands)
+            × IsThere image.now (nodes_of frames.now.nodes) l × (l.index < length (unit_code image.now l.unit)) }
+        ensures { (l : ALevel) (ls : List ALevel) (operands : List OperandValue) → stack_of self.now ≡ stack_with l ls operands
+            → IsBehind image.now (nodes_of frames.now.nodes) l result.0.now result.1.now result.2 }
+    {
+        let (unit, frame, index) = self.place(frames, image);
+        let entries = &unit.code.as_slice()[index + 1..];
+        (entries, unit.arrays.as_slice(), frame)
     }
 
     // Puts the values that stand ahead of its top activation, in its unit's code, behind the operands. There is room for them.
@@ -46,10 +81,12 @@ impl Process {
     }
 
     // Its top activation is at an index.
-    fn stand_at(&mut self, index: usize)
+    pub(crate) fn stand_at(&mut self, index: usize)
         requires { 0 < vec_len self.old.levels }
         ensures stack { (l : ALevel) (ls : List ALevel) (operands : List OperandValue) → stack_of self.old ≡ stack_with l ls operands
             → stack_of self.new ≡ stack_with (record l { index = index }) ls operands }
+        ensures count { vec_len self.new.levels ≡ vec_len self.old.levels }
+        ensures capacity { vec_capacity self.new.levels ≡ vec_capacity self.old.levels }
         ensures operands { self.new.operands ≡ self.old.operands }
     {
         let top = self.levels.len() - 1;
@@ -88,18 +125,9 @@ pub(crate) fn advance(
     ensures cells { length frames.new.arena.contents ≡ length frames.old.arena.contents }
     ensures capacity { vec_capacity process.old.operands ≤ vec_capacity process.new.operands }
 {
-    let Level {
-        key,
-        unit,
-        mut index,
-    } = process.top();
-    let unit = image.unit(unit as usize);
+    let (unit, frame, mut index) = process.place(frames, image);
     let code = unit.code.as_slice();
     let arrays = unit.arrays.as_slice();
-    let frame = Frame {
-        first: frames.first(key),
-        cells: frames.cells(key),
-    };
     let touched = touched(code, arrays, &frames.arena, frame, &process.operands, index);
     let performed = perform(
         alloc,

@@ -1,5 +1,5 @@
 //! CALL and CREATE: an activation that begins, with its frame (X3.9-1978, 15.6.2).
-ghost use Rattle.std.specs.Prelude.{◌≡◌, ◌<◌, ◌≤◌, ◌+◌, ◌-◌, ◌^◌, ◌++◌, ◌∷◌, ℕ, List, [], Some, IsSome, length, slice_get, vec_len, vec_capacity};
+ghost use Rattle.std.specs.Prelude.{◌≡◌, ◌<◌, ◌≤◌, ◌+◌, ◌-◌, ◌^◌, ◌++◌, ◌∷◌, ℕ, Bool, true, false, List, [], Some, IsSome, length, slice_get, vec_len, vec_capacity};
 ghost use Rattle.slab.specs.Slab.{HasRoomFor};
 ghost use Rattle.hep_source.specs.declared.value.Value.{Value as OperandValue};
 ghost use Rattle.hep_source.specs.Units.{Units};
@@ -10,11 +10,12 @@ ghost use Rattle.hep_state.specs.Snapshots.{snapshot_of, stack_of};
 ghost use Rattle.hep_state.specs.Taking.{stack_with};
 ghost use Rattle.hep_state.specs.Turns.{HasStepped};
 ghost use Rattle.hep_code.specs.Depths.{deepest};
+ghost use Rattle.hep_proc.specs.Nodes.{nodes_of};
 ghost use Rattle.hep_step.specs.Simulation.{unit_code};
-ghost use Rattle.hep_state.specs.Calls.{IsCalling, IsCreating, IsUnit};
+ghost use Rattle.hep_state.specs.Calls.{HasEntered, Makes, state_made};
 ghost use Rattle.hep_state.specs.Rooms.{HasRoomAt, HaveRoom};
 
-use crate::machine::{Level, Machine, Process};
+use crate::machine::{Level, Machine, Process, append};
 use hep_entering::{begin, shape_all};
 
 /// A unit that is called: its index in the program, how many cells its frame has, and where its first executable statement is in its
@@ -26,23 +27,6 @@ pub struct Called {
     pub entry: usize,
 }
 
-// The key of the node of its top activation.
-fn top_key(process: &Process) -> usize
-    requires { 0 < vec_len process.now.levels }
-    ensures { (l : ALevel) (ls : List ALevel) (operands : List OperandValue) → stack_of process.now ≡ stack_with l ls operands
-        → result ≡ l.key }
-{
-    process.levels[process.levels.len() - 1].key
-}
-
-// Appends a level, for which there is room.
-fn add_level(levels: &mut Vec<Level>, added: Level)
-    requires { vec_len levels.old < vec_capacity levels.old }
-    ensures { levels.new.items ≡ levels.old.items ++ added ∷ [] }
-{
-    let _ = levels.push(added);
-}
-
 // Its top activation is to go on at an index.
 pub(crate) fn go_on(process: &mut Process, index: usize)
     requires { 0 < vec_len process.old.levels }
@@ -52,8 +36,7 @@ pub(crate) fn go_on(process: &mut Process, index: usize)
     ensures capacity { vec_capacity process.new.levels ≡ vec_capacity process.old.levels }
     ensures operands { vec_capacity process.new.operands ≡ vec_capacity process.old.operands }
 {
-    let top = process.levels.len() - 1;
-    process.levels[top].index = index;
+    process.stand_at(index);
     process.operands.clear();
 }
 
@@ -66,47 +49,36 @@ fn put_above(process: &mut Process, index: usize, level: Level)
     ensures operands { vec_capacity process.new.operands ≡ vec_capacity process.old.operands }
 {
     go_on(process, index);
-    add_level(&mut process.levels, level);
-}
-
-// Appends a process, for which there is room.
-fn add_process(processes: &mut Vec<Process>, added: Process)
-    requires { vec_len processes.old < vec_capacity processes.old }
-    ensures { processes.new.items ≡ processes.old.items ++ added ∷ [] }
-{
-    let _ = processes.push(added);
+    append(&mut process.levels, level);
 }
 
 impl Machine {
-    // Process p calls a unit with what is given, and goes on at an index once this ends: the unit's activation has its frame, with what
-    // is given to its dummy arguments and their shapes, and is on top.
+    // The activation of a unit that process p calls, or of which it makes a process, begins: its frame enters, with what is given to its
+    // dummy arguments and their shapes. Answers its level.
     //
-    // There is a gap for the frame, and room for its node and for a level more, and for the unit's operands.
-    pub(crate) fn call(&mut self, p: u64, called: Called, index: usize)
-        requires calling { (program : Units) × (cells : ℕ) × (choices : List ℕ)
-            × IsCalling program cells choices p
-            (snapshot_of self.old) called.unit index self.old.passing.given.items self.old.passing.shapes.items
-            × IsUnit program called.unit called.cells called.entry }
+    // There is a gap for the frame, and room for its node.
+    fn begin_activation(&mut self, p: u64, called: Called) -> Level
+        requires making { (creates : Bool) × (program : Units) × (cells : ℕ) × (choices : List ℕ) × (index : ℕ)
+            × Makes creates program cells choices p self.old called index }
         requires few { length self.old.frames.arena.contents ≤ 16777216 }
         requires countable { self.old.activations + 1 < 2 ^ 64 }
         requires gap { IsSome (first_fit called.cells self.old.frames.arena.holes) }
         requires node { HasRoomFor self.old.frames.nodes 1 }
-        requires level { (q : AProcess) → slice_get self.old.processes.items (p - 1) ≡ Some q → vec_len q.levels < vec_capacity q.levels }
-        ensures stepped { (program : Units) (cells : ℕ) (choices : List ℕ)
-            → IsCalling program cells choices p
-            (snapshot_of self.old) called.unit index self.old.passing.given.items self.old.passing.shapes.items
-            → IsUnit program called.unit called.cells called.entry → HasStepped program cells choices p (snapshot_of self.new) }
-        ensures rooms { (program : Units) (cells : ℕ) → HaveRoom program cells self.old → HasRoomAt program p called.unit self.old
-            → HaveRoom program cells self.new }
-        ensures processes { length self.new.processes.items ≡ length self.old.processes.items }
+        ensures entered { (creates : Bool) (program : Units) (cells : ℕ) (choices : List ℕ) (index : ℕ)
+            → (e : Makes creates program cells choices p self.old called index)
+            → HasEntered program cells choices p e.making.turning.after.layout
+            (nodes_of self.old.frames.nodes) called.unit result.key e.making.l.key
+            (state_made creates program choices p e.making.top called.unit e.making.b)
+            self.new.frames.arena (nodes_of self.new.frames.nodes) }
+        ensures level { result ≡ record { key = result.key; unit = called.unit; index = called.entry } }
+        ensures others { self.new ≡ record self.old { frames = self.new.frames; activations = self.old.activations + 1 } }
     {
         hep_proc::laws::children_are_activations();
         hep_entering::laws::dummies_are_bound();
         hep_entering::laws::other_cells_are_unset();
         hep_entering::laws::references_are_kept();
-        let place = (p - 1) as usize;
         let activation = self.activations + 1;
-        let parent = top_key(&self.processes[place]);
+        let parent = self.processes[(p - 1) as usize].top().key;
         let Called { unit, cells, entry } = called;
         let key = begin(
             &mut self.frames,
@@ -117,13 +89,34 @@ impl Machine {
             &self.passing.given,
         );
         shape_all(&mut self.frames, key, &self.passing.shapes);
-        let level = Level {
+        self.activations = activation;
+        Level {
             key,
             unit,
             index: entry,
-        };
-        put_above(&mut self.processes[place], index, level);
-        self.activations = activation;
+        }
+    }
+
+    // Process p calls a unit with what is given, and goes on at an index once this ends: the unit's activation has its frame, with what
+    // is given to its dummy arguments and their shapes, and is on top.
+    //
+    // There is a gap for the frame, and room for its node and for a level more, and for the unit's operands.
+    pub(crate) fn call(&mut self, p: u64, called: Called, index: usize)
+        requires calling { (program : Units) × (cells : ℕ) × (choices : List ℕ)
+            × Makes false program cells choices p self.old called index }
+        requires few { length self.old.frames.arena.contents ≤ 16777216 }
+        requires countable { self.old.activations + 1 < 2 ^ 64 }
+        requires gap { IsSome (first_fit called.cells self.old.frames.arena.holes) }
+        requires node { HasRoomFor self.old.frames.nodes 1 }
+        requires level { (q : AProcess) → slice_get self.old.processes.items (p - 1) ≡ Some q → vec_len q.levels < vec_capacity q.levels }
+        ensures stepped { (program : Units) (cells : ℕ) (choices : List ℕ)
+            → Makes false program cells choices p self.old called index → HasStepped program cells choices p (snapshot_of self.new) }
+        ensures rooms { (program : Units) (cells : ℕ) → HaveRoom program cells self.old → HasRoomAt program p called.unit self.old
+            → HaveRoom program cells self.new }
+        ensures processes { length self.new.processes.items ≡ length self.old.processes.items }
+    {
+        let level = self.begin_activation(p, called);
+        put_above(&mut self.processes[(p - 1) as usize], index, level);
     }
 
     // Process p makes a process of a unit with what is given, and goes on at an index: the unit's activation has its
@@ -133,9 +126,7 @@ impl Machine {
     // There is a gap for the frame, and room for its node, for the process and for its level, and for the unit's operands.
     pub(crate) fn create(&mut self, p: u64, called: Called, index: usize, mut process: Process)
         requires creating { (program : Units) × (cells : ℕ) × (choices : List ℕ)
-            × IsCreating program cells choices p
-            (snapshot_of self.old) called.unit index self.old.passing.given.items self.old.passing.shapes.items
-            × IsUnit program called.unit called.cells called.entry }
+            × Makes true program cells choices p self.old called index }
         requires few { length self.old.frames.arena.contents ≤ 16777216 }
         requires countable { self.old.activations + 1 < 2 ^ 64 }
         requires gap { IsSome (first_fit called.cells self.old.frames.arena.holes) }
@@ -144,38 +135,14 @@ impl Machine {
         requires level { vec_len process.levels < vec_capacity process.levels }
         requires process { vec_len self.old.processes < vec_capacity self.old.processes }
         ensures stepped { (program : Units) (cells : ℕ) (choices : List ℕ)
-            → IsCreating program cells choices p
-            (snapshot_of self.old) called.unit index self.old.passing.given.items self.old.passing.shapes.items
-            → IsUnit program called.unit called.cells called.entry → HasStepped program cells choices p (snapshot_of self.new) }
+            → Makes true program cells choices p self.old called index → HasStepped program cells choices p (snapshot_of self.new) }
         ensures rooms { (program : Units) (cells : ℕ) → HaveRoom program cells self.old
             → deepest (unit_code program called.unit) ≤ vec_capacity process.operands → HaveRoom program cells self.new }
         ensures processes { length self.new.processes.items ≡ length self.old.processes.items + 1 }
     {
-        hep_proc::laws::children_are_activations();
-        hep_entering::laws::dummies_are_bound();
-        hep_entering::laws::other_cells_are_unset();
-        hep_entering::laws::references_are_kept();
-        let place = (p - 1) as usize;
-        let activation = self.activations + 1;
-        let parent = top_key(&self.processes[place]);
-        let Called { unit, cells, entry } = called;
-        let key = begin(
-            &mut self.frames,
-            activation,
-            unit,
-            cells,
-            parent,
-            &self.passing.given,
-        );
-        shape_all(&mut self.frames, key, &self.passing.shapes);
-        let level = Level {
-            key,
-            unit,
-            index: entry,
-        };
-        go_on(&mut self.processes[place], index);
-        add_level(&mut process.levels, level);
-        add_process(&mut self.processes, process);
-        self.activations = activation;
+        let level = self.begin_activation(p, called);
+        go_on(&mut self.processes[(p - 1) as usize], index);
+        append(&mut process.levels, level);
+        append(&mut self.processes, process);
     }
 }

@@ -18,12 +18,11 @@ ghost use Rattle.hep_state.specs.Tops.{snapshot_moved};
 
 use crate::calling::go_on;
 use crate::laws;
-use crate::machine::{Level, Machine};
+use crate::machine::Machine;
 use crate::upcoming::PurgeAhead;
 use hep_image::Image;
 use hep_machine::Kind;
 use hep_purging::find_ranges;
-use hep_step::Frame;
 
 impl Machine {
     // The cells that the targets of the PURGE ahead of process p name, into `passing`.
@@ -46,17 +45,12 @@ impl Machine {
         laws::purges_can_be_made();
         laws::purges_are_shown();
         let process = &self.processes[(p - 1) as usize];
-        let Level { key, unit, index } = process.top();
-        let unit = image.unit(unit as usize);
-        let frame = Frame {
-            first: self.frames.first(key),
-            cells: self.frames.cells(key),
-        };
+        let (entries, arrays, frame) = process.behind(&self.frames, image);
         find_ranges(
-            &unit.code.as_slice()[index + 1..],
+            entries,
             purge.count as usize,
             &process.operands,
-            unit.arrays.as_slice(),
+            arrays,
             &self.frames.arena,
             frame,
             &mut self.passing.ranges,

@@ -16,28 +16,12 @@ ghost use Rattle.hep_state.specs.Taking.{IsEnding, IsLeft, stack_with};
 ghost use Rattle.hep_state.specs.Tops.{keys_of};
 ghost use Rattle.hep_state.specs.Turns.{HasStepped, HasWaited};
 
-use crate::machine::{Level, Machine, Process};
+use crate::machine::{Level, Machine, Process, append};
 use hep_blocked::Want;
 use hep_cells::CellState;
-use hep_machine::{Fault, Kind, Record};
+use hep_machine::{Fault, Kind};
 use hep_proc::Frames;
 use hep_step::Effect;
-
-// Appends a record, for which there is room.
-fn add_record(records: &mut Vec<Record>, added: Record)
-    requires { vec_len records.old < vec_capacity records.old }
-    ensures { records.new.items ≡ records.old.items ++ added ∷ [] }
-{
-    let _ = records.push(added);
-}
-
-// Appends a fault, for which there is room.
-fn add_fault(faults: &mut Vec<Fault>, added: Fault)
-    requires { vec_len faults.old < vec_capacity faults.old }
-    ensures { faults.new.items ≡ faults.old.items ++ added ∷ [] }
-{
-    let _ = faults.push(added);
-}
 
 // Several activations have ended, the last one first: their frames leave, and no levels are left.
 fn leave_all(frames: &mut Frames, levels: &mut Vec<Level>)
@@ -107,7 +91,7 @@ impl Machine {
             line,
             kind,
         };
-        add_fault(&mut self.faults, fault);
+        append(&mut self.faults, fault);
     }
 
     // Ends a turn of process p, whose operation came to this; or answers what the process waits for.
@@ -126,7 +110,7 @@ impl Machine {
     {
         match effect {
             Effect::Moved => {}
-            Effect::Printed(record) => add_record(&mut self.records, record),
+            Effect::Printed(record) => append(&mut self.records, record),
             Effect::Failed { line, kind } => self.fail(p, line, kind),
             Effect::Waits { at, state } => {
                 let full = state == CellState::Full;

@@ -43,6 +43,7 @@ ghost use Rattle.hep_step.specs.Simulation.{IsRunning, Simulates, is_left_out, u
 ghost use Rattle.hep_state.specs.declared.machine.Level.{Level};
 ghost use Rattle.hep_entering.specs.Calling.{state_called, state_created};
 ghost use Rattle.hep_state.specs.Calls.{HasEntered, IsAfterCall, IsMaking, IsUnit, snapshot_called, snapshot_created, state_made};
+ghost use Rattle.hep_state.specs.Known.{IsKnown};
 ghost use Rattle.hep_state.specs.Openings.{IsEntered, IsGiven, snapshot_opened, unset_opening};
 ghost use Rattle.hep_state.specs.Showing.{node_under};
 ghost use Rattle.hep_state.specs.Snapshots.{Snapshot};
@@ -192,6 +193,20 @@ pub fn faults_are_shown()
         (record { process = p; unit = l.unit; line = line; kind = kind }) arena nodes) }
 {}
 
+// What the laws of other crates say of an accepted program with a main program.
+fn programs_are_known()
+    ensures { (program : Units) → IsAccepted program → is_some (main_among program) ≡ true → IsKnown program }
+{
+    hep_works::laws::works_come_from_statements();
+    hep_works::laws::calls_come_from_statements();
+    hep_works::laws::subroutines_are_called();
+    hep_works::laws::programs_are_closed();
+    hep_works::laws::units_are_there();
+    hep_works::laws::activations_are_bound_in_runs();
+    hep_step::laws::calls_are_ahead();
+    tops_are_running();
+}
+
 /// A process that is at a CALL or CREATE makes an activation of a subroutine of the program, with as many actual arguments
 /// as this has dummy arguments, and what its operands and the entries behind the CALL name can be passed.
 pub fn calls_can_be_made()
@@ -208,15 +223,8 @@ pub fn calls_can_be_made()
         → ArePassable m.arena (unit_arrays program at.l.unit) (frame_in_arena (frame_under m.nodes at.l.key))
         (passed_from call.count at.behind at.operands) }
 {
-    hep_works::laws::works_come_from_statements();
-    hep_works::laws::calls_come_from_statements();
-    hep_works::laws::subroutines_are_called();
-    hep_works::laws::programs_are_closed();
-    hep_works::laws::units_are_there();
-    hep_works::laws::activations_are_bound_in_runs();
-    hep_placed::laws::arrays_are_there();
     hep_passing::laws::callers_can_pass();
-    hep_step::laws::calls_are_ahead();
+    programs_are_known();
     tops_are_running();
 }
 
@@ -234,11 +242,8 @@ pub fn purges_can_be_made()
         → AreOut m.arena (unit_arrays program at.l.unit) (frame_in_arena (frame_under m.nodes at.l.key))
         (passed_from purge.count at.behind at.operands) }
 {
-    hep_works::laws::programs_are_closed();
-    hep_works::laws::units_are_there();
-    hep_works::laws::activations_are_bound_in_runs();
-    hep_placed::laws::arrays_are_there();
     hep_purging::laws::purges_are_ready();
+    programs_are_known();
     tops_are_running();
 }
 
@@ -261,14 +266,11 @@ pub fn purges_are_shown()
     ensures gaps { (program : Units) (cells : ℕ) (choices : List ℕ) (m : Snapshot) (p : ℕ) (purge : PurgeAhead) → IsAccepted program
         → is_some (main_among program) ≡ true → IsAtPurge program cells choices p m purge → HasGaps program cells choices p }
 {
-    hep_works::laws::programs_are_closed();
-    hep_works::laws::units_are_there();
-    hep_works::laws::activations_are_bound_in_runs();
     hep_placed::laws::variables_of_the_code_are_placed();
     hep_purging::laws::purges_do_what_the_machine_does();
     hep_purging::laws::ranges_are_emptied();
     gaps_are_told();
-    tops_are_running();
+    programs_are_known();
 }
 
 /// CALL and CREATE fill and empty nothing.
@@ -302,21 +304,15 @@ pub fn calls_give_what_is_bound()
         → given_of program m call at ≡ Ok given → are_fitting m.arena.contents given (dummy_arguments program (unit_at program call.unit))
         ≡ false → IsEnding program cells choices p m (fails call.line Shape) }
 {
-    hep_works::laws::works_come_from_statements();
-    hep_works::laws::calls_come_from_statements();
-    hep_works::laws::subroutines_are_called();
     hep_works::laws::actual_arguments_fit();
     hep_works::laws::variables_are_placed();
-    hep_works::laws::programs_are_closed();
-    hep_works::laws::units_are_there();
-    hep_works::laws::activations_are_bound_in_runs();
     hep_accepted::names::names_are_given_once();
     hep_passing::laws::all_actuals_are_passed();
     hep_shaping::laws::calls_are_shapable();
     hep_shaping::laws::shapes_decide_bindings();
     hep_entering::laws::calls_make_activations();
     hep_step::laws::calls_are_ahead();
-    tops_are_running();
+    programs_are_known();
 }
 
 /// Where the arena has no gap as long as the frame of the unit that is called, the step's frame has none; and where it has one, or

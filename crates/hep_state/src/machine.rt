@@ -1,10 +1,20 @@
 //! What a core keeps of a state.
+ghost use Rattle.std.specs.Prelude.{◌≡◌, ◌<◌, ◌++◌, ◌∷◌, [], vec_len, vec_capacity};
+
 use hep_machine::{Fault, Record};
 use hep_passing::Given;
 use hep_proc::Frames;
 use hep_purging::Range;
 use hep_shape::Shape;
 use hep_source::Value;
+
+// Appends an element, for which there is room.
+pub(crate) fn append<T: Drop>(items: &mut Vec<T>, added: T)
+    requires { vec_len items.old < vec_capacity items.old }
+    ensures { items.new.items ≡ items.old.items ++ added ∷ [] }
+{
+    let _ = items.push(added);
+}
 
 /// An activation on a stack: the key of its node, the index of its unit in the program, and where it is in the
 /// unit's code, both counted from 0.

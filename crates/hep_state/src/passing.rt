@@ -8,13 +8,12 @@ ghost use Rattle.hep_state.specs.Snapshots.{snapshot_of};
 ghost use Rattle.hep_state.specs.Taking.{IsEnding};
 
 use crate::laws;
-use crate::machine::{Level, Machine, Passing};
+use crate::machine::{Machine, Passing};
 use crate::upcoming::CallAhead;
 use hep_image::Image;
 use hep_machine::Kind;
 use hep_passing::give_actuals;
 use hep_shaping::find_shapes;
-use hep_step::Frame;
 
 impl Machine {
     // What the actual arguments of the CALL or CREATE ahead of process p give.
@@ -39,12 +38,7 @@ impl Machine {
         laws::calls_can_be_made();
         laws::calls_give_what_is_bound();
         let process = &self.processes[(p - 1) as usize];
-        let Level { key, unit, index } = process.top();
-        let caller = image.unit(unit as usize);
-        let frame = Frame {
-            first: self.frames.first(key),
-            cells: self.frames.cells(key),
-        };
+        let (entries, arrays, frame) = process.behind(&self.frames, image);
         let Passing {
             given,
             shapes,
@@ -52,10 +46,10 @@ impl Machine {
             ..
         } = &mut self.passing;
         give_actuals(
-            &caller.code.as_slice()[index + 1..],
+            entries,
             call.count as usize,
             &process.operands,
-            caller.arrays.as_slice(),
+            arrays,
             &self.frames.arena,
             frame,
             given,

@@ -8,7 +8,7 @@ ghost use Rattle.hep_machine.specs.Run.{run};
 ghost use Rattle.hep_arena.specs.Holes.{IsOut};
 ghost use Rattle.hep_image.specs.Image.{most_cells};
 ghost use Rattle.hep_state.specs.declared.machine.Process.{Process as AProcess};
-ghost use Rattle.hep_state.specs.CallsAhead.{IsAtCall, IsAtPurge, IsWithoutCall};
+ghost use Rattle.hep_state.specs.CallsAhead.{IsAtCall, IsWithoutCall};
 ghost use Rattle.hep_state.specs.Rooms.{HaveRoom, IsMachineAfter};
 ghost use Rattle.hep_state.specs.Snapshots.{snapshot_of};
 ghost use Rattle.hep_state.specs.Taking.{HasLevels, IsLeft, IsSeenSame};
@@ -20,7 +20,7 @@ use crate::advancing::{Advanced, advance};
 use crate::calling::Called;
 use crate::laws;
 use crate::machine::{Machine, Process};
-use crate::upcoming::{CallAhead, PurgeAhead, StepAhead};
+use crate::upcoming::{CallAhead, StepAhead};
 use hep_blocked::Want;
 use hep_image::Image;
 use hep_machine::Entry;
@@ -58,6 +58,19 @@ pub enum Turned {
     Purged,
     /// The process waits for a cell to be so. The same state is shown.
     Waits(Want),
+}
+
+impl Process {
+    // Room for a level more, and for so many operands at once.
+    fn reserve(&mut self, operands: u32) -> Result<(), AllocError>
+        ensures level { OnOk result (vec_len self.new.levels < vec_capacity self.new.levels) }
+        ensures operands { OnOk result (operands ≤ vec_capacity self.new.operands) }
+        ensures same { (self.new.levels.items ≡ self.old.levels.items) × (self.new.operands.items ≡ self.old.operands.items) }
+        ensures capacity { vec_capacity self.old.operands ≤ vec_capacity self.new.operands }
+    {
+        self.levels.reserve(1)?;
+        self.operands.reserve(operands as usize)
+    }
 }
 
 impl Machine {
@@ -111,9 +124,7 @@ impl Machine {
     {
         history.reserve(1)?;
         self.frames.reserve()?;
-        let process = &mut self.processes[(p - 1) as usize];
-        process.levels.reserve(1)?;
-        process.operands.reserve(operands as usize)
+        self.processes[(p - 1) as usize].reserve(operands)
     }
 
     // Room for a process more and for the node of its activation, and for the entry of the turn that makes it; and that process, which
@@ -226,30 +237,6 @@ impl Machine {
         }
     }
 
-    // A turn of process p, which is at a PURGE.
-    fn take_purge(
-        &mut self,
-        image: &Image,
-        p: u64,
-        purge: PurgeAhead,
-        history: &mut Vec<Entry>,
-    ) -> Result<Turned, AllocError>
-        requires at { (cells : ℕ) × (choices : List ℕ) × IsMachineAfter image.now cells choices self.old
-            × IsAtPurge image.now cells choices p (snapshot_of self.old) purge }
-        ensures turned { IfOk result (λ turned. (cells : ℕ) (choices : List ℕ) → IsMachineAfter image.now cells choices self.old
-            → IsAtPurge image.now cells choices p (snapshot_of self.old) purge → HasTurned image.now cells choices p turned self.new) }
-        ensures refused { OnErr result ((cells : ℕ) (choices : List ℕ) → IsMachineAfter image.now cells choices self.old
-            → IsMachineAfter image.now cells choices self.new) }
-        ensures same { OnErr result (IsSeenSame (snapshot_of self.old) (snapshot_of self.new)) }
-        ensures processes { length self.new.processes.items ≡ length self.old.processes.items }
-        ensures room { OnOk result (vec_len history.new < vec_capacity history.new) }
-        ensures entries { history.new.items ≡ history.old.items }
-    {
-        self.reserve(history)?;
-        self.purge(image, p, purge);
-        Ok(Turned::Purged)
-    }
-
     // A turn of process p, which is at a CALL or CREATE: an activation more, or a fault.
     //
     // Whether the frame has a gap is found before memory is asked for.
@@ -347,7 +334,11 @@ impl Machine {
         laws::purges_are_shown();
         match self.step_ahead(image, p) {
             StepAhead::Call(call) => self.take_call(alloc, image, p, call, history, ready),
-            StepAhead::Purge(purge) => Ok(self.take_purge(image, p, purge, history)?),
+            StepAhead::Purge(purge) => {
+                self.reserve(history)?;
+                self.purge(image, p, purge);
+                Ok(Turned::Purged)
+            }
             StepAhead::Other => Ok(self.take_operation(alloc, image, p, history)?),
         }
     }

@@ -1,5 +1,5 @@
 pub mod Elements
-mod Worked
+pub mod Worked
 pub mod Accesses
 pub mod Assignments
 pub mod Calls

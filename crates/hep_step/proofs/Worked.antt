@@ -13,17 +13,17 @@ use Rattle.hep_image.specs.declared.array.Extents.TheVariants.{Adjustable}
 use Rattle.hep_image.specs.declared.array.Start.TheVariants.{Dummy}
 use Rattle.hep_image.specs.Finding.{address_of, cells_in, counts_at}
 
-abbrev number : ℕ → Slot
+abbrev pub number : ℕ → Slot
 number n = record { value = Some (Int (pos n)); full = false }
 
 -- two cells of COMMON, and from cell 2 on: a local scalar, the two cells of the dummy array, the two of a dummy argument that
--- stands for an expression, the bounds 1:3 and 1:*, and the count of a DO without its increment
-abbrev contents : List Slot
+-- stands for an expression, the bounds 1:3 and 1:*, and the count of a DO, or another dummy argument
+abbrev pub contents : List Slot
 contents =
     number 40 ∷ number 41
     ∷ (number 7 ∷ (number 0 ∷ number 2 ∷ (number 9 ∷ unset_cell ∷ (number 1 ∷ number 3 ∷ (number 1 ∷ unset_cell ∷ (number 4 ∷ unset_cell ∷ []))))))
 
-abbrev array : Array
+abbrev pub array : Array
 array = record { start = Dummy 1; extents = Adjustable 5 2 }
 
 abbrev at : Variable → List ℕ → Result ℕ Kind

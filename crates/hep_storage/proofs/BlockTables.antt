@@ -10,9 +10,10 @@ use Rattle.hep_source.specs.declared.name.Name.{Name}
 use Rattle.hep_source.specs.declared.statement.Statement.{Statement}
 use Rattle.hep_machine.specs.Declarations.{BlockName, same_block, block_of, blocks_in, blocks_of_unit, names_in_block, entries_under, names_declared}
 use Rattle.hep_check.specs.Common as conditions
-use Rattle.hep_values.proofs.BlockNames.{block-equal, block-self, names-append}
 use Rattle.hep_storage.specs.Blocks.{AreNoted, KnownPlaces, Holds, Has, HasContents, known, no_run, block, block_in, names_into, places_of_names, names_under, later_line}
 use Rattle.hep_storage.specs.declared.contents.Contents.{Contents}
+use Rattle.hep_machine.proofs.Locations.{equal_blocks, block-self}
+use Rattle.hep_symbols.proofs.News.{declared-append}
 
 -- ---- lists of COMMON
 
@@ -20,7 +21,7 @@ pub names-next : (ds : List Declarator) (i : ℕ) (d e : Declarator) (xs : List 
     → (xs ++ names_declared (take i ds)) ++ e.occurrence.name ∷ [] ≡ xs ++ names_declared (take (i + 1) ds)
 names-next ds i d e xs lt is =
     append_assoc xs (names_declared (take i ds)) (e.occurrence.name ∷ [])
-    ∙ ap (λ ys. xs ++ ys) (sym (ap names_declared (take_more ds i d lt ∙ ap (λ y. take i ds ++ y ∷ []) (sym is)) ∙ names-append (take i ds) (e ∷ [])))
+    ∙ ap (λ ys. xs ++ ys) (sym (ap names_declared (take_more ds i d lt ∙ ap (λ y. take i ds ++ y ∷ []) (sym is)) ∙ declared-append (take i ds) (e ∷ [])))
 
 -- one name more of a list
 pub name-turn : (unit : List Statement) (b : BlockName) (ds : List Declarator) (i : ℕ) (d e : Declarator) (xs : List Name) (c : Contents) → i < length ds → e ≡ get_or ds i d
@@ -44,7 +45,7 @@ under-append b (c ∷ cs) ds = by (same_block (block_of c) b) (under-append b cs
     by false h = h
 
 pub names_under-append : (b : BlockName) (cs ds : List CommonBlock) → names_under b (cs ++ ds) ≡ names_under b cs ++ names_under b ds
-names_under-append b cs ds = ap names_declared (under-append b cs ds) ∙ names-append (entries_under b cs) (entries_under b ds)
+names_under-append b cs ds = ap names_declared (under-append b cs ds) ∙ declared-append (entries_under b cs) (entries_under b ds)
 
 abbrev is_named : BlockName → List CommonBlock → Bool
 is_named b cs = list_any (λ (c : CommonBlock). same_block (block_of c) b) cs
@@ -176,7 +177,7 @@ module _ (unit : List Statement) (list : CommonBlock) (b : BlockName) (xs : List
   here-has : (c : Contents) → same_block (block_of list) b ≡ true → c.line ≡ line → Holds unit (block_of list) (xs ++ names_declared list.entries) c
       → HasContents unit b (xs ++ names_under b (list ∷ [])) (later_line b before line (list ∷ [])) (Some c)
   here-has c e l h =
-      rw e (subst (λ ys. Holds unit b (xs ++ names_declared ys) c) (sym (append-nil list.entries)) (subst (λ k. Holds unit k (xs ++ names_declared list.entries) c) (block-equal (block_of list) b e) h), ap Some (sym l))
+      rw e (subst (λ ys. Holds unit b (xs ++ names_declared ys) c) (sym (append-nil list.entries)) (subst (λ k. Holds unit k (xs ++ names_declared list.entries) c) (equal_blocks (block_of list) b e) h), ap Some (sym l))
 
   other-has : (o : Option Contents) → same_block (block_of list) b ≡ false → HasContents unit b xs before o
       → HasContents unit b (xs ++ names_under b (list ∷ [])) (later_line b before line (list ∷ [])) o
@@ -195,7 +196,7 @@ list-noted unit list k names line old new taken c was noted is same had adds mar
   where
     by : (t : Bool) → same_block k b ≡ t → HasContents unit b (xs ++ names_under b (list ∷ [])) (later_line b before line (list ∷ [])) (new b)
     by true e =
-        let f : k ≡ b = block-equal k b e in
+        let f : k ≡ b = equal_blocks k b e in
         let g : Holds unit k (xs ++ names_declared names) c =
         adds xs (subst (λ j. AreNoted unit j xs was) (sym f) h.1) (had xs before (subst (λ j. HasContents unit j xs before (old j)) (sym f) h.0)) in
         subst (HasContents unit b (xs ++ names_under b (list ∷ [])) (later_line b before line (list ∷ []))) (sym (put b ∙ ap (λ t. if t then Some c else old b) e))
@@ -204,6 +205,3 @@ list-noted unit list k names line old new taken c was noted is same had adds mar
     by false e =
         subst (HasContents unit b (xs ++ names_under b (list ∷ [])) (later_line b before line (list ∷ []))) (sym (put b ∙ ap (λ t. if t then Some c else old b) e))
         (other-has unit list b xs before line (old b) (sym (ap (λ j. same_block j b) is) ∙ e) h.0)
-
-pub lists-start : (unit : List Statement) (noted : Name → Bool) (b : BlockName) (xs : List Name) (before : Option ℕ) (o : Option Contents) → Has unit noted b xs before o → Has unit noted b (xs ++ []) before o
-lists-start unit noted b xs before o h = subst (λ ys. Has unit noted b ys before o) (sym (append-nil xs)) h

@@ -10,7 +10,8 @@ use Rattle.hep_source.specs.Units.{Units}
 use Rattle.hep_machine.specs.Declarations.{BlockName, same_block, block_of, blocks_in, blocks_of_unit, blocks_of, with_blocks, is_block_among}
 use Rattle.hep_check.specs.Common as conditions
 use Rattle.hep_storage.specs.Blocks.{Block, block_in, known_places}
-use Rattle.hep_values.proofs.BlockNames.{block-equal, block-self, either-true, or-true}
+use Rattle.hep_machine.proofs.Locations.{block-stays, equal_blocks, block-self}
+use Rattle.std.proofs.lemmas.Bool.{or_left, or_right}
 
 pub any-append : {A : Type 0} (test : A → Bool) (xs ys : List A) → list_any test (xs ++ ys) ≡ (list_any test xs || list_any test ys)
 any-append test [] ys = refl
@@ -32,8 +33,8 @@ some-line b (s ∷ ss) h = named-append b (blocks_in s.form) (blocks_of_unit ss)
   where
     by : (l : Option ℕ) → conditions.last_line b ss ≡ l → (t : Bool) → conditions.names_block b s ≡ t
         → (is_some (conditions.last_line b ss) ≡ true → named b (blocks_of_unit ss) ≡ true) → (named b (blocks_in s.form) || named b (blocks_of_unit ss)) ≡ true
-    by (Some k) e t f g = or-true (named b (blocks_in s.form)) (named b (blocks_of_unit ss)) (g (ap is_some e))
-    by None e true f g = either-true (named b (blocks_in s.form)) (named b (blocks_of_unit ss)) f
+    by (Some k) e t f g = or_right (named b (blocks_in s.form)) (named b (blocks_of_unit ss)) (g (ap is_some e))
+    by None e true f g = or_left (named b (blocks_in s.form)) (named b (blocks_of_unit ss)) f
     by None e false f g =
         let n : is_some (conditions.last_line b (s ∷ ss)) ≡ false = rw (e, f) refl in
         absurd (true≢false (sym h ∙ n))
@@ -42,18 +43,14 @@ some-line b (s ∷ ss) h = named-append b (blocks_in s.form) (blocks_of_unit ss)
 
 one-more : (b k : BlockName) (bs : List BlockName) (t : Bool) → is_block_among b bs ≡ true → is_block_among b (if t then bs else bs ++ k ∷ []) ≡ true
 one-more b k bs true h = h
-one-more b k bs false h = any-append (same_block b) bs (k ∷ []) ∙ either-true (is_block_among b bs) (is_block_among b (k ∷ [])) h
-
-still-among : (b : BlockName) (bs : List BlockName) (cs : List CommonBlock) → is_block_among b bs ≡ true → is_block_among b (with_blocks bs cs) ≡ true
-still-among b bs [] h = h
-still-among b bs (c ∷ cs) h = still-among b (if is_block_among (block_of c) bs then bs else bs ++ block_of c ∷ []) cs (one-more b (block_of c) bs (is_block_among (block_of c) bs) h)
+one-more b k bs false h = any-append (same_block b) bs (k ∷ []) ∙ or_left (is_block_among b bs) (is_block_among b (k ∷ [])) h
 
 this-among : (b : BlockName) (bs : List BlockName) → is_block_among b (if is_block_among b bs then bs else bs ++ b ∷ []) ≡ true
 this-among b bs = by (is_block_among b bs) refl
   where
     by : (t : Bool) → is_block_among b bs ≡ t → is_block_among b (if t then bs else bs ++ b ∷ []) ≡ true
     by true e = e
-    by false e = any-append (same_block b) bs (b ∷ []) ∙ or-true (is_block_among b bs) (is_block_among b (b ∷ [])) (either-true (same_block b b) false (block-self b))
+    by false e = any-append (same_block b) bs (b ∷ []) ∙ or_right (is_block_among b bs) (is_block_among b (b ∷ [])) (or_left (same_block b b) false (block-self b))
 
 named-among : (b : BlockName) (bs : List BlockName) (cs : List CommonBlock) → named b cs ≡ true → is_block_among b (with_blocks bs cs) ≡ true
 named-among b bs [] h = absurd (true≢false (sym h))
@@ -63,8 +60,8 @@ named-among b bs (c ∷ cs) h = by (same_block (block_of c) b) refl h (named-amo
         → (named b cs ≡ true → is_block_among b (with_blocks (if is_block_among (block_of c) bs then bs else bs ++ block_of c ∷ []) cs) ≡ true)
         → is_block_among b (with_blocks (if is_block_among (block_of c) bs then bs else bs ++ block_of c ∷ []) cs) ≡ true
     by true e g more =
-        still-among b (if is_block_among (block_of c) bs then bs else bs ++ block_of c ∷ []) cs
-        (subst (λ k. is_block_among k (if is_block_among (block_of c) bs then bs else bs ++ block_of c ∷ []) ≡ true) (block-equal (block_of c) b e) (this-among (block_of c) bs))
+        block-stays b (if is_block_among (block_of c) bs then bs else bs ++ block_of c ∷ []) cs
+        (subst (λ k. is_block_among k (if is_block_among (block_of c) bs then bs else bs ++ block_of c ∷ []) ≡ true) (equal_blocks (block_of c) b e) (this-among (block_of c) bs))
     by false e g more = more g
 
 -- ---- a unit of a program
@@ -79,9 +76,9 @@ unit-among program i d lt b h =
     named-among b [] (flat_map blocks_of_unit program)
     (ap (named b) parts
     ∙ (named-append b (flat_map blocks_of_unit (take i program)) (blocks_of_unit u ++ flat_map blocks_of_unit rest)
-    ∙ or-true (named b (flat_map blocks_of_unit (take i program))) (named b (blocks_of_unit u ++ flat_map blocks_of_unit rest))
+    ∙ or_right (named b (flat_map blocks_of_unit (take i program))) (named b (blocks_of_unit u ++ flat_map blocks_of_unit rest))
     (named-append b (blocks_of_unit u) (flat_map blocks_of_unit rest)
-    ∙ either-true (named b (blocks_of_unit u)) (named b (flat_map blocks_of_unit rest)) (some-line b u (line-there (conditions.last_line b u) h)))))
+    ∙ or_left (named b (blocks_of_unit u)) (named b (flat_map blocks_of_unit rest)) (some-line b u (line-there (conditions.last_line b u) h)))))
   where
     line-there : (l : Option ℕ) → is_some (option_map {U = Block} (λ (line : ℕ). record { list = known_places (conditions.positions_of_block (get_or program i d) b); line = line }) l) ≡ true → is_some l ≡ true
     line-there None g = g

@@ -1,5 +1,5 @@
 -- Pairs of units that have a block otherwise, against what the units before have in common.
-use Rattle.std.proofs.Common.{◌≡◌, ℕ, zero, suc, ◌+◌, Bool, true, false, not, ◌&&◌, ◌||◌, nat_eq, Option, Some, None, is_some, List, [], ◌∷◌, map, length, refl, ap, sym, ◌∙◌, arith, if◌then◌else◌}
+use Rattle.std.proofs.Common.{◌≡◌, ℕ, ◌+◌, Bool, true, false, not, ◌&&◌, ◌||◌, nat_eq, Option, Some, None, is_some, List, [], ◌∷◌, map, length, refl, ap, sym, ◌∙◌, arith, if◌then◌else◌}
 use Rattle.std.specs.List.{flat_map}
 use Rattle.std.proofs.lemmas.Bool.Decides.{nat_tests}
 use Rattle.hep_source.specs.declared.statement.Statement.{Statement}
@@ -10,7 +10,7 @@ use Rattle.hep_check.specs.Common as conditions
 use Rattle.hep_check.specs.Known.{Known as Items, count_of_items, holds_at_each_place}
 use Rattle.hep_check.specs.Reported.{least_line, line_when, least_line_of, reported}
 use Rattle.hep_check.specs.Violations.{first_of}
-use Rattle.hep_check.proofs.Lines.{least_line-or, least_line_of-same, least_line_of-both, least_line_of-turned, reported-append, reported-of, reported-when}
+use Rattle.hep_check.proofs.Lines.{least_line-or, least_line_of-same, least_line_of-both, least_line_of-turned, reported-append, reported-of, reported-when, least_line_of-nones}
 use Rattle.hep_storage.specs.Agreement.{Summed, nothing_summed, with_list, with_block, with_count, with_length, is_other_count, is_other_length, place_count, differs_from, line_after, least_after, least_of_blocks}
 use Rattle.hep_storage.specs.Blocks.{KnownPlaces, Block, run_of, known_places, block_in}
 use Rattle.hep_runs.specs.Runs.{alike, positions_in}
@@ -19,17 +19,11 @@ use Rattle.hep_runs.specs.Spread.{repeat_before, spread, agree_as_far}
 use Rattle.hep_storage.specs.declared.summary.Lengths.{Lengths}
 use Rattle.hep_storage.specs.declared.summary.Lengths.TheVariants as lengths
 use Rattle.hep_runs.specs.declared.runs.Position.{Position}
-use Rattle.hep_storage.proofs.Pairs.{each_pair, each_later, pairs-from-start, nones}
+use Rattle.hep_storage.proofs.Pairs.{each_pair, each_later, pairs-from-start}
+use Rattle.hep_runs.proofs.Meetings.{length-repeat, map-repeat}
 use Rattle.hep_runs.proofs.Places.{at_each_place}
 use Rattle.hep_storage.proofs.Sharing.{one-more}
-
-or-false : (a : Bool) → (a || false) ≡ a
-or-false true = refl
-or-false false = refl
-
-or-true : (a : Bool) → (a || true) ≡ true
-or-true true = refl
-or-true false = refl
+use Rattle.hep_source.proofs.Tests.{or-false, or-true}
 
 -- ---- two lists of a block
 
@@ -41,13 +35,9 @@ differs b k l =
 abbrev position_of : conditions.Position → Position
 position_of p = record { asynchronous = p.0; value_type = p.1 }
 
-map-repeat : (n : ℕ) (p : conditions.Position) (ps : List conditions.Position) → map position_of (repeat_before n p ps) ≡ repeat_before n (position_of p) (map position_of ps)
-map-repeat zero p ps = refl
-map-repeat (suc n) p ps = ap (λ qs. position_of p ∷ qs) (map-repeat n p ps)
-
 positions-spread : (rs : List (Repeated conditions.Position)) → positions_in (map run_of rs) ≡ map position_of (spread rs)
 positions-spread [] = refl
-positions-spread (r ∷ rs) = ap (repeat_before r.count (position_of r.item)) (positions-spread rs) ∙ sym (map-repeat r.count r.item (spread rs))
+positions-spread (r ∷ rs) = ap (repeat_before r.count (position_of r.item)) (positions-spread rs) ∙ sym (map-repeat position_of r.count r.item (spread rs))
 
 agree-map : (ps qs : List conditions.Position) → agree_as_far alike (map position_of ps) (map position_of qs) ≡ agree_as_far conditions.same_position ps qs
 agree-map [] qs = refl
@@ -60,10 +50,6 @@ agree-places ps qs =
     at_each_place conditions.same_position ps qs
     ∙ (sym (agree-map (spread ps) (spread qs))
     ∙ (ap (λ rs. agree_as_far alike rs (map position_of (spread qs))) (sym (positions-spread ps)) ∙ ap (agree_as_far alike (positions_in (map run_of ps))) (sym (positions-spread qs))))
-
-length-repeat : (n : ℕ) (p : Position) (ps : List Position) → length (repeat_before n p ps) ≡ n + length ps
-length-repeat zero p ps = omega arith
-length-repeat (suc n) p ps = let e = length-repeat n p ps in omega (arith, e)
 
 count-places : (rs : List (Repeated conditions.Position)) → count_of_items rs ≡ length (positions_in (map run_of rs))
 count-places [] = refl
@@ -201,7 +187,7 @@ differing-line bs (u ∷ us) =
     (differing-line bs us)
 
 by-blocks : (bs : List BlockName) (us : Units) → each_pair (pair_among bs) us ≡ least_line_of (λ b. each_pair (pair b) us) bs
-by-blocks bs [] = sym (nones bs)
+by-blocks bs [] = sym (least_line_of-nones bs)
 by-blocks bs (u ∷ us) =
     ap (λ l. least_line l (each_pair (pair_among bs) us)) (least_line_of-turned (λ w b. pair b u w) us bs)
     ∙ (ap (least_line (least_line_of (λ b. least_line_of (pair b u) us) bs)) (by-blocks bs us)

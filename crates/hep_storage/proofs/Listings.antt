@@ -13,7 +13,7 @@ use Rattle.hep_storage.specs.Blocks.{AreNoted, KnownPlaces, is_first_block, name
 use Rattle.hep_runs.specs.Spread.{repeat_before}
 use Rattle.hep_runs.specs.declared.runs.Position.{Position}
 use Rattle.hep_runs.specs.declared.runs.Run.{Run}
-use Rattle.hep_values.proofs.BlockNames.{block-equal}
+use Rattle.hep_machine.proofs.Locations.{equal_blocks}
 
 -- ---- names
 
@@ -130,7 +130,7 @@ one-block unit k b y = by (common_block unit y)
   where
     by : (o : Option BlockName) → option_map_or (same_block k) o false ≡ true → option_map_or (same_block b) o false ≡ true → same_block k b ≡ true
     by None g f = absurd (true≢false (sym g))
-    by (Some c) g f = subst (λ j. same_block k j ≡ true) (sym (block-equal b c f)) g
+    by (Some c) g f = subst (λ j. same_block k j ≡ true) (sym (equal_blocks b c f)) g
 
 other-block : (unit : List Statement) (k b : BlockName) (y : Name) → is_first_block unit k y ≡ true → same_block k b ≡ false → is_first_block unit b y ≡ false
 other-block unit k b y g e = by (is_first_block unit b y) refl
@@ -168,5 +168,5 @@ pub noted-next : (unit : List Statement) (k b : BlockName) (xs : List Name) (y :
 noted-next unit k b xs y old new marked is x f = is x ∙ by (same_block k b) refl
   where
     by : (t : Bool) → same_block k b ≡ t → with_noted unit k y old x ≡ is_among x (xs ++ (if t then y ∷ [] else []))
-    by true e = ap (λ j. with_noted unit j y old x) (block-equal k b e) ∙ here unit b xs x y (old x) (marked x f) f
+    by true e = ap (λ j. with_noted unit j y old x) (equal_blocks k b e) ∙ here unit b xs x y (old x) (marked x f) f
     by false e = elsewhere unit k b xs x y (old x) (marked x f) f e

@@ -3,16 +3,13 @@ use Rattle.std.proofs.Common.{◌≡◌, ℕ, Bool, true, false, ◌||◌, Optio
 use Rattle.std.proofs.lemmas.Bool.Decides.{nat_tests}
 use Rattle.hep_machine.specs.Declarations.{BlockName, same_block, is_block_among}
 use Rattle.hep_check.specs.Reported.{least_line, least_line_of}
-use Rattle.hep_check.proofs.Lines.{least_line-assoc, least_line-comm, least_line_of-both}
-use Rattle.hep_values.proofs.BlockNames.{block-equal, block-self, either-true, or-true}
+use Rattle.hep_check.proofs.Lines.{least_line-assoc, least_line-comm, least_line_of-both, least_line_of-nones}
+use Rattle.hep_machine.proofs.Locations.{equal_blocks, block-self}
+use Rattle.std.proofs.lemmas.Bool.{or_left, or_right}
 
 pub least_line-self : (a : Option ℕ) → least_line a a ≡ a
 least_line-self None = refl
 least_line-self (Some k) = grind (arith, nat_tests)
-
-pub nones : {A : Type 0} (xs : List A) → least_line_of (λ x. None) xs ≡ None
-nones [] = refl
-nones (x ∷ xs) = nones xs
 
 -- ---- each unit with each one after it, or with each one before it
 
@@ -31,7 +28,7 @@ module _ {U : Type 0} (line : U → U → Option ℕ) where
       ∙ (ap (least_line a) (least_line-assoc b l d) ∙ sym (least_line-assoc a b (least_line l d)))
 
   pub pairs-later : (before us : List U) → each_later before us ≡ least_line (least_line_of (λ u. least_line_of (line u) us) before) (each_pair us)
-  pairs-later before [] = sym (ap (λ l. least_line l None) (nones before))
+  pairs-later before [] = sym (ap (λ l. least_line l None) (least_line_of-nones before))
   pairs-later before (w ∷ ws) =
       ap (least_line (least_line_of (λ u. line u w) before)) (pairs-later (w ∷ before) ws)
       ∙ (regrouped (least_line_of (λ u. line u w) before) (least_line_of (λ u. least_line_of (line u) ws) before) (least_line_of (line w) ws) (each_pair ws)
@@ -50,7 +47,7 @@ module _ (line : BlockName → Option ℕ) where
       by : (t : Bool) → same_block b c ≡ t → (t || is_block_among b cs) ≡ true → (is_block_among b cs ≡ true → least_line (line b) (least_line_of line cs) ≡ least_line_of line cs)
           → least_line (line b) (least_line_of line (c ∷ cs)) ≡ least_line_of line (c ∷ cs)
       by true e g more =
-          ap (λ d. least_line (line d) (least_line_of line (c ∷ cs))) (block-equal b c e)
+          ap (λ d. least_line (line d) (least_line_of line (c ∷ cs))) (equal_blocks b c e)
           ∙ (sym (least_line-assoc (line c) (line c) (least_line_of line cs)) ∙ ap (λ l. least_line l (least_line_of line cs)) (least_line-self (line c)))
       by false e g more =
           sym (least_line-assoc (line b) (line c) (least_line_of line cs))
@@ -63,12 +60,12 @@ module _ (line : BlockName → Option ℕ) where
   within bs [] h = refl
   within bs (c ∷ cs) h =
       least_line-assoc (line c) (least_line_of line cs) (least_line_of line bs)
-      ∙ (ap (least_line (line c)) (within bs cs (λ d m s. h d (or-true (same_block d c) (is_block_among d cs) m) s))
+      ∙ (ap (least_line (line c)) (within bs cs (λ d m s. h d (or_right (same_block d c) (is_block_among d cs) m) s))
       ∙ here (line c) refl)
     where
       here : (l : Option ℕ) → line c ≡ l → least_line (line c) (least_line_of line bs) ≡ least_line_of line bs
       here None e = ap (λ l. least_line l (least_line_of line bs)) e
-      here (Some k) e = absorbed c bs (h c (either-true (same_block c c) (is_block_among c cs) (block-self c)) (ap is_some e))
+      here (Some k) e = absorbed c bs (h c (or_left (same_block c c) (is_block_among c cs) (block-self c)) (ap is_some e))
 
   pub same-blocks : (bs cs : List BlockName) → ((c : BlockName) → is_block_among c cs ≡ true → is_some (line c) ≡ true → is_block_among c bs ≡ true)
       → ((b : BlockName) → is_block_among b bs ≡ true → is_some (line b) ≡ true → is_block_among b cs ≡ true) → least_line_of line bs ≡ least_line_of line cs

@@ -8,7 +8,8 @@ use Rattle.hep_runs.specs.Runs.{alike, positions_in, IsPlace, first_places, late
 use Rattle.hep_runs.specs.declared.runs.Place.{Place}
 use Rattle.hep_runs.specs.declared.runs.Position.{Position}
 use Rattle.hep_runs.specs.declared.runs.Run.{Run}
-use Rattle.hep_runs.proofs.Meetings.{alike-self, alike-equal, front-rest, positions-append}
+use Rattle.hep_runs.proofs.Meetings.{alike-self, alike-equal, front-rest, positions-append, rest-none}
+use Rattle.hep_source.proofs.Tests.{or-false, or-true}
 
 -- ---- what departs from several lists departs from one of them
 
@@ -21,14 +22,6 @@ agree-departs (q ∷ qs) (r ∷ rs) = by (alike q r) (agree-departs qs rs)
     by : (b : Bool) → not (agree_as_far alike qs rs) ≡ departs false qs rs → not (b && agree_as_far alike qs rs) ≡ (not b || departs false qs rs)
     by true h = h
     by false h = refl
-
-or-false : (a : Bool) → (a || false) ≡ a
-or-false true = refl
-or-false false = refl
-
-or-true : (a : Bool) → (a || true) ≡ true
-or-true true = refl
-or-true false = refl
 
 pub one-more : (cut : Bool) (ps qs rs : List Position)
     → (not (agree_as_far alike qs rs) || departs cut ps rs) ≡ departs (in_common cut ps qs).is_cut (in_common cut ps qs).positions rs
@@ -83,9 +76,6 @@ departs-end false (q ∷ qs) = refl
 departs-none : (cut : Bool) (ps : List Position) → departs cut ps [] ≡ false
 departs-none cut [] = refl
 departs-none cut (p ∷ ps) = refl
-
-rest-none : (p : Place) (rs : List Run) → length rs ≤ p.run → rest p rs ≡ []
-rest-none p rs h = ap (λ qs. later_places qs p.before) (drop_all p.run rs h)
 
 in_common-front : (cut : Bool) (fs ps qs : List Position) → in_common cut (fs ++ ps) (fs ++ qs) ≡ record { positions = fs ++ (in_common cut ps qs).positions; is_cut = (in_common cut ps qs).is_cut }
 in_common-front cut [] ps qs = refl

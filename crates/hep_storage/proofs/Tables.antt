@@ -1,17 +1,19 @@
 -- The table of common blocks after one entry was written.
-use Rattle.std.proofs.Common.{◌≡◌, Bool, true, false, ◌||◌, Option, Some, None, is_some, IsSome, List, [], ◌∷◌, ◌++◌, refl, ap, sym, subst, ◌∙◌, cond, true≢false, if◌then◌else◌}
+use Rattle.std.proofs.Common.{◌≡◌, Bool, true, false, ◌||◌, Option, Some, None, is_some, List, [], ◌∷◌, ◌++◌, refl, ap, sym, subst, ◌∙◌, cond, true≢false, if◌then◌else◌}
 use Rattle.std.specs.Option.{option_eq, option_map}
 use Rattle.hep_source.specs.Names.{name_eq}
 use Rattle.hep_source.specs.declared.name.Name.{Name}
 use Rattle.hep_source.specs.declared.statement.Statement.{Statement}
 use Rattle.hep_machine.specs.Declarations.{BlockName, same_block, is_block_among}
-use Rattle.hep_values.proofs.BlockNames.{block-equal, block-self, changed, either-true, or-true}
+use Rattle.hep_values.proofs.BlockNames.{changed}
 use Rattle.hep_storage.proofs.BlocksNamed.{any-append}
 use Rattle.hep_storage.specs.Agreement.{AreAmong, with_block, summed}
 use Rattle.hep_storage.specs.Blocks.{block, HasContents, Has}
 use Rattle.hep_storage.specs.declared.contents.Contents.{Contents}
 use Rattle.hep_storage.specs.Table.{contents_in, block_at, summed_in, AreRead}
 use Rattle.hep_storage.specs.declared.table.Entry.{Entry}
+use Rattle.hep_machine.proofs.Locations.{equal_blocks, block-self}
+use Rattle.std.proofs.lemmas.Bool.{or_left, or_right}
 
 -- what is seen of an entry, where one was put
 pub seen-put : {X : Type 0} (see : Option Entry → X) (k b : BlockName) (e : Entry) (new old : Option Entry) → new ≡ cond (option_eq name_eq k b) (Some e) old → see new ≡ (if same_block k b then see (Some e) else see old)
@@ -20,10 +22,6 @@ seen-put see k b e new old h = ap see (h ∙ changed k b (Some e) old) ∙ by (s
     by : (t : Bool) → see (if t then Some e else old) ≡ (if t then see (Some e) else see old)
     by true = refl
     by false = refl
-
-pub some-there : {A : Type 0} (o : Option A) (x : A) → o ≡ Some x → IsSome o
-some-there None x h = cc
-some-there (Some y) x h = refl
 
 -- ---- a block that is settled
 
@@ -46,14 +44,14 @@ module _ (k : BlockName) (old new : BlockName → Option Entry) where
     missing-added b = ap summed_in (same b) ∙ by (same_block k b) refl
       where
         by : (t : Bool) → same_block k b ≡ t → summed_in (old b) ≡ (if t then with_block (block_at (old k)) (summed_in (old k)) else summed_in (old b))
-        by true e = ap (λ c. summed_in (old c)) (sym (block-equal k b e)) ∙ (ap summed_in none ∙ sym (ap (λ o. with_block (block_at o) (summed_in o)) none))
+        by true e = ap (λ c. summed_in (old c)) (sym (equal_blocks k b e)) ∙ (ap summed_in none ∙ sym (ap (λ o. with_block (block_at o) (summed_in o)) none))
         by false e = refl
 
     pub missing-left : (b : BlockName) → block_at (new b) ≡ (if same_block k b then None else block_at (old b))
     missing-left b = ap block_at (same b) ∙ by (same_block k b) refl
       where
         by : (t : Bool) → same_block k b ≡ t → block_at (old b) ≡ (if t then None else block_at (old b))
-        by true e = ap (λ c. block_at (old c)) (sym (block-equal k b e)) ∙ ap block_at none
+        by true e = ap (λ c. block_at (old c)) (sym (equal_blocks k b e)) ∙ ap block_at none
         by false e = refl
 
 -- ---- a list of COMMON, of which the block is in the table now
@@ -68,16 +66,16 @@ module _ (k : BlockName) (old new : BlockName → Option Entry) (f : Entry) (put
   put-summaries h b = seen-put summed_in k b f (new b) (old b) (put b) ∙ by (same_block k b) refl
     where
       by : (t : Bool) → same_block k b ≡ t → (if t then summed f.summary else summed_in (old b)) ≡ summed_in (old b)
-      by true e = h ∙ ap (λ c. summed_in (old c)) (block-equal k b e)
+      by true e = h ∙ ap (λ c. summed_in (old c)) (equal_blocks k b e)
       by false e = refl
 
   put-named : (bs : List BlockName) → AreAmong bs (λ b. block_at (old b)) → AreAmong (bs ++ k ∷ []) (λ b. block_at (new b))
   put-named bs h b s = any-append (same_block b) bs (k ∷ []) ∙ by (same_block k b) refl
     where
       by : (t : Bool) → same_block k b ≡ t → (is_block_among b bs || is_block_among b (k ∷ [])) ≡ true
-      by true e = or-true (is_block_among b bs) (is_block_among b (k ∷ [])) (either-true (same_block b k) false (ap (same_block b) (block-equal k b e) ∙ block-self b))
+      by true e = or_right (is_block_among b bs) (is_block_among b (k ∷ [])) (or_left (same_block b k) false (ap (same_block b) (equal_blocks k b e) ∙ block-self b))
       by false e =
-          either-true (is_block_among b bs) (is_block_among b (k ∷ []))
+          or_left (is_block_among b bs) (is_block_among b (k ∷ []))
           (h b (ap is_some (sym (seen-put block_at k b f (new b) (old b) (put b) ∙ ap (λ t. if t then block_at (Some f) else block_at (old b)) e)) ∙ s))
 
   pub put-read : (bs : List BlockName) → summed f.summary ≡ summed_in (old k) → AreRead old new bs (bs ++ k ∷ [])

@@ -5,12 +5,12 @@ use Rattle.hep_source.specs.declared.statement.Statement.{Statement}
 use Rattle.hep_source.specs.Units.{Units}
 use Rattle.hep_machine.specs.Declarations.{BlockName, same_block, is_block_among, blocks_of}
 use Rattle.hep_check.specs.Reported.{least_line, least_line_of}
-use Rattle.hep_check.proofs.Lines.{least_line-none, least_line-assoc, least_line-comm, least_line_of-same, least_line_of-both}
+use Rattle.hep_check.proofs.Lines.{least_line-none, least_line-assoc, least_line-comm, least_line_of-same, least_line_of-both, least_line_of-nones}
 use Rattle.hep_storage.specs.Agreement.{Summed, with_block, line_after, least_after, least_of_blocks, least_of_left, AreAmong}
 use Rattle.hep_storage.specs.Blocks.{Block, block_in}
 use Rattle.hep_storage.proofs.BlocksNamed.{unit-among}
-use Rattle.hep_values.proofs.BlockNames.{block-equal, block-self}
-use Rattle.hep_storage.proofs.Pairs.{absorbed, least_line-self, nones}
+use Rattle.hep_storage.proofs.Pairs.{absorbed, least_line-self}
+use Rattle.hep_machine.proofs.Locations.{equal_blocks, block-self}
 
 -- ---- one unit more
 
@@ -33,7 +33,7 @@ unit-turn bs s t items units i d u best line after same lt is h e a =
 pub units-end : (bs : List BlockName) (s : BlockName → Summed) (units : Units) (i : ℕ) (best total : Option ℕ) → length units ≤ i
     → least_line best (least_of_blocks bs s (drop i units)) ≡ total → best ≡ total
 units-end bs s units i best total k h =
-    sym (least_line-none best) ∙ (ap (least_line best) (sym (nones bs)) ∙ (ap (λ us. least_line best (least_of_blocks bs s us)) (sym (drop_all i units k)) ∙ h))
+    sym (least_line-none best) ∙ (ap (least_line best) (sym (least_line_of-nones bs)) ∙ (ap (λ us. least_line best (least_of_blocks bs s us)) (sym (drop_all i units k)) ∙ h))
 
 -- the blocks of a unit that a table has
 pub blocks-turn : (s t : BlockName → Summed) (items units : Units) (i : ℕ) (d u : List Statement) (found : BlockName → Option Block) (best line after : Option ℕ)
@@ -64,7 +64,7 @@ module _ (k : BlockName) (f g : BlockName → Option ℕ) (other : (b : BlockNam
           ap (λ l. least_line (f k) (least_line l (least_line_of g bs))) (other b ∙ ap (λ t. if t then None else f b) e)
           ∙ (h
           ∙ (ap (λ l. least_line l (least_line_of f bs)) (sym (least_line-self (f k)))
-          ∙ (least_line-assoc (f k) (f k) (least_line_of f bs) ∙ ap (λ c. least_line (f k) (least_line (f c) (least_line_of f bs))) (block-equal k b e))))
+          ∙ (least_line-assoc (f k) (f k) (least_line_of f bs) ∙ ap (λ c. least_line (f k) (least_line (f c) (least_line_of f bs))) (equal_blocks k b e))))
       by false e h =
           ap (λ l. least_line (f k) (least_line l (least_line_of g bs))) (other b ∙ ap (λ t. if t then None else f b) e)
           ∙ (swapped (f k) (f b) (least_line_of g bs)
@@ -84,7 +84,7 @@ module _ (k : BlockName) (o : Option Block) (s t : BlockName → Summed) (left f
           ap (λ o. with_block o (t b)) (less b ∙ ap (λ x. if x then None else left b) e)
           ∙ (more b
           ∙ (ap (λ x. if x then with_block o (s k) else s b) e
-          ∙ (ap (λ o. with_block o (s k)) (sym is) ∙ ap (λ d. with_block (left d) (s d)) (block-equal k b e))))
+          ∙ (ap (λ o. with_block o (s k)) (sym is) ∙ ap (λ d. with_block (left d) (s d)) (equal_blocks k b e))))
       by false e =
           ap (λ o. with_block o (t b)) (less b ∙ ap (λ x. if x then None else left b) e)
           ∙ ap (with_block (left b)) (more b ∙ ap (λ x. if x then with_block o (s k) else s b) e)
@@ -121,7 +121,7 @@ module _ (k : BlockName) (o : Option Block) (s t : BlockName → Summed) (left f
 
 -- no block is left
 pub none-left : (bs : List BlockName) (s : BlockName → Summed) (left : BlockName → Option Block) → ((b : BlockName) → left b ≡ None) → least_of_left bs s left ≡ None
-none-left bs s left h = least_line_of-same (λ b. line_after b (s b) (left b)) (λ b. None) (λ b. ap (line_after b (s b)) (h b)) bs ∙ nones bs
+none-left bs s left h = least_line_of-same (λ b. line_after b (s b) (left b)) (λ b. None) (λ b. ap (line_after b (s b)) (h b)) bs ∙ least_line_of-nones bs
 
 -- ---- the loop over the blocks of a unit
 
@@ -159,7 +159,7 @@ pub among-next : (k : BlockName) (ks : List BlockName) (left fewer : BlockName �
 among-next k ks left fewer less h b e = by (same_block k b) refl
   where
     other : same_block k b ≡ false → (t : Bool) → same_block b k ≡ t → (t || is_block_among b ks) ≡ true → is_block_among b ks ≡ true
-    other n true s m = absurd (true≢false (sym (block-self b) ∙ (ap (λ x. same_block x b) (block-equal b k s) ∙ n)))
+    other n true s m = absurd (true≢false (sym (block-self b) ∙ (ap (λ x. same_block x b) (equal_blocks b k s) ∙ n)))
     other n false s m = m
 
     by : (t : Bool) → same_block k b ≡ t → is_block_among b ks ≡ true

@@ -1,11 +1,20 @@
 -- What a table of common blocks has of a block: X3.9-1978, 8.3.
-use Rattle.std.specs.Prelude.{◌≡◌, if◌then◌else◌, List, Option, Some, None}
-use Rattle.std.specs.Option.{option_map}
+use Rattle.std.specs.Prelude.{◌≡◌, ℕ, Bool, if◌then◌else◌, List, ◌++◌, Option, Some, None}
+use Rattle.std.specs.Option.{option_eq, option_map}
+use Rattle.indexmap.specs.IndexMap.{IndexMap, get}
+use Rattle.hep_source.specs.declared.declaration.CommonBlock.{CommonBlock}
+use Rattle.hep_source.specs.declared.name.Name.{Name}
+use Rattle.hep_source.specs.declared.statement.Statement.{Statement}
+use Rattle.hep_source.specs.Names.{name_eq}
 use Rattle.hep_machine.specs.Declarations.{BlockName}
 use Rattle.hep_storage.specs.Agreement.{Summed, nothing_summed, summed, AreAmong}
-use Rattle.hep_storage.specs.Blocks.{Block, block}
+use Rattle.hep_storage.specs.Blocks.{Block, block, Has, names_under, later_line}
 use Rattle.hep_storage.specs.declared.contents.Contents.{Contents}
 use Rattle.hep_storage.specs.declared.table.Entry.{Entry}
+
+-- the entry of a block
+abbrev pub entry_at : {S : Type 0} → IndexMap BlockName Entry S → BlockName → Option Entry
+entry_at table b = get (option_eq name_eq) table b
 
 -- what the unit at hand has in a block, if it names it
 abbrev pub contents_in : Option Entry → Option Contents
@@ -24,3 +33,9 @@ summed_in (Some e) = summed e.summary
 pub record AreRead (old new : BlockName → Option Entry) (before after : List BlockName) : Type 0 where
   pub summaries : (b : BlockName) → summed_in (new b) ≡ summed_in (old b)
   pub named : AreAmong before (λ b. block_at (old b)) → AreAmong after (λ b. block_at (new b))
+
+-- the same of the blocks in these lists of a COMMON statement at a line, with the names that are noted
+abbrev pub AreListed : List Statement → (Name → Bool) → (Name → Bool) → (BlockName → Option Entry) → (BlockName → Option Entry) → ℕ → List CommonBlock → Type 0
+AreListed unit noted noted' old new line lists =
+    (b : BlockName) (xs : List Name) (before : Option ℕ) → Has unit noted b xs before (contents_in (old b))
+    → Has unit noted' b (xs ++ names_under b lists) (later_line b before line lists) (contents_in (new b))

@@ -1,13 +1,10 @@
 //! Condition 305: units have a common block otherwise (X3.9-1978, 8.3.3 to 8.3.5).
 ghost use Rattle.std.specs.Prelude.{◌≡◌, List, None, IfOk};
-ghost use Rattle.std.specs.Option.{option_eq};
-ghost use Rattle.indexmap.specs.IndexMap.{get};
-ghost use Rattle.hep_source.specs.Names.{name_eq};
 ghost use Rattle.hep_machine.specs.Declarations.{BlockName, blocks_of};
 ghost use Rattle.hep_check.specs.Common as conditions;
 ghost use Rattle.hep_check.specs.Violations.{first_of};
 ghost use Rattle.hep_storage.specs.Agreement as agreement;
-ghost use Rattle.hep_storage.specs.Table.{block_at, summed_in};
+ghost use Rattle.hep_storage.specs.Table.{block_at, summed_in, entry_at};
 
 use crate::blocks::read_blocks;
 use crate::table::{Table, settle};
@@ -20,12 +17,12 @@ use std::alloc::{AllocError, Global};
 
 // The least line of the blocks of a unit, which all have their names here, that differ.
 fn least_in_unit(table: &mut Table, named: &[Option<Name>]) -> Option<u32>
-    requires { agreement.AreAmong named.now (λ b. block_at (get (option_eq name_eq) table.old b)) }
-    ensures line { (all : List BlockName) → agreement.AreAmong all (λ b. block_at (get (option_eq name_eq) table.old b))
-        → result ≡ agreement.least_of_left all (λ b. summed_in (get (option_eq name_eq) table.old b)) (λ b. block_at (get (option_eq name_eq) table.old b)) }
-    ensures added { (b : BlockName) → summed_in (get (option_eq name_eq) table.new b)
-        ≡ agreement.with_block (block_at (get (option_eq name_eq) table.old b)) (summed_in (get (option_eq name_eq) table.old b)) }
-    ensures none { (b : BlockName) → block_at (get (option_eq name_eq) table.new b) ≡ None }
+    requires { agreement.AreAmong named.now (λ b. block_at (entry_at table.old b)) }
+    ensures line { (all : List BlockName) → agreement.AreAmong all (λ b. block_at (entry_at table.old b))
+        → result ≡ agreement.least_of_left all (λ b. summed_in (entry_at table.old b)) (λ b. block_at (entry_at table.old b)) }
+    ensures added { (b : BlockName) → summed_in (entry_at table.new b)
+        ≡ agreement.with_block (block_at (entry_at table.old b)) (summed_in (entry_at table.old b)) }
+    ensures none { (b : BlockName) → block_at (entry_at table.new b) ≡ None }
 {
     let mut least = None;
     for block in named {

@@ -1,7 +1,5 @@
 //! The common blocks of a unit, statement by statement (X3.9-1978, 8.3).
-ghost use Rattle.std.specs.Prelude.{◌≡◌, ◌++◌, ◌∷◌, [], ℕ, List, Option, None, false, IfOk, OnOk};
-ghost use Rattle.std.specs.Option.{option_eq};
-ghost use Rattle.indexmap.specs.IndexMap.{get};
+ghost use Rattle.std.specs.Prelude.{◌≡◌, ◌∷◌, [], None, false, OnOk};
 ghost use Rattle.indexmap.specs.IndexSet.{contains};
 ghost use Rattle.hep_source.specs.Names.{name_eq};
 ghost use Rattle.hep_source.specs.declared.name.Name.{Name as PureName};
@@ -9,7 +7,7 @@ ghost use Rattle.hep_machine.specs.Declarations as declarations;
 ghost use Rattle.hep_machine.specs.Declarations.{BlockName};
 ghost use Rattle.hep_storage.specs.Agreement.{AreAmong};
 ghost use Rattle.hep_storage.specs.Blocks as blocks;
-ghost use Rattle.hep_storage.specs.Table.{contents_in, block_at, summed_in, AreRead};
+ghost use Rattle.hep_storage.specs.Table.{block_at, summed_in, AreRead, AreListed, entry_at};
 
 use crate::contents::Noted;
 use crate::table::{Entry, Table};
@@ -31,9 +29,9 @@ fn note_block(
     list: &CommonBlock,
 ) -> Result<(), AllocError>
     requires { shapes.now ≡ symbols.now }
-    ensures has { OnOk result ((b : BlockName) (xs : List PureName) (before : Option ℕ) → blocks.Has symbols.now (contains name_eq noted.old) b xs before (contents_in (get (option_eq name_eq) table.old b))
-        → blocks.Has symbols.now (contains name_eq noted.new) b (xs ++ blocks.names_under b (list.now ∷ [])) (blocks.later_line b before line (list.now ∷ [])) (contents_in (get (option_eq name_eq) table.new b))) }
-    ensures read { OnOk result (AreRead (get (option_eq name_eq) table.old) (get (option_eq name_eq) table.new) named.old.items named.new.items) }
+    ensures has { OnOk result (AreListed symbols.now (contains name_eq noted.old) (contains name_eq noted.new)
+        (entry_at table.old) (entry_at table.new) line (list.now ∷ [])) }
+    ensures read { OnOk result (AreRead (entry_at table.old) (entry_at table.new) named.old.items named.new.items) }
 {
     let block = block_of(list);
     named.push(block)?;
@@ -67,9 +65,9 @@ fn note_blocks(
     lists: &[CommonBlock],
 ) -> Result<(), AllocError>
     requires { shapes.now ≡ symbols.now }
-    ensures has { OnOk result ((b : BlockName) (xs : List PureName) (before : Option ℕ) → blocks.Has symbols.now (contains name_eq noted.old) b xs before (contents_in (get (option_eq name_eq) table.old b))
-        → blocks.Has symbols.now (contains name_eq noted.new) b (xs ++ blocks.names_under b lists.now) (blocks.later_line b before line lists.now) (contents_in (get (option_eq name_eq) table.new b))) }
-    ensures read { OnOk result (AreRead (get (option_eq name_eq) table.old) (get (option_eq name_eq) table.new) named.old.items named.new.items) }
+    ensures has { OnOk result (AreListed symbols.now (contains name_eq noted.old) (contains name_eq noted.new)
+        (entry_at table.old) (entry_at table.new) line lists.now) }
+    ensures read { OnOk result (AreRead (entry_at table.old) (entry_at table.new) named.old.items named.new.items) }
 {
     for list in lists {
         note_block(alloc, symbols, shapes, table, named, noted, line, list)?;
@@ -89,11 +87,11 @@ pub(crate) fn read_blocks(
     named: &mut Vec<Option<Name>>,
     noted: &mut Noted,
 ) -> Result<(), AllocError>
-    requires none { (b : BlockName) → block_at (get (option_eq name_eq) table.old b) ≡ None }
+    requires none { (b : BlockName) → block_at (entry_at table.old b) ≡ None }
     requires unread { (x : PureName) → contains name_eq noted.old x ≡ false }
-    ensures blocks { OnOk result ((b : BlockName) → block_at (get (option_eq name_eq) table.new b) ≡ blocks.block_in symbols.now b) }
-    ensures summaries { OnOk result ((b : BlockName) → summed_in (get (option_eq name_eq) table.new b) ≡ summed_in (get (option_eq name_eq) table.old b)) }
-    ensures named { OnOk result (AreAmong named.new.items (λ b. block_at (get (option_eq name_eq) table.new b))) }
+    ensures blocks { OnOk result ((b : BlockName) → block_at (entry_at table.new b) ≡ blocks.block_in symbols.now b) }
+    ensures summaries { OnOk result ((b : BlockName) → summed_in (entry_at table.new b) ≡ summed_in (entry_at table.old b)) }
+    ensures named { OnOk result (AreAmong named.new.items (λ b. block_at (entry_at table.new b))) }
 {
     let shapes = Shapes::new(alloc, symbols)?;
     for statement in symbols.statements() {

@@ -96,7 +96,8 @@ impl Shared {
         ensures departs { result ≡ departs self.old.is_cut (positions_in self.old.runs.items) (positions_in list.old.items) }
         ensures places { positions_in self.new.runs.items
             ≡ (in_common self.old.is_cut (positions_in self.old.runs.items) (positions_in list.old.items)).positions }
-        ensures cut { self.new.is_cut ≡ (in_common self.old.is_cut (positions_in self.old.runs.items) (positions_in list.old.items)).is_cut }
+        ensures cut { self.new.is_cut
+            ≡ (in_common self.old.is_cut (positions_in self.old.runs.items) (positions_in list.old.items)).is_cut }
     {
         match compare(&self.runs, list) {
             Comparison::Parted(place) => {

@@ -45,17 +45,14 @@ fn run_of_name(symbols: &Symbols, shapes: &Shapes, name: &Name) -> Option<Run>
     requires { shapes.now ≡ symbols.now }
     ensures { result ≡ blocks.run_of_name symbols.now name.now }
 {
-    let position = Position {
-        asynchronous: name.asynchronous,
-        value_type: symbols.type_of(name),
-    };
-    match element_count(shapes.known_shape(name)) {
-        Some(count) => Some(Run {
-            position,
-            count: u64::from(count),
-        }),
-        None => None,
-    }
+    let count = element_count(shapes.known_shape(name))?;
+    Some(Run {
+        position: Position {
+            asynchronous: name.asynchronous,
+            value_type: symbols.type_of(name),
+        },
+        count: u64::from(count),
+    })
 }
 
 // Two runs as one, where both have the same.
@@ -83,7 +80,8 @@ fn push(runs: &mut Vec<Run>, run: Run) -> Result<(), AllocError>
 
 // Two runs more, or one that is as long as both.
 fn push_both(runs: &mut Vec<Run>, first: Run, second: Run) -> Result<(), AllocError>
-    ensures { OnOk result (positions_in runs.new.items ≡ (positions_in runs.old.items ++ blocks.places_of first) ++ blocks.places_of second) }
+    ensures { OnOk result (positions_in runs.new.items
+        ≡ (positions_in runs.old.items ++ blocks.places_of first) ++ blocks.places_of second) }
 {
     match joined(first, second) {
         Some(both) => push(runs, both)?,
@@ -140,10 +138,9 @@ fn is_same_block(first: Option<Name>, second: Option<Name>) -> bool
 fn is_held(symbols: &Symbols, block: Option<Name>, name: &Name) -> bool
     ensures { result ≡ blocks.is_first_block symbols.now block name.now }
 {
-    match symbols.common_block(name) {
-        Some(first) => is_same_block(block, first),
-        None => false,
-    }
+    symbols
+        .common_block(name)
+        .is_some_and(|first| is_same_block(block, first))
 }
 
 // Notes a name, and says whether its first place in COMMON is here.

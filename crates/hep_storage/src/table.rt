@@ -1,14 +1,12 @@
 //! The common blocks of a program (X3.9-1978, 8.3), in a table that serves for one unit after the other.
 ghost use Rattle.std.specs.Prelude.{◌≡◌, ℕ, List, [], true, false, None, Some, Option, if◌then◌else◌};
-ghost use Rattle.std.specs.Option.{option_eq, option_map};
-ghost use Rattle.indexmap.specs.IndexMap.{get};
-ghost use Rattle.hep_source.specs.Names.{name_eq};
+ghost use Rattle.std.specs.Option.{option_map};
 ghost use Rattle.hep_source.specs.declared.name.Name.{Name as PureName};
 ghost use Rattle.hep_source.specs.declared.statement.Statement.{Statement as PureStatement};
 ghost use Rattle.hep_machine.specs.Declarations.{BlockName, same_block};
 ghost use Rattle.hep_storage.specs.Agreement.{summed, nothing_summed, with_block, line_after};
 ghost use Rattle.hep_storage.specs.Blocks.{HasContents, Holds, block};
-ghost use Rattle.hep_storage.specs.Table.{contents_in, summed_in, block_at};
+ghost use Rattle.hep_storage.specs.Table.{contents_in, summed_in, block_at, entry_at};
 
 use crate::contents::Contents;
 use crate::summary::Summary;
@@ -85,13 +83,13 @@ impl Entry {
 
 /// What the unit at hand has in a block is added to what those before have; the line where it differs.
 pub(crate) fn settle(table: &mut Table, block: Option<Name>) -> Option<u32>
-    ensures line { result ≡ line_after block (summed_in (get (option_eq name_eq) table.old block)) (block_at (get (option_eq name_eq) table.old block)) }
-    ensures added { (b : BlockName) → summed_in (get (option_eq name_eq) table.new b)
+    ensures line { result ≡ line_after block (summed_in (entry_at table.old block)) (block_at (entry_at table.old block)) }
+    ensures added { (b : BlockName) → summed_in (entry_at table.new b)
         ≡ (if same_block block b
-        then with_block (block_at (get (option_eq name_eq) table.old block)) (summed_in (get (option_eq name_eq) table.old block))
-        else summed_in (get (option_eq name_eq) table.old b)) }
-    ensures left { (b : BlockName) → block_at (get (option_eq name_eq) table.new b)
-        ≡ (if same_block block b then None else block_at (get (option_eq name_eq) table.old b)) }
+        then with_block (block_at (entry_at table.old block)) (summed_in (entry_at table.old block))
+        else summed_in (entry_at table.old b)) }
+    ensures left { (b : BlockName) → block_at (entry_at table.new b)
+        ≡ (if same_block block b then None else block_at (entry_at table.old b)) }
 {
     match table.get_mut(&block) {
         Some(entry) => entry.settle(block),

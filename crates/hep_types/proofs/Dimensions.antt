@@ -1,5 +1,5 @@
 -- Bounds of arrays, dimension by dimension.
-use Rattle.std.proofs.Common.{◌≡◌, suc, Bool, true, false, ◌&&◌, ◌||◌, if◌then◌else◌, Option, Some, None, is_some, List, [], ◌∷◌, length, refl, ap, sym, ◌∙◌}
+use Rattle.std.proofs.Common.{◌≡◌, suc, Bool, true, false, ◌&&◌, ◌||◌, if◌then◌else◌, Option, Some, is_some, List, [], ◌∷◌, length, refl, ap, sym, ◌∙◌}
 use Rattle.std.specs.Bool.{◌==◌}
 use Rattle.std.specs.List.{list_all, list_any, flat_map}
 use Rattle.std.specs.Option.{option_map}
@@ -14,15 +14,12 @@ use Rattle.hep_machine.specs.Declarations.{is_nonempty, is_dummy}
 use Rattle.hep_check.specs.Constants.{Parameters, is_dimension, are_bounds_open, is_shape_if_known, has_bounds}
 use Rattle.hep_symbols.proofs.Notes.{not-empty}
 use Rattle.hep_machine.specs.Shapes.{Bounds}
-
-is-some-map : {A B : Type 0} (f : A → B) (o : Option A) → is_some (option_map f o) ≡ is_some o
-is-some-map f None = refl
-is-some-map f (Some x) = refl
+use Rattle.hep_source.proofs.Tests.{some-mapped}
 
 -- a name that has a position among others is one of them
 pub dummy_is : (x : Name) (xs : List Name) → is_some (index_among x xs) ≡ is_among x xs
 dummy_is x [] = refl
-dummy_is x (y ∷ xs) = by (same_name x y) (is-some-map suc (index_among x xs) ∙ dummy_is x xs)
+dummy_is x (y ∷ xs) = by (same_name x y) (some-mapped suc (index_among x xs) ∙ dummy_is x xs)
   where
     by : (b : Bool) → is_some (option_map suc (index_among x xs)) ≡ is_among x xs
         → is_some (if b then Some 0 else option_map suc (index_among x xs)) ≡ (if b then true else is_among x xs)

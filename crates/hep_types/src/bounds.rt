@@ -13,8 +13,9 @@ ghost use Rattle.hep_check.specs.Statements as statements;
 ghost use Rattle.hep_types.specs.Bounds as walks;
 
 use crate::parameters::{Parameters, has_value};
+use crate::scope::Scope;
 use crate::types::is_typed_as;
-use crate::variables::is_plain_integer_scalar;
+use crate::variables::{is_dummy, is_plain_integer_scalar};
 use hep_machine::Bound;
 use hep_shape::Shape;
 use hep_source::{Declarator, Dimension, Expr, Name, Occurrence, UpperBound, Value, ValueType};
@@ -23,133 +24,100 @@ use hep_values::{Constants, bounds_of};
 use std::alloc::{AllocError, Global};
 
 // A scalar by which a bound may be adjusted: a plain integer that is a dummy argument or in COMMON.
-#[tactic(auto, using(crate::proofs::Dimensions::dummy_is))]
 fn is_adjusting(symbols: &Symbols, name: &Name) -> bool
     ensures { result ≡ conditions.is_adjusting symbols.now name.now }
 {
-    is_plain_integer_scalar(symbols, name)
-        && (symbols.dummy_position(name).is_some() || symbols.is_common(name))
+    is_plain_integer_scalar(symbols, name) && (is_dummy(symbols, name) || symbols.is_common(name))
 }
 
 fn are_adjusting(symbols: &Symbols, constants: &Constants, occurrences: &[Occurrence]) -> bool
     ensures { result ≡ list_all (λ (p : PureOccurrence). is_some (value_among constants.now p.name)
         || conditions.is_adjusting symbols.now p.name) occurrences.now }
 {
-    for occurrence in occurrences {
+    occurrences.iter().all(|occurrence| {
         let name = &occurrence.name;
-        let is_constant = constants.get(name).is_some();
-        let is_right = is_constant || is_adjusting(symbols, name);
-        if !is_right {
-            return false;
-        }
-    }
-    true
+        constants.get(name).is_some() || is_adjusting(symbols, name)
+    })
 }
 
 fn is_any_adjusted(constants: &Constants, occurrences: &[Occurrence]) -> bool
     ensures { result ≡ list_any (λ (p : PureOccurrence). is_none (value_among constants.now p.name)) occurrences.now }
 {
-    for occurrence in occurrences {
-        if constants.get(&occurrence.name).is_none() {
-            return true;
-        }
-    }
-    false
+    occurrences
+        .iter()
+        .any(|occurrence| constants.get(&occurrence.name).is_none())
 }
 
 // A bound that such scalars adjust, with constants alone beside them and without a reference of a function.
-fn is_adjusted(
-    alloc: Global,
-    symbols: &Symbols,
-    constants: &Constants,
-    expression: &Expr,
-) -> Result<bool, AllocError>
+fn is_adjusted(scope: &Scope, expression: &Expr) -> Result<bool, AllocError>
     ensures { IfOk result (λ is_adjusted. is_adjusted
-        ≡ (conditions.is_adjusted symbols.now constants.now expression.now
-        && conditions.is_adjustable symbols.now constants.now expression.now)) }
+        ≡ (conditions.is_adjusted scope.now.symbols.now scope.now.parameters.now.known expression.now
+        && conditions.is_adjustable scope.now.symbols.now scope.now.parameters.now.known expression.now)) }
 {
-    let mut found = Vec::new(alloc);
+    let (symbols, constants) = (scope.symbols, scope.parameters.known());
+    let mut found = Vec::new(scope.alloc);
     occurrences::add_in_expression(symbols, &mut found, expression)?;
-    let mut names = Vec::new(alloc);
+    let mut names = Vec::new(scope.alloc);
     lists::add_in(&mut names, expression)?;
     let is_adjustable = are_adjusting(symbols, constants, &found) && names.is_empty();
     Ok(is_any_adjusted(constants, &found) && is_adjustable)
 }
 
-fn is_bound(
-    alloc: Global,
-    symbols: &Symbols,
-    parameters: &Parameters,
-    is_of_dummy: bool,
-    expression: &Expr,
-) -> Result<bool, AllocError>
-    ensures { IfOk result (λ is_bound. is_bound ≡ conditions.is_bound symbols.now parameters.now is_of_dummy expression.now) }
+fn is_bound(scope: &Scope, is_of_dummy: bool, expression: &Expr) -> Result<bool, AllocError>
+    ensures { IfOk result (λ is_bound. is_bound
+        ≡ conditions.is_bound scope.now.symbols.now scope.now.parameters.now is_of_dummy expression.now) }
 {
-    let has_value = has_value(alloc, symbols, parameters, expression)?;
-    let is_adjusted = is_adjusted(alloc, symbols, parameters.known(), expression)?;
+    let has_value = has_value(scope.alloc, scope.symbols, scope.parameters, expression)?;
+    let is_adjusted = is_adjusted(scope, expression)?;
     Ok(
-        is_typed_as(symbols, ValueType::Integer, expression)
+        is_typed_as(scope.symbols, ValueType::Integer, expression)
             && (has_value || (is_of_dummy && is_adjusted)),
     )
 }
 
 fn is_lower_bound(
-    alloc: Global,
-    symbols: &Symbols,
-    parameters: &Parameters,
+    scope: &Scope,
     is_of_dummy: bool,
     lower: &Option<Expr>,
 ) -> Result<bool, AllocError>
     ensures { IfOk result (λ is_bound. is_bound
-        ≡ list_all (conditions.is_bound symbols.now parameters.now is_of_dummy) (option_to_list lower.now)) }
+        ≡ list_all (conditions.is_bound scope.now.symbols.now scope.now.parameters.now is_of_dummy) (option_to_list lower.now)) }
 {
     match lower {
-        Some(lower) => is_bound(alloc, symbols, parameters, is_of_dummy, lower),
+        Some(lower) => is_bound(scope, is_of_dummy, lower),
         None => Ok(true),
     }
 }
 
-fn is_upper_bound(
-    alloc: Global,
-    symbols: &Symbols,
-    parameters: &Parameters,
-    is_of_dummy: bool,
-    upper: &UpperBound,
-) -> Result<bool, AllocError>
-    ensures { IfOk result (λ is_bound. is_bound ≡ conditions.is_upper_bound symbols.now parameters.now is_of_dummy upper.now) }
+fn is_upper_bound(scope: &Scope, is_of_dummy: bool, upper: &UpperBound) -> Result<bool, AllocError>
+    ensures { IfOk result (λ is_bound. is_bound
+        ≡ conditions.is_upper_bound scope.now.symbols.now scope.now.parameters.now is_of_dummy upper.now) }
 {
     match upper {
-        UpperBound::Expression(upper) => is_bound(alloc, symbols, parameters, is_of_dummy, upper),
+        UpperBound::Expression(upper) => is_bound(scope, is_of_dummy, upper),
         UpperBound::Open => Ok(is_of_dummy),
     }
 }
 
-fn is_dimension(
-    alloc: Global,
-    symbols: &Symbols,
-    parameters: &Parameters,
-    is_of_dummy: bool,
-    dimension: &Dimension,
-) -> Result<bool, AllocError>
-    ensures { IfOk result (λ is_dimension. is_dimension ≡ conditions.is_dimension symbols.now parameters.now is_of_dummy dimension.now) }
+fn is_dimension(scope: &Scope, is_of_dummy: bool, dimension: &Dimension) -> Result<bool, AllocError>
+    ensures { IfOk result (λ is_dimension. is_dimension
+        ≡ conditions.is_dimension scope.now.symbols.now scope.now.parameters.now is_of_dummy dimension.now) }
 {
-    let is_lower = is_lower_bound(alloc, symbols, parameters, is_of_dummy, &dimension.lower)?;
-    let is_upper = is_upper_bound(alloc, symbols, parameters, is_of_dummy, &dimension.upper)?;
+    let is_lower = is_lower_bound(scope, is_of_dummy, &dimension.lower)?;
+    let is_upper = is_upper_bound(scope, is_of_dummy, &dimension.upper)?;
     Ok(is_lower && is_upper)
 }
 
 fn are_dimensions(
-    alloc: Global,
-    symbols: &Symbols,
-    parameters: &Parameters,
+    scope: &Scope,
     is_of_dummy: bool,
     dimensions: &[Dimension],
 ) -> Result<bool, AllocError>
     ensures { IfOk result (λ are_dimensions. are_dimensions
-        ≡ list_all (conditions.is_dimension symbols.now parameters.now is_of_dummy) dimensions.now) }
+        ≡ list_all (conditions.is_dimension scope.now.symbols.now scope.now.parameters.now is_of_dummy) dimensions.now) }
 {
     for dimension in dimensions {
-        if !is_dimension(alloc, symbols, parameters, is_of_dummy, dimension)? {
+        if !is_dimension(scope, is_of_dummy, dimension)? {
             return Ok(false);
         }
     }
@@ -158,70 +126,49 @@ fn are_dimensions(
 
 // ---- bounds that a violation leaves open
 
-fn is_open(
-    alloc: Global,
-    symbols: &Symbols,
-    parameters: &Parameters,
-    expression: &Expr,
-) -> Result<bool, AllocError>
-    ensures { IfOk result (λ is_open. is_open ≡ conditions.is_open symbols.now parameters.now expression.now) }
+fn is_open(scope: &Scope, expression: &Expr) -> Result<bool, AllocError>
+    ensures { IfOk result (λ is_open. is_open ≡ conditions.is_open scope.now.symbols.now scope.now.parameters.now expression.now) }
 {
-    let evaluation = parameters.evaluate(alloc, symbols, expression)?;
+    let evaluation = scope
+        .parameters
+        .evaluate(scope.alloc, scope.symbols, expression)?;
     Ok(evaluation.is_open)
 }
 
-fn is_lower_open(
-    alloc: Global,
-    symbols: &Symbols,
-    parameters: &Parameters,
-    lower: &Option<Expr>,
-) -> Result<bool, AllocError>
-    ensures { IfOk result (λ is_open. is_open ≡ list_any (conditions.is_open symbols.now parameters.now) (option_to_list lower.now)) }
+fn is_lower_open(scope: &Scope, lower: &Option<Expr>) -> Result<bool, AllocError>
+    ensures { IfOk result (λ is_open. is_open
+        ≡ list_any (conditions.is_open scope.now.symbols.now scope.now.parameters.now) (option_to_list lower.now)) }
 {
     match lower {
-        Some(lower) => is_open(alloc, symbols, parameters, lower),
+        Some(lower) => is_open(scope, lower),
         None => Ok(false),
     }
 }
 
-fn is_upper_open(
-    alloc: Global,
-    symbols: &Symbols,
-    parameters: &Parameters,
-    upper: &UpperBound,
-) -> Result<bool, AllocError>
+fn is_upper_open(scope: &Scope, upper: &UpperBound) -> Result<bool, AllocError>
     ensures { IfOk result (λ is_open. is_open
-        ≡ list_any (conditions.is_open symbols.now parameters.now) (statements.trees_in_upper upper.now)) }
+        ≡ list_any (conditions.is_open scope.now.symbols.now scope.now.parameters.now) (statements.trees_in_upper upper.now)) }
 {
     match upper {
-        UpperBound::Expression(upper) => is_open(alloc, symbols, parameters, upper),
+        UpperBound::Expression(upper) => is_open(scope, upper),
         UpperBound::Open => Ok(false),
     }
 }
 
-fn is_dimension_open(
-    alloc: Global,
-    symbols: &Symbols,
-    parameters: &Parameters,
-    dimension: &Dimension,
-) -> Result<bool, AllocError>
-    ensures { IfOk result (λ is_open. is_open ≡ walks.is_dimension_open symbols.now parameters.now dimension.now) }
+fn is_dimension_open(scope: &Scope, dimension: &Dimension) -> Result<bool, AllocError>
+    ensures { IfOk result (λ is_open. is_open ≡ walks.is_dimension_open scope.now.symbols.now scope.now.parameters.now dimension.now) }
 {
-    let is_lower = is_lower_open(alloc, symbols, parameters, &dimension.lower)?;
-    let is_upper = is_upper_open(alloc, symbols, parameters, &dimension.upper)?;
+    let is_lower = is_lower_open(scope, &dimension.lower)?;
+    let is_upper = is_upper_open(scope, &dimension.upper)?;
     Ok(is_lower || is_upper)
 }
 
-fn is_any_open(
-    alloc: Global,
-    symbols: &Symbols,
-    parameters: &Parameters,
-    dimensions: &[Dimension],
-) -> Result<bool, AllocError>
-    ensures { IfOk result (λ is_open. is_open ≡ list_any (walks.is_dimension_open symbols.now parameters.now) dimensions.now) }
+fn is_any_open(scope: &Scope, dimensions: &[Dimension]) -> Result<bool, AllocError>
+    ensures { IfOk result (λ is_open. is_open
+        ≡ list_any (walks.is_dimension_open scope.now.symbols.now scope.now.parameters.now) dimensions.now) }
 {
     for dimension in dimensions {
-        if is_dimension_open(alloc, symbols, parameters, dimension)? {
+        if is_dimension_open(scope, dimension)? {
             return Ok(true);
         }
     }
@@ -241,16 +188,20 @@ pub fn are_bounds_open(
 ) -> Result<bool, AllocError>
     ensures { IfOk result (λ are_open. are_open ≡ conditions.are_bounds_open symbols.now parameters.now declarator.now) }
 {
-    is_any_open(alloc, symbols, parameters, declarator.dimensions.as_slice())
+    let scope = Scope {
+        alloc,
+        symbols,
+        parameters,
+    };
+    is_any_open(&scope, declarator.dimensions.as_slice())
 }
 
 fn is_shape_if_known(bounds: &Option<Vec<Bound>>) -> bool
     ensures { result ≡ conditions.is_shape_if_known (option_map vec_items bounds.now) }
 {
-    match bounds {
-        Some(bounds) => Shape::new(bounds).is_some(),
-        None => true,
-    }
+    bounds
+        .as_ref()
+        .is_none_or(|bounds| Shape::new(bounds).is_some())
 }
 
 // Right dimensions make a shape, unless a bound is open.
@@ -278,10 +229,13 @@ pub fn has_bounds(
     if dimensions.is_empty() {
         return Ok(true);
     }
-    let is_of_dummy = symbols
-        .dummy_position(&declarator.occurrence.name)
-        .is_some();
-    let are_dimensions = are_dimensions(alloc, symbols, parameters, is_of_dummy, dimensions)?;
+    let is_of_dummy = is_dummy(symbols, &declarator.occurrence.name);
+    let scope = Scope {
+        alloc,
+        symbols,
+        parameters,
+    };
+    let are_dimensions = are_dimensions(&scope, is_of_dummy, dimensions)?;
     let are_open = are_bounds_open(alloc, symbols, parameters, declarator)?;
     let bounds = bounds_of(alloc, symbols, parameters.known(), dimensions)?;
     Ok(are_right(are_dimensions, are_open, is_shape_if_known(&bounds)))

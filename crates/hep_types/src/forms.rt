@@ -29,12 +29,9 @@ pub fn is_target_typed(symbols: &Symbols, target: &Target) -> bool
 fn are_targets_typed(symbols: &Symbols, targets: &[Target]) -> bool
     ensures { result ≡ list_all (types.is_target_typed symbols.now) targets.now }
 {
-    for target in targets {
-        if !is_target_typed(symbols, target) {
-            return false;
-        }
-    }
-    true
+    targets
+        .iter()
+        .all(|target| is_target_typed(symbols, target))
 }
 
 fn is_scalar_target(symbols: &Symbols, target: &Target) -> bool
@@ -102,12 +99,7 @@ fn is_item_typed(symbols: &Symbols, item: &PrintItem) -> bool
 fn are_items_typed(symbols: &Symbols, items: &[PrintItem]) -> bool
     ensures { result ≡ list_all (types.is_item_typed symbols.now) items.now }
 {
-    for item in items {
-        if !is_item_typed(symbols, item) {
-            return false;
-        }
-    }
-    true
+    items.iter().all(|item| is_item_typed(symbols, item))
 }
 
 /// The operands of an executable statement have the right types.

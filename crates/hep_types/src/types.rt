@@ -66,7 +66,8 @@ pub fn is_of(value_type: ValueType, known_type: KnownType) -> bool
     agree(known_type, Some(Some(value_type)))
 }
 
-fn type_of_value(value: Value) -> ValueType
+/// The type of a value.
+pub fn type_of_value(value: Value) -> ValueType
     ensures { result ≡ types.type_of_value value }
 {
     match value {

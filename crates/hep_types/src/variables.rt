@@ -1,5 +1,6 @@
 //! Variables by which a DO counts, or a bound is adjusted (X3.9-1978, 5.5.1 and 11.10).
 ghost use Rattle.std.specs.Prelude.{◌≡◌, IfOk};
+ghost use Rattle.hep_machine.specs.Declarations as declarations;
 ghost use Rattle.hep_check.specs.Types as types;
 ghost use Rattle.hep_types.specs.Types as walks;
 
@@ -7,6 +8,14 @@ use crate::types::same_declared;
 use hep_source::{Form, Name, ValueType};
 use hep_symbols::Symbols;
 use std::alloc::{AllocError, Global};
+
+/// A dummy argument of the unit.
+#[tactic(auto, using(crate::proofs::Dimensions::dummy_is))]
+pub fn is_dummy(symbols: &Symbols, name: &Name) -> bool
+    ensures { result ≡ declarations.is_dummy symbols.now name.now }
+{
+    symbols.dummy_position(name).is_some()
+}
 
 /// A scalar variable without `$` that is an integer; a constant's name is no variable.
 pub fn is_plain_integer_scalar(symbols: &Symbols, name: &Name) -> bool
@@ -35,9 +44,9 @@ fn has_loop_variable(symbols: &Symbols, form: &Form) -> bool
 pub fn loop_variables(alloc: Global, symbols: &Symbols) -> Result<Vec<bool>, AllocError>
     ensures { IfOk result (λ variables. variables.items ≡ walks.loop_variables symbols.now) }
 {
-    let mut variables = Vec::new(alloc);
-    for statement in symbols.statements() {
-        variables.push(has_loop_variable(symbols, &statement.form))?;
-    }
-    Ok(variables)
+    symbols
+        .statements()
+        .iter()
+        .map(|statement| has_loop_variable(symbols, &statement.form))
+        .collect(alloc)
 }

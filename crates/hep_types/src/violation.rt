@@ -10,6 +10,7 @@ ghost use Rattle.hep_types.specs.Passes as passes;
 use crate::bounds::has_bounds;
 use crate::forms::{is_form_typed, is_target_typed};
 use crate::parameters::{Parameters, is_constant_of};
+use crate::scope::Scope;
 use crate::types::is_typed_as;
 use hep_check::Violation;
 use hep_check::reported::{lesser, line_when, reported};
@@ -22,42 +23,33 @@ use std::alloc::{AllocError, Global};
 fn are_conditions(symbols: &Symbols, conditions: &[Expr]) -> bool
     ensures { result ≡ list_all (types.is_typed_as symbols.now ValueType.Logical) conditions.now }
 {
-    for condition in conditions {
-        if !is_typed_as(symbols, ValueType::Logical, condition) {
-            return false;
-        }
-    }
-    true
+    conditions.iter().all(|condition| is_typed_as(symbols, ValueType::Logical, condition))
 }
 
-fn are_bounded(
-    alloc: Global,
-    symbols: &Symbols,
-    parameters: &Parameters,
-    declarators: &[&Declarator],
-) -> Result<bool, AllocError>
+fn are_bounded(scope: &Scope, declarators: &[&Declarator]) -> Result<bool, AllocError>
     ensures { IfOk result (λ are_bounded. are_bounded
-        ≡ list_all (conditions.has_bounds symbols.now parameters.now) (rest_after declarators.now)) }
+        ≡ list_all (conditions.has_bounds scope.now.symbols.now scope.now.parameters.now) (rest_after declarators.now)) }
 {
     for declarator in declarators {
-        if !has_bounds(alloc, symbols, parameters, declarator)? {
+        if !has_bounds(scope.alloc, scope.symbols, scope.parameters, declarator)? {
             return Ok(false);
         }
     }
     Ok(true)
 }
 
-fn are_constant(
-    alloc: Global,
-    symbols: &Symbols,
-    parameters: &Parameters,
-    subscripts: &[Expr],
-) -> Result<bool, AllocError>
+fn are_constant(scope: &Scope, subscripts: &[Expr]) -> Result<bool, AllocError>
     ensures { IfOk result (λ are_constant. are_constant
-        ≡ list_all (conditions.is_constant_of symbols.now parameters.now ValueType.Integer) subscripts.now) }
+        ≡ list_all (conditions.is_constant_of scope.now.symbols.now scope.now.parameters.now ValueType.Integer) subscripts.now) }
 {
     for subscript in subscripts {
-        if !is_constant_of(alloc, symbols, parameters, ValueType::Integer, subscript)? {
+        if !is_constant_of(
+            scope.alloc,
+            scope.symbols,
+            scope.parameters,
+            ValueType::Integer,
+            subscript,
+        )? {
             return Ok(false);
         }
     }
@@ -65,44 +57,32 @@ fn are_constant(
 }
 
 // A subscript in DATA is a constant expression (9.2).
-fn has_constant_subscripts(
-    alloc: Global,
-    symbols: &Symbols,
-    parameters: &Parameters,
-    target: &Target,
-) -> Result<bool, AllocError>
-    ensures { IfOk result (λ has_them. has_them ≡ conditions.has_constant_subscripts symbols.now parameters.now target.now) }
+fn has_constant_subscripts(scope: &Scope, target: &Target) -> Result<bool, AllocError>
+    ensures { IfOk result (λ has_them. has_them
+        ≡ conditions.has_constant_subscripts scope.now.symbols.now scope.now.parameters.now target.now) }
 {
-    let are_constant = are_constant(alloc, symbols, parameters, target.subscripts.as_slice())?;
-    Ok(is_target_typed(symbols, target) && are_constant)
+    let are_constant = are_constant(scope, target.subscripts.as_slice())?;
+    Ok(is_target_typed(scope.symbols, target) && are_constant)
 }
 
-fn are_targets_typed(
-    alloc: Global,
-    symbols: &Symbols,
-    parameters: &Parameters,
-    targets: &[Target],
-) -> Result<bool, AllocError>
-    ensures { IfOk result (λ are_typed. are_typed ≡ list_all (conditions.has_constant_subscripts symbols.now parameters.now) targets.now) }
+fn are_targets_typed(scope: &Scope, targets: &[Target]) -> Result<bool, AllocError>
+    ensures { IfOk result (λ are_typed. are_typed
+        ≡ list_all (conditions.has_constant_subscripts scope.now.symbols.now scope.now.parameters.now) targets.now) }
 {
     for target in targets {
-        if !has_constant_subscripts(alloc, symbols, parameters, target)? {
+        if !has_constant_subscripts(scope, target)? {
             return Ok(false);
         }
     }
     Ok(true)
 }
 
-fn are_groups_typed(
-    alloc: Global,
-    symbols: &Symbols,
-    parameters: &Parameters,
-    groups: &[DataGroup],
-) -> Result<bool, AllocError>
-    ensures { IfOk result (λ are_typed. are_typed ≡ list_all (conditions.is_group_typed symbols.now parameters.now) groups.now) }
+fn are_groups_typed(scope: &Scope, groups: &[DataGroup]) -> Result<bool, AllocError>
+    ensures { IfOk result (λ are_typed. are_typed
+        ≡ list_all (conditions.is_group_typed scope.now.symbols.now scope.now.parameters.now) groups.now) }
 {
     for group in groups {
-        if !are_targets_typed(alloc, symbols, parameters, group.targets.as_slice())? {
+        if !are_targets_typed(scope, group.targets.as_slice())? {
             return Ok(false);
         }
     }
@@ -124,8 +104,13 @@ fn is_statement_typed(
     let declarators = array_declarators(alloc, form)?;
     let are_conditions = are_conditions(symbols, statement.conditions.as_slice());
     let is_form = is_form_typed(symbols, form);
-    let are_bounded = are_bounded(alloc, symbols, parameters, &declarators)?;
-    let are_groups = are_groups_typed(alloc, symbols, parameters, groups_in(form))?;
+    let scope = Scope {
+        alloc,
+        symbols,
+        parameters,
+    };
+    let are_bounded = are_bounded(&scope, &declarators)?;
+    let are_groups = are_groups_typed(&scope, groups_in(form))?;
     let are_given = parameters.add_all(alloc, symbols, constants_in(form))?;
     Ok(are_conditions && is_form && are_given && are_bounded && are_groups)
 }

@@ -8,19 +8,11 @@ use Rattle.hep_check.specs.Names.{overlap}
 use Rattle.hep_check.specs.Reported.{least_line, line_when}
 use Rattle.hep_uses.specs.Ambiguous.{reaches, meets, later_letter, least_repeated}
 use Rattle.hep_uses.proofs.Ways.{repeated-turn}
+use Rattle.hep_source.proofs.Tests.{or-assoc, or-turned}
 
 or-none : (a : Bool) → a ≡ (a || false)
 or-none true = refl
 or-none false = refl
-
-or-assoc : (a b c : Bool) → ((a || b) || c) ≡ (a || (b || c))
-or-assoc true b c = refl
-or-assoc false b c = refl
-
-or-turn : (a b c : Bool) → (a || (b || c)) ≡ (b || (a || c))
-or-turn true true c = refl
-or-turn true false c = refl
-or-turn false b c = refl
 
 reaches-later : (c l : ℕ) (o : Option ℕ) → reaches c (later_letter o l) ≡ (nat_le c l || reaches c o)
 reaches-later c l None = or-none (nat_le c l)
@@ -48,7 +40,7 @@ reaches-noted c l (suc k) (suc f) (o ∷ os) h =
     let rest = list_any (reaches c) (take k os) in
     let within : f < length os = omega arith in
     ap (λ b. reaches c o || b) (reaches-noted c l k f os within)
-    ∙ (or-turn (reaches c o) (nat_lt f k && nat_le c l) rest ∙ ap (λ b. (b && nat_le c l) || (reaches c o || rest)) (below-next f k))
+    ∙ (or-turned (reaches c o) (nat_lt f k && nat_le c l) rest ∙ ap (λ b. (b && nat_le c l) || (reaches c o || rest)) (below-next f k))
 
 overlaps : (a b f l : ℕ) → (nat_lt f (b + 1) && nat_le a l) ≡ (nat_le a l && nat_le f b)
 overlaps a b f l = grind (arith, nat_tests)

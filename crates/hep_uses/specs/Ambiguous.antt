@@ -2,7 +2,6 @@
 use Rattle.std.specs.Prelude.{ℕ, ◌+◌, max, Bool, false, ◌||◌, nat_le, List, [], ◌∷◌, map, take, Option, Some, None}
 use Rattle.std.specs.List.{flat_map, list_any}
 use Rattle.std.specs.Option.{option_map}
-use Rattle.hep_source.specs.declared.declaration.ImplicitGroup.{ImplicitGroup}
 use Rattle.hep_source.specs.declared.declaration.LetterRange.{LetterRange}
 use Rattle.hep_source.specs.declared.name.Name.{Name}
 use Rattle.hep_source.specs.declared.statement.Statement.{Statement}
@@ -81,9 +80,6 @@ later_letter (Some other) last = Some (max other last)
 
 abbrev pub ranges_at : ℕ → List LetterRange → List (LetterRange × ℕ)
 ranges_at line rs = map (λ (r : LetterRange). (r, line)) rs
-
-abbrev pub ranges_of_group : ℕ → ImplicitGroup → List (LetterRange × ℕ)
-ranges_of_group line g = ranges_at line g.letters
 
 abbrev pub least_overlapping : List (LetterRange × ℕ) → Option ℕ
 least_overlapping rs = least_repeated overlap none_seen rs

@@ -1,18 +1,14 @@
 -- The names that statements use, by what they use them for: X3.9-1978, 18.1 and 18.2.
-use Rattle.std.specs.Prelude.{ℕ, Bool, not, List, [], map, option_to_list}
-use Rattle.std.specs.List.{flat_map, filter}
-use Rattle.hep_source.specs.declared.declaration.CommonBlock.{CommonBlock}
-use Rattle.hep_source.specs.declared.declaration.DataGroup.{DataGroup}
+use Rattle.std.specs.Prelude.{ℕ, Bool, not, List, map}
+use Rattle.std.specs.List.{filter}
 use Rattle.hep_source.specs.declared.declaration.Declarator.{Declarator}
 use Rattle.hep_source.specs.declared.name.Name.{Name}
 use Rattle.hep_source.specs.declared.name.Occurrence.{Occurrence}
 use Rattle.hep_source.specs.declared.statement.Form.{Form}
-use Rattle.hep_source.specs.declared.statement.Form.TheVariants as form
 use Rattle.hep_source.specs.declared.statement.Statement.{Statement}
 use Rattle.hep_source.specs.Units.{names_of_occurrences}
-use Rattle.hep_machine.specs.Data.{groups_in}
-use Rattle.hep_machine.specs.Declarations.{is_constant_name, is_nonempty, names_declared, block_of}
-use Rattle.hep_check.specs.Names.{Use, uses_by, header_name, block_names, dummy_names, typed_names, bounded_names, common_names, constant_names, data_names, assigned_names, called_names, variable_names, names_of_targets}
+use Rattle.hep_machine.specs.Declarations.{is_constant_name, is_nonempty, names_declared}
+use Rattle.hep_check.specs.Names.{Use, uses_by, header_name, block_names, dummy_names, typed_names, bounded_names, common_names, constant_names, data_names, assigned_names, called_names, variable_names}
 use Rattle.hep_check.specs.Statements.{Calling, calls_in}
 use Rattle.hep_uses.specs.declared.uses.Way.{Way}
 use Rattle.hep_uses.specs.declared.uses.Way.TheVariants as ways
@@ -25,27 +21,6 @@ used_at line xs = map (λ (x : Name). (x, line)) xs
 
 abbrev pub names_bounded : List Declarator → List Name
 names_bounded ds = names_declared (filter (λ (d : Declarator). is_nonempty d.dimensions) ds)
-
-abbrev pub bounded_in_block : ℕ → CommonBlock → List Use
-bounded_in_block line b = used_at line (names_bounded b.entries)
-
-abbrev pub bounded_by_form : ℕ → Form → List Use
-bounded_by_form line (form.Declare t ds) = used_at line (names_bounded ds)
-bounded_by_form line (form.Dimension ds) = used_at line (names_bounded ds)
-bounded_by_form line (form.Common blocks) = flat_map (bounded_in_block line) blocks
-bounded_by_form line _ = []
-
-abbrev pub entries_of_block : ℕ → CommonBlock → List Use
-entries_of_block line b = used_at line (names_declared b.entries)
-
-abbrev pub name_of_block : ℕ → CommonBlock → List Use
-name_of_block line b = used_at line (option_to_list (block_of b))
-
-abbrev pub targets_of_group : ℕ → DataGroup → List Use
-targets_of_group line g = used_at line (names_of_targets g.targets)
-
-abbrev pub data_by_form : ℕ → Form → List Use
-data_by_form line f = flat_map (targets_of_group line) (groups_in f)
 
 abbrev pub names_called : Form → List Name
 names_called f = map (λ (c : Calling). c.occurrence.name) (calls_in f)

@@ -1,6 +1,7 @@
 //! Letters that the IMPLICIT statements of a unit name twice (X3.9-1978, 8.5).
 ghost use Rattle.std.specs.Prelude.{◌≡◌, ◌<◌, ◌++◌, None, length, get_or, slice_set, IfOk, OnOk};
 ghost use Rattle.std.specs.List.{flat_map};
+ghost use Rattle.hep_source.specs.declared.declaration.ImplicitGroup.{ImplicitGroup as PureGroup};
 ghost use Rattle.hep_check.specs.Names as conditions;
 ghost use Rattle.hep_uses.specs.Ambiguous as passes;
 
@@ -19,8 +20,10 @@ fn add_ranges(found: &mut Ranges, line: u32, ranges: &[LetterRange]) -> Result<(
     Ok(())
 }
 
+#[tactic(auto, using(crate::proofs::Used::ranges_append))]
 fn add_groups(found: &mut Ranges, line: u32, groups: &[ImplicitGroup]) -> Result<(), AllocError>
-    ensures { OnOk result (found.new.items ≡ found.old.items ++ flat_map (passes.ranges_of_group line) groups.now) }
+    ensures { OnOk result (found.new.items ≡ found.old.items
+        ++ passes.ranges_at line (flat_map (λ (g : PureGroup). g.letters) groups.now)) }
 {
     for group in groups {
         add_ranges(found, line, group.letters.as_slice())?;
@@ -55,31 +58,22 @@ type LastLetters = [Option<u8>; 256];
 fn reaches(letter: u8, last: Option<u8>) -> bool
     ensures { result ≡ passes.reaches letter last }
 {
-    match last {
-        Some(last) => letter <= last,
-        None => false,
-    }
+    last.is_some_and(|last| letter <= last)
 }
 
 // A letter of the range is in one of the others.
 fn meets(lasts: &LastLetters, range: &LetterRange) -> bool
     ensures { result ≡ passes.meets lasts.now range.now }
 {
-    for last in &lasts[..usize::from(range.last) + 1] {
-        if reaches(range.first, *last) {
-            return true;
-        }
-    }
-    false
+    lasts[..usize::from(range.last) + 1]
+        .iter()
+        .any(|last| reaches(range.first, *last))
 }
 
 fn later_letter(other: Option<u8>, last: u8) -> Option<u8>
     ensures { result ≡ passes.later_letter other last }
 {
-    match other {
-        Some(other) => Some(other.max(last)),
-        None => Some(last),
-    }
+    Some(other.map_or(last, |other| other.max(last)))
 }
 
 fn note(lasts: &mut LastLetters, range: &LetterRange)

@@ -38,10 +38,7 @@ pub(crate) fn least_repeated(alloc: Global, uses: &[Use]) -> Result<Option<u32>,
 fn lesser_line(other: Option<u32>, line: u32) -> u32
     ensures { Some result ≡ reported.least_line other (Some line) }
 {
-    match other {
-        Some(other) => line.min(other),
-        None => line,
-    }
+    other.map_or(line, |other| line.min(other))
 }
 
 // Keeps the lesser of a name's lines.
@@ -69,10 +66,7 @@ pub(crate) fn lines_by_name(alloc: Global, uses: &[Use]) -> Result<IndexMap<Name
 fn later_line(lines: &IndexMap<Name, u32>, name: &Name, line: u32) -> Option<u32>
     ensures { result ≡ passes.later_line (get name_eq lines.now) (name.now, line) }
 {
-    match lines.get(name) {
-        Some(other) => Some(line.max(*other)),
-        None => None,
-    }
+    lines.get(name).map(|other| line.max(*other))
 }
 
 /// The least of the later lines of two uses of a name, one that the map has and one of these.

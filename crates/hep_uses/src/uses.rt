@@ -1,8 +1,8 @@
 //! The names that statements use, by what they use them for (X3.9-1978, 18.1 and 18.2).
-ghost use Rattle.std.specs.Prelude.{◌≡◌, [], ◌∷◌, ◌++◌, IfOk, OnOk};
+ghost use Rattle.std.specs.Prelude.{◌≡◌, [], ◌∷◌, ◌++◌, option_to_list, IfOk, OnOk};
 ghost use Rattle.std.specs.List.{flat_map};
+ghost use Rattle.hep_source.specs.declared.declaration.CommonBlock.{CommonBlock as PureBlock};
 ghost use Rattle.hep_source.specs.Units as units;
-ghost use Rattle.hep_machine.specs.Data.{groups_in};
 ghost use Rattle.hep_machine.specs.Declarations as declarations;
 ghost use Rattle.hep_check.specs.Names as conditions;
 ghost use Rattle.hep_check.specs.Statements as statements;
@@ -12,8 +12,10 @@ ghost use Rattle.hep_uses.specs.Uses.{used_at};
 use hep_source::{
     CommonBlock, DataGroup, Declarator, Form, Name, NamedConstant, Occurrence, Statement, Target,
 };
+use hep_symbols::declarators::{block_of, blocks_in};
 use hep_symbols::occurrences::{occurrences, occurrences_in_groups};
 use hep_symbols::{ProgramSymbols, Symbols};
+use hep_values::statements::{constants_in, groups_in};
 use std::alloc::{AllocError, Global};
 
 /// A name, and the line of the statement that uses it.
@@ -46,114 +48,103 @@ pub(crate) enum Way {
     Variable,
 }
 
-fn add(uses: &mut Vec<Use>, line: u32, name: Name) -> Result<(), AllocError>
-    ensures { OnOk result (uses.new.items ≡ uses.old.items ++ used_at line (name ∷ [])) }
+type Names = Result<Vec<Name>, AllocError>;
+
+fn names_of(alloc: Global, occurrences: &[Occurrence]) -> Names
+    ensures { IfOk result (λ names. names.items ≡ units.names_of_occurrences occurrences.now) }
 {
-    uses.push((name, line))?;
-    Ok(())
+    occurrences
+        .iter()
+        .map(|occurrence| occurrence.name)
+        .collect(alloc)
 }
 
-fn add_occurrences(
-    uses: &mut Vec<Use>,
-    line: u32,
-    occurrences: &[Occurrence],
-) -> Result<(), AllocError>
-    ensures { OnOk result (uses.new.items ≡ uses.old.items ++ used_at line (units.names_of_occurrences occurrences.now)) }
+fn declared(alloc: Global, declarators: &[Declarator]) -> Names
+    ensures { IfOk result (λ names. names.items ≡ declarations.names_declared declarators.now) }
 {
-    for occurrence in occurrences {
-        add(uses, line, occurrence.name)?;
-    }
-    Ok(())
+    declarators
+        .iter()
+        .map(|declarator| declarator.occurrence.name)
+        .collect(alloc)
 }
 
-fn add_declared(
-    uses: &mut Vec<Use>,
-    line: u32,
-    declarators: &[Declarator],
-) -> Result<(), AllocError>
-    ensures { OnOk result (uses.new.items ≡ uses.old.items ++ used_at line (declarations.names_declared declarators.now)) }
+fn has_bounds(declarator: &Declarator) -> bool
+    ensures { result ≡ declarations.is_nonempty declarator.now.dimensions }
 {
-    for declarator in declarators {
-        add(uses, line, declarator.occurrence.name)?;
-    }
-    Ok(())
+    !declarator.dimensions.as_slice().is_empty()
 }
 
 // The names that get bounds.
-fn add_bounded(uses: &mut Vec<Use>, line: u32, declarators: &[Declarator]) -> Result<(), AllocError>
-    ensures { OnOk result (uses.new.items ≡ uses.old.items ++ used_at line (rows.names_bounded declarators.now)) }
+fn bounded(alloc: Global, declarators: &[Declarator]) -> Names
+    ensures { IfOk result (λ names. names.items ≡ rows.names_bounded declarators.now) }
 {
-    for declarator in declarators {
-        if !declarator.dimensions.as_slice().is_empty() {
-            add(uses, line, declarator.occurrence.name)?;
-        }
-    }
-    Ok(())
+    declarators
+        .iter()
+        .filter(|declarator| has_bounds(declarator))
+        .map(|declarator| declarator.occurrence.name)
+        .collect(alloc)
 }
 
-fn add_bounded_in_blocks(
-    uses: &mut Vec<Use>,
-    line: u32,
-    blocks: &[CommonBlock],
-) -> Result<(), AllocError>
-    ensures { OnOk result (uses.new.items ≡ uses.old.items ++ flat_map (rows.bounded_in_block line) blocks.now) }
+#[tactic(auto, using(crate::proofs::Used::bounded_append))]
+fn bounded_in_blocks(alloc: Global, blocks: &[CommonBlock]) -> Names
+    ensures { IfOk result (λ names. names.items ≡ rows.names_bounded (declarations.entries_of_blocks blocks.now)) }
 {
+    let mut names = Vec::new(alloc);
     for block in blocks {
-        add_bounded(uses, line, block.entries.as_slice())?;
+        names.extend_from_slice(&bounded(alloc, block.entries.as_slice())?)?;
     }
-    Ok(())
+    Ok(names)
 }
 
-fn add_entries(uses: &mut Vec<Use>, line: u32, blocks: &[CommonBlock]) -> Result<(), AllocError>
-    ensures { OnOk result (uses.new.items ≡ uses.old.items ++ flat_map (rows.entries_of_block line) blocks.now) }
+fn entries(alloc: Global, blocks: &[CommonBlock]) -> Names
+    ensures { IfOk result (λ names. names.items
+        ≡ flat_map (λ (b : PureBlock). declarations.names_declared b.entries) blocks.now) }
 {
+    let mut names = Vec::new(alloc);
     for block in blocks {
-        add_declared(uses, line, block.entries.as_slice())?;
+        names.extend_from_slice(&declared(alloc, block.entries.as_slice())?)?;
     }
-    Ok(())
+    Ok(names)
 }
 
 // Blank COMMON has no name.
-fn add_blocks(uses: &mut Vec<Use>, line: u32, blocks: &[CommonBlock]) -> Result<(), AllocError>
-    ensures { OnOk result (uses.new.items ≡ uses.old.items ++ flat_map (rows.name_of_block line) blocks.now) }
+fn names_of_blocks(alloc: Global, blocks: &[CommonBlock]) -> Names
+    ensures { IfOk result (λ names. names.items
+        ≡ flat_map (λ (b : PureBlock). option_to_list (declarations.block_of b)) blocks.now) }
 {
-    for block in blocks {
-        if let Some(occurrence) = block.block {
-            add(uses, line, occurrence.name)?;
-        }
-    }
-    Ok(())
+    blocks
+        .iter()
+        .flat_map(|block| block_of(block))
+        .collect(alloc)
 }
 
-fn add_constants(
-    uses: &mut Vec<Use>,
-    line: u32,
-    constants: &[NamedConstant],
-) -> Result<(), AllocError>
-    ensures { OnOk result (uses.new.items ≡ uses.old.items ++ used_at line (declarations.names_of_constants constants.now)) }
+fn constants(alloc: Global, constants: &[NamedConstant]) -> Names
+    ensures { IfOk result (λ names. names.items ≡ declarations.names_of_constants constants.now) }
 {
-    for constant in constants {
-        add(uses, line, constant.occurrence.name)?;
-    }
-    Ok(())
+    constants
+        .iter()
+        .map(|constant| constant.occurrence.name)
+        .collect(alloc)
 }
 
-fn add_targets(uses: &mut Vec<Use>, line: u32, targets: &[Target]) -> Result<(), AllocError>
-    ensures { OnOk result (uses.new.items ≡ uses.old.items ++ used_at line (conditions.names_of_targets targets.now)) }
+fn targets(alloc: Global, targets: &[Target]) -> Names
+    ensures { IfOk result (λ names. names.items ≡ conditions.names_of_targets targets.now) }
 {
-    for target in targets {
-        add(uses, line, target.occurrence.name)?;
-    }
-    Ok(())
+    targets
+        .iter()
+        .map(|target| target.occurrence.name)
+        .collect(alloc)
 }
 
-fn add_groups(uses: &mut Vec<Use>, line: u32, groups: &[DataGroup]) -> Result<(), AllocError>
-    ensures { OnOk result (uses.new.items ≡ uses.old.items ++ flat_map (rows.targets_of_group line) groups.now) }
+#[tactic(auto, using(crate::proofs::Used::targets_append))]
+fn targets_of_groups(alloc: Global, groups: &[DataGroup]) -> Names
+    ensures { IfOk result (λ names. names.items ≡ conditions.names_of_targets (statements.targets_of_groups groups.now)) }
 {
+    let mut names = Vec::new(alloc);
     for group in groups {
-        add_targets(uses, line, group.targets.as_slice())?;
+        names.extend_from_slice(&targets(alloc, group.targets.as_slice())?)?;
     }
-    Ok(())
+    Ok(names)
 }
 
 fn is_variable(symbols: &Symbols, name: &Name) -> bool
@@ -162,29 +153,14 @@ fn is_variable(symbols: &Symbols, name: &Name) -> bool
     !symbols.is_constant_name(name)
 }
 
-fn add_variables(
-    uses: &mut Vec<Use>,
-    symbols: &Symbols,
-    line: u32,
-    occurrences: &[Occurrence],
-) -> Result<(), AllocError>
-    ensures { OnOk result (uses.new.items ≡ uses.old.items ++ used_at line (rows.variables_among symbols.now occurrences.now)) }
+fn variables(alloc: Global, symbols: &Symbols, occurrences: &[Occurrence]) -> Names
+    ensures { IfOk result (λ names. names.items ≡ rows.variables_among symbols.now occurrences.now) }
 {
-    for occurrence in occurrences {
-        if is_variable(symbols, &occurrence.name) {
-            add(uses, line, occurrence.name)?;
-        }
-    }
-    Ok(())
-}
-
-fn data_groups(form: &Form) -> &[DataGroup]
-    ensures { result.now ≡ groups_in form.now }
-{
-    match form {
-        Form::Data(groups) => groups.as_slice(),
-        _ => &[],
-    }
+    occurrences
+        .iter()
+        .map(|occurrence| occurrence.name)
+        .filter(|name| is_variable(symbols, name))
+        .collect(alloc)
 }
 
 fn is_given(groups: &[DataGroup]) -> bool
@@ -201,7 +177,7 @@ fn occurrences_of_variables(
 ) -> Result<Vec<Occurrence>, AllocError>
     ensures { IfOk result (λ found. found.items ≡ conditions.occurrences_of_variables symbols.now statement.now) }
 {
-    let groups = data_groups(&statement.form);
+    let groups = groups_in(&statement.form);
     if is_given(groups) {
         occurrences_in_groups(alloc, symbols, groups)
     } else {
@@ -209,132 +185,98 @@ fn occurrences_of_variables(
     }
 }
 
-fn add_units(uses: &mut Vec<Use>, line: u32, form: &Form) -> Result<(), AllocError>
-    ensures { OnOk result (uses.new.items ≡ uses.old.items ++ used_at line (conditions.header_name form.now)) }
+fn at_most_one(alloc: Global, name: Option<Name>) -> Names
+    ensures { IfOk result (λ names. names.items ≡ option_to_list name) }
+{
+    name.into_iter().collect(alloc)
+}
+
+fn header_name(form: &Form) -> Option<Name>
+    ensures { option_to_list result ≡ conditions.header_name form.now }
 {
     match form {
-        Form::Program(occurrence) | Form::Subroutine(occurrence, _) => {
-            add(uses, line, occurrence.name)
-        }
-        _ => Ok(()),
+        Form::Program(occurrence) | Form::Subroutine(occurrence, _) => Some(occurrence.name),
+        _ => None,
     }
 }
 
-fn add_dummies(uses: &mut Vec<Use>, line: u32, form: &Form) -> Result<(), AllocError>
-    ensures { OnOk result (uses.new.items ≡ uses.old.items ++ used_at line (units.dummies_by_header form.now)) }
+fn dummies(form: &Form) -> &[Occurrence]
+    ensures { units.names_of_occurrences result.now ≡ units.dummies_by_header form.now }
 {
     match form {
-        Form::Subroutine(_, dummies) => add_occurrences(uses, line, dummies.as_slice()),
-        _ => Ok(()),
+        Form::Subroutine(_, dummies) => dummies.as_slice(),
+        _ => &[],
     }
 }
 
-fn add_typed(uses: &mut Vec<Use>, line: u32, form: &Form) -> Result<(), AllocError>
-    ensures { OnOk result (uses.new.items ≡ uses.old.items ++ used_at line (conditions.names_typed form.now)) }
+fn typed(form: &Form) -> &[Declarator]
+    ensures { declarations.names_declared result.now ≡ conditions.names_typed form.now }
 {
     match form {
-        Form::Declare(_, declarators) => add_declared(uses, line, declarators.as_slice()),
-        _ => Ok(()),
+        Form::Declare(_, declarators) => declarators.as_slice(),
+        _ => &[],
     }
 }
 
-fn add_all_bounded(uses: &mut Vec<Use>, line: u32, form: &Form) -> Result<(), AllocError>
-    ensures { OnOk result (uses.new.items ≡ uses.old.items ++ rows.bounded_by_form line form.now) }
+fn all_bounded(alloc: Global, form: &Form) -> Names
+    ensures { IfOk result (λ names. names.items ≡ rows.names_bounded (declarations.declarators_in form.now)) }
 {
     match form {
         Form::Declare(_, declarators) | Form::Dimension(declarators) => {
-            add_bounded(uses, line, declarators.as_slice())
+            bounded(alloc, declarators.as_slice())
         }
-        Form::Common(blocks) => add_bounded_in_blocks(uses, line, blocks.as_slice()),
-        _ => Ok(()),
+        _ => bounded_in_blocks(alloc, blocks_in(form)),
     }
 }
 
-fn add_all_common(uses: &mut Vec<Use>, line: u32, form: &Form) -> Result<(), AllocError>
-    ensures { OnOk result (uses.new.items ≡ uses.old.items ++ flat_map (rows.entries_of_block line) (declarations.blocks_in form.now)) }
+fn assigned(form: &Form) -> Option<Name>
+    ensures { option_to_list result ≡ conditions.names_of_targets (statements.targets_assigned form.now) }
 {
     match form {
-        Form::Common(blocks) => add_entries(uses, line, blocks.as_slice()),
-        _ => Ok(()),
+        Form::Assign(target, _) => Some(target.occurrence.name),
+        _ => None,
     }
 }
 
-fn add_all_blocks(uses: &mut Vec<Use>, line: u32, form: &Form) -> Result<(), AllocError>
-    ensures { OnOk result (uses.new.items ≡ uses.old.items ++ flat_map (rows.name_of_block line) (declarations.blocks_in form.now)) }
+fn called(form: &Form) -> Option<Name>
+    ensures { option_to_list result ≡ rows.names_called form.now }
 {
     match form {
-        Form::Common(blocks) => add_blocks(uses, line, blocks.as_slice()),
-        _ => Ok(()),
+        Form::Call(occurrence, _) | Form::Create(occurrence, _) => Some(occurrence.name),
+        _ => None,
     }
 }
 
-fn add_all_constants(uses: &mut Vec<Use>, line: u32, form: &Form) -> Result<(), AllocError>
-    ensures { OnOk result (uses.new.items ≡ uses.old.items
-        ++ used_at line (declarations.names_of_constants (declarations.constants_in form.now))) }
+// The names that a statement uses so.
+fn names_by(alloc: Global, symbols: &Symbols, way: Way, statement: &Statement) -> Names
+    ensures { IfOk result (λ names. names.items ≡ rows.names_by symbols.now way statement.now) }
 {
-    match form {
-        Form::Parameter(constants) => add_constants(uses, line, constants.as_slice()),
-        _ => Ok(()),
-    }
-}
-
-fn add_data(uses: &mut Vec<Use>, line: u32, form: &Form) -> Result<(), AllocError>
-    ensures { OnOk result (uses.new.items ≡ uses.old.items ++ rows.data_by_form line form.now) }
-{
-    match form {
-        Form::Data(groups) => add_groups(uses, line, groups.as_slice()),
-        _ => Ok(()),
-    }
-}
-
-fn add_assigned(uses: &mut Vec<Use>, line: u32, form: &Form) -> Result<(), AllocError>
-    ensures { OnOk result (uses.new.items ≡ uses.old.items
-        ++ used_at line (conditions.names_of_targets (statements.targets_assigned form.now))) }
-{
-    match form {
-        Form::Assign(target, _) => add(uses, line, target.occurrence.name),
-        _ => Ok(()),
-    }
-}
-
-fn add_called(uses: &mut Vec<Use>, line: u32, form: &Form) -> Result<(), AllocError>
-    ensures { OnOk result (uses.new.items ≡ uses.old.items ++ used_at line (rows.names_called form.now)) }
-{
-    match form {
-        Form::Call(occurrence, _) | Form::Create(occurrence, _) => {
-            add(uses, line, occurrence.name)
-        }
-        _ => Ok(()),
-    }
-}
-
-fn add_in(
-    alloc: Global,
-    uses: &mut Vec<Use>,
-    symbols: &Symbols,
-    way: Way,
-    statement: &Statement,
-) -> Result<(), AllocError>
-    ensures { OnOk result (uses.new.items ≡ uses.old.items ++ used_at statement.now.line (rows.names_by symbols.now way statement.now)) }
-{
-    let line = statement.line;
     let form = &statement.form;
     match way {
-        Way::Header => add_units(uses, line, form),
-        Way::Block => add_all_blocks(uses, line, form),
-        Way::Dummy => add_dummies(uses, line, form),
-        Way::Typed => add_typed(uses, line, form),
-        Way::Bounded => add_all_bounded(uses, line, form),
-        Way::Common => add_all_common(uses, line, form),
-        Way::Constant => add_all_constants(uses, line, form),
-        Way::Data => add_data(uses, line, form),
-        Way::Assigned => add_assigned(uses, line, form),
-        Way::Called => add_called(uses, line, form),
+        Way::Header => at_most_one(alloc, header_name(form)),
+        Way::Block => names_of_blocks(alloc, blocks_in(form)),
+        Way::Dummy => names_of(alloc, dummies(form)),
+        Way::Typed => declared(alloc, typed(form)),
+        Way::Bounded => all_bounded(alloc, form),
+        Way::Common => entries(alloc, blocks_in(form)),
+        Way::Constant => constants(alloc, constants_in(form)),
+        Way::Data => targets_of_groups(alloc, groups_in(form)),
+        Way::Assigned => at_most_one(alloc, assigned(form)),
+        Way::Called => at_most_one(alloc, called(form)),
         Way::Variable => {
             let occurrences = occurrences_of_variables(alloc, symbols, statement)?;
-            add_variables(uses, symbols, line, &occurrences)
+            variables(alloc, symbols, &occurrences)
         }
     }
+}
+
+fn add(uses: &mut Vec<Use>, line: u32, names: &[Name]) -> Result<(), AllocError>
+    ensures { OnOk result (uses.new.items ≡ uses.old.items ++ used_at line names.now) }
+{
+    for name in names {
+        uses.push((*name, line))?;
+    }
+    Ok(())
 }
 
 fn add_uses(
@@ -346,7 +288,8 @@ fn add_uses(
     ensures { OnOk result (uses.new.items ≡ uses.old.items ++ rows.uses_of way symbols.now) }
 {
     for statement in symbols.statements() {
-        add_in(alloc, uses, symbols, way, statement)?;
+        let names = names_by(alloc, symbols, way, statement)?;
+        add(uses, statement.line, &names)?;
     }
     Ok(())
 }

@@ -7,8 +7,9 @@ use Rattle.std.proofs.lemmas.Int.{ints}
 use Rattle.std.proofs.lemmas.Nat.{mul-add-lt}
 use Rattle.hep_machine.specs.declared.shape.Bound.{Bound}
 use Rattle.hep_machine.specs.Shapes.{Bounds, natural, size_between, extent, product, elements, is_below, is_within, is_between, are_dimensions, sum, before_element, element_number}
+use Rattle.hep_shape.proofs.Extents.{le_of_test}
 
-some-equal : (m n : ℕ) → Some m ≡ Some n → m ≡ n
+pub some-equal : (m n : ℕ) → Some m ≡ Some n → m ≡ n
 some-equal m n h = cc
 
 -- the number of elements before one, in steps of one
@@ -45,9 +46,6 @@ pub first-step : (b : Bound) (bs : Bounds) (s : ℤ) (ss : List ℤ) → before_
 first-step b bs s ss = first-if (is_within b s) (natural (s -ℤ b.lower)) (unwrap_or (extent b) 1) _ (before_element 1 bs ss) (scaled (1 * unwrap_or (extent b) 1) bs ss)
 
 -- ---- a subscript within its bounds
-
-le_of_test : (x y : ℤ) → int_le x y ≡ true → x ≤ℤ y
-le_of_test x y h = grind (arith, ints)
 
 natural-above : (z : ℤ) → pos 0 ≤ℤ z → pos (natural z) ≡ z
 natural-above (pos n) h = refl

@@ -10,6 +10,7 @@ use Rattle.hep_source.specs.declared.value.Value.{Value}
 use Rattle.hep_machine.specs.Constants.{Constants, value_among, with_constant, given_by, value_of}
 use Rattle.hep_machine.specs.Declarations.{constants_in, named_constants}
 use Rattle.hep_source.proofs.NameTests.{equal_names}
+use Rattle.hep_check.proofs.Agreeing.{given_by-append}
 
 pub on-so : {A E P Q : Type 0} (r : Result A E) → OnOk r P → (P → Q) → OnOk r Q
 on-so (Ok x) p f = f p
@@ -70,16 +71,12 @@ give-turn unit cs more c k m all next so_far e =
     given-same unit more m (with_constant k c.occurrence.name (value_of unit (value_among k) c.value)) e
     ∙ (ap (λ ds. value_among (given_by unit k ds)) (sym next) ∙ so_far)
 
-given-append : (unit : List Statement) (k : Constants) (cs ds : List NamedConstant) → given_by unit k (cs ++ ds) ≡ given_by unit (given_by unit k cs) ds
-given-append unit k [] ds = refl
-given-append unit k (c ∷ cs) ds = given-append unit (with_constant k c.occurrence.name (value_of unit (value_among k) c.value)) cs ds
-
 pub constants-turn : (unit ss more : List Statement) (s : Statement) (cs : List NamedConstant) (k m : Constants) (all : Name → Option Value) → ss ≡ s ∷ more
     → value_among (given_by unit k (named_constants ss)) ≡ all → cs ≡ constants_in s.form → value_among m ≡ value_among (given_by unit k cs)
     → value_among (given_by unit m (named_constants more)) ≡ all
 constants-turn unit ss more s cs k m all next so_far here e =
     given-same unit (named_constants more) m (given_by unit k (constants_in s.form)) (e ∙ ap (λ ds. value_among (given_by unit k ds)) here)
-    ∙ (ap value_among (sym (given-append unit k (constants_in s.form) (named_constants more)))
+    ∙ (ap value_among (sym (given_by-append unit k (constants_in s.form) (named_constants more)))
     ∙ (ap (λ us. value_among (given_by unit k (named_constants us))) (sym next) ∙ so_far))
 
 pub added-here : (k m : Constants) (x : Name) (v : Value) (o : Option Value) → o ≡ Some v → m ≡ (if is_some (value_among k x) then k else with_constant k x (Some v))

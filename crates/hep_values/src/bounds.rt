@@ -44,11 +44,7 @@ pub fn integers(
 fn as_integer(value: Option<Value>) -> Option<i64>
     ensures { result ≡ option_map arithmetic.integer_of value }
 {
-    match value {
-        Some(Value::Int(integer)) => Some(integer),
-        Some(Value::Truth(_)) => Some(0),
-        None => None,
-    }
+    value.map(|value| integer_of(value))
 }
 
 // A lower bound is 1 where there is none.
@@ -72,10 +68,7 @@ fn lower_value(
 fn closed_at(upper: Option<i64>) -> Option<Option<i64>>
     ensures { result ≡ option_map Some upper }
 {
-    match upper {
-        Some(upper) => Some(Some(upper)),
-        None => None,
-    }
+    upper.map(|upper| Some(upper))
 }
 
 fn upper_value(
@@ -98,10 +91,8 @@ fn upper_value(
 fn bound_of(lower: Option<i64>, upper: Option<Option<i64>>) -> Option<Bound>
     ensures { result ≡ values.bound_of lower upper }
 {
-    match (lower, upper) {
-        (Some(lower), Some(upper)) => Some(Bound { lower, upper }),
-        _ => None,
-    }
+    let (lower, upper) = (lower?, upper?);
+    Some(Bound { lower, upper })
 }
 
 fn bound_by(

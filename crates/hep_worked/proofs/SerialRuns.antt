@@ -165,6 +165,14 @@ unfoldable pub runs : List String → Report
 unfolding report
 runs lines = report lines 65536 is_made 10000000 []
 
+-- a run to its end without faults, with these records, so many entries, and so many cells in use
+abbrev pub ended : List (List Item) → ℕ → ℕ → Report
+ended records entries used = record { records = records; faults = []; processes = []; entries = entries; used = used; ending = done }
+
+-- no run, since the source is refused at a line
+abbrev pub rejected : ℕ → ℕ → List ℕ → Report
+rejected number line detail = record { records = []; faults = []; processes = []; entries = 0; used = 0; ending = refused (number, line, detail) }
+
 -- ---- the history, the cells in use, and where the frames are
 
 abbrev pub history_of : Result Units Refusal → ℕ → (State → ℕ → Bool) → ℕ → List ℕ → List Entry

@@ -7,7 +7,7 @@ use Rattle.hep_machine.specs.State.{Activation, Process, State, doing}
 use Rattle.hep_machine.specs.Access.{unset_cell}
 use Rattle.hep_source.specs.declared.statement.Form.TheVariants.{End}
 use Rattle.hep_worked.proofs.Reported.{spelled, reported_of, reported_by, reported, accepts, refuses, names}
-use Rattle.hep_worked.proofs.SerialRuns.{done, numbers, report}
+use Rattle.hep_worked.proofs.SerialRuns.{numbers, report, ended}
 use Rattle.hep_worked.proofs.Sources.{units_of}
 
 record Rows : Type 0 where
@@ -81,10 +81,7 @@ rows = record {
 
 -- ---- the first state: the value at each index of a long list
 
-abbrev largest_array : List String
-largest_array = "      INTEGER I(1048576)" ∷ "      DATA I/1048575*7,8/" ∷ "      PRINT *,I(1),I(1048575),I(1048576)" ∷ "      END" ∷ []
-
-largest_array_is_given : report largest_array 1048577 is_made 10000000 [] ≡ record { records = numbers (7 ∷ 7 ∷ 8 ∷ []) ∷ []; faults = []; processes = []; entries = 5; used = 1048577; ending = done }
+largest_array_is_given : report ("      INTEGER I(1048576)" ∷ "      DATA I/1048575*7,8/" ∷ "      PRINT *,I(1),I(1048575),I(1048576)" ∷ "      END" ∷ []) 1048577 is_made 10000000 [] ≡ ended (numbers (7 ∷ 7 ∷ 8 ∷ []) ∷ []) 5 1048577
 unfolding report
 largest_array_is_given = refl
 

@@ -1,16 +1,15 @@
 -- Worked runs of asynchronous variables and processes.
-use Rattle.std.specs.Prelude.{◌≡◌, true, false, List, [], ◌∷◌, None, refl}
+use Rattle.std.specs.Prelude.{◌≡◌, true, false, [], ◌∷◌, None, refl}
 use Prim.Native.String.{String}
 use Rattle.hep_machine.specs.declared.event.Kind.TheVariants.{Divide, Range, Undefined}
 use Rattle.hep_machine.specs.declared.record.Item.TheVariants.{Truth}
 use Rattle.hep_machine.specs.Layout.{is_made, is_held}
 use Rattle.hep_machine.specs.State.{common}
-use Rattle.hep_worked.proofs.SerialRuns.{report, runs, done, all_wait, halted, arena_full, no_such_process, int, one, fault, stands, waits_for_full, waits_for_empty, asynchronous}
+use Rattle.hep_worked.proofs.SerialRuns.{report, runs, done, all_wait, halted, arena_full, no_such_process, int, one, fault, stands, waits_for_full, waits_for_empty, asynchronous, ended}
 
 -- ---- Asynchronous variables
 
-abbrev asynchronous_in_common : List String
-asynchronous_in_common =
+asynchronous_in_common_runs : runs (
     "      COMMON /B/ $A(3),$X"
     ∷ "      INTEGER $A,$X"
     ∷ "      $A(2)=5"
@@ -25,14 +24,11 @@ asynchronous_in_common =
     ∷ "      $U(2)=8"
     ∷ "      $Q(3)=9"
     ∷ "      END"
-    ∷ []
-
-asynchronous_in_common_runs : runs asynchronous_in_common ≡ record { records = one 5 ∷ (int 8 ∷ Truth false ∷ int 9 ∷ []) ∷ []; faults = []; processes = []; entries = 12; used = 10; ending = done }
+    ∷ []) ≡ ended (one 5 ∷ (int 8 ∷ Truth false ∷ int 9 ∷ []) ∷ []) 12 10
 unfolding runs
 asynchronous_in_common_runs = refl
 
-abbrev asynchronous_array_dummy : List String
-asynchronous_array_dummy =
+asynchronous_array_dummy_runs : runs (
     "      INTEGER $X(3)"
     ∷ "      $X(2)=4"
     ∷ "      CALL S($X)"
@@ -44,50 +40,38 @@ asynchronous_array_dummy =
     ∷ "      PRINT *,WAITF($A(I)),$A(I),VALUE($A(I)),EMPTY($A(I))"
     ∷ "      $A(3)=SETE($A(2))"
     ∷ "      END"
-    ∷ []
-
-asynchronous_array_dummy_runs : runs asynchronous_array_dummy ≡ record { records = (int 4 ∷ int 4 ∷ int 4 ∷ Truth true ∷ []) ∷ (Truth false ∷ int 4 ∷ []) ∷ []; faults = []; processes = []; entries = 19; used = 8; ending = done }
+    ∷ []) ≡ ended ((int 4 ∷ int 4 ∷ int 4 ∷ Truth true ∷ []) ∷ (Truth false ∷ int 4 ∷ []) ∷ []) 19 8
 unfolding runs
 asynchronous_array_dummy_runs = refl
 
-abbrev no_value : List String
-no_value =
+no_value_runs : runs (
     "      INTEGER $X"
     ∷ "      PRINT *,FULL($X),EMPTY($X)"
     ∷ "      I=SETE($X)"
     ∷ "      END"
-    ∷ []
-
-no_value_runs : runs no_value ≡ record { records = (Truth false ∷ Truth true ∷ []) ∷ []; faults = fault 1 0 3 Undefined ∷ []; processes = []; entries = 4; used = 3; ending = done }
+    ∷ []) ≡ record { records = (Truth false ∷ Truth true ∷ []) ∷ []; faults = fault 1 0 3 Undefined ∷ []; processes = []; entries = 4; used = 3; ending = done }
 unfolding runs
 no_value_runs = refl
 
-abbrev fill_twice : List String
-fill_twice =
+fill_twice_runs : runs (
     "      INTEGER $X"
     ∷ "      $X=1"
     ∷ "      $X=2"
     ∷ "      END"
-    ∷ []
-
-fill_twice_runs : runs fill_twice ≡ record { records = []; faults = []; processes = waits_for_empty 1 0 3 (asynchronous 1 "X" 1) ∷ []; entries = 2; used = 2; ending = all_wait }
+    ∷ []) ≡ record { records = []; faults = []; processes = waits_for_empty 1 0 3 (asynchronous 1 "X" 1) ∷ []; entries = 2; used = 2; ending = all_wait }
 unfolding runs
 fill_twice_runs = refl
 
 -- the fourth by columns
-abbrev element_waits : List String
-element_waits =
+element_waits_runs : runs (
     "      INTEGER $X(2,3)"
     ∷ "      I=$X(2,2)"
     ∷ "      END"
-    ∷ []
-
-element_waits_runs : runs element_waits ≡ record { records = []; faults = []; processes = waits_for_full 1 0 2 (asynchronous 1 "X" 4) ∷ []; entries = 1; used = 8; ending = all_wait }
+    ∷ []) ≡ record { records = []; faults = []; processes = waits_for_full 1 0 2 (asynchronous 1 "X" 4) ∷ []; entries = 1; used = 8; ending = all_wait }
 unfolding runs
 element_waits_runs = refl
 
-abbrev waits_in_common : List String
-waits_in_common =
+waits_in_common_runs : runs (
     "      COMMON $N(2)"
     ∷ "      CREATE S($N(2))"
     ∷ "      I=$N(1)"
@@ -97,41 +81,32 @@ waits_in_common =
     ∷ "      $K=1"
     ∷ "      $K=2"
     ∷ "      END"
-    ∷ []
-
-waits_in_common_runs : runs waits_in_common ≡ record { records = []; faults = []; processes = waits_for_full 1 0 3 (common None 1) ∷ waits_for_empty 2 1 8 (common None 2) ∷ []; entries = 4; used = 7; ending = all_wait }
+    ∷ []) ≡ record { records = []; faults = []; processes = waits_for_full 1 0 3 (common None 1) ∷ waits_for_empty 2 1 8 (common None 2) ∷ []; entries = 4; used = 7; ending = all_wait }
 unfolding runs
 waits_in_common_runs = refl
 
 -- the right side first
-abbrev order_of_waits : List String
-order_of_waits =
+order_of_waits_runs : runs (
     "      INTEGER X(2)"
     ∷ "      X($I)=$J"
     ∷ "      END"
-    ∷ []
-
-order_of_waits_runs : runs order_of_waits ≡ record { records = []; faults = []; processes = waits_for_full 1 0 2 (asynchronous 1 "J" 1) ∷ []; entries = 1; used = 5; ending = all_wait }
+    ∷ []) ≡ record { records = []; faults = []; processes = waits_for_full 1 0 2 (asynchronous 1 "J" 1) ∷ []; entries = 1; used = 5; ending = all_wait }
 unfolding runs
 order_of_waits_runs = refl
 
 -- and then the subscript
-abbrev order_of_further_waits : List String
-order_of_further_waits =
+order_of_further_waits_runs : runs (
     "      INTEGER X(2)"
     ∷ "      $J=1"
     ∷ "      X($I)=$J"
     ∷ "      END"
-    ∷ []
-
-order_of_further_waits_runs : runs order_of_further_waits ≡ record { records = []; faults = []; processes = waits_for_full 1 0 3 (asynchronous 1 "I" 1) ∷ []; entries = 3; used = 5; ending = all_wait }
+    ∷ []) ≡ record { records = []; faults = []; processes = waits_for_full 1 0 3 (asynchronous 1 "I" 1) ∷ []; entries = 3; used = 5; ending = all_wait }
 unfolding runs
 order_of_further_waits_runs = refl
 
 -- ---- PURGE
 
-abbrev purge_both : List String
-purge_both =
+purge_both_runs : report (
     "      INTEGER $Y(2)"
     ∷ "      COMMON $Y"
     ∷ "      $Y(1)=1"
@@ -144,15 +119,12 @@ purge_both =
     ∷ "      INTEGER $Z"
     ∷ "      PRINT *,FULL($Z(1)),FULL($Z(2)),VALUE($Z(2))"
     ∷ "      END"
-    ∷ []
-
-purge_both_runs : report purge_both 65536 is_made 10000000 (1 ∷ 1 ∷ 1 ∷ 1 ∷ []) ≡ record { records = (Truth false ∷ Truth false ∷ int 2 ∷ []) ∷ []; faults = []; processes = []; entries = 10; used = 4; ending = done }
+    ∷ []) 65536 is_made 10000000 (1 ∷ 1 ∷ 1 ∷ 1 ∷ []) ≡ ended ((Truth false ∷ Truth false ∷ int 2 ∷ []) ∷ []) 10 4
 unfolding report
 purge_both_runs = refl
 
 -- nothing is purged
-abbrev purge_range : List String
-purge_range =
+purge_range_runs : report (
     "      INTEGER $Y(2)"
     ∷ "      COMMON $Y"
     ∷ "      $Y(1)=1"
@@ -165,14 +137,11 @@ purge_range =
     ∷ "      INTEGER $Z"
     ∷ "      PRINT *,FULL($Z(1)),FULL($Z(2))"
     ∷ "      END"
-    ∷ []
-
-purge_range_runs : report purge_range 65536 is_made 10000000 (1 ∷ 1 ∷ 1 ∷ 1 ∷ []) ≡ record { records = (Truth true ∷ Truth true ∷ []) ∷ []; faults = fault 1 0 6 Range ∷ []; processes = []; entries = 8; used = 4; ending = done }
+    ∷ []) 65536 is_made 10000000 (1 ∷ 1 ∷ 1 ∷ 1 ∷ []) ≡ record { records = (Truth true ∷ Truth true ∷ []) ∷ []; faults = fault 1 0 6 Range ∷ []; processes = []; entries = 8; used = 4; ending = done }
 unfolding report
 purge_range_runs = refl
 
-abbrev purge_rest : List String
-purge_rest =
+purge_rest_runs : runs (
     "      INTEGER $Y(4)"
     ∷ "      DO 10 I=1,4"
     ∷ "   10 $Y(I)=I"
@@ -183,14 +152,11 @@ purge_rest =
     ∷ "      INTEGER $Z(*)"
     ∷ "      PURGE $Z"
     ∷ "      END"
-    ∷ []
-
-purge_rest_runs : runs purge_rest ≡ record { records = (Truth true ∷ Truth false ∷ Truth false ∷ Truth false ∷ []) ∷ []; faults = []; processes = []; entries = 26; used = 11; ending = done }
+    ∷ []) ≡ ended ((Truth true ∷ Truth false ∷ Truth false ∷ Truth false ∷ []) ∷ []) 26 11
 unfolding runs
 purge_rest_runs = refl
 
-abbrev purge_shape : List String
-purge_shape =
+purge_shape_runs : runs (
     "      INTEGER $Y(4)"
     ∷ "      DO 10 I=1,4"
     ∷ "   10 $Y(I)=I"
@@ -201,14 +167,11 @@ purge_shape =
     ∷ "      INTEGER $Z(2)"
     ∷ "      PURGE $Z"
     ∷ "      END"
-    ∷ []
-
-purge_shape_runs : runs purge_shape ≡ record { records = (Truth true ∷ Truth false ∷ Truth false ∷ Truth true ∷ []) ∷ []; faults = []; processes = []; entries = 26; used = 11; ending = done }
+    ∷ []) ≡ ended ((Truth true ∷ Truth false ∷ Truth false ∷ Truth true ∷ []) ∷ []) 26 11
 unfolding runs
 purge_shape_runs = refl
 
-abbrev purge_array_in_common : List String
-purge_array_in_common =
+purge_array_in_common_runs : runs (
     "      COMMON /B/ $K(2),$L"
     ∷ "      $K(1)=1"
     ∷ "      $K(2)=2"
@@ -220,16 +183,13 @@ purge_array_in_common =
     ∷ "      INTEGER $M(*)"
     ∷ "      PURGE $M"
     ∷ "      END"
-    ∷ []
-
-purge_array_in_common_runs : runs purge_array_in_common ≡ record { records = (Truth false ∷ Truth false ∷ Truth true ∷ int 2 ∷ []) ∷ []; faults = []; processes = []; entries = 12; used = 7; ending = done }
+    ∷ []) ≡ ended ((Truth false ∷ Truth false ∷ Truth true ∷ int 2 ∷ []) ∷ []) 12 7
 unfolding runs
 purge_array_in_common_runs = refl
 
 -- ---- Processes
 
-abbrev woken : List String
-woken =
+woken_runs : report (
     "      PROGRAM P"
     ∷ "      CREATE S($N)"
     ∷ "      I=$N"
@@ -238,15 +198,12 @@ woken =
     ∷ "      SUBROUTINE S($K)"
     ∷ "      $K=5"
     ∷ "      END"
-    ∷ []
-
-woken_runs : report woken 65536 is_made 10000000 (1 ∷ 1 ∷ []) ≡ record { records = one 5 ∷ []; faults = []; processes = []; entries = 9; used = 6; ending = done }
+    ∷ []) 65536 is_made 10000000 (1 ∷ 1 ∷ []) ≡ ended (one 5 ∷ []) 9 6
 unfolding report
 woken_runs = refl
 
 -- another process has emptied it again
-abbrev woken_in_vain : List String
-woken_in_vain =
+woken_in_vain_runs : report (
     "      PROGRAM P"
     ∷ "      CREATE S($N)"
     ∷ "      I=$N"
@@ -256,21 +213,15 @@ woken_in_vain =
     ∷ "      $K=5"
     ∷ "      I=$K"
     ∷ "      END"
-    ∷ []
-
-woken_in_vain_runs : report woken_in_vain 65536 is_made 10000000 (1 ∷ 1 ∷ 2 ∷ 2 ∷ 2 ∷ 2 ∷ []) ≡ record { records = []; faults = []; processes = waits_for_full 1 0 3 (asynchronous 1 "N" 1) ∷ []; entries = 7; used = 7; ending = all_wait }
+    ∷ []) 65536 is_made 10000000 (1 ∷ 1 ∷ 2 ∷ 2 ∷ 2 ∷ 2 ∷ []) ≡ record { records = []; faults = []; processes = waits_for_full 1 0 3 (asynchronous 1 "N" 1) ∷ []; entries = 7; used = 7; ending = all_wait }
 unfolding report
 woken_in_vain_runs = refl
 
-abbrev waits_again : List String
-waits_again = "      I=$N" ∷ "      END" ∷ []
-
-waits_again_runs : report waits_again 65536 is_made 10000000 (1 ∷ 1 ∷ 1 ∷ []) ≡ record { records = []; faults = []; processes = waits_for_full 1 0 1 (asynchronous 1 "N" 1) ∷ []; entries = 3; used = 3; ending = all_wait }
+waits_again_runs : report ("      I=$N" ∷ "      END" ∷ []) 65536 is_made 10000000 (1 ∷ 1 ∷ 1 ∷ []) ≡ record { records = []; faults = []; processes = waits_for_full 1 0 1 (asynchronous 1 "N" 1) ∷ []; entries = 3; used = 3; ending = all_wait }
 unfolding report
 waits_again_runs = refl
 
-abbrev creator_ends_first : List String
-creator_ends_first =
+creator_ends_first_runs : runs (
     "      PROGRAM P"
     ∷ "      CREATE S(I)"
     ∷ "      END"
@@ -278,14 +229,11 @@ creator_ends_first =
     ∷ "      J=1"
     ∷ "      PRINT *,J"
     ∷ "      END"
-    ∷ []
-
-creator_ends_first_runs : runs creator_ends_first ≡ record { records = one 1 ∷ []; faults = []; processes = []; entries = 6; used = 5; ending = done }
+    ∷ []) ≡ ended (one 1 ∷ []) 6 5
 unfolding runs
 creator_ends_first_runs = refl
 
-abbrev create_terminal : List String
-create_terminal =
+create_terminal_runs : runs (
     "      DO 10 I=1,3"
     ∷ "   10 CREATE S($N)"
     ∷ "      PRINT *,I,$N"
@@ -293,15 +241,12 @@ create_terminal =
     ∷ "      SUBROUTINE S($K)"
     ∷ "      INTEGER $K"
     ∷ "      END"
-    ∷ []
-
-create_terminal_runs : runs create_terminal ≡ record { records = []; faults = []; processes = waits_for_full 1 0 3 (asynchronous 1 "N" 1) ∷ []; entries = 12; used = 14; ending = all_wait }
+    ∷ []) ≡ record { records = []; faults = []; processes = waits_for_full 1 0 3 (asynchronous 1 "N" 1) ∷ []; entries = 12; used = 14; ending = all_wait }
 unfolding runs
 create_terminal_runs = refl
 
 -- a fault ends all activations of its process, and no other process
-abbrev fault_in_a_call : List String
-fault_in_a_call =
+fault_in_a_call_runs : runs (
     "      CREATE S"
     ∷ "      CREATE S"
     ∷ "      END"
@@ -311,15 +256,12 @@ fault_in_a_call =
     ∷ "      SUBROUTINE T(I)"
     ∷ "      PRINT *,1/0"
     ∷ "      END"
-    ∷ []
-
-fault_in_a_call_runs : runs fault_in_a_call ≡ record { records = []; faults = fault 2 2 8 Divide ∷ fault 3 2 8 Divide ∷ []; processes = []; entries = 7; used = 9; ending = done }
+    ∷ []) ≡ record { records = []; faults = fault 2 2 8 Divide ∷ fault 3 2 8 Divide ∷ []; processes = []; entries = 7; used = 9; ending = done }
 unfolding runs
 fault_in_a_call_runs = refl
 
 -- each fault in the order in which it comes
-abbrev out_of_range : List String
-out_of_range =
+out_of_range_runs : report (
     "      INTEGER X(2),$Y(2)"
     ∷ "      CREATE A"
     ∷ "      CREATE B"
@@ -333,58 +275,43 @@ out_of_range =
     ∷ "      INTEGER X(2),$Y(2)"
     ∷ "      PRINT *,FULL($Y(3))"
     ∷ "      END"
-    ∷ []
-
-out_of_range_runs : report out_of_range 65536 is_made 10000000 (1 ∷ 1 ∷ 1 ∷ 2 ∷ 3 ∷ []) ≡ record { records = []; faults = fault 1 0 4 Divide ∷ fault 2 1 8 Range ∷ fault 3 2 12 Range ∷ []; processes = []; entries = 5; used = 13; ending = done }
+    ∷ []) 65536 is_made 10000000 (1 ∷ 1 ∷ 1 ∷ 2 ∷ 3 ∷ []) ≡ record { records = []; faults = fault 1 0 4 Divide ∷ fault 2 1 8 Range ∷ fault 3 2 12 Range ∷ []; processes = []; entries = 5; used = 13; ending = done }
 unfolding report
 out_of_range_runs = refl
 
-abbrev stop_in_a_process : List String
-stop_in_a_process =
+stop_in_a_process_runs : runs (
     "      CREATE S"
     ∷ "   10 GO TO 10"
     ∷ "      END"
     ∷ "      SUBROUTINE S"
     ∷ "      STOP 12"
     ∷ "      END"
-    ∷ []
-
-stop_in_a_process_runs : runs stop_in_a_process ≡ record { records = []; faults = []; processes = stands 1 0 2 ∷ stands 2 1 5 ∷ []; entries = 2; used = 2; ending = halted }
+    ∷ []) ≡ record { records = []; faults = []; processes = stands 1 0 2 ∷ stands 2 1 5 ∷ []; entries = 2; used = 2; ending = halted }
 unfolding runs
 stop_in_a_process_runs = refl
 
-abbrev choice_of_no_process : List String
-choice_of_no_process = "      PRINT *,1" ∷ "      END" ∷ []
-
-choice_of_no_process_runs : report choice_of_no_process 65536 is_made 10000000 (1 ∷ 2 ∷ []) ≡ record { records = one 1 ∷ []; faults = []; processes = stands 1 0 2 ∷ []; entries = 1; used = 1; ending = no_such_process }
+choice_of_no_process_runs : report ("      PRINT *,1" ∷ "      END" ∷ []) 65536 is_made 10000000 (1 ∷ 2 ∷ []) ≡ record { records = one 1 ∷ []; faults = []; processes = stands 1 0 2 ∷ []; entries = 1; used = 1; ending = no_such_process }
 unfolding report
 choice_of_no_process_runs = refl
 
-abbrev choice_of_an_ended_process : List String
-choice_of_an_ended_process =
+choice_of_an_ended_process_runs : report (
     "      CREATE S"
     ∷ "      PRINT *,1"
     ∷ "      END"
     ∷ "      SUBROUTINE S"
     ∷ "      END"
-    ∷ []
-
-choice_of_an_ended_process_runs : report choice_of_an_ended_process 65536 is_made 10000000 (1 ∷ 2 ∷ 2 ∷ []) ≡ record { records = []; faults = []; processes = stands 1 0 2 ∷ []; entries = 2; used = 2; ending = no_such_process }
+    ∷ []) 65536 is_made 10000000 (1 ∷ 2 ∷ 2 ∷ []) ≡ record { records = []; faults = []; processes = stands 1 0 2 ∷ []; entries = 2; used = 2; ending = no_such_process }
 unfolding report
 choice_of_an_ended_process_runs = refl
 
-abbrev choices_after_a_stop : List String
-choices_after_a_stop = "      STOP" ∷ "      END" ∷ []
-
-choices_after_a_stop_runs : report choices_after_a_stop 65536 is_made 10000000 (1 ∷ 1 ∷ 7 ∷ []) ≡ record { records = []; faults = []; processes = stands 1 0 1 ∷ []; entries = 1; used = 1; ending = halted }
+choices_after_a_stop_runs : report ("      STOP" ∷ "      END" ∷ []) 65536 is_made 10000000 (1 ∷ 1 ∷ 7 ∷ []) ≡ record { records = []; faults = []; processes = stands 1 0 1 ∷ []; entries = 1; used = 1; ending = halted }
 unfolding report
 choices_after_a_stop_runs = refl
 
 -- ---- Arenas
 
 -- frames stand after COMMON; that of C takes the gap that A has left
-abbrev common_in_front : List String
-common_in_front =
+common_in_front_runs : report (
     "      COMMON N(3)"
     ∷ "      CREATE A"
     ∷ "      CREATE B"
@@ -399,15 +326,10 @@ common_in_front =
     ∷ "      END"
     ∷ "      SUBROUTINE C"
     ∷ "      END"
-    ∷ []
-
-common_in_front_runs : report common_in_front 10 is_held 10000000 (1 ∷ 1 ∷ 2 ∷ 2 ∷ 1 ∷ []) ≡ record { records = []; faults = []; processes = []; entries = 10; used = 3; ending = done }
+    ∷ []) 10 is_held 10000000 (1 ∷ 1 ∷ 2 ∷ 2 ∷ 1 ∷ []) ≡ ended [] 10 3
 unfolding report
 common_in_front_runs = refl
 
-abbrev common_full : List String
-common_full = "      COMMON N(3)" ∷ "      END" ∷ []
-
-common_full_runs : report common_full 3 is_made 10000000 [] ≡ record { records = []; faults = []; processes = stands 1 0 2 ∷ []; entries = 0; used = 4; ending = arena_full }
+common_full_runs : report ("      COMMON N(3)" ∷ "      END" ∷ []) 3 is_made 10000000 [] ≡ record { records = []; faults = []; processes = stands 1 0 2 ∷ []; entries = 0; used = 4; ending = arena_full }
 unfolding report
 common_full_runs = refl

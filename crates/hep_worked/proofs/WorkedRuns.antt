@@ -5,73 +5,54 @@ use Rattle.hep_machine.specs.declared.event.Kind.TheVariants.{Overflow, Range, U
 use Rattle.hep_machine.specs.declared.record.Item.TheVariants.{Truth, Text}
 use Rattle.hep_machine.specs.Layout.{is_made, is_held}
 use Rattle.hep_machine.specs.State.{common}
-use Rattle.hep_worked.proofs.SerialRuns.{report, runs, history, used_along, layout_after, frames, view, done, all_wait, halted, arena_full, step_limit, no_such_process, refused, int, minus, one, numbers, fault, stands, waits_for_full, asynchronous, plain, cell, unset_cell, holds, entries_of}
+use Rattle.hep_worked.proofs.SerialRuns.{report, runs, history, used_along, layout_after, frames, view, done, all_wait, halted, arena_full, step_limit, no_such_process, int, minus, one, numbers, fault, stands, waits_for_full, asynchronous, plain, cell, unset_cell, holds, entries_of, ended, rejected}
 
 -- ---- Reading
 
 -- product, sum, PRINT, END
-abbrev sum_and_product : List String
-sum_and_product = "      PRINT *,'A=',1+2*3,.TRUE." ∷ "      END" ∷ []
-
-sum_and_product_runs : runs sum_and_product ≡ record { records = (Text (codes "A=") ∷ int 7 ∷ Truth true ∷ []) ∷ []; faults = []; processes = []; entries = 4; used = 1; ending = done }
+sum_and_product_runs : runs ("      PRINT *,'A=',1+2*3,.TRUE." ∷ "      END" ∷ []) ≡ ended ((Text (codes "A=") ∷ int 7 ∷ Truth true ∷ []) ∷ []) 4 1
 unfolding runs
 sum_and_product_runs = refl
 
 abbrev nothing : List String
 nothing = []
 
-nothing_runs : runs nothing ≡ record { records = []; faults = []; processes = []; entries = 0; used = 0; ending = refused (204, 0, []) }
+nothing_runs : runs nothing ≡ rejected 204 0 []
 unfolding runs
 nothing_runs = refl
 
-abbrev no_end : List String
-no_end = "      I=1" ∷ []
-
-no_end_runs : runs no_end ≡ record { records = []; faults = []; processes = []; entries = 0; used = 0; ending = refused (205, 1, []) }
+no_end_runs : runs ("      I=1" ∷ []) ≡ rejected 205 1 []
 unfolding runs
 no_end_runs = refl
 
-abbrev open_constant : List String
-open_constant = "      PRINT *,'A" ∷ []
-
-open_constant_runs : runs open_constant ≡ record { records = []; faults = []; processes = []; entries = 0; used = 0; ending = refused (106, 1, []) }
+open_constant_runs : runs ("      PRINT *,'A" ∷ []) ≡ rejected 106 1 []
 unfolding runs
 open_constant_runs = refl
 
-abbrev tab_in_front : List String
-tab_in_front = "\tEND" ∷ []
-
-tab_in_front_runs : runs tab_in_front ≡ record { records = []; faults = []; processes = []; entries = 0; used = 0; ending = refused (101, 1, []) }
+tab_in_front_runs : runs ("\tEND" ∷ []) ≡ rejected 101 1 []
 unfolding runs
 tab_in_front_runs = refl
 
 abbrev nineteen_continuation_lines : List String
 nineteen_continuation_lines = "      PRINT *,1" ∷ []
 
-nineteen_continuation_lines_run : runs (nineteen_continuation_lines ++ (replicate 19 "     +,1" ++ "      END" ∷ [])) ≡ record { records = replicate 20 (int 1) ∷ []; faults = []; processes = []; entries = 2; used = 1; ending = done }
+nineteen_continuation_lines_run : runs (nineteen_continuation_lines ++ (replicate 19 "     +,1" ++ "      END" ∷ [])) ≡ ended (replicate 20 (int 1) ∷ []) 2 1
 unfolding runs
 nineteen_continuation_lines_run = refl
 
-twenty_continuation_lines_run : runs (nineteen_continuation_lines ++ (replicate 20 "     +,1" ++ "      END" ∷ [])) ≡ record { records = []; faults = []; processes = []; entries = 0; used = 0; ending = refused (104, 21, []) }
+twenty_continuation_lines_run : runs (nineteen_continuation_lines ++ (replicate 20 "     +,1" ++ "      END" ∷ [])) ≡ rejected 104 21 []
 unfolding runs
 twenty_continuation_lines_run = refl
 
-abbrev apostrophe : List String
-apostrophe = "      print *,'it''s'" ∷ "      end" ∷ []
-
-apostrophe_runs : runs apostrophe ≡ record { records = (Text (codes "it's") ∷ []) ∷ []; faults = []; processes = []; entries = 2; used = 1; ending = done }
+apostrophe_runs : runs ("      print *,'it''s'" ∷ "      end" ∷ []) ≡ ended ((Text (codes "it's") ∷ []) ∷ []) 2 1
 unfolding runs
 apostrophe_runs = refl
 
-abbrev after_column_72 : List String
-after_column_72 = "      PRINT *,1                                                         +1" ∷ "      END" ∷ []
-
-after_column_72_runs : runs after_column_72 ≡ record { records = one 1 ∷ []; faults = []; processes = []; entries = 2; used = 1; ending = done }
+after_column_72_runs : runs ("      PRINT *,1                                                         +1" ∷ "      END" ∷ []) ≡ ended (one 1 ∷ []) 2 1
 unfolding runs
 after_column_72_runs = refl
 
-abbrev comments_and_continuation_lines : List String
-comments_and_continuation_lines =
+comments_and_continuation_lines_runs : runs (
     "C first"
     ∷ "      i = 1"
     ∷ "C within"
@@ -80,86 +61,62 @@ comments_and_continuation_lines =
     ∷ ""
     ∷ "      print *,i"
     ∷ "      end"
-    ∷ []
-
-comments_and_continuation_lines_runs : runs comments_and_continuation_lines ≡ record { records = one 3 ∷ []; faults = []; processes = []; entries = 5; used = 2; ending = done }
+    ∷ []) ≡ ended (one 3 ∷ []) 5 2
 unfolding runs
 comments_and_continuation_lines_runs = refl
 
 abbrev left_out : List String
 left_out = "      READ *,I" ∷ "      END" ∷ []
 
-left_out_runs : runs left_out ≡ record { records = []; faults = []; processes = []; entries = 0; used = 0; ending = refused (202, 1, codes "READ") }
+left_out_runs : runs left_out ≡ rejected 202 1 (codes "READ")
 unfolding runs
 left_out_runs = refl
 
-abbrev real_constant : List String
-real_constant = "      I=1.5" ∷ "      END" ∷ []
-
-real_constant_runs : runs real_constant ≡ record { records = []; faults = []; processes = []; entries = 0; used = 0; ending = refused (201, 1, []) }
+real_constant_runs : runs ("      I=1.5" ∷ "      END" ∷ []) ≡ rejected 201 1 []
 unfolding runs
 real_constant_runs = refl
 
-abbrev typed_function : List String
-typed_function = "      INTEGER FUNCTION F(I)" ∷ "      END" ∷ []
-
-typed_function_runs : runs typed_function ≡ record { records = []; faults = []; processes = []; entries = 0; used = 0; ending = refused (202, 1, codes "FUNCTION") }
+typed_function_runs : runs ("      INTEGER FUNCTION F(I)" ∷ "      END" ∷ []) ≡ rejected 202 1 (codes "FUNCTION")
 unfolding runs
 typed_function_runs = refl
 
-abbrev constant_too_large : List String
-constant_too_large = "      I=-9223372036854775808" ∷ "      END" ∷ []
-
-constant_too_large_runs : runs constant_too_large ≡ record { records = []; faults = []; processes = []; entries = 0; used = 0; ending = refused (203, 1, []) }
+constant_too_large_runs : runs ("      I=-9223372036854775808" ∷ "      END" ∷ []) ≡ rejected 203 1 []
 unfolding runs
 constant_too_large_runs = refl
 
-abbrev no_main_program : List String
-no_main_program = "      SUBROUTINE S" ∷ "      END" ∷ []
-
-no_main_program_runs : runs no_main_program ≡ record { records = []; faults = []; processes = []; entries = 0; used = 0; ending = refused (204, 0, []) }
+no_main_program_runs : runs ("      SUBROUTINE S" ∷ "      END" ∷ []) ≡ rejected 204 0 []
 unfolding runs
 no_main_program_runs = refl
 
-abbrev late_declaration : List String
-late_declaration =
+late_declaration_runs : runs (
     "      I=1"
     ∷ "      INTEGER K"
     ∷ "      END"
-    ∷ []
-
-late_declaration_runs : runs late_declaration ≡ record { records = []; faults = []; processes = []; entries = 0; used = 0; ending = refused (205, 2, []) }
+    ∷ []) ≡ rejected 205 2 []
 unfolding runs
 late_declaration_runs = refl
 
 -- ---- One process
 
 -- each iteration of a DO is its statements and its end
-abbrev counting : List String
-counting =
+counting_runs : runs (
     "      D O 1 0 I = 1 , 3"
     ∷ "   10 PRINT *,I"
     ∷ "      END"
-    ∷ []
-
-counting_runs : runs counting ≡ record { records = one 1 ∷ one 2 ∷ one 3 ∷ []; faults = []; processes = []; entries = 11; used = 4; ending = done }
+    ∷ []) ≡ ended (one 1 ∷ one 2 ∷ one 3 ∷ []) 11 4
 unfolding runs
 counting_runs = refl
 
-abbrev name_like_a_do : List String
-name_like_a_do =
+name_like_a_do_runs : runs (
     "      IMPLICIT INTEGER (A-Z)"
     ∷ "      DO10I=1"
     ∷ "      PRINT *,DO10I"
     ∷ "      END"
-    ∷ []
-
-name_like_a_do_runs : runs name_like_a_do ≡ record { records = one 1 ∷ []; faults = []; processes = []; entries = 4; used = 2; ending = done }
+    ∷ []) ≡ ended (one 1 ∷ []) 4 2
 unfolding runs
 name_like_a_do_runs = refl
 
-abbrev array_called_if : List String
-array_called_if =
+array_called_if_runs : runs (
     "      INTEGER IF(3)"
     ∷ "      IF(3)=5"
     ∷ "      IF(IF(3))10,20,30"
@@ -167,14 +124,11 @@ array_called_if =
     ∷ "   20 PRINT *,2"
     ∷ "   30 PRINT *,3"
     ∷ "      END"
-    ∷ []
-
-array_called_if_runs : runs array_called_if ≡ record { records = one 3 ∷ []; faults = []; processes = []; entries = 5; used = 4; ending = done }
+    ∷ []) ≡ ended (one 3 ∷ []) 5 4
 unfolding runs
 array_called_if_runs = refl
 
-abbrev loops_without_turns : List String
-loops_without_turns =
+loops_without_turns_runs : runs (
     "      DO 10 I=3,1"
     ∷ "   10 CONTINUE"
     ∷ "      PRINT *,I"
@@ -185,36 +139,25 @@ loops_without_turns =
     ∷ "      DO 30 L=1,2,K"
     ∷ "   30 CONTINUE"
     ∷ "      END"
-    ∷ []
-
-loops_without_turns_runs : runs loops_without_turns ≡ record { records = one 3 ∷ one 4 ∷ []; faults = fault 1 0 8 Step ∷ []; processes = []; entries = 15; used = 11; ending = done }
+    ∷ []) ≡ record { records = one 3 ∷ one 4 ∷ []; faults = fault 1 0 8 Step ∷ []; processes = []; entries = 15; used = 11; ending = done }
 unfolding runs
 loops_without_turns_runs = refl
 
-abbrev quotients : List String
-quotients = "      PRINT *,(-7)/2,2**(-3),MOD(-7,2)" ∷ "      END" ∷ []
-
-quotients_runs : runs quotients ≡ record { records = (minus 3 ∷ int 0 ∷ minus 1 ∷ []) ∷ []; faults = []; processes = []; entries = 8; used = 1; ending = done }
+quotients_runs : runs ("      PRINT *,(-7)/2,2**(-3),MOD(-7,2)" ∷ "      END" ∷ []) ≡ ended ((minus 3 ∷ int 0 ∷ minus 1 ∷ []) ∷ []) 8 1
 unfolding runs
 quotients_runs = refl
 
-abbrev negative_square : List String
-negative_square = "      PRINT *,(-7)/2,2**(-3),-2**2" ∷ "      END" ∷ []
-
-negative_square_runs : runs negative_square ≡ record { records = (minus 3 ∷ int 0 ∷ minus 4 ∷ []) ∷ []; faults = []; processes = []; entries = 8; used = 1; ending = done }
+negative_square_runs : runs ("      PRINT *,(-7)/2,2**(-3),-2**2" ∷ "      END" ∷ []) ≡ ended ((minus 3 ∷ int 0 ∷ minus 4 ∷ []) ∷ []) 8 1
 unfolding runs
 negative_square_runs = refl
 
-abbrev triangle : List String
-triangle =
+triangle_runs : runs (
     "      DO 10 I=1,3"
     ∷ "      DO 10 J=I,2"
     ∷ "   10 PRINT *,I,J"
     ∷ "      PRINT *,I,J"
     ∷ "      END"
-    ∷ []
-
-triangle_runs : runs triangle ≡ record { records = numbers (1 ∷ 1 ∷ []) ∷ numbers (1 ∷ 2 ∷ []) ∷ numbers (2 ∷ 2 ∷ []) ∷ numbers (4 ∷ 3 ∷ []) ∷ []; faults = []; processes = []; entries = 26; used = 7; ending = done }
+    ∷ []) ≡ ended (numbers (1 ∷ 1 ∷ []) ∷ numbers (1 ∷ 2 ∷ []) ∷ numbers (2 ∷ 2 ∷ []) ∷ numbers (4 ∷ 3 ∷ []) ∷ []) 26 7
 unfolding runs
 triangle_runs = refl
 
@@ -284,7 +227,7 @@ named_sum =
     ∷ "      END"
     ∷ []
 
-named_sum_runs : runs named_sum ≡ record { records = one 5 ∷ []; faults = []; processes = []; entries = 2; used = 1; ending = done }
+named_sum_runs : runs named_sum ≡ ended (one 5 ∷ []) 2 1
 unfolding runs
 named_sum_runs = refl
 
@@ -308,7 +251,7 @@ adjustable =
     ∷ "      END"
     ∷ []
 
-adjustable_runs : runs adjustable ≡ record { records = one 8 ∷ []; faults = []; processes = []; entries = 7; used = 16; ending = done }
+adjustable_runs : runs adjustable ≡ ended (one 8 ∷ []) 7 16
 unfolding runs
 adjustable_runs = refl
 
@@ -316,8 +259,7 @@ adjustable_uses : used_along adjustable is_made (1 ∷ 1 ∷ []) ≡ 7 ∷ 7 ∷
 unfolding used_along
 adjustable_uses = refl
 
-abbrev adjustable_too_long : List String
-adjustable_too_long =
+adjustable_too_long_runs : runs (
     "      INTEGER X(6)"
     ∷ "      X(4)=8"
     ∷ "      CALL S(X,4)"
@@ -327,9 +269,7 @@ adjustable_too_long =
     ∷ "      N=1"
     ∷ "      PRINT *,A(1,2)"
     ∷ "      END"
-    ∷ []
-
-adjustable_too_long_runs : runs adjustable_too_long ≡ record { records = []; faults = fault 1 0 3 Shape ∷ []; processes = []; entries = 2; used = 7; ending = done }
+    ∷ []) ≡ record { records = []; faults = fault 1 0 3 Shape ∷ []; processes = []; entries = 2; used = 7; ending = done }
 unfolding runs
 adjustable_too_long_runs = refl
 
@@ -345,7 +285,7 @@ value_and_place =
     ∷ "      END"
     ∷ []
 
-value_and_place_runs : runs value_and_place ≡ record { records = one 2 ∷ []; faults = []; processes = []; entries = 11; used = 7; ending = done }
+value_and_place_runs : runs value_and_place ≡ ended (one 2 ∷ []) 11 7
 unfolding runs
 value_and_place_runs = refl
 
@@ -354,8 +294,7 @@ value_and_place_view : view value_and_place 65536 is_made 10000000 [] ≡ Some (
 unfolding view
 value_and_place_view = refl
 
-abbrev place_twice : List String
-place_twice =
+place_twice_runs : runs (
     "      I=1"
     ∷ "      CALL S(I,I)"
     ∷ "      PRINT *,I"
@@ -364,9 +303,7 @@ place_twice =
     ∷ "      J=5"
     ∷ "      K=K+1"
     ∷ "      END"
-    ∷ []
-
-place_twice_runs : runs place_twice ≡ record { records = one 6 ∷ []; faults = []; processes = []; entries = 10; used = 7; ending = done }
+    ∷ []) ≡ ended (one 6 ∷ []) 10 7
 unfolding runs
 place_twice_runs = refl
 
@@ -396,8 +333,7 @@ undefined_anew_kept_in_3_cells : report undefined_anew 3 is_made 10000000 [] ≡
 unfolding report
 undefined_anew_kept_in_3_cells = refl
 
-abbrev rest_of_an_array : List String
-rest_of_an_array =
+rest_of_an_array_runs : runs (
     "      INTEGER X(5)"
     ∷ "      X(5)=9"
     ∷ "      CALL S(X(3))"
@@ -407,14 +343,11 @@ rest_of_an_array =
     ∷ "      PRINT *,A(3)"
     ∷ "      PRINT *,A(4)"
     ∷ "      END"
-    ∷ []
-
-rest_of_an_array_runs : runs rest_of_an_array ≡ record { records = one 9 ∷ []; faults = fault 1 1 8 Range ∷ []; processes = []; entries = 5; used = 9; ending = done }
+    ∷ []) ≡ record { records = one 9 ∷ []; faults = fault 1 1 8 Range ∷ []; processes = []; entries = 5; used = 9; ending = done }
 unfolding runs
 rest_of_an_array_runs = refl
 
-abbrev more_than_the_rest : List String
-more_than_the_rest =
+more_than_the_rest_runs : runs (
     "      INTEGER X(5)"
     ∷ "      X(5)=9"
     ∷ "      CALL S(X(3))"
@@ -424,9 +357,7 @@ more_than_the_rest =
     ∷ "      PRINT *,A(3)"
     ∷ "      PRINT *,A(4)"
     ∷ "      END"
-    ∷ []
-
-more_than_the_rest_runs : runs more_than_the_rest ≡ record { records = []; faults = fault 1 0 3 Shape ∷ []; processes = []; entries = 2; used = 6; ending = done }
+    ∷ []) ≡ record { records = []; faults = fault 1 0 3 Shape ∷ []; processes = []; entries = 2; used = 6; ending = done }
 unfolding runs
 more_than_the_rest_runs = refl
 
@@ -462,7 +393,7 @@ call_in_a_loop =
     ∷ "      END"
     ∷ []
 
-call_in_a_loop_in_6_cells : report call_in_a_loop 6 is_held 10000000 [] ≡ record { records = []; faults = []; processes = []; entries = 42; used = 0; ending = done }
+call_in_a_loop_in_6_cells : report call_in_a_loop 6 is_held 10000000 [] ≡ ended [] 42 0
 unfolding report
 call_in_a_loop_in_6_cells = refl
 
@@ -474,7 +405,7 @@ call_in_a_loop_history_in_5_cells : history call_in_a_loop 5 is_held 10000000 []
 unfolding history
 call_in_a_loop_history_in_5_cells = refl
 
-call_in_a_loop_kept_in_24_cells : report call_in_a_loop 24 is_made 10000000 [] ≡ record { records = []; faults = []; processes = []; entries = 42; used = 24; ending = done }
+call_in_a_loop_kept_in_24_cells : report call_in_a_loop 24 is_made 10000000 [] ≡ ended [] 42 24
 unfolding report
 call_in_a_loop_kept_in_24_cells = refl
 
@@ -492,7 +423,7 @@ call_in_a_longer_loop =
     ∷ "      END"
     ∷ []
 
-call_in_a_longer_loop_in_6_cells : report call_in_a_longer_loop 6 is_held 10000000 [] ≡ record { records = []; faults = []; processes = []; entries = 4002; used = 0; ending = done }
+call_in_a_longer_loop_in_6_cells : report call_in_a_longer_loop 6 is_held 10000000 [] ≡ ended [] 4002 0
 unfolding report
 call_in_a_longer_loop_in_6_cells = refl
 
@@ -553,8 +484,7 @@ overflow_in_no_process_yet : report overflow_in_a_process 65536 is_made 10000000
 unfolding report
 overflow_in_no_process_yet = refl
 
-abbrev constant_too_large_in_a_process : List String
-constant_too_large_in_a_process =
+constant_too_large_in_a_process_runs : runs (
     "      PROGRAM P"
     ∷ "      CREATE ADD"
     ∷ "      PRINT *,'OK'"
@@ -563,9 +493,7 @@ constant_too_large_in_a_process =
     ∷ "      I=9223372036854775808"
     ∷ "      I=I+1"
     ∷ "      END"
-    ∷ []
-
-constant_too_large_in_a_process_runs : runs constant_too_large_in_a_process ≡ record { records = []; faults = []; processes = []; entries = 0; used = 0; ending = refused (203, 6, []) }
+    ∷ []) ≡ rejected 203 6 []
 unfolding runs
 constant_too_large_in_a_process_runs = refl
 
@@ -612,11 +540,11 @@ adders =
     ∷ "      END"
     ∷ []
 
-adders_runs : runs adders ≡ record { records = one 2 ∷ []; faults = []; processes = []; entries = 22; used = 14; ending = done }
+adders_runs : runs adders ≡ ended (one 2 ∷ []) 22 14
 unfolding runs
 adders_runs = refl
 
-adders_chosen_run : report adders 65536 is_made 10000000 (1 ∷ 1 ∷ 1 ∷ 2 ∷ 3 ∷ []) ≡ record { records = one 2 ∷ []; faults = []; processes = []; entries = 22; used = 14; ending = done }
+adders_chosen_run : report adders 65536 is_made 10000000 (1 ∷ 1 ∷ 1 ∷ 2 ∷ 3 ∷ []) ≡ ended (one 2 ∷ []) 22 14
 unfolding report
 adders_chosen_run = refl
 
@@ -624,7 +552,7 @@ adders_chosen_history : history adders 65536 is_made 10000000 (1 ∷ 1 ∷ 1 ∷
 unfolding history
 adders_chosen_history = refl
 
-adders_begun_first_run : report adders 65536 is_made 10000000 (1 ∷ 1 ∷ 1 ∷ 1 ∷ []) ≡ record { records = one 2 ∷ []; faults = []; processes = []; entries = 22; used = 14; ending = done }
+adders_begun_first_run : report adders 65536 is_made 10000000 (1 ∷ 1 ∷ 1 ∷ 1 ∷ []) ≡ ended (one 2 ∷ []) 22 14
 unfolding report
 adders_begun_first_run = refl
 
@@ -661,7 +589,7 @@ adders_in_13_cells : report adders 13 is_made 10000000 (1 ∷ 1 ∷ 1 ∷ []) �
 unfolding report
 adders_in_13_cells = refl
 
-adders_in_14_cells : report adders 14 is_made 10000000 (1 ∷ 1 ∷ 1 ∷ []) ≡ record { records = one 2 ∷ []; faults = []; processes = []; entries = 22; used = 14; ending = done }
+adders_in_14_cells : report adders 14 is_made 10000000 (1 ∷ 1 ∷ 1 ∷ []) ≡ ended (one 2 ∷ []) 22 14
 unfolding report
 adders_in_14_cells = refl
 
@@ -724,8 +652,7 @@ creators_return_layout : layout_after creators_return 7 is_held (replicate 6 1) 
 unfolding layout_after
 creators_return_layout = refl
 
-abbrev states : List String
-states =
+states_runs : runs (
     "      INTEGER $X,$Y(3)"
     ∷ "      PRINT *,FULL($X)"
     ∷ "      $X=4"
@@ -737,25 +664,19 @@ states =
     ∷ "   10 $Y(I)=I"
     ∷ "      PRINT *,VALUE($Y(1)),VALUE($Y(2)),VALUE($Y(3))"
     ∷ "      END"
-    ∷ []
-
-states_runs : runs states ≡ record { records = (Truth false ∷ []) ∷ (int 4 ∷ Truth true ∷ int 4 ∷ Truth true ∷ int 4 ∷ []) ∷ numbers (1 ∷ 2 ∷ 3 ∷ []) ∷ []; faults = []; processes = []; entries = 30; used = 8; ending = done }
+    ∷ []) ≡ ended ((Truth false ∷ []) ∷ (int 4 ∷ Truth true ∷ int 4 ∷ Truth true ∷ int 4 ∷ []) ∷ numbers (1 ∷ 2 ∷ 3 ∷ []) ∷ []) 30 8
 unfolding runs
 states_runs = refl
 
-abbrev value_of_nothing : List String
-value_of_nothing =
+value_of_nothing_runs : runs (
     "      INTEGER $X"
     ∷ "      I=VALUE($X)"
     ∷ "      END"
-    ∷ []
-
-value_of_nothing_runs : runs value_of_nothing ≡ record { records = []; faults = fault 1 0 2 Undefined ∷ []; processes = []; entries = 1; used = 3; ending = done }
+    ∷ []) ≡ record { records = []; faults = fault 1 0 2 Undefined ∷ []; processes = []; entries = 1; used = 3; ending = done }
 unfolding runs
 value_of_nothing_runs = refl
 
-abbrev circle : List String
-circle =
+circle_runs : runs (
     "      PROGRAM P"
     ∷ "      INTEGER $A,$B"
     ∷ "      CREATE S($A,$B)"
@@ -766,9 +687,7 @@ circle =
     ∷ "      INTEGER $U,$V"
     ∷ "      $V=$U"
     ∷ "      END"
-    ∷ []
-
-circle_runs : runs circle ≡ record { records = []; faults = []; processes = waits_for_full 1 0 5 (asynchronous 1 "A" 1) ∷ waits_for_full 2 1 9 (asynchronous 1 "A" 1) ∷ waits_for_full 3 1 9 (asynchronous 1 "B" 1) ∷ []; entries = 5; used = 14; ending = all_wait }
+    ∷ []) ≡ record { records = []; faults = []; processes = waits_for_full 1 0 5 (asynchronous 1 "A" 1) ∷ waits_for_full 2 1 9 (asynchronous 1 "A" 1) ∷ waits_for_full 3 1 9 (asynchronous 1 "B" 1) ∷ []; entries = 5; used = 14; ending = all_wait }
 unfolding runs
 circle_runs = refl
 
@@ -793,7 +712,7 @@ gaps_of_2_cells : report gaps 7 is_held 10000000 (1 ∷ 1 ∷ 2 ∷ 2 ∷ 1 ∷ 
 unfolding report
 gaps_of_2_cells = refl
 
-gaps_of_3_cells : report gaps 8 is_held 10000000 (1 ∷ 1 ∷ 2 ∷ 2 ∷ 1 ∷ []) ≡ record { records = []; faults = []; processes = []; entries = 11; used = 0; ending = done }
+gaps_of_3_cells : report gaps 8 is_held 10000000 (1 ∷ 1 ∷ 2 ∷ 2 ∷ 1 ∷ []) ≡ ended [] 11 0
 unfolding report
 gaps_of_3_cells = refl
 
@@ -827,7 +746,7 @@ counters_in_common_frames : frames counters_in_common ≡ (1 ∷ 4 ∷ [], 1)
 unfolding frames
 counters_in_common_frames = refl
 
-counters_in_common_run : report counters_in_common 65536 is_held 10000000 [] ≡ record { records = []; faults = []; processes = []; entries = 67; used = 1; ending = done }
+counters_in_common_run : report counters_in_common 65536 is_held 10000000 [] ≡ ended [] 67 1
 unfolding report
 counters_in_common_run = refl
 

@@ -3,7 +3,7 @@ use Rattle.std.specs.Prelude.{◌≡◌, true, false, List, [], ◌∷◌, refl}
 use Prim.Native.String.{String}
 use Rattle.hep_machine.specs.declared.event.Kind.TheVariants.{Overflow, Divide, Undefined}
 use Rattle.hep_machine.specs.declared.record.Item.TheVariants.{Truth}
-use Rattle.hep_worked.proofs.SerialRuns.{runs, done, int, minus, fault}
+use Rattle.hep_worked.proofs.SerialRuns.{runs, done, int, minus, fault, ended}
 
 -- ---- Functions and powers
 
@@ -15,26 +15,20 @@ functions =
     ∷ "      END"
     ∷ []
 
-functions_runs : runs functions ≡ record { records = (int 1 ∷ minus 1 ∷ minus 3 ∷ int 3 ∷ minus 3 ∷ []) ∷ (int 2 ∷ int 0 ∷ int 5 ∷ int 2 ∷ minus 1 ∷ []) ∷ (int 4 ∷ int 4 ∷ minus 2 ∷ int 1 ∷ int 1 ∷ []) ∷ []; faults = []; processes = []; entries = 30; used = 1; ending = done }
+functions_runs : runs functions ≡ ended ((int 1 ∷ minus 1 ∷ minus 3 ∷ int 3 ∷ minus 3 ∷ []) ∷ (int 2 ∷ int 0 ∷ int 5 ∷ int 2 ∷ minus 1 ∷ []) ∷ (int 4 ∷ int 4 ∷ minus 2 ∷ int 1 ∷ int 1 ∷ []) ∷ []) 30 1
 unfolding runs
 functions_runs = refl
 
-abbrev functions_of_the_least : List String
-functions_of_the_least =
+functions_of_the_least_runs : runs (
     "      K=-9223372036854775807-1"
     ∷ "      PRINT *,MOD(K,-1),SIGN(K,-1),MAX(K,0),DIM(K,0)"
     ∷ "      PRINT *,ABS(K)"
     ∷ "      END"
-    ∷ []
-
-functions_of_the_least_runs : runs functions_of_the_least ≡ record { records = (int 0 ∷ minus 9223372036854775808 ∷ int 0 ∷ int 0 ∷ []) ∷ []; faults = fault 1 0 3 Overflow ∷ []; processes = []; entries = 16; used = 2; ending = done }
+    ∷ []) ≡ record { records = (int 0 ∷ minus 9223372036854775808 ∷ int 0 ∷ int 0 ∷ []) ∷ []; faults = fault 1 0 3 Overflow ∷ []; processes = []; entries = 16; used = 2; ending = done }
 unfolding runs
 functions_of_the_least_runs = refl
 
-abbrev remainder_of_0 : List String
-remainder_of_0 = "      PRINT *,MOD(1,0)" ∷ "      END" ∷ []
-
-remainder_of_0_runs : runs remainder_of_0 ≡ record { records = []; faults = fault 1 0 1 Divide ∷ []; processes = []; entries = 1; used = 1; ending = done }
+remainder_of_0_runs : runs ("      PRINT *,MOD(1,0)" ∷ "      END" ∷ []) ≡ record { records = []; faults = fault 1 0 1 Divide ∷ []; processes = []; entries = 1; used = 1; ending = done }
 unfolding runs
 remainder_of_0_runs = refl
 
@@ -52,41 +46,32 @@ powers_runs = refl
 
 -- ---- Logical values
 
-abbrev logicals : List String
-logicals =
+logicals_runs : runs (
     "      LOGICAL A,B"
     ∷ "      A=.TRUE."
     ∷ "      B=.FALSE."
     ∷ "      PRINT *,A.AND.B,A.OR.B,A.EQV.B,A.NEQV.B,.NOT.A,.NOT.B.AND..NOT.A"
     ∷ "      PRINT *,1.LT.2,2.LE.2,1.EQ.2,1.NE.2,1.GT.2,2.GE.2"
     ∷ "      END"
-    ∷ []
-
-logicals_runs : runs logicals ≡ record { records = (Truth false ∷ Truth true ∷ Truth false ∷ Truth true ∷ Truth false ∷ Truth false ∷ []) ∷ (Truth true ∷ Truth true ∷ Truth false ∷ Truth true ∷ Truth false ∷ Truth true ∷ []) ∷ []; faults = []; processes = []; entries = 30; used = 3; ending = done }
+    ∷ []) ≡ ended ((Truth false ∷ Truth true ∷ Truth false ∷ Truth true ∷ Truth false ∷ Truth false ∷ []) ∷ (Truth true ∷ Truth true ∷ Truth false ∷ Truth true ∷ Truth false ∷ Truth true ∷ []) ∷ []) 30 3
 unfolding runs
 logicals_runs = refl
 
 -- the second operand is evaluated where the first is false
-abbrev both_sides_and : List String
-both_sides_and =
+both_sides_and_runs : runs (
     "      LOGICAL L"
     ∷ "      L=.FALSE..AND.1/0.EQ.1"
     ∷ "      END"
-    ∷ []
-
-both_sides_and_runs : runs both_sides_and ≡ record { records = []; faults = fault 1 0 2 Divide ∷ []; processes = []; entries = 1; used = 2; ending = done }
+    ∷ []) ≡ record { records = []; faults = fault 1 0 2 Divide ∷ []; processes = []; entries = 1; used = 2; ending = done }
 unfolding runs
 both_sides_and_runs = refl
 
 -- and where it is true
-abbrev both_sides_or : List String
-both_sides_or =
+both_sides_or_runs : runs (
     "      LOGICAL L"
     ∷ "      L=.TRUE..OR.K.EQ.1"
     ∷ "      END"
-    ∷ []
-
-both_sides_or_runs : runs both_sides_or ≡ record { records = []; faults = fault 1 0 2 Undefined ∷ []; processes = []; entries = 1; used = 3; ending = done }
+    ∷ []) ≡ record { records = []; faults = fault 1 0 2 Undefined ∷ []; processes = []; entries = 1; used = 3; ending = done }
 unfolding runs
 both_sides_or_runs = refl
 
@@ -103,12 +88,11 @@ constants =
     ∷ "      END"
     ∷ []
 
-constants_runs : runs constants ≡ record { records = (int 9 ∷ Truth true ∷ int 1 ∷ []) ∷ []; faults = []; processes = []; entries = 7; used = 15; ending = done }
+constants_runs : runs constants ≡ ended ((int 9 ∷ Truth true ∷ int 1 ∷ []) ∷ []) 7 15
 unfolding runs
 constants_runs = refl
 
-abbrev logical_constants : List String
-logical_constants =
+logical_constants_runs : runs (
     "      LOGICAL T"
     ∷ "      PARAMETER (T=.TRUE.,N=3)"
     ∷ "      INTEGER X(N)"
@@ -116,42 +100,33 @@ logical_constants =
     ∷ "   10 X(I)=N"
     ∷ "      IF(T)PRINT *,X(N),T"
     ∷ "      END"
-    ∷ []
-
-logical_constants_runs : runs logical_constants ≡ record { records = (int 3 ∷ Truth true ∷ []) ∷ []; faults = []; processes = []; entries = 9; used = 7; ending = done }
+    ∷ []) ≡ ended ((int 3 ∷ Truth true ∷ []) ∷ []) 9 7
 unfolding runs
 logical_constants_runs = refl
 
-abbrev implicit_types : List String
-implicit_types =
+implicit_types_runs : runs (
     "      IMPLICIT LOGICAL(A-C),INTEGER(X-Z)"
     ∷ "      A=.TRUE."
     ∷ "      X=2"
     ∷ "      PRINT *,A,X,.NOT.A"
     ∷ "      END"
-    ∷ []
-
-implicit_types_runs : runs implicit_types ≡ record { records = (Truth true ∷ int 2 ∷ Truth false ∷ []) ∷ []; faults = []; processes = []; entries = 8; used = 3; ending = done }
+    ∷ []) ≡ ended ((Truth true ∷ int 2 ∷ Truth false ∷ []) ∷ []) 8 3
 unfolding runs
 implicit_types_runs = refl
 
 -- an array by columns, values with repeats, which may be named
-abbrev data_by_columns : List String
-data_by_columns =
+data_by_columns_runs : runs (
     "      INTEGER A(2,3),K"
     ∷ "      LOGICAL L(2)"
     ∷ "      PARAMETER (N=2)"
     ∷ "      DATA A/1,2*5,N*-7,9/,K/N/L/2*.TRUE./"
     ∷ "      PRINT *,A(1,1),A(2,1),A(1,2),A(2,2),A(1,3),A(2,3),K,L(1),L(2)"
     ∷ "      END"
-    ∷ []
-
-data_by_columns_runs : runs data_by_columns ≡ record { records = (int 1 ∷ int 5 ∷ int 5 ∷ minus 7 ∷ minus 7 ∷ int 9 ∷ int 2 ∷ Truth true ∷ Truth true ∷ []) ∷ []; faults = []; processes = []; entries = 11; used = 10; ending = done }
+    ∷ []) ≡ ended ((int 1 ∷ int 5 ∷ int 5 ∷ minus 7 ∷ minus 7 ∷ int 9 ∷ int 2 ∷ Truth true ∷ Truth true ∷ []) ∷ []) 11 10
 unfolding runs
 data_by_columns_runs = refl
 
-abbrev data_elements : List String
-data_elements =
+data_elements_runs : runs (
     "      INTEGER A(0:1,2)"
     ∷ "      PARAMETER (N=2)"
     ∷ "      DATA A(1,N-1),M/4,-6/"
@@ -159,8 +134,6 @@ data_elements =
     ∷ "      PRINT *,A(1,1),M,A(0,2)"
     ∷ "      PRINT *,A(0,1)"
     ∷ "      END"
-    ∷ []
-
-data_elements_runs : runs data_elements ≡ record { records = (int 4 ∷ minus 6 ∷ int 2 ∷ []) ∷ []; faults = fault 1 0 6 Undefined ∷ []; processes = []; entries = 5; used = 6; ending = done }
+    ∷ []) ≡ record { records = (int 4 ∷ minus 6 ∷ int 2 ∷ []) ∷ []; faults = fault 1 0 6 Undefined ∷ []; processes = []; entries = 5; used = 6; ending = done }
 unfolding runs
 data_elements_runs = refl

@@ -1,27 +1,5 @@
-use Rattle.std.proofs.Common.{ap, arith, length, ◌∙◌}
-use Rattle.std.proofs.lemmas.Bool.Decides.{nat_tests}
-use Rattle.hep_history.specs.Choices.{choice_text, IsProcess}
-use Rattle.hep_history.proofs.Readings.{count_fits, read_short, read_whole}
 use Rattle.hep_history.proofs.Spellings.{choices_apart}
 use Rattle.hep_history.proofs.choices.read_choices.Goals as goal
 
-pub overflow_cast-len : goal.overflow_cast-len
-overflow_cast-len c =
-    let read = c.loop-rest.invariant in
-    omega (arith, count_fits choice_text IsProcess choices_apart c.args.text.now c.loop-rest.rest.now c.loop-rest.processes.items read.size read.split read.each)
-
-pub overflow_add-len : goal.overflow_add-len
-overflow_add-len c =
-    let read = c.loop-rest.invariant in
-    omega (arith, count_fits choice_text IsProcess choices_apart c.args.text.now c.loop-rest.rest.now c.loop-rest.processes.items read.size read.split read.each)
-
-pub returns-in_default-clause-accepted : goal.returns-in_default-clause-accepted
-returns-in_default-clause-accepted c xs h =
-    let read = c.loop-rest.invariant in
-    absurd (read_short choice_text IsProcess choices_apart c.args.text.now c.loop-rest.rest.now c.loop-rest.processes.items read.size read.split read.each (
-    λ e. grind (arith, nat_tests, ap length e)) c.in_default.ensures.none xs h)
-
-pub returns-clause-accepted : goal.returns-clause-accepted
-returns-clause-accepted c xs h =
-    let read = c.loop-rest.invariant in
-    c.from.ensures ∙ read_whole choice_text IsProcess choices_apart c.args.text.now c.loop-rest.rest.now c.loop-rest.processes.items read.size read.split read.each (grind (arith, nat_tests)) xs h
+pub read_lines-requires : goal.read_lines-requires
+read_lines-requires c = choices_apart

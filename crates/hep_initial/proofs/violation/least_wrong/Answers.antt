@@ -28,7 +28,7 @@ loop-statement-preserved c =
         turned.1,
         data-turn unit known so_far.0 s (drop i ss) (drop (i + 1) ss) c.give.new.constants c.loop-statement.least c.line_when.result c.lesser-least.result _ c.in_ok-is_wrong.is_wrong
             (drop_at ss i s c.loop-statement-test.true c.statement-item.is) so_far.2 turned.0 c.line_when.ensures c.lesser-least.ensures
-            (c.in_ok-give.ensures ∙ ap (λ cs. value_among (given_by unit known cs)) c.constants_in.ensures),
+            (c.in_ok-give.ensures ∙ ap (λ cs. value_among (given_by unit known cs)) c.constants_in-behind.ensures),
       ),
     )
 

@@ -1,9 +1,7 @@
-use Rattle.std.proofs.Common.{◌≡◌, ◌≤◌, ◌∙◌, sym, subst, length, Some, Err, arith}
-use Rattle.hep_scheduler.specs.declared.fault.ChooseFault.{ChooseFault}
+use Rattle.std.proofs.Common.{◌≡◌, ◌≤◌, ◌∙◌, sym, length, Some, arith}
 use Rattle.hep_scheduler.specs.declared.fault.ChooseFault.TheVariants.{Stopped, NoSuchProcess}
-use Rattle.hep_scheduler.specs.Value.{IsChoice}
 use Rattle.hep_run.specs.Outcome.{next_process}
-use Rattle.hep_run.proofs.Schedules.{chosen, stopped, next_is_ready, none_is_next, ready_lives, is_none}
+use Rattle.hep_run.proofs.Schedules.{chosen, stopped, next_is_ready, none_is_next, ready_lives, refused_for, is_none}
 use Rattle.hep_run.proofs.run.run_on.Goals as goal
 
 pub loop-process-preserved : goal.loop-process-preserved
@@ -21,16 +19,15 @@ loop-process-preserved c =
 pub returns-in-Err-Stopped-clause-running : goal.returns-in-Err-Stopped-clause-running
 returns-in-Err-Stopped-clause-running c =
     let old = c.loop-process.core in
-    let new = c.choose.new.self in
-    let p = c.in-Some.process in
-    let was : IsChoice old p (Err (Stopped c.in-Err-Stopped.field-0-0)) new = subst (λ (e : ChooseFault). IsChoice old p (Err e) new) c.in-Err-Stopped.field-0-is c.in-Err-Stopped.ensures in
-    (stopped c.args.options.now old new p c.in-Err-Stopped.field-0-0 was c.loop-process.invariant.running (λ going. next_is_ready old.program c.args.options.now.choices old.history going.1 (c.loop-process.invariant.made going.0) ∙ sym c.in-Some.ensures)).0
+    let was = refused_for old c.choose.new.self c.in-Some.process _ (Stopped c.in-Err-Stopped.field-0-0) c.in-Err-Stopped.field-0-is c.in-Err-Stopped.ensures in
+    stopped c.args.options.now old c.choose.new.self c.in-Some.process c.in-Err-Stopped.field-0-0 was c.loop-process.invariant.running (
+    λ going. next_is_ready old.program c.args.options.now.choices old.history going.1 (c.loop-process.invariant.made going.0) ∙ sym c.in-Some.ensures)
 
 pub unreachable-requires : goal.unreachable-requires
 unreachable-requires c =
     let old = c.loop-process.core in
-    let was : IsChoice old c.in-Some.process (Err NoSuchProcess) c.choose.new.self = subst (λ (e : ChooseFault). IsChoice old c.in-Some.process (Err e) c.choose.new.self) c.in-Err-NoSuchProcess.field-0-is c.in-Err-NoSuchProcess.ensures in
-    ready_lives old.program old.history c.in-Some.process (sym c.in-Some.ensures) was.1
+    ready_lives old.program old.history c.in-Some.process (sym c.in-Some.ensures) (
+    refused_for old c.choose.new.self c.in-Some.process _ NoSuchProcess c.in-Err-NoSuchProcess.field-0-is c.in-Err-NoSuchProcess.ensures).1
 
 pub returns-clause-over : goal.returns-clause-over
 returns-clause-over c = λ none.

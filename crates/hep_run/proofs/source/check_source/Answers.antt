@@ -1,19 +1,12 @@
-use Rattle.std.proofs.Common.{ℕ, List, refl, subst, inl}
+use Rattle.std.proofs.Common.{[], refl, inl}
 use Rattle.std.proofs.KnownBytes.{Keeps-refl}
-use Rattle.hep_run.specs.Checks.{IsCheckOutcome}
-use Rattle.hep_run.specs.Delivery.{LeavesOneOf, status_alone}
-use Rattle.hep_run.proofs.Fronts.{check_goes, source_left}
+use Rattle.hep_run.specs.Sources.{IsRefusedProgram, IsRunnable}
+use Rattle.hep_run.proofs.Accepted.{checked_left}
 use Rattle.hep_run.proofs.source.check_source.Goals as goal
 
 pub returns-in-Ok : goal.returns-in-Ok
 returns-in-Ok g c =
-    let o = g.W.Write.contents c.args.output.now in
-    let o' = g.W.Write.contents c.check_bytes.new.output in
-    let m = g.E.Write.contents c.args.messages.now in
-    let m' = g.E.Write.contents c.check_bytes.new.messages in
-    let run = status_alone c.check_bytes.result in
-    let left = subst (λ (l : List ℕ). LeavesOneOf (IsCheckOutcome l) run o o' m m') c.deref.ensures.value c.check_bytes.ensures in
-    source_left IsCheckOutcome check_goes _ _ c.in-Ok.bytes.items run o o' m m' c.in-Ok.ensures.first c.in-Ok.ensures.all left
+    checked_left IsRefusedProgram IsRunnable (λ program. []) _ _ c.in-Ok.bytes.items _ c.check_transcript.result _ _ _ _ _ c.deref.ensures.value c.in-Ok.ensures.first c.in-Ok.ensures.all c.check_transcript.ensures c.deliver_made.ensures
 
 pub returns-in-Err : goal.returns-in-Err
 returns-in-Err g c = inl (Keeps-refl _, refl, (_, c.say_unread.ensures))

@@ -1,19 +1,14 @@
-use Rattle.std.proofs.Common.{ℕ, List, refl, subst, inl}
+use Rattle.std.proofs.Common.{refl, inl}
 use Rattle.std.proofs.KnownBytes.{Keeps-refl}
-use Rattle.hep_run.specs.Checks.{IsListOutcome}
-use Rattle.hep_run.specs.Delivery.{LeavesOneOf, status_alone}
-use Rattle.hep_run.proofs.Fronts.{list_goes, source_left}
+use Rattle.hep_check.specs.Conditions.{IsAccepted}
+use Rattle.hep_checked.specs.Listing.{listing}
+use Rattle.hep_run.specs.Sources.{IsViolatingProgram}
+use Rattle.hep_run.proofs.Accepted.{checked_left}
 use Rattle.hep_run.proofs.source.list_source.Goals as goal
 
 pub returns-in-Ok : goal.returns-in-Ok
 returns-in-Ok g c =
-    let o = g.W.Write.contents c.args.output.now in
-    let o' = g.W.Write.contents c.list_bytes.new.output in
-    let m = g.E.Write.contents c.args.messages.now in
-    let m' = g.E.Write.contents c.list_bytes.new.messages in
-    let run = status_alone c.list_bytes.result in
-    let left = subst (λ (l : List ℕ). LeavesOneOf (IsListOutcome l) run o o' m m') c.deref.ensures.value c.list_bytes.ensures in
-    source_left IsListOutcome list_goes _ _ c.in-Ok.bytes.items run o o' m m' c.in-Ok.ensures.first c.in-Ok.ensures.all left
+    checked_left IsViolatingProgram IsAccepted listing _ _ c.in-Ok.bytes.items _ c.list_transcript.result _ _ _ _ _ c.deref.ensures.value c.in-Ok.ensures.first c.in-Ok.ensures.all c.list_transcript.ensures c.deliver_made.ensures
 
 pub returns-in-Err : goal.returns-in-Err
 returns-in-Err g c = inl (Keeps-refl _, refl, (_, c.say_unread.ensures))

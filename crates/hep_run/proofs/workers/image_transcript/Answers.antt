@@ -1,20 +1,20 @@
 use Rattle.std.proofs.Common.{inl, inr, subst, sym, ◌∙◌}
 use Rattle.hep_workers.specs.Reports.{IsWorkFault}
 use Rattle.hep_run.specs.Transcripts.{outcome_of}
-use Rattle.hep_run.proofs.Outcomes.{if_ok}
 use Rattle.hep_run.proofs.Worked.{is-refusal, outcome-worked}
 use Rattle.hep_run.proofs.workers.image_transcript.Goals as goal
+use Rattle.std.proofs.lemmas.Result.{IfOk-weaker}
 
 pub returns-in-Ok : goal.returns-in-Ok
 returns-in-Ok g c =
     let report = c.in-Ok.report in
-    if_ok c.ended_transcript.result _ _ (λ r is. outcome-worked c.args.image.now c.args.options report.core report.logs.items (outcome_of r) c.in-Ok.ensures.report c.headline.ensures.legal c.headline.ensures.named is) c.ended_transcript.ensures
+    IfOk-weaker c.ended_transcript.result _ _ (λ r is. outcome-worked c.args.image.now c.args.options report.core report.logs.items (outcome_of r) c.in-Ok.ensures.report c.headline.ensures.legal c.headline.ensures.named is) c.ended_transcript.ensures
 
 pub returns-in-Err-ArenaFull : goal.returns-in-Err-ArenaFull
 returns-in-Err-ArenaFull g c =
     let none = subst (λ fault. IsWorkFault fault c.args.image.now c.args.options) c.in-Err-ArenaFull.field-0-is c.in-Err-ArenaFull.ensures.fault in
-    if_ok c.full_transcript.result _ _ (λ r is. inl (none, is)) c.full_transcript.ensures
+    IfOk-weaker c.full_transcript.result _ _ (λ r is. inl (none, is)) c.full_transcript.ensures
 
 pub returns-in-Some : goal.returns-in-Some
 returns-in-Some g c =
-    if_ok c.workers_transcript.result _ _ (λ r is. inr (inl (c.in-Some.number, is-refusal c.in-Err.fault c.in-Some.number (sym c.number.ensures ∙ c.in-Some.is), is))) c.workers_transcript.ensures
+    IfOk-weaker c.workers_transcript.result _ _ (λ r is. inr (inl (c.in-Some.number, is-refusal c.in-Err.fault c.in-Some.number (sym c.number.ensures ∙ c.in-Some.is), is))) c.workers_transcript.ensures

@@ -6,11 +6,11 @@ use Rattle.hep_state.specs.Snapshots.{Stack, stack_of}
 use Rattle.hep_state.specs.Taking.{stack_with}
 use Rattle.hep_state.proofs.calling.put_above.Goals as goal
 
-stack-is : (c : goal.After-add_level) (l : Level) (ls : List Level) (operands : List Value) → stack_of c.args.process.now ≡ stack_with l ls operands
-    → stack_of (record { levels = c.add_level.new.levels; operands = c.go_on.new.process.operands }) ≡ record { levels = c.args.level ∷ (record l { index = c.args.index } ∷ ls); operands = [] }
+stack-is : (c : goal.After-append) (l : Level) (ls : List Level) (operands : List Value) → stack_of c.args.process.now ≡ stack_with l ls operands
+    → stack_of (record { levels = c.append.new.items; operands = c.go_on.new.process.operands }) ≡ record { levels = c.args.level ∷ (record l { index = c.args.index } ∷ ls); operands = [] }
 stack-is c l ls operands is =
     let below = c.go_on.ensures.stack l ls operands is in
-    let above = ap reverse c.add_level.ensures ∙ reverse-append c.go_on.new.process.levels.items (c.args.level ∷ []) in
+    let above = ap reverse c.append.ensures ∙ reverse-append c.go_on.new.process.levels.items (c.args.level ∷ []) in
     λ i. record {
       levels = (above ∙ ap (λ (k : Stack). c.args.level ∷ k.levels) below) i;
       operands = (below i).operands;
@@ -19,5 +19,5 @@ stack-is c l ls operands is =
 pub returns : goal.returns
 returns c = record { stack = stack-is c; operands = c.go_on.ensures.operands }
 
-pub add_level-requires : goal.add_level-requires
-add_level-requires c = omega (arith, c.requires.room, c.go_on.ensures.count, c.go_on.ensures.capacity)
+pub append-requires : goal.append-requires
+append-requires c = omega (arith, c.requires.room, c.go_on.ensures.count, c.go_on.ensures.capacity)

@@ -1,12 +1,10 @@
 use Rattle.std.proofs.Common.{◌≡◌, ℕ, Bool, List, Some, false, true}
 use Rattle.std.specs.Prelude.{is_some}
 use Rattle.hep_source.specs.declared.name.Name.{Name}
-use Rattle.hep_source.specs.declared.statement.Statement.{Statement}
 use Rattle.hep_source.specs.Units.{Units, main_among, unit_at}
 use Rattle.hep_machine.specs.Evaluation.{Actual, does, next_of}
-use Rattle.hep_machine.specs.State.{Level as SourceLevel, Process, Work}
+use Rattle.hep_machine.specs.State.{Level as SourceLevel, Process}
 use Rattle.hep_step.specs.Calls.{made_by}
-use Rattle.hep_works.specs.Works.{ComesFrom, IsCalledBy}
 use Rattle.hep_machine.specs.declared.event.Kind.TheVariants.{Shape}
 use Rattle.hep_machine.specs.Run.{run}
 use Rattle.hep_machine.specs.Binding.{Binding}
@@ -18,38 +16,19 @@ use Rattle.hep_check.specs.Conditions.{IsAccepted}
 use Rattle.hep_image.specs.Dummies.{dummy_arguments}
 use Rattle.hep_shaping.specs.Fitting.{shapes_of}
 use Rattle.hep_state.proofs.Bindings.{IsKnownToBind, actuals, called-so, dummies-given, fault-ends, frameless, range-bound}
-use Rattle.hep_state.proofs.Callers.{IsKnown, called-inside}
+use Rattle.hep_state.proofs.Callers.{called-inside}
 use Rattle.hep_image.proofs.Numbers.{unit-there}
 use Rattle.hep_state.proofs.laws.calls_give_what_is_bound.Goals as goal
 
-from-made : goal.After-tops_are_running → (creates : Bool) (unit : List Statement) (k : ℕ) (work : Work) (x : Name) (actuals : List Actual) → ComesFrom unit k work → next_of unit work ≡ does (made_by creates x actuals) → IsCalledBy unit k x actuals
-from-made c false = c.calls_come_from_statements.ensures.called
-from-made c true = c.calls_come_from_statements.ensures.created
-
--- what the laws called say of a program
-known : goal.After-tops_are_running → (program : Units) → IsAccepted program → is_some (main_among program) ≡ true → IsKnown program
-known c program accepted main =
-    record {
-      closed = c.programs_are_closed.ensures.closed program accepted;
-      units = λ choices a one made. c.units_are_there.ensures program choices a accepted main one made;
-      bound = λ choices a one made. c.activations_are_bound_in_runs.ensures program choices a accepted main one made;
-      works = λ choices p top lives. c.works_come_from_statements.ensures.top program choices p top lives;
-      called = from-made c;
-      subroutine = λ u k x actuals by. c.subroutines_are_called.ensures.there program u k x actuals accepted by;
-      arguments = λ u k x actuals by. c.subroutines_are_called.ensures.arguments program u k x actuals accepted by;
-      running = λ cells choices m p l ls operands top turning. c.tops_are_running.ensures.running program cells choices m p l ls operands top accepted main turning;
-      ahead = λ creates. c.calls_are_ahead.ensures.ahead creates program;
-    }
-
-steps-made : goal.After-tops_are_running → (program : Units) (creates : Bool) (choices : List ℕ) (p : ℕ) (top : SourceLevel × Process) (x : Name) (actuals : List Actual) (b : Binding) → (run program choices).halted ≡ false → IsPassing program choices p top (unit_called program x) actuals b
+steps-made : goal.After-programs_are_known → (program : Units) (creates : Bool) (choices : List ℕ) (p : ℕ) (top : SourceLevel × Process) (x : Name) (actuals : List Actual) (b : Binding) → (run program choices).halted ≡ false → IsPassing program choices p top (unit_called program x) actuals b
     → next_of (unit_at program (unit_of (run program choices) top.0.activation)) top.0.work ≡ does (made_by creates x actuals) → step program p (run program choices) ≡ Some (state_made creates program choices p top (unit_called program x) b)
 steps-made c program false = c.calls_make_activations.ensures.called program
 steps-made c program true = c.calls_make_activations.ensures.created program
 
-all-known : goal.After-tops_are_running → (program : Units) → IsAccepted program → is_some (main_among program) ≡ true → IsKnownToBind program
+all-known : goal.After-programs_are_known → (program : Units) → IsAccepted program → is_some (main_among program) ≡ true → IsKnownToBind program
 all-known c program accepted main =
     record {
-      known = known c program accepted main;
+      known = c.programs_are_known.ensures program accepted main;
       distinct = λ u inside i j x. c.names_are_given_once.ensures.dummies program u i j (unit_at program u) x accepted (unit-there program u inside);
       fits = λ u k j x y actuals a. c.actual_arguments_fit.ensures program u k j x y actuals a accepted;
       placed = λ unit x. c.variables_are_placed.ensures program unit x;

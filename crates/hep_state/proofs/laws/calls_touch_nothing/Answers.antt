@@ -5,8 +5,8 @@ use Rattle.hep_step.specs.Calls.{making}
 use Rattle.hep_step.specs.Simulation.{is_left_out, unit_code}
 use Rattle.hep_state.specs.Tops.{frame_under, top_after}
 use Rattle.hep_state.proofs.Moved.{unit-is}
-use Rattle.hep_state.proofs.Touching.{not-true}
 use Rattle.hep_state.proofs.laws.calls_touch_nothing.Goals as goal
+use Rattle.std.proofs.lemmas.Bool.{false_from_ne_true}
 
 -- CALL and CREATE are no PURGE, and are left out of the operations that the laws of steps are about
 making-left-out : (creates : _) (u count next : ℕ) → is_left_out (making creates u count next) ≡ true
@@ -28,6 +28,6 @@ returns c program cells choices m p call accepted main at =
     let purge = c.purges_stand_ahead.ensures program t at.turning.after.layout f m.arena.contents m.arena.holes at.operands at.l.index call.line o at.behind runs ahead in
     let untouched = c.calls_and_purges_never_wait.ensures.touches program t at.turning.after.layout f m.arena.contents m.arena.holes at.operands at.l.index call.line o at.behind runs ahead (making-left-out call.creates call.unit call.count call.next) in
     record {
-      plain = not-true _ (λ is. let told = purge is in absurd (making-is-none call.creates call.unit call.count call.next told.0 told.1 told.2));
+      plain = false_from_ne_true _ (λ is. let told = purge is in absurd (making-is-none call.creates call.unit call.count call.next told.0 told.1 told.2));
       told = λ layout location laid touched. absurd (none-some location (sym untouched ∙ touched));
     }

@@ -11,24 +11,15 @@ use Rattle.hep_state.specs.CallsAhead.{IsAtPurge}
 use Rattle.hep_state.specs.Showing.{node_under}
 use Rattle.hep_state.specs.Snapshots.{Snapshot}
 use Rattle.hep_state.specs.Tops.{frame_under, top_after}
-use Rattle.hep_state.proofs.Callers.{AreRunning, ahead-on-top, calls-so, runs}
+use Rattle.hep_state.proofs.Callers.{ahead-on-top, calls-so, runs}
 use Rattle.hep_state.proofs.Purging.{does-so, entries-placed, fault-ends, gaps-there, nothing-purged, ranges-purged, ranges-stepped}
 use Rattle.hep_state.proofs.laws.purges_are_shown.Goals as goal
 
-known : goal.After-tops_are_running → (program : Units) → IsAccepted program → is_some (main_among program) ≡ true → AreRunning program
-known c program accepted main =
-    record {
-      closed = c.programs_are_closed.ensures.closed program accepted;
-      units = λ choices a one made. c.units_are_there.ensures program choices a accepted main one made;
-      bound = λ choices a one made. c.activations_are_bound_in_runs.ensures program choices a accepted main one made;
-      running = λ cells choices m p l ls operands top turning. c.tops_are_running.ensures.running program cells choices m p l ls operands top accepted main turning;
-    }
-
-simulated : goal.After-tops_are_running → (program : Units) (cells : ℕ) (choices : List ℕ) (m : Snapshot) (p : ℕ) (purge : PurgeAhead) → IsAccepted program → is_some (main_among program) ≡ true → (at : IsAtPurge program cells choices p m purge)
+simulated : goal.After-programs_are_known → (program : Units) (cells : ℕ) (choices : List ℕ) (m : Snapshot) (p : ℕ) (purge : PurgeAhead) → IsAccepted program → is_some (main_among program) ≡ true → (at : IsAtPurge program cells choices p m purge)
     → Simulates program (top_after program choices p at.top) at.turning.after.layout (frame_under m.nodes at.l.key) m.arena.holes m.arena.contents
     (effect_of_purge (arrays_on_top program (top_after program choices p at.top)) (node_under m.nodes at.l.key).first purge.line purge.next (passed_from purge.count at.behind at.operands) m.arena.contents)
 simulated c program cells choices m p purge accepted main at =
-    let k = known c program accepted main in
+    let k = (c.programs_are_known.ensures program accepted main).running in
     let o = Purge purge.count purge.next in
     let placed = entries-placed program k cells choices p m purge at (λ i x there is. c.variables_of_the_code_are_placed.ensures.all program at.l.unit i x accepted there is) in
     c.purges_do_what_the_machine_does.ensures program (top_after program choices p at.top) at.turning.after.layout (frame_under m.nodes at.l.key) m.arena.contents m.arena.holes at.operands at.l.index purge.line purge.count purge.next at.behind
@@ -37,18 +28,18 @@ simulated c program cells choices m p purge accepted main at =
 pub returns-clause-stepped : goal.returns-clause-stepped
 returns-clause-stepped c program cells choices m p purge ranges accepted main at e =
     let r = c.ranges_are_emptied.ensures in
-    let sim = does-so program (known c program accepted main) cells choices p m purge at (simulated c program cells choices m p purge accepted main at) (Ok ranges) e in
+    let sim = does-so program (c.programs_are_known.ensures program accepted main).running cells choices p m purge at (simulated c program cells choices m p purge accepted main at) (Ok ranges) e in
     ranges-stepped program cells choices p m at.l at.ls at.operands at.top at.turning r.within r.elsewhere r.cells ranges purge.next sim
 
 pub returns-clause-purged : goal.returns-clause-purged
 returns-clause-purged c program cells choices m p purge ranges accepted main at e =
     let r = c.ranges_are_emptied.ensures in
-    let sim = does-so program (known c program accepted main) cells choices p m purge at (simulated c program cells choices m p purge accepted main at) (Ok ranges) e in
+    let sim = does-so program (c.programs_are_known.ensures program accepted main).running cells choices p m purge at (simulated c program cells choices m p purge accepted main at) (Ok ranges) e in
     ranges-purged program cells choices p m at.l at.ls at.operands at.top at.turning r.within r.elsewhere r.cells ranges purge.next sim
 
 pub returns-clause-range : goal.returns-clause-range
 returns-clause-range c program cells choices m p purge kind accepted main at e =
-    let k = known c program accepted main in
+    let k = (c.programs_are_known.ensures program accepted main).running in
     fault-ends program k cells choices p m purge at kind (does-so program k cells choices p m purge at (simulated c program cells choices m p purge accepted main at) (Err kind) e)
 
 pub returns-clause-nothing : goal.returns-clause-nothing
@@ -56,7 +47,7 @@ returns-clause-nothing c program cells choices m p line kind ends = nothing-purg
 
 pub returns-clause-gaps : goal.returns-clause-gaps
 returns-clause-gaps c program cells choices m p purge accepted main at =
-    let k = known c program accepted main in
+    let k = (c.programs_are_known.ensures program accepted main).running in
     let r = c.ranges_are_emptied.ensures in
     let sim = simulated c program cells choices m p purge accepted main at in
     gaps-there program k cells choices p m purge at (λ kind ends. c.gaps_are_told.ensures.fault program cells choices m p purge.line kind ends)

@@ -1,7 +1,5 @@
-use Rattle.std.proofs.Common.{◌≡◌, true, sym, subst}
-use Rattle.std.specs.Prelude.{is_some}
-use Rattle.hep_source.specs.Units.{Units, main_among, unit_at}
-use Rattle.hep_check.specs.Conditions.{IsAccepted}
+use Rattle.std.proofs.Common.{sym, subst}
+use Rattle.hep_source.specs.Units.{unit_at}
 use Rattle.hep_code.specs.Passing.{passed_from}
 use Rattle.hep_code.specs.declared.instruction.Operation.TheVariants.{Purge}
 use Rattle.hep_finding.specs.Within.{ArePlacedArrays}
@@ -9,29 +7,20 @@ use Rattle.hep_passing.specs.Ready.{ArePassable}
 use Rattle.hep_purging.specs.Ready.{AreOut}
 use Rattle.hep_step.specs.Ready.{frame_in_arena}
 use Rattle.hep_state.specs.Tops.{frame_under, top_after}
-use Rattle.hep_state.proofs.Callers.{AreRunning, ahead-on-top, caller-unit, calls-so, runs}
+use Rattle.hep_state.proofs.Callers.{ahead-on-top, caller-unit, calls-so, runs}
 use Rattle.hep_state.proofs.Purging.{of-arrays}
 use Rattle.hep_state.proofs.laws.purges_can_be_made.Goals as goal
 
-known : goal.After-tops_are_running → (program : Units) → IsAccepted program → is_some (main_among program) ≡ true → AreRunning program
-known c program accepted main =
-    record {
-      closed = c.programs_are_closed.ensures.closed program accepted;
-      units = λ choices a one made. c.units_are_there.ensures program choices a accepted main one made;
-      bound = λ choices a one made. c.activations_are_bound_in_runs.ensures program choices a accepted main one made;
-      running = λ cells choices m p l ls operands top turning. c.tops_are_running.ensures.running program cells choices m p l ls operands top accepted main turning;
-    }
-
 pub returns-clause-framed : goal.returns-clause-framed
 returns-clause-framed c program cells choices m p purge accepted main few at =
-    let k = known c program accepted main in
+    let k = (c.programs_are_known.ensures program accepted main).running in
     let o = Purge purge.count purge.next in
     c.purges_are_ready.ensures.frame program (top_after program choices p at.top) at.turning.after.layout (frame_under m.nodes at.l.key) m.arena.contents m.arena.holes at.operands at.l.index
     (runs program k cells choices p m purge.line o at) (calls-so program k cells choices p m purge.line o at) few
 
 pub returns-clause-passable : goal.returns-clause-passable
 returns-clause-passable c program cells choices m p purge accepted main at =
-    let k = known c program accepted main in
+    let k = (c.programs_are_known.ensures program accepted main).running in
     let o = Purge purge.count purge.next in
     let arrays = c.tops_are_running.ensures.arrays program cells choices m p at.l at.ls at.operands at.top accepted main at.turning in
     let placed = subst (λ u. ArePlacedArrays program (unit_at program u)) (sym (caller-unit program k cells choices p m purge.line o at)) arrays in
@@ -41,7 +30,7 @@ returns-clause-passable c program cells choices m p purge accepted main at =
 
 pub returns-clause-out : goal.returns-clause-out
 returns-clause-out c program cells choices m p purge accepted main at =
-    let k = known c program accepted main in
+    let k = (c.programs_are_known.ensures program accepted main).running in
     let o = Purge purge.count purge.next in
     of-arrays program k cells choices p m purge at (λ xs. AreOut m.arena xs (frame_in_arena (frame_under m.nodes at.l.key)) (passed_from purge.count at.behind at.operands)) (
     c.purges_are_ready.ensures.out program (top_after program choices p at.top) at.turning.after.layout (frame_under m.nodes at.l.key) m.arena.contents m.arena.holes at.operands at.l.index purge.line purge.count purge.next at.behind

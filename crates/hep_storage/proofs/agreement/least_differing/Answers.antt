@@ -1,19 +1,17 @@
 use Rattle.std.proofs.Common.{◌≤◌, ◌∙◌, ap, length, arith}
 use Rattle.std.specs.List.{list_any}
-use Rattle.std.specs.Option.{option_eq}
-use Rattle.indexmap.specs.IndexMap.{get}
 use Rattle.hep_source.specs.Names.{name_eq}
 use Rattle.hep_machine.specs.Declarations.{blocks_of}
 use Rattle.hep_storage.specs.Agreement.{with_block}
-use Rattle.hep_storage.specs.Table.{block_at, summed_in}
+use Rattle.hep_storage.specs.Table.{block_at, summed_in, entry_at}
 use Rattle.hep_storage.proofs.Turns.{blocks-turn, left-same, units-end}
 use Rattle.hep_storage.proofs.agreement.least_differing.Goals as goal
 
 pub loop-symbols-preserved : goal.loop-symbols-preserved
 loop-symbols-preserved c =
-    let before = get (option_eq name_eq) c.loop-symbols.table in
-    let read = get (option_eq name_eq) c.read_blocks.new.table in
-    let after = get (option_eq name_eq) c.least_in_unit.new.table in
+    let before = entry_at c.loop-symbols.table in
+    let read = entry_at c.read_blocks.new.table in
+    let after = entry_at c.least_in_unit.new.table in
     record {
       least =
           blocks-turn (λ b. summed_in (before b)) (λ b. summed_in (after b)) c.units-symbols-items.result.now c.args.program.now c.loop-symbols.symbols-index _ c.symbols-item.result
@@ -32,4 +30,4 @@ returns c =
     let e = c.loop-symbols-test.false in
     let n = ap length c.units-symbols-items.ensures in
     let k : length c.args.program.now ≤ c.loop-symbols.symbols-index = omega (arith, e, n) in
-    units-end (blocks_of c.args.program.now) (λ b. summed_in (get (option_eq name_eq) c.loop-symbols.table b)) c.args.program.now c.loop-symbols.symbols-index _ _ k c.loop-symbols.invariant.least
+    units-end (blocks_of c.args.program.now) (λ b. summed_in (entry_at c.loop-symbols.table b)) c.args.program.now c.loop-symbols.symbols-index _ _ k c.loop-symbols.invariant.least

@@ -1,20 +1,18 @@
 use Rattle.std.proofs.Common.{◌≡◌, drop, None, false}
-use Rattle.std.specs.Option.{option_eq}
-use Rattle.indexmap.specs.IndexMap.{get}
 use Rattle.indexmap.specs.IndexSet.{contains}
 use Rattle.hep_source.specs.declared.name.Name.{Name}
 use Rattle.hep_source.specs.Names.{name_eq}
 use Rattle.hep_machine.specs.Declarations.{BlockName, blocks_of}
 use Rattle.hep_check.specs.Reported.{least_line}
 use Rattle.hep_storage.specs.Agreement.{least_of_blocks, nothing_summed}
-use Rattle.hep_storage.specs.Table.{block_at, summed_in}
+use Rattle.hep_storage.specs.Table.{block_at, summed_in, entry_at}
 use Rattle.hep_storage.proofs.agreement.least_differing.Given as goal
 
 abbrev pub invariant-loop-symbols : goal.invariant-loop-symbols
 invariant-loop-symbols l =
     record {
-      least : least_line l.least (least_of_blocks (blocks_of l.program) (λ b. summed_in (get (option_eq name_eq) l.table b)) (drop l.symbols-index l.program))
+      least : least_line l.least (least_of_blocks (blocks_of l.program) (λ b. summed_in (entry_at l.table b)) (drop l.symbols-index l.program))
           ≡ least_of_blocks (blocks_of l.program) (λ b. nothing_summed) l.program;
-      none : (b : BlockName) → block_at (get (option_eq name_eq) l.table b) ≡ None;
+      none : (b : BlockName) → block_at (entry_at l.table b) ≡ None;
       unread : (x : Name) → contains name_eq l.noted x ≡ false;
     }

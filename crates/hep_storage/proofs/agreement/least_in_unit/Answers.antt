@@ -1,10 +1,7 @@
 use Rattle.std.proofs.Common.{◌≤◌, ◌+◌, subst, length, drop, arith}
 use Rattle.std.proofs.lemmas.List.{drop_more}
-use Rattle.std.specs.Option.{option_eq}
-use Rattle.indexmap.specs.IndexMap.{get}
-use Rattle.hep_source.specs.Names.{name_eq}
 use Rattle.hep_storage.specs.Agreement.{AreAmong}
-use Rattle.hep_storage.specs.Table.{block_at, summed_in}
+use Rattle.hep_storage.specs.Table.{block_at, summed_in, entry_at}
 use Rattle.hep_storage.proofs.Turns.{turned-start, turned-next, turned-end, among-next, all-settled}
 use Rattle.hep_storage.proofs.agreement.least_in_unit.Goals as goal
 
@@ -13,9 +10,9 @@ loop-block-init c = record { turned = turned-start _ _; among = c.requires }
 
 pub loop-block-preserved : goal.loop-block-preserved
 loop-block-preserved c =
-    let first = get (option_eq name_eq) c.args.table.now in
-    let old = get (option_eq name_eq) c.loop-block.table in
-    let new = get (option_eq name_eq) c.settle.new.table in
+    let first = entry_at c.args.table.now in
+    let old = entry_at c.loop-block.table in
+    let new = entry_at c.settle.new.table in
     let i = c.loop-block.block-index in
     record {
       turned =
@@ -26,26 +23,12 @@ loop-block-preserved c =
           (subst (λ ks. AreAmong ks (λ b. block_at (old b))) (drop_more c.args.named.now i _ c.loop-block-test.true) c.loop-block.invariant.among);
     }
 
-pub returns-clause-none : goal.returns-clause-none
-returns-clause-none c =
-    let e = c.loop-block-test.false in
-    let k : length c.args.named.now ≤ c.loop-block.block-index = omega arith in
-    all-settled c.args.named.now c.loop-block.block-index (λ b. block_at (get (option_eq name_eq) c.loop-block.table b)) k c.loop-block.invariant.among
-
-pub returns-clause-line : goal.returns-clause-line
-returns-clause-line c =
-    let first = get (option_eq name_eq) c.args.table.now in
-    let last = get (option_eq name_eq) c.loop-block.table in
+pub returns : goal.returns
+returns c =
+    let first = entry_at c.args.table.now in
+    let last = entry_at c.loop-block.table in
     let e = c.loop-block-test.false in
     let k : length c.args.named.now ≤ c.loop-block.block-index = omega arith in
     let none = all-settled c.args.named.now c.loop-block.block-index (λ b. block_at (last b)) k c.loop-block.invariant.among in
-    (turned-end (λ b. summed_in (first b)) (λ b. summed_in (last b)) (λ b. block_at (first b)) (λ b. block_at (last b)) c.loop-block.least c.loop-block.invariant.turned none).1
-
-pub returns-clause-added : goal.returns-clause-added
-returns-clause-added c =
-    let first = get (option_eq name_eq) c.args.table.now in
-    let last = get (option_eq name_eq) c.loop-block.table in
-    let e = c.loop-block-test.false in
-    let k : length c.args.named.now ≤ c.loop-block.block-index = omega arith in
-    let none = all-settled c.args.named.now c.loop-block.block-index (λ b. block_at (last b)) k c.loop-block.invariant.among in
-    (turned-end (λ b. summed_in (first b)) (λ b. summed_in (last b)) (λ b. block_at (first b)) (λ b. block_at (last b)) c.loop-block.least c.loop-block.invariant.turned none).0
+    let end = turned-end (λ b. summed_in (first b)) (λ b. summed_in (last b)) (λ b. block_at (first b)) (λ b. block_at (last b)) c.loop-block.least c.loop-block.invariant.turned none in
+    record { line = end.1; added = end.0; none = none }

@@ -1,18 +1,17 @@
 use Rattle.std.proofs.Common.{◌≤◌, ◌++◌, length, take, arith}
-use Rattle.std.specs.Option.{option_eq}
-use Rattle.indexmap.specs.IndexMap.{get}
 use Rattle.indexmap.specs.IndexSet.{contains}
 use Rattle.hep_source.specs.Names.{name_eq}
 use Rattle.hep_storage.specs.Blocks.{names_under, later_line}
-use Rattle.hep_storage.proofs.BlockTables.{list-turn, lists-start, lists-whole}
+use Rattle.hep_storage.proofs.BlockTables.{list-turn, lists-whole, list-start}
 use Rattle.hep_storage.proofs.Tables.{read-start, read-next}
+use Rattle.hep_storage.specs.Table.{entry_at}
 use Rattle.hep_storage.proofs.blocks.note_blocks.Goals as goal
 
 pub loop-list-init : goal.loop-list-init
 loop-list-init c =
     record {
-      has = λ b xs before h. lists-start c.args.symbols.now (contains name_eq c.args.noted.now) b xs before _ h;
-      read = read-start (get (option_eq name_eq) c.args.table.now) c.args.named.now.items;
+      has = λ b xs before h. list-start c.args.symbols.now (contains name_eq c.args.noted.now) b xs before _ h;
+      read = read-start (entry_at c.args.table.now) c.args.named.now.items;
     }
 
 pub loop-list-preserved : goal.loop-list-preserved
@@ -24,7 +23,7 @@ loop-list-preserved c =
           list-turn c.args.symbols.now (contains name_eq c.note_block.new.noted) b ds i _ c.list-item.result xs before c.args.line _ c.loop-list-test.true c.list-item.is
           (c.in_ok-note_block.ensures.has b (xs ++ names_under b (take i ds)) (later_line b before c.args.line (take i ds)) (c.loop-list.invariant.has b xs before h));
       read =
-          read-next (get (option_eq name_eq) c.args.table.now) (get (option_eq name_eq) c.loop-list.table) (get (option_eq name_eq) c.note_block.new.table)
+          read-next (entry_at c.args.table.now) (entry_at c.loop-list.table) (entry_at c.note_block.new.table)
           c.args.named.now.items c.loop-list.named.items c.note_block.new.named.items c.loop-list.invariant.read c.in_ok-note_block.ensures.read;
     }
 

@@ -1,19 +1,18 @@
 use Rattle.std.proofs.Common.{◌≤◌, ap, length, take, arith}
-use Rattle.std.specs.Option.{option_eq}
-use Rattle.indexmap.specs.IndexMap.{get}
 use Rattle.indexmap.specs.IndexSet.{contains}
 use Rattle.hep_source.specs.Names.{name_eq}
 use Rattle.hep_machine.specs.Declarations.{names_in_block}
 use Rattle.hep_check.specs.Common.{last_line}
 use Rattle.hep_storage.proofs.BlockTables.{statement-turn, unit-whole}
 use Rattle.hep_storage.proofs.Tables.{none-has, none-named, read-start, read-next}
+use Rattle.hep_storage.specs.Table.{entry_at}
 use Rattle.hep_storage.proofs.blocks.read_blocks.Goals as goal
 
 pub loop-statement-init : goal.loop-statement-init
 loop-statement-init c =
     record {
-      has = λ b. none-has c.args.symbols.now (contains name_eq c.args.noted.now) b (get (option_eq name_eq) c.args.table.now b) (c.requires.none b) c.requires.unread;
-      read = read-start (get (option_eq name_eq) c.args.table.now) c.args.named.now.items;
+      has = λ b. none-has c.args.symbols.now (contains name_eq c.args.noted.now) b (entry_at c.args.table.now b) (c.requires.none b) c.requires.unread;
+      read = read-start (entry_at c.args.table.now) c.args.named.now.items;
     }
 
 pub loop-statement-preserved : goal.loop-statement-preserved
@@ -25,7 +24,7 @@ loop-statement-preserved c =
           statement-turn unit (contains name_eq c.note_blocks.new.noted) b c.statements-statement-items.result.now unit i _ c.statement-item.result c.blocks_in-lists.result.now _ c.statements-statement-items.ensures c.loop-statement-test.true c.statement-item.is c.blocks_in-lists.ensures
           (c.in_ok-note_blocks.ensures.has b (names_in_block (take i unit) b) (last_line b (take i unit)) (c.loop-statement.invariant.has b));
       read =
-          read-next (get (option_eq name_eq) c.args.table.now) (get (option_eq name_eq) c.loop-statement.table) (get (option_eq name_eq) c.note_blocks.new.table)
+          read-next (entry_at c.args.table.now) (entry_at c.loop-statement.table) (entry_at c.note_blocks.new.table)
           c.args.named.now.items c.loop-statement.named.items c.note_blocks.new.named.items c.loop-statement.invariant.read c.in_ok-note_blocks.ensures.read;
     }
 
@@ -37,4 +36,4 @@ returns-clause-blocks c = λ b.
     unit-whole c.args.symbols.now (contains name_eq c.loop-statement.noted) b c.loop-statement.statement-index _ k (c.loop-statement.invariant.has b)
 
 pub returns-clause-named : goal.returns-clause-named
-returns-clause-named c = c.loop-statement.invariant.read.named (none-named (get (option_eq name_eq) c.args.table.now) c.args.named.now.items c.requires.none)
+returns-clause-named c = c.loop-statement.invariant.read.named (none-named (entry_at c.args.table.now) c.args.named.now.items c.requires.none)

@@ -1,17 +1,15 @@
 use Rattle.std.proofs.Common.{take}
-use Rattle.std.specs.Option.{option_eq}
-use Rattle.indexmap.specs.IndexMap.{get}
 use Rattle.indexmap.specs.IndexSet.{contains}
 use Rattle.hep_source.specs.Names.{name_eq}
 use Rattle.hep_machine.specs.Declarations.{BlockName, names_in_block}
 use Rattle.hep_check.specs.Common.{last_line}
 use Rattle.hep_storage.specs.Blocks.{Has}
-use Rattle.hep_storage.specs.Table.{contents_in, AreRead}
+use Rattle.hep_storage.specs.Table.{contents_in, AreRead, entry_at}
 use Rattle.hep_storage.proofs.blocks.read_blocks.Given as goal
 
 abbrev pub invariant-loop-statement : goal.invariant-loop-statement
 invariant-loop-statement l =
     record {
-      has : (b : BlockName) → Has l.symbols (contains name_eq l.noted) b (names_in_block (take l.statement-index l.symbols) b) (last_line b (take l.statement-index l.symbols)) (contents_in (get (option_eq name_eq) l.table b));
-      read : AreRead (get (option_eq name_eq) l.initial.table) (get (option_eq name_eq) l.table) l.initial.named.items l.named.items;
+      has : (b : BlockName) → Has l.symbols (contains name_eq l.noted) b (names_in_block (take l.statement-index l.symbols) b) (last_line b (take l.statement-index l.symbols)) (contents_in (entry_at l.table b));
+      read : AreRead (entry_at l.initial.table) (entry_at l.table) l.initial.named.items l.named.items;
     }

@@ -1,30 +1,26 @@
-use Rattle.std.proofs.Common.{ap, sym}
-use Rattle.std.specs.Option.{option_eq}
-use Rattle.indexmap.specs.IndexMap.{get}
-use Rattle.hep_source.specs.Names.{name_eq}
-use Rattle.hep_storage.proofs.Tables.{some-there, settled-added, settled-left, missing-added, missing-left}
+use Rattle.std.proofs.Common.{ap, sym, rules}
+use Rattle.hep_machine.specs.Declarations.{BlockName}
+use Rattle.hep_storage.proofs.Tables.{settled-added, settled-left, missing-added, missing-left}
+use Rattle.hep_storage.specs.Table.{entry_at}
 use Rattle.hep_storage.proofs.table.settle.Goals as goal
+use Rattle.hep_source.proofs.Tests.{some-there}
 
-pub returns-in-Some-clause-added : goal.returns-in-Some-clause-added
-returns-in-Some-clause-added c =
-    let old = get (option_eq name_eq) c.args.table.now in
+pub returns-in-Some : goal.returns-in-Some
+returns-in-Some c =
+    let old = entry_at c.args.table.now in
+    let new = entry_at (c.get_mut.follows.lender c.settle.new.self) in
     let is = sym c.in-Some.ensures.value in
-    settled-added c.args.block old (get (option_eq name_eq) (c.get_mut.follows.lender c.settle.new.self)) c.in-Some.entry.now c.settle.new.self is
-    ((c.get_mut.follows.holds c.settle.new.self).3 (some-there (old c.args.block) c.in-Some.entry.now is)).0 c.settle.ensures.added
+    let put = ((c.get_mut.follows.holds c.settle.new.self).3 (some-there (old c.args.block) c.in-Some.entry.now is)).0 in
+    record {
+      line = search rules;
+      added = settled-added c.args.block old new c.in-Some.entry.now c.settle.new.self is put c.settle.ensures.added;
+      left = settled-left c.args.block old new c.in-Some.entry.now c.settle.new.self is put c.settle.ensures.left;
+    }
 
-pub returns-in-Some-clause-left : goal.returns-in-Some-clause-left
-returns-in-Some-clause-left c =
-    let old = get (option_eq name_eq) c.args.table.now in
-    let is = sym c.in-Some.ensures.value in
-    settled-left c.args.block old (get (option_eq name_eq) (c.get_mut.follows.lender c.settle.new.self)) c.in-Some.entry.now c.settle.new.self is
-    ((c.get_mut.follows.holds c.settle.new.self).3 (some-there (old c.args.block) c.in-Some.entry.now is)).0 c.settle.ensures.left
-
-pub returns-in-None-clause-added : goal.returns-in-None-clause-added
-returns-in-None-clause-added c =
-    missing-added c.args.block (get (option_eq name_eq) c.args.table.now) (get (option_eq name_eq) c.get_mut.follows.lender-at-none) (sym c.in-None.ensures.value)
-    (λ b. ap (λ t. get (option_eq name_eq) t b) c.get_mut.follows.holds-at-none)
-
-pub returns-in-None-clause-left : goal.returns-in-None-clause-left
-returns-in-None-clause-left c =
-    missing-left c.args.block (get (option_eq name_eq) c.args.table.now) (get (option_eq name_eq) c.get_mut.follows.lender-at-none) (sym c.in-None.ensures.value)
-    (λ b. ap (λ t. get (option_eq name_eq) t b) c.get_mut.follows.holds-at-none)
+pub returns-in-None : goal.returns-in-None
+returns-in-None c =
+    let old = entry_at c.args.table.now in
+    let new = entry_at c.get_mut.follows.lender-at-none in
+    let none = sym c.in-None.ensures.value in
+    let same = λ (b : BlockName). ap (λ t. entry_at t b) c.get_mut.follows.holds-at-none in
+    record { line = search rules; added = missing-added c.args.block old new none same; left = missing-left c.args.block old new none same }

@@ -5,4 +5,4 @@ use Rattle.hep_symbols.specs.Statements.{rest_after}
 use Rattle.hep_types.proofs.violation.are_bounded.Given as goal
 
 abbrev pub invariant-loop-declarator : goal.invariant-loop-declarator
-invariant-loop-declarator l = list_all (has_bounds l.symbols l.parameters) (rest_after (drop l.declarator-index l.declarators)) ≡ list_all (has_bounds l.symbols l.parameters) (rest_after l.declarators)
+invariant-loop-declarator l = list_all (has_bounds l.scope.symbols.now l.scope.parameters.now) (rest_after (drop l.declarator-index l.declarators)) ≡ list_all (has_bounds l.scope.symbols.now l.scope.parameters.now) (rest_after l.declarators)

@@ -5,4 +5,4 @@ use Rattle.hep_check.specs.Constants.{is_constant_of}
 use Rattle.hep_types.proofs.violation.are_constant.Given as goal
 
 abbrev pub invariant-loop-subscript : goal.invariant-loop-subscript
-invariant-loop-subscript l = list_all (is_constant_of l.symbols l.parameters Integer) (drop l.subscript-index l.subscripts) ≡ list_all (is_constant_of l.symbols l.parameters Integer) l.subscripts
+invariant-loop-subscript l = list_all (is_constant_of l.scope.symbols.now l.scope.parameters.now Integer) (drop l.subscript-index l.subscripts) ≡ list_all (is_constant_of l.scope.symbols.now l.scope.parameters.now Integer) l.subscripts

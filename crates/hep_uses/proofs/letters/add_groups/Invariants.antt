@@ -1,7 +1,10 @@
 use Rattle.std.proofs.Common.{◌≡◌, ◌++◌, drop}
 use Rattle.std.specs.List.{flat_map}
-use Rattle.hep_uses.specs.Ambiguous as passes
+use Rattle.hep_source.specs.declared.declaration.ImplicitGroup.{ImplicitGroup}
+use Rattle.hep_uses.specs.Ambiguous.{ranges_at}
 use Rattle.hep_uses.proofs.letters.add_groups.Given as goal
 
 abbrev pub invariant-loop-group : goal.invariant-loop-group
-invariant-loop-group l = l.found.items ++ flat_map (passes.ranges_of_group l.line) (drop l.group-index l.groups) ≡ l.initial.found.items ++ flat_map (passes.ranges_of_group l.line) l.groups
+invariant-loop-group l =
+    l.found.items ++ ranges_at l.line (flat_map (λ (g : ImplicitGroup). g.letters) (drop l.group-index l.groups))
+    ≡ l.initial.found.items ++ ranges_at l.line (flat_map (λ (g : ImplicitGroup). g.letters) l.groups)

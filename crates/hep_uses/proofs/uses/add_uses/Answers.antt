@@ -1,4 +1,4 @@
-use Rattle.std.proofs.Common.{◌+◌, drop}
+use Rattle.std.proofs.Common.{◌+◌, ◌++◌, ◌∙◌, ap, drop}
 use Rattle.hep_source.specs.declared.statement.Statement.{Statement}
 use Rattle.hep_uses.specs.Uses.{used_at, names_by}
 use Rattle.hep_symbols.proofs.Firsts.{grow}
@@ -9,5 +9,7 @@ pub loop-statement-preserved : goal.loop-statement-preserved
 loop-statement-preserved c =
     let ss = c.statements-statement-items.result.now in
     let i = c.loop-statement.statement-index in
-    grow (λ (s : Statement). used_at s.line (names_by c.args.symbols.now c.args.way s)) c.loop-statement.uses.items c.add_in.new.uses.items _ c.statement-item.result (drop i ss) (drop (i + 1) ss)
-    c.loop-statement.invariant c.in_ok-add_in.ensures (drop_at ss i c.statement-item.result c.loop-statement-test.true c.statement-item.is)
+    let s = c.statement-item.result in
+    grow (λ (s : Statement). used_at s.line (names_by c.args.symbols.now c.args.way s)) c.loop-statement.uses.items c.add.new.uses.items _ s (drop i ss) (drop (i + 1) ss)
+    c.loop-statement.invariant (c.in_ok-add.ensures ∙ ap (λ xs. c.loop-statement.uses.items ++ used_at s.line xs) (c.deref.ensures.value ∙ c.in_ok-names.ensures))
+    (drop_at ss i s c.loop-statement-test.true c.statement-item.is)

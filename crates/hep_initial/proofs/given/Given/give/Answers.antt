@@ -1,31 +1,33 @@
-use Rattle.std.proofs.Common.{◌∙◌, sym, subst}
+use Rattle.std.proofs.Common.{◌≡◌, ◌∙◌, refl, sym, subst, rules}
 use Rattle.indexmap.specs.IndexSet.{contains}
 use Rattle.hep_source.specs.Names.{name_eq}
+use Rattle.hep_symbols.specs.Tables.{either}
 use Rattle.hep_initial.specs.Given.{element_eq, IsNamed}
-use Rattle.hep_initial.proofs.Giving.{with-one, with-all, on-three, if-so}
+use Rattle.hep_initial.proofs.Giving.{with-one, with-all, element-added}
 use Rattle.hep_initial.proofs.given.Given.give.Goals as goal
 
-pub returns-in-One-clause-given : goal.returns-in-One-clause-given
-returns-in-One-clause-given c =
+pub returns-in_ok-insert-in-One : goal.returns-in_ok-insert-in-One
+returns-in_ok-insert-in-One c =
     let old = c.args.self.now in
-    let new = c.give_one.new.self in
-    on-three c.give_one.result c.give_one.ensures.arrays c.give_one.ensures.names c.give_one.ensures.elements
-    (λ arrays names elements unit given e described named.
-    with-one unit given (contains name_eq old.names) (contains name_eq old.arrays) (contains element_eq old.elements) described
-    (contains name_eq new.names) (contains name_eq new.arrays) (contains element_eq new.elements) c.in-One.element e
-    (subst (λ s. IsNamed unit s e) c.in-One.is named) arrays names elements)
+    let e = c.in-One.element in
+    let was : c.if-contains.was ≡ either (contains element_eq old.elements e) (contains name_eq old.arrays e.name) = search rules in
+    record {
+      was = λ unit given s described named. was ∙ sym (described.alone e s (subst (λ n. IsNamed unit n s) c.in-One.is named));
+      given = λ unit given s described named.
+          with-one unit given (contains name_eq old.names) (contains name_eq old.arrays) (contains element_eq old.elements) described
+          (contains name_eq c.add.new.set) (contains name_eq old.arrays) (contains element_eq c.insert.new.self) e s (subst (λ n. IsNamed unit n s) c.in-One.is named)
+          (λ x. refl) c.in_ok-add-in-One.ensures (λ f. c.in_ok-insert-in-One.ensures.updates.0 f ∙ element-added e f (contains element_eq old.elements f));
+    }
 
-pub returns-in-All-clause-was : goal.returns-in-All-clause-was
-returns-in-All-clause-was c =
-    if-so _ _ c.give_all.result c.give_all.ensures.was
-    (λ was h unit given e described named. h ∙ sym (described.together c.in-All.name c.in-All.field-1 e (subst (λ s. IsNamed unit s e) c.in-All.is named)))
-
-pub returns-in-All-clause-given : goal.returns-in-All-clause-given
-returns-in-All-clause-given c =
+pub returns-in_ok-add-in-All-2 : goal.returns-in_ok-add-in-All-2
+returns-in_ok-add-in-All-2 c =
     let old = c.args.self.now in
-    let new = c.give_all.new.self in
-    on-three c.give_all.result c.give_all.ensures.arrays c.give_all.ensures.names c.give_all.ensures.elements
-    (λ arrays names elements unit given e described named.
-    with-all unit given (contains name_eq old.names) (contains name_eq old.arrays) (contains element_eq old.elements) described
-    (contains name_eq new.names) (contains name_eq new.arrays) (contains element_eq new.elements) c.in-All.name c.in-All.field-1 e
-    (subst (λ s. IsNamed unit s e) c.in-All.is named) arrays names elements)
+    let x = c.in-All.name in
+    let was : c.contains-was-in-All.result ≡ contains name_eq old.names x = search rules in
+    record {
+      was = λ unit given s described named. was ∙ sym (described.together x c.in-All.field-1 s (subst (λ n. IsNamed unit n s) c.in-All.is named));
+      given = λ unit given s described named.
+          with-all unit given (contains name_eq old.names) (contains name_eq old.arrays) (contains element_eq old.elements) described
+          (contains name_eq c.add-in-All.new.set) (contains name_eq c.add-in-All-2.new.set) (contains element_eq old.elements) x c.in-All.field-1 s (subst (λ n. IsNamed unit n s) c.in-All.is named)
+          c.in_ok-add-in-All-2.ensures c.in_ok-add-in-All.ensures (λ f. refl);
+    }

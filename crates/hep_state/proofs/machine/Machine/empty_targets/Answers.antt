@@ -1,10 +1,10 @@
-use Rattle.std.proofs.Common.{[], ◌-◌, ap, ◌∙◌, arith}
+use Rattle.std.proofs.Common.{[], ◌-◌, refl, ap, ◌∙◌, arith}
 use Rattle.hep_purging.specs.Purged.{purged}
-use Rattle.hep_state.specs.Rooms.{HasRoom}
 use Rattle.hep_state.specs.Snapshots.{snapshot_of}
 use Rattle.hep_state.specs.Taking.{stack_with}
-use Rattle.hep_state.proofs.Processes.{all-set, process-at, room-moved, stacks-set}
+use Rattle.hep_state.proofs.Processes.{process-at, room-moved, stacks-set}
 use Rattle.hep_state.proofs.Stacked.{some-levels}
+use Rattle.hep_state.proofs.Unchanged.{rooms-set}
 use Rattle.hep_state.proofs.machine.Machine.empty_targets.Goals as goal
 
 pub go_on-requires : goal.go_on-requires
@@ -24,15 +24,7 @@ returns-clause-moved c l ls vs there =
 pub returns-clause-rooms : goal.returns-clause-rooms
 returns-clause-rooms c program cells h =
     let e = c.requires.living in
-    let l = e.0 in
-    let ls = e.1 in
-    let vs = e.2 in
     let q = c.index_mut.result.now in
-    let r = c.go_on.new.process in
-    let it = process-at c.args.self.now.processes.items c.args.p (stack_with l ls vs) q e.3 c.index_mut.ensures.value in
-    record {
-      few = h.few;
-      to_pass = h.to_pass;
-      room = all-set (HasRoom program) c.args.self.now.processes.items (c.args.p - 1) r h.room
-          (room-moved program q r l c.args.index ls vs [] it.stack (c.go_on.ensures.stack l ls vs it.stack) (omega (arith, c.go_on.ensures.operands)) (h.room (c.args.p - 1) q it.there));
-    }
+    let it = process-at c.args.self.now.processes.items c.args.p (stack_with e.0 e.1 e.2) q e.3 c.index_mut.ensures.value in
+    rooms-set program cells c.args.self.now _ (c.args.p - 1) c.go_on.new.process refl refl (
+    room-moved program q c.go_on.new.process e.0 c.args.index e.1 e.2 [] it.stack (c.go_on.ensures.stack e.0 e.1 e.2 it.stack) (omega (arith, c.go_on.ensures.operands)) (h.room (c.args.p - 1) q it.there)) h

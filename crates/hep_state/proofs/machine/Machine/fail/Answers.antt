@@ -7,14 +7,14 @@ use Rattle.hep_frames.specs.Tree.{is_stacked}
 use Rattle.hep_proc.specs.Nodes.{nodes_of}
 use Rattle.hep_state.specs.declared.machine.Level.{Level}
 use Rattle.hep_state.specs.declared.machine.Process.{Process}
-use Rattle.hep_state.specs.Rooms.{HasRoom}
 use Rattle.hep_state.specs.Snapshots.{Stack, snapshot_of}
 use Rattle.hep_state.specs.Taking.{stack_with}
 use Rattle.hep_state.specs.Tops.{keys_of, snapshot_failed, state_failed}
 use Rattle.hep_state.specs.Turns.{HasStepped}
 use Rattle.hep_state.proofs.Ended.{can-all-leave, can-leave, failed-ended, failed-shown, lead-upwards}
-use Rattle.hep_state.proofs.Processes.{all-set, process-at, room-none, stacks-set}
+use Rattle.hep_state.proofs.Processes.{process-at, room-none, stacks-set}
 use Rattle.hep_state.proofs.Stacked.{some-levels}
+use Rattle.hep_state.proofs.Unchanged.{rooms-set}
 use Rattle.hep_state.proofs.machine.Machine.fail.Goals as goal
 
 pub top-unit-requires : goal.top-unit-requires
@@ -50,14 +50,10 @@ returns-clause-stepped c program cells choices e =
     let none : ◌≡◌ {A = Stack} (record { levels = reverse c.leave_all.new.levels.items; operands = c.clear.new.self.items }) (record { levels = []; operands = [] }) = λ i. record { levels = reverse (c.leave_all.ensures.none i); operands = c.clear.ensures.items i } in
     let stacks = stacks-set c.args.self.now.processes.items p (record { levels = c.leave_all.new.levels; operands = c.clear.new.self }) (record { levels = []; operands = [] }) none in
     let fault : Level → Fault = λ l. record { process = p; unit = l.unit; line = c.args.line; kind = kind } in
-    let faults : c.add_fault.new.faults.items ≡ m.faults ++ fault e.l ∷ [] = c.add_fault.ensures ∙ ap (λ (l : Level). m.faults ++ fault l ∷ []) same in
+    let faults : c.append.new.items.items ≡ m.faults ++ fault e.l ∷ [] = c.append.ensures ∙ ap (λ (l : Level). m.faults ++ fault l ∷ []) same in
     subst (HasStepped program cells choices p) (λ i. record (snapshot_failed m p (fault e.l) arena nodes) { processes = sym stacks i; faults = sym faults i }) shown
 
 pub returns-clause-rooms : goal.returns-clause-rooms
 returns-clause-rooms c program cells h =
     let r : Process = record { levels = c.leave_all.new.levels; operands = c.clear.new.self } in
-    record {
-      few = h.few;
-      to_pass = h.to_pass;
-      room = all-set (HasRoom program) c.args.self.now.processes.items (c.args.p - 1) r h.room (room-none program r c.leave_all.ensures.none);
-    }
+    rooms-set program cells c.args.self.now _ (c.args.p - 1) r refl refl (room-none program r c.leave_all.ensures.none) h

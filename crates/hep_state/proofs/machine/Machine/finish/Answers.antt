@@ -1,19 +1,19 @@
-use Rattle.std.proofs.Common.{[], refl, sym, ap, ◌∙◌, subst, arith}
+use Rattle.std.proofs.Common.{[], ◌-◌, refl, sym, ap, ◌∙◌, subst, arith}
 use Rattle.slab.specs.Slab.{ContainsKey}
 use Rattle.hep_machine.specs.Layout.{is_held}
 use Rattle.hep_machine.specs.Run.{run}
 use Rattle.hep_proc.specs.Nodes.{nodes_of}
 use Rattle.hep_proc.proofs.Slabs.{some-value}
 use Rattle.hep_state.specs.declared.machine.Level.{Level}
-use Rattle.hep_state.specs.Rooms.{HasRoom}
 use Rattle.hep_state.specs.Showing.{node_under}
 use Rattle.hep_state.specs.Snapshots.{snapshot_of}
 use Rattle.hep_state.specs.Taking.{stack_with}
 use Rattle.hep_state.specs.Tops.{snapshot_returned, state_returned}
 use Rattle.hep_state.specs.Turns.{HasStepped}
 use Rattle.hep_state.proofs.Ended.{kept-now, lead-upwards, returned-ended, returned-shown, top-node}
-use Rattle.hep_state.proofs.Processes.{all-set, process-at, room-fewer, stacks-set}
+use Rattle.hep_state.proofs.Processes.{process-at, room-fewer, stacks-set}
 use Rattle.hep_state.proofs.Stacked.{some-levels}
+use Rattle.hep_state.proofs.Unchanged.{rooms-set}
 use Rattle.hep_state.proofs.machine.Machine.finish.Goals as goal
 
 pub end_top-ended-requires : goal.end_top-ended-requires
@@ -22,21 +22,19 @@ end_top-ended-requires c =
     let it = process-at c.args.self.now.processes.items c.args.p (stack_with e.l e.ls e.operands) c.index_mut.result.now e.turning.kept c.index_mut.ensures.value in
     some-levels c.index_mut.result.now e.l e.ls e.operands it.stack
 
-pub leave-requires-clause-there : goal.leave-requires-clause-there
-leave-requires-clause-there c =
+pub leave-requires : goal.leave-requires
+leave-requires c =
     let r = c.requires in
     let e = r.3 in
     let m = snapshot_of c.args.self.now in
     let slab = c.args.self.now.frames.nodes in
     let it = process-at c.args.self.now.processes.items c.args.p (stack_with e.l e.ls e.operands) c.index_mut.result.now e.turning.kept c.index_mut.ensures.value in
     let same = c.end_top-ended.ensures.level e.l e.ls e.operands it.stack in
-    subst (λ (l : Level). ContainsKey slab l.key) (sym same) (some-value slab e.l.key (node_under (nodes_of slab) e.l.key) (top-node r.0 r.1 r.2 m c.args.p e.l e.ls e.operands e.top e.turning))
-
-pub leave-requires-clause-kept : goal.leave-requires-clause-kept
-leave-requires-clause-kept c =
-    let r = c.requires in
-    let e = r.3 in
-    kept-now r.0 r.1 r.2 (snapshot_of c.args.self.now) c.args.p e.l e.ls e.operands e.top e.turning
+    let node = top-node r.0 r.1 r.2 m c.args.p e.l e.ls e.operands e.top e.turning in
+    record {
+      there = subst (λ (l : Level). ContainsKey slab l.key) (sym same) (some-value slab e.l.key (node_under m.nodes e.l.key) node);
+      kept = kept-now r.0 r.1 r.2 m c.args.p e.l e.ls e.operands e.top e.turning;
+    }
 
 pub returns-clause-stepped : goal.returns-clause-stepped
 returns-clause-stepped c program cells choices e =
@@ -60,9 +58,5 @@ returns-clause-rooms c program cells h =
     let q = c.index_mut.result.now in
     let r = c.end_top-ended.new.self in
     let it = process-at c.args.self.now.processes.items p (stack_with e.l e.ls e.operands) q e.turning.kept c.index_mut.ensures.value in
-    record {
-      few = h.few;
-      to_pass = h.to_pass;
-      room = all-set (HasRoom program) c.args.self.now.processes.items _ r h.room
-          (room-fewer program q r c.end_top-ended.result c.end_top-ended.ensures.fewer (omega (arith, c.end_top-ended.ensures.capacity)) (h.room _ q it.there));
-    }
+    rooms-set program cells c.args.self.now _ (p - 1) r refl refl (
+    room-fewer program q r c.end_top-ended.result c.end_top-ended.ensures.fewer (omega (arith, c.end_top-ended.ensures.capacity)) (h.room (p - 1) q it.there)) h

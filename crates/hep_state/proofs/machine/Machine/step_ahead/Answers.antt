@@ -1,6 +1,7 @@
 use Rattle.std.proofs.Common.{◌≡◌, ℕ, ◌-◌, ◌<◌, ◌≤◌, false, List, ◌∷◌, drop, length, Some, refl, sym, ap, ◌∙◌, subst, arith}
 use Rattle.std.specs.Prelude.{vec_capacity}
 use Rattle.std.specs.Vec.{with_item}
+use Rattle.std.proofs.lemmas.List.{length-set}
 use Rattle.hep_source.specs.declared.value.Value.{Value}
 use Rattle.hep_source.specs.Units.{Units}
 use Rattle.hep_machine.specs.Processes.{numbered}
@@ -17,17 +18,18 @@ use Rattle.hep_state.specs.declared.upcoming.StepAhead.{StepAhead}
 use Rattle.hep_state.specs.declared.upcoming.StepAhead.TheVariants as ahead
 use Rattle.hep_state.specs.declared.machine.Machine.{Machine}
 use Rattle.hep_state.specs.CallsAhead.{HasNone, IsAhead, IsInFront}
-use Rattle.hep_state.specs.Rooms.{HasRoom, IsMachineAfter}
+use Rattle.hep_state.specs.Rooms.{IsMachineAfter}
 use Rattle.hep_state.specs.Snapshots.{Snapshot, Stack, snapshot_of}
 use Rattle.hep_state.specs.Taking.{stack_with}
 use Rattle.hep_state.specs.Tops.{IsTurning, with_stack}
 use Rattle.hep_state.specs.Turns.{IsAfter}
-use Rattle.hep_state.proofs.Processes.{all-set, process-at, room-moved, stacks-set}
+use Rattle.hep_state.proofs.Processes.{process-at, room-moved, stacks-set}
 use Rattle.hep_state.proofs.Settled.{settled, turning}
-use Rattle.hep_state.proofs.Shown.{numbered-set}
 use Rattle.hep_state.proofs.Stacked.{last-there, some-levels}
 use Rattle.hep_state.proofs.Taken.{inside, room-ahead}
+use Rattle.hep_state.proofs.Unchanged.{machine-of, rooms-of, rooms-set}
 use Rattle.hep_state.proofs.machine.Machine.step_ahead.Goals as goal
+use Rattle.hep_entering.proofs.Rest.{set-numbered}
 
 -- where none of them stands
 none-left-out : (code : List Instruction) (index : ℕ) → HasNone (drop index code) → IsNotLeftOut code index
@@ -90,34 +92,11 @@ found-ahead program old m p l ls vs turns there past (ahead.Purge purge) found =
 found-ahead program old m p l ls vs turns there past ahead.Other none =
     record { l = l; ls = ls; operands = vs; there = there; past = past; plain = none-left-out (unit_code program l.unit) l.index none }
 
-pub returns-clause-ahead : goal.returns-clause-ahead
-returns-clause-ahead c =
+pub returns : goal.returns
+returns c =
     let program = c.args.image.now in
-    let m = snapshot_of c.args.self.now in
-    let p = c.args.p in
-    let e = c.requires.living in
-    let l = e.0 in
-    let ls = e.1 in
-    let vs = e.2 in
-    let it = process-at c.args.self.now.processes.items p (stack_with l ls vs) c.index_mut-process.result.now e.3 c.index_mut-process.ensures.value in
-    let code : c.as_slice-code.result.now ≡ unit_code program l.unit = c.as_slice-code.ensures ∙ (c.unit.ensures.code ∙ ap (λ (k : Level). unit_code program k.unit) (c.top-unit.ensures l ls vs it.stack)) in
-    let s = c.settle.ensures.settled program l ls vs code it.stack in
-    let later = record l { index = s.0 } in
-    let top : c.top.result ≡ later = c.top.ensures later ls s.1 s.2 in
-    let shown : snapshot_of (record c.args.self.now { processes = with_item c.args.self.now.processes (p - 1) c.settle.new.self }) ≡ with_stack m p (later ∷ ls) s.1 =
-    λ i. record m { processes = stacks-set c.args.self.now.processes.items p c.settle.new.self (stack_with later ls s.1) s.2 i } in
-    let here : drop c.top.result.index c.as_slice-code.result.now ≡ drop s.0 (unit_code program l.unit) = (λ i. drop (top i).index (code i)) in
-    subst (λ (n : Snapshot). IsAhead program p c.args.self.now n c.ahead_at.result) (sym shown) (
-    found-ahead program c.args.self.now (with_stack m p (later ∷ ls) s.1) p later ls s.1
-    (λ cells choices after.
-    let its = turning program cells choices m p after.after l ls vs c.requires.running e.3 in
-    (its.0, settled program cells choices m p l ls vs its.0 its.1 s.1 s.0 s.3.stands))
-    (numbered-set m.processes p (stack_with l ls vs) (stack_with later ls s.1) e.3) s.3.past c.ahead_at.result (subst (λ is. IsInFront is c.ahead_at.result) here c.ahead_at.ensures))
-
-pub returns-clause-after : goal.returns-clause-after
-returns-clause-after c cells choices h =
-    let program = c.args.image.now in
-    let m = snapshot_of c.args.self.now in
+    let old = c.args.self.now in
+    let m = snapshot_of old in
     let p = c.args.p in
     let q = c.index_mut-process.result.now in
     let r = c.settle.new.self in
@@ -125,28 +104,28 @@ returns-clause-after c cells choices h =
     let l = e.0 in
     let ls = e.1 in
     let vs = e.2 in
-    let it = process-at c.args.self.now.processes.items p (stack_with l ls vs) q e.3 c.index_mut-process.ensures.value in
+    let it = process-at old.processes.items p (stack_with l ls vs) q e.3 c.index_mut-process.ensures.value in
     let code : c.as_slice-code.result.now ≡ unit_code program l.unit = c.as_slice-code.ensures ∙ (c.unit.ensures.code ∙ ap (λ (k : Level). unit_code program k.unit) (c.top-unit.ensures l ls vs it.stack)) in
     let s = c.settle.ensures.settled program l ls vs code it.stack in
     let later = record l { index = s.0 } in
-    let turn = turning program cells choices m p h.after l ls vs c.requires.running e.3 in
-    let next = settled program cells choices m p l ls vs turn.0 turn.1 s.1 s.0 s.3.stands in
+    let k = stack_with later ls s.1 in
+    let top : c.top.result ≡ later = c.top.ensures later ls s.1 s.2 in
+    let stacks = stacks-set old.processes.items p r k s.2 in
+    let shown : snapshot_of (record old { processes = with_item old.processes (p - 1) r }) ≡ with_stack m p (later ∷ ls) s.1 = λ i. record m { processes = stacks i } in
+    let there = set-numbered m.processes p (stack_with l ls vs) k e.3 in
+    let here : drop c.top.result.index c.as_slice-code.result.now ≡ drop s.0 (unit_code program l.unit) = (λ i. drop (top i).index (code i)) in
     record {
-      after = subst (IsAfter program cells choices) (λ i. record m { processes = sym (stacks-set c.args.self.now.processes.items p r (stack_with later ls s.1) s.2) i }) next.after;
-      few = h.few;
-      to_pass = h.to_pass;
-      room = all-set (HasRoom program) c.args.self.now.processes.items (p - 1) r h.room (room-moved program q r l s.0 ls vs s.1 it.stack s.2 c.settle.ensures.capacity (h.room (p - 1) q it.there));
+      ahead =
+          subst (λ (n : Snapshot). IsAhead program p old n c.ahead_at.result) (sym shown) (
+          found-ahead program old (with_stack m p (later ∷ ls) s.1) p later ls s.1
+          (λ cells choices after.
+          let turn = turning program cells choices m p after.after l ls vs c.requires.running e.3 in
+          (turn.0, settled program cells choices m p l ls vs turn.0 turn.1 s.1 s.0 s.3.stands))
+          there s.3.past c.ahead_at.result (subst (λ is. IsInFront is c.ahead_at.result) here c.ahead_at.ensures));
+      after = λ cells choices h.
+          let turn = turning program cells choices m p h.after l ls vs c.requires.running e.3 in
+          machine-of program cells choices _ (subst (IsAfter program cells choices) (sym shown) (settled program cells choices m p l ls vs turn.0 turn.1 s.1 s.0 s.3.stands).after) (
+          rooms-set program cells old _ (p - 1) r refl refl (room-moved program q r l s.0 ls vs s.1 it.stack s.2 c.settle.ensures.capacity (h.room (p - 1) q it.there)) (rooms-of program cells choices old h));
+      same = record { arena = refl; nodes = refl; processes = ap length stacks ∙ length-set m.processes (p - 1) k; activations = refl; records = refl; faults = refl; halted = refl };
+      living = (later, ls, s.1, ap (λ (ks : List Stack). numbered ks p) stacks ∙ there);
     }
-
-pub returns-clause-living : goal.returns-clause-living
-returns-clause-living c =
-    let program = c.args.image.now in
-    let m = snapshot_of c.args.self.now in
-    let p = c.args.p in
-    let e = c.requires.living in
-    let it = process-at c.args.self.now.processes.items p (stack_with e.0 e.1 e.2) c.index_mut-process.result.now e.3 c.index_mut-process.ensures.value in
-    let code : c.as_slice-code.result.now ≡ unit_code program e.0.unit = c.as_slice-code.ensures ∙ (c.unit.ensures.code ∙ ap (λ (k : Level). unit_code program k.unit) (c.top-unit.ensures e.0 e.1 e.2 it.stack)) in
-    let s = c.settle.ensures.settled program e.0 e.1 e.2 code it.stack in
-    let later = record e.0 { index = s.0 } in
-    let stacks = stacks-set c.args.self.now.processes.items p c.settle.new.self (stack_with later e.1 s.1) s.2 in
-    (later, e.1, s.1, ap (λ (ks : List Stack). numbered ks p) stacks ∙ numbered-set m.processes p (stack_with e.0 e.1 e.2) (stack_with later e.1 s.1) e.3)

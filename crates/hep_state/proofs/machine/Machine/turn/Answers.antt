@@ -1,15 +1,26 @@
-use Rattle.std.proofs.Common.{ℕ, List, ◌∙◌}
+use Rattle.std.proofs.Common.{ℕ, List, sym, ◌∙◌, subst}
 use Rattle.hep_source.specs.Units.{Units}
 use Rattle.hep_state.specs.declared.turn.TurnFault.{TurnFault}
+use Rattle.hep_state.specs.CallsAhead.{IsAtPurge}
 use Rattle.hep_state.specs.Rooms.{IsMachineAfter}
-use Rattle.hep_state.specs.Snapshots.{snapshot_of}
+use Rattle.hep_state.specs.Snapshots.{Snapshot, snapshot_of}
 use Rattle.hep_state.specs.Unturned.{IsUnturned}
-use Rattle.hep_state.proofs.Unchanged.{err-then, if-ok, on-err, without-memory}
+use Rattle.hep_state.proofs.Unchanged.{err-then, if-ok, machine-written, on-err, shown-written, without-memory}
+use Rattle.hep_state.proofs.machine.Machine.turn.Goals.{After-reserve}
 use Rattle.hep_state.proofs.machine.Machine.turn.Goals as goal
 
 -- why a turn was not taken, wherever a machine comes to
 abbrev unturned-by : Units → ℕ → (ℕ → List ℕ → Type 0) → TurnFault → Type 0
 unturned-by program p there e = (cells : ℕ) (choices : List ℕ) → there cells choices → IsUnturned e program cells choices p
+
+-- it is at a PURGE still where room was made
+reserved-at : (c : After-reserve) (cells : ℕ) (choices : List ℕ) → IsMachineAfter c.args.image.now cells choices c.step_ahead.new.self → IsAtPurge c.args.image.now cells choices c.args.p (snapshot_of c.step_ahead.new.self) c.in-Purge.purge
+    → IsMachineAfter c.args.image.now cells choices c.reserve.new.self × IsAtPurge c.args.image.now cells choices c.args.p (snapshot_of c.reserve.new.self) c.in-Purge.purge
+reserved-at c cells choices h at =
+    let program = c.args.image.now in
+    let made = c.reserve.ensures in
+    let shown = shown-written c.step_ahead.new.self c.reserve.new.self made.others made.written.0 made.written.1 in
+    (machine-written program cells choices c.step_ahead.new.self c.reserve.new.self made.others made.written.0 made.written.1 h, subst (λ (n : Snapshot). IsAtPurge program cells choices c.args.p n c.in-Purge.purge) (sym shown) at)
 
 pub take_call-requires-clause-at : goal.take_call-requires-clause-at
 take_call-requires-clause-at c =
@@ -40,20 +51,26 @@ returns-in-Call-clause-refused c = err-then c.take_call.result c.take_call.ensur
 pub returns-in_ok-take_operation-in-Other-clause-turned : goal.returns-in_ok-take_operation-in-Other-clause-turned
 returns-in_ok-take_operation-in-Other-clause-turned c cells choices h = c.in_ok-take_operation-in-Other.ensures.turned cells choices (c.in-Other.ensures.after cells choices h)
 
-pub take_purge-requires : goal.take_purge-requires
-take_purge-requires c =
-    let h = c.requires.after in
-    record { at = (h.0, h.1, c.in-Purge.ensures.after h.0 h.1 h.2, c.in-Purge.ensures.ahead h.0 h.1 h.2) }
+-- ---- PURGE
 
-pub returns-in_err-take_purge-in-Purge-clause-unturned : goal.returns-in_err-take_purge-in-Purge-clause-unturned
-returns-in_err-take_purge-in-Purge-clause-unturned c =
+pub purge-requires-clause-at : goal.purge-requires-clause-at
+purge-requires-clause-at c =
+    let h = c.requires.after in
+    let at = reserved-at (goal.at.purge-requires-clause-at c).After-reserve h.0 h.1 (c.in-Purge.ensures.after h.0 h.1 h.2) (c.in-Purge.ensures.ahead h.0 h.1 h.2) in
+    (h.0, h.1, at.0, at.1)
+
+pub returns-in_err-reserve-in-Purge-clause-unturned : goal.returns-in_err-reserve-in-Purge-clause-unturned
+returns-in_err-reserve-in-Purge-clause-unturned c =
     let program = c.args.image.now in
     without-memory (unturned-by program c.args.p (λ cells choices. IsMachineAfter program cells choices c.args.self.now)) c.from_residual.result c.from_residual.ensures.1 (λ cells choices h.
     c.purges_are_shown.ensures.gaps program cells choices (snapshot_of c.step_ahead.new.self) c.args.p c.in-Purge.purge c.is_runnable.ensures.accepted c.is_runnable.ensures.main (c.in-Purge.ensures.ahead cells choices h))
 
-pub returns-in_err-take_purge-in-Purge-clause-refused : goal.returns-in_err-take_purge-in-Purge-clause-refused
-returns-in_err-take_purge-in-Purge-clause-refused c =
-    on-err c.from_residual.result c.from_residual.ensures.0 (λ cells choices h. c.in_err-take_purge-in-Purge.ensures.refused cells choices (c.in-Purge.ensures.after cells choices h))
+pub returns-in_err-reserve-in-Purge-clause-refused : goal.returns-in_err-reserve-in-Purge-clause-refused
+returns-in_err-reserve-in-Purge-clause-refused c =
+    on-err c.from_residual.result c.from_residual.ensures.0 (λ cells choices h.
+    (reserved-at (goal.at.returns-in_err-reserve-in-Purge-clause-refused c).After-reserve cells choices (c.in-Purge.ensures.after cells choices h) (c.in-Purge.ensures.ahead cells choices h)).0)
 
-pub returns-in_ok-take_purge-in-Purge-clause-turned : goal.returns-in_ok-take_purge-in-Purge-clause-turned
-returns-in_ok-take_purge-in-Purge-clause-turned c cells choices h = c.in_ok-take_purge-in-Purge.ensures.turned cells choices (c.in-Purge.ensures.after cells choices h) (c.in-Purge.ensures.ahead cells choices h)
+pub returns-in_ok-reserve-in-Purge-clause-turned : goal.returns-in_ok-reserve-in-Purge-clause-turned
+returns-in_ok-reserve-in-Purge-clause-turned c cells choices h =
+    let at = reserved-at (goal.at.returns-in_ok-reserve-in-Purge-clause-turned c).After-reserve cells choices (c.in-Purge.ensures.after cells choices h) (c.in-Purge.ensures.ahead cells choices h) in
+    c.purge.ensures.purged cells choices at.0 at.1

@@ -1,0 +1,9 @@
+use Rattle.std.proofs.Common.{length}
+use Rattle.hep_history.proofs.Readings.{IsReadTo}
+use Rattle.hep_history.proofs.lines.read_lines.Given as goal
+
+abbrev pub invariant-loop-rest : goal.invariant-loop-rest
+invariant-loop-rest g l = IsReadTo g.T.FromLine.line g.T.FromLine.allows l.text l.rest l.items.items
+
+abbrev pub decreases-loop-rest : goal.decreases-loop-rest
+decreases-loop-rest g l = length l.rest

@@ -1,0 +1,8 @@
+use Rattle.std.proofs.Common.{◌≡◌, ◌++◌, drop}
+use Rattle.std.specs.List.{flat_map}
+use Rattle.hep_source.specs.declared.declaration.CommonBlock.{CommonBlock}
+use Rattle.hep_machine.specs.Declarations.{names_declared}
+use Rattle.hep_uses.proofs.uses.entries.Given as goal
+
+abbrev pub invariant-loop-block : goal.invariant-loop-block
+invariant-loop-block l = l.names.items ++ flat_map (λ (b : CommonBlock). names_declared b.entries) (drop l.block-index l.blocks) ≡ flat_map (λ (b : CommonBlock). names_declared b.entries) l.blocks
