@@ -232,16 +232,10 @@ module _ (agrees : ConstantsAgree) (are_local : AreLocal) (are_there : AreThere)
       let no_dummy = not-true (is_dummy unit t.occurrence.name) (and_parts (not (is_dummy unit t.occurrence.name)) (not (is_common unit t.occurrence.name) && not (is_constant_name unit t.occurrence.name)) local).0 in
       found_local t known (local_among unit t.occurrence.name listed local) local (λ array. arrays_have_shapes agrees program (main_unit program) unit t.occurrence.name accepted u array no_dummy) listed e.0 e.1
 
-pub rows_are_initial : ConstantsAgree → AreLocal → AreThere → (us : List Statement) (table : Name → Option Variable) (arrays : List Array) (common : ℕ) (rows : List DataRow)
+pub rows_are_right : ConstantsAgree → AreLocal → AreThere → (us : List Statement) (table : Name → Option Variable) (arrays : List Array) (common : ℕ) (rows : List DataRow)
     → ((p : ℕ) → value_in_rows rows p ≡ value_by_groups us table arrays common (data_groups us) p)
-    → (program : Units) → IsAccepted program → IsMainFrame program us table arrays common → AreInitial program rows
-rows_are_initial agrees are_local are_there us table arrays common rows same program accepted frame =
-    initial program table arrays common rows (found agrees are_local are_there program accepted table arrays common (subst (λ (u : List Statement). IsMainFrame program u table arrays common) frame.main frame))
-    (subst (λ (u : List Statement). (p : ℕ) → value_in_rows rows p ≡ value_by_groups u table arrays common (data_groups u) p) frame.main same)
-
-pub rows_are_of_units : ConstantsAgree → AreLocal → AreThere → (us : List Statement) (table : Name → Option Variable) (arrays : List Array) (common : ℕ) (rows : List DataRow)
-    → ((p : ℕ) → value_in_rows rows p ≡ value_by_groups us table arrays common (data_groups us) p)
-    → (program : Units) → IsAccepted program → IsMainFrame program us table arrays common → AreOfUnits program rows
-rows_are_of_units agrees are_local are_there us table arrays common rows same program accepted frame =
-    of_units program table arrays common rows (found agrees are_local are_there program accepted table arrays common (subst (λ (u : List Statement). IsMainFrame program u table arrays common) frame.main frame))
-    (subst (λ (u : List Statement). (p : ℕ) → value_in_rows rows p ≡ value_by_groups u table arrays common (data_groups u) p) frame.main same)
+    → (program : Units) → IsAccepted program → IsMainFrame program us table arrays common → AreInitial program rows × AreOfUnits program rows
+rows_are_right agrees are_local are_there us table arrays common rows same program accepted frame =
+    let right = found agrees are_local are_there program accepted table arrays common (subst (λ (u : List Statement). IsMainFrame program u table arrays common) frame.main frame) in
+    let given = subst (λ (u : List Statement). (p : ℕ) → value_in_rows rows p ≡ value_by_groups u table arrays common (data_groups u) p) frame.main same in
+    (initial program table arrays common rows right given, of_units program table arrays common rows right given)

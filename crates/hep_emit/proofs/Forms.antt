@@ -13,7 +13,7 @@ use Rattle.hep_code.specs.declared.instruction.Instruction.TheVariants.{To, Pass
 use Rattle.hep_code.specs.ExpressionCode.{count, tree_code, trees_code, actual_code, actual_name_code, actual_listed_code, actuals_code, argument_of, argument_of_name, argument_of_listed, target_code, targets_code, argument_of_target, printed_of}
 use Rattle.hep_code.specs.StatementCode.{operands_code, operation_code, form_code}
 use Rattle.hep_code.specs.Tables.{NameTable, Table}
-use Rattle.hep_emit.specs.Limits.{subscripts_of, subscripts_of_actuals, subscripts_of_targets}
+use Rattle.hep_emit.specs.Limits.{subscripts_of, subscripts_of_all}
 use Rattle.hep_emit.specs.Operations.{list_length, list_subscripts}
 use Rattle.hep_emit.proofs.Lengths.{count_long, trees_long}
 
@@ -37,11 +37,11 @@ module _ (names : NameTable) (line : ℕ) where
   actual_long (negated t) = omega arith
   actual_long (binary o a b) = omega arith
 
-  pub actuals_long : (ts : List Tree) → subscripts_of_actuals names ts ≤ length (actuals_code names line ts)
+  pub actuals_long : (ts : List Tree) → subscripts_of_all (argument_of names) ts ≤ length (actuals_code names line ts)
   actuals_long [] = omega arith
   actuals_long (t ∷ ts) = omega (arith, actual_long t, actuals_long ts, length-append (actual_code names line t) (actuals_code names line ts))
 
-  pub targets_long : (ts : List Target) → subscripts_of_targets names ts ≤ length (targets_code names line ts)
+  pub targets_long : (ts : List Target) → subscripts_of_all (argument_of_target names) ts ≤ length (targets_code names line ts)
   targets_long [] = omega arith
   targets_long (t ∷ ts) =
       omega (arith, count_long names line (trees_of t.subscripts), targets_long ts, length-append (target_code names line t) (targets_code names line ts))

@@ -21,7 +21,7 @@ use Rattle.hep_code.specs.ExpressionCode.{tree_code}
 use Rattle.hep_code.specs.StatementCode.{operands_code, operation_code, form_code, conditions_code, loop_end_code, statement_code, statements_code, instructions_before}
 use Rattle.hep_code.specs.Tables.{Table}
 use Rattle.hep_code.specs.Targets.{Target, at, end_of, onward, outward, inward, aside, labelled}
-use Rattle.hep_code.specs.UnitCode.{AddressedUnit, names_of, table_by, unplaced, index_of, table_of, code_of}
+use Rattle.hep_code.specs.UnitCode.{AddressedUnit, names_of, table_by, unplaced, index_of, code_of}
 use Rattle.hep_emit.specs.declared.names.Names.{Names}
 use Rattle.hep_emit.specs.declared.tables.Starts.{Starts}
 use Rattle.hep_emit.specs.declared.tables.Tables.{Tables}
@@ -117,38 +117,46 @@ module _ (addressed : AddressedUnit) (f g : Target → ℕ) where
 
 -- ---- the code of a unit, by its tables
 
--- the tables are those of one unit, and a number of 32 bits counts the units of the program
-pub record AreOf (t : Tables) : Type 0 where
+-- the tables are those of one unit, a number of 32 bits counts the units of the program, and no index is known yet
+pub record AreBlank (t : Tables) : Type 0 where
   pub unit : t.control.now ≡ t.names.symbols.now
   pub constants : value_among t.names.constants.now ≡ constant_value t.names.symbols.now
   pub few_units : length t.program.now ≤ greatest
+  pub statements : t.starts.statements.items ≡ []
+  pub end : t.starts.end ≡ 0
 
-pub first-table : (t : Tables) → AreOf t → t.starts.statements.items ≡ [] → t.starts.end ≡ 0 → table_in t ≡ unplaced (addressed_in t.names t.program.now)
-first-table t h begins ends = table-is t (λ target. 0) h.unit h.constants h.few_units (nowhere-is t.starts begins ends)
+module _ (t : Tables) (h : AreBlank t) where
+  abbrev whole : AddressedUnit
+  whole = addressed_in t.names t.program.now
 
-pub first-long : (t : Tables) → AreOf t → t.starts.statements.items ≡ [] → t.starts.end ≡ 0 → length (statements_code (table_in t) 0 t.control.now) ≡ length (code_of (addressed_in t.names t.program.now))
-unfolding code_of
-first-long t h begins ends =
-    let a = addressed_in t.names t.program.now in
-    ap (λ u. length (statements_code u 0 t.control.now)) (first-table t h begins ends)
-    ∙ ap (λ ss. length (statements_code (unplaced a) 0 ss)) h.unit
-    ∙ statements-long a (λ target. 0) (index_of a) 0 a.unit
+  blank-is : table_in t ≡ unplaced whole
+  blank-is = table-is t (λ target. 0) h.unit h.constants h.few_units (nowhere-is t.starts h.statements h.end)
 
--- what the tables have before all indexes are known tells where statements begin
-pub starts-are : (t : Tables) → AreOf t → t.starts.statements.items ≡ [] → t.starts.end ≡ 0 → (starts : List ℕ) → starts ≡ starts_from (table_in t) 0 0 t.control.now
-    → starts ≡ starts_from (unplaced (addressed_in t.names t.program.now)) 0 0 t.names.symbols.now
-starts-are t h begins ends starts e =
-    e ∙ ap (λ u. starts_from u 0 0 t.control.now) (first-table t h begins ends) ∙ ap (starts_from (unplaced (addressed_in t.names t.program.now)) 0 0) h.unit
+  pub blank-long : length (statements_code (table_in t) 0 t.control.now) ≡ length (code_of whole)
+  unfolding code_of
+  blank-long =
+      ap (λ u. length (statements_code u 0 t.control.now)) blank-is
+      ∙ ap (λ ss. length (statements_code (unplaced whole) 0 ss)) h.unit
+      ∙ statements-long whole (λ target. 0) (index_of whole) 0 whole.unit
 
-pub end-is : (t : Tables) → AreOf t → t.starts.statements.items ≡ [] → t.starts.end ≡ 0 → (end : ℕ) → end ≡ end_from (table_in t) 0 0 t.control.now
-    → end ≡ end_from (unplaced (addressed_in t.names t.program.now)) 0 0 t.names.symbols.now
-end-is t h begins ends end e =
-    e ∙ ap (λ u. end_from u 0 0 t.control.now) (first-table t h begins ends) ∙ ap (end_from (unplaced (addressed_in t.names t.program.now)) 0 0) h.unit
+-- the same tables with what the code by them tells of where statements begin
+module _ (t : Tables) (h : AreBlank t) (found : Starts)
+    (statements : found.statements.items ≡ starts_from (table_in t) 0 0 t.control.now) (end : found.end ≡ end_from (table_in t) 0 0 t.control.now) where
+  begins : found.statements.items ≡ starts_from (unplaced (addressed_in t.names t.program.now)) 0 0 t.names.symbols.now
+  begins = statements ∙ (λ i. starts_from (blank-is t h i) 0 0 (h.unit i))
 
-pub code-is : (t : Tables) → AreOf t → t.starts.statements.items ≡ starts_from (unplaced (addressed_in t.names t.program.now)) 0 0 t.names.symbols.now
-    → t.starts.end ≡ end_from (unplaced (addressed_in t.names t.program.now)) 0 0 t.names.symbols.now → statements_code (table_in t) 0 t.control.now ≡ code_of (addressed_in t.names t.program.now)
-unfolding code_of
-code-is t h begins ends =
-    let a = addressed_in t.names t.program.now in
-    ap (λ u. statements_code u 0 t.control.now) (table-is t (index_of a) h.unit h.constants h.few_units (index-is a t.starts begins ends))
-    ∙ ap (statements_code (table_of a) 0) h.unit
+  ends : found.end ≡ end_from (unplaced (addressed_in t.names t.program.now)) 0 0 t.names.symbols.now
+  ends = end ∙ (λ i. end_from (blank-is t h i) 0 0 (h.unit i))
+
+  pub found-start : (k : ℕ) → start_in found k ≡ instructions_before (unplaced (addressed_in t.names t.program.now)) 0 t.names.symbols.now k
+  found-start = start-is (addressed_in t.names t.program.now) found begins ends
+
+  abbrev pub by-found : Tables
+  by-found = record { names = t.names; program = t.program; control = t.control; starts = found }
+
+  pub found-code : statements_code (table_in by-found) 0 t.control.now ≡ code_of (addressed_in t.names t.program.now)
+  unfolding code_of
+  found-code =
+      let whole = addressed_in t.names t.program.now in
+      let placed = table-is by-found (index_of whole) h.unit h.constants h.few_units (index-is whole found begins ends) in
+      λ i. statements_code (placed i) 0 (h.unit i)

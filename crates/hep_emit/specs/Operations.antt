@@ -6,7 +6,7 @@ use Rattle.hep_code.specs.declared.instruction.Instruction.{Instruction}
 use Rattle.hep_code.specs.declared.instruction.Instruction.TheVariants.{To, Pass, Show}
 use Rattle.hep_code.specs.ExpressionCode.{argument_of, argument_of_target, printed_of}
 use Rattle.hep_code.specs.Tables.{NameTable, Table}
-use Rattle.hep_emit.specs.Limits.{subscripts_of_actuals, subscripts_of_targets}
+use Rattle.hep_emit.specs.Limits.{subscripts_of_all}
 
 -- subscripts, labels, actual arguments, or what is purged or printed
 abbrev pub list_length : Form → ℕ
@@ -28,7 +28,7 @@ list_code table _ = []
 
 -- how many subscripts there are of what is passed or purged
 abbrev pub list_subscripts : NameTable → Form → ℕ
-list_subscripts names (form.Call p ts) = subscripts_of_actuals names ts
-list_subscripts names (form.Create p ts) = subscripts_of_actuals names ts
-list_subscripts names (form.Purge targets) = subscripts_of_targets names targets
+list_subscripts names (form.Call p ts) = subscripts_of_all (argument_of names) ts
+list_subscripts names (form.Create p ts) = subscripts_of_all (argument_of names) ts
+list_subscripts names (form.Purge targets) = subscripts_of_all (argument_of_target names) targets
 list_subscripts names _ = 0

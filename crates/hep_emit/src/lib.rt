@@ -1,7 +1,6 @@
 //! The code of a unit, by its tables.
 #![tactic(auto)]
 
-mod actuals;
 mod emit;
 mod expressions;
 mod fault;
@@ -9,6 +8,7 @@ mod flow;
 mod lists;
 mod lowered;
 mod names;
+mod operands;
 mod operations;
 mod statements;
 mod tables;

@@ -1,42 +1,82 @@
-//! Items of a PRINT, labels of a computed GO TO, and what a DO counts by.
-ghost use Rattle.std.specs.Prelude.{◌≡◌, ◌++◌, ◌<◌, length, map, IfOk, OnOk, IfErr};
+//! What stands behind an operation: how arguments are passed, what is purged or printed, and where labels lead.
+ghost use Rattle.std.specs.Prelude.{◌≡◌, ◌++◌, ◌<◌, map, IfOk, OnOk, IfErr};
+ghost use Rattle.hep_code.specs.declared.instruction.Argument.{Argument as PureArgument};
 ghost use Rattle.hep_code.specs.declared.instruction.Instruction.TheVariants as instruction;
-ghost use Rattle.hep_machine.specs.Evaluation.{increment_of};
 ghost use Rattle.hep_code.specs.ExpressionCode as code_words;
-ghost use Rattle.hep_emit.specs.Limits.{IsTooLong};
-ghost use Rattle.hep_emit.specs.Tables.{names_in, table_in};
+ghost use Rattle.hep_code.specs.Tables.{NameTable};
+ghost use Rattle.hep_emit.specs.Limits.{IsTooLong, subscripts_of, subscripts_of_all};
+ghost use Rattle.hep_emit.specs.Tables.{greatest, names_in, table_in};
 
-use crate::emit::{Code, emit};
-use crate::expressions::emit_expression;
+use crate::emit::{Code, counted, emit};
 use crate::fault::EmitFault;
 use crate::names::Names;
 use crate::tables::Tables;
-use hep_code::{BoxedText, Instruction, Printed};
-use hep_source::{DoControl, Expr, PrintItem, Syntax, Value};
+use hep_code::{Argument, BoxedText, Instruction, Printed};
+use hep_source::{Expr, Node, PrintItem, Syntax, Target};
+use hep_symbols::Meaning;
 use std::alloc::{AllocError, Global};
 
-fn emit_item(code: &mut Code, names: &Names, line: u32, item: &PrintItem) -> Result<(), EmitFault>
-    ensures code { OnOk result (code.new.items ≡ code.old.items ++ code_words.item_code (names_in names.now) line item.now) }
-    ensures refused { IfErr result (IsTooLong (length (code_words.item_code (names_in names.now) line item.now))) }
-{
-    match item {
-        PrintItem::Expression(expression) => emit_expression(code, names, line, expression),
-        PrintItem::Characters(_) => Ok(()),
+/// What is passed to a process or purged.
+pub(crate) trait Passed {
+    ghost argument_of: { NameTable → Self → PureArgument };
+
+    fn argument(&self, names: &Names) -> Result<Argument, EmitFault>
+        ensures argument { IfOk result (λ argument. argument ≡ argument_of (names_in names.now) self.now) }
+        ensures refused { IfErr result (λ fault. greatest < subscripts_of (argument_of (names_in names.now) self.now)) };
+}
+
+// A variable, an array or an element.
+impl Passed for Target {
+    ghost argument_of = { code_words.argument_of_target };
+
+    #[tactic(auto, using(crate::proofs::Lengths::count_length))]
+    fn argument(&self, names: &Names) -> Result<Argument, EmitFault> {
+        Ok(Argument::Referred {
+            variable: names.variable(&self.occurrence.name),
+            subscripts: counted(self.subscripts.as_slice().len())?,
+        })
     }
 }
 
-/// The operands of a PRINT.
-pub(crate) fn emit_items(
+// How an actual argument is passed.
+impl Passed for Expr {
+    ghost argument_of = { code_words.argument_of };
+
+    #[tactic(auto, using(crate::proofs::Lengths::count_length))]
+    fn argument(&self, names: &Names) -> Result<Argument, EmitFault> {
+        match &self.node {
+            Node::Occurrence(occurrence) => match names.constant(&occurrence.name) {
+                Some(_) => Ok(Argument::Evaluated),
+                None => Ok(Argument::Referred {
+                    variable: names.variable(&occurrence.name),
+                    subscripts: 0,
+                }),
+            },
+            Node::WithList(occurrence, list) => match names.meaning(&occurrence.name) {
+                Meaning::Element => Ok(Argument::Referred {
+                    variable: names.variable(&occurrence.name),
+                    subscripts: counted(list.len())?,
+                }),
+                _ => Ok(Argument::Evaluated),
+            },
+            _ => Ok(Argument::Evaluated),
+        }
+    }
+}
+
+/// How the actual arguments of a CALL or CREATE are passed, and what a PURGE makes empty.
+pub(crate) fn emit_passed<T: Passed>(
     code: &mut Code,
     names: &Names,
-    line: u32,
-    items: &[PrintItem],
+    items: &[T],
 ) -> Result<(), EmitFault>
-    ensures code { OnOk result (code.new.items ≡ code.old.items ++ code_words.items_code (names_in names.now) line items.now) }
-    ensures refused { IfErr result (IsTooLong (length (code_words.items_code (names_in names.now) line items.now))) }
+    ensures code { OnOk result (code.new.items
+        ≡ code.old.items ++ map (λ t. instruction.Pass (T.argument_of (names_in names.now) t)) items.now) }
+    ensures refused { IfErr result (IsTooLong (subscripts_of_all (T.argument_of (names_in names.now)) items.now)) }
 {
     for item in items {
-        emit_item(code, names, line, item)?;
+        let argument = item.argument(names)?;
+        emit(code, Instruction::Pass(argument))?;
     }
     Ok(())
 }
@@ -80,35 +120,4 @@ pub(crate) fn emit_labels(
         emit(code, Instruction::To(tables.label(*label)))?;
     }
     Ok(())
-}
-
-fn emit_increment(
-    code: &mut Code,
-    names: &Names,
-    line: u32,
-    increment: &Option<Expr>,
-) -> Result<(), EmitFault>
-    ensures code { OnOk result (code.new.items ≡ code.old.items
-        ++ code_words.tree_code (names_in names.now) line (increment_of increment.now)) }
-    ensures refused { IfErr result (IsTooLong (length (code_words.tree_code (names_in names.now) line (increment_of increment.now)))) }
-{
-    match increment {
-        Some(increment) => emit_expression(code, names, line, increment),
-        None => Ok(emit(code, Instruction::Push(Value::Int(1)))?),
-    }
-}
-
-/// The operands of a DO.
-pub(crate) fn emit_control(
-    code: &mut Code,
-    names: &Names,
-    line: u32,
-    control: &DoControl,
-) -> Result<(), EmitFault>
-    ensures code { OnOk result (code.new.items ≡ code.old.items ++ code_words.control_code (names_in names.now) line control.now) }
-    ensures refused { IfErr result (IsTooLong (length (code_words.control_code (names_in names.now) line control.now))) }
-{
-    emit_expression(code, names, line, &control.initial)?;
-    emit_expression(code, names, line, &control.limit)?;
-    emit_increment(code, names, line, &control.increment)
 }

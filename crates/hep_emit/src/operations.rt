@@ -6,10 +6,9 @@ ghost use Rattle.hep_emit.specs.Limits.{IsTooLong};
 ghost use Rattle.hep_emit.specs.Operations as operations;
 ghost use Rattle.hep_emit.specs.Tables.{names_in, table_in};
 
-use crate::actuals::{emit_arguments, emit_purged};
 use crate::emit::{Code, counted, emit_step};
 use crate::fault::EmitFault;
-use crate::lists::{emit_labels, emit_printed};
+use crate::lists::{emit_labels, emit_passed, emit_printed};
 use crate::tables::Tables;
 use hep_code::Operation;
 use hep_source::Form;
@@ -90,9 +89,10 @@ fn emit_list(alloc: Global, code: &mut Code, tables: &Tables, form: &Form) -> Re
     let names = &tables.names;
     match form {
         Form::ComputedGoTo(labels, _) => Ok(emit_labels(code, tables, labels.as_slice())?),
-        Form::Call(_, actuals) => emit_arguments(code, names, actuals.as_slice()),
-        Form::Create(_, actuals) => emit_arguments(code, names, actuals.as_slice()),
-        Form::Purge(targets) => emit_purged(code, names, targets.as_slice()),
+        Form::Call(_, actuals) | Form::Create(_, actuals) => {
+            emit_passed(code, names, actuals.as_slice())
+        }
+        Form::Purge(targets) => emit_passed(code, names, targets.as_slice()),
         Form::Print(items) => Ok(emit_printed(alloc, code, items.as_slice())?),
         _ => Ok(()),
     }

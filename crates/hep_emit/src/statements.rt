@@ -4,11 +4,10 @@ ghost use Rattle.hep_code.specs.StatementCode.{operands_code, form_code, conditi
 ghost use Rattle.hep_emit.specs.Limits.{IsTooLong};
 ghost use Rattle.hep_emit.specs.Tables.{table_in};
 
-use crate::actuals::{emit_actuals, emit_targets};
 use crate::emit::{Code, emit_step};
 use crate::expressions::{emit_all, emit_expression};
 use crate::fault::EmitFault;
-use crate::lists::{emit_control, emit_items};
+use crate::operands::{Operands, emit_each};
 use crate::operations::{emit_loop_end, emit_operation};
 use crate::tables::Tables;
 use hep_code::Operation;
@@ -25,33 +24,18 @@ fn emit_operands(code: &mut Code, tables: &Tables, line: u32, form: &Form) -> Re
             emit_expression(code, names, line, value)?;
             emit_all(code, names, line, target.subscripts.as_slice())
         }
-        Form::ComputedGoTo(_, selector) => emit_expression(code, names, line, selector),
-        Form::ArithmeticIf(tested, _) => emit_expression(code, names, line, tested),
-        Form::IfThen(condition) => emit_expression(code, names, line, condition),
-        Form::ElseIf(condition) => emit_expression(code, names, line, condition),
-        Form::Do(control) => emit_control(code, names, line, control),
-        Form::Call(_, actuals) => emit_actuals(code, names, line, actuals.as_slice()),
-        Form::Create(_, actuals) => emit_actuals(code, names, line, actuals.as_slice()),
-        Form::Purge(targets) => emit_targets(code, names, line, targets.as_slice()),
-        Form::Print(items) => emit_items(code, names, line, items.as_slice()),
+        Form::ComputedGoTo(_, tested)
+        | Form::ArithmeticIf(tested, _)
+        | Form::IfThen(tested)
+        | Form::ElseIf(tested) => emit_expression(code, names, line, tested),
+        Form::Do(control) => control.emit(code, names, line),
+        Form::Call(_, actuals) | Form::Create(_, actuals) => {
+            emit_each(code, names, line, actuals.as_slice())
+        }
+        Form::Purge(targets) => emit_each(code, names, line, targets.as_slice()),
+        Form::Print(items) => emit_each(code, names, line, items.as_slice()),
         _ => Ok(()),
     }
-}
-
-fn emit_form(
-    alloc: Global,
-    code: &mut Code,
-    tables: &Tables,
-    line: u32,
-    index: usize,
-    form: &Form,
-) -> Result<(), EmitFault>
-    requires { index < length tables.now.control.now }
-    ensures code { OnOk result (code.new.items ≡ code.old.items ++ form_code (table_in tables.now) line index form.now) }
-    ensures refused { IfErr result (IsTooLong (length (form_code (table_in tables.now) line index form.now))) }
-{
-    emit_operands(code, tables, line, form)?;
-    emit_operation(alloc, code, tables, line, index, form)
 }
 
 // The conditions of a logical IF, each before what it holds (X3.9-1978, 11.5).
@@ -70,7 +54,10 @@ fn emit_conditions(
     ensures refused { IfErr result (IsTooLong (length (conditions_code (table_in tables.now) line index conditions.now form.now))) }
 {
     match conditions {
-        [] => emit_form(alloc, code, tables, line, index, form),
+        [] => {
+            emit_operands(code, tables, line, form)?;
+            emit_operation(alloc, code, tables, line, index, form)
+        }
         [first, rest @ ..] => {
             emit_expression(code, &tables.names, line, first)?;
             let otherwise = tables.next(index);

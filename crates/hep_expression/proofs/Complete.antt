@@ -1,5 +1,5 @@
 -- What is an expression by the grammar is read as one.
-use Rattle.std.proofs.Common.{◌≡◌, ◌⊎◌, inl, inr, ℕ, zero, suc, ◌+◌, ◌-◌, ◌<◌, ◌≤◌, Bool, true, false, List, [], ◌∷◌, ◌++◌, length, Some, None, refl, ap, subst, ◌∙◌, arith}
+use Rattle.std.proofs.Common.{◌≡◌, ◌⊎◌, inl, inr, ℕ, zero, suc, ◌+◌, ◌-◌, ◌<◌, ◌≤◌, Bool, true, false, List, [], ◌∷◌, ◌++◌, length, Some, None, refl, sym, ap, subst, ◌∙◌, arith}
 use Rattle.std.specs.Prelude.{nat_eq, nat_le, ◌&&◌, if◌then◌else◌, ℤ}
 use Rattle.std.proofs.lemmas.Bool.Decides.{nat_tests}
 use Rattle.hep_source.specs.Tree.{Tree, Trees, constant, occurrence, with_list, parenthesized, signed, negated, binary, no_trees, trees, nodes, nodes_of_all}
@@ -20,7 +20,7 @@ use Rattle.hep_expression.specs.declared.expression.Precedence.{Precedence}
 use Rattle.hep_expression.specs.declared.expression.Precedence.TheVariants.{Equivalence, Disjunction, Conjunction, Sum, Term}
 use Rattle.hep_expression.specs.Characters.{is_digit, is_letter, is_letter_or_digit, IsName, name_sign, named, ReadsOccurrence, ReadsPlainOccurrence, IsDigits, number_of_digits, greatest, IsInteger, logical_spelling}
 use Rattle.hep_expression.specs.Expression as levels
-use Rattle.hep_expression.specs.Expression.{level, left, right, spelling, sign_spelling, Reads, ReadsAll, IsExpression}
+use Rattle.hep_expression.specs.Expression.{Associativity, from_left, from_right, single, associativity, level, left_level, left, right, spelling, sign_spelling, Reads, ReadsAll, IsExpression}
 use Rattle.hep_expression.specs.Reading.{Reader, ◌>>=◌, begins, after, letters_at, name_at, occurrence_at, plain_occurrence_at, integer, integer_at, logical_at}
 use Rattle.hep_expression.specs.ReadingExpression as reading
 use Rattle.hep_expression.specs.ReadingExpression.{operator_at, sign_at, power_at, not_at, comparing, operators, chain, in_parentheses, arguments, primary, power_of, term, first_term, sum, relation, negation, conjunction, disjunction, next_operand, first_operand, at_level, expression, power, expression_at, whole_expression}
@@ -46,12 +46,12 @@ letter_is_no_digit c h = let from : 65 ≤ c = letter_from c h in let over : nat
     go true e = e
     go false e = refl
 
--- a text that begins neither with a sign nor with a star
+-- a text that begins neither with a sign, nor with a star, nor with `.NOT.`
 abbrev pub Opens : List ℕ → Type 0
-Opens s = (sign_at s ≡ None) × (after 42 s ≡ None)
+Opens s = (sign_at s ≡ None) × (after 42 s ≡ None) × (not_at s ≡ None)
 
 high_opens : (c : ℕ) (s : List ℕ) → 48 ≤ c → Opens (c ∷ s)
-high_opens c s h = (rw (above c 43 (omega arith), above c 45 (omega arith)) refl, rw (above c 42 (omega arith)) refl)
+high_opens c s h = (rw (above c 43 (omega arith), above c 45 (omega arith)) refl, rw (above c 42 (omega arith)) refl, rw (above c 46 (omega arith)) refl)
 
 digits_open : (d s r : List ℕ) → IsDigits d → s ≡ d ++ r → Opens s
 digits_open [] s r h e = absurd h
@@ -59,70 +59,37 @@ digits_open (c ∷ d) s r h e = rw e (high_opens c (d ++ r) (digit_from c h.0))
 
 name_opens : (a : Bool) (w s r : List ℕ) → IsName w → s ≡ name_sign a ++ (w ++ r) → Opens s
 name_opens a [] s r h e = absurd h
-name_opens true (c ∷ w) s r h e = rw e (refl, refl)
+name_opens true (c ∷ w) s r h e = rw e (refl, refl, refl)
 name_opens false (c ∷ w) s r h e = let from : 65 ≤ c = letter_from c h.0 in rw e (high_opens c (w ++ r) (omega arith))
 
 logical_opens : (b : Bool) (s r : List ℕ) → s ≡ logical_spelling b ++ r → Opens s
-logical_opens true s r e = rw e (refl, refl)
-logical_opens false s r e = rw e (refl, refl)
+logical_opens true s r e = rw e (refl, refl, refl)
+logical_opens false s r e = rw e (refl, refl, refl)
+
+left_is_tighter : (x : Associativity) (l : ℕ) → l ≤ left_level x l
+left_is_tighter from_left l = omega arith
+left_is_tighter from_right l = omega arith
+left_is_tighter single l = omega arith
+
+-- what a text begins with that is read at a level from this one on: its first primary, or a sign
+module _ (Begins : List ℕ → Type 0) (loosest : ℕ) (tight : levels.relation ≤ loosest) (of_primary : (s : List ℕ) → Opens s → Begins s) (of_sign : loosest ≤ levels.sum → (g : Sign) (m : List ℕ) → Begins (sign_spelling g ++ m)) where
+  tree_begins : (k : Context) (t : Tree) (l : ℕ) (s r : List ℕ) → loosest ≤ l → Reads k t l s r → Begins s
+  tree_begins k (constant (Int v)) l s r le h = of_primary s (digits_open h.0 s r h.1 h.2)
+  tree_begins k (constant (Truth b)) l s r le h = of_primary s (logical_opens b s r h)
+  tree_begins k (occurrence p) l s r le h = of_primary s (name_opens p.name.asynchronous h.0 s r h.1 h.2)
+  tree_begins k (with_list p ts) l s r le h = of_primary s (name_opens p.name.asynchronous h.1.0 s (40 ∷ h.0) h.1.1 h.1.2)
+  tree_begins k (parenthesized t) l s r le h = of_primary s (rw h.1 (refl, refl, refl))
+  tree_begins k (signed g t) l s r le h = subst Begins (sym h.2) (of_sign (omega (arith, h.0)) g h.1)
+  tree_begins k (negated t) l s r le h = absurd (omega (arith, h.0))
+  tree_begins k (binary o a b) l s r le h = tree_begins k a (left o) s (spelling o ++ h.1) (omega (arith, h.0, left_is_tighter (associativity o) (level o))) h.2
 
 -- a term begins so
 opens : (k : Context) (t : Tree) (l : ℕ) (s r : List ℕ) → levels.term ≤ l → Reads k t l s r → Opens s
-opens k (constant (Int v)) l s r le h = digits_open h.0 s r h.1 h.2
-opens k (constant (Truth b)) l s r le h = logical_opens b s r h
-opens k (occurrence p) l s r le h = name_opens p.name.asynchronous h.0 s r h.1 h.2
-opens k (with_list p ts) l s r le h = name_opens p.name.asynchronous h.1.0 s (40 ∷ h.0) h.1.1 h.1.2
-opens k (parenthesized t) l s r le h = rw h.1 (refl, refl)
-opens k (signed Plus t) l s r le h = absurd (omega (arith, h.0))
-opens k (signed Minus t) l s r le h = absurd (omega (arith, h.0))
-opens k (negated t) l s r le h = absurd (omega (arith, h.0))
-opens k (binary (Relational o) a b) l s r le h = absurd (omega (arith, h.0))
-opens k (binary (Logical And) a b) l s r le h = absurd (omega (arith, h.0))
-opens k (binary (Logical Or) a b) l s r le h = absurd (omega (arith, h.0))
-opens k (binary (Logical Equivalent) a b) l s r le h = absurd (omega (arith, h.0))
-opens k (binary (Logical NotEquivalent) a b) l s r le h = absurd (omega (arith, h.0))
-opens k (binary (Arithmetic Add) a b) l s r le h = absurd (omega (arith, h.0))
-opens k (binary (Arithmetic Subtract) a b) l s r le h = absurd (omega (arith, h.0))
-opens k (binary (Arithmetic Multiply) a b) l s r le h = opens k a levels.term s (42 ∷ h.1) (omega arith) h.2
-opens k (binary (Arithmetic Divide) a b) l s r le h = opens k a levels.term s (47 ∷ h.1) (omega arith) h.2
-opens k (binary (Arithmetic Power) a b) l s r le h = opens k a levels.primary s (42 ∷ 42 ∷ h.1) (omega arith) h.2
-
-high_no_not : (c : ℕ) (s : List ℕ) → 48 ≤ c → not_at (c ∷ s) ≡ None
-high_no_not c s h = rw (above c 46 (omega arith)) refl
-
-digits_no_not : (d s r : List ℕ) → IsDigits d → s ≡ d ++ r → not_at s ≡ None
-digits_no_not [] s r h e = absurd h
-digits_no_not (c ∷ d) s r h e = rw e (high_no_not c (d ++ r) (digit_from c h.0))
-
-name_no_not : (a : Bool) (w s r : List ℕ) → IsName w → s ≡ name_sign a ++ (w ++ r) → not_at s ≡ None
-name_no_not a [] s r h e = absurd h
-name_no_not true (c ∷ w) s r h e = rw e refl
-name_no_not false (c ∷ w) s r h e = let from : 65 ≤ c = letter_from c h.0 in rw e (high_no_not c (w ++ r) (omega arith))
-
-logical_no_not : (b : Bool) (s r : List ℕ) → s ≡ logical_spelling b ++ r → not_at s ≡ None
-logical_no_not true s r e = rw e refl
-logical_no_not false s r e = rw e refl
+opens = tree_begins Opens levels.term (omega arith) (λ s h. h) (λ le g m. absurd (omega arith))
 
 -- a relation doesn't begin with `.NOT.`
 no_not : (k : Context) (t : Tree) (l : ℕ) (s r : List ℕ) → levels.relation ≤ l → Reads k t l s r → not_at s ≡ None
-no_not k (constant (Int v)) l s r le h = digits_no_not h.0 s r h.1 h.2
-no_not k (constant (Truth b)) l s r le h = logical_no_not b s r h
-no_not k (occurrence p) l s r le h = name_no_not p.name.asynchronous h.0 s r h.1 h.2
-no_not k (with_list p ts) l s r le h = name_no_not p.name.asynchronous h.1.0 s (40 ∷ h.0) h.1.1 h.1.2
-no_not k (parenthesized t) l s r le h = rw h.1 refl
-no_not k (signed Plus t) l s r le h = rw h.2 refl
-no_not k (signed Minus t) l s r le h = rw h.2 refl
-no_not k (negated t) l s r le h = absurd (omega (arith, h.0))
-no_not k (binary (Relational o) a b) l s r le h = no_not k a levels.sum s (spelling (Relational o) ++ h.1) (omega arith) h.2
-no_not k (binary (Logical And) a b) l s r le h = absurd (omega (arith, h.0))
-no_not k (binary (Logical Or) a b) l s r le h = absurd (omega (arith, h.0))
-no_not k (binary (Logical Equivalent) a b) l s r le h = absurd (omega (arith, h.0))
-no_not k (binary (Logical NotEquivalent) a b) l s r le h = absurd (omega (arith, h.0))
-no_not k (binary (Arithmetic Add) a b) l s r le h = no_not k a levels.sum s (43 ∷ h.1) (omega arith) h.2
-no_not k (binary (Arithmetic Subtract) a b) l s r le h = no_not k a levels.sum s (45 ∷ h.1) (omega arith) h.2
-no_not k (binary (Arithmetic Multiply) a b) l s r le h = no_not k a levels.term s (42 ∷ h.1) (omega arith) h.2
-no_not k (binary (Arithmetic Divide) a b) l s r le h = no_not k a levels.term s (47 ∷ h.1) (omega arith) h.2
-no_not k (binary (Arithmetic Power) a b) l s r le h = no_not k a levels.primary s (42 ∷ 42 ∷ h.1) (omega arith) h.2
+no_not = tree_begins (λ s. not_at s ≡ None) levels.relation (omega arith) (λ s h. h.2) (λ le g m. elim g as (λ (x : Sign). not_at (sign_spelling x ++ m) ≡ None) [ Plus ↦ refl | Minus ↦ refl ])
 
 -- ---- names and constants
 

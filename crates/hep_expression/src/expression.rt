@@ -1,5 +1,5 @@
-//! Reading expressions (X3.9-1978, section 6): a function for each level of precedence, from the loosest
-//! to the tightest, and one for what goes on from left to right after a first operand.
+//! Reading expressions (X3.9-1978, section 6): functions for the levels of precedence, from the loosest to
+//! the tightest, and one for what goes on from left to right after a first operand.
 ghost use Rattle.std.specs.Prelude.{◌≡◌, length, option_map};
 ghost use Rattle.hep_source.specs.Tree.{trees_of};
 ghost use Rattle.hep_expression.specs.Expression as grammar;
@@ -10,6 +10,7 @@ use crate::characters::{
     Context, after, after_text, all_read, integer_at, logical_at, occurrence_at,
 };
 use crate::unread::Unread;
+use Precedence::{Conjunction, Disjunction, Equivalence, Sum, Term};
 use hep_source::{
     ArithmeticOperator, Expr, LogicalOperator, Occurrence, Operator, RelationalOperator, Sign,
     Value,
@@ -61,17 +62,17 @@ impl Precedence {
         ensures { result.now ≡ reading.operators self }
     {
         match self {
-            Precedence::Equivalence => &[
+            Equivalence => &[
                 Operator::Logical(LogicalOperator::Equivalent),
                 Operator::Logical(LogicalOperator::NotEquivalent),
             ],
-            Precedence::Disjunction => &[Operator::Logical(LogicalOperator::Or)],
-            Precedence::Conjunction => &[Operator::Logical(LogicalOperator::And)],
-            Precedence::Sum => &[
+            Disjunction => &[Operator::Logical(LogicalOperator::Or)],
+            Conjunction => &[Operator::Logical(LogicalOperator::And)],
+            Sum => &[
                 Operator::Arithmetic(ArithmeticOperator::Add),
                 Operator::Arithmetic(ArithmeticOperator::Subtract),
             ],
-            Precedence::Term => &[
+            Term => &[
                 Operator::Arithmetic(ArithmeticOperator::Multiply),
                 Operator::Arithmetic(ArithmeticOperator::Divide),
             ],
@@ -117,6 +118,9 @@ fn sign_at(s: &[u8]) -> Option<(Sign, &[u8])>
     Some((Sign::Minus, rest))
 }
 
+/// An expression that was read, and what follows it.
+type Found<'a> = Result<(Expr, &'a [u8]), Unread>;
+
 /// An expression at the front, and what follows it. The depth bounds how deep parentheses, lists
 /// and powers go.
 ///
@@ -125,12 +129,7 @@ fn sign_at(s: &[u8]) -> Option<(Sign, &[u8])>
 /// No reading, or no memory.
 #[cycle(expression)]
 #[tactic(auto, unfolding(crate::specs::ReadingExpression::expression, crate::specs::ReadingExpression::disjunction, crate::specs::ReadingExpression::conjunction))]
-fn expression(
-    alloc: Global,
-    context: Context,
-    depth: usize,
-    s: &[u8],
-) -> Result<(Expr, &[u8]), Unread>
+fn expression(alloc: Global, context: Context, depth: usize, s: &[u8]) -> Found<'_>
     ensures { Gives (λ x. (x.0, x.1.now)) result (reading.expression context depth s.now) }
 {
     if depth == 0 {
@@ -140,33 +139,9 @@ fn expression(
     // A first operand is one of all levels: each goes on after it in turn, so that an open
     // parenthesis costs few calls.
     let (first, rest) = negation(alloc, context, depth, s)?;
-    let (first, rest) = chain(
-        alloc,
-        context,
-        depth,
-        Precedence::Conjunction,
-        s.len(),
-        first,
-        rest,
-    )?;
-    let (first, rest) = chain(
-        alloc,
-        context,
-        depth,
-        Precedence::Disjunction,
-        s.len(),
-        first,
-        rest,
-    )?;
-    chain(
-        alloc,
-        context,
-        depth,
-        Precedence::Equivalence,
-        s.len(),
-        first,
-        rest,
-    )
+    let (first, rest) = chain(alloc, context, depth, Conjunction, s.len(), first, rest)?;
+    let (first, rest) = chain(alloc, context, depth, Disjunction, s.len(), first, rest)?;
+    chain(alloc, context, depth, Equivalence, s.len(), first, rest)
 }
 
 /// Operators of a level and their operands after a first operand, from left to right: at most `turns`
@@ -181,7 +156,7 @@ fn chain(
     turns: usize,
     first: Expr,
     s: &[u8],
-) -> Result<(Expr, &[u8]), Unread>
+) -> Found<'_>
     ensures { Gives (λ x. (x.0, x.1.now)) result
         (reading.chain (reading.operators level) (reading.next_operand level (reading.power context depth)) turns first s.now) }
 {
@@ -190,7 +165,7 @@ fn chain(
         let Some((operator, after)) = operator_at(level.operators(), rest) else {
             return Ok((left, rest));
         };
-        let (right, after) = next_operand(alloc, context, depth, level, after)?;
+        let (right, after) = operand(alloc, context, depth, level, after)?;
         left = Expr::binary(alloc, operator, left, right)?;
         rest = after;
     }
@@ -199,79 +174,34 @@ fn chain(
 
 /// What stands after an operator of a level.
 #[cycle(expression)]
-fn next_operand(
-    alloc: Global,
-    context: Context,
-    depth: usize,
-    level: Precedence,
-    s: &[u8],
-) -> Result<(Expr, &[u8]), Unread>
+#[tactic(auto, unfolding(crate::specs::ReadingExpression::disjunction, crate::specs::ReadingExpression::conjunction))]
+fn operand(alloc: Global, context: Context, depth: usize, level: Precedence, s: &[u8]) -> Found<'_>
     ensures { Gives (λ x. (x.0, x.1.now)) result (reading.next_operand level (reading.power context depth) s.now) }
 {
     match level {
-        Precedence::Equivalence => disjunction(alloc, context, depth, s),
-        Precedence::Disjunction => conjunction(alloc, context, depth, s),
-        Precedence::Conjunction => negation(alloc, context, depth, s),
-        Precedence::Sum => term(alloc, context, depth, s),
-        Precedence::Term => power(alloc, context, depth, s),
+        Equivalence => operands(alloc, context, depth, Disjunction, s),
+        Disjunction => operands(alloc, context, depth, Conjunction, s),
+        Conjunction => negation(alloc, context, depth, s),
+        Sum => term(alloc, context, depth, s),
+        Term => power(alloc, context, depth, s),
     }
 }
 
-/// Operands with `.OR.` between them.
+/// Operands of a level, of which the first has no sign, with its operators between them.
 #[cycle(expression)]
-#[tactic(auto, unfolding(crate::specs::ReadingExpression::disjunction))]
-fn disjunction(
-    alloc: Global,
-    context: Context,
-    depth: usize,
-    s: &[u8],
-) -> Result<(Expr, &[u8]), Unread>
-    ensures { Gives (λ x. (x.0, x.1.now)) result (reading.next_operand Precedence.Equivalence (reading.power context depth) s.now) }
+fn operands(alloc: Global, context: Context, depth: usize, level: Precedence, s: &[u8]) -> Found<'_>
+    ensures { Gives (λ x. (x.0, x.1.now)) result
+        (reading.left_to_right (reading.operators level) (reading.next_operand level (reading.power context depth))
+        (reading.next_operand level (reading.power context depth)) s.now) }
 {
-    let (first, rest) = conjunction(alloc, context, depth, s)?;
-    chain(
-        alloc,
-        context,
-        depth,
-        Precedence::Disjunction,
-        s.len(),
-        first,
-        rest,
-    )
-}
-
-/// Operands with `.AND.` between them.
-#[cycle(expression)]
-#[tactic(auto, unfolding(crate::specs::ReadingExpression::conjunction))]
-fn conjunction(
-    alloc: Global,
-    context: Context,
-    depth: usize,
-    s: &[u8],
-) -> Result<(Expr, &[u8]), Unread>
-    ensures { Gives (λ x. (x.0, x.1.now)) result (reading.next_operand Precedence.Disjunction (reading.power context depth) s.now) }
-{
-    let (first, rest) = negation(alloc, context, depth, s)?;
-    chain(
-        alloc,
-        context,
-        depth,
-        Precedence::Conjunction,
-        s.len(),
-        first,
-        rest,
-    )
+    let (first, rest) = operand(alloc, context, depth, level, s)?;
+    chain(alloc, context, depth, level, s.len(), first, rest)
 }
 
 /// A relation, which may have `.NOT.` before it.
 #[cycle(expression)]
 #[tactic(auto, unfolding(crate::specs::ReadingExpression::negation))]
-fn negation(
-    alloc: Global,
-    context: Context,
-    depth: usize,
-    s: &[u8],
-) -> Result<(Expr, &[u8]), Unread>
+fn negation(alloc: Global, context: Context, depth: usize, s: &[u8]) -> Found<'_>
     ensures { Gives (λ x. (x.0, x.1.now)) result
         (reading.negation (reading.relation (reading.sum (reading.term (reading.power context depth)))) s.now) }
 {
@@ -288,12 +218,7 @@ fn negation(
 /// A sum, or two sums with an operator of a relation between them.
 #[cycle(expression)]
 #[tactic(auto, unfolding(crate::specs::ReadingExpression::relation))]
-fn relation(
-    alloc: Global,
-    context: Context,
-    depth: usize,
-    s: &[u8],
-) -> Result<(Expr, &[u8]), Unread>
+fn relation(alloc: Global, context: Context, depth: usize, s: &[u8]) -> Found<'_>
     ensures { Gives (λ x. (x.0, x.1.now)) result (reading.relation (reading.sum (reading.term (reading.power context depth))) s.now) }
 {
     let (left, rest) = sum(alloc, context, depth, s)?;
@@ -310,22 +235,17 @@ fn relation(
 /// Terms with `+` and `-` between them; the first one may have a sign.
 #[cycle(expression)]
 #[tactic(auto, unfolding(crate::specs::ReadingExpression::sum))]
-fn sum(alloc: Global, context: Context, depth: usize, s: &[u8]) -> Result<(Expr, &[u8]), Unread>
+fn sum(alloc: Global, context: Context, depth: usize, s: &[u8]) -> Found<'_>
     ensures { Gives (λ x. (x.0, x.1.now)) result (reading.sum (reading.term (reading.power context depth)) s.now) }
 {
     let (first, rest) = first_term(alloc, context, depth, s)?;
-    chain(alloc, context, depth, Precedence::Sum, s.len(), first, rest)
+    chain(alloc, context, depth, Sum, s.len(), first, rest)
 }
 
 /// The first term of a sum, which may have a sign.
 #[cycle(expression)]
 #[tactic(auto, unfolding(crate::specs::ReadingExpression::first_term))]
-fn first_term(
-    alloc: Global,
-    context: Context,
-    depth: usize,
-    s: &[u8],
-) -> Result<(Expr, &[u8]), Unread>
+fn first_term(alloc: Global, context: Context, depth: usize, s: &[u8]) -> Found<'_>
     ensures { Gives (λ x. (x.0, x.1.now)) result (reading.first_term (reading.term (reading.power context depth)) s.now) }
 {
     match sign_at(s) {
@@ -341,25 +261,17 @@ fn first_term(
 /// Powers with `*` and `/` between them.
 #[cycle(expression)]
 #[tactic(auto, unfolding(crate::specs::ReadingExpression::term))]
-fn term(alloc: Global, context: Context, depth: usize, s: &[u8]) -> Result<(Expr, &[u8]), Unread>
+fn term(alloc: Global, context: Context, depth: usize, s: &[u8]) -> Found<'_>
     ensures { Gives (λ x. (x.0, x.1.now)) result (reading.term (reading.power context depth) s.now) }
 {
     let (first, rest) = power(alloc, context, depth, s)?;
-    chain(
-        alloc,
-        context,
-        depth,
-        Precedence::Term,
-        s.len(),
-        first,
-        rest,
-    )
+    chain(alloc, context, depth, Term, s.len(), first, rest)
 }
 
 /// A primary, or a primary raised to a power: `**` goes from right to left.
 #[cycle(expression)]
 #[tactic(auto, unfolding(crate::specs::ReadingExpression::power, crate::specs::ReadingExpression::power_of))]
-fn power(alloc: Global, context: Context, depth: usize, s: &[u8]) -> Result<(Expr, &[u8]), Unread>
+fn power(alloc: Global, context: Context, depth: usize, s: &[u8]) -> Found<'_>
     ensures { Gives (λ x. (x.0, x.1.now)) result (reading.power context depth s.now) }
 {
     if depth == 0 {
@@ -384,7 +296,7 @@ fn power(alloc: Global, context: Context, depth: usize, s: &[u8]) -> Result<(Exp
 /// A constant, a name, which may have a list, or an expression in parentheses.
 #[cycle(expression)]
 #[tactic(auto, unfolding(crate::specs::ReadingExpression::primary))]
-fn primary(alloc: Global, context: Context, depth: usize, s: &[u8]) -> Result<(Expr, &[u8]), Unread>
+fn primary(alloc: Global, context: Context, depth: usize, s: &[u8]) -> Found<'_>
     ensures { Gives (λ x. (x.0, x.1.now)) result (reading.primary context (reading.expression context depth) s.now) }
 {
     if let Some((value, rest)) = integer_at(context, s) {
@@ -411,7 +323,7 @@ fn named(
     depth: usize,
     occurrence: Occurrence,
     s: &[u8],
-) -> Result<(Expr, &[u8]), Unread>
+) -> Found<'_>
     ensures { Gives (λ x. (x.0, x.1.now)) result (reading.named (reading.expression context depth) occurrence s.now) }
 {
     match after(b'(', s) {
@@ -454,12 +366,7 @@ fn arguments(
 /// What follows `(`: an expression and `)`.
 #[cycle(expression)]
 #[tactic(auto, unfolding(crate::specs::ReadingExpression::in_parentheses))]
-fn in_parentheses(
-    alloc: Global,
-    context: Context,
-    depth: usize,
-    s: &[u8],
-) -> Result<(Expr, &[u8]), Unread>
+fn in_parentheses(alloc: Global, context: Context, depth: usize, s: &[u8]) -> Found<'_>
     ensures { Gives (λ x. (x.0, x.1.now)) result (reading.in_parentheses (reading.expression context depth) s.now) }
 {
     let (inner, rest) = expression(alloc, context, depth, s)?;

@@ -1,16 +1,15 @@
 -- What is found of dummy arguments is what must be known of them where their unit is called.
-use Rattle.std.proofs.Common.{◌≡◌, ℕ, ◌≤◌, Bool, true, false, List, map, length, Option, Some, None, refl, ap, sym, ◌∙◌, if◌then◌else◌}
+use Rattle.std.proofs.Common.{◌≡◌, ℕ, ◌≤◌, Bool, true, false, List, map, Option, Some, None, refl, ap, ◌∙◌, if◌then◌else◌}
 use Rattle.std.specs.Prelude.{nat_eq, slice_get}
 use Rattle.std.specs.Option.{unwrap_or}
 use Rattle.std.proofs.lemmas.Bool.{eqb-true}
 use Rattle.std.proofs.lemmas.Option.{none-some}
-use Rattle.hep_source.specs.declared.declaration.Dimension.{Dimension}
 use Rattle.hep_source.specs.declared.name.Name.{Name}
 use Rattle.hep_source.specs.declared.statement.Statement.{Statement}
 use Rattle.hep_source.specs.Names.{index_among}
 use Rattle.hep_source.specs.Units.{Units, dummies_of}
-use Rattle.hep_machine.specs.Constants.{Constants, adjustable_dimensions, bounds_of, constant_shape, constant_value, if_shape, value_among}
-use Rattle.hep_machine.specs.Declarations.{BlockName, common_block, dimensions_of, is_array, is_common, is_nonempty}
+use Rattle.hep_machine.specs.Constants.{adjustable_dimensions, constant_shape, constant_value}
+use Rattle.hep_machine.specs.Declarations.{BlockName, common_block, dimensions_of, is_array, is_common}
 use Rattle.hep_machine.specs.Defaults.{no_shape}
 use Rattle.hep_machine.specs.Layout.{common_cells}
 use Rattle.hep_machine.specs.Shapes.{Bounds}
@@ -18,38 +17,14 @@ use Rattle.hep_machine.specs.Variables.{frame_cells}
 use Rattle.hep_bounds.specs.BoundCode.{Sources}
 use Rattle.hep_bounds.specs.DimensionCode.{code_of_dimensions}
 use Rattle.hep_bounds.specs.Sources.{source_by, source_of}
-use Rattle.hep_image.specs.declared.dummy.DummyArgument.{DummyArgument}
 use Rattle.hep_image.specs.declared.dummy.DummyArgument.TheVariants.{Scalar, Array, Adjustable}
 use Rattle.hep_image.specs.Dummies.{common_cell, common_cell_by, dummy_of}
-use Rattle.hep_values.proofs.CellCounts.{adjustable}
 use Rattle.hep_common.specs.Starts.{AreStarts}
 use Rattle.hep_common.specs.declared.starts.CommonStarts.{CommonStarts}
 use Rattle.hep_places.specs.Dummies.{array_found, cell_by, constant_array, dummy_found, source_found}
 use Rattle.hep_places.specs.Found.{Table, entries_of, no_length, offset_among}
 use Rattle.hep_places.proofs.Begins.{common-first}
-use Rattle.hep_places.proofs.Extents.{array-shape, some-dimension}
 use Rattle.hep_places.proofs.Right.{HasShapes, map-same}
-
--- ---- an array, by the bounds that its constants give it
-
-module _ (unit : List Statement) (x : Name) (known : Constants) (ds : List Dimension) (source : Sources) (array : is_array unit x ≡ true) (k : value_among known ≡ constant_value unit) (d : ds ≡ dimensions_of unit x) where
-  abbrev found-by : ℕ → DummyArgument
-  found-by n = if nat_eq n 0 then constant_array (constant_shape unit x) else Adjustable (code_of_dimensions source unit (dimensions_of unit x))
-
-  pub constant-found : (o : Option Bounds) (bs : Bounds) (e : DummyArgument) → o ≡ bounds_of unit (value_among known) ds → o ≡ Some bs → e ≡ constant_array (if_shape (Some bs)) → e ≡ array_found unit source x
-  constant-found o bs e b i h =
-      let same : Some bs ≡ bounds_of unit (value_among known) ds = sym i ∙ b in
-      let none : 0 ≡ adjustable_dimensions unit x = adjustable unit x known ds (Some bs) 0 k same d refl in
-      let shape : if_shape (Some bs) ≡ constant_shape unit x
-      = ap if_shape (same ∙ (ap (λ values. bounds_of unit values ds) k ∙ ap (bounds_of unit (constant_value unit)) d)) ∙ array-shape unit x array in
-      h ∙ (ap constant_array shape ∙ ap found-by none)
-
-  pub adjustable-found : (o : Option Bounds) → o ≡ bounds_of unit (value_among known) ds → o ≡ None → Adjustable (code_of_dimensions source unit ds) ≡ array_found unit source x
-  adjustable-found o b i =
-      let all : length ds ≡ adjustable_dimensions unit x = adjustable unit x known ds None (length ds) k (sym i ∙ b) d refl in
-      let some : nat_eq (length ds) 0 ≡ false = some-dimension ds (ap is_nonempty d ∙ array) in
-      ap (λ es. Adjustable (code_of_dimensions source unit es)) d
-      ∙ (sym (ap (λ t. if t then constant_array (constant_shape unit x) else Adjustable (code_of_dimensions source unit (dimensions_of unit x))) some) ∙ ap found-by all)
 
 -- ---- where the values of names are
 

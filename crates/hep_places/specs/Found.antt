@@ -26,6 +26,7 @@ use Rattle.hep_frames.specs.Rows.{Row}
 use Rattle.hep_common.specs.Starts.{narrowed, start_in}
 use Rattle.hep_common.specs.declared.starts.CommonStarts.{CommonStarts}
 use Rattle.hep_places.specs.declared.blocks.Entry.{Entry}
+use Rattle.hep_places.specs.declared.bounds.Known.{Known}
 use Rattle.hep_places.specs.declared.tables.Tables.{Tables}
 
 -- ---- names one behind the other, of which the first one begins at n
@@ -107,6 +108,10 @@ start_found unit common offsets locals x = start_by common (index_among x (dummi
 
 -- ---- arrays
 
+-- the shape of an array, if its bounds are all constant
+abbrev pub shape_found : List Statement → Name → Option (Option Bounds)
+shape_found unit x = if nat_eq (adjustable_dimensions unit x) 0 then Some (constant_shape unit x) else None
+
 -- no array of an accepted program is without a shape
 abbrev pub constant_extents : Option Bounds → Extents
 constant_extents None = Adjustable 0 0
@@ -120,6 +125,10 @@ extents_found unit bounds x =
 
 abbrev pub array_found : List Statement → (Name → Option Start) → Table → Name → Array
 array_found unit start bounds x = record { start = unwrap_or (start x) (Local 0); extents = extents_found unit bounds x }
+
+abbrev pub array_in : Known → Name → Array
+array_in k =
+    array_found k.symbols.now (start_found k.symbols.now k.common.now (get name_eq k.tables.now.offsets) (get name_eq k.tables.now.locals)) (get name_eq k.tables.now.bounds)
 
 -- ---- variables
 

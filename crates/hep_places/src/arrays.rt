@@ -1,96 +1,86 @@
 //! The arrays of a unit (X3.9-1978, section 5).
-ghost use Rattle.std.specs.Prelude.{◌≡◌, true, map, Some, IfOk};
+ghost use Rattle.std.specs.Prelude.{◌≡◌, true, map, length, None, IfOk};
 ghost use Rattle.std.specs.List.{filter};
 ghost use Rattle.std.specs.Option.{option_map};
 ghost use Rattle.indexmap.specs.IndexMap.{get};
 ghost use Rattle.hep_source.specs.Names.{name_eq};
-ghost use Rattle.hep_machine.specs.Constants.{value_among, constant_value, if_shape};
+ghost use Rattle.hep_machine.specs.Constants.{adjustable_dimensions, value_among, constant_value};
 ghost use Rattle.hep_machine.specs.Declarations as declarations;
 ghost use Rattle.hep_places.specs.Found as found;
 
+use crate::bounds::Known;
 use crate::cells::in_32_bits;
-use crate::tables::{Tables, start_of};
-use hep_common::CommonStarts;
+use crate::tables::start_of;
 use hep_image::{Array, Extents, Start};
-use hep_machine::Bound;
 use hep_shape::Shape;
 use hep_source::Name;
-use hep_symbols::Symbols;
-use hep_values::{Constants, bounds_of};
+use hep_values::bounds_of;
 use std::alloc::{AllocError, Global};
 
-// Bounds that are all constant. No array of an accepted program has some that make no shape.
-fn constant_extents(bounds: &[Bound]) -> Extents
-    ensures { result ≡ found.constant_extents (if_shape (Some bounds.now)) }
+// The shape of an array whose bounds are all constant; no array of an accepted program has some that make none.
+pub(crate) fn shape_of(
+    alloc: Global,
+    known: &Known,
+    name: &Name,
+) -> Result<Option<Option<Shape>>, AllocError>
+    requires values { value_among known.now.constants.now ≡ constant_value known.now.symbols.now }
+    requires array { declarations.is_array known.now.symbols.now name.now ≡ true }
+    ensures shape { IfOk result (λ shape. shape ≡ found.shape_found known.now.symbols.now name.now) }
+    ensures adjustable { IfOk result (λ shape. shape ≡ None
+        → length (declarations.dimensions_of known.now.symbols.now name.now) ≡ adjustable_dimensions known.now.symbols.now name.now) }
 {
-    match Shape::new(bounds) {
-        Some(shape) => Extents::Constant(shape),
-        None => Extents::Adjustable {
-            cells: 0,
-            dimensions: 0,
-        },
+    let dimensions = known.symbols.dimensions(name);
+    match bounds_of(alloc, known.symbols, known.constants, dimensions)? {
+        Some(bounds) => Ok(Some(Shape::new(&bounds))),
+        None => Ok(None),
     }
 }
 
-fn extents_of(
-    alloc: Global,
-    symbols: &Symbols,
-    constants: &Constants,
-    tables: &Tables,
-    name: &Name,
-) -> Result<Extents, AllocError>
-    requires values { value_among constants.now ≡ constant_value symbols.now }
-    requires array { declarations.is_array symbols.now name.now ≡ true }
-    ensures { IfOk result (λ extents. extents ≡ found.extents_found symbols.now (get name_eq tables.now.bounds) name.now) }
+fn extents_of(alloc: Global, known: &Known, name: &Name) -> Result<Extents, AllocError>
+    requires values { value_among known.now.constants.now ≡ constant_value known.now.symbols.now }
+    requires array { declarations.is_array known.now.symbols.now name.now ≡ true }
+    ensures { IfOk result (λ extents. extents
+        ≡ found.extents_found known.now.symbols.now (get name_eq known.now.tables.now.bounds) name.now) }
 {
-    let dimensions = symbols.dimensions(name);
-    match bounds_of(alloc, symbols, constants, dimensions)? {
-        Some(bounds) => Ok(constant_extents(&bounds)),
+    match shape_of(alloc, known, name)? {
+        Some(Some(shape)) => Ok(Extents::Constant(shape)),
+        Some(None) => Ok(Extents::Adjustable {
+            cells: 0,
+            dimensions: 0,
+        }),
         None => Ok(Extents::Adjustable {
-            cells: tables.bounds.get(name).copied().unwrap_or(0),
-            dimensions: in_32_bits(dimensions.len()),
+            cells: known.tables.bounds.get(name).copied().unwrap_or(0),
+            dimensions: in_32_bits(known.symbols.dimensions(name).len()),
         }),
     }
 }
 
-fn array_of(
-    alloc: Global,
-    symbols: &Symbols,
-    common: &CommonStarts,
-    constants: &Constants,
-    tables: &Tables,
-    name: &Name,
-) -> Result<Array, AllocError>
-    requires values { value_among constants.now ≡ constant_value symbols.now }
-    requires array { declarations.is_array symbols.now name.now ≡ true }
-    ensures { IfOk result (λ array. array
-        ≡ found.array_found symbols.now (found.start_found symbols.now common.now (get name_eq tables.now.offsets)
-        (get name_eq tables.now.locals)) (get name_eq tables.now.bounds) name.now) }
+fn array_of(alloc: Global, known: &Known, name: &Name) -> Result<Array, AllocError>
+    requires values { value_among known.now.constants.now ≡ constant_value known.now.symbols.now }
+    requires array { declarations.is_array known.now.symbols.now name.now ≡ true }
+    ensures { IfOk result (λ array. array ≡ found.array_in known.now name.now) }
 {
-    let extents = extents_of(alloc, symbols, constants, tables, name)?;
+    let extents = extents_of(alloc, known, name)?;
     // Each array of an accepted program begins somewhere.
-    let start = start_of(symbols, common, tables, name).unwrap_or(Start::Local(0));
+    let start = start_of(known.symbols, known.common, known.tables, name);
+    let start = start.unwrap_or(Start::Local(0));
     Ok(Array { start, extents })
 }
 
 // Those of these names that are arrays.
 pub(crate) fn arrays_among(
     alloc: Global,
-    symbols: &Symbols,
-    common: &CommonStarts,
-    constants: &Constants,
-    tables: &Tables,
+    known: &Known,
     names: &[Name],
 ) -> Result<Vec<Array>, AllocError>
-    requires { value_among constants.now ≡ constant_value symbols.now }
+    requires { value_among known.now.constants.now ≡ constant_value known.now.symbols.now }
     ensures { IfOk result (λ arrays. arrays.items
-        ≡ map (found.array_found symbols.now (found.start_found symbols.now common.now (get name_eq tables.now.offsets)
-        (get name_eq tables.now.locals)) (get name_eq tables.now.bounds)) (filter (declarations.is_array symbols.now) names.now)) }
+        ≡ map (found.array_in known.now) (filter (declarations.is_array known.now.symbols.now) names.now)) }
 {
     let mut arrays = Vec::new(alloc);
     for name in names {
-        if symbols.is_array(name) {
-            arrays.push(array_of(alloc, symbols, common, constants, tables, name)?)?;
+        if known.symbols.is_array(name) {
+            arrays.push(array_of(alloc, known, name)?)?;
         }
     }
     Ok(arrays)

@@ -4,7 +4,6 @@ ghost use Rattle.std.specs.Option.{option_or};
 ghost use Rattle.indexmap.specs.IndexMap.{get};
 ghost use Rattle.hep_source.specs.declared.name.Name.{Name as PureName};
 ghost use Rattle.hep_source.specs.Names.{name_eq};
-ghost use Rattle.hep_machine.specs.Constants as values;
 ghost use Rattle.hep_machine.specs.Constants.{value_among, constant_value};
 ghost use Rattle.hep_machine.specs.Declarations as declarations;
 ghost use Rattle.hep_machine.specs.Declarations.{BlockName};
@@ -113,22 +112,14 @@ impl Offsets {
         })
     }
 
-    // A name behind the others of its block.
-    fn add(
-        &mut self,
-        alloc: Global,
-        symbols: &Symbols,
-        constants: &Constants,
-        entry: &Entry,
-    ) -> Result<(), AllocError>
-        requires { value_among constants.now ≡ constant_value symbols.now }
+    // A name with its cells behind the others of its block.
+    fn add(&mut self, entry: &Entry, cells: u32) -> Result<(), AllocError>
         ensures table { OnOk result ((x : PureName) → get name_eq self.new.table x
             ≡ option_or (get name_eq self.old.table x) (by_name entry.now.name (found.length_in self.old.lengths entry.now.block) x)) }
         ensures lengths { OnOk result ((b : BlockName)
             → found.length_in self.new.lengths b
-            ≡ found.lengthened (found.length_in self.old.lengths) entry.now.block (values.cells_of symbols.now entry.now.name) b) }
+            ≡ found.lengthened (found.length_in self.old.lengths) entry.now.block cells b) }
     {
-        let cells = cells_of(alloc, symbols, constants, &entry.name)?;
         let before = lengthen(&mut self.lengths, entry.block, cells)?;
         note(&mut self.table, entry.name, before)?;
         Ok(())
@@ -148,7 +139,8 @@ pub(crate) fn offset_table(
     let entries = entries_of(alloc, symbols.statements())?;
     let mut offsets = Offsets::new(alloc, entries.len())?;
     for entry in &entries {
-        offsets.add(alloc, symbols, constants, entry)?;
+        let cells = cells_of(alloc, symbols, constants, &entry.name)?;
+        offsets.add(entry, cells)?;
     }
     Ok(replace(&mut offsets.table, IndexMap::new(alloc)))
 }

@@ -1,13 +1,12 @@
 //! Where names begin that stand in a frame one behind the other (docs/MACHINE.md, "Variables and frames").
-ghost use Rattle.std.specs.Prelude.{◌≡◌, ◌+◌, ◌*◌, None, IfOk, OnOk};
+ghost use Rattle.std.specs.Prelude.{◌≡◌, ℕ, ◌+◌, ◌*◌, List, map, None, IfOk, OnOk};
 ghost use Rattle.std.specs.Option.{option_or};
 ghost use Rattle.indexmap.specs.IndexMap.{get};
 ghost use Rattle.hep_source.specs.declared.name.Name.{Name as PureName};
 ghost use Rattle.hep_source.specs.Names.{name_eq};
-ghost use Rattle.hep_source.specs.Units.{names_of_occurrences};
+ghost use Rattle.hep_source.specs.declared.statement.Statement.{Statement};
 ghost use Rattle.hep_machine.specs.Constants as values;
 ghost use Rattle.hep_machine.specs.Constants.{value_among, constant_value};
-ghost use Rattle.hep_symbols.specs.Tables.{by_name};
 ghost use Rattle.hep_common.specs.Starts.{narrowed};
 ghost use Rattle.hep_places.specs.Found as found;
 
@@ -17,6 +16,60 @@ use hep_symbols::{Symbols, note};
 use hep_values::{Constants, adjustable_dimensions, cells_of};
 use indexmap::IndexMap;
 use std::alloc::{AllocError, Global};
+
+// What tells how many cells a name has: the symbols of a unit, and all its constants.
+#[derive(Clone, Copy)]
+pub(crate) struct Sizes<'a> {
+    pub(crate) symbols: &'a Symbols<'a>,
+    pub(crate) constants: &'a Constants,
+}
+
+// What stands in a frame by its name.
+pub(crate) trait Placed {
+    ghost name_of: { Self → PureName };
+
+    ghost cells_of: { List Statement → Self → ℕ };
+
+    fn name(&self) -> Name
+        ensures { result ≡ name_of self.now };
+
+    // The cell behind it, where this is its first one.
+    fn behind(&self, alloc: Global, sizes: &Sizes, first: u32) -> Result<u32, AllocError>
+        requires { value_among sizes.now.constants.now ≡ constant_value sizes.now.symbols.now }
+        ensures { IfOk result (λ next. next ≡ narrowed (first + cells_of sizes.now.symbols.now self.now)) };
+}
+
+// A variable.
+impl Placed for Name {
+    ghost name_of = { λ x. x };
+
+    ghost cells_of = { values.cells_of };
+
+    fn name(&self) -> Name {
+        *self
+    }
+
+    fn behind(&self, alloc: Global, sizes: &Sizes, first: u32) -> Result<u32, AllocError> {
+        let cells = cells_of(alloc, sizes.symbols, sizes.constants, self)?;
+        Ok(further(first, cells))
+    }
+}
+
+// The bounds of a dummy argument: a lower and an upper one for each dimension that is fixed anew at each call.
+impl Placed for Occurrence {
+    ghost name_of = { λ o. o.name };
+
+    ghost cells_of = { λ unit o. 2 * values.adjustable_dimensions unit o.name };
+
+    fn name(&self) -> Name {
+        self.name
+    }
+
+    fn behind(&self, alloc: Global, sizes: &Sizes, first: u32) -> Result<u32, AllocError> {
+        let pairs = adjustable_dimensions(alloc, sizes.symbols, sizes.constants, &self.name)?;
+        Ok(behind_pairs(first, pairs))
+    }
+}
 
 // Names with their first cells.
 pub(crate) struct Starts {
@@ -43,81 +96,24 @@ impl Starts {
         })
     }
 
-    // A variable behind the others.
-    fn add_variable(
+    // Those behind the others, each with its cells.
+    pub(crate) fn add_all<T: Placed>(
         &mut self,
         alloc: Global,
-        symbols: &Symbols,
-        constants: &Constants,
-        name: &Name,
+        sizes: &Sizes,
+        items: &[T],
     ) -> Result<(), AllocError>
-        requires { value_among constants.now ≡ constant_value symbols.now }
-        ensures table { OnOk result ((x : PureName) → get name_eq self.new.table x
-            ≡ option_or (get name_eq self.old.table x) (by_name name.now self.old.next x)) }
-        ensures next { OnOk result (self.new.next ≡ narrowed (self.old.next + values.cells_of symbols.now name.now)) }
-    {
-        let cells = cells_of(alloc, symbols, constants, name)?;
-        note(&mut self.table, *name, self.next)?;
-        self.next = further(self.next, cells);
-        Ok(())
-    }
-
-    // Variables behind the others, each with its cells.
-    pub(crate) fn add_variables(
-        &mut self,
-        alloc: Global,
-        symbols: &Symbols,
-        constants: &Constants,
-        names: &[Name],
-    ) -> Result<(), AllocError>
-        requires { value_among constants.now ≡ constant_value symbols.now }
-        ensures table { OnOk result ((x : PureName) → get name_eq self.new.table x
-            ≡ option_or (get name_eq self.old.table x) (found.start_among self.old.next (found.name_row symbols.now names.now) x)) }
-        ensures next { OnOk result (self.new.next ≡ found.behind self.old.next (found.name_row symbols.now names.now)) }
-    {
-        for name in names {
-            self.add_variable(alloc, symbols, constants, name)?;
-        }
-        Ok(())
-    }
-
-    // The bounds of a dummy argument behind the others: a lower and an upper one for each dimension that is fixed
-    // anew at each call.
-    fn add_bound(
-        &mut self,
-        alloc: Global,
-        symbols: &Symbols,
-        constants: &Constants,
-        name: &Name,
-    ) -> Result<(), AllocError>
-        requires { value_among constants.now ≡ constant_value symbols.now }
-        ensures table { OnOk result ((x : PureName) → get name_eq self.new.table x
-            ≡ option_or (get name_eq self.old.table x) (by_name name.now self.old.next x)) }
-        ensures next { OnOk result (self.new.next ≡ narrowed (self.old.next + 2 * values.adjustable_dimensions symbols.now name.now)) }
-    {
-        let dimensions = adjustable_dimensions(alloc, symbols, constants, name)?;
-        note(&mut self.table, *name, self.next)?;
-        self.next = behind_pairs(self.next, dimensions);
-        Ok(())
-    }
-
-    // The bounds of dummy arguments behind the others.
-    pub(crate) fn add_bounds(
-        &mut self,
-        alloc: Global,
-        symbols: &Symbols,
-        constants: &Constants,
-        dummies: &[Occurrence],
-    ) -> Result<(), AllocError>
-        requires { value_among constants.now ≡ constant_value symbols.now }
+        requires { value_among sizes.now.constants.now ≡ constant_value sizes.now.symbols.now }
         ensures table { OnOk result ((x : PureName) → get name_eq self.new.table x
             ≡ option_or (get name_eq self.old.table x)
-            (found.start_among self.old.next (found.adjustable_row symbols.now (names_of_occurrences dummies.now)) x)) }
+            (found.start_among self.old.next (map (λ y. (T.name_of y, T.cells_of sizes.now.symbols.now y)) items.now) x)) }
         ensures next { OnOk result (self.new.next
-            ≡ found.behind self.old.next (found.adjustable_row symbols.now (names_of_occurrences dummies.now))) }
+            ≡ found.behind self.old.next (map (λ y. (T.name_of y, T.cells_of sizes.now.symbols.now y)) items.now)) }
     {
-        for dummy in dummies {
-            self.add_bound(alloc, symbols, constants, &dummy.name)?;
+        for item in items {
+            let next = item.behind(alloc, sizes, self.next)?;
+            note(&mut self.table, item.name(), self.next)?;
+            self.next = next;
         }
         Ok(())
     }

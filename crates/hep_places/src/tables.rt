@@ -13,7 +13,7 @@ ghost use Rattle.hep_places.specs.Found as found;
 use crate::blocks::offset_table;
 use crate::cells::{behind_pairs, further};
 use crate::loops::Loops;
-use crate::names::Starts;
+use crate::names::{Sizes, Starts};
 use hep_common::CommonStarts;
 use hep_image::Start;
 use hep_source::Name;
@@ -54,14 +54,15 @@ pub(crate) fn tables_of(
     requires { value_among constants.now ≡ constant_value symbols.now }
     ensures { IfOk result (found.AreTables symbols.now) }
 {
+    let sizes = Sizes { symbols, constants };
     let offsets = offset_table(alloc, symbols, constants)?;
     let first = behind_pairs(1, symbols.dummies().len());
     let mut locals = Starts::new(alloc, first, symbols.locals().len())?;
-    locals.add_variables(alloc, symbols, constants, symbols.locals())?;
+    locals.add_all(alloc, &sizes, symbols.locals())?;
     let mut loops = Loops::new(alloc, locals.next);
     loops.add_statements(symbols.statements())?;
     let mut bounds = Starts::new(alloc, loops.next, symbols.dummies().len())?;
-    bounds.add_bounds(alloc, symbols, constants, symbols.dummies())?;
+    bounds.add_all(alloc, &sizes, symbols.dummies())?;
     Ok(Tables {
         offsets,
         locals: replace(&mut locals.table, IndexMap::new(alloc)),

@@ -70,7 +70,6 @@ pub fn unit_places(
         variables: variables_among(alloc, symbols, common, &tables, names)?,
         loop_cells: replace(&mut tables.loop_cells, Vec::new(alloc)),
     };
-    let arrays = arrays_among(alloc, symbols, common, &constants, &tables, names)?;
     let private = private_among(alloc, symbols, &tables, symbols.locals())?;
     let frame_variables = variables_in_frame(
         alloc,
@@ -85,7 +84,8 @@ pub fn unit_places(
         constants: &constants,
         tables: &tables,
     };
-    let dummies = dummy_arguments(alloc, &known, symbols.dummies())?;
+    let arrays = arrays_among(alloc, &known, names)?;
+    let dummies = dummy_arguments(alloc, &known)?;
     Ok(UnitPlaces {
         places,
         arrays,

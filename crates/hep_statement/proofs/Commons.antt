@@ -11,15 +11,15 @@ use Rattle.hep_expression.specs.Reading.{◌>>=◌, after, plain_occurrence_at}
 use Rattle.hep_expression.proofs.Leaves.{bind_some, either_some, after_is, place_fits, is_plain_place}
 use Rattle.hep_expression.proofs.Complete.{plain_place_read}
 use Rattle.hep_statement.specs.Lists.{AreListed}
-use Rattle.hep_statement.specs.ReadingLists.{part_after_comma, listed}
+use Rattle.hep_statement.specs.ReadingLists.{part_after_comma}
 use Rattle.hep_statement.specs.Declaration.{ReadsDeclarator, ReadsBlockName, ReadsFirstName, AreMoreBlocks, AreBlocks}
-use Rattle.hep_statement.specs.ReadingDeclaration.{declarator_at, up_to_end, block_name_at, entries_at, block_after, block_at, first_block_at, common}
+use Rattle.hep_statement.specs.ReadingDeclaration.{declarator_at, block_name_at, entries_at, block_after, block_at, first_block_at, common}
 use Rattle.hep_statement.proofs.Lists.{IsSound, IsComplete, listed_shortens, listed_sound, listed_complete}
 use Rattle.hep_statement.proofs.Targets.{begins_name, first_is, place_begins, AfterName}
 use Rattle.hep_statement.proofs.Headers.{carried}
 use Rattle.hep_statement.proofs.Declarators.{declarator_shortens, declarator_sound, declarator_complete}
-use Rattle.hep_statement.proofs.Ends.{AreToEnd, TakesSome, to_end_sound, to_end_complete}
-use Rattle.std.proofs.lemmas.Option.{same_Some, none-some}
+use Rattle.hep_statement.proofs.Ends.{AreToEnd, TakesSome, first_and_more_are, to_end_complete}
+use Rattle.std.proofs.lemmas.Option.{none-some}
 
 module _ (k : Context) where
   -- the text begins with this block and goes on with r
@@ -36,8 +36,8 @@ module _ (k : Context) where
   name_sound s x fit e = elim (either_some (after 47 s) (λ r. Some (None, r)) (plain_occurrence_at k s >>= λ y. after 47 y.1 >>= λ r. Some (Some y.0, r)) x e) [
     | inl g ↦ carried (λ (y : Option Occurrence × List ℕ). ReadsBlockName k y.0 (47 ∷ s) y.1) (None, g.0) x g.2 (ap (λ (m : List ℕ). 47 ∷ m) (after_is 47 s g.0 g.1))
     | inr g ↦ (
-        let b = bind_some (plain_occurrence_at k s) (λ y. after 47 y.1 >>= λ r. Some (Some y.0, r)) x g.1 in
-        let c = bind_some (after 47 b.0.1) (λ r. Some (Some b.0.0, r)) x b.2 in
+        let b = bind_some _ _ x g.1 in
+        let c = bind_some _ _ x b.2 in
         let one = subst (λ (m : List ℕ). ReadsPlainOccurrence k b.0.0 s m) (after_is 47 b.0.1 c.0 c.1) (is_plain_place k s b.0 fit b.1) in
         carried (λ (y : Option Occurrence × List ℕ). ReadsBlockName k y.0 (47 ∷ s) y.1) (Some b.0.0, c.0) x c.2 (s, refl, one))
   ]
@@ -65,7 +65,7 @@ module _ (k : Context) where
 
   entries_sound : (b : Option Occurrence) (s : List ℕ) (x : CommonBlock × List ℕ) → length s ≤ k.length → entries_at k b s ≡ Some x → (x.0.block ≡ b) × AreListed (ReadsDeclarator k) x.0.entries s x.1
   entries_sound b s x fit e =
-      let c = bind_some (listed (declarator_at k) s) (λ y. Some (record { block = b; entries = y.0 }, y.1)) x e in
+      let c = bind_some _ _ x e in
       let one = listed_sound (ReadsDeclarator k) (declarator_shortens k) k (declarator_at k) (declarator_sound k) s c.0 fit c.1 in
       carried (λ (y : CommonBlock × List ℕ). (y.0.block ≡ b) × AreListed (ReadsDeclarator k) y.0.entries s y.1) (record { block = b; entries = c.0.0 }, c.0.1) x c.2 (refl, one)
 
@@ -79,7 +79,7 @@ module _ (k : Context) where
 
   after_sound : (s : List ℕ) (x : CommonBlock × List ℕ) → length s ≤ k.length → block_after k s ≡ Some x → ReadsBlock x.0 (47 ∷ s) x.1
   after_sound s x fit e =
-      let b = bind_some (block_name_at k s) (λ y. entries_at k y.0 y.1) x e in
+      let b = bind_some _ _ x e in
       let one = name_sound s b.0 fit b.1 in
       let fit' : length b.0.1 ≤ k.length = omega (arith, name_takes b.0.0 (47 ∷ s) b.0.1 one) in
       let two = entries_sound b.0.0 b.0.1 x fit' b.2 in
@@ -88,7 +88,7 @@ module _ (k : Context) where
   block_sound : IsSound k ReadsBlock (block_at k)
   unfolding block_at
   block_sound s x fit e =
-      let b = bind_some (after 47 s) (block_after k) x e in
+      let b = bind_some _ _ x e in
       let is = after_is 47 s b.0 b.1 in
       let fit' : length b.0 ≤ k.length = omega (arith, ap length is) in
       subst (λ (m : List ℕ). ReadsBlock x.0 m x.1) (sym is) (after_sound b.0 x fit' b.2)
@@ -186,15 +186,13 @@ module _ (k : Context) where
   first_shortens : (x : CommonBlock) (s n r : List ℕ) → ReadsFirstName k x.block s n → AreListed (ReadsDeclarator k) x.entries n r → length r ≤ length s
   first_shortens x s n r g h = omega (arith, first_takes x.block s n g, listed_shortens (ReadsDeclarator k) (declarator_shortens k) x.entries n r h)
 
-  pub common_is : (m : List ℕ) (f : Form) → length m ≤ k.length → common k m ≡ Some f → (xs : List CommonBlock) × (f ≡ form.Common xs) × AreBlocks k xs m
+  pub common_is : (m : List ℕ) (f : Form) → length m ≤ k.length → common k m ≡ Some f → (xs : List CommonBlock) × (form.Common xs ≡ f) × AreBlocks k xs m
   unfolding common
   common_is m f fit e =
-      let b = bind_some (first_block_at k m) (λ x. up_to_end (block_at k) x.0 x.1 >>= λ xs. Some (form.Common xs)) f e in
-      let c = bind_some (up_to_end (block_at k) b.0.0 b.0.1) (λ xs. Some (form.Common xs)) f b.2 in
-      let one = first_sound m b.0 fit b.1 in
-      let fit' : length b.0.1 ≤ k.length = omega (arith, first_shortens b.0.0 m one.0 b.0.1 one.1 one.2) in
-      let two = to_end_sound ReadsBlock block_takes k (block_at k) block_sound b.0.0 b.0.1 c.0 fit' c.1 in
-      (c.0, sym (same_Some (form.Common c.0) f c.2), subst (λ (xs : List CommonBlock). AreBlocks k xs m) (sym two.1) (one.0, b.0.1, one.1, one.2, more_are two.0 b.0.1 two.2))
+      let w = first_and_more_are ReadsBlock block_takes k (block_at k) block_sound form.Common (first_block_at k m) f
+      (λ x g. let one = first_sound m x fit g in omega (arith, first_shortens x.0 m one.0 x.1 one.1 one.2)) e in
+      let one = first_sound m w.0 fit w.2 in
+      (w.0.0 ∷ w.1, w.3, (one.0, w.0.1, one.1, one.2, more_are w.1 w.0.1 w.4))
 
   pub common_read : (xs : List CommonBlock) (m : List ℕ) → AreBlocks k xs m → common k m ≡ Some (form.Common xs)
   unfolding common block_at

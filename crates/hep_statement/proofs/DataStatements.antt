@@ -1,6 +1,6 @@
 -- What is read as DATA is so by the grammar, and the other way round.
 use Rattle.std.proofs.Common.{◌≡◌, ◌≢◌, inl, inr, ℕ, zero, suc, ◌<◌, ◌≤◌, Bool, true, false, List, [], ◌∷◌, ◌++◌, length, Option, Some, None, refl, sym, ap, subst, ◌∙◌, arith, length-append, append_assoc}
-use Rattle.std.specs.Prelude.{nat_le, if◌then◌else◌, codes, ℤ, pos, negsuc, neg_ℤ}
+use Rattle.std.specs.Prelude.{nat_le, codes, ℤ, pos, negsuc, neg_ℤ}
 use Rattle.std.proofs.lemmas.Bool.Decides.{nat_tests}
 use Rattle.hep_source.specs.declared.name.Occurrence.{Occurrence}
 use Rattle.hep_source.specs.declared.value.Value.TheVariants.{Int, Truth}
@@ -25,12 +25,12 @@ use Rattle.hep_statement.specs.ReadingLists.{listed}
 use Rattle.hep_statement.specs.Target.{ReadsTarget}
 use Rattle.hep_statement.specs.Declaration.{optional_sign, signed_value, ReadsDataConstant, ReadsRepeat, ReadsDataValue, ReadsGroup, AreMoreGroups, AreGroups}
 use Rattle.hep_statement.specs.ReadingTarget.{target_at}
-use Rattle.hep_statement.specs.ReadingDeclaration.{up_to_end, signed_integer_at, data_constant_at, is_zero, count_at, repeat_at, data_value_at, group_at, data_statement}
+use Rattle.hep_statement.specs.ReadingDeclaration.{signed_integer_at, data_constant_at, is_zero, count_at, repeat_at, data_value_at, group_at, data_statement}
 use Rattle.hep_statement.proofs.Lists.{IsSound, Shortens, IsComplete, listed_shortens, listed_sound, listed_complete}
 use Rattle.hep_statement.proofs.Targets.{begins_name, place_begins, AfterName, target_shortens, target_sound, target_complete}
 use Rattle.hep_statement.proofs.Headers.{carried, AfterWord, Any}
-use Rattle.hep_statement.proofs.Ends.{AreToEnd, TakesSome, to_end_sound, to_end_complete}
-use Rattle.std.proofs.lemmas.Option.{same_Some, none-some}
+use Rattle.hep_statement.proofs.Ends.{AreToEnd, TakesSome, first_and_more_are, to_end_complete}
+use Rattle.std.proofs.lemmas.Option.{none-some}
 use Rattle.std.proofs.lemmas.Bool.{and_parts, leb-true}
 
 -- ---- with which character a text begins
@@ -64,7 +64,7 @@ module _ (k : Context) where
   signed_sound : (s : List ℕ) (x : ℤ × List ℕ) → signed_integer_at k s ≡ Some x → ReadsDataConstant k (ConstantValue (Int x.0)) s x.1
   signed_sound s x e = elim (either_some (after 45 s) (λ m. integer_at k m >>= λ y. Some (neg_ℤ y.0, y.1)) (if_some (after 43 s) (integer_at k) (integer_at k s)) x e) [
     | inl g ↦ (
-        let b = bind_some (integer_at k g.0) (λ y. Some (neg_ℤ y.0, y.1)) x g.2 in
+        let b = bind_some _ _ x g.2 in
         let c = is_constant k g.0 b.0 b.1 in
         let is : s ≡ 45 ∷ (c.0 ++ b.0.1) = after_is 45 s g.0 g.1 ∙ ap (λ (l : List ℕ). 45 ∷ l) c.2 in
         carried (λ (y : ℤ × List ℕ). ReadsDataConstant k (ConstantValue (Int y.0)) s y.1) (neg_ℤ b.0.0, b.0.1) x b.2 (Some Minus, c.0, b.0.0, c.1, is, c.3, refl))
@@ -85,7 +85,7 @@ module _ (k : Context) where
     | inr g ↦ (elim (either_some (plain_occurrence_at k s) (λ y. Some (ConstantName y.0, y.1)) (signed_integer_at k s >>= λ y. Some (ConstantValue (Int y.0), y.1)) x g.1) [
       | inl j ↦ carried (λ (y : DataConstant × List ℕ). ReadsDataConstant k y.0 s y.1) (ConstantName j.0.0, j.0.1) x j.2 (is_plain_place k s j.0 fit j.1)
       | inr j ↦ (
-          let b = bind_some (signed_integer_at k s) (λ y. Some (ConstantValue (Int y.0), y.1)) x j.1 in
+          let b = bind_some _ _ x j.1 in
           carried (λ (y : DataConstant × List ℕ). ReadsDataConstant k y.0 s y.1) (ConstantValue (Int b.0.0), b.0.1) x b.2 (signed_sound s b.0 b.1))
     ])
   ]
@@ -156,8 +156,8 @@ module _ (k : Context) where
 
   count_sound : (s : List ℕ) (x : Repeat × List ℕ) → count_at k s ≡ Some x → ReadsRepeat k (Some x.0) s x.1
   count_sound s x e =
-      let b = bind_some (integer_at k s) (λ y. after 42 y.1 >>= λ r. if is_zero y.0 then None else Some (Count y.0, r)) x e in
-      let c = bind_some (after 42 b.0.1) (λ r. if is_zero b.0.0 then None else Some (Count b.0.0, r)) x b.2 in
+      let b = bind_some _ _ x e in
+      let c = bind_some _ _ x b.2 in
       let one = is_constant k s b.0 b.1 in
       let is = one.2 ∙ ap (λ (l : List ℕ). one.0 ++ l) (after_is 42 b.0.1 c.0 c.1) ∙ sym (star_after one.0 c.0) in
       elim (chosen (is_zero b.0.0) None (Some (Count b.0.0, c.0)) (Some x) c.2) [
@@ -169,8 +169,8 @@ module _ (k : Context) where
   repeat_sound s x fit e = elim (either_some (count_at k s) (λ y. Some y) (plain_occurrence_at k s >>= λ y. after 42 y.1 >>= λ r. Some (RepeatName y.0, r)) x e) [
     | inl g ↦ carried (λ (y : Repeat × List ℕ). ReadsRepeat k (Some y.0) s y.1) g.0 x g.2 (count_sound s g.0 g.1)
     | inr g ↦ (
-        let b = bind_some (plain_occurrence_at k s) (λ y. after 42 y.1 >>= λ r. Some (RepeatName y.0, r)) x g.1 in
-        let c = bind_some (after 42 b.0.1) (λ r. Some (RepeatName b.0.0, r)) x b.2 in
+        let b = bind_some _ _ x g.1 in
+        let c = bind_some _ _ x b.2 in
         let one = subst (λ (m : List ℕ). ReadsPlainOccurrence k b.0.0 s m) (after_is 42 b.0.1 c.0 c.1) (is_plain_place k s b.0 fit b.1) in
         carried (λ (y : Repeat × List ℕ). ReadsRepeat k (Some y.0) s y.1) (RepeatName b.0.0, c.0) x c.2 one)
   ]
@@ -210,7 +210,7 @@ module _ (k : Context) where
         let fit' : length g.0.1 ≤ k.length = omega (arith, repeat_shortens (Some g.0.0) s g.0.1 one) in
         carried (λ (y : DataValue × List ℕ). ReadsDataValue k y.0 s y.1) (record { repeat = Some g.0.0; constant = b.0.0 }, b.0.1) x b.2 (g.0.1, one, constant_sound g.0.1 b.0 fit' b.1))
     | inr g ↦ (
-        let b = bind_some (data_constant_at k s) (λ z. Some (record { repeat = None; constant = z.0 }, z.1)) x g.1 in
+        let b = bind_some _ _ x g.1 in
         carried (λ (y : DataValue × List ℕ). ReadsDataValue k y.0 s y.1) (record { repeat = None; constant = b.0.0 }, b.0.1) x b.2 (s, refl, constant_sound s b.0 fit b.1))
   ]
 
@@ -268,15 +268,12 @@ module _ (k : Context) where
 
   -- ---- DATA
 
-  pub data_statement_is : (m : List ℕ) (f : Form) → length m ≤ k.length → data_statement k m ≡ Some f → (xs : List DataGroup) × (f ≡ form.Data xs) × AreGroups k xs m
+  pub data_statement_is : (m : List ℕ) (f : Form) → length m ≤ k.length → data_statement k m ≡ Some f → (xs : List DataGroup) × (form.Data xs ≡ f) × AreGroups k xs m
   unfolding data_statement
   data_statement_is m f fit e =
-      let b = bind_some (group_at k m) (λ x. up_to_end (group_at k) x.0 x.1 >>= λ xs. Some (form.Data xs)) f e in
-      let c = bind_some (up_to_end (group_at k) b.0.0 b.0.1) (λ xs. Some (form.Data xs)) f b.2 in
-      let one = group_sound m b.0 fit b.1 in
-      let fit' : length b.0.1 ≤ k.length = omega (arith, group_takes b.0.0 m b.0.1 one) in
-      let two = to_end_sound (ReadsGroup k) group_takes k (group_at k) group_sound b.0.0 b.0.1 c.0 fit' c.1 in
-      (c.0, sym (same_Some (form.Data c.0) f c.2), subst (λ (xs : List DataGroup). AreGroups k xs m) (sym two.1) (b.0.1, one, more_are two.0 b.0.1 two.2))
+      let w = first_and_more_are (ReadsGroup k) group_takes k (group_at k) group_sound form.Data (group_at k m) f
+      (λ x g. omega (arith, group_takes x.0 m x.1 (group_sound m x fit g))) e in
+      (w.0.0 ∷ w.1, w.3, (w.0.1, group_sound m w.0 fit w.2, more_are w.1 w.0.1 w.4))
 
   pub data_statement_read : (xs : List DataGroup) (m : List ℕ) → AreGroups k xs m → data_statement k m ≡ Some (form.Data xs)
   unfolding data_statement

@@ -1,6 +1,6 @@
 -- What is read as a header, a specification statement or DATA is so by the grammar, and the other way
 -- round.
-use Rattle.std.proofs.Common.{◌≡◌, ℕ, ◌≤◌, false, List, [], ◌++◌, length, Option, Some, refl, sym, ap, subst, ◌∙◌}
+use Rattle.std.proofs.Common.{◌≡◌, ℕ, ◌≤◌, false, List, [], ◌++◌, length, Option, Some, refl, ap, subst, ◌∙◌}
 use Rattle.hep_source.specs.Units.{is_executable}
 use Rattle.hep_source.specs.declared.declaration.ValueType.{ValueType}
 use Rattle.hep_source.specs.declared.declaration.ValueType.TheVariants.{Integer, Logical}
@@ -22,26 +22,26 @@ use Rattle.hep_statement.proofs.DataStatements.{data_statement_is, data_statemen
 use Rattle.std.proofs.lemmas.Option.{none-some}
 
 module _ (k : Context) where
-  declared_is : (t : ValueType) (s m : List ℕ) (f : Form) → length m ≤ k.length → s ≡ type_spelling t ++ m → (x : List _) × (f ≡ forms.Declare t x) × AreListed (ReadsDeclarator k) x m [] → IsWorded k f s
-  declared_is t s m f fit is h = subst (λ (g : Form). IsWorded k g s) (sym h.1) (m, is, h.2)
+  declared_is : (t : ValueType) (s m : List ℕ) (f : Form) → length m ≤ k.length → s ≡ type_spelling t ++ m → (x : List _) × (forms.Declare t x ≡ f) × AreListed (ReadsDeclarator k) x m [] → IsWorded k f s
+  declared_is t s m f fit is h = subst (λ (g : Form). IsWorded k g s) h.1 (m, is, h.2)
 
   pub declaration_is : (w : Keyword) (s m : List ℕ) (f : Form) → length m ≤ k.length → s ≡ spelling w ++ m → declaration k w m ≡ Some f → IsWorded k f s
   declaration_is words.Program s m f fit is e =
-      let h = program_header_is k m f fit e in subst (λ (g : Form). IsWorded k g s) (sym h.1) (m, is, h.2)
+      let h = program_header_is k m f fit e in subst (λ (g : Form). IsWorded k g s) h.1 (m, is, h.2)
   declaration_is words.Subroutine s m f fit is e =
-      let h = subroutine_header_is k m f fit e in subst (λ (g : Form). IsWorded k g s) (sym h.3) (m, h.2, is, h.4, h.5)
+      let h = subroutine_header_is k m f fit e in subst (λ (g : Form). IsWorded k g s) h.3 (m, h.2, is, h.4, h.5)
   declaration_is words.Implicit s m f fit is e =
-      let h = implicit_is k m f fit e in subst (λ (g : Form). IsWorded k g s) (sym h.1) (m, is, h.2)
+      let h = implicit_is k m f fit e in subst (λ (g : Form). IsWorded k g s) h.1 (m, is, h.2)
   declaration_is words.Integer s m f fit is e = declared_is Integer s m f fit is (declare_is k Integer m f fit e)
   declaration_is words.Logical s m f fit is e = declared_is Logical s m f fit is (declare_is k Logical m f fit e)
   declaration_is words.Dimension s m f fit is e =
-      let h = dimension_statement_is k m f fit e in subst (λ (g : Form). IsWorded k g s) (sym h.1) (m, is, h.2)
+      let h = dimension_statement_is k m f fit e in subst (λ (g : Form). IsWorded k g s) h.1 (m, is, h.2)
   declaration_is words.Common s m f fit is e =
-      let h = common_is k m f fit e in subst (λ (g : Form). IsWorded k g s) (sym h.1) (m, is, h.2)
+      let h = common_is k m f fit e in subst (λ (g : Form). IsWorded k g s) h.1 (m, is, h.2)
   declaration_is words.Parameter s m f fit is e =
-      let h = parameter_is k m f fit e in subst (λ (g : Form). IsWorded k g s) (sym h.1) (m, is, h.2)
+      let h = parameter_is k m f fit e in subst (λ (g : Form). IsWorded k g s) h.1 (m, is, h.2)
   declaration_is words.Data s m f fit is e =
-      let h = data_statement_is k m f fit e in subst (λ (g : Form). IsWorded k g s) (sym h.1) (m, is, h.2)
+      let h = data_statement_is k m f fit e in subst (λ (g : Form). IsWorded k g s) h.1 (m, is, h.2)
   declaration_is _ s m f fit is e = absurd (none-some f e)
 
   -- a text that begins with this word is read as what follows it says

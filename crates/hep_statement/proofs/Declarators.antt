@@ -1,7 +1,7 @@
 -- What is read as declarators is so by the grammar, and the other way round: type statements and
 -- DIMENSION.
 use Rattle.std.proofs.Common.{◌≡◌, ◌≢◌, inl, inr, ℕ, ◌≤◌, true, false, List, [], ◌∷◌, length, Option, Some, None, refl, sym, ap, subst, arith}
-use Rattle.std.specs.Prelude.{nat_le, not, if◌then◌else◌}
+use Rattle.std.specs.Prelude.{nat_le, not}
 use Rattle.std.specs.List.{list_all}
 use Rattle.hep_source.specs.Tree.{Tree}
 use Rattle.hep_source.specs.declared.declaration.ValueType.{ValueType}
@@ -14,18 +14,18 @@ use Rattle.hep_source.specs.declared.statement.Form.TheVariants as form
 use Rattle.hep_expression.specs.declared.characters.Context.{Context}
 use Rattle.hep_expression.specs.Expression as levels
 use Rattle.hep_expression.specs.Expression.{Reads}
-use Rattle.hep_expression.specs.Reading.{◌>>=◌, all_read, after, occurrence_at}
+use Rattle.hep_expression.specs.Reading.{◌>>=◌, all_read, after}
 use Rattle.hep_expression.specs.ReadingExpression.{expression_at}
-use Rattle.hep_expression.proofs.Leaves.{bind_some, either_some, chosen, after_is, place_fits, is_place, fits}
+use Rattle.hep_expression.proofs.Leaves.{bind_some, either_some, chosen, after_is, place_fits, fits}
 use Rattle.hep_expression.proofs.Sound.{expression_at_sound}
 use Rattle.hep_expression.proofs.Complete.{place_read, AfterExpression, after_comma, after_parenthesis, after_colon, expression_read}
 use Rattle.hep_statement.specs.Lists.{AreAfter, AreListed}
-use Rattle.hep_statement.specs.ReadingLists.{listed, optional, whole}
+use Rattle.hep_statement.specs.ReadingLists.{listed, whole}
 use Rattle.hep_statement.specs.Declaration.{ReadsUpper, ReadsLower, ReadsDimension, is_open, OnlyLastOpen, ReadsDeclarator, ReadsArrayDeclarator}
 use Rattle.hep_statement.specs.ReadingDeclaration.{upper_bound_at, dimension_after, dimension_at, only_last_open, are_dimensions, declarator_at, declare, is_array, dimension}
-use Rattle.hep_statement.proofs.Lists.{IsSound, Shortens, IsComplete, optional_shortens, listed_sound, optional_sound, listed_complete, optional_complete}
-use Rattle.hep_statement.proofs.Targets.{begins_expression, expression_begins, AfterName, name_ends}
-use Rattle.hep_statement.proofs.Headers.{carried, all_read_is, whole_is}
+use Rattle.hep_statement.proofs.Lists.{all_is, whole_is, IsSound, Shortens, IsComplete, optional_shortens, listed_sound, listed_complete, optional_complete}
+use Rattle.hep_statement.proofs.Targets.{begins_expression, expression_begins, AfterName, name_ends, name_and_optional_are}
+use Rattle.hep_statement.proofs.Headers.{carried}
 use Rattle.std.proofs.lemmas.Bool.{not-true, and_parts, leb-true, le-leb}
 use Rattle.std.proofs.lemmas.Option.{none-some}
 
@@ -57,7 +57,7 @@ upper_sound : (k : Context) (s : List ℕ) (x : UpperBound × List ℕ) → leng
 upper_sound k s x fit e = elim (either_some (after 42 s) (λ r. Some (Open, r)) (expression_at k s >>= λ y. Some (Expression y.0, y.1)) x e) [
   | inl g ↦ carried (λ (y : UpperBound × List ℕ). ReadsUpper k y.0 s y.1) (Open, g.0) x g.2 (after_is 42 s g.0 g.1)
   | inr g ↦ (
-      let b = bind_some (expression_at k s) (λ y. Some (Expression y.0, y.1)) x g.1 in
+      let b = bind_some _ _ x g.1 in
       carried (λ (y : UpperBound × List ℕ). ReadsUpper k y.0 s y.1) (Expression b.0.0, b.0.1) x b.2 (expression_at_sound k s b.0.1 b.0.0 fit b.1))
 ]
 
@@ -70,7 +70,7 @@ unfolding dimension_at
 dimension_sound k s x fit e = elim (either_some (after 42 s) (λ r. Some (record { lower = None; upper = Open }, r)) (expression_at k s >>= λ y. dimension_after k y.0 y.1) x e) [
   | inl g ↦ carried (λ (y : Dimension × List ℕ). ReadsDimension k y.0 s y.1) (record { lower = None; upper = Open }, g.0) x g.2 (s, refl, after_is 42 s g.0 g.1)
   | inr g ↦ (
-      let b = bind_some (expression_at k s) (λ y. dimension_after k y.0 y.1) x g.1 in
+      let b = bind_some _ _ x g.1 in
       let one = expression_at_sound k s b.0.1 b.0.0 fit b.1 in
       elim (either_some (after 58 b.0.1) (λ m. upper_bound_at k m >>= λ y. Some (record { lower = Some b.0.0; upper = y.0 }, y.1)) (Some (record { lower = None; upper = Expression b.0.0 }, b.0.1)) x b.2) [
         | inl d ↦ (
@@ -121,16 +121,13 @@ declarator_shortens k x s r h = omega (arith, place_fits k x.occurrence s h.0 h.
 pub declarator_sound : (k : Context) → IsSound k (ReadsDeclarator k) (declarator_at k)
 unfolding declarator_at
 declarator_sound k s x fit e =
-    let b = bind_some (occurrence_at k s) (λ y. optional (dimension_at k) y.1 >>= λ z. if are_dimensions z.0 then Some (record { occurrence = y.0; dimensions = z.0 }, z.1) else None) x e in
-    let c = bind_some (optional (dimension_at k) b.0.1) (λ z. if are_dimensions z.0 then Some (record { occurrence = b.0.0; dimensions = z.0 }, z.1) else None) x b.2 in
-    let one = is_place k s b.0 fit b.1 in
-    let fit' : length b.0.1 ≤ k.length = omega (arith, place_fits k b.0.0 s b.0.1 one) in
-    let two = optional_sound (ReadsDimension k) (dimension_shortens k) k (dimension_at k) (dimension_sound k) b.0.1 c.0 fit' c.1 in
-    elim (chosen (are_dimensions c.0.0) (Some (record { occurrence = b.0.0; dimensions = c.0.0 }, c.0.1)) None (Some x) c.2) [
+    let h = name_and_optional_are (ReadsDimension k) (dimension_shortens k) k (dimension_at k) (dimension_sound k) _ s x fit e in
+    let ds = h.1.0 in
+    elim (chosen (are_dimensions ds) (Some (record { occurrence = h.0.0; dimensions = ds }, h.1.1)) None (Some x) h.4) [
       | inl d ↦ (
-          let a = and_parts (nat_le (length c.0.0) 7) (only_last_open c.0.0) d.0 in
-          carried (λ (y : Declarator × List ℕ). ReadsDeclarator k y.0 s y.1) (record { occurrence = b.0.0; dimensions = c.0.0 }, c.0.1) x d.1
-          (b.0.1, one, two, leb-true (length c.0.0) 7 a.0, last_open_is c.0.0 a.1))
+          let a = and_parts (nat_le (length ds) 7) (only_last_open ds) d.0 in
+          carried (λ (y : Declarator × List ℕ). ReadsDeclarator k y.0 s y.1) (record { occurrence = h.0.0; dimensions = ds }, h.1.1) x d.1
+          (h.0.1, h.2, h.3, leb-true (length ds) 7 a.0, last_open_is ds a.1))
       | inr d ↦ absurd (none-some x d.1)
     ]
 
@@ -143,7 +140,7 @@ declarator_complete k x s r h f =
 
 -- ---- type statements
 
-pub declare_is : (k : Context) (t : ValueType) (m : List ℕ) (f : Form) → length m ≤ k.length → declare k t m ≡ Some f → (xs : List Declarator) × (f ≡ form.Declare t xs) × AreListed (ReadsDeclarator k) xs m []
+pub declare_is : (k : Context) (t : ValueType) (m : List ℕ) (f : Form) → length m ≤ k.length → declare k t m ≡ Some f → (xs : List Declarator) × (form.Declare t xs ≡ f) × AreListed (ReadsDeclarator k) xs m []
 unfolding declare
 declare_is k t m f fit e =
     let w = whole_is (form.Declare t) (listed (declarator_at k) m) f e in
@@ -190,15 +187,15 @@ declarators_are k (x ∷ xs) s r h =
     let more = declarators_after k xs h.0 r h.2 in
     (rw (array_test x x.dimensions refl h.1.0, more.0) refl, (h.0, h.1.1, more.1))
 
-pub dimension_statement_is : (k : Context) (m : List ℕ) (f : Form) → length m ≤ k.length → dimension k m ≡ Some f → (xs : List Declarator) × (f ≡ form.Dimension xs) × AreListed (ReadsArrayDeclarator k) xs m []
+pub dimension_statement_is : (k : Context) (m : List ℕ) (f : Form) → length m ≤ k.length → dimension k m ≡ Some f → (xs : List Declarator) × (form.Dimension xs ≡ f) × AreListed (ReadsArrayDeclarator k) xs m []
 unfolding dimension
 dimension_statement_is k m f fit e =
-    let b = bind_some (listed (declarator_at k) m) (λ x. if list_all is_array x.0 then all_read (form.Dimension x.0) x.1 else None) f e in
+    let b = bind_some _ _ f e in
     let one = listed_sound (ReadsDeclarator k) (declarator_shortens k) k (declarator_at k) (declarator_sound k) m b.0 fit b.1 in
     elim (chosen (list_all is_array b.0.0) (all_read (form.Dimension b.0.0) b.0.1) None (Some f) b.2) [
       | inl d ↦ (
-          let a = all_read_is (form.Dimension b.0.0) f b.0.1 d.1 in
-          (b.0.0, sym a.1, subst (λ (r : List ℕ). AreListed (ReadsArrayDeclarator k) b.0.0 m r) a.0 (arrays_are k b.0.0 m b.0.1 d.0 one)))
+          let a = all_is (form.Dimension b.0.0) b.0.1 f d.1 in
+          (b.0.0, a.1, subst (λ (r : List ℕ). AreListed (ReadsArrayDeclarator k) b.0.0 m r) a.0 (arrays_are k b.0.0 m b.0.1 d.0 one)))
       | inr d ↦ absurd (none-some f d.1)
     ]
 

@@ -54,10 +54,19 @@ module _ {A : Type 0} (P : A → List ℕ → List ℕ → Type 0) where
         | inr g ↦ nothing_is s xs g.1
       ]
 
-      pub to_end_sound : (x : A) (s : List ℕ) (ys : List A) → length s ≤ k.length → up_to_end next x s ≡ Some ys → (xs : List A) × (ys ≡ x ∷ xs) × AreToEnd xs s
+      to_end_sound : (x : A) (s : List ℕ) (ys : List A) → length s ≤ k.length → up_to_end next x s ≡ Some ys → (xs : List A) × (ys ≡ x ∷ xs) × AreToEnd xs s
       to_end_sound x s ys fit e =
-          let b = bind_some (parts_to_end next (length s) s) (λ more. Some (x ∷ more)) ys e in
+          let b = bind_some _ _ ys e in
           (b.0, sym (same_Some (x ∷ b.0) ys b.2), parts_sound (length s) s b.0 fit b.1)
+
+      -- a first part, and the others
+      pub first_and_more_are : {B : Type 0} (make : List A → B) (first : Option (A × List ℕ)) (y : B) → ((x : A × List ℕ) → first ≡ Some x → length x.1 ≤ k.length) → (first >>= λ x. up_to_end next x.0 x.1 >>= λ xs. Some (make xs)) ≡ Some y
+          → (x : A × List ℕ) × (xs : List A) × (first ≡ Some x) × (make (x.0 ∷ xs) ≡ y) × AreToEnd xs x.1
+      first_and_more_are make first y fit e =
+          let b = bind_some _ _ y e in
+          let c = bind_some _ _ y b.2 in
+          let two = to_end_sound b.0.0 b.0.1 c.0 (fit b.0 b.1) c.1 in
+          (b.0, two.0, b.1, ap make (sym two.1) ∙ same_Some (make c.0) y c.2, two.2)
 
     -- ---- what is so is read
 

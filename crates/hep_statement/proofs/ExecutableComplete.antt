@@ -10,17 +10,17 @@ use Rattle.hep_source.specs.declared.statement.DoControl.{DoControl}
 use Rattle.hep_source.specs.declared.statement.SignLabels.{SignLabels}
 use Rattle.hep_source.specs.declared.statement.Form.TheVariants.{Assign, GoTo, ComputedGoTo, ArithmeticIf, IfThen, ElseIf, Do, Call, Create, Purge, Print, Stop}
 use Rattle.hep_expression.specs.declared.characters.Context.{Context}
-use Rattle.hep_expression.specs.Characters.{is_digit, is_letter, is_letter_or_digit, IsDigits, number_of_digits, ReadsOccurrence, ReadsPlainOccurrence}
+use Rattle.hep_expression.specs.Characters.{is_digit, is_letter, IsDigits, number_of_digits, ReadsOccurrence, ReadsPlainOccurrence}
 use Rattle.hep_expression.specs.Expression.{ReadsExpression, Reads, IsExpression, equivalence}
-use Rattle.hep_expression.specs.Reading.{begins, occurrence_at}
+use Rattle.hep_expression.specs.Reading.{occurrence_at}
 use Rattle.hep_expression.specs.ReadingExpression.{expression_at}
-use Rattle.hep_expression.proofs.Complete.{letter_is_no_digit, place_read, plain_place_read, AfterExpression, after_end, after_comma, after_parenthesis, expression_read, whole_expression_read}
+use Rattle.hep_expression.proofs.Complete.{letter_is_no_digit, place_read, AfterExpression, after_end, after_comma, after_parenthesis, expression_read, whole_expression_read}
 use Rattle.hep_statement.specs.Lists.{AreAfter, AreListed, AreEnclosed, AreArguments, IsOptionalComma}
 use Rattle.hep_statement.specs.Target.{ReadsTarget}
 use Rattle.hep_expression.specs.Label.{ReadsLabel}
 use Rattle.hep_statement.specs.Constant.{ReadsItem}
 use Rattle.hep_statement.specs.Executable.{IsAssignment, AreLimits, IsStopText}
-use Rattle.hep_statement.specs.ReadingLists.{listed, enclosed, arguments, after_optional_comma}
+use Rattle.hep_statement.specs.ReadingLists.{listed, enclosed, arguments, name_and_arguments, after_optional_comma}
 use Rattle.hep_statement.specs.ReadingTarget.{expression_part, target_at}
 use Rattle.hep_expression.specs.ReadingLabel.{few_digits_at, label_at, label_part}
 use Rattle.hep_statement.specs.ReadingConstant.{item_at}
@@ -29,6 +29,7 @@ use Rattle.hep_statement.proofs.Lists.{listed_complete, enclosed_complete, argum
 use Rattle.hep_statement.proofs.Targets.{begins_name, begins_expression, place_begins, expression_begins, expression_begins_not, place_begins_not, expression_part_shortens, expression_part_complete, AfterName, target_shortens, target_complete}
 use Rattle.hep_statement.proofs.Parts.{comma_read, AfterDigits, few_read, label_read, label_shortens, label_complete, constant_read}
 use Rattle.hep_statement.proofs.Items.{item_shortens, AfterItem, item_complete}
+use Rattle.hep_statement.proofs.Headers.{name_and_arguments_read}
 use Rattle.hep_statement.proofs.ExecutableSound.{AreSignLabels}
 
 -- a letter isn't a digit, nor is `$`
@@ -133,19 +134,16 @@ module _ (k : Context) where
   actuals_read : (ts : List Tree) (n : List ℕ) → AreArguments (ReadsExpression k) ts n → arguments (expression_part k) n ≡ Some ts
   actuals_read ts n h = arguments_complete (ReadsExpression k) (expression_part_shortens k) (expression_part k) AfterExpression (expression_part_complete k) after_comma after_parenthesis no_parenthesis ts n h
 
-  -- the name ends where the arguments begin
-  arguments_begin : (ts : List Tree) (n : List ℕ) → AreArguments (ReadsExpression k) ts n → begins is_letter_or_digit n ≡ false
-  arguments_begin [] n (inl e) = rw e refl
-  arguments_begin [] n (inr e) = rw e refl
-  arguments_begin (t ∷ ts) n h = rw h.1 refl
+  name_and_actuals_read : (p : Occurrence) (ts : List Tree) (m n : List ℕ) → ReadsPlainOccurrence k p m n → AreArguments (ReadsExpression k) ts n → name_and_arguments k (expression_part k) m ≡ Some (p, ts)
+  name_and_actuals_read p ts m n at h = name_and_arguments_read (ReadsExpression k) (expression_part_shortens k) k (expression_part k) p ts m n at h (actuals_read ts n h)
 
   pub call_read : (p : Occurrence) (ts : List Tree) (m n : List ℕ) → ReadsPlainOccurrence k p m n → AreArguments (ReadsExpression k) ts n → call k m ≡ Some (Call p ts)
   unfolding call
-  call_read p ts m n at h = rw (plain_place_read k p m n at (arguments_begin ts n h), actuals_read ts n h) refl
+  call_read p ts m n at h = rw (name_and_actuals_read p ts m n at h) refl
 
   pub create_read : (p : Occurrence) (ts : List Tree) (m n : List ℕ) → ReadsPlainOccurrence k p m n → AreArguments (ReadsExpression k) ts n → create k m ≡ Some (Create p ts)
   unfolding create
-  create_read p ts m n at h = rw (plain_place_read k p m n at (arguments_begin ts n h), actuals_read ts n h) refl
+  create_read p ts m n at h = rw (name_and_actuals_read p ts m n at h) refl
 
   pub purge_read : (xs : List Target) (m : List ℕ) → AreListed (ReadsTarget k) xs m [] → purge k m ≡ Some (Purge xs)
   unfolding purge

@@ -9,9 +9,9 @@ use Rattle.hep_source.specs.declared.statement.Form.TheVariants.{Assign, GoTo, C
 use Rattle.hep_expression.specs.declared.characters.Context.{Context}
 use Rattle.hep_expression.specs.Characters.{ReadsOccurrence, IsDigits}
 use Rattle.hep_expression.specs.Expression.{ReadsExpression, Reads, equivalence}
-use Rattle.hep_expression.specs.Reading.{◌>>=◌, if_some, all_read, after, after_text, occurrence_at, plain_occurrence_at}
-use Rattle.hep_expression.specs.ReadingExpression.{expression_at, whole_expression}
-use Rattle.hep_expression.proofs.Leaves.{bind_some, either_some, after_is, text_is, is_place, is_plain_place, place_fits, fits}
+use Rattle.hep_expression.specs.Reading.{◌>>=◌, all_read, after}
+use Rattle.hep_expression.specs.ReadingExpression.{whole_expression}
+use Rattle.hep_expression.proofs.Leaves.{bind_some, either_some, after_is, text_is, is_place, place_fits, fits}
 use Rattle.hep_expression.proofs.Sound.{expression_at_sound, is_expression}
 use Rattle.hep_statement.specs.Lists.{AreAfter, AreListed}
 use Rattle.hep_statement.specs.Target.{ReadsTarget}
@@ -19,16 +19,17 @@ use Rattle.hep_expression.specs.Label.{ReadsLabel}
 use Rattle.hep_statement.specs.Constant.{quoted, ReadsItem}
 use Rattle.hep_statement.specs.Executable.{AreLimits, IsStopText}
 use Rattle.hep_statement.specs.Statement.{IsWorded, IsOfAssignment, IsOfBlockIf, IsOfSignIf}
-use Rattle.hep_statement.specs.ReadingLists.{listed, enclosed, arguments, after_optional_comma}
+use Rattle.hep_statement.specs.ReadingLists.{listed, after_optional_comma}
 use Rattle.hep_statement.specs.ReadingTarget.{expression_part, target_at}
 use Rattle.hep_expression.specs.ReadingLabel.{few_digits_at, label_at, label_part}
 use Rattle.hep_statement.specs.ReadingConstant.{constant_after, item_at}
 use Rattle.hep_statement.specs.ReadingExecutable.{print, assignment, computed_go_to, go_to, sign_labels, condition_at, if_condition_at, arithmetic_if, before_then, if_then, else_if, limits, do_loop, call, create, purge, digits_or_characters, stop}
-use Rattle.hep_statement.proofs.Lists.{enclosed_shortens, listed_sound, enclosed_sound, arguments_sound}
+use Rattle.hep_statement.proofs.Lists.{all_is, whole_is, enclosed_shortens, listed_sound, enclosed_sound}
 use Rattle.hep_statement.proofs.Targets.{expression_part_shortens, expression_part_sound, target_shortens, target_sound}
 use Rattle.hep_statement.proofs.Items.{item_shortens, item_sound}
-use Rattle.hep_statement.proofs.Parts.{all_is, whole_is, comma_is, few_are, label_is, label_shortens, label_sound, constant_is}
+use Rattle.hep_statement.proofs.Parts.{comma_is, few_are, label_is, label_shortens, label_sound, constant_is}
 use Rattle.hep_statement.proofs.Ends.{comma_shortens}
+use Rattle.hep_statement.proofs.Headers.{name_and_arguments_are}
 use Rattle.std.proofs.lemmas.Option.{same_Some}
 
 module _ (k : Context) where
@@ -70,9 +71,9 @@ module _ (k : Context) where
   computed_is : (s m : List ℕ) (f : Form) → length m ≤ k.length → s ≡ codes "GOTO" ++ m → computed_go_to k m ≡ Some f → IsWorded k f s
   unfolding computed_go_to
   computed_is s m f fit is e =
-      let b = bind_some (enclosed (label_part k) m) (λ x. whole_expression k (after_optional_comma x.1) >>= λ t. Some (ComputedGoTo x.0 t)) f e in
+      let b = bind_some _ _ f e in
       let q = after_optional_comma b.0.1 in
-      let c = bind_some (whole_expression k q) (λ t. Some (ComputedGoTo b.0.0 t)) f b.2 in
+      let c = bind_some _ _ f b.2 in
       let labels = enclosed_sound ReadsLabel label_shortens k (label_part k) (label_sound k) m b.0 fit b.1 in
       let fit' : length q ≤ k.length = omega (arith, enclosed_shortens ReadsLabel label_shortens b.0.0 m b.0.1 labels, comma_shortens b.0.1 q (comma_is b.0.1)) in
       subst (λ (g : Form). IsWorded k g s) (same_Some (ComputedGoTo b.0.0 c.0) f c.2) (m, b.0.1, q, is, labels, comma_is b.0.1, is_expression k q c.0 fit' c.1)
@@ -94,13 +95,13 @@ module _ (k : Context) where
 
   sign_labels_are : (s : List ℕ) (x : SignLabels) → sign_labels s ≡ Some x → AreSignLabels x s
   sign_labels_are s x e =
-      let b = bind_some (label_at s) (λ u. after 44 u.1 >>= λ p. label_at p >>= λ v. after 44 v.1 >>= λ q. label_at q >>= λ w. all_read (record { negative = u.0; zero = v.0; positive = w.0 }) w.1) x e in
+      let b = bind_some _ _ x e in
       let u = b.0 in
-      let c = bind_some (after 44 u.1) (λ p. label_at p >>= λ v. after 44 v.1 >>= λ q. label_at q >>= λ w. all_read (record { negative = u.0; zero = v.0; positive = w.0 }) w.1) x b.2 in
-      let d = bind_some (label_at c.0) (λ v. after 44 v.1 >>= λ q. label_at q >>= λ w. all_read (record { negative = u.0; zero = v.0; positive = w.0 }) w.1) x c.2 in
+      let c = bind_some _ _ x b.2 in
+      let d = bind_some _ _ x c.2 in
       let v = d.0 in
-      let g = bind_some (after 44 v.1) (λ q. label_at q >>= λ w. all_read (record { negative = u.0; zero = v.0; positive = w.0 }) w.1) x d.2 in
-      let h = bind_some (label_at g.0) (λ w. all_read (record { negative = u.0; zero = v.0; positive = w.0 }) w.1) x g.2 in
+      let g = bind_some _ _ x d.2 in
+      let h = bind_some _ _ x g.2 in
       let w = h.0 in
       let a = all_is (record { negative = u.0; zero = v.0; positive = w.0 }) w.1 x h.2 in
       let one = subst (λ (r : List ℕ). ReadsLabel u.0 s r) (after_is 44 u.1 c.0 c.1) (label_is s u b.1) in
@@ -111,30 +112,30 @@ module _ (k : Context) where
   condition_is : (s : List ℕ) (x : Tree × List ℕ) → length s ≤ k.length → condition_at k s ≡ Some x → Reads k x.0 equivalence s (41 ∷ x.1)
   unfolding condition_at
   condition_is s x fit e =
-      let b = bind_some (expression_at k s) (λ y. after 41 y.1 >>= λ r. Some (y.0, r)) x e in
-      let c = bind_some (after 41 b.0.1) (λ r. Some (b.0.0, r)) x b.2 in
+      let b = bind_some _ _ x e in
+      let c = bind_some _ _ x b.2 in
       let one = expression_at_sound k s b.0.1 b.0.0 fit b.1 in
       let two = subst (λ (r : List ℕ). Reads k b.0.0 equivalence s r) (after_is 41 b.0.1 c.0 c.1) one in
       subst (λ (y : Tree × List ℕ). Reads k y.0 equivalence s (41 ∷ y.1)) (same_Some (b.0.0, c.0) x c.2) two
 
   pub if_condition_is : (s : List ℕ) (x : Tree × List ℕ) → length s ≤ k.length → if_condition_at k s ≡ Some x → (m : List ℕ) × (s ≡ codes "IF(" ++ m) × Reads k x.0 equivalence m (41 ∷ x.1)
   if_condition_is s x fit e =
-      let b = bind_some (after_text (codes "IF(") s) (condition_at k) x e in
+      let b = bind_some _ _ x e in
       let is = text_is (codes "IF(") s b.0 b.1 in
       (b.0, is, condition_is b.0 x (omega (arith, ap length is)) b.2)
 
   pub arithmetic_if_is : (s : List ℕ) (f : Form) → length s ≤ k.length → arithmetic_if k s ≡ Some f → IsOfSignIf k f s
   unfolding arithmetic_if
   arithmetic_if_is s f fit e =
-      let b = bind_some (if_condition_at k s) (λ x. sign_labels x.1 >>= λ y. Some (ArithmeticIf x.0 y)) f e in
-      let c = bind_some (sign_labels b.0.1) (λ y. Some (ArithmeticIf b.0.0 y)) f b.2 in
+      let b = bind_some _ _ f e in
+      let c = bind_some _ _ f b.2 in
       let i = if_condition_is s b.0 fit b.1 in
       let l = sign_labels_are b.0.1 c.0 c.1 in
       subst (λ (g : Form). IsOfSignIf k g s) (same_Some (ArithmeticIf b.0.0 c.0) f c.2) (i.0, b.0.1, l.0, l.1, i.1, i.2, l.2, l.3, l.4)
 
   then_is : (x : Tree × List ℕ) (t : Tree) → before_then x ≡ Some t → (x.1 ≡ codes "THEN") × (x.0 ≡ t)
   then_is x t e =
-      let b = bind_some (after_text (codes "THEN") x.1) (λ r. all_read x.0 r) t e in
+      let b = bind_some _ _ t e in
       let a = all_is x.0 b.0 t b.2 in
       (text_is (codes "THEN") x.1 b.0 b.1 ∙ ap (λ (r : List ℕ). codes "THEN" ++ r) a.0, a.1)
 
@@ -147,16 +148,16 @@ module _ (k : Context) where
   pub if_then_is : (s : List ℕ) (f : Form) → length s ≤ k.length → if_then k s ≡ Some f → IsOfBlockIf k f s
   unfolding if_then
   if_then_is s f fit e =
-      let b = bind_some (if_condition_at k s) (λ x. before_then x >>= λ t. Some (IfThen t)) f e in
-      let c = bind_some (before_then b.0) (λ t. Some (IfThen t)) f b.2 in
+      let b = bind_some _ _ f e in
       let i = if_condition_is s b.0 fit b.1 in
+      let c = bind_some _ _ f b.2 in
       subst (λ (g : Form). IsOfBlockIf k g s) (same_Some (IfThen c.0) f c.2) (i.0, i.1, with_then b.0 c.0 i.0 c.1 i.2)
 
   pub else_if_is : (s m : List ℕ) (f : Form) → length m ≤ k.length → s ≡ codes "ELSEIF(" ++ m → else_if k m ≡ Some f → IsWorded k f s
   unfolding else_if
   else_if_is s m f fit is e =
-      let b = bind_some (condition_at k m) (λ x. before_then x >>= λ t. Some (ElseIf t)) f e in
-      let c = bind_some (before_then b.0) (λ t. Some (ElseIf t)) f b.2 in
+      let b = bind_some _ _ f e in
+      let c = bind_some _ _ f b.2 in
       subst (λ (g : Form). IsWorded k g s) (same_Some (ElseIf c.0) f c.2) (m, is, with_then b.0 c.0 m c.1 (condition_is m b.0 fit b.1))
 
   -- ---- DO
@@ -164,7 +165,7 @@ module _ (k : Context) where
   limits_are : (s : List ℕ) (y : Tree × Option Tree) → length s ≤ k.length → limits k s ≡ Some y → AreLimits k y.0 y.1 s
   unfolding limits
   limits_are s y fit e =
-      let b = bind_some (expression_at k s) (λ x. if_some (after 44 x.1) (λ m. whole_expression k m >>= λ u. Some (x.0, Some u)) (all_read (x.0, None) x.1)) y e in
+      let b = bind_some _ _ y e in
       let one = expression_at_sound k s b.0.1 b.0.0 fit b.1 in
       elim (either_some (after 44 b.0.1) (λ m. whole_expression k m >>= λ u. Some (b.0.0, Some u)) (all_read (b.0.0, None) b.0.1) y b.2) [
         | inl g ↦ (
@@ -182,18 +183,18 @@ module _ (k : Context) where
   pub do_is : (s m : List ℕ) (f : Form) → length m ≤ k.length → s ≡ codes "DO" ++ m → do_loop k m ≡ Some f → IsWorded k f s
   unfolding do_loop
   do_is s m f fit is e =
-      let b = bind_some (label_at m) (λ x. occurrence_at k (after_optional_comma x.1) >>= λ v. after 61 v.1 >>= λ q. expression_at k q >>= λ a. after 44 a.1 >>= λ l. limits k l >>= λ y. Some (Do (record { terminal = x.0; variable = v.0; initial = a.0; limit = y.0; increment = y.1 }))) f e in
+      let b = bind_some _ _ f e in
       let x = b.0 in
       let p = after_optional_comma x.1 in
-      let c = bind_some (occurrence_at k p) (λ v. after 61 v.1 >>= λ q. expression_at k q >>= λ a. after 44 a.1 >>= λ l. limits k l >>= λ y. Some (Do (record { terminal = x.0; variable = v.0; initial = a.0; limit = y.0; increment = y.1 }))) f b.2 in
+      let c = bind_some _ _ f b.2 in
       let v = c.0 in
-      let d = bind_some (after 61 v.1) (λ q. expression_at k q >>= λ a. after 44 a.1 >>= λ l. limits k l >>= λ y. Some (Do (record { terminal = x.0; variable = v.0; initial = a.0; limit = y.0; increment = y.1 }))) f c.2 in
+      let d = bind_some _ _ f c.2 in
       let q = d.0 in
-      let g = bind_some (expression_at k q) (λ a. after 44 a.1 >>= λ l. limits k l >>= λ y. Some (Do (record { terminal = x.0; variable = v.0; initial = a.0; limit = y.0; increment = y.1 }))) f d.2 in
+      let g = bind_some _ _ f d.2 in
       let a = g.0 in
-      let h = bind_some (after 44 a.1) (λ l. limits k l >>= λ y. Some (Do (record { terminal = x.0; variable = v.0; initial = a.0; limit = y.0; increment = y.1 }))) f g.2 in
+      let h = bind_some _ _ f g.2 in
       let l = h.0 in
-      let i = bind_some (limits k l) (λ y. Some (Do (record { terminal = x.0; variable = v.0; initial = a.0; limit = y.0; increment = y.1 }))) f h.2 in
+      let i = bind_some _ _ f h.2 in
       let label = label_is m x b.1 in
       let fit_p : length p ≤ k.length = omega (arith, label_shortens x.0 m x.1 label, comma_shortens x.1 p (comma_is x.1)) in
       let variable = is_place k p v fit_p c.1 in
@@ -212,22 +213,14 @@ module _ (k : Context) where
   pub call_is : (s m : List ℕ) (f : Form) → length m ≤ k.length → s ≡ codes "CALL" ++ m → call k m ≡ Some f → IsWorded k f s
   unfolding call
   call_is s m f fit is e =
-      let b = bind_some (plain_occurrence_at k m) (λ x. arguments (expression_part k) x.1 >>= λ ts. Some (Call x.0 ts)) f e in
-      let c = bind_some (arguments (expression_part k) b.0.1) (λ ts. Some (Call b.0.0 ts)) f b.2 in
-      let at = is_plain_place k m b.0 fit b.1 in
-      let fit' : length b.0.1 ≤ k.length = omega (arith, place_fits k b.0.0 m b.0.1 at.1) in
-      let actuals = arguments_sound (ReadsExpression k) (expression_part_shortens k) k (expression_part k) (expression_part_sound k) b.0.1 c.0 fit' c.1 in
-      subst (λ (g : Form). IsWorded k g s) (same_Some (Call b.0.0 c.0) f c.2) (m, b.0.1, is, at, actuals)
+      let w = name_and_arguments_are (ReadsExpression k) (expression_part_shortens k) k (expression_part k) (expression_part_sound k) Call m f fit e in
+      subst (λ (g : Form). IsWorded k g s) w.3 (m, w.2, is, w.4, w.5)
 
   pub create_is : (s m : List ℕ) (f : Form) → length m ≤ k.length → s ≡ codes "CREATE" ++ m → create k m ≡ Some f → IsWorded k f s
   unfolding create
   create_is s m f fit is e =
-      let b = bind_some (plain_occurrence_at k m) (λ x. arguments (expression_part k) x.1 >>= λ ts. Some (Create x.0 ts)) f e in
-      let c = bind_some (arguments (expression_part k) b.0.1) (λ ts. Some (Create b.0.0 ts)) f b.2 in
-      let at = is_plain_place k m b.0 fit b.1 in
-      let fit' : length b.0.1 ≤ k.length = omega (arith, place_fits k b.0.0 m b.0.1 at.1) in
-      let actuals = arguments_sound (ReadsExpression k) (expression_part_shortens k) k (expression_part k) (expression_part_sound k) b.0.1 c.0 fit' c.1 in
-      subst (λ (g : Form). IsWorded k g s) (same_Some (Create b.0.0 c.0) f c.2) (m, b.0.1, is, at, actuals)
+      let w = name_and_arguments_are (ReadsExpression k) (expression_part_shortens k) k (expression_part k) (expression_part_sound k) Create m f fit e in
+      subst (λ (g : Form). IsWorded k g s) w.3 (m, w.2, is, w.4, w.5)
 
   pub purge_is : (s m : List ℕ) (f : Form) → length m ≤ k.length → s ≡ codes "PURGE" ++ m → purge k m ≡ Some f → IsWorded k f s
   unfolding purge
@@ -253,8 +246,8 @@ module _ (k : Context) where
         let is : m ≡ d.0 = d.3 ∙ ap (λ (r : List ℕ). d.0 ++ r) a.0 ∙ append-nil d.0 in
         (a.1, inr (inl (short_digits d.0 m d.1 d.2 is))))
     | inr g ↦ (
-        let b = bind_some (after 39 m) (λ q. constant_after q >>= λ x. all_read Stop x.1) f g.1 in
-        let c = bind_some (constant_after b.0) (λ x. all_read Stop x.1) f b.2 in
+        let b = bind_some _ _ f g.1 in
+        let c = bind_some _ _ f b.2 in
         let a = all_is Stop c.0.1 f c.2 in
         let t = constant_is b.0 c.0 c.1 in
         let is : m ≡ 39 ∷ (quoted c.0.0 ++ 39 ∷ []) = after_is 39 m b.0 b.1 ∙ ap (λ (l : List ℕ). 39 ∷ l) t.1 ∙ ap (λ (r : List ℕ). 39 ∷ (quoted c.0.0 ++ 39 ∷ r)) a.0 in

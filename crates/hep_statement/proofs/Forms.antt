@@ -19,14 +19,14 @@ use Rattle.hep_statement.specs.declared.keyword.Keyword.{Keyword}
 use Rattle.hep_statement.specs.declared.keyword.Keyword.TheVariants as words
 use Rattle.hep_statement.specs.Statement.{after_closing, rule_of, IsWorded, IsOfAssignment, IsOfBlockIf, IsOfSignIf, IsFormBy, IsLogicalIf, HasForm, context, IsForm}
 use Rattle.hep_statement.specs.ReadingRule.{after_if}
-use Rattle.hep_statement.specs.ReadingKeyword.{spelling, keywords, keyword_at}
+use Rattle.hep_statement.specs.ReadingKeyword.{spelling, keywords}
 use Rattle.hep_statement.specs.ReadingExecutable.{if_condition_at, assignment, if_then, arithmetic_if}
 use Rattle.hep_statement.specs.ReadingStatement.{after_word, worded, form_by, closed_there, held_by, logical_if, after_condition, conditions, may_stand, after_conditions, form}
-use Rattle.hep_statement.proofs.Parts.{all_is}
 use Rattle.hep_statement.proofs.ExecutableSound.{print_is, assignment_is, go_to_is, if_condition_is, arithmetic_if_is, if_then_is, else_if_is, do_is, call_is, create_is, purge_is, stop_is}
 use Rattle.hep_statement.proofs.ExecutableComplete.{print_read, assignment_read, go_to_read, computed_go_to_read, if_condition_read, arithmetic_if_read, if_then_read, else_if_read, do_read, call_read, create_read, purge_read, stop_read}
 use Rattle.hep_statement.proofs.Declarations.{declaration_is, declarations_read}
 use Rattle.std.proofs.lemmas.Option.{same_Some, none-some}
+use Rattle.hep_statement.proofs.Lists.{all_is}
 
 module _ (k : Context) where
   -- ---- forms that begin with their words
@@ -67,7 +67,7 @@ module _ (k : Context) where
   worded_is : (s : List ℕ) (f : Form) → length s ≤ k.length → worded k s ≡ Some f → IsWorded k f s
   unfolding worded
   worded_is s f fit e =
-      let b = bind_some (keyword_at s) (λ x. after_word k x.0 x.1) f e in
+      let b = bind_some _ _ f e in
       let is = (one_is spelling (λ (w : Keyword). Unit {0}) keywords (any_word keywords) s b.0 b.1).0 in
       let fit' : length b.0.1 ≤ k.length = omega (arith, shorter (spelling b.0.0) b.0.1 s is) in
       after_word_is b.0.0 s b.0.1 f fit' is b.2
@@ -100,7 +100,7 @@ module _ (k : Context) where
     where
       held : rule_of s ≡ LogicalIf → held_by k LogicalIf s ≡ Some x → IsLogicalIf k x.0 s x.1
       held is_rule e =
-          let b = bind_some (if_condition_at k s) (closed_there (after_if s)) x e in
+          let b = bind_some _ _ x e in
           let i = if_condition_is k s b.0 fit b.1 in
           let c = closed_is (after_if s) b.0 x b.2 in
           let closes : after_closing 0 false i.0 ≡ Some x.1 = sym (ap after_if i.1) ∙ c.0 in

@@ -1,6 +1,6 @@
 -- What is read as a header, as IMPLICIT or as PARAMETER is so by the grammar, and the other way
 -- round.
-use Rattle.std.proofs.Common.{◌≡◌, inl, inr, ℕ, ◌≤◌, true, false, List, [], ◌∷◌, ◌++◌, length, Option, Some, None, refl, sym, ap, subst, ◌∙◌, arith}
+use Rattle.std.proofs.Common.{◌≡◌, inl, inr, ℕ, ◌≤◌, true, false, List, [], ◌∷◌, ◌++◌, length, Some, None, refl, ap, subst, ◌∙◌, arith}
 use Rattle.std.specs.Prelude.{nat_le, if◌then◌else◌}
 use Rattle.hep_source.specs.declared.name.Occurrence.{Occurrence}
 use Rattle.hep_source.specs.declared.declaration.ValueType.{ValueType}
@@ -13,32 +13,19 @@ use Rattle.hep_source.specs.declared.statement.Form.TheVariants as form
 use Rattle.hep_expression.specs.declared.characters.Context.{Context}
 use Rattle.hep_expression.specs.Characters.{is_letter, is_letter_or_digit, ReadsOccurrence, ReadsPlainOccurrence}
 use Rattle.hep_expression.specs.Expression as levels
-use Rattle.hep_expression.specs.Reading.{◌>>=◌, if_some, all_read, begins, after, plain_occurrence_at}
+use Rattle.hep_expression.specs.Reading.{Reader, ◌>>=◌, begins, after, plain_occurrence_at}
 use Rattle.hep_expression.specs.ReadingExpression.{expression_at}
 use Rattle.hep_expression.proofs.Leaves.{bind_some, either_some, chosen, after_is, one_is, shorter, place_fits, is_place, is_plain_place, fits}
 use Rattle.hep_expression.proofs.Sound.{expression_at_sound}
 use Rattle.hep_expression.proofs.Complete.{place_read, plain_place_read, AfterExpression, after_comma, after_parenthesis, expression_read}
 use Rattle.hep_statement.specs.Lists.{AreListed, AreEnclosed, AreArguments}
-use Rattle.hep_statement.specs.ReadingLists.{listed, enclosed, arguments, whole}
+use Rattle.hep_statement.specs.ReadingLists.{listed, enclosed, arguments, name_and_arguments, whole}
 use Rattle.hep_statement.specs.Declaration.{type_spelling, ReadsLetters, ReadsImplicit, ReadsNamedConstant}
 use Rattle.hep_statement.specs.ReadingDeclaration.{program_header, dummy_at, subroutine_header, letter_at, letter_range_at, letter_range_part, value_type_at, implicit_group_at, implicit, named_constant_at, parameter}
-use Rattle.hep_statement.proofs.Lists.{IsSound, Shortens, IsComplete, enclosed_shortens, listed_sound, enclosed_sound, arguments_sound, listed_complete, enclosed_complete, arguments_complete}
+use Rattle.hep_statement.proofs.Lists.{whole_is, IsSound, Shortens, IsComplete, enclosed_shortens, listed_sound, enclosed_sound, arguments_sound, listed_complete, enclosed_complete, arguments_complete}
 use Rattle.hep_statement.proofs.Targets.{begins_name, place_begins}
 use Rattle.std.proofs.lemmas.Option.{same_Some, none-some}
 use Rattle.std.proofs.lemmas.Bool.{leb-true, le-leb}
-
--- ---- whole texts
-
-pub all_read_is : {A : Type 0} (x y : A) (r : List ℕ) → all_read x r ≡ Some y → (r ≡ []) × (x ≡ y)
-all_read_is x y [] e = (refl, same_Some x y e)
-all_read_is x y (c ∷ r) e = absurd (none-some y e)
-
-pub whole_is : {A B : Type 0} (f : A → B) (read : Option (A × List ℕ)) (y : B) → whole f read ≡ Some y → (x : A) × (read ≡ Some (x, [])) × (y ≡ f x)
-whole_is {A} f read y e =
-    let b = bind_some read (λ x. all_read (f x.0) x.1) y e in
-    let a = all_read_is (f b.0.0) y b.0.1 b.2 in
-    let is : read ≡ Some (b.0.0, []) = b.1 ∙ ap (λ (r : List ℕ). Some (b.0.0, r)) a.0 in
-    (b.0.0, is, sym a.1)
 
 -- what holds of what a reader made holds of what it answered
 pub carried : {A : Type 0} (P : A → Type 0) (a x : A) → Some a ≡ Some x → P a → P x
@@ -46,7 +33,7 @@ carried P a x e h = subst P (same_Some a x e) h
 
 -- ---- the header of a main program
 
-pub program_header_is : (k : Context) (m : List ℕ) (f : Form) → length m ≤ k.length → program_header k m ≡ Some f → (p : Occurrence) × (f ≡ form.Program p) × ReadsPlainOccurrence k p m []
+pub program_header_is : (k : Context) (m : List ℕ) (f : Form) → length m ≤ k.length → program_header k m ≡ Some f → (p : Occurrence) × (form.Program p ≡ f) × ReadsPlainOccurrence k p m []
 program_header_is k m f fit e =
     let w = whole_is form.Program (plain_occurrence_at k m) f e in
     (w.0, w.2, is_plain_place k m (w.0, []) fit w.1)
@@ -78,21 +65,31 @@ arguments_begin P [] s (inl e) = rw e refl
 arguments_begin P [] s (inr e) = rw e refl
 arguments_begin P (x ∷ xs) s h = rw h.1 refl
 
-pub subroutine_header_is : (k : Context) (m : List ℕ) (f : Form) → length m ≤ k.length → subroutine_header k m ≡ Some f → (p : Occurrence) × (ds : List Occurrence) × (n : List ℕ) × (f ≡ form.Subroutine p ds) × ReadsPlainOccurrence k p m n × AreArguments (ReadsOccurrence k) ds n
+-- a name and arguments after it
+module _ {A : Type 0} (P : A → List ℕ → List ℕ → Type 0) (short : Shortens P) (k : Context) (next : Reader A) where
+  pub name_and_arguments_are : IsSound k P next → {B : Type 0} (make : Occurrence → List A → B) (m : List ℕ) (y : B) → length m ≤ k.length → (name_and_arguments k next m >>= λ x. Some (make x.0 x.1)) ≡ Some y
+      → (p : Occurrence) × (xs : List A) × (n : List ℕ) × (make p xs ≡ y) × ReadsPlainOccurrence k p m n × AreArguments P xs n
+  name_and_arguments_are sound make m y fit e =
+      let a = bind_some (name_and_arguments k next m) (λ x. Some (make x.0 x.1)) y e in
+      let b = bind_some (plain_occurrence_at k m) (λ x. arguments next x.1 >>= λ xs. Some (x.0, xs)) a.0 a.1 in
+      let c = bind_some (arguments next b.0.1) (λ xs. Some (b.0.0, xs)) a.0 b.2 in
+      let one = is_plain_place k m b.0 fit b.1 in
+      let fit' : length b.0.1 ≤ k.length = omega (arith, place_fits k b.0.0 m b.0.1 one.1) in
+      let is : make b.0.0 c.0 ≡ y = ap (λ (x : Occurrence × List A). make x.0 x.1) (same_Some (b.0.0, c.0) a.0 c.2) ∙ same_Some (make a.0.0 a.0.1) y a.2 in
+      (b.0.0, c.0, b.0.1, is, one, arguments_sound P short k next sound b.0.1 c.0 fit' c.1)
+
+  pub name_and_arguments_read : (p : Occurrence) (xs : List A) (m n : List ℕ) → ReadsPlainOccurrence k p m n → AreArguments P xs n → arguments next n ≡ Some xs → name_and_arguments k next m ≡ Some (p, xs)
+  name_and_arguments_read p xs m n at h read = rw (plain_place_read k p m n at (arguments_begin P xs n h), read) refl
+
+pub subroutine_header_is : (k : Context) (m : List ℕ) (f : Form) → length m ≤ k.length → subroutine_header k m ≡ Some f → (p : Occurrence) × (ds : List Occurrence) × (n : List ℕ) × (form.Subroutine p ds ≡ f) × ReadsPlainOccurrence k p m n × AreArguments (ReadsOccurrence k) ds n
 unfolding subroutine_header
-subroutine_header_is k m f fit e =
-    let b = bind_some (plain_occurrence_at k m) (λ x. arguments (dummy_at k) x.1 >>= λ ds. Some (form.Subroutine x.0 ds)) f e in
-    let c = bind_some (arguments (dummy_at k) b.0.1) (λ ds. Some (form.Subroutine b.0.0 ds)) f b.2 in
-    let one = is_plain_place k m b.0 fit b.1 in
-    let fit' : length b.0.1 ≤ k.length = omega (arith, place_fits k b.0.0 m b.0.1 one.1) in
-    (b.0.0, c.0, b.0.1, sym (same_Some (form.Subroutine b.0.0 c.0) f c.2), one, arguments_sound (ReadsOccurrence k) (dummy_shortens k) k (dummy_at k) (dummy_sound k) b.0.1 c.0 fit' c.1)
+subroutine_header_is k = name_and_arguments_are (ReadsOccurrence k) (dummy_shortens k) k (dummy_at k) (dummy_sound k) form.Subroutine
 
 pub subroutine_header_read : (k : Context) (p : Occurrence) (ds : List Occurrence) (m n : List ℕ) → ReadsPlainOccurrence k p m n → AreArguments (ReadsOccurrence k) ds n → subroutine_header k m ≡ Some (form.Subroutine p ds)
 unfolding subroutine_header
-subroutine_header_read k p ds m n h g =
-    let one = plain_place_read k p m n h (arguments_begin (ReadsOccurrence k) ds n g) in
-    let two = arguments_complete (ReadsOccurrence k) (dummy_shortens k) (dummy_at k) AfterWord (dummy_complete k) (λ m. refl) (λ m. refl) (dummy_opens k) ds n g in
-    rw (one, two) refl
+subroutine_header_read k p ds m n at h =
+    let all = arguments_complete (ReadsOccurrence k) (dummy_shortens k) (dummy_at k) AfterWord (dummy_complete k) (λ m. refl) (λ m. refl) (dummy_opens k) ds n h in
+    rw (name_and_arguments_read (ReadsOccurrence k) (dummy_shortens k) k (dummy_at k) p ds m n at h all) refl
 
 -- ---- IMPLICIT
 
@@ -108,11 +105,11 @@ letters_shorten x s r h = elim h.3 [ inl g ↦ omega (arith, ap length g.1) | in
 
 letters_sound : (k : Context) → IsSound k ReadsLetters (letter_range_part k)
 letters_sound k s x fit e =
-    let b = bind_some (letter_at s) (λ y. if_some (after 45 y.1) (λ m. letter_at m >>= λ z. if nat_le y.0 z.0 then Some (record { first = y.0; last = z.0 }, z.1) else None) (Some (record { first = y.0; last = y.0 }, y.1))) x e in
+    let b = bind_some _ _ x e in
     let l = letter_is s b.0 b.1 in
     elim (either_some (after 45 b.0.1) (λ m. letter_at m >>= λ z. if nat_le b.0.0 z.0 then Some (record { first = b.0.0; last = z.0 }, z.1) else None) (Some (record { first = b.0.0; last = b.0.0 }, b.0.1)) x b.2) [
       | inl g ↦ (
-          let c = bind_some (letter_at g.0) (λ z. if nat_le b.0.0 z.0 then Some (record { first = b.0.0; last = z.0 }, z.1) else None) x g.2 in
+          let c = bind_some _ _ x g.2 in
           let u = letter_is g.0 c.0 c.1 in
           let is : s ≡ b.0.0 ∷ 45 ∷ c.0.0 ∷ c.0.1 = l.0 ∙ ap (λ (m : List ℕ). b.0.0 ∷ m) (after_is 45 b.0.1 g.0 g.1 ∙ ap (λ (m : List ℕ). 45 ∷ m) u.0) in
           elim (chosen (nat_le b.0.0 c.0.0) (Some (record { first = b.0.0; last = c.0.0 }, c.0.1)) None (Some x) c.2) [
@@ -140,10 +137,10 @@ implicit_group_shortens x s r h = omega (arith, shorter (type_spelling x.value_t
 implicit_group_sound : (k : Context) → IsSound k ReadsImplicit (implicit_group_at k)
 unfolding implicit_group_at
 implicit_group_sound k s x fit e =
-    let b = bind_some (value_type_at s) (λ t. enclosed (letter_range_part k) t.1 >>= λ y. Some (record { value_type = t.0; letters = y.0 }, y.1)) x e in
+    let b = bind_some _ _ x e in
     let one = (one_is type_spelling (λ (t : ValueType). Unit {0}) (Integer ∷ Logical ∷ []) (tt, (tt, tt)) s b.0 b.1).0 in
     let fit' : length b.0.1 ≤ k.length = omega (arith, shorter (type_spelling b.0.0) b.0.1 s one) in
-    let c = bind_some (enclosed (letter_range_part k) b.0.1) (λ y. Some (record { value_type = b.0.0; letters = y.0 }, y.1)) x b.2 in
+    let c = bind_some _ _ x b.2 in
     let two = enclosed_sound ReadsLetters letters_shorten k (letter_range_part k) (letters_sound k) b.0.1 c.0 fit' c.1 in
     carried (λ (y : ImplicitGroup × List ℕ). ReadsImplicit y.0 s y.1) (record { value_type = b.0.0; letters = c.0.0 }, c.0.1) x c.2 (b.0.1, one, two)
 
@@ -162,7 +159,7 @@ implicit_group_complete k x s r h f =
     let two = enclosed_complete ReadsLetters letters_shorten (letter_range_part k) AfterLetters (letters_complete k) (λ m. refl) (λ m. refl) x.letters h.0 r h.2 in
     rw (one, two) refl
 
-pub implicit_is : (k : Context) (m : List ℕ) (f : Form) → length m ≤ k.length → implicit k m ≡ Some f → (xs : List ImplicitGroup) × (f ≡ form.Implicit xs) × AreListed ReadsImplicit xs m []
+pub implicit_is : (k : Context) (m : List ℕ) (f : Form) → length m ≤ k.length → implicit k m ≡ Some f → (xs : List ImplicitGroup) × (form.Implicit xs ≡ f) × AreListed ReadsImplicit xs m []
 unfolding implicit
 implicit_is k m f fit e =
     let w = whole_is form.Implicit (listed (implicit_group_at k) m) f e in
@@ -192,7 +189,7 @@ named_constant_complete : (k : Context) → IsComplete (ReadsNamedConstant k) (n
 unfolding named_constant_at
 named_constant_complete k x s r h f = rw (plain_place_read k x.occurrence s (61 ∷ h.0) h.1 refl, expression_read k x.value h.0 r h.2 f) refl
 
-pub parameter_is : (k : Context) (m : List ℕ) (f : Form) → length m ≤ k.length → parameter k m ≡ Some f → (xs : List NamedConstant) × (f ≡ form.Parameter xs) × AreEnclosed (ReadsNamedConstant k) xs m []
+pub parameter_is : (k : Context) (m : List ℕ) (f : Form) → length m ≤ k.length → parameter k m ≡ Some f → (xs : List NamedConstant) × (form.Parameter xs ≡ f) × AreEnclosed (ReadsNamedConstant k) xs m []
 unfolding parameter
 parameter_is k m f fit e =
     let w = whole_is form.Parameter (enclosed (named_constant_at k) m) f e in

@@ -30,11 +30,11 @@ module _ (k : Context) where
   item_sound s x fit e =
       elim (either_some (after 39 s) (λ m. constant_after m >>= λ y. Some (Characters y.0, y.1)) (expression_at k s >>= λ y. Some (Expression y.0, y.1)) x e) [
         | inl g ↦ (
-            let b = bind_some (constant_after g.0) (λ y. Some (Characters y.0, y.1)) x g.2 in
+            let b = bind_some _ _ x g.2 in
             let c = constant_is g.0 b.0 b.1 in
             subst (λ (y : PrintItem × List ℕ). ReadsItem k y.0 s y.1) (same_Some (Characters b.0.0, b.0.1) x b.2) (c.0, after_is 39 s g.0 g.1 ∙ ap (λ (l : List ℕ). 39 ∷ l) c.1))
         | inr g ↦ (
-            let b = bind_some (expression_at k s) (λ y. Some (Expression y.0, y.1)) x g.1 in
+            let b = bind_some _ _ x g.1 in
             subst (λ (y : PrintItem × List ℕ). ReadsItem k y.0 s y.1) (same_Some (Expression b.0.0, b.0.1) x b.2) (expression_at_sound k s b.0.1 b.0.0 fit b.1))
       ]
 

@@ -1,11 +1,23 @@
 -- What is read as parts in a row is so by the grammar, and the other way round.
 use Rattle.std.proofs.Common.{◌≡◌, inl, inr, ℕ, zero, suc, ◌+◌, ◌≤◌, List, [], ◌∷◌, length, Option, Some, None, refl, sym, ap, subst, ◌∙◌, arith}
 use Rattle.hep_expression.specs.declared.characters.Context.{Context}
-use Rattle.hep_expression.specs.Reading.{Reader, ◌>>=◌, all_read, after}
+use Rattle.hep_expression.specs.Reading.{Reader, all_read, after}
 use Rattle.hep_expression.proofs.Leaves.{bind_some, either_some, after_is}
 use Rattle.hep_statement.specs.Lists.{AreAfter, AreListed, AreEnclosed, AreOptional, AreArguments}
 use Rattle.hep_statement.specs.ReadingLists.{part_after_comma, with_part, parts_after, listed, closed, enclosed, optional, whole, arguments_within, arguments}
 use Rattle.std.proofs.lemmas.Option.{same_Some, none-some}
+
+-- ---- whole texts
+
+pub all_is : {A : Type 0} (x : A) (r : List ℕ) (y : A) → all_read x r ≡ Some y → (r ≡ []) × (x ≡ y)
+all_is x [] y e = (refl, same_Some x y e)
+all_is x (c ∷ r) y e = absurd (none-some y e)
+
+pub whole_is : {A B : Type 0} (f : A → B) (o : Option (A × List ℕ)) (y : B) → whole f o ≡ Some y → (x : A) × (o ≡ Some (x, [])) × (f x ≡ y)
+whole_is f o y e =
+    let b = bind_some _ _ y e in
+    let a = all_is (f b.0.0) b.0.1 y b.2 in
+    (b.0.0, b.1 ∙ ap (λ (r : List ℕ). Some (b.0.0, r)) a.0, a.1)
 
 module _ {A : Type 0} where
   -- what a reader reads of the rest of a statement's text is so
@@ -46,7 +58,7 @@ module _ {A : Type 0} where
       after_sound (suc n) s y fit e = elim (either_some (part_after_comma next s) (λ x. with_part x.0 (parts_after next n x.1)) (Some ([], s)) y e) [
         | inl g ↦ (
             let x = g.0 in
-            let b = bind_some (after 44 s) next x g.1 in
+            let b = bind_some _ _ x g.1 in
             let is = after_is 44 s b.0 b.1 in
             let fit' : length b.0 ≤ k.length = omega (arith, ap length is) in
             let one = sound b.0 x fit' b.2 in
@@ -59,7 +71,7 @@ module _ {A : Type 0} where
       pub listed_sound : (s : List ℕ) (y : List A × List ℕ) → length s ≤ k.length → listed next s ≡ Some y → AreListed P y.0 s y.1
       unfolding listed
       listed_sound s y fit e =
-          let b = bind_some (next s) (λ x. with_part x.0 (parts_after next (length s) x.1)) y e in
+          let b = bind_some _ _ y e in
           let x = b.0 in
           let one = sound s x fit b.1 in
           let c = bind_some (parts_after next (length s) x.1) (λ z. Some (x.0 ∷ z.0, z.1)) y b.2 in
@@ -69,15 +81,15 @@ module _ {A : Type 0} where
       pub closed_sound : (s : List ℕ) (y : List A × List ℕ) → length s ≤ k.length → closed next s ≡ Some y → AreListed P y.0 s (41 ∷ y.1)
       unfolding closed
       closed_sound s y fit e =
-          let b = bind_some (listed next s) (λ x. after 41 x.1 >>= λ r. Some (x.0, r)) y e in
-          let c = bind_some (after 41 b.0.1) (λ r. Some (b.0.0, r)) y b.2 in
+          let b = bind_some _ _ y e in
+          let c = bind_some _ _ y b.2 in
           let one = subst (λ (m : List ℕ). AreListed P b.0.0 s m) (after_is 41 b.0.1 c.0 c.1) (listed_sound s b.0 fit b.1) in
           subst (λ (z : List A × List ℕ). AreListed P z.0 s (41 ∷ z.1)) (same_Some (b.0.0, c.0) y c.2) one
 
       pub enclosed_sound : (s : List ℕ) (y : List A × List ℕ) → length s ≤ k.length → enclosed next s ≡ Some y → AreEnclosed P y.0 s y.1
       unfolding enclosed
       enclosed_sound s y fit e =
-          let b = bind_some (after 40 s) (closed next) y e in
+          let b = bind_some _ _ y e in
           let is = after_is 40 s b.0 b.1 in
           (b.0, is, closed_sound b.0 y (omega (arith, ap length is)) b.2)
 
@@ -95,18 +107,6 @@ module _ {A : Type 0} where
               let is = after_is 40 s m q in
               some_enclosed y.0 s y.1 (m, is, closed_sound m y (omega (arith, ap length is)) e)
 
-      whole_is : (xs : List A) (r : List ℕ) (ys : List A) (s : List ℕ) → all_read xs r ≡ Some ys → AreListed P xs s (41 ∷ r) → AreListed P ys s (41 ∷ [])
-      whole_is xs [] ys s e h = subst (λ (z : List A). AreListed P z s (41 ∷ [])) (same_Some xs ys e) h
-      whole_is xs (c ∷ r) ys s e h = absurd (none-some ys e)
-
-      empty_is : (r : List ℕ) (ys : List A) (s : List ℕ) → all_read [] r ≡ Some ys → s ≡ 40 ∷ 41 ∷ r → AreArguments P ys s
-      empty_is [] ys s e is = subst (λ (z : List A). AreArguments P z s) (same_Some [] ys e) (inr is)
-      empty_is (c ∷ r) ys s e is = absurd (none-some ys e)
-
-      missing_is : (s : List ℕ) (ys : List A) → all_read [] s ≡ Some ys → AreArguments P ys s
-      missing_is [] ys e = subst (λ (z : List A). AreArguments P z []) (same_Some [] ys e) (inl refl)
-      missing_is (c ∷ s) ys e = absurd (none-some ys e)
-
       some_arguments : (xs : List A) (s : List ℕ) → AreEnclosed P xs s [] → AreArguments P xs s
       some_arguments [] s h = absurd h.2
       some_arguments (x ∷ xs) s h = h
@@ -117,15 +117,16 @@ module _ {A : Type 0} where
         where
           within : (m : List ℕ) → s ≡ 40 ∷ m → arguments_within next m ≡ Some ys → AreArguments P ys s
           within m is e = elim (either_some (after 41 m) (λ r. all_read [] r) (whole (λ xs. xs) (closed next m)) ys e) [
-            | inl g ↦ empty_is g.0 ys s g.2 (is ∙ ap (λ (l : List ℕ). 40 ∷ l) (after_is 41 m g.0 g.1))
+            | inl g ↦ (
+                let a = all_is [] g.0 ys g.2 in
+                subst (λ (z : List A). AreArguments P z s) a.1 (inr (is ∙ ap (λ (l : List ℕ). 40 ∷ l) (after_is 41 m g.0 g.1 ∙ ap (λ (r : List ℕ). 41 ∷ r) a.0))))
             | inr g ↦ (
-                let b = bind_some (closed next m) (λ x. all_read x.0 x.1) ys g.1 in
-                let one = closed_sound m b.0 (omega (arith, ap length is)) b.1 in
-                some_arguments ys s (m, is, whole_is b.0.0 b.0.1 ys m b.2 one))
+                let w = whole_is (λ xs. xs) (closed next m) ys g.1 in
+                subst (λ (z : List A). AreArguments P z s) w.2 (some_arguments w.0 s (m, is, closed_sound m (w.0, []) (omega (arith, ap length is)) w.1)))
           ]
 
           go : (o : Option (List ℕ)) → after 40 s ≡ o → (elim o [ None ↦ all_read [] s | Some m ↦ arguments_within next m ]) ≡ Some ys → AreArguments P ys s
-          go None q e = missing_is s ys e
+          go None q e = let a = all_is [] s ys e in subst (λ (z : List A). AreArguments P z s) a.1 (inl a.0)
           go (Some m) q e = within m (after_is 40 s m q) e
 
     -- ---- what is so is read

@@ -5,28 +5,18 @@ use Rattle.std.proofs.lemmas.Bool.{eqb-true, and_parts, leb-true, le-leb}
 use Rattle.std.proofs.lemmas.Bool.Decides.{nat_tests}
 use Rattle.hep_expression.specs.declared.characters.Context.{Context}
 use Rattle.hep_expression.specs.Characters.{is_digit, IsDigits, number_of_digits}
-use Rattle.hep_expression.specs.Reading.{◌>>=◌, all_read, begins, front, rest_after, after}
+use Rattle.hep_expression.specs.Reading.{◌>>=◌, begins, front, rest_after, after}
 use Rattle.hep_expression.proofs.Leaves.{bind_some, either_some, chosen, after_is, front_splits, front_row, digits_are}
 use Rattle.hep_statement.specs.Lists.{IsOptionalComma}
 use Rattle.hep_expression.specs.Label.{ReadsLabel}
 use Rattle.hep_statement.specs.Constant.{quoted}
-use Rattle.hep_statement.specs.ReadingLists.{with_part, whole, after_optional_comma}
+use Rattle.hep_statement.specs.ReadingLists.{with_part, after_optional_comma}
 use Rattle.hep_expression.specs.ReadingLabel.{few_digits_at, not_zero, label_at, label_part}
 use Rattle.hep_statement.specs.ReadingConstant.{character_at, characters, some_characters, constant_after}
 use Rattle.hep_statement.proofs.Lists.{IsSound, Shortens, IsComplete}
 use Rattle.std.proofs.lemmas.Option.{same_Some, none-some}
 
 -- ---- the end of a text, and a comma that may be missing
-
-pub all_is : {A : Type 0} (x : A) (r : List ℕ) (y : A) → all_read x r ≡ Some y → (r ≡ []) × (x ≡ y)
-all_is x [] y e = (refl, same_Some x y e)
-all_is x (c ∷ r) y e = absurd (none-some y e)
-
-pub whole_is : {A B : Type 0} (f : A → B) (o : Option (A × List ℕ)) (y : B) → whole f o ≡ Some y → (x : A) × (o ≡ Some (x, [])) × (f x ≡ y)
-whole_is f o y e =
-    let b = bind_some o (λ x. all_read (f x.0) x.1) y e in
-    let a = all_is (f b.0.0) b.0.1 y b.2 in
-    (b.0.0, b.1 ∙ ap (λ (r : List ℕ). Some (b.0.0, r)) a.0, a.1)
 
 pub comma_is : (s : List ℕ) → IsOptionalComma s (after_optional_comma s)
 comma_is s = go (after 44 s) refl
@@ -68,7 +58,7 @@ not_zero_test n h = grind (arith, nat_tests)
 
 pub label_is : (s : List ℕ) (x : ℕ × List ℕ) → label_at s ≡ Some x → ReadsLabel x.0 s x.1
 label_is s x e =
-    let b = bind_some (few_digits_at s) not_zero x e in
+    let b = bind_some _ _ x e in
     let f = few_are s b.0 b.1 in
     elim (chosen (nat_eq b.0.0 0) None (Some b.0) (Some x) b.2) [
       | inl h ↦ absurd (none-some x h.1)
@@ -99,7 +89,7 @@ character_is : (s : List ℕ) (x : ℕ × List ℕ) (t r : List ℕ) → charact
 character_is [] x t r e h = absurd (none-some x e)
 character_is (c ∷ s) x t r e h = elim (chosen (nat_eq c 39) (after 39 s >>= λ r. Some (39, r)) (Some (c, s)) (Some x) e) [
   | inl g ↦ (
-      let b = bind_some (after 39 s) (λ r. Some (39, r)) x g.1 in
+      let b = bind_some _ _ x g.1 in
       let is_x : (39, b.0) ≡ x = same_Some (39, b.0) x b.2 in
       let rest : b.0 ≡ quoted t ++ 39 ∷ r = ap (λ (y : ℕ × List ℕ). y.1) is_x ∙ h in
       let is_c : c ≡ 39 = eqb-true c 39 g.0 in
@@ -116,11 +106,11 @@ unfolding characters
 characters_are zero s x e = absurd (none-some x e)
 characters_are (suc n) s x e = elim (either_some (character_at s) (λ y. with_part y.0 (characters n y.1)) (after 39 s >>= λ r. Some ([], r)) x e) [
   | inl g ↦ (
-      let b = bind_some (characters n g.0.1) (λ y. Some (g.0.0 ∷ y.0, y.1)) x g.2 in
+      let b = bind_some _ _ x g.2 in
       let rest = characters_are n g.0.1 b.0 b.1 in
       subst (λ (y : List ℕ × List ℕ). s ≡ quoted y.0 ++ 39 ∷ y.1) (same_Some (g.0.0 ∷ b.0.0, b.0.1) x b.2) (character_is s g.0 b.0.0 b.0.1 g.1 rest))
   | inr g ↦ (
-      let b = bind_some (after 39 s) (λ r. Some ([], r)) x g.1 in
+      let b = bind_some _ _ x g.1 in
       subst (λ (y : List ℕ × List ℕ). s ≡ quoted y.0 ++ 39 ∷ y.1) (same_Some ([], b.0) x b.2) (after_is 39 s b.0 b.1))
 ]
 
@@ -149,7 +139,7 @@ quoted_long (c ∷ t) = go (nat_eq c 39) (quoted_long t)
 pub constant_is : (s : List ℕ) (x : List ℕ × List ℕ) → constant_after s ≡ Some x → (x.0 ≢ []) × (s ≡ quoted x.0 ++ 39 ∷ x.1)
 unfolding constant_after
 constant_is s x e =
-    let b = bind_some (characters (length s) s) some_characters x e in
+    let b = bind_some _ _ x e in
     some b.0.0 b.0.1 (characters_are (length s) s b.0 b.1) b.2
   where
     some : (t r : List ℕ) → s ≡ quoted t ++ 39 ∷ r → some_characters (t, r) ≡ Some x → (x.0 ≢ []) × (s ≡ quoted x.0 ++ 39 ∷ x.1)

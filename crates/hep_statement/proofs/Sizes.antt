@@ -115,29 +115,19 @@ module _ (n : ℕ) where
   any_entries : (xs : List Declarator) (s r : List ℕ) → AreListed (ReadsDeclarator fitting) xs s r → AreListed (ReadsDeclarator any) xs s r
   any_entries xs s r h = any_listed (ReadsDeclarator fitting) (ReadsDeclarator any) any_declarator xs s r h
 
-  any_block_name : (x : CommonBlock) (s r : List ℕ) → ReadsBlockName fitting x.block s r → ReadsBlockName any x.block s r
-  any_block_name x s r h = go x.block h
-    where
-      go : (b : Option _) → ReadsBlockName fitting b s r → ReadsBlockName any b s r
-      go None h = h
-      go (Some p) h = h
-
-  any_first_name : (x : CommonBlock) (s r : List ℕ) → ReadsFirstName fitting x.block s r → ReadsFirstName any x.block s r
-  any_first_name x s r h = go x.block h
-    where
-      go : (b : Option _) → ReadsFirstName fitting b s r → ReadsFirstName any b s r
-      go None h = h
-      go (Some p) h = h
+  any_name : (b : Option _) (s r : List ℕ) → (ReadsBlockName fitting b s r → ReadsBlockName any b s r) × (ReadsFirstName fitting b s r → ReadsFirstName any b s r)
+  any_name None s r = (λ h. h, λ h. h)
+  any_name (Some p) s r = (λ h. h, λ h. h)
 
   any_more_blocks : (xs : List CommonBlock) (s : List ℕ) → AreMoreBlocks fitting xs s → AreMoreBlocks any xs s
   any_more_blocks [] s h = h
   any_more_blocks (x ∷ xs) s h =
-      (h.0, h.1, h.2, h.3, any_block_name x h.0 h.1 h.4, any_entries x.entries h.1 h.2 h.5, any_more_blocks xs h.2 h.6)
+      (h.0, h.1, h.2, h.3, (any_name x.block h.0 h.1).0 h.4, any_entries x.entries h.1 h.2 h.5, any_more_blocks xs h.2 h.6)
 
   any_blocks : (xs : List CommonBlock) (s : List ℕ) → AreBlocks fitting xs s → AreBlocks any xs s
   any_blocks [] s h = h
   any_blocks (x ∷ xs) s h =
-      (h.0, h.1, any_first_name x s h.0 h.2, any_entries x.entries h.0 h.1 h.3, any_more_blocks xs h.1 h.4)
+      (h.0, h.1, (any_name x.block s h.0).1 h.2, any_entries x.entries h.0 h.1 h.3, any_more_blocks xs h.1 h.4)
 
   any_named_constant : (x : NamedConstant) (s r : List ℕ) → ReadsNamedConstant fitting x s r → ReadsNamedConstant any x s r
   any_named_constant x s r h = (h.0, h.1, any_expression x.value h.0 r h.2)

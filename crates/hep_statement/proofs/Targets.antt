@@ -1,23 +1,24 @@
 -- What is read as an expression in a row, or as a target, is so by the grammar, and the other way
 -- round.
-use Rattle.std.proofs.Common.{◌≡◌, ℕ, ◌≤◌, Bool, true, false, List, [], ◌∷◌, ◌++◌, length, Some, None, refl, subst, arith}
-use Rattle.std.specs.Prelude.{◌||◌, nat_eq, codes}
+use Rattle.std.proofs.Common.{◌≡◌, ℕ, ◌≤◌, Bool, true, false, List, [], ◌∷◌, ◌++◌, length, None, refl, subst, arith}
+use Rattle.std.specs.Prelude.{◌||◌, nat_eq, codes, Option, Some}
 use Rattle.std.proofs.lemmas.Bool.{eqb-true}
 use Rattle.hep_source.specs.Tree.{Tree, constant, occurrence, with_list, parenthesized, signed, negated, binary}
 use Rattle.hep_source.specs.declared.value.Value.TheVariants.{Int, Truth}
 use Rattle.hep_source.specs.declared.operator.Sign.TheVariants.{Plus, Minus}
 use Rattle.hep_source.specs.declared.declaration.Target.{Target}
+use Rattle.hep_source.specs.declared.name.Occurrence.{Occurrence}
 use Rattle.hep_expression.specs.declared.characters.Context.{Context}
 use Rattle.hep_expression.specs.Characters.{is_digit, is_letter, is_letter_or_digit, IsName, name_sign, IsDigits, ReadsOccurrence}
 use Rattle.hep_expression.specs.Expression as levels
 use Rattle.hep_expression.specs.Expression.{Reads, ReadsExpression, left, spelling}
-use Rattle.hep_expression.specs.Reading.{◌>>=◌, begins, after, occurrence_at}
+use Rattle.hep_expression.specs.Reading.{Reader, ◌>>=◌, begins, after, occurrence_at}
 use Rattle.hep_expression.proofs.Leaves.{bind_some, place_fits, is_place, fits}
 use Rattle.hep_expression.proofs.Sound.{expression_at_sound}
 use Rattle.hep_expression.proofs.Complete.{place_read, AfterExpression, after_comma, after_parenthesis, expression_read}
 use Rattle.hep_statement.specs.Lists.{AreOptional}
-use Rattle.hep_statement.specs.ReadingLists.{optional}
 use Rattle.hep_statement.specs.Target.{ReadsTarget}
+use Rattle.hep_statement.specs.ReadingLists.{optional}
 use Rattle.hep_statement.specs.ReadingTarget.{expression_part, target_at}
 use Rattle.hep_statement.proofs.Lists.{IsSound, Shortens, IsComplete, optional_shortens, optional_sound, optional_complete}
 use Rattle.std.proofs.lemmas.Option.{same_Some}
@@ -118,15 +119,20 @@ name_ends P (x ∷ xs) s r h f = rw h.1 refl
 pub target_shortens : (k : Context) → Shortens (ReadsTarget k)
 target_shortens k x s r h = omega (arith, place_fits k x.occurrence s h.0 h.1, optional_shortens (ReadsExpression k) (expression_part_shortens k) x.subscripts h.0 r h.2)
 
+-- a name, and what stands in parentheses after it
+pub name_and_optional_are : {A B : Type 0} (P : A → List ℕ → List ℕ → Type 0) → Shortens P → (k : Context) (next : Reader A) → IsSound k P next → (make : Occurrence × List ℕ → List A × List ℕ → Option B) (s : List ℕ) (z : B) → length s ≤ k.length
+    → (occurrence_at k s >>= λ p. optional next p.1 >>= make p) ≡ Some z → (p : Occurrence × List ℕ) × (y : List A × List ℕ) × ReadsOccurrence k p.0 s p.1 × AreOptional P y.0 p.1 y.1 × (make p y ≡ Some z)
+name_and_optional_are P shorter k next sound make s z fit e =
+    let b = bind_some (occurrence_at k s) (λ p. optional next p.1 >>= make p) z e in
+    let c = bind_some (optional next b.0.1) (make b.0) z b.2 in
+    let one = is_place k s b.0 fit b.1 in
+    (b.0, c.0, one, optional_sound P shorter k next sound b.0.1 c.0 (omega (arith, place_fits k b.0.0 s b.0.1 one)) c.1, c.2)
+
 pub target_sound : (k : Context) → IsSound k (ReadsTarget k) (target_at k)
 unfolding target_at
 target_sound k s x fit e =
-    let b = bind_some (occurrence_at k s) (λ y. optional (expression_part k) y.1 >>= λ z. Some (record { occurrence = y.0; subscripts = z.0 }, z.1)) x e in
-    let c = bind_some (optional (expression_part k) b.0.1) (λ z. Some (record { occurrence = b.0.0; subscripts = z.0 }, z.1)) x b.2 in
-    let one = is_place k s b.0 fit b.1 in
-    let fit' : length b.0.1 ≤ k.length = omega (arith, place_fits k b.0.0 s b.0.1 one) in
-    let two = optional_sound (ReadsExpression k) (expression_part_shortens k) k (expression_part k) (expression_part_sound k) b.0.1 c.0 fit' c.1 in
-    subst (λ (y : Target × List ℕ). ReadsTarget k y.0 s y.1) (same_Some (record { occurrence = b.0.0; subscripts = c.0.0 }, c.0.1) x c.2) (b.0.1, one, two)
+    let h = name_and_optional_are (ReadsExpression k) (expression_part_shortens k) k (expression_part k) (expression_part_sound k) _ s x fit e in
+    subst (λ (y : Target × List ℕ). ReadsTarget k y.0 s y.1) (same_Some (record { occurrence = h.0.0; subscripts = h.1.0 }, h.1.1) x h.4) (h.0.1, h.2, h.3)
 
 pub target_complete : (k : Context) → IsComplete (ReadsTarget k) (target_at k) AfterName
 unfolding target_at

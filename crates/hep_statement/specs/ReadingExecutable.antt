@@ -6,9 +6,9 @@ use Rattle.hep_source.specs.declared.statement.Form.{Form}
 use Rattle.hep_source.specs.declared.statement.Form.TheVariants.{Assign, GoTo, ComputedGoTo, ArithmeticIf, IfThen, ElseIf, Do, Call, Create, Purge, Print, Stop}
 use Rattle.hep_expression.specs.declared.characters.Context.{Context}
 use Rattle.hep_expression.specs.Characters.{apostrophe, right_parenthesis, comma, equals}
-use Rattle.hep_expression.specs.Reading.{Reader, ◌>>=◌, if_some, all_read, after, after_text, occurrence_at, plain_occurrence_at}
+use Rattle.hep_expression.specs.Reading.{Reader, ◌>>=◌, if_some, all_read, after, after_text, occurrence_at}
 use Rattle.hep_expression.specs.ReadingExpression.{expression_at, whole_expression}
-use Rattle.hep_statement.specs.ReadingLists.{whole, listed, enclosed, arguments, after_optional_comma}
+use Rattle.hep_statement.specs.ReadingLists.{whole, listed, enclosed, name_and_arguments, after_optional_comma}
 use Rattle.hep_expression.specs.ReadingLabel.{few_digits_at, label_at, label_part}
 use Rattle.hep_statement.specs.ReadingConstant.{constant_after, item_at}
 use Rattle.hep_statement.specs.ReadingTarget.{expression_part, target_at}
@@ -76,10 +76,10 @@ do_loop k s =
 -- ---- CALL, CREATE and PURGE
 
 unfoldable pub call : Context → List ℕ → Option Form
-call k s = plain_occurrence_at k s >>= λ x. arguments (expression_part k) x.1 >>= λ ts. Some (Call x.0 ts)
+call k s = name_and_arguments k (expression_part k) s >>= λ x. Some (Call x.0 x.1)
 
 unfoldable pub create : Context → List ℕ → Option Form
-create k s = plain_occurrence_at k s >>= λ x. arguments (expression_part k) x.1 >>= λ ts. Some (Create x.0 ts)
+create k s = name_and_arguments k (expression_part k) s >>= λ x. Some (Create x.0 x.1)
 
 unfoldable pub purge : Context → List ℕ → Option Form
 purge k s = whole Purge (listed (target_at k) s)

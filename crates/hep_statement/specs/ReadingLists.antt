@@ -1,7 +1,9 @@
 -- Reading parts in a row, as functions on lists (docs/ARCHITECTURE.md, "Forms").
 use Rattle.std.specs.Prelude.{ℕ, zero, suc, List, [], ◌∷◌, length, Option, Some, None}
+use Rattle.hep_source.specs.declared.name.Occurrence.{Occurrence}
+use Rattle.hep_expression.specs.declared.characters.Context.{Context}
 use Rattle.hep_expression.specs.Characters.{left_parenthesis, right_parenthesis, comma}
-use Rattle.hep_expression.specs.Reading.{Reader, ◌>>=◌, if_some, all_read, after}
+use Rattle.hep_expression.specs.Reading.{Reader, ◌>>=◌, if_some, all_read, after, plain_occurrence_at}
 
 abbrev pub part_after_comma : {A : Type 0} → Reader A → Reader A
 part_after_comma next s = after comma s >>= next
@@ -40,6 +42,10 @@ arguments_within next s = if_some (after right_parenthesis s) (λ r. all_read []
 -- arguments in parentheses, which may be missing where there are none
 unfoldable pub arguments : {A : Type 0} → Reader A → List ℕ → Option (List A)
 arguments next s = elim (after left_parenthesis s) [ None ↦ all_read [] s | Some m ↦ arguments_within next m ]
+
+-- a name without `$`, and arguments after it
+abbrev pub name_and_arguments : {A : Type 0} → Context → Reader A → List ℕ → Option (Occurrence × List A)
+name_and_arguments k next s = plain_occurrence_at k s >>= λ x. arguments next x.1 >>= λ xs. Some (x.0, xs)
 
 -- what follows a comma that may be missing
 abbrev pub after_optional_comma : List ℕ → List ℕ

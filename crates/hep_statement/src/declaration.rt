@@ -5,7 +5,7 @@ ghost use Rattle.std.specs.List.{list_all};
 ghost use Rattle.hep_expression.specs.Reading.{Gives};
 ghost use Rattle.hep_statement.specs.ReadingDeclaration as reading;
 
-use crate::list::{Readable, after_optional_comma, arguments, enclosed, listed, optional};
+use crate::list::{Readable, after_optional_comma, enclosed, listed, name_and_arguments, optional};
 use hep_expression::Unread;
 use hep_expression::characters::{
     Context, after, after_text, all_read, integer_at, logical_at, occurrence_at,
@@ -53,8 +53,7 @@ impl Readable for Occurrence {
 pub fn subroutine_header(alloc: Global, context: Context, s: &[u8]) -> Result<Form, Unread>
     ensures { Gives (λ x. x) result (reading.subroutine_header context s.now) }
 {
-    let (name, rest) = plain_occurrence_at(context, s).ok_or(Unread::NoReading)?;
-    let dummies = arguments::<Occurrence>(alloc, context, rest)?;
+    let (name, dummies) = name_and_arguments::<Occurrence>(alloc, context, s)?;
     Ok(Form::Subroutine(name, Sequence::from(dummies)))
 }
 

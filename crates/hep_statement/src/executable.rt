@@ -4,11 +4,9 @@ ghost use Rattle.hep_expression.specs.Reading.{Gives};
 ghost use Rattle.hep_statement.specs.ReadingExecutable as reading;
 
 use crate::constant::constant_after;
-use crate::list::{Readable, after_optional_comma, arguments, enclosed, listed};
+use crate::list::{Readable, after_optional_comma, enclosed, listed, name_and_arguments};
 use hep_expression::Unread;
-use hep_expression::characters::{
-    Context, after, after_text, all_read, occurrence_at, plain_occurrence_at,
-};
+use hep_expression::characters::{Context, after, after_text, all_read, occurrence_at};
 use hep_expression::expression::{expression_at, whole_expression};
 use hep_expression::label::{few_digits_at, label_at};
 use hep_source::{DoControl, Expr, Form, PrintItem, Sequence, SignLabels, Target};
@@ -219,8 +217,7 @@ pub fn do_loop(alloc: Global, context: Context, s: &[u8]) -> Result<Form, Unread
 pub fn call(alloc: Global, context: Context, s: &[u8]) -> Result<Form, Unread>
     ensures { Gives (λ x. x) result (reading.call context s.now) }
 {
-    let (subroutine, rest) = plain_occurrence_at(context, s).ok_or(Unread::NoReading)?;
-    let actuals = arguments::<Expr>(alloc, context, rest)?;
+    let (subroutine, actuals) = name_and_arguments::<Expr>(alloc, context, s)?;
     Ok(Form::Call(subroutine, Sequence::from(actuals)))
 }
 
@@ -233,8 +230,7 @@ pub fn call(alloc: Global, context: Context, s: &[u8]) -> Result<Form, Unread>
 pub fn create(alloc: Global, context: Context, s: &[u8]) -> Result<Form, Unread>
     ensures { Gives (λ x. x) result (reading.create context s.now) }
 {
-    let (subroutine, rest) = plain_occurrence_at(context, s).ok_or(Unread::NoReading)?;
-    let actuals = arguments::<Expr>(alloc, context, rest)?;
+    let (subroutine, actuals) = name_and_arguments::<Expr>(alloc, context, s)?;
     Ok(Form::Create(subroutine, Sequence::from(actuals)))
 }
 

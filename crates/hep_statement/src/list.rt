@@ -4,7 +4,8 @@ ghost use Rattle.hep_expression.specs.Reading.{Gives};
 ghost use Rattle.hep_statement.specs.ReadingLists as reading;
 
 use hep_expression::Unread;
-use hep_expression::characters::{Context, after, all_read};
+use hep_expression::characters::{Context, after, all_read, plain_occurrence_at};
+use hep_source::Occurrence;
 use std::alloc::Global;
 
 /// A part of a statement that can stand in a row with others of its kind.
@@ -24,12 +25,11 @@ pub trait Readable: Drop {
         ensures { Gives (λ x. (x.0, x.1.now)) result (part_at context s.now) };
 }
 
+/// What was read, and what follows it.
+type Found<'a, T> = Result<(T, &'a [u8]), Unread>;
+
 /// A part after a comma, and what follows it.
-fn part_after_comma<P: Readable>(
-    alloc: Global,
-    context: Context,
-    s: &[u8],
-) -> Result<(P, &[u8]), Unread>
+fn part_after_comma<P: Readable>(alloc: Global, context: Context, s: &[u8]) -> Found<'_, P>
     ensures { Gives (λ x. (x.0, x.1.now)) result (reading.part_after_comma (P.part_at context) s.now) }
 {
     match after(b',', s) {
@@ -45,11 +45,7 @@ fn part_after_comma<P: Readable>(
 ///
 /// No reading, or no memory.
 #[tactic(auto, using(crate::proofs::ListLoops::begins, crate::proofs::ListLoops::goes_on, crate::proofs::ListLoops::ends, crate::proofs::ListLoops::is_over), unfolding(crate::specs::ReadingLists::listed))]
-pub fn listed<P: Readable>(
-    alloc: Global,
-    context: Context,
-    s: &[u8],
-) -> Result<(Vec<P>, &[u8]), Unread>
+pub fn listed<P: Readable>(alloc: Global, context: Context, s: &[u8]) -> Found<'_, Vec<P>>
     ensures { Gives (λ x. (x.0.items, x.1.now)) result (reading.listed (P.part_at context) s.now) }
 {
     let (first, mut rest) = P::read(alloc, context, s)?;
@@ -70,7 +66,7 @@ pub fn listed<P: Readable>(
 
 /// The same after `(`, up to `)`.
 #[tactic(auto, unfolding(crate::specs::ReadingLists::closed))]
-fn closed<P: Readable>(alloc: Global, context: Context, s: &[u8]) -> Result<(Vec<P>, &[u8]), Unread>
+fn closed<P: Readable>(alloc: Global, context: Context, s: &[u8]) -> Found<'_, Vec<P>>
     ensures { Gives (λ x. (x.0.items, x.1.now)) result (reading.closed (P.part_at context) s.now) }
 {
     let (parts, rest) = listed::<P>(alloc, context, s)?;
@@ -86,11 +82,7 @@ fn closed<P: Readable>(alloc: Global, context: Context, s: &[u8]) -> Result<(Vec
 ///
 /// No reading, or no memory.
 #[tactic(auto, unfolding(crate::specs::ReadingLists::enclosed))]
-pub fn enclosed<P: Readable>(
-    alloc: Global,
-    context: Context,
-    s: &[u8],
-) -> Result<(Vec<P>, &[u8]), Unread>
+pub fn enclosed<P: Readable>(alloc: Global, context: Context, s: &[u8]) -> Found<'_, Vec<P>>
     ensures { Gives (λ x. (x.0.items, x.1.now)) result (reading.enclosed (P.part_at context) s.now) }
 {
     let inside = after(b'(', s).ok_or(Unread::NoReading)?;
@@ -103,11 +95,7 @@ pub fn enclosed<P: Readable>(
 ///
 /// No reading, or no memory.
 #[tactic(auto, unfolding(crate::specs::ReadingLists::optional))]
-pub(crate) fn optional<P: Readable>(
-    alloc: Global,
-    context: Context,
-    s: &[u8],
-) -> Result<(Vec<P>, &[u8]), Unread>
+pub(crate) fn optional<P: Readable>(alloc: Global, context: Context, s: &[u8]) -> Found<'_, Vec<P>>
     ensures { Gives (λ x. (x.0.items, x.1.now)) result (reading.optional (P.part_at context) s.now) }
 {
     match after(b'(', s) {
@@ -145,6 +133,18 @@ pub fn arguments<P: Readable>(alloc: Global, context: Context, s: &[u8]) -> Resu
         Some(inside) => arguments_within::<P>(alloc, context, inside),
         None => all_read(Vec::new(alloc), s),
     }
+}
+
+/// A name without `$`, and the arguments after it.
+pub(crate) fn name_and_arguments<P: Readable>(
+    alloc: Global,
+    context: Context,
+    s: &[u8],
+) -> Result<(Occurrence, Vec<P>), Unread>
+    ensures { Gives (λ x. (x.0, x.1.items)) result (reading.name_and_arguments context (P.part_at context) s.now) }
+{
+    let (name, rest) = plain_occurrence_at(context, s).ok_or(Unread::NoReading)?;
+    Ok((name, arguments::<P>(alloc, context, rest)?))
 }
 
 /// What follows a comma that may be missing.

@@ -75,25 +75,44 @@ fn has_bounds(declarator: &Declarator) -> bool
 }
 
 // The names that get bounds.
+fn add_bounded(names: &mut Vec<Name>, declarators: &[Declarator]) -> Result<(), AllocError>
+    ensures { OnOk result (names.new.items ≡ names.old.items ++ rows.names_bounded declarators.now) }
+{
+    for declarator in declarators {
+        if has_bounds(declarator) {
+            names.push(declarator.occurrence.name)?;
+        }
+    }
+    Ok(())
+}
+
 fn bounded(alloc: Global, declarators: &[Declarator]) -> Names
     ensures { IfOk result (λ names. names.items ≡ rows.names_bounded declarators.now) }
 {
-    declarators
-        .iter()
-        .filter(|declarator| has_bounds(declarator))
-        .map(|declarator| declarator.occurrence.name)
-        .collect(alloc)
+    let mut names = Vec::new(alloc);
+    add_bounded(&mut names, declarators)?;
+    Ok(names)
 }
 
+// Most blocks have one entry, for which no vector is made.
 #[tactic(auto, using(crate::proofs::Used::bounded_append))]
 fn bounded_in_blocks(alloc: Global, blocks: &[CommonBlock]) -> Names
     ensures { IfOk result (λ names. names.items ≡ rows.names_bounded (declarations.entries_of_blocks blocks.now)) }
 {
     let mut names = Vec::new(alloc);
     for block in blocks {
-        names.extend_from_slice(&bounded(alloc, block.entries.as_slice())?)?;
+        add_bounded(&mut names, block.entries.as_slice())?;
     }
     Ok(names)
+}
+
+fn add_declared(names: &mut Vec<Name>, declarators: &[Declarator]) -> Result<(), AllocError>
+    ensures { OnOk result (names.new.items ≡ names.old.items ++ declarations.names_declared declarators.now) }
+{
+    for declarator in declarators {
+        names.push(declarator.occurrence.name)?;
+    }
+    Ok(())
 }
 
 fn entries(alloc: Global, blocks: &[CommonBlock]) -> Names
@@ -102,7 +121,7 @@ fn entries(alloc: Global, blocks: &[CommonBlock]) -> Names
 {
     let mut names = Vec::new(alloc);
     for block in blocks {
-        names.extend_from_slice(&declared(alloc, block.entries.as_slice())?)?;
+        add_declared(&mut names, block.entries.as_slice())?;
     }
     Ok(names)
 }

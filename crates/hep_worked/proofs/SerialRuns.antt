@@ -1,5 +1,5 @@
 -- Serial runs of whole sources: the choices in order, each one entry, and then what is ready, until nothing is.
-use Rattle.std.specs.Prelude.{ℕ, zero, suc, pos, ◌-ℤ◌, Bool, true, false, if◌then◌else◌, codes, List, [], ◌∷◌, map, length, reverse, Option, Some, None, Result, Ok, Err}
+use Rattle.std.specs.Prelude.{◌≡◌, ℕ, zero, suc, pos, ◌-ℤ◌, Bool, true, false, if◌then◌else◌, codes, List, [], ◌∷◌, map, length, reverse, Option, Some, None, Result, Ok, Err}
 use Prim.Native.String.{String}
 use Rattle.hep_machine.specs.declared.event.Entry.{Entry}
 use Rattle.hep_machine.specs.declared.event.Fault.{Fault}
@@ -172,6 +172,11 @@ ended records entries used = record { records = records; faults = []; processes 
 -- no run, since the source is refused at a line
 abbrev pub rejected : ℕ → ℕ → List ℕ → Report
 rejected number line detail = record { records = []; faults = []; processes = []; entries = 0; used = 0; ending = refused (number, line, detail) }
+
+-- each source runs as the report beside it says
+abbrev pub AllRun : List (List String × Report) → Type 0
+unfolding runs
+AllRun rows = map (λ (r : List String × Report). runs r.0) rows ≡ map (λ (r : List String × Report). r.1) rows
 
 -- ---- the history, the cells in use, and where the frames are
 

@@ -3,72 +3,76 @@ use Rattle.std.specs.Prelude.{◌≡◌, List, [], ◌∷◌, refl}
 use Prim.Native.String.{String}
 use Rattle.hep_machine.specs.declared.event.Kind.TheVariants.{Divide, Range, Undefined, Shape}
 use Rattle.hep_machine.specs.Layout.{is_made, is_held}
-use Rattle.hep_worked.proofs.SerialRuns.{report, runs, done, arena_full, int, minus, one, numbers, fault, stands, ended}
+use Rattle.hep_worked.proofs.SerialRuns.{AllRun, report, runs, done, arena_full, int, minus, one, numbers, fault, stands, ended}
 
 -- ---- Actual and dummy arguments
 
-two_dummies_of_one_place_runs : runs (
-    "      I=1"
-    ∷ "      CALL S(I,I)"
-    ∷ "      PRINT *,I"
-    ∷ "      END"
-    ∷ "      SUBROUTINE S(J,K)"
-    ∷ "      J=J+1"
-    ∷ "      PRINT *,K"
-    ∷ "      K=K*5"
-    ∷ "      PRINT *,J"
-    ∷ "      END"
-    ∷ []) ≡ ended (one 2 ∷ one 10 ∷ one 10 ∷ []) 16 7
+actual_and_dummy_arguments : AllRun (
+    -- two dummies of one place
+    (
+      "      I=1"
+          ∷ "      CALL S(I,I)"
+          ∷ "      PRINT *,I"
+          ∷ "      END"
+          ∷ "      SUBROUTINE S(J,K)"
+          ∷ "      J=J+1"
+          ∷ "      PRINT *,K"
+          ∷ "      K=K*5"
+          ∷ "      PRINT *,J"
+          ∷ "      END"
+          ∷ [],
+      ended (one 2 ∷ one 10 ∷ one 10 ∷ []) 16 7,
+    )
+    -- expression actuals
+    ∷ (
+      "      I=3"
+          ∷ "      CALL S(I+1,(I),I,7)"
+          ∷ "      PRINT *,I"
+          ∷ "      END"
+          ∷ "      SUBROUTINE S(J,K,L,M)"
+          ∷ "      J=J*2"
+          ∷ "      K=K+10"
+          ∷ "      L=M"
+          ∷ "      PRINT *,J,K,L,M"
+          ∷ "      END"
+          ∷ [],
+      ended (numbers (8 ∷ 13 ∷ 7 ∷ 7 ∷ []) ∷ one 7 ∷ []) 22 11,
+    )
+    -- an element by its location, and by its value
+    ∷ (
+      "      INTEGER X(3)"
+          ∷ "      X(2)=5"
+          ∷ "      CALL S(X(2),(X(2)))"
+          ∷ "      PRINT *,X(2)"
+          ∷ "      END"
+          ∷ "      SUBROUTINE S(I,J)"
+          ∷ "      I=I+1"
+          ∷ "      J=J+I"
+          ∷ "      PRINT *,I,J"
+          ∷ "      END"
+          ∷ [],
+      ended (numbers (6 ∷ 11 ∷ []) ∷ one 6 ∷ []) 17 9,
+    )
+    -- dummy of a dummy
+    ∷ (
+      "      I=1"
+          ∷ "      CALL S(I,(I))"
+          ∷ "      PRINT *,I"
+          ∷ "      END"
+          ∷ "      SUBROUTINE S(J,K)"
+          ∷ "      CALL T(J,K)"
+          ∷ "      PRINT *,J,K"
+          ∷ "      END"
+          ∷ "      SUBROUTINE T(L,M)"
+          ∷ "      L=5"
+          ∷ "      M=6"
+          ∷ "      END"
+          ∷ [],
+      ended (numbers (5 ∷ 6 ∷ []) ∷ one 5 ∷ []) 14 12,
+    )
+    ∷ [])
 unfolding runs
-two_dummies_of_one_place_runs = refl
-
-expression_actuals_runs : runs (
-    "      I=3"
-    ∷ "      CALL S(I+1,(I),I,7)"
-    ∷ "      PRINT *,I"
-    ∷ "      END"
-    ∷ "      SUBROUTINE S(J,K,L,M)"
-    ∷ "      J=J*2"
-    ∷ "      K=K+10"
-    ∷ "      L=M"
-    ∷ "      PRINT *,J,K,L,M"
-    ∷ "      END"
-    ∷ []) ≡ ended (numbers (8 ∷ 13 ∷ 7 ∷ 7 ∷ []) ∷ one 7 ∷ []) 22 11
-unfolding runs
-expression_actuals_runs = refl
-
--- an element by its location, and by its value
-element_and_its_value_runs : runs (
-    "      INTEGER X(3)"
-    ∷ "      X(2)=5"
-    ∷ "      CALL S(X(2),(X(2)))"
-    ∷ "      PRINT *,X(2)"
-    ∷ "      END"
-    ∷ "      SUBROUTINE S(I,J)"
-    ∷ "      I=I+1"
-    ∷ "      J=J+I"
-    ∷ "      PRINT *,I,J"
-    ∷ "      END"
-    ∷ []) ≡ ended (numbers (6 ∷ 11 ∷ []) ∷ one 6 ∷ []) 17 9
-unfolding runs
-element_and_its_value_runs = refl
-
-dummy_of_a_dummy_runs : runs (
-    "      I=1"
-    ∷ "      CALL S(I,(I))"
-    ∷ "      PRINT *,I"
-    ∷ "      END"
-    ∷ "      SUBROUTINE S(J,K)"
-    ∷ "      CALL T(J,K)"
-    ∷ "      PRINT *,J,K"
-    ∷ "      END"
-    ∷ "      SUBROUTINE T(L,M)"
-    ∷ "      L=5"
-    ∷ "      M=6"
-    ∷ "      END"
-    ∷ []) ≡ ended (numbers (5 ∷ 6 ∷ []) ∷ one 5 ∷ []) 14 12
-unfolding runs
-dummy_of_a_dummy_runs = refl
+actual_and_dummy_arguments = refl
 
 abbrev recursion : List String
 recursion =
@@ -107,225 +111,232 @@ main_after_runs = refl
 
 -- ---- Arrays
 
-lower_bounds_runs : runs (
-    "      INTEGER X(-1:1,0:2)"
-    ∷ "      DO 10 I=-1,1"
-    ∷ "      DO 10 J=0,2"
-    ∷ "   10 X(I,J)=10*I+J"
-    ∷ "      CALL S(X,-1)"
-    ∷ "      PRINT *,X(-1,0),X(1,2)"
-    ∷ "      PRINT *,X(0,3)"
-    ∷ "      END"
-    ∷ "      SUBROUTINE S(A,L)"
-    ∷ "      INTEGER A(L:1,0:*),B(9)"
-    ∷ "      PRINT *,A(0,1),A(1,2)"
-    ∷ "      END"
-    ∷ []) ≡ record { records = numbers (1 ∷ 12 ∷ []) ∷ (minus 10 ∷ int 12 ∷ []) ∷ []; faults = fault 1 0 7 Range ∷ []; processes = []; entries = 91; used = 34; ending = done }
+arrays : AllRun (
+    -- lower bounds
+    (
+      "      INTEGER X(-1:1,0:2)"
+          ∷ "      DO 10 I=-1,1"
+          ∷ "      DO 10 J=0,2"
+          ∷ "   10 X(I,J)=10*I+J"
+          ∷ "      CALL S(X,-1)"
+          ∷ "      PRINT *,X(-1,0),X(1,2)"
+          ∷ "      PRINT *,X(0,3)"
+          ∷ "      END"
+          ∷ "      SUBROUTINE S(A,L)"
+          ∷ "      INTEGER A(L:1,0:*),B(9)"
+          ∷ "      PRINT *,A(0,1),A(1,2)"
+          ∷ "      END"
+          ∷ [],
+      record { records = numbers (1 ∷ 12 ∷ []) ∷ (minus 10 ∷ int 12 ∷ []) ∷ []; faults = fault 1 0 7 Range ∷ []; processes = []; entries = 91; used = 34; ending = done },
+    )
+    -- the bound stays that of the CALL
+    ∷ (
+      "      COMMON N"
+          ∷ "      INTEGER X(6)"
+          ∷ "      N=3"
+          ∷ "      X(4)=7"
+          ∷ "      CALL S(X)"
+          ∷ "      PRINT *,X(1)"
+          ∷ "      END"
+          ∷ "      SUBROUTINE S(A)"
+          ∷ "      COMMON M"
+          ∷ "      INTEGER A(M,*)"
+          ∷ "      PRINT *,A(1,2)"
+          ∷ "      M=2"
+          ∷ "      PRINT *,A(1,2)"
+          ∷ "      A(1,1)=M"
+          ∷ "      END"
+          ∷ [],
+      ended (one 7 ∷ one 7 ∷ one 2 ∷ []) 14 15,
+    )
+    -- bound undefined
+    ∷ (
+      "      COMMON N"
+          ∷ "      INTEGER X(6)"
+          ∷ "      CALL S(X)"
+          ∷ "      END"
+          ∷ "      SUBROUTINE S(A)"
+          ∷ "      COMMON M"
+          ∷ "      INTEGER A(M,*)"
+          ∷ "      END"
+          ∷ [],
+      record { records = []; faults = fault 1 0 3 Shape ∷ []; processes = []; entries = 1; used = 8; ending = done },
+    )
+    -- bound faults
+    ∷ (
+      "      INTEGER X(2)"
+          ∷ "      CALL S(X,0)"
+          ∷ "      END"
+          ∷ "      SUBROUTINE S(A,N)"
+          ∷ "      INTEGER A(1/N)"
+          ∷ "      END"
+          ∷ [],
+      record { records = []; faults = fault 1 0 2 Shape ∷ []; processes = []; entries = 1; used = 3; ending = done },
+    )
+    -- upper below lower
+    ∷ (
+      "      INTEGER X(2)"
+          ∷ "      CALL S(X,0)"
+          ∷ "      END"
+          ∷ "      SUBROUTINE S(A,N)"
+          ∷ "      INTEGER A(N)"
+          ∷ "      END"
+          ∷ [],
+      record { records = []; faults = fault 1 0 2 Shape ∷ []; processes = []; entries = 1; used = 3; ending = done },
+    )
+    -- too many cells
+    ∷ (
+      "      INTEGER X(2)"
+          ∷ "      CALL S(X,1048577)"
+          ∷ "      END"
+          ∷ "      SUBROUTINE S(A,N)"
+          ∷ "      INTEGER A(N)"
+          ∷ "      END"
+          ∷ [],
+      record { records = []; faults = fault 1 0 2 Shape ∷ []; processes = []; entries = 1; used = 3; ending = done },
+    )
+    -- range before shape
+    ∷ (
+      "      INTEGER X(2)"
+          ∷ "      K=3"
+          ∷ "      CALL S(X,X(K))"
+          ∷ "      END"
+          ∷ "      SUBROUTINE S(A,B)"
+          ∷ "      INTEGER A(3),B(1)"
+          ∷ "      END"
+          ∷ [],
+      record { records = []; faults = fault 1 0 3 Range ∷ []; processes = []; entries = 3; used = 4; ending = done },
+    )
+    -- star passed on
+    ∷ (
+      "      INTEGER X(5)"
+          ∷ "      X(5)=9"
+          ∷ "      CALL S(X(2))"
+          ∷ "      END"
+          ∷ "      SUBROUTINE S(A)"
+          ∷ "      INTEGER A(*)"
+          ∷ "      CALL T(A(3))"
+          ∷ "      END"
+          ∷ "      SUBROUTINE T(B)"
+          ∷ "      INTEGER B(*)"
+          ∷ "      PRINT *,B(2)"
+          ∷ "      PRINT *,B(3)"
+          ∷ "      END"
+          ∷ [],
+      record { records = one 9 ∷ []; faults = fault 1 2 12 Range ∷ []; processes = []; entries = 6; used = 12; ending = done },
+    )
+    -- star passed on shape
+    ∷ (
+      "      INTEGER X(5)"
+          ∷ "      X(5)=9"
+          ∷ "      CALL S(X(2))"
+          ∷ "      END"
+          ∷ "      SUBROUTINE S(A)"
+          ∷ "      INTEGER A(*)"
+          ∷ "      CALL T(A(3))"
+          ∷ "      END"
+          ∷ "      SUBROUTINE T(B)"
+          ∷ "      INTEGER B(3)"
+          ∷ "      PRINT *,B(2)"
+          ∷ "      END"
+          ∷ [],
+      record { records = []; faults = fault 1 1 7 Shape ∷ []; processes = []; entries = 3; used = 9; ending = done },
+    )
+    -- star passed on range
+    ∷ (
+      "      INTEGER X(5)"
+          ∷ "      X(5)=9"
+          ∷ "      CALL S(X(2))"
+          ∷ "      END"
+          ∷ "      SUBROUTINE S(A)"
+          ∷ "      INTEGER A(*)"
+          ∷ "      CALL T(A(5))"
+          ∷ "      END"
+          ∷ "      SUBROUTINE T(B)"
+          ∷ "      INTEGER B(3)"
+          ∷ "      PRINT *,B(2)"
+          ∷ "      END"
+          ∷ [],
+      record { records = []; faults = fault 1 1 7 Range ∷ []; processes = []; entries = 3; used = 9; ending = done },
+    )
+    -- its rest is that of its own shape
+    ∷ (
+      "      INTEGER X(10)"
+          ∷ "      CALL S(X)"
+          ∷ "      END"
+          ∷ "      SUBROUTINE S(A)"
+          ∷ "      INTEGER A(3)"
+          ∷ "      CALL T(A(2))"
+          ∷ "      END"
+          ∷ "      SUBROUTINE T(B)"
+          ∷ "      INTEGER B(3)"
+          ∷ "      END"
+          ∷ [],
+      record { records = []; faults = fault 1 1 6 Shape ∷ []; processes = []; entries = 2; used = 14; ending = done },
+    )
+    -- known size passed on whole
+    ∷ (
+      "      INTEGER X(10)"
+          ∷ "      X(3)=4"
+          ∷ "      CALL S(X)"
+          ∷ "      END"
+          ∷ "      SUBROUTINE S(A)"
+          ∷ "      INTEGER A(3)"
+          ∷ "      CALL T(A)"
+          ∷ "      END"
+          ∷ "      SUBROUTINE T(B)"
+          ∷ "      INTEGER B(*)"
+          ∷ "      PRINT *,B(3)"
+          ∷ "      PRINT *,B(4)"
+          ∷ "      END"
+          ∷ [],
+      record { records = one 4 ∷ []; faults = fault 1 2 12 Range ∷ []; processes = []; entries = 6; used = 17; ending = done },
+    )
+    ∷ [])
 unfolding runs
-lower_bounds_runs = refl
-
--- the bound stays that of the CALL
-bound_in_common_runs : runs (
-    "      COMMON N"
-    ∷ "      INTEGER X(6)"
-    ∷ "      N=3"
-    ∷ "      X(4)=7"
-    ∷ "      CALL S(X)"
-    ∷ "      PRINT *,X(1)"
-    ∷ "      END"
-    ∷ "      SUBROUTINE S(A)"
-    ∷ "      COMMON M"
-    ∷ "      INTEGER A(M,*)"
-    ∷ "      PRINT *,A(1,2)"
-    ∷ "      M=2"
-    ∷ "      PRINT *,A(1,2)"
-    ∷ "      A(1,1)=M"
-    ∷ "      END"
-    ∷ []) ≡ ended (one 7 ∷ one 7 ∷ one 2 ∷ []) 14 15
-unfolding runs
-bound_in_common_runs = refl
-
-bound_undefined_runs : runs (
-    "      COMMON N"
-    ∷ "      INTEGER X(6)"
-    ∷ "      CALL S(X)"
-    ∷ "      END"
-    ∷ "      SUBROUTINE S(A)"
-    ∷ "      COMMON M"
-    ∷ "      INTEGER A(M,*)"
-    ∷ "      END"
-    ∷ []) ≡ record { records = []; faults = fault 1 0 3 Shape ∷ []; processes = []; entries = 1; used = 8; ending = done }
-unfolding runs
-bound_undefined_runs = refl
-
-bound_faults_runs : runs (
-    "      INTEGER X(2)"
-    ∷ "      CALL S(X,0)"
-    ∷ "      END"
-    ∷ "      SUBROUTINE S(A,N)"
-    ∷ "      INTEGER A(1/N)"
-    ∷ "      END"
-    ∷ []) ≡ record { records = []; faults = fault 1 0 2 Shape ∷ []; processes = []; entries = 1; used = 3; ending = done }
-unfolding runs
-bound_faults_runs = refl
-
-upper_below_lower_runs : runs (
-    "      INTEGER X(2)"
-    ∷ "      CALL S(X,0)"
-    ∷ "      END"
-    ∷ "      SUBROUTINE S(A,N)"
-    ∷ "      INTEGER A(N)"
-    ∷ "      END"
-    ∷ []) ≡ record { records = []; faults = fault 1 0 2 Shape ∷ []; processes = []; entries = 1; used = 3; ending = done }
-unfolding runs
-upper_below_lower_runs = refl
-
-too_many_cells_runs : runs (
-    "      INTEGER X(2)"
-    ∷ "      CALL S(X,1048577)"
-    ∷ "      END"
-    ∷ "      SUBROUTINE S(A,N)"
-    ∷ "      INTEGER A(N)"
-    ∷ "      END"
-    ∷ []) ≡ record { records = []; faults = fault 1 0 2 Shape ∷ []; processes = []; entries = 1; used = 3; ending = done }
-unfolding runs
-too_many_cells_runs = refl
-
-range_before_shape_runs : runs (
-    "      INTEGER X(2)"
-    ∷ "      K=3"
-    ∷ "      CALL S(X,X(K))"
-    ∷ "      END"
-    ∷ "      SUBROUTINE S(A,B)"
-    ∷ "      INTEGER A(3),B(1)"
-    ∷ "      END"
-    ∷ []) ≡ record { records = []; faults = fault 1 0 3 Range ∷ []; processes = []; entries = 3; used = 4; ending = done }
-unfolding runs
-range_before_shape_runs = refl
-
-star_passed_on_runs : runs (
-    "      INTEGER X(5)"
-    ∷ "      X(5)=9"
-    ∷ "      CALL S(X(2))"
-    ∷ "      END"
-    ∷ "      SUBROUTINE S(A)"
-    ∷ "      INTEGER A(*)"
-    ∷ "      CALL T(A(3))"
-    ∷ "      END"
-    ∷ "      SUBROUTINE T(B)"
-    ∷ "      INTEGER B(*)"
-    ∷ "      PRINT *,B(2)"
-    ∷ "      PRINT *,B(3)"
-    ∷ "      END"
-    ∷ []) ≡ record { records = one 9 ∷ []; faults = fault 1 2 12 Range ∷ []; processes = []; entries = 6; used = 12; ending = done }
-unfolding runs
-star_passed_on_runs = refl
-
-star_passed_on_shape_runs : runs (
-    "      INTEGER X(5)"
-    ∷ "      X(5)=9"
-    ∷ "      CALL S(X(2))"
-    ∷ "      END"
-    ∷ "      SUBROUTINE S(A)"
-    ∷ "      INTEGER A(*)"
-    ∷ "      CALL T(A(3))"
-    ∷ "      END"
-    ∷ "      SUBROUTINE T(B)"
-    ∷ "      INTEGER B(3)"
-    ∷ "      PRINT *,B(2)"
-    ∷ "      END"
-    ∷ []) ≡ record { records = []; faults = fault 1 1 7 Shape ∷ []; processes = []; entries = 3; used = 9; ending = done }
-unfolding runs
-star_passed_on_shape_runs = refl
-
-star_passed_on_range_runs : runs (
-    "      INTEGER X(5)"
-    ∷ "      X(5)=9"
-    ∷ "      CALL S(X(2))"
-    ∷ "      END"
-    ∷ "      SUBROUTINE S(A)"
-    ∷ "      INTEGER A(*)"
-    ∷ "      CALL T(A(5))"
-    ∷ "      END"
-    ∷ "      SUBROUTINE T(B)"
-    ∷ "      INTEGER B(3)"
-    ∷ "      PRINT *,B(2)"
-    ∷ "      END"
-    ∷ []) ≡ record { records = []; faults = fault 1 1 7 Range ∷ []; processes = []; entries = 3; used = 9; ending = done }
-unfolding runs
-star_passed_on_range_runs = refl
-
--- its rest is that of its own shape
-known_size_passed_on_runs : runs (
-    "      INTEGER X(10)"
-    ∷ "      CALL S(X)"
-    ∷ "      END"
-    ∷ "      SUBROUTINE S(A)"
-    ∷ "      INTEGER A(3)"
-    ∷ "      CALL T(A(2))"
-    ∷ "      END"
-    ∷ "      SUBROUTINE T(B)"
-    ∷ "      INTEGER B(3)"
-    ∷ "      END"
-    ∷ []) ≡ record { records = []; faults = fault 1 1 6 Shape ∷ []; processes = []; entries = 2; used = 14; ending = done }
-unfolding runs
-known_size_passed_on_runs = refl
-
-known_size_passed_on_whole_runs : runs (
-    "      INTEGER X(10)"
-    ∷ "      X(3)=4"
-    ∷ "      CALL S(X)"
-    ∷ "      END"
-    ∷ "      SUBROUTINE S(A)"
-    ∷ "      INTEGER A(3)"
-    ∷ "      CALL T(A)"
-    ∷ "      END"
-    ∷ "      SUBROUTINE T(B)"
-    ∷ "      INTEGER B(*)"
-    ∷ "      PRINT *,B(3)"
-    ∷ "      PRINT *,B(4)"
-    ∷ "      END"
-    ∷ []) ≡ record { records = one 4 ∷ []; faults = fault 1 2 12 Range ∷ []; processes = []; entries = 6; used = 17; ending = done }
-unfolding runs
-known_size_passed_on_whole_runs = refl
+arrays = refl
 
 -- ---- COMMON
 
--- a block that is named again goes on; an array in one unit, scalars in the other
-common_blocks_runs : runs (
-    "      COMMON /B/ I,K(2) /C/ M /B/ J"
-    ∷ "      I=1"
-    ∷ "      K(1)=2"
-    ∷ "      K(2)=3"
-    ∷ "      J=4"
-    ∷ "      M=5"
-    ∷ "      CALL S"
-    ∷ "      END"
-    ∷ "      SUBROUTINE S"
-    ∷ "      COMMON /C/ N"
-    ∷ "      COMMON /B/ I,K"
-    ∷ "      COMMON /B/ J,L"
-    ∷ "      PRINT *,I,K,J,L,N"
-    ∷ "      END"
-    ∷ []) ≡ ended (numbers (1 ∷ 2 ∷ 3 ∷ 4 ∷ 5 ∷ []) ∷ []) 14 7
+common : AllRun (
+    -- a block that is named again goes on; an array in one unit, scalars in the other
+    (
+      "      COMMON /B/ I,K(2) /C/ M /B/ J"
+          ∷ "      I=1"
+          ∷ "      K(1)=2"
+          ∷ "      K(2)=3"
+          ∷ "      J=4"
+          ∷ "      M=5"
+          ∷ "      CALL S"
+          ∷ "      END"
+          ∷ "      SUBROUTINE S"
+          ∷ "      COMMON /C/ N"
+          ∷ "      COMMON /B/ I,K"
+          ∷ "      COMMON /B/ J,L"
+          ∷ "      PRINT *,I,K,J,L,N"
+          ∷ "      END"
+          ∷ [],
+      ended (numbers (1 ∷ 2 ∷ 3 ∷ 4 ∷ 5 ∷ []) ∷ []) 14 7,
+    )
+    -- common in three units
+    ∷ (
+      "      CALL S"
+          ∷ "      CALL T"
+          ∷ "      END"
+          ∷ "      SUBROUTINE S"
+          ∷ "      COMMON I,J /B/ K"
+          ∷ "      I=1"
+          ∷ "      J=2"
+          ∷ "      K=3"
+          ∷ "      END"
+          ∷ "      SUBROUTINE T"
+          ∷ "      COMMON /B/ L // M(2),N"
+          ∷ "      PRINT *,M(1),M(2),L"
+          ∷ "      PRINT *,N"
+          ∷ "      END"
+          ∷ [],
+      record { records = numbers (1 ∷ 2 ∷ 3 ∷ []) ∷ []; faults = fault 1 2 13 Undefined ∷ []; processes = []; entries = 11; used = 7; ending = done },
+    )
+    ∷ [])
 unfolding runs
-common_blocks_runs = refl
-
-common_in_three_units_runs : runs (
-    "      CALL S"
-    ∷ "      CALL T"
-    ∷ "      END"
-    ∷ "      SUBROUTINE S"
-    ∷ "      COMMON I,J /B/ K"
-    ∷ "      I=1"
-    ∷ "      J=2"
-    ∷ "      K=3"
-    ∷ "      END"
-    ∷ "      SUBROUTINE T"
-    ∷ "      COMMON /B/ L // M(2),N"
-    ∷ "      PRINT *,M(1),M(2),L"
-    ∷ "      PRINT *,N"
-    ∷ "      END"
-    ∷ []) ≡ record { records = numbers (1 ∷ 2 ∷ 3 ∷ []) ∷ []; faults = fault 1 2 13 Undefined ∷ []; processes = []; entries = 11; used = 7; ending = done }
-unfolding runs
-common_in_three_units_runs = refl
+common = refl

@@ -2,72 +2,76 @@
 use Rattle.std.specs.Prelude.{◌≡◌, List, [], ◌∷◌, refl}
 use Prim.Native.String.{String}
 use Rattle.hep_machine.specs.declared.event.Kind.TheVariants.{Overflow}
-use Rattle.hep_worked.proofs.SerialRuns.{runs, done, minus, one, numbers, fault, ended}
+use Rattle.hep_worked.proofs.SerialRuns.{AllRun, runs, done, minus, one, numbers, fault, ended}
 
 -- ---- Block IFs
 
--- each chain of ELSE IFs, with a block that is empty and with blocks in a block
-if_chain_runs : runs (
-    "      DO 10 I=1,4"
-    ∷ "      IF(I.EQ.1)THEN"
-    ∷ "      PRINT *,1,1"
-    ∷ "      ELSE IF(I.EQ.2)THEN"
-    ∷ "      IF(.TRUE.)THEN"
-    ∷ "      ELSE"
-    ∷ "      PRINT *,0"
-    ∷ "      END IF"
-    ∷ "      PRINT *,2,2"
-    ∷ "      ELSE IF(I.EQ.3)THEN"
-    ∷ "      ELSE"
-    ∷ "      PRINT *,4,4"
-    ∷ "      IF(.FALSE.)THEN"
-    ∷ "      PRINT *,0"
-    ∷ "      ELSE IF(.TRUE.)THEN"
-    ∷ "      PRINT *,5,5"
-    ∷ "      END IF"
-    ∷ "      END IF"
-    ∷ "   10 CONTINUE"
-    ∷ "      END"
-    ∷ []) ≡ ended (numbers (1 ∷ 1 ∷ []) ∷ numbers (2 ∷ 2 ∷ []) ∷ numbers (4 ∷ 4 ∷ []) ∷ numbers (5 ∷ 5 ∷ []) ∷ []) 50 4
+block_ifs : AllRun (
+    -- each chain of ELSE IFs, with a block that is empty and with blocks in a block
+    (
+      "      DO 10 I=1,4"
+          ∷ "      IF(I.EQ.1)THEN"
+          ∷ "      PRINT *,1,1"
+          ∷ "      ELSE IF(I.EQ.2)THEN"
+          ∷ "      IF(.TRUE.)THEN"
+          ∷ "      ELSE"
+          ∷ "      PRINT *,0"
+          ∷ "      END IF"
+          ∷ "      PRINT *,2,2"
+          ∷ "      ELSE IF(I.EQ.3)THEN"
+          ∷ "      ELSE"
+          ∷ "      PRINT *,4,4"
+          ∷ "      IF(.FALSE.)THEN"
+          ∷ "      PRINT *,0"
+          ∷ "      ELSE IF(.TRUE.)THEN"
+          ∷ "      PRINT *,5,5"
+          ∷ "      END IF"
+          ∷ "      END IF"
+          ∷ "   10 CONTINUE"
+          ∷ "      END"
+          ∷ [],
+      ended (numbers (1 ∷ 1 ∷ []) ∷ numbers (2 ∷ 2 ∷ []) ∷ numbers (4 ∷ 4 ∷ []) ∷ numbers (5 ∷ 5 ∷ []) ∷ []) 50 4,
+    )
+    -- if then else at once
+    ∷ (
+      "      IF(.FALSE.)THEN"
+          ∷ "      ELSE"
+          ∷ "      PRINT *,2"
+          ∷ "      END IF"
+          ∷ "      IF(.TRUE.)THEN"
+          ∷ "      ELSE"
+          ∷ "      PRINT *,3"
+          ∷ "      END IF"
+          ∷ "      IF(.FALSE.)THEN"
+          ∷ "      END IF"
+          ∷ "      IF(.FALSE.)THEN"
+          ∷ "      ELSE"
+          ∷ "      END IF"
+          ∷ "      PRINT *,4"
+          ∷ "      END"
+          ∷ [],
+      ended (one 2 ∷ one 4 ∷ []) 11 1,
+    )
+    -- nested ifs in a do
+    ∷ (
+      "      DO 10 I=1,2"
+          ∷ "      DO 20 J=1,2"
+          ∷ "      IF(I.EQ.J)THEN"
+          ∷ "      PRINT *,I"
+          ∷ "      ELSE"
+          ∷ "      IF(I.LT.J)THEN"
+          ∷ "      PRINT *,0"
+          ∷ "      END IF"
+          ∷ "      END IF"
+          ∷ "   20 CONTINUE"
+          ∷ "   10 CONTINUE"
+          ∷ "      END"
+          ∷ [],
+      ended (one 1 ∷ one 0 ∷ one 2 ∷ []) 51 7,
+    )
+    ∷ [])
 unfolding runs
-if_chain_runs = refl
-
-if_then_else_at_once_runs : runs (
-    "      IF(.FALSE.)THEN"
-    ∷ "      ELSE"
-    ∷ "      PRINT *,2"
-    ∷ "      END IF"
-    ∷ "      IF(.TRUE.)THEN"
-    ∷ "      ELSE"
-    ∷ "      PRINT *,3"
-    ∷ "      END IF"
-    ∷ "      IF(.FALSE.)THEN"
-    ∷ "      END IF"
-    ∷ "      IF(.FALSE.)THEN"
-    ∷ "      ELSE"
-    ∷ "      END IF"
-    ∷ "      PRINT *,4"
-    ∷ "      END"
-    ∷ []) ≡ ended (one 2 ∷ one 4 ∷ []) 11 1
-unfolding runs
-if_then_else_at_once_runs = refl
-
-nested_ifs_in_a_do_runs : runs (
-    "      DO 10 I=1,2"
-    ∷ "      DO 20 J=1,2"
-    ∷ "      IF(I.EQ.J)THEN"
-    ∷ "      PRINT *,I"
-    ∷ "      ELSE"
-    ∷ "      IF(I.LT.J)THEN"
-    ∷ "      PRINT *,0"
-    ∷ "      END IF"
-    ∷ "      END IF"
-    ∷ "   20 CONTINUE"
-    ∷ "   10 CONTINUE"
-    ∷ "      END"
-    ∷ []) ≡ ended (one 1 ∷ one 0 ∷ one 2 ∷ []) 51 7
-unfolding runs
-nested_ifs_in_a_do_runs = refl
+block_ifs = refl
 
 abbrev jump_to_end_if : List String
 jump_to_end_if =
@@ -155,137 +159,126 @@ jump_out_and_in_again_runs = refl
 
 -- ---- DO
 
-negative_steps_runs : runs (
-    "      DO 10 I=5,1,-2"
-    ∷ "   10 PRINT *,I"
-    ∷ "      PRINT *,I"
-    ∷ "      DO 20 J=1,2,-1"
-    ∷ "   20 PRINT *,0"
-    ∷ "      PRINT *,J"
-    ∷ "      DO 30 K=-7,-1,4"
-    ∷ "   30 PRINT *,K"
-    ∷ "      PRINT *,K"
-    ∷ "      END"
-    ∷ []) ≡ ended (one 5 ∷ one 3 ∷ one 1 ∷ (minus 1 ∷ []) ∷ one 1 ∷ (minus 7 ∷ []) ∷ (minus 3 ∷ []) ∷ one 1 ∷ []) 29 10
+dos : AllRun (
+    -- negative steps
+    (
+      "      DO 10 I=5,1,-2"
+          ∷ "   10 PRINT *,I"
+          ∷ "      PRINT *,I"
+          ∷ "      DO 20 J=1,2,-1"
+          ∷ "   20 PRINT *,0"
+          ∷ "      PRINT *,J"
+          ∷ "      DO 30 K=-7,-1,4"
+          ∷ "   30 PRINT *,K"
+          ∷ "      PRINT *,K"
+          ∷ "      END"
+          ∷ [],
+      ended (one 5 ∷ one 3 ∷ one 1 ∷ (minus 1 ∷ []) ∷ one 1 ∷ (minus 7 ∷ []) ∷ (minus 3 ∷ []) ∷ one 1 ∷ []) 29 10,
+    )
+    -- the count stays
+    ∷ (
+      "      DO 10 I=1,3"
+          ∷ "      PRINT *,I"
+          ∷ "   10 I=I+10"
+          ∷ "      PRINT *,I"
+          ∷ "      END"
+          ∷ [],
+      ended (one 1 ∷ one 12 ∷ one 23 ∷ one 34 ∷ []) 22 4,
+    )
+    -- the limit and the increment stay
+    ∷ (
+      "      N=3"
+          ∷ "      M=1"
+          ∷ "      DO 10 I=1,N,M"
+          ∷ "      N=1"
+          ∷ "      M=5"
+          ∷ "   10 PRINT *,I"
+          ∷ "      END"
+          ∷ [],
+      ended (one 1 ∷ one 2 ∷ one 3 ∷ []) 21 6,
+    )
+    -- after the last iteration the DO variable would be above the greatest integer
+    ∷ (
+      "      DO 10 I=9223372036854775806,9223372036854775807"
+          ∷ "   10 PRINT *,I"
+          ∷ "      END"
+          ∷ [],
+      record { records = one 9223372036854775806 ∷ one 9223372036854775807 ∷ []; faults = fault 1 0 2 Overflow ∷ []; processes = []; entries = 7; used = 4; ending = done },
+    )
+    -- count overflows
+    ∷ (
+      "      DO 10 I=-9223372036854775807,9223372036854775807"
+          ∷ "   10 PRINT *,I"
+          ∷ "      END"
+          ∷ [],
+      record { records = []; faults = fault 1 0 1 Overflow ∷ []; processes = []; entries = 2; used = 4; ending = done },
+    )
+    ∷ [])
 unfolding runs
-negative_steps_runs = refl
-
--- the count stays
-variable_changed_runs : runs (
-    "      DO 10 I=1,3"
-    ∷ "      PRINT *,I"
-    ∷ "   10 I=I+10"
-    ∷ "      PRINT *,I"
-    ∷ "      END"
-    ∷ []) ≡ ended (one 1 ∷ one 12 ∷ one 23 ∷ one 34 ∷ []) 22 4
-unfolding runs
-variable_changed_runs = refl
-
--- the limit and the increment stay
-variables_of_bounds_changed_runs : runs (
-    "      N=3"
-    ∷ "      M=1"
-    ∷ "      DO 10 I=1,N,M"
-    ∷ "      N=1"
-    ∷ "      M=5"
-    ∷ "   10 PRINT *,I"
-    ∷ "      END"
-    ∷ []) ≡ ended (one 1 ∷ one 2 ∷ one 3 ∷ []) 21 6
-unfolding runs
-variables_of_bounds_changed_runs = refl
-
--- after the last iteration the DO variable would be above the greatest integer
-last_turn_overflows_runs : runs (
-    "      DO 10 I=9223372036854775806,9223372036854775807"
-    ∷ "   10 PRINT *,I"
-    ∷ "      END"
-    ∷ []) ≡ record { records = one 9223372036854775806 ∷ one 9223372036854775807 ∷ []; faults = fault 1 0 2 Overflow ∷ []; processes = []; entries = 7; used = 4; ending = done }
-unfolding runs
-last_turn_overflows_runs = refl
-
-count_overflows_runs : runs (
-    "      DO 10 I=-9223372036854775807,9223372036854775807"
-    ∷ "   10 PRINT *,I"
-    ∷ "      END"
-    ∷ []) ≡ record { records = []; faults = fault 1 0 1 Overflow ∷ []; processes = []; entries = 2; used = 4; ending = done }
-unfolding runs
-count_overflows_runs = refl
+dos = refl
 
 -- ---- Terminal statements
 
--- the inner DO has no iteration at first
-shared_terminal_count_0_runs : runs (
-    "      DO 10 I=1,3"
-    ∷ "      DO 10 J=3,I*2"
-    ∷ "   10 PRINT *,I,J"
-    ∷ "      PRINT *,I,J"
-    ∷ "      END"
-    ∷ []) ≡ ended (numbers (2 ∷ 3 ∷ []) ∷ numbers (2 ∷ 4 ∷ []) ∷ numbers (3 ∷ 3 ∷ []) ∷ numbers (3 ∷ 4 ∷ []) ∷ numbers (3 ∷ 5 ∷ []) ∷ numbers (3 ∷ 6 ∷ []) ∷ numbers (4 ∷ 7 ∷ []) ∷ []) 41 7
+terminal_statements : AllRun (
+    -- the inner DO has no iteration at first
+    (
+      "      DO 10 I=1,3"
+          ∷ "      DO 10 J=3,I*2"
+          ∷ "   10 PRINT *,I,J"
+          ∷ "      PRINT *,I,J"
+          ∷ "      END"
+          ∷ [],
+      ended (numbers (2 ∷ 3 ∷ []) ∷ numbers (2 ∷ 4 ∷ []) ∷ numbers (3 ∷ 3 ∷ []) ∷ numbers (3 ∷ 4 ∷ []) ∷ numbers (3 ∷ 5 ∷ []) ∷ numbers (3 ∷ 6 ∷ []) ∷ numbers (4 ∷ 7 ∷ []) ∷ []) 41 7,
+    )
+    -- triple terminal
+    ∷ (
+      "      DO 10 I=1,2"
+          ∷ "      DO 10 J=1,2"
+          ∷ "      DO 10 K=1,J"
+          ∷ "   10 PRINT *,I,J,K"
+          ∷ "      END"
+          ∷ [],
+      ended (numbers (1 ∷ 1 ∷ 1 ∷ []) ∷ numbers (1 ∷ 2 ∷ 1 ∷ []) ∷ numbers (1 ∷ 2 ∷ 2 ∷ []) ∷ numbers (2 ∷ 1 ∷ 1 ∷ []) ∷ numbers (2 ∷ 2 ∷ 1 ∷ []) ∷ numbers (2 ∷ 2 ∷ 2 ∷ []) ∷ []) 48 10,
+    )
+    -- both DOs are left
+    ∷ (
+      "      DO 10 I=1,3"
+          ∷ "      DO 10 J=1,3"
+          ∷ "   10 IF(J.EQ.2)GO TO 20"
+          ∷ "   20 PRINT *,I,J"
+          ∷ "      END"
+          ∷ [],
+      ended (numbers (1 ∷ 2 ∷ []) ∷ []) 14 7,
+    )
+    -- the condition is false, and true
+    ∷ ("      DO 10 I=1,3" ∷ "   10 IF(I.NE.2)PRINT *,I" ∷ "      PRINT *,I" ∷ "      END" ∷ [], ended (one 1 ∷ one 3 ∷ one 4 ∷ []) 20 4)
+    -- logical if terminal jumps
+    ∷ ("      DO 10 I=1,3" ∷ "   10 IF(I.EQ.2)GO TO 20" ∷ "   20 PRINT *,I" ∷ "      END" ∷ [], ended (one 2 ∷ []) 12 4)
+    -- call in logical terminal
+    ∷ (
+      "      DO 10 I=1,3"
+          ∷ "   10 IF(I.EQ.2)CALL S(I)"
+          ∷ "      END"
+          ∷ "      SUBROUTINE S(J)"
+          ∷ "      PRINT *,J"
+          ∷ "      END"
+          ∷ [],
+      ended (one 2 ∷ []) 18 7,
+    )
+    -- it ends an iteration only where it goes on
+    ∷ (
+      "      N=0"
+          ∷ "      DO 10 I=1,3"
+          ∷ "   10 GO TO (20),I-2"
+          ∷ "      PRINT *,0"
+          ∷ "   20 PRINT *,I"
+          ∷ "      END"
+          ∷ [],
+      ended (one 3 ∷ []) 16 5,
+    )
+    ∷ [])
 unfolding runs
-shared_terminal_count_0_runs = refl
-
-triple_terminal_runs : runs (
-    "      DO 10 I=1,2"
-    ∷ "      DO 10 J=1,2"
-    ∷ "      DO 10 K=1,J"
-    ∷ "   10 PRINT *,I,J,K"
-    ∷ "      END"
-    ∷ []) ≡ ended (numbers (1 ∷ 1 ∷ 1 ∷ []) ∷ numbers (1 ∷ 2 ∷ 1 ∷ []) ∷ numbers (1 ∷ 2 ∷ 2 ∷ []) ∷ numbers (2 ∷ 1 ∷ 1 ∷ []) ∷ numbers (2 ∷ 2 ∷ 1 ∷ []) ∷ numbers (2 ∷ 2 ∷ 2 ∷ []) ∷ []) 48 10
-unfolding runs
-triple_terminal_runs = refl
-
--- both DOs are left
-jump_out_of_shared_runs : runs (
-    "      DO 10 I=1,3"
-    ∷ "      DO 10 J=1,3"
-    ∷ "   10 IF(J.EQ.2)GO TO 20"
-    ∷ "   20 PRINT *,I,J"
-    ∷ "      END"
-    ∷ []) ≡ ended (numbers (1 ∷ 2 ∷ []) ∷ []) 14 7
-unfolding runs
-jump_out_of_shared_runs = refl
-
--- the condition is false, and true
-logical_if_terminal_runs : runs (
-    "      DO 10 I=1,3"
-    ∷ "   10 IF(I.NE.2)PRINT *,I"
-    ∷ "      PRINT *,I"
-    ∷ "      END"
-    ∷ []) ≡ ended (one 1 ∷ one 3 ∷ one 4 ∷ []) 20 4
-unfolding runs
-logical_if_terminal_runs = refl
-
-logical_if_terminal_jumps_runs : runs (
-    "      DO 10 I=1,3"
-    ∷ "   10 IF(I.EQ.2)GO TO 20"
-    ∷ "   20 PRINT *,I"
-    ∷ "      END"
-    ∷ []) ≡ ended (one 2 ∷ []) 12 4
-unfolding runs
-logical_if_terminal_jumps_runs = refl
-
-call_in_logical_terminal_runs : runs (
-    "      DO 10 I=1,3"
-    ∷ "   10 IF(I.EQ.2)CALL S(I)"
-    ∷ "      END"
-    ∷ "      SUBROUTINE S(J)"
-    ∷ "      PRINT *,J"
-    ∷ "      END"
-    ∷ []) ≡ ended (one 2 ∷ []) 18 7
-unfolding runs
-call_in_logical_terminal_runs = refl
-
--- it ends an iteration only where it goes on
-computed_terminal_runs : runs (
-    "      N=0"
-    ∷ "      DO 10 I=1,3"
-    ∷ "   10 GO TO (20),I-2"
-    ∷ "      PRINT *,0"
-    ∷ "   20 PRINT *,I"
-    ∷ "      END"
-    ∷ []) ≡ ended (one 3 ∷ []) 16 5
-unfolding runs
-computed_terminal_runs = refl
+terminal_statements = refl
 
 -- ---- RETURN
 

@@ -5,104 +5,106 @@ use Rattle.hep_machine.specs.declared.event.Kind.TheVariants.{Divide, Range, Und
 use Rattle.hep_machine.specs.declared.record.Item.TheVariants.{Truth}
 use Rattle.hep_machine.specs.Layout.{is_made, is_held}
 use Rattle.hep_machine.specs.State.{common}
-use Rattle.hep_worked.proofs.SerialRuns.{report, runs, done, all_wait, halted, arena_full, no_such_process, int, one, fault, stands, waits_for_full, waits_for_empty, asynchronous, ended}
+use Rattle.hep_worked.proofs.SerialRuns.{AllRun, report, runs, done, all_wait, halted, arena_full, no_such_process, int, one, fault, stands, waits_for_full, waits_for_empty, asynchronous, ended}
 
 -- ---- Asynchronous variables
 
-asynchronous_in_common_runs : runs (
-    "      COMMON /B/ $A(3),$X"
-    ∷ "      INTEGER $A,$X"
-    ∷ "      $A(2)=5"
-    ∷ "      CALL S($A(2),$A)"
-    ∷ "      PRINT *,$A(2),FULL($A(2)),VALUE($A(3))"
-    ∷ "      END"
-    ∷ "      SUBROUTINE S($P,$Q)"
-    ∷ "      INTEGER $P,$Q(3)"
-    ∷ "      COMMON /B/ $U(3),$V"
-    ∷ "      INTEGER $U,$V"
-    ∷ "      PRINT *,$P"
-    ∷ "      $U(2)=8"
-    ∷ "      $Q(3)=9"
-    ∷ "      END"
-    ∷ []) ≡ ended (one 5 ∷ (int 8 ∷ Truth false ∷ int 9 ∷ []) ∷ []) 12 10
+asynchronous_variables : AllRun (
+    -- asynchronous in common
+    (
+      "      COMMON /B/ $A(3),$X"
+          ∷ "      INTEGER $A,$X"
+          ∷ "      $A(2)=5"
+          ∷ "      CALL S($A(2),$A)"
+          ∷ "      PRINT *,$A(2),FULL($A(2)),VALUE($A(3))"
+          ∷ "      END"
+          ∷ "      SUBROUTINE S($P,$Q)"
+          ∷ "      INTEGER $P,$Q(3)"
+          ∷ "      COMMON /B/ $U(3),$V"
+          ∷ "      INTEGER $U,$V"
+          ∷ "      PRINT *,$P"
+          ∷ "      $U(2)=8"
+          ∷ "      $Q(3)=9"
+          ∷ "      END"
+          ∷ [],
+      ended (one 5 ∷ (int 8 ∷ Truth false ∷ int 9 ∷ []) ∷ []) 12 10,
+    )
+    -- asynchronous array dummy
+    ∷ (
+      "      INTEGER $X(3)"
+          ∷ "      $X(2)=4"
+          ∷ "      CALL S($X)"
+          ∷ "      PRINT *,FULL($X(2)),$X(3)"
+          ∷ "      END"
+          ∷ "      SUBROUTINE S($A)"
+          ∷ "      INTEGER $A(3)"
+          ∷ "      I=2"
+          ∷ "      PRINT *,WAITF($A(I)),$A(I),VALUE($A(I)),EMPTY($A(I))"
+          ∷ "      $A(3)=SETE($A(2))"
+          ∷ "      END"
+          ∷ [],
+      ended ((int 4 ∷ int 4 ∷ int 4 ∷ Truth true ∷ []) ∷ (Truth false ∷ int 4 ∷ []) ∷ []) 19 8,
+    )
+    -- no value
+    ∷ (
+      "      INTEGER $X"
+          ∷ "      PRINT *,FULL($X),EMPTY($X)"
+          ∷ "      I=SETE($X)"
+          ∷ "      END"
+          ∷ [],
+      record { records = (Truth false ∷ Truth true ∷ []) ∷ []; faults = fault 1 0 3 Undefined ∷ []; processes = []; entries = 4; used = 3; ending = done },
+    )
+    -- fill twice
+    ∷ (
+      "      INTEGER $X"
+          ∷ "      $X=1"
+          ∷ "      $X=2"
+          ∷ "      END"
+          ∷ [],
+      record { records = []; faults = []; processes = waits_for_empty 1 0 3 (asynchronous 1 "X" 1) ∷ []; entries = 2; used = 2; ending = all_wait },
+    )
+    -- the fourth by columns
+    ∷ (
+      "      INTEGER $X(2,3)"
+          ∷ "      I=$X(2,2)"
+          ∷ "      END"
+          ∷ [],
+      record { records = []; faults = []; processes = waits_for_full 1 0 2 (asynchronous 1 "X" 4) ∷ []; entries = 1; used = 8; ending = all_wait },
+    )
+    -- waits in common
+    ∷ (
+      "      COMMON $N(2)"
+          ∷ "      CREATE S($N(2))"
+          ∷ "      I=$N(1)"
+          ∷ "      END"
+          ∷ "      SUBROUTINE S($K)"
+          ∷ "      INTEGER $K"
+          ∷ "      $K=1"
+          ∷ "      $K=2"
+          ∷ "      END"
+          ∷ [],
+      record { records = []; faults = []; processes = waits_for_full 1 0 3 (common None 1) ∷ waits_for_empty 2 1 8 (common None 2) ∷ []; entries = 4; used = 7; ending = all_wait },
+    )
+    -- the right side first
+    ∷ (
+      "      INTEGER X(2)"
+          ∷ "      X($I)=$J"
+          ∷ "      END"
+          ∷ [],
+      record { records = []; faults = []; processes = waits_for_full 1 0 2 (asynchronous 1 "J" 1) ∷ []; entries = 1; used = 5; ending = all_wait },
+    )
+    -- and then the subscript
+    ∷ (
+      "      INTEGER X(2)"
+          ∷ "      $J=1"
+          ∷ "      X($I)=$J"
+          ∷ "      END"
+          ∷ [],
+      record { records = []; faults = []; processes = waits_for_full 1 0 3 (asynchronous 1 "I" 1) ∷ []; entries = 3; used = 5; ending = all_wait },
+    )
+    ∷ [])
 unfolding runs
-asynchronous_in_common_runs = refl
-
-asynchronous_array_dummy_runs : runs (
-    "      INTEGER $X(3)"
-    ∷ "      $X(2)=4"
-    ∷ "      CALL S($X)"
-    ∷ "      PRINT *,FULL($X(2)),$X(3)"
-    ∷ "      END"
-    ∷ "      SUBROUTINE S($A)"
-    ∷ "      INTEGER $A(3)"
-    ∷ "      I=2"
-    ∷ "      PRINT *,WAITF($A(I)),$A(I),VALUE($A(I)),EMPTY($A(I))"
-    ∷ "      $A(3)=SETE($A(2))"
-    ∷ "      END"
-    ∷ []) ≡ ended ((int 4 ∷ int 4 ∷ int 4 ∷ Truth true ∷ []) ∷ (Truth false ∷ int 4 ∷ []) ∷ []) 19 8
-unfolding runs
-asynchronous_array_dummy_runs = refl
-
-no_value_runs : runs (
-    "      INTEGER $X"
-    ∷ "      PRINT *,FULL($X),EMPTY($X)"
-    ∷ "      I=SETE($X)"
-    ∷ "      END"
-    ∷ []) ≡ record { records = (Truth false ∷ Truth true ∷ []) ∷ []; faults = fault 1 0 3 Undefined ∷ []; processes = []; entries = 4; used = 3; ending = done }
-unfolding runs
-no_value_runs = refl
-
-fill_twice_runs : runs (
-    "      INTEGER $X"
-    ∷ "      $X=1"
-    ∷ "      $X=2"
-    ∷ "      END"
-    ∷ []) ≡ record { records = []; faults = []; processes = waits_for_empty 1 0 3 (asynchronous 1 "X" 1) ∷ []; entries = 2; used = 2; ending = all_wait }
-unfolding runs
-fill_twice_runs = refl
-
--- the fourth by columns
-element_waits_runs : runs (
-    "      INTEGER $X(2,3)"
-    ∷ "      I=$X(2,2)"
-    ∷ "      END"
-    ∷ []) ≡ record { records = []; faults = []; processes = waits_for_full 1 0 2 (asynchronous 1 "X" 4) ∷ []; entries = 1; used = 8; ending = all_wait }
-unfolding runs
-element_waits_runs = refl
-
-waits_in_common_runs : runs (
-    "      COMMON $N(2)"
-    ∷ "      CREATE S($N(2))"
-    ∷ "      I=$N(1)"
-    ∷ "      END"
-    ∷ "      SUBROUTINE S($K)"
-    ∷ "      INTEGER $K"
-    ∷ "      $K=1"
-    ∷ "      $K=2"
-    ∷ "      END"
-    ∷ []) ≡ record { records = []; faults = []; processes = waits_for_full 1 0 3 (common None 1) ∷ waits_for_empty 2 1 8 (common None 2) ∷ []; entries = 4; used = 7; ending = all_wait }
-unfolding runs
-waits_in_common_runs = refl
-
--- the right side first
-order_of_waits_runs : runs (
-    "      INTEGER X(2)"
-    ∷ "      X($I)=$J"
-    ∷ "      END"
-    ∷ []) ≡ record { records = []; faults = []; processes = waits_for_full 1 0 2 (asynchronous 1 "J" 1) ∷ []; entries = 1; used = 5; ending = all_wait }
-unfolding runs
-order_of_waits_runs = refl
-
--- and then the subscript
-order_of_further_waits_runs : runs (
-    "      INTEGER X(2)"
-    ∷ "      $J=1"
-    ∷ "      X($I)=$J"
-    ∷ "      END"
-    ∷ []) ≡ record { records = []; faults = []; processes = waits_for_full 1 0 3 (asynchronous 1 "I" 1) ∷ []; entries = 3; used = 5; ending = all_wait }
-unfolding runs
-order_of_further_waits_runs = refl
+asynchronous_variables = refl
 
 -- ---- PURGE
 
@@ -141,51 +143,56 @@ purge_range_runs : report (
 unfolding report
 purge_range_runs = refl
 
-purge_rest_runs : runs (
-    "      INTEGER $Y(4)"
-    ∷ "      DO 10 I=1,4"
-    ∷ "   10 $Y(I)=I"
-    ∷ "      CALL S($Y(2))"
-    ∷ "      PRINT *,FULL($Y(1)),FULL($Y(2)),FULL($Y(3)),FULL($Y(4))"
-    ∷ "      END"
-    ∷ "      SUBROUTINE S($Z)"
-    ∷ "      INTEGER $Z(*)"
-    ∷ "      PURGE $Z"
-    ∷ "      END"
-    ∷ []) ≡ ended ((Truth true ∷ Truth false ∷ Truth false ∷ Truth false ∷ []) ∷ []) 26 11
+purge : AllRun (
+    -- purge rest
+    (
+      "      INTEGER $Y(4)"
+          ∷ "      DO 10 I=1,4"
+          ∷ "   10 $Y(I)=I"
+          ∷ "      CALL S($Y(2))"
+          ∷ "      PRINT *,FULL($Y(1)),FULL($Y(2)),FULL($Y(3)),FULL($Y(4))"
+          ∷ "      END"
+          ∷ "      SUBROUTINE S($Z)"
+          ∷ "      INTEGER $Z(*)"
+          ∷ "      PURGE $Z"
+          ∷ "      END"
+          ∷ [],
+      ended ((Truth true ∷ Truth false ∷ Truth false ∷ Truth false ∷ []) ∷ []) 26 11,
+    )
+    -- purge shape
+    ∷ (
+      "      INTEGER $Y(4)"
+          ∷ "      DO 10 I=1,4"
+          ∷ "   10 $Y(I)=I"
+          ∷ "      CALL S($Y(2))"
+          ∷ "      PRINT *,FULL($Y(1)),FULL($Y(2)),FULL($Y(3)),FULL($Y(4))"
+          ∷ "      END"
+          ∷ "      SUBROUTINE S($Z)"
+          ∷ "      INTEGER $Z(2)"
+          ∷ "      PURGE $Z"
+          ∷ "      END"
+          ∷ [],
+      ended ((Truth true ∷ Truth false ∷ Truth false ∷ Truth true ∷ []) ∷ []) 26 11,
+    )
+    -- purge array in common
+    ∷ (
+      "      COMMON /B/ $K(2),$L"
+          ∷ "      $K(1)=1"
+          ∷ "      $K(2)=2"
+          ∷ "      $L=3"
+          ∷ "      CALL S($K)"
+          ∷ "      PRINT *,FULL($K(1)),FULL($K(2)),FULL($L),VALUE($K(2))"
+          ∷ "      END"
+          ∷ "      SUBROUTINE S($M)"
+          ∷ "      INTEGER $M(*)"
+          ∷ "      PURGE $M"
+          ∷ "      END"
+          ∷ [],
+      ended ((Truth false ∷ Truth false ∷ Truth true ∷ int 2 ∷ []) ∷ []) 12 7,
+    )
+    ∷ [])
 unfolding runs
-purge_rest_runs = refl
-
-purge_shape_runs : runs (
-    "      INTEGER $Y(4)"
-    ∷ "      DO 10 I=1,4"
-    ∷ "   10 $Y(I)=I"
-    ∷ "      CALL S($Y(2))"
-    ∷ "      PRINT *,FULL($Y(1)),FULL($Y(2)),FULL($Y(3)),FULL($Y(4))"
-    ∷ "      END"
-    ∷ "      SUBROUTINE S($Z)"
-    ∷ "      INTEGER $Z(2)"
-    ∷ "      PURGE $Z"
-    ∷ "      END"
-    ∷ []) ≡ ended ((Truth true ∷ Truth false ∷ Truth false ∷ Truth true ∷ []) ∷ []) 26 11
-unfolding runs
-purge_shape_runs = refl
-
-purge_array_in_common_runs : runs (
-    "      COMMON /B/ $K(2),$L"
-    ∷ "      $K(1)=1"
-    ∷ "      $K(2)=2"
-    ∷ "      $L=3"
-    ∷ "      CALL S($K)"
-    ∷ "      PRINT *,FULL($K(1)),FULL($K(2)),FULL($L),VALUE($K(2))"
-    ∷ "      END"
-    ∷ "      SUBROUTINE S($M)"
-    ∷ "      INTEGER $M(*)"
-    ∷ "      PURGE $M"
-    ∷ "      END"
-    ∷ []) ≡ ended ((Truth false ∷ Truth false ∷ Truth true ∷ int 2 ∷ []) ∷ []) 12 7
-unfolding runs
-purge_array_in_common_runs = refl
+purge = refl
 
 -- ---- Processes
 
@@ -221,44 +228,48 @@ waits_again_runs : report ("      I=$N" ∷ "      END" ∷ []) 65536 is_made 10
 unfolding report
 waits_again_runs = refl
 
-creator_ends_first_runs : runs (
-    "      PROGRAM P"
-    ∷ "      CREATE S(I)"
-    ∷ "      END"
-    ∷ "      SUBROUTINE S(J)"
-    ∷ "      J=1"
-    ∷ "      PRINT *,J"
-    ∷ "      END"
-    ∷ []) ≡ ended (one 1 ∷ []) 6 5
+processes : AllRun (
+    -- creator ends first
+    (
+      "      PROGRAM P"
+          ∷ "      CREATE S(I)"
+          ∷ "      END"
+          ∷ "      SUBROUTINE S(J)"
+          ∷ "      J=1"
+          ∷ "      PRINT *,J"
+          ∷ "      END"
+          ∷ [],
+      ended (one 1 ∷ []) 6 5,
+    )
+    -- create terminal
+    ∷ (
+      "      DO 10 I=1,3"
+          ∷ "   10 CREATE S($N)"
+          ∷ "      PRINT *,I,$N"
+          ∷ "      END"
+          ∷ "      SUBROUTINE S($K)"
+          ∷ "      INTEGER $K"
+          ∷ "      END"
+          ∷ [],
+      record { records = []; faults = []; processes = waits_for_full 1 0 3 (asynchronous 1 "N" 1) ∷ []; entries = 12; used = 14; ending = all_wait },
+    )
+    -- a fault ends all activations of its process, and no other process
+    ∷ (
+      "      CREATE S"
+          ∷ "      CREATE S"
+          ∷ "      END"
+          ∷ "      SUBROUTINE S"
+          ∷ "      CALL T(1)"
+          ∷ "      END"
+          ∷ "      SUBROUTINE T(I)"
+          ∷ "      PRINT *,1/0"
+          ∷ "      END"
+          ∷ [],
+      record { records = []; faults = fault 2 2 8 Divide ∷ fault 3 2 8 Divide ∷ []; processes = []; entries = 7; used = 9; ending = done },
+    )
+    ∷ [])
 unfolding runs
-creator_ends_first_runs = refl
-
-create_terminal_runs : runs (
-    "      DO 10 I=1,3"
-    ∷ "   10 CREATE S($N)"
-    ∷ "      PRINT *,I,$N"
-    ∷ "      END"
-    ∷ "      SUBROUTINE S($K)"
-    ∷ "      INTEGER $K"
-    ∷ "      END"
-    ∷ []) ≡ record { records = []; faults = []; processes = waits_for_full 1 0 3 (asynchronous 1 "N" 1) ∷ []; entries = 12; used = 14; ending = all_wait }
-unfolding runs
-create_terminal_runs = refl
-
--- a fault ends all activations of its process, and no other process
-fault_in_a_call_runs : runs (
-    "      CREATE S"
-    ∷ "      CREATE S"
-    ∷ "      END"
-    ∷ "      SUBROUTINE S"
-    ∷ "      CALL T(1)"
-    ∷ "      END"
-    ∷ "      SUBROUTINE T(I)"
-    ∷ "      PRINT *,1/0"
-    ∷ "      END"
-    ∷ []) ≡ record { records = []; faults = fault 2 2 8 Divide ∷ fault 3 2 8 Divide ∷ []; processes = []; entries = 7; used = 9; ending = done }
-unfolding runs
-fault_in_a_call_runs = refl
+processes = refl
 
 -- each fault in the order in which it comes
 out_of_range_runs : report (

@@ -5,7 +5,7 @@ use Rattle.hep_machine.specs.declared.event.Kind.TheVariants.{Overflow, Range, U
 use Rattle.hep_machine.specs.declared.record.Item.TheVariants.{Truth, Text}
 use Rattle.hep_machine.specs.Layout.{is_made, is_held}
 use Rattle.hep_machine.specs.State.{common}
-use Rattle.hep_worked.proofs.SerialRuns.{report, runs, history, used_along, layout_after, frames, view, done, all_wait, halted, arena_full, step_limit, no_such_process, int, minus, one, numbers, fault, stands, waits_for_full, asynchronous, plain, cell, unset_cell, holds, entries_of, ended, rejected}
+use Rattle.hep_worked.proofs.SerialRuns.{AllRun, report, runs, history, used_along, layout_after, frames, view, done, all_wait, halted, arena_full, step_limit, no_such_process, int, minus, one, numbers, fault, stands, waits_for_full, asynchronous, plain, cell, unset_cell, holds, entries_of, ended, rejected}
 
 -- ---- Reading
 
@@ -21,17 +21,16 @@ nothing_runs : runs nothing ≡ rejected 204 0 []
 unfolding runs
 nothing_runs = refl
 
-no_end_runs : runs ("      I=1" ∷ []) ≡ rejected 205 1 []
+reading : AllRun (
+    -- no end
+    ("      I=1" ∷ [], rejected 205 1 [])
+    -- open constant
+    ∷ ("      PRINT *,'A" ∷ [], rejected 106 1 [])
+    -- tab in front
+    ∷ ("\tEND" ∷ [], rejected 101 1 [])
+    ∷ [])
 unfolding runs
-no_end_runs = refl
-
-open_constant_runs : runs ("      PRINT *,'A" ∷ []) ≡ rejected 106 1 []
-unfolding runs
-open_constant_runs = refl
-
-tab_in_front_runs : runs ("\tEND" ∷ []) ≡ rejected 101 1 []
-unfolding runs
-tab_in_front_runs = refl
+reading = refl
 
 abbrev nineteen_continuation_lines : List String
 nineteen_continuation_lines = "      PRINT *,1" ∷ []
@@ -44,26 +43,27 @@ twenty_continuation_lines_run : runs (nineteen_continuation_lines ++ (replicate 
 unfolding runs
 twenty_continuation_lines_run = refl
 
-apostrophe_runs : runs ("      print *,'it''s'" ∷ "      end" ∷ []) ≡ ended ((Text (codes "it's") ∷ []) ∷ []) 2 1
+reading_2 : AllRun (
+    -- apostrophe
+    ("      print *,'it''s'" ∷ "      end" ∷ [], ended ((Text (codes "it's") ∷ []) ∷ []) 2 1)
+    -- after column 72
+    ∷ ("      PRINT *,1                                                         +1" ∷ "      END" ∷ [], ended (one 1 ∷ []) 2 1)
+    -- comments and continuation lines
+    ∷ (
+      "C first"
+          ∷ "      i = 1"
+          ∷ "C within"
+          ∷ "     + + 2"
+          ∷ "* last"
+          ∷ ""
+          ∷ "      print *,i"
+          ∷ "      end"
+          ∷ [],
+      ended (one 3 ∷ []) 5 2,
+    )
+    ∷ [])
 unfolding runs
-apostrophe_runs = refl
-
-after_column_72_runs : runs ("      PRINT *,1                                                         +1" ∷ "      END" ∷ []) ≡ ended (one 1 ∷ []) 2 1
-unfolding runs
-after_column_72_runs = refl
-
-comments_and_continuation_lines_runs : runs (
-    "C first"
-    ∷ "      i = 1"
-    ∷ "C within"
-    ∷ "     + + 2"
-    ∷ "* last"
-    ∷ ""
-    ∷ "      print *,i"
-    ∷ "      end"
-    ∷ []) ≡ ended (one 3 ∷ []) 5 2
-unfolding runs
-comments_and_continuation_lines_runs = refl
+reading_2 = refl
 
 abbrev left_out : List String
 left_out = "      READ *,I" ∷ "      END" ∷ []
@@ -72,94 +72,72 @@ left_out_runs : runs left_out ≡ rejected 202 1 (codes "READ")
 unfolding runs
 left_out_runs = refl
 
-real_constant_runs : runs ("      I=1.5" ∷ "      END" ∷ []) ≡ rejected 201 1 []
+reading_3 : AllRun (
+    -- real constant
+    ("      I=1.5" ∷ "      END" ∷ [], rejected 201 1 [])
+    -- typed function
+    ∷ ("      INTEGER FUNCTION F(I)" ∷ "      END" ∷ [], rejected 202 1 (codes "FUNCTION"))
+    -- constant too large
+    ∷ ("      I=-9223372036854775808" ∷ "      END" ∷ [], rejected 203 1 [])
+    -- no main program
+    ∷ ("      SUBROUTINE S" ∷ "      END" ∷ [], rejected 204 0 [])
+    -- late declaration
+    ∷ ("      I=1" ∷ "      INTEGER K" ∷ "      END" ∷ [], rejected 205 2 [])
+    ∷ [])
 unfolding runs
-real_constant_runs = refl
-
-typed_function_runs : runs ("      INTEGER FUNCTION F(I)" ∷ "      END" ∷ []) ≡ rejected 202 1 (codes "FUNCTION")
-unfolding runs
-typed_function_runs = refl
-
-constant_too_large_runs : runs ("      I=-9223372036854775808" ∷ "      END" ∷ []) ≡ rejected 203 1 []
-unfolding runs
-constant_too_large_runs = refl
-
-no_main_program_runs : runs ("      SUBROUTINE S" ∷ "      END" ∷ []) ≡ rejected 204 0 []
-unfolding runs
-no_main_program_runs = refl
-
-late_declaration_runs : runs (
-    "      I=1"
-    ∷ "      INTEGER K"
-    ∷ "      END"
-    ∷ []) ≡ rejected 205 2 []
-unfolding runs
-late_declaration_runs = refl
+reading_3 = refl
 
 -- ---- One process
 
--- each iteration of a DO is its statements and its end
-counting_runs : runs (
-    "      D O 1 0 I = 1 , 3"
-    ∷ "   10 PRINT *,I"
-    ∷ "      END"
-    ∷ []) ≡ ended (one 1 ∷ one 2 ∷ one 3 ∷ []) 11 4
+one_process : AllRun (
+    -- each iteration of a DO is its statements and its end
+    ("      D O 1 0 I = 1 , 3" ∷ "   10 PRINT *,I" ∷ "      END" ∷ [], ended (one 1 ∷ one 2 ∷ one 3 ∷ []) 11 4)
+    -- name like a do
+    ∷ ("      IMPLICIT INTEGER (A-Z)" ∷ "      DO10I=1" ∷ "      PRINT *,DO10I" ∷ "      END" ∷ [], ended (one 1 ∷ []) 4 2)
+    -- array called if
+    ∷ (
+      "      INTEGER IF(3)"
+          ∷ "      IF(3)=5"
+          ∷ "      IF(IF(3))10,20,30"
+          ∷ "   10 PRINT *,1"
+          ∷ "   20 PRINT *,2"
+          ∷ "   30 PRINT *,3"
+          ∷ "      END"
+          ∷ [],
+      ended (one 3 ∷ []) 5 4,
+    )
+    -- loops without turns
+    ∷ (
+      "      DO 10 I=3,1"
+          ∷ "   10 CONTINUE"
+          ∷ "      PRINT *,I"
+          ∷ "      DO 20 J=1,3"
+          ∷ "   20 CONTINUE"
+          ∷ "      PRINT *,J"
+          ∷ "      K=0"
+          ∷ "      DO 30 L=1,2,K"
+          ∷ "   30 CONTINUE"
+          ∷ "      END"
+          ∷ [],
+      record { records = one 3 ∷ one 4 ∷ []; faults = fault 1 0 8 Step ∷ []; processes = []; entries = 15; used = 11; ending = done },
+    )
+    -- quotients
+    ∷ ("      PRINT *,(-7)/2,2**(-3),MOD(-7,2)" ∷ "      END" ∷ [], ended ((minus 3 ∷ int 0 ∷ minus 1 ∷ []) ∷ []) 8 1)
+    -- negative square
+    ∷ ("      PRINT *,(-7)/2,2**(-3),-2**2" ∷ "      END" ∷ [], ended ((minus 3 ∷ int 0 ∷ minus 4 ∷ []) ∷ []) 8 1)
+    -- triangle
+    ∷ (
+      "      DO 10 I=1,3"
+          ∷ "      DO 10 J=I,2"
+          ∷ "   10 PRINT *,I,J"
+          ∷ "      PRINT *,I,J"
+          ∷ "      END"
+          ∷ [],
+      ended (numbers (1 ∷ 1 ∷ []) ∷ numbers (1 ∷ 2 ∷ []) ∷ numbers (2 ∷ 2 ∷ []) ∷ numbers (4 ∷ 3 ∷ []) ∷ []) 26 7,
+    )
+    ∷ [])
 unfolding runs
-counting_runs = refl
-
-name_like_a_do_runs : runs (
-    "      IMPLICIT INTEGER (A-Z)"
-    ∷ "      DO10I=1"
-    ∷ "      PRINT *,DO10I"
-    ∷ "      END"
-    ∷ []) ≡ ended (one 1 ∷ []) 4 2
-unfolding runs
-name_like_a_do_runs = refl
-
-array_called_if_runs : runs (
-    "      INTEGER IF(3)"
-    ∷ "      IF(3)=5"
-    ∷ "      IF(IF(3))10,20,30"
-    ∷ "   10 PRINT *,1"
-    ∷ "   20 PRINT *,2"
-    ∷ "   30 PRINT *,3"
-    ∷ "      END"
-    ∷ []) ≡ ended (one 3 ∷ []) 5 4
-unfolding runs
-array_called_if_runs = refl
-
-loops_without_turns_runs : runs (
-    "      DO 10 I=3,1"
-    ∷ "   10 CONTINUE"
-    ∷ "      PRINT *,I"
-    ∷ "      DO 20 J=1,3"
-    ∷ "   20 CONTINUE"
-    ∷ "      PRINT *,J"
-    ∷ "      K=0"
-    ∷ "      DO 30 L=1,2,K"
-    ∷ "   30 CONTINUE"
-    ∷ "      END"
-    ∷ []) ≡ record { records = one 3 ∷ one 4 ∷ []; faults = fault 1 0 8 Step ∷ []; processes = []; entries = 15; used = 11; ending = done }
-unfolding runs
-loops_without_turns_runs = refl
-
-quotients_runs : runs ("      PRINT *,(-7)/2,2**(-3),MOD(-7,2)" ∷ "      END" ∷ []) ≡ ended ((minus 3 ∷ int 0 ∷ minus 1 ∷ []) ∷ []) 8 1
-unfolding runs
-quotients_runs = refl
-
-negative_square_runs : runs ("      PRINT *,(-7)/2,2**(-3),-2**2" ∷ "      END" ∷ []) ≡ ended ((minus 3 ∷ int 0 ∷ minus 4 ∷ []) ∷ []) 8 1
-unfolding runs
-negative_square_runs = refl
-
-triangle_runs : runs (
-    "      DO 10 I=1,3"
-    ∷ "      DO 10 J=I,2"
-    ∷ "   10 PRINT *,I,J"
-    ∷ "      PRINT *,I,J"
-    ∷ "      END"
-    ∷ []) ≡ ended (numbers (1 ∷ 1 ∷ []) ∷ numbers (1 ∷ 2 ∷ []) ∷ numbers (2 ∷ 2 ∷ []) ∷ numbers (4 ∷ 3 ∷ []) ∷ []) 26 7
-unfolding runs
-triangle_runs = refl
+one_process = refl
 
 abbrev variable_without_value : List String
 variable_without_value =
@@ -333,33 +311,38 @@ undefined_anew_kept_in_3_cells : report undefined_anew 3 is_made 10000000 [] ≡
 unfolding report
 undefined_anew_kept_in_3_cells = refl
 
-rest_of_an_array_runs : runs (
-    "      INTEGER X(5)"
-    ∷ "      X(5)=9"
-    ∷ "      CALL S(X(3))"
-    ∷ "      END"
-    ∷ "      SUBROUTINE S(A)"
-    ∷ "      INTEGER A(*)"
-    ∷ "      PRINT *,A(3)"
-    ∷ "      PRINT *,A(4)"
-    ∷ "      END"
-    ∷ []) ≡ record { records = one 9 ∷ []; faults = fault 1 1 8 Range ∷ []; processes = []; entries = 5; used = 9; ending = done }
+subroutines : AllRun (
+    -- rest of an array
+    (
+      "      INTEGER X(5)"
+          ∷ "      X(5)=9"
+          ∷ "      CALL S(X(3))"
+          ∷ "      END"
+          ∷ "      SUBROUTINE S(A)"
+          ∷ "      INTEGER A(*)"
+          ∷ "      PRINT *,A(3)"
+          ∷ "      PRINT *,A(4)"
+          ∷ "      END"
+          ∷ [],
+      record { records = one 9 ∷ []; faults = fault 1 1 8 Range ∷ []; processes = []; entries = 5; used = 9; ending = done },
+    )
+    -- more than the rest
+    ∷ (
+      "      INTEGER X(5)"
+          ∷ "      X(5)=9"
+          ∷ "      CALL S(X(3))"
+          ∷ "      END"
+          ∷ "      SUBROUTINE S(A)"
+          ∷ "      INTEGER A(4)"
+          ∷ "      PRINT *,A(3)"
+          ∷ "      PRINT *,A(4)"
+          ∷ "      END"
+          ∷ [],
+      record { records = []; faults = fault 1 0 3 Shape ∷ []; processes = []; entries = 2; used = 6; ending = done },
+    )
+    ∷ [])
 unfolding runs
-rest_of_an_array_runs = refl
-
-more_than_the_rest_runs : runs (
-    "      INTEGER X(5)"
-    ∷ "      X(5)=9"
-    ∷ "      CALL S(X(3))"
-    ∷ "      END"
-    ∷ "      SUBROUTINE S(A)"
-    ∷ "      INTEGER A(4)"
-    ∷ "      PRINT *,A(3)"
-    ∷ "      PRINT *,A(4)"
-    ∷ "      END"
-    ∷ []) ≡ record { records = []; faults = fault 1 0 3 Shape ∷ []; processes = []; entries = 2; used = 6; ending = done }
-unfolding runs
-more_than_the_rest_runs = refl
+subroutines = refl
 
 abbrev endless_recursion : List String
 endless_recursion =
@@ -652,44 +635,49 @@ creators_return_layout : layout_after creators_return 7 is_held (replicate 6 1) 
 unfolding layout_after
 creators_return_layout = refl
 
-states_runs : runs (
-    "      INTEGER $X,$Y(3)"
-    ∷ "      PRINT *,FULL($X)"
-    ∷ "      $X=4"
-    ∷ "      PRINT *,WAITF($X),FULL($X),SETE($X),EMPTY($X),VALUE($X)"
-    ∷ "      $Y(1)=1"
-    ∷ "      $Y(3)=3"
-    ∷ "      PURGE $Y"
-    ∷ "      DO 10 I=1,3"
-    ∷ "   10 $Y(I)=I"
-    ∷ "      PRINT *,VALUE($Y(1)),VALUE($Y(2)),VALUE($Y(3))"
-    ∷ "      END"
-    ∷ []) ≡ ended ((Truth false ∷ []) ∷ (int 4 ∷ Truth true ∷ int 4 ∷ Truth true ∷ int 4 ∷ []) ∷ numbers (1 ∷ 2 ∷ 3 ∷ []) ∷ []) 30 8
+processes : AllRun (
+    -- states
+    (
+      "      INTEGER $X,$Y(3)"
+          ∷ "      PRINT *,FULL($X)"
+          ∷ "      $X=4"
+          ∷ "      PRINT *,WAITF($X),FULL($X),SETE($X),EMPTY($X),VALUE($X)"
+          ∷ "      $Y(1)=1"
+          ∷ "      $Y(3)=3"
+          ∷ "      PURGE $Y"
+          ∷ "      DO 10 I=1,3"
+          ∷ "   10 $Y(I)=I"
+          ∷ "      PRINT *,VALUE($Y(1)),VALUE($Y(2)),VALUE($Y(3))"
+          ∷ "      END"
+          ∷ [],
+      ended ((Truth false ∷ []) ∷ (int 4 ∷ Truth true ∷ int 4 ∷ Truth true ∷ int 4 ∷ []) ∷ numbers (1 ∷ 2 ∷ 3 ∷ []) ∷ []) 30 8,
+    )
+    -- value of nothing
+    ∷ (
+      "      INTEGER $X"
+          ∷ "      I=VALUE($X)"
+          ∷ "      END"
+          ∷ [],
+      record { records = []; faults = fault 1 0 2 Undefined ∷ []; processes = []; entries = 1; used = 3; ending = done },
+    )
+    -- circle
+    ∷ (
+      "      PROGRAM P"
+          ∷ "      INTEGER $A,$B"
+          ∷ "      CREATE S($A,$B)"
+          ∷ "      CREATE S($B,$A)"
+          ∷ "      I=$A"
+          ∷ "      END"
+          ∷ "      SUBROUTINE S($U,$V)"
+          ∷ "      INTEGER $U,$V"
+          ∷ "      $V=$U"
+          ∷ "      END"
+          ∷ [],
+      record { records = []; faults = []; processes = waits_for_full 1 0 5 (asynchronous 1 "A" 1) ∷ waits_for_full 2 1 9 (asynchronous 1 "A" 1) ∷ waits_for_full 3 1 9 (asynchronous 1 "B" 1) ∷ []; entries = 5; used = 14; ending = all_wait },
+    )
+    ∷ [])
 unfolding runs
-states_runs = refl
-
-value_of_nothing_runs : runs (
-    "      INTEGER $X"
-    ∷ "      I=VALUE($X)"
-    ∷ "      END"
-    ∷ []) ≡ record { records = []; faults = fault 1 0 2 Undefined ∷ []; processes = []; entries = 1; used = 3; ending = done }
-unfolding runs
-value_of_nothing_runs = refl
-
-circle_runs : runs (
-    "      PROGRAM P"
-    ∷ "      INTEGER $A,$B"
-    ∷ "      CREATE S($A,$B)"
-    ∷ "      CREATE S($B,$A)"
-    ∷ "      I=$A"
-    ∷ "      END"
-    ∷ "      SUBROUTINE S($U,$V)"
-    ∷ "      INTEGER $U,$V"
-    ∷ "      $V=$U"
-    ∷ "      END"
-    ∷ []) ≡ record { records = []; faults = []; processes = waits_for_full 1 0 5 (asynchronous 1 "A" 1) ∷ waits_for_full 2 1 9 (asynchronous 1 "A" 1) ∷ waits_for_full 3 1 9 (asynchronous 1 "B" 1) ∷ []; entries = 5; used = 14; ending = all_wait }
-unfolding runs
-circle_runs = refl
+processes = refl
 
 -- after the frames of two As, of which the first has ended
 abbrev gaps : List String

@@ -3,7 +3,7 @@ use Rattle.std.specs.Prelude.{◌≡◌, true, false, List, [], ◌∷◌, refl}
 use Prim.Native.String.{String}
 use Rattle.hep_machine.specs.declared.event.Kind.TheVariants.{Overflow, Divide, Undefined}
 use Rattle.hep_machine.specs.declared.record.Item.TheVariants.{Truth}
-use Rattle.hep_worked.proofs.SerialRuns.{runs, done, int, minus, fault, ended}
+use Rattle.hep_worked.proofs.SerialRuns.{AllRun, runs, done, int, minus, fault, ended}
 
 -- ---- Functions and powers
 
@@ -19,18 +19,25 @@ functions_runs : runs functions ≡ ended ((int 1 ∷ minus 1 ∷ minus 3 ∷ in
 unfolding runs
 functions_runs = refl
 
-functions_of_the_least_runs : runs (
-    "      K=-9223372036854775807-1"
-    ∷ "      PRINT *,MOD(K,-1),SIGN(K,-1),MAX(K,0),DIM(K,0)"
-    ∷ "      PRINT *,ABS(K)"
-    ∷ "      END"
-    ∷ []) ≡ record { records = (int 0 ∷ minus 9223372036854775808 ∷ int 0 ∷ int 0 ∷ []) ∷ []; faults = fault 1 0 3 Overflow ∷ []; processes = []; entries = 16; used = 2; ending = done }
+functions_and_powers : AllRun (
+    -- functions of the least
+    (
+      "      K=-9223372036854775807-1"
+          ∷ "      PRINT *,MOD(K,-1),SIGN(K,-1),MAX(K,0),DIM(K,0)"
+          ∷ "      PRINT *,ABS(K)"
+          ∷ "      END"
+          ∷ [],
+      record { records = (int 0 ∷ minus 9223372036854775808 ∷ int 0 ∷ int 0 ∷ []) ∷ []; faults = fault 1 0 3 Overflow ∷ []; processes = []; entries = 16; used = 2; ending = done },
+    )
+    -- remainder of 0
+    ∷ (
+      "      PRINT *,MOD(1,0)" ∷ "      END"
+          ∷ [],
+      record { records = []; faults = fault 1 0 1 Divide ∷ []; processes = []; entries = 1; used = 1; ending = done },
+    )
+    ∷ [])
 unfolding runs
-functions_of_the_least_runs = refl
-
-remainder_of_0_runs : runs ("      PRINT *,MOD(1,0)" ∷ "      END" ∷ []) ≡ record { records = []; faults = fault 1 0 1 Divide ∷ []; processes = []; entries = 1; used = 1; ending = done }
-unfolding runs
-remainder_of_0_runs = refl
+functions_and_powers = refl
 
 abbrev powers : List String
 powers =
@@ -46,34 +53,37 @@ powers_runs = refl
 
 -- ---- Logical values
 
-logicals_runs : runs (
-    "      LOGICAL A,B"
-    ∷ "      A=.TRUE."
-    ∷ "      B=.FALSE."
-    ∷ "      PRINT *,A.AND.B,A.OR.B,A.EQV.B,A.NEQV.B,.NOT.A,.NOT.B.AND..NOT.A"
-    ∷ "      PRINT *,1.LT.2,2.LE.2,1.EQ.2,1.NE.2,1.GT.2,2.GE.2"
-    ∷ "      END"
-    ∷ []) ≡ ended ((Truth false ∷ Truth true ∷ Truth false ∷ Truth true ∷ Truth false ∷ Truth false ∷ []) ∷ (Truth true ∷ Truth true ∷ Truth false ∷ Truth true ∷ Truth false ∷ Truth true ∷ []) ∷ []) 30 3
+logical_values : AllRun (
+    -- logicals
+    (
+      "      LOGICAL A,B"
+          ∷ "      A=.TRUE."
+          ∷ "      B=.FALSE."
+          ∷ "      PRINT *,A.AND.B,A.OR.B,A.EQV.B,A.NEQV.B,.NOT.A,.NOT.B.AND..NOT.A"
+          ∷ "      PRINT *,1.LT.2,2.LE.2,1.EQ.2,1.NE.2,1.GT.2,2.GE.2"
+          ∷ "      END"
+          ∷ [],
+      ended ((Truth false ∷ Truth true ∷ Truth false ∷ Truth true ∷ Truth false ∷ Truth false ∷ []) ∷ (Truth true ∷ Truth true ∷ Truth false ∷ Truth true ∷ Truth false ∷ Truth true ∷ []) ∷ []) 30 3,
+    )
+    -- the second operand is evaluated where the first is false
+    ∷ (
+      "      LOGICAL L"
+          ∷ "      L=.FALSE..AND.1/0.EQ.1"
+          ∷ "      END"
+          ∷ [],
+      record { records = []; faults = fault 1 0 2 Divide ∷ []; processes = []; entries = 1; used = 2; ending = done },
+    )
+    -- and where it is true
+    ∷ (
+      "      LOGICAL L"
+          ∷ "      L=.TRUE..OR.K.EQ.1"
+          ∷ "      END"
+          ∷ [],
+      record { records = []; faults = fault 1 0 2 Undefined ∷ []; processes = []; entries = 1; used = 3; ending = done },
+    )
+    ∷ [])
 unfolding runs
-logicals_runs = refl
-
--- the second operand is evaluated where the first is false
-both_sides_and_runs : runs (
-    "      LOGICAL L"
-    ∷ "      L=.FALSE..AND.1/0.EQ.1"
-    ∷ "      END"
-    ∷ []) ≡ record { records = []; faults = fault 1 0 2 Divide ∷ []; processes = []; entries = 1; used = 2; ending = done }
-unfolding runs
-both_sides_and_runs = refl
-
--- and where it is true
-both_sides_or_runs : runs (
-    "      LOGICAL L"
-    ∷ "      L=.TRUE..OR.K.EQ.1"
-    ∷ "      END"
-    ∷ []) ≡ record { records = []; faults = fault 1 0 2 Undefined ∷ []; processes = []; entries = 1; used = 3; ending = done }
-unfolding runs
-both_sides_or_runs = refl
+logical_values = refl
 
 -- ---- Constants and DATA
 
@@ -92,48 +102,52 @@ constants_runs : runs constants ≡ ended ((int 9 ∷ Truth true ∷ int 1 ∷ [
 unfolding runs
 constants_runs = refl
 
-logical_constants_runs : runs (
-    "      LOGICAL T"
-    ∷ "      PARAMETER (T=.TRUE.,N=3)"
-    ∷ "      INTEGER X(N)"
-    ∷ "      DO 10 I=N,1,-N"
-    ∷ "   10 X(I)=N"
-    ∷ "      IF(T)PRINT *,X(N),T"
-    ∷ "      END"
-    ∷ []) ≡ ended ((int 3 ∷ Truth true ∷ []) ∷ []) 9 7
+constants_and_data : AllRun (
+    -- logical constants
+    (
+      "      LOGICAL T"
+          ∷ "      PARAMETER (T=.TRUE.,N=3)"
+          ∷ "      INTEGER X(N)"
+          ∷ "      DO 10 I=N,1,-N"
+          ∷ "   10 X(I)=N"
+          ∷ "      IF(T)PRINT *,X(N),T"
+          ∷ "      END"
+          ∷ [],
+      ended ((int 3 ∷ Truth true ∷ []) ∷ []) 9 7,
+    )
+    -- implicit types
+    ∷ (
+      "      IMPLICIT LOGICAL(A-C),INTEGER(X-Z)"
+          ∷ "      A=.TRUE."
+          ∷ "      X=2"
+          ∷ "      PRINT *,A,X,.NOT.A"
+          ∷ "      END"
+          ∷ [],
+      ended ((Truth true ∷ int 2 ∷ Truth false ∷ []) ∷ []) 8 3,
+    )
+    -- an array by columns, values with repeats, which may be named
+    ∷ (
+      "      INTEGER A(2,3),K"
+          ∷ "      LOGICAL L(2)"
+          ∷ "      PARAMETER (N=2)"
+          ∷ "      DATA A/1,2*5,N*-7,9/,K/N/L/2*.TRUE./"
+          ∷ "      PRINT *,A(1,1),A(2,1),A(1,2),A(2,2),A(1,3),A(2,3),K,L(1),L(2)"
+          ∷ "      END"
+          ∷ [],
+      ended ((int 1 ∷ int 5 ∷ int 5 ∷ minus 7 ∷ minus 7 ∷ int 9 ∷ int 2 ∷ Truth true ∷ Truth true ∷ []) ∷ []) 11 10,
+    )
+    -- data elements
+    ∷ (
+      "      INTEGER A(0:1,2)"
+          ∷ "      PARAMETER (N=2)"
+          ∷ "      DATA A(1,N-1),M/4,-6/"
+          ∷ "      DATA A(0,2)/N/"
+          ∷ "      PRINT *,A(1,1),M,A(0,2)"
+          ∷ "      PRINT *,A(0,1)"
+          ∷ "      END"
+          ∷ [],
+      record { records = (int 4 ∷ minus 6 ∷ int 2 ∷ []) ∷ []; faults = fault 1 0 6 Undefined ∷ []; processes = []; entries = 5; used = 6; ending = done },
+    )
+    ∷ [])
 unfolding runs
-logical_constants_runs = refl
-
-implicit_types_runs : runs (
-    "      IMPLICIT LOGICAL(A-C),INTEGER(X-Z)"
-    ∷ "      A=.TRUE."
-    ∷ "      X=2"
-    ∷ "      PRINT *,A,X,.NOT.A"
-    ∷ "      END"
-    ∷ []) ≡ ended ((Truth true ∷ int 2 ∷ Truth false ∷ []) ∷ []) 8 3
-unfolding runs
-implicit_types_runs = refl
-
--- an array by columns, values with repeats, which may be named
-data_by_columns_runs : runs (
-    "      INTEGER A(2,3),K"
-    ∷ "      LOGICAL L(2)"
-    ∷ "      PARAMETER (N=2)"
-    ∷ "      DATA A/1,2*5,N*-7,9/,K/N/L/2*.TRUE./"
-    ∷ "      PRINT *,A(1,1),A(2,1),A(1,2),A(2,2),A(1,3),A(2,3),K,L(1),L(2)"
-    ∷ "      END"
-    ∷ []) ≡ ended ((int 1 ∷ int 5 ∷ int 5 ∷ minus 7 ∷ minus 7 ∷ int 9 ∷ int 2 ∷ Truth true ∷ Truth true ∷ []) ∷ []) 11 10
-unfolding runs
-data_by_columns_runs = refl
-
-data_elements_runs : runs (
-    "      INTEGER A(0:1,2)"
-    ∷ "      PARAMETER (N=2)"
-    ∷ "      DATA A(1,N-1),M/4,-6/"
-    ∷ "      DATA A(0,2)/N/"
-    ∷ "      PRINT *,A(1,1),M,A(0,2)"
-    ∷ "      PRINT *,A(0,1)"
-    ∷ "      END"
-    ∷ []) ≡ record { records = (int 4 ∷ minus 6 ∷ int 2 ∷ []) ∷ []; faults = fault 1 0 6 Undefined ∷ []; processes = []; entries = 5; used = 6; ending = done }
-unfolding runs
-data_elements_runs = refl
+constants_and_data = refl

@@ -4,7 +4,7 @@ use Rattle.std.specs.Option.{option_or}
 use Rattle.indexmap.specs.IndexMap.{get}
 use Rattle.hep_source.specs.Names.{name_eq}
 use Rattle.hep_symbols.proofs.Notes.{or-none}
-use Rattle.hep_places.specs.Found.{length_in, no_length, offset_among, entries_of}
+use Rattle.hep_places.specs.Found.{length_in, lengthened, no_length, offset_among, entries_of}
 use Rattle.hep_places.proofs.Taken.{offset-first, offset-next, no_entry}
 use Rattle.hep_places.proofs.blocks.offset_table.Goals as goal
 
@@ -17,7 +17,8 @@ loop-entry-preserved c = λ x.
     let es = c.deref-entry-items.result.now in
     let i = c.loop-entry.entry-index in
     offset-next c.args.symbols.now x (get_or es i no_entry) (length_in c.loop-entry.offsets.lengths) (length_in c.add.new.self.lengths) (drop i es) (drop (i + 1) es) _ _ _
-    (c.loop-entry.invariant x) (drop_more es i no_entry c.loop-entry-test.true) (c.in_ok-add.ensures.table x) c.in_ok-add.ensures.lengths
+    (c.loop-entry.invariant x) (drop_more es i no_entry c.loop-entry-test.true) (c.in_ok-add.ensures.table x)
+    (λ b. c.in_ok-add.ensures.lengths b ∙ ap (λ n. lengthened (length_in c.loop-entry.offsets.lengths) (get_or es i no_entry).block n b) c.in_ok-cells.ensures)
 
 pub returns : goal.returns
 returns c = λ x.

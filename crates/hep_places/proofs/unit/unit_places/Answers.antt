@@ -6,7 +6,7 @@ use Rattle.hep_source.specs.declared.name.Name.{Name}
 use Rattle.hep_source.specs.declared.statement.Statement.{Statement}
 use Rattle.hep_source.specs.Names.{name_eq}
 use Rattle.hep_source.specs.Units.{dummies_of, unit_at}
-use Rattle.hep_machine.specs.Constants.{Values, value_among}
+use Rattle.hep_machine.specs.Constants.{Values}
 use Rattle.hep_machine.specs.Declarations.{is_array}
 use Rattle.hep_machine.specs.Variables.{names_of}
 use Rattle.hep_image.specs.Private.{is_private}
@@ -52,6 +52,6 @@ returns c = λ program u accepted inside same starts few small.
       arrays = c.in_ok-arrays.ensures ∙ ap (λ xs. map (array_found now (found_start now common t) (get name_eq t.bounds)) (filter (is_array now) xs)) names;
       cells = λ i. t.cells;
       private_are = c.in_ok-private.ensures ∙ ap (λ xs. map (λ (x : Name). unwrap_or (get name_eq t.locals x) 0) (filter (is_private now) xs)) c.locals.ensures;
-      dummies = c.in_ok-dummies.ensures ∙ ap (map (dummy_found now (source_found now (value_among c.in_ok-constants.constants) common (get name_eq t.offsets)))) c.dummies-2.ensures ∙ ap (λ (values : Values). map (dummy_found now (source_found now values common (get name_eq t.offsets))) (dummies_of now)) c.in_ok-constants.ensures;
+      dummies = c.in_ok-dummies.ensures ∙ ap (λ (values : Values). map (dummy_found now (source_found now values common (get name_eq t.offsets))) (dummies_of now)) c.in_ok-constants.ensures;
       in_frame = c.in_ok-frame_variables.ensures ∙ ap₂ (λ ds xs. variables_found now (get name_eq t.locals) ds xs) c.dummies.ensures c.locals-2.ensures;
     }))

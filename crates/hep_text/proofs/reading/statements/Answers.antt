@@ -4,6 +4,7 @@ use Rattle.std.proofs.lemmas.Bool.{eqb-true}
 use Rattle.hep_text.specs.Line.{lines}
 use Rattle.hep_text.specs.Reading.{is_too_large}
 use Rattle.hep_text.specs.Progress.{done_of, pending_of}
+use Rattle.hep_text.proofs.Grammar.{agrees}
 use Rattle.hep_text.proofs.WellFormed.{shape_of}
 use Rattle.hep_text.proofs.Joining.{too_large, not_too_large, all_lines, next_of}
 use Rattle.hep_text.proofs.reading.statements.Goals as goal
@@ -30,26 +31,15 @@ returns-in_err-take_line-clause-refused c =
     let p = err_from_is_err_and c.from_residual.result c.from_residual.ensures.1 in
     rw (p.1, p.2, all) (c.in_err-take_line.ensures.err (lines c.next_line.result.1.now))
 
-pub returns-clause-ok : goal.returns-clause-ok
-returns-clause-ok c =
+pub returns : goal.returns
+returns c =
     let reading = c.loop-rest.reading in
     let small : is_too_large c.args.source.now ≡ false = sym c.is_too_large.ensures.value ∙ c.if-is_too_large.false in
     let none : length c.loop-rest.rest.now ≡ 0 = eqb-true _ 0 (sym c.loop-rest-test.ensures) in
     let all = all_lines (done_of reading) (pending_of reading.pending) c.loop-rest.number c.loop-rest.rest.now c.args.source.now small none c.loop-rest.invariant.joined in
-    rw all c.all_read.ensures.ok
-
-pub returns-clause-shape : goal.returns-clause-shape
-returns-clause-shape c =
-    let reading = c.loop-rest.reading in
-    let small : is_too_large c.args.source.now ≡ false = sym c.is_too_large.ensures.value ∙ c.if-is_too_large.false in
-    let none : length c.loop-rest.rest.now ≡ 0 = eqb-true _ 0 (sym c.loop-rest-test.ensures) in
-    let all = all_lines (done_of reading) (pending_of reading.pending) c.loop-rest.number c.loop-rest.rest.now c.args.source.now small none c.loop-rest.invariant.joined in
-    shape_of c.all_read.result c.args.source.now _ all c.all_read.ensures.ok
-
-pub returns-clause-refused : goal.returns-clause-refused
-returns-clause-refused c =
-    let reading = c.loop-rest.reading in
-    let small : is_too_large c.args.source.now ≡ false = sym c.is_too_large.ensures.value ∙ c.if-is_too_large.false in
-    let none : length c.loop-rest.rest.now ≡ 0 = eqb-true _ 0 (sym c.loop-rest-test.ensures) in
-    let all = all_lines (done_of reading) (pending_of reading.pending) c.loop-rest.number c.loop-rest.rest.now c.args.source.now small none c.loop-rest.invariant.joined in
-    rw all c.all_read.ensures.refused
+    record {
+      ok = rw all c.all_read.ensures.ok;
+      shape = shape_of c.all_read.result c.args.source.now _ all c.all_read.ensures.ok;
+      refused = rw all c.all_read.ensures.refused;
+      constants = agrees;
+    }

@@ -1,0 +1,94 @@
+//! Operands of a statement: what a DO counts by, items of a PRINT, actual arguments and what is purged. An actual argument
+//! that is a variable, an element or an array isn't read (X3.9-1978, 15.9.2 and 15.9.3).
+ghost use Rattle.std.specs.Prelude.{◌≡◌, ◌++◌, ◌<◌, ℕ, List, length, OnOk, IfErr};
+ghost use Rattle.std.specs.List.{flat_map};
+ghost use Rattle.hep_code.specs.declared.instruction.Instruction.{Instruction as PureInstruction};
+ghost use Rattle.hep_code.specs.ExpressionCode as code_words;
+ghost use Rattle.hep_code.specs.Tables.{NameTable};
+ghost use Rattle.hep_emit.specs.Limits.{IsTooLong};
+ghost use Rattle.hep_emit.specs.Tables.{names_in};
+
+use crate::emit::{Code, emit};
+use crate::expressions::{emit_all, emit_expression};
+use crate::fault::EmitFault;
+use crate::names::Names;
+use hep_code::Instruction;
+use hep_source::{DoControl, Expr, Node, PrintItem, Target, Value};
+use hep_symbols::Meaning;
+
+/// What has operands.
+pub(crate) trait Operands {
+    ghost code_of: { NameTable → ℕ → Self → List PureInstruction };
+
+    fn emit(&self, code: &mut Code, names: &Names, line: u32) -> Result<(), EmitFault>
+        ensures code { OnOk result (code.new.items ≡ code.old.items ++ code_of (names_in names.now) line self.now) }
+        ensures refused { IfErr result (IsTooLong (length (code_of (names_in names.now) line self.now))) };
+}
+
+impl Operands for DoControl {
+    ghost code_of = { code_words.control_code };
+
+    fn emit(&self, code: &mut Code, names: &Names, line: u32) -> Result<(), EmitFault> {
+        emit_expression(code, names, line, &self.initial)?;
+        emit_expression(code, names, line, &self.limit)?;
+        match &self.increment {
+            Some(increment) => emit_expression(code, names, line, increment),
+            None => Ok(emit(code, Instruction::Push(Value::Int(1)))?),
+        }
+    }
+}
+
+impl Operands for PrintItem {
+    ghost code_of = { code_words.item_code };
+
+    fn emit(&self, code: &mut Code, names: &Names, line: u32) -> Result<(), EmitFault> {
+        match self {
+            PrintItem::Expression(expression) => emit_expression(code, names, line, expression),
+            PrintItem::Characters(_) => Ok(()),
+        }
+    }
+}
+
+// The subscripts of what is purged.
+impl Operands for Target {
+    ghost code_of = { code_words.target_code };
+
+    fn emit(&self, code: &mut Code, names: &Names, line: u32) -> Result<(), EmitFault> {
+        emit_all(code, names, line, self.subscripts.as_slice())
+    }
+}
+
+// The value of an actual argument, or its subscripts.
+impl Operands for Expr {
+    ghost code_of = { code_words.actual_code };
+
+    fn emit(&self, code: &mut Code, names: &Names, line: u32) -> Result<(), EmitFault> {
+        match &self.node {
+            Node::Occurrence(occurrence) => match names.constant(&occurrence.name) {
+                Some(value) => Ok(emit(code, Instruction::Push(value))?),
+                None => Ok(()),
+            },
+            Node::WithList(occurrence, list) => match names.meaning(&occurrence.name) {
+                Meaning::Element => emit_all(code, names, line, list),
+                _ => emit_expression(code, names, line, self),
+            },
+            _ => emit_expression(code, names, line, self),
+        }
+    }
+}
+
+/// The operands of a CALL, CREATE, PURGE or PRINT.
+pub(crate) fn emit_each<T: Operands>(
+    code: &mut Code,
+    names: &Names,
+    line: u32,
+    items: &[T],
+) -> Result<(), EmitFault>
+    ensures code { OnOk result (code.new.items ≡ code.old.items ++ flat_map (T.code_of (names_in names.now) line) items.now) }
+    ensures refused { IfErr result (IsTooLong (length (flat_map (T.code_of (names_in names.now) line) items.now))) }
+{
+    for item in items {
+        item.emit(code, names, line)?;
+    }
+    Ok(())
+}

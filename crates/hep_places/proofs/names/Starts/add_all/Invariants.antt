@@ -1,0 +1,14 @@
+use Rattle.std.proofs.Common.{◌≡◌, drop, map}
+use Rattle.std.specs.Option.{option_or}
+use Rattle.indexmap.specs.IndexMap.{get}
+use Rattle.hep_source.specs.declared.name.Name.{Name}
+use Rattle.hep_source.specs.Names.{name_eq}
+use Rattle.hep_places.specs.Found.{behind, start_among}
+use Rattle.hep_places.proofs.names.Starts.add_all.Given as goal
+
+abbrev pub invariant-loop-item : goal.invariant-loop-item
+invariant-loop-item g l =
+    record {
+      table : (x : Name) → option_or (get name_eq l.self.table x) (start_among l.self.next (map (λ y. (g.T.Placed.name_of y, g.T.Placed.cells_of l.sizes.symbols.now y)) (drop l.item-index l.items)) x) ≡ option_or (get name_eq l.initial.self.table x) (start_among l.initial.self.next (map (λ y. (g.T.Placed.name_of y, g.T.Placed.cells_of l.sizes.symbols.now y)) l.items) x);
+      next : behind l.self.next (map (λ y. (g.T.Placed.name_of y, g.T.Placed.cells_of l.sizes.symbols.now y)) (drop l.item-index l.items)) ≡ behind l.initial.self.next (map (λ y. (g.T.Placed.name_of y, g.T.Placed.cells_of l.sizes.symbols.now y)) l.items);
+    }
