@@ -169,6 +169,14 @@ runs lines = report lines 65536 is_made 10000000 []
 abbrev pub ended : List (List Item) → ℕ → ℕ → Report
 ended records entries used = record { records = records; faults = []; processes = []; entries = entries; used = used; ending = done }
 
+-- a run that ends after one fault
+abbrev pub faulted : List (List Item) → Fault → ℕ → ℕ → Report
+faulted records fault entries used = record { records = records; faults = fault ∷ []; processes = []; entries = entries; used = used; ending = done }
+
+-- a run without faults that comes to no end, and where its processes are
+abbrev pub ended_by : Ending → List (List Item) → List ProcessView → ℕ → ℕ → Report
+ended_by ending records processes entries used = record { records = records; faults = []; processes = processes; entries = entries; used = used; ending = ending }
+
 -- no run, since the source is refused at a line
 abbrev pub rejected : ℕ → ℕ → List ℕ → Report
 rejected number line detail = record { records = []; faults = []; processes = []; entries = 0; used = 0; ending = refused (number, line, detail) }

@@ -3,7 +3,7 @@ use Rattle.std.specs.Prelude.{◌≡◌, List, [], ◌∷◌, refl}
 use Prim.Native.String.{String}
 use Rattle.hep_machine.specs.declared.event.Kind.TheVariants.{Divide, Range, Undefined, Shape}
 use Rattle.hep_machine.specs.Layout.{is_made, is_held}
-use Rattle.hep_worked.proofs.SerialRuns.{AllRun, report, runs, done, arena_full, int, minus, one, numbers, fault, stands, ended}
+use Rattle.hep_worked.proofs.SerialRuns.{AllRun, report, runs, arena_full, int, minus, one, numbers, fault, stands, ended, faulted, ended_by}
 
 -- ---- Actual and dummy arguments
 
@@ -85,17 +85,14 @@ recursion =
     ∷ "      END"
     ∷ []
 
-recursion_runs : report recursion 65536 is_made 10000000 [] ≡ ended (one 3 ∷ one 2 ∷ one 1 ∷ []) 33 13
-unfolding report
-recursion_runs = refl
+record RecursionRuns : Type 0 where
+  recursion_runs : report recursion 65536 is_made 10000000 [] ≡ ended (one 3 ∷ one 2 ∷ one 1 ∷ []) 33 13
+  recursion_in_13_cells : report recursion 13 is_held 10000000 [] ≡ ended (one 3 ∷ one 2 ∷ one 1 ∷ []) 33 0
+  recursion_in_12_cells : report recursion 12 is_held 10000000 [] ≡ ended_by arena_full (one 3 ∷ one 2 ∷ one 1 ∷ []) (stands 1 1 6 ∷ []) 24 10
 
-recursion_in_13_cells : report recursion 13 is_held 10000000 [] ≡ ended (one 3 ∷ one 2 ∷ one 1 ∷ []) 33 0
+recursion_holds : RecursionRuns
 unfolding report
-recursion_in_13_cells = refl
-
-recursion_in_12_cells : report recursion 12 is_held 10000000 [] ≡ record { records = one 3 ∷ one 2 ∷ one 1 ∷ []; faults = []; processes = stands 1 1 6 ∷ []; entries = 24; used = 10; ending = arena_full }
-unfolding report
-recursion_in_12_cells = refl
+recursion_holds = search refl parts 1
 
 -- the main program stands last
 main_after_runs : runs (
@@ -105,7 +102,7 @@ main_after_runs : runs (
     ∷ "      PROGRAM P"
     ∷ "      CALL S"
     ∷ "      END"
-    ∷ []) ≡ record { records = []; faults = fault 1 0 2 Divide ∷ []; processes = []; entries = 2; used = 2; ending = done }
+    ∷ []) ≡ faulted [] (fault 1 0 2 Divide) 2 2
 unfolding runs
 main_after_runs = refl
 
@@ -127,7 +124,7 @@ arrays : AllRun (
           ∷ "      PRINT *,A(0,1),A(1,2)"
           ∷ "      END"
           ∷ [],
-      record { records = numbers (1 ∷ 12 ∷ []) ∷ (minus 10 ∷ int 12 ∷ []) ∷ []; faults = fault 1 0 7 Range ∷ []; processes = []; entries = 91; used = 34; ending = done },
+      faulted (numbers (1 ∷ 12 ∷ []) ∷ (minus 10 ∷ int 12 ∷ []) ∷ []) (fault 1 0 7 Range) 91 34,
     )
     -- the bound stays that of the CALL
     ∷ (
@@ -160,7 +157,7 @@ arrays : AllRun (
           ∷ "      INTEGER A(M,*)"
           ∷ "      END"
           ∷ [],
-      record { records = []; faults = fault 1 0 3 Shape ∷ []; processes = []; entries = 1; used = 8; ending = done },
+      faulted [] (fault 1 0 3 Shape) 1 8,
     )
     -- bound faults
     ∷ (
@@ -171,7 +168,7 @@ arrays : AllRun (
           ∷ "      INTEGER A(1/N)"
           ∷ "      END"
           ∷ [],
-      record { records = []; faults = fault 1 0 2 Shape ∷ []; processes = []; entries = 1; used = 3; ending = done },
+      faulted [] (fault 1 0 2 Shape) 1 3,
     )
     -- upper below lower
     ∷ (
@@ -182,7 +179,7 @@ arrays : AllRun (
           ∷ "      INTEGER A(N)"
           ∷ "      END"
           ∷ [],
-      record { records = []; faults = fault 1 0 2 Shape ∷ []; processes = []; entries = 1; used = 3; ending = done },
+      faulted [] (fault 1 0 2 Shape) 1 3,
     )
     -- too many cells
     ∷ (
@@ -193,7 +190,7 @@ arrays : AllRun (
           ∷ "      INTEGER A(N)"
           ∷ "      END"
           ∷ [],
-      record { records = []; faults = fault 1 0 2 Shape ∷ []; processes = []; entries = 1; used = 3; ending = done },
+      faulted [] (fault 1 0 2 Shape) 1 3,
     )
     -- range before shape
     ∷ (
@@ -205,7 +202,7 @@ arrays : AllRun (
           ∷ "      INTEGER A(3),B(1)"
           ∷ "      END"
           ∷ [],
-      record { records = []; faults = fault 1 0 3 Range ∷ []; processes = []; entries = 3; used = 4; ending = done },
+      faulted [] (fault 1 0 3 Range) 3 4,
     )
     -- star passed on
     ∷ (
@@ -223,7 +220,7 @@ arrays : AllRun (
           ∷ "      PRINT *,B(3)"
           ∷ "      END"
           ∷ [],
-      record { records = one 9 ∷ []; faults = fault 1 2 12 Range ∷ []; processes = []; entries = 6; used = 12; ending = done },
+      faulted (one 9 ∷ []) (fault 1 2 12 Range) 6 12,
     )
     -- star passed on shape
     ∷ (
@@ -240,7 +237,7 @@ arrays : AllRun (
           ∷ "      PRINT *,B(2)"
           ∷ "      END"
           ∷ [],
-      record { records = []; faults = fault 1 1 7 Shape ∷ []; processes = []; entries = 3; used = 9; ending = done },
+      faulted [] (fault 1 1 7 Shape) 3 9,
     )
     -- star passed on range
     ∷ (
@@ -257,7 +254,7 @@ arrays : AllRun (
           ∷ "      PRINT *,B(2)"
           ∷ "      END"
           ∷ [],
-      record { records = []; faults = fault 1 1 7 Range ∷ []; processes = []; entries = 3; used = 9; ending = done },
+      faulted [] (fault 1 1 7 Range) 3 9,
     )
     -- its rest is that of its own shape
     ∷ (
@@ -272,7 +269,7 @@ arrays : AllRun (
           ∷ "      INTEGER B(3)"
           ∷ "      END"
           ∷ [],
-      record { records = []; faults = fault 1 1 6 Shape ∷ []; processes = []; entries = 2; used = 14; ending = done },
+      faulted [] (fault 1 1 6 Shape) 2 14,
     )
     -- known size passed on whole
     ∷ (
@@ -290,7 +287,7 @@ arrays : AllRun (
           ∷ "      PRINT *,B(4)"
           ∷ "      END"
           ∷ [],
-      record { records = one 4 ∷ []; faults = fault 1 2 12 Range ∷ []; processes = []; entries = 6; used = 17; ending = done },
+      faulted (one 4 ∷ []) (fault 1 2 12 Range) 6 17,
     )
     ∷ [])
 unfolding runs
@@ -335,7 +332,7 @@ common : AllRun (
           ∷ "      PRINT *,N"
           ∷ "      END"
           ∷ [],
-      record { records = numbers (1 ∷ 2 ∷ 3 ∷ []) ∷ []; faults = fault 1 2 13 Undefined ∷ []; processes = []; entries = 11; used = 7; ending = done },
+      faulted (numbers (1 ∷ 2 ∷ 3 ∷ []) ∷ []) (fault 1 2 13 Undefined) 11 7,
     )
     ∷ [])
 unfolding runs

@@ -3,7 +3,8 @@ use Rattle.std.specs.Prelude.{codes, [], ◌∷◌, refl}
 use Rattle.hep_worked.proofs.Sources.{units_of}
 use Rattle.hep_worked.proofs.Reported.{spelled, reported_of, reported_by, reported, accepts, refuses, names}
 
-record Rows : Type 0 where
+-- what has a type and a value, and of which type it is
+record Values : Type 0 where
   untyped_name : names 301 1 (codes "DO10I") ("      DO10I=1" ∷ "      PRINT *,DO10I" ∷ "      END" ∷ [])
   typed_by_implicit : accepts ("      IMPLICIT INTEGER (A-Z)" ∷ "      DO10I=1" ∷ "      PRINT *,DO10I" ∷ "      END" ∷ [])
   untyped_keyword : names 301 1 (codes "READ") ("      READ=1" ∷ "      END" ∷ [])
@@ -45,6 +46,13 @@ record Rows : Type 0 where
   adjusted_by_a_function : refuses 302 5 ("      INTEGER X(3)" ∷ "      CALL S(X,3)" ∷ "      END" ∷ "      SUBROUTINE S(A,N)" ∷ "      INTEGER A(MAX(N,1))" ∷ "      END" ∷ [])
   array_in_parentheses_as_actual : refuses 302 2 ("      INTEGER X(3)" ∷ "      CALL S((X))" ∷ "      END" ∷ "      SUBROUTINE S(I)" ∷ "      END" ∷ [])
   loop_over_an_array : refuses 302 2 ("      INTEGER X(3)" ∷ "      DO 10 X=1,2" ∷ "   10 CONTINUE" ∷ "      END" ∷ [])
+
+values : Values
+unfolding reported reported_by reported_of spelled accepts refuses names units_of
+values = search refl parts 1
+
+-- shapes of arrays, calls, and common blocks
+record Calls : Type 0 where
   two_actuals_for_one : refuses 303 1 ("      CALL S(1,2)" ∷ "      END" ∷ "      SUBROUTINE S(I)" ∷ "      END" ∷ [])
   one_actual_for_one : accepts ("      CALL S(1)" ∷ "      END" ∷ "      SUBROUTINE S(I)" ∷ "      END" ∷ [])
   largest_of_one : refuses 303 1 ("      I=MAX(1)" ∷ "      END" ∷ [])
@@ -68,6 +76,13 @@ record Rows : Type 0 where
   two_types_at_a_position : refuses 305 5 ("      COMMON I" ∷ "      END" ∷ "      SUBROUTINE S" ∷ "      LOGICAL L" ∷ "      COMMON L" ∷ "      END" ∷ [])
   plain_and_asynchronous_at_a_position : refuses 305 4 ("      COMMON I" ∷ "      END" ∷ "      SUBROUTINE S" ∷ "      COMMON $I" ∷ "      END" ∷ [])
   last_statement_of_the_block : refuses 305 5 ("      COMMON /B/ I" ∷ "      END" ∷ "      SUBROUTINE S" ∷ "      COMMON /B/ I" ∷ "      COMMON /B/ J" ∷ "      END" ∷ [])
+
+calls : Calls
+unfolding reported reported_by reported_of spelled accepts refuses names units_of
+calls = search refl parts 1
+
+-- labels, DO and block IF, and jumps
+record Blocks : Type 0 where
   array_as_scalars : accepts ("      COMMON /B/ I(2)" ∷ "      END" ∷ "      SUBROUTINE S" ∷ "      COMMON /B/ I,J" ∷ "      END" ∷ [])
   label_nowhere : refuses 306 1 ("      GO TO 7" ∷ "      END" ∷ [])
   label_twice : refuses 306 2 ("   10 CONTINUE" ∷ "   10 CONTINUE" ∷ "      END" ∷ [])
@@ -104,6 +119,13 @@ record Rows : Type 0 where
   jump_into_another_block : refuses 308 2 ("      IF(.TRUE.)THEN" ∷ "      GO TO 10" ∷ "      ELSE" ∷ "   10 CONTINUE" ∷ "      END IF" ∷ "      END" ∷ [])
   jump_to_end_if : accepts ("      GO TO 10" ∷ "      IF(.TRUE.)THEN" ∷ "   10 END IF" ∷ "      END" ∷ [])
   jump_to_else : refuses 308 2 ("      IF(.TRUE.)THEN" ∷ "      GO TO 10" ∷ "   10 ELSE" ∷ "      END IF" ∷ "      END" ∷ [])
+
+blocks : Blocks
+unfolding reported reported_by reported_of spelled accepts refuses names units_of
+blocks = search refl parts 1
+
+-- what a name is used as, and DATA
+record Uses : Type 0 where
   jump_to_if_then : accepts ("      GO TO 10" ∷ "   10 IF(.TRUE.)THEN" ∷ "      END IF" ∷ "      END" ∷ [])
   type_twice : refuses 309 2 ("      INTEGER I" ∷ "      INTEGER I" ∷ "      END" ∷ [])
   bounds_twice : refuses 309 2 ("      INTEGER I(2)" ∷ "      DIMENSION I(2)" ∷ "      END" ∷ [])
@@ -155,157 +177,6 @@ record Rows : Type 0 where
   lower_number_first : refuses 302 2 ("      INTEGER X(2)" ∷ "      X=MAX(1)" ∷ "      END" ∷ [])
   names_by_position : names 301 1 (codes "B") ("      I=B+C" ∷ "      END" ∷ [])
 
-rows : Rows
+uses : Uses
 unfolding reported reported_by reported_of spelled accepts refuses names units_of
-rows = record {
-  untyped_name = refl;
-  typed_by_implicit = refl;
-  untyped_keyword = refl;
-  untyped_right_side = refl;
-  untyped_left_side_first = refl;
-  untyped_constant = refl;
-  constant_typed_later = refl;
-  untyped_dummy = refl;
-  asynchronous_name_untyped = refl;
-  asynchronous_name_by_letter = refl;
-  array_assigned = refl;
-  element_assigned = refl;
-  logical_assigned = refl;
-  logical_as_operand = refl;
-  integer_condition = refl;
-  logical_condition = refl;
-  negated_integer = refl;
-  array_printed = refl;
-  subscripts_too_many = refl;
-  logical_subscript = refl;
-  logical_do_parameter = refl;
-  logical_computed_go_to = refl;
-  logical_arithmetic_if = refl;
-  constant_by_a_variable = refl;
-  constant_by_a_later_one = refl;
-  constant_by_an_earlier_one = refl;
-  constant_that_divides_by_zero = refl;
-  constant_of_the_other_type = refl;
-  bound_by_a_variable = refl;
-  bound_by_a_constant = refl;
-  open_bound_of_no_dummy = refl;
-  bounds_out_of_order = refl;
-  too_many_elements = refl;
-  most_elements = refl;
-  bounds_of_a_dummy = refl;
-  adjustable_array = refl;
-  adjusted_by_a_local = refl;
-  adjusted_by_common = refl;
-  adjusted_by_a_function = refl;
-  array_in_parentheses_as_actual = refl;
-  loop_over_an_array = refl;
-  two_actuals_for_one = refl;
-  one_actual_for_one = refl;
-  largest_of_one = refl;
-  remainder_of_one = refl;
-  full_of_two = refl;
-  logical_actual_for_integer = refl;
-  asynchronous_actual_for_plain = refl;
-  value_of_asynchronous_for_plain = refl;
-  plain_actual_for_asynchronous = refl;
-  array_for_scalar = refl;
-  scalar_for_array = refl;
-  element_for_array = refl;
-  untyped_dummy_of_a_later_unit = refl;
-  full_of_plain = refl;
-  full_of_an_array = refl;
-  full_of_an_element = refl;
-  plain_purged = refl;
-  array_purged = refl;
-  two_lengths = refl;
-  two_lengths_of_blank_common = refl;
-  two_types_at_a_position = refl;
-  plain_and_asynchronous_at_a_position = refl;
-  last_statement_of_the_block = refl;
-  array_as_scalars = refl;
-  label_nowhere = refl;
-  label_twice = refl;
-  label_on_a_declaration = refl;
-  label_on_end = refl;
-  shared_variable = refl;
-  variables_apart = refl;
-  ranges_cross = refl;
-  terminal_before_its_do = refl;
-  terminal_go_to = refl;
-  terminal_computed_go_to = refl;
-  terminal_end = refl;
-  terminal_logical_if_with_go_to = refl;
-  end_if_missing = refl;
-  end_if_stray = refl;
-  else_after_else = refl;
-  else_if_after_else = refl;
-  chain_of_else_if = refl;
-  block_leaves_range = refl;
-  range_leaves_block = refl;
-  range_in_a_block = refl;
-  logical_if_holds_do = refl;
-  logical_if_holds_logical_if = refl;
-  logical_if_holds_end = refl;
-  asynchronous_do_variable = refl;
-  logical_do_variable = refl;
-  constant_do_variable = refl;
-  jump_into_range = refl;
-  jump_within_range = refl;
-  jump_out_of_range = refl;
-  jump_to_the_terminal_from_the_outer_range = refl;
-  jump_to_the_own_terminal = refl;
-  jump_into_block = refl;
-  jump_into_another_block = refl;
-  jump_to_end_if = refl;
-  jump_to_else = refl;
-  jump_to_if_then = refl;
-  type_twice = refl;
-  bounds_twice = refl;
-  bounds_twice_after_common = refl;
-  first_bounds_disagree = refl;
-  bounds_twice_before_common = refl;
-  bounds_apart_from_type = refl;
-  common_twice = refl;
-  common_twice_in_a_block = refl;
-  constant_twice = refl;
-  letter_twice = refl;
-  letters_apart = refl;
-  dummies_of_one_name = refl;
-  units_of_one_name = refl;
-  unit_and_block_of_one_name = refl;
-  unit_and_later_block_of_one_name = refl;
-  dummy_in_common = refl;
-  constant_assigned = refl;
-  constant_with_bounds = refl;
-  constant_in_common = refl;
-  constant_with_data = refl;
-  constant_with_a_list_assigned = refl;
-  variable_called = refl;
-  name_called_alone = refl;
-  variable_of_a_unit_not_called_here = refl;
-  no_such_subroutine = refl;
-  main_program_called = refl;
-  no_such_function = refl;
-  function_of_the_language = refl;
-  asynchronous_function_name = refl;
-  no_array_assigned = refl;
-  no_array_in_data = refl;
-  values_too_few = refl;
-  values_enough = refl;
-  values_too_many = refl;
-  data_outside_the_main_program = refl;
-  data_of_asynchronous = refl;
-  data_of_common = refl;
-  value_by_no_constant = refl;
-  value_by_a_constant = refl;
-  repeat_of_zero = refl;
-  repeat_by_a_logical = refl;
-  value_of_the_other_type = refl;
-  given_twice = refl;
-  element_given_twice = refl;
-  element_outside = refl;
-  subscript_by_a_variable_in_data = refl;
-  first_line_first = refl;
-  lower_number_first = refl;
-  names_by_position = refl;
-}
+uses = search refl parts 1

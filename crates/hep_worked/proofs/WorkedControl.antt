@@ -2,7 +2,7 @@
 use Rattle.std.specs.Prelude.{◌≡◌, List, [], ◌∷◌, refl}
 use Prim.Native.String.{String}
 use Rattle.hep_machine.specs.declared.event.Kind.TheVariants.{Overflow}
-use Rattle.hep_worked.proofs.SerialRuns.{AllRun, runs, done, minus, one, numbers, fault, ended}
+use Rattle.hep_worked.proofs.SerialRuns.{AllRun, runs, minus, one, numbers, fault, ended, faulted}
 
 -- ---- Block IFs
 
@@ -203,7 +203,7 @@ dos : AllRun (
           ∷ "   10 PRINT *,I"
           ∷ "      END"
           ∷ [],
-      record { records = one 9223372036854775806 ∷ one 9223372036854775807 ∷ []; faults = fault 1 0 2 Overflow ∷ []; processes = []; entries = 7; used = 4; ending = done },
+      faulted (one 9223372036854775806 ∷ one 9223372036854775807 ∷ []) (fault 1 0 2 Overflow) 7 4,
     )
     -- count overflows
     ∷ (
@@ -211,7 +211,7 @@ dos : AllRun (
           ∷ "   10 PRINT *,I"
           ∷ "      END"
           ∷ [],
-      record { records = []; faults = fault 1 0 1 Overflow ∷ []; processes = []; entries = 2; used = 4; ending = done },
+      faulted [] (fault 1 0 1 Overflow) 2 4,
     )
     ∷ [])
 unfolding runs

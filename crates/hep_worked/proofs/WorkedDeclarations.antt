@@ -1,7 +1,6 @@
 -- Further sources at the conditions of declarations: positions in COMMON, adjustable bounds, DATA and large counts; a run of a large
 -- array, and a long chain of activations.
 use Rattle.std.specs.Prelude.{◌≡◌, ℕ, zero, suc, true, false, List, [], ◌∷◌, ◌++◌, Option, Some, None, replicate, refl}
-use Prim.Native.String.{String}
 use Rattle.hep_machine.specs.Layout.{is_held, is_made}
 use Rattle.hep_machine.specs.State.{Activation, Process, State, doing}
 use Rattle.hep_machine.specs.Access.{unset_cell}
@@ -45,39 +44,7 @@ record Rows : Type 0 where
 
 rows : Rows
 unfolding reported reported_by reported_of spelled accepts refuses names units_of
-rows = record {
-  second_place_is_no_place = refl;
-  second_place_in_a_later_block = refl;
-  second_place_in_an_earlier_unit = refl;
-  second_place_beside_the_same_block = refl;
-  type_after_a_second_place = refl;
-  second_place_in_blank_common = refl;
-  first_place_after_the_other_block = refl;
-  one_place_in_each_unit = refl;
-  another_block_of_its_own = refl;
-  bound_by_a_dummy_given_as_a_constant_later = refl;
-  bound_by_common_given_as_a_constant_later = refl;
-  lower_bound_by_a_dummy_given_as_a_constant_later = refl;
-  bound_by_a_dummy_given_as_a_constant_before = refl;
-  bound_by_a_dummy_alone = refl;
-  bound_by_a_dummy_and_a_constant = refl;
-  constant_as_do_variable = refl;
-  repeat_of_ten_million = refl;
-  repeat_of_the_greatest = refl;
-  repeat_of_the_greatest_by_a_constant = refl;
-  data_of_the_largest_array = refl;
-  one_value_too_few_for_the_largest_array = refl;
-  last_value_of_the_other_type = refl;
-  values_across_arrays = refl;
-  value_of_the_other_type_across_arrays = refl;
-  element_of_the_largest_array_again = refl;
-  elements_side_by_side = refl;
-  block_of_the_largest_array = refl;
-  block_of_the_largest_array_is_shorter = refl;
-  last_of_the_largest_array_is_asynchronous = refl;
-  last_of_the_largest_array_is_logical = refl;
-  blank_common_of_the_largest_array = refl;
-}
+rows = search refl parts 1
 
 -- ---- the first state: the value at each index of a long list
 

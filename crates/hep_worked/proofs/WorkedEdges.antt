@@ -5,7 +5,8 @@ use Rattle.hep_machine.specs.Variables.{frame_cells}
 use Rattle.hep_worked.proofs.Sources.{units_of}
 use Rattle.hep_worked.proofs.Reported.{spelled, reported_of, reported_by, reported, accepts, refuses, names}
 
-record Rows : Type 0 where
+-- what has a type and a value, and of which type it is
+record Values : Type 0 where
   untyped_second_dummy : names 301 1 (codes "X") ("      SUBROUTINE S(I,X)" ∷ "      X=1" ∷ "      END" ∷ "      END" ∷ [])
   untyped_target_before_value_in_data : names 301 1 (codes "A") ("      DATA A/B/" ∷ "      END" ∷ [])
   untyped_beside_unknown_list : names 301 1 (codes "Y") ("      I=X(1)+Y" ∷ "      END" ∷ [])
@@ -66,6 +67,13 @@ record Rows : Type 0 where
   array_given_to_an_unknown_list : names 310 2 (codes "J") ("      INTEGER X(2)" ∷ "      I=J(X)" ∷ "      END" ∷ [])
   logical_value_to_constant_name : refuses 302 2 ("      PARAMETER (N=1)" ∷ "      N=.TRUE." ∷ "      END" ∷ [])
   value_of_the_other_type_by_test : refuses 302 2 ("      INTEGER $X" ∷ "      IF($X.EQ.FULL($X))STOP" ∷ "      END" ∷ [])
+
+values : Values
+unfolding reported reported_by reported_of spelled accepts refuses names units_of
+values = search refl parts 1
+
+-- shapes of arrays, calls, and common blocks
+record Calls : Type 0 where
   value_has_its_type : accepts ("      LOGICAL $L" ∷ "      IF(WAITF($L))STOP" ∷ "      END" ∷ [])
   no_actual_for_one : refuses 303 1 ("      CALL S" ∷ "      END" ∷ "      SUBROUTINE S(I)" ∷ "      END" ∷ [])
   empty_list_for_none : accepts ("      CREATE S()" ∷ "      END" ∷ "      SUBROUTINE S" ∷ "      END" ∷ [])
@@ -102,6 +110,13 @@ record Rows : Type 0 where
   lengths_by_a_constant : accepts ("      PARAMETER (N=2)" ∷ "      COMMON /B/ I(N)" ∷ "      END" ∷ "      SUBROUTINE S" ∷ "      COMMON /B/ I,J" ∷ "      END" ∷ [])
   dimension_after_common : accepts ("      COMMON /B/ I" ∷ "      DIMENSION I(2)" ∷ "      END" ∷ "      SUBROUTINE S" ∷ "      COMMON /B/ I,J" ∷ "      END" ∷ [])
   bounds_refused_in_the_later_unit : refuses 302 5 ("      COMMON /B/ I(2)" ∷ "      END" ∷ "      SUBROUTINE S" ∷ "      COMMON /B/ A" ∷ "      INTEGER A(0)" ∷ "      END" ∷ [])
+
+calls : Calls
+unfolding reported reported_by reported_of spelled accepts refuses names units_of
+calls = search refl parts 1
+
+-- labels, DO and block IF, and jumps
+record Blocks : Type 0 where
   blocks_in_other_order : accepts ("      COMMON /B/ I,/C/ $J" ∷ "      END" ∷ "      SUBROUTINE S" ∷ "      COMMON /C/ $J/B/ I" ∷ "      END" ∷ [])
   third_label_nowhere : refuses 306 1 ("      IF(I)10,10,20" ∷ "   10 CONTINUE" ∷ "      END" ∷ [])
   label_in_another_unit : refuses 306 1 ("      GO TO 10" ∷ "      END" ∷ "      SUBROUTINE S" ∷ "   10 CONTINUE" ∷ "      END" ∷ [])
@@ -147,6 +162,13 @@ record Rows : Type 0 where
   jump_to_a_do : accepts ("      GO TO 10" ∷ "   10 DO 20 I=1,2" ∷ "      IF(I.EQ.1)GO TO 10" ∷ "   20 CONTINUE" ∷ "      END" ∷ [])
   label_nowhere_beside_a_wrong_jump : refuses 306 1 ("      IF(1)10,30,10" ∷ "      DO 20 I=1,2" ∷ "   10 CONTINUE" ∷ "   20 CONTINUE" ∷ "      END" ∷ [])
   jump_from_if_to_else_part : refuses 308 4 ("      IF(.TRUE.)THEN" ∷ "   10 CONTINUE" ∷ "      ELSE" ∷ "      GO TO 10" ∷ "      END IF" ∷ "      END" ∷ [])
+
+blocks : Blocks
+unfolding reported reported_by reported_of spelled accepts refuses names units_of
+blocks = search refl parts 1
+
+-- what a name is used as, and DATA
+record Uses : Type 0 where
   dummy_called : refuses 309 2 ("      SUBROUTINE S(K)" ∷ "      CALL K" ∷ "      END" ∷ "      SUBROUTINE K" ∷ "      END" ∷ "      END" ∷ [])
   type_twice_in_one_statement : refuses 309 1 ("      INTEGER I,I" ∷ "      END" ∷ [])
   common_twice_in_one_statement : refuses 309 1 ("      COMMON I,I" ∷ "      END" ∷ [])
@@ -195,6 +217,13 @@ record Rows : Type 0 where
   unknown_list_before_data_violations : names 310 2 (codes "J") ("      INTEGER X(2)" ∷ "      DATA J(1),X/1/" ∷ "      END" ∷ [])
   repeat_at_the_length : accepts ("      INTEGER X(1000)" ∷ "      DATA X/1000*0/" ∷ "      END" ∷ [])
   later_number_in_an_earlier_line : refuses 311 1 ("      DATA I/1,2/" ∷ "      READ=1" ∷ "      END" ∷ [])
+
+uses : Uses
+unfolding reported reported_by reported_of spelled accepts refuses names units_of
+uses = search refl parts 1
+
+-- units, operands, functions and bounds once more
+record More : Type 0 where
   calls_across_units : refuses 304 2 ("      SUBROUTINE S(I)" ∷ "      CALL T(I)" ∷ "      END" ∷ "      CALL S(1)" ∷ "      END" ∷ "      SUBROUTINE T(L)" ∷ "      LOGICAL L" ∷ "      END" ∷ [])
   jump_and_block_in_one_line : refuses 302 2 ("      DO 10 I=1,2" ∷ "   10 IF(I)STOP" ∷ "      END" ∷ [])
   type_twice_the_first_holds : refuses 309 5 ("      CALL S(.TRUE.)" ∷ "      END" ∷ "      SUBROUTINE S(I)" ∷ "      LOGICAL I" ∷ "      INTEGER I" ∷ "      END" ∷ [])
@@ -240,6 +269,13 @@ record Rows : Type 0 where
   block_named_by_two_units_and_a_header_between : refuses 309 3 ("      COMMON /S/ I" ∷ "      END" ∷ "      SUBROUTINE S" ∷ "      COMMON /S/ I" ∷ "      END" ∷ [])
   value_of_an_asynchronous_array : refuses 304 2 ("      INTEGER $X(2)" ∷ "      PRINT *,VALUE($X)" ∷ "      END" ∷ [])
   data_count_of_a_continued_statement : refuses 311 2 ("      INTEGER X(2)" ∷ "      DATA X(1)/1/," ∷ "     +X(2)/2,3/" ∷ "      END" ∷ [])
+
+more : More
+unfolding reported reported_by reported_of spelled accepts refuses names units_of
+more = search refl parts 1
+
+-- several violations in one source, and which is reported
+record Several : Type 0 where
   unclosed_do_before_the_wrong_jump : refuses 306 1 ("      DO 10 I=1,2" ∷ "      GO TO 20" ∷ "      END" ∷ [])
   test_within_an_unknown_call : refuses 304 1 ("      CALL T(FULL(I))" ∷ "      END" ∷ [])
   test_within_an_unknown_list : refuses 304 1 ("      I=J(VALUE(K))" ∷ "      END" ∷ [])
@@ -283,286 +319,9 @@ record Rows : Type 0 where
   bound_of_a_dummy_by_a_division_by_zero : refuses 302 3 ("      END" ∷ "      SUBROUTINE S(K)" ∷ "      PARAMETER (N=1/0)" ∷ "      INTEGER K(N)" ∷ "      END" ∷ [])
   bounds_in_common_too_in_a_later_unit : refuses 309 5 ("      COMMON /B/ I(2)" ∷ "      END" ∷ "      SUBROUTINE S" ∷ "      INTEGER J(2)" ∷ "      COMMON /B/ J(2)" ∷ "      END" ∷ [])
 
-rows : Rows
+several : Several
 unfolding reported reported_by reported_of spelled accepts refuses names units_of
-rows = record {
-  untyped_second_dummy = refl;
-  untyped_target_before_value_in_data = refl;
-  untyped_beside_unknown_list = refl;
-  typed_plain_untyped_asynchronous = refl;
-  untyped_in_a_condition = refl;
-  untyped_do_variable = refl;
-  untyped_value_in_data = refl;
-  untyped_repeat_in_data = refl;
-  untyped_bound = refl;
-  implicit_for_asynchronous = refl;
-  integer_letter_made_logical = refl;
-  called_name_has_no_type = refl;
-  block_name_has_no_type = refl;
-  untyped_array = refl;
-  untyped_subscript_before_right_side = refl;
-  untyped_name_of_a_function = refl;
-  untyped_in_a_later_unit = refl;
-  array_as_subscript = refl;
-  assignment_within_logical_if = refl;
-  integer_condition_of_else_if = refl;
-  relation_of_logicals = refl;
-  equivalence_of_logicals = refl;
-  sign_before_a_logical = refl;
-  adjustable_lower_bound = refl;
-  dummy_shape_out_of_order = refl;
-  open_shape_of_any_size = refl;
-  adjustable_shape_out_of_order = refl;
-  bound_by_dummy_and_local = refl;
-  bound_by_logical_dummy = refl;
-  bound_by_asynchronous_dummy = refl;
-  bound_by_element_of_dummy = refl;
-  bound_by_dummy_and_function = refl;
-  bound_of_dummy_by_function_of_constants = refl;
-  constant_bound_of_dummy_that_faults = refl;
-  adjustable_bound_that_faults = refl;
-  common_named_after_the_bound = refl;
-  constant_given_after_the_bound = refl;
-  logical_constant = refl;
-  constant_above_the_greatest = refl;
-  constants_at_the_least = refl;
-  size_of_the_least = refl;
-  constant_by_state = refl;
-  constant_by_itself = refl;
-  seven_dimensions = refl;
-  product_too_large = refl;
-  product_at_the_limit = refl;
-  extent_beyond_the_integers = refl;
-  array_in_arithmetic_as_actual = refl;
-  array_in_a_function = refl;
-  array_in_parentheses_tested = refl;
-  array_waited_for_in_print = refl;
-  logical_subscript_in_purge = refl;
-  subscript_count_in_purge = refl;
-  subscript_count_in_data = refl;
-  subscript_count_in_an_actual = refl;
-  array_given_to_an_unknown_subroutine = refl;
-  array_operand_given_to_an_unknown_subroutine = refl;
-  array_given_to_an_unknown_list = refl;
-  logical_value_to_constant_name = refl;
-  value_of_the_other_type_by_test = refl;
-  value_has_its_type = refl;
-  no_actual_for_one = refl;
-  empty_list_for_none = refl;
-  count_before_type = refl;
-  count_in_a_nested_list = refl;
-  count_in_a_subscript_of_data = refl;
-  operand_before_count = refl;
-  count_of_create_within_logical_if = refl;
-  asynchronous_element_for_array = refl;
-  plain_array_for_asynchronous_array = refl;
-  asynchronous_array_for_scalar = refl;
-  constant_for_scalar = refl;
-  constant_for_array = refl;
-  constant_for_asynchronous = refl;
-  expression_for_asynchronous = refl;
-  unknown_list_for_scalar = refl;
-  unknown_list_for_array = refl;
-  unknown_list_tested = refl;
-  constant_tested = refl;
-  scalar_in_parentheses_tested = refl;
-  sum_tested = refl;
-  plain_list_purged = refl;
-  asynchronous_list_purged = refl;
-  recursion = refl;
-  type_within_logical_if = refl;
-  logical_element_for_integer = refl;
-  logical_by_test_for_logical = refl;
-  array_dummy_for_scalar = refl;
-  block_continued = refl;
-  type_within_an_array = refl;
-  blank_common_type_past_the_shorter = refl;
-  third_unit_against_the_second = refl;
-  fault_before_the_last_common_statement = refl;
-  lengths_by_a_constant = refl;
-  dimension_after_common = refl;
-  bounds_refused_in_the_later_unit = refl;
-  blocks_in_other_order = refl;
-  third_label_nowhere = refl;
-  label_in_another_unit = refl;
-  label_twice_on_a_declaration_too = refl;
-  one_label_in_two_units = refl;
-  terminal_nowhere = refl;
-  label_twice_at_its_second = refl;
-  label_on_data_used = refl;
-  label_on_data_unused = refl;
-  leading_zeros_are_one_label = refl;
-  first_and_third_variable = refl;
-  one_variable_in_a_row = refl;
-  end_if_of_the_block_as_terminal = refl;
-  end_if_within_as_terminal = refl;
-  else_within_as_terminal = refl;
-  terminal_return = refl;
-  terminal_logical_if_with_return = refl;
-  terminal_arithmetic_if = refl;
-  terminal_logical_if_with_arithmetic_if = refl;
-  terminal_do = refl;
-  do_ends_with_itself = refl;
-  outer_block_lacks_its_end = refl;
-  logical_if_holds_else = refl;
-  logical_if_holds_end_if = refl;
-  range_ends_in_else = refl;
-  range_in_else = refl;
-  second_end_if = refl;
-  first_of_a_label_ends_the_range = refl;
-  dummy_array_as_do_variable = refl;
-  dummy_and_common_do_variables = refl;
-  asynchronous_and_plain_are_two_in_do = refl;
-  jump_from_the_outer_range = refl;
-  jump_from_the_terminal_back = refl;
-  jump_to_an_inner_end_if = refl;
-  jump_to_an_end_if_in_a_range = refl;
-  jump_to_an_inner_if_then = refl;
-  jump_out_of_an_inner_block = refl;
-  one_label_of_a_computed_go_to = refl;
-  jump_to_a_stray_else = refl;
-  jump_to_the_own_else = refl;
-  jump_into_a_block_without_end = refl;
-  jump_within_a_block_by_logical_if = refl;
-  jump_to_a_do = refl;
-  label_nowhere_beside_a_wrong_jump = refl;
-  jump_from_if_to_else_part = refl;
-  dummy_called = refl;
-  type_twice_in_one_statement = refl;
-  common_twice_in_one_statement = refl;
-  letter_within_a_range = refl;
-  letter_of_two_types = refl;
-  variable_after_its_call = refl;
-  asynchronous_variable_beside_a_call = refl;
-  list_beside_a_call = refl;
-  block_and_variable_of_one_name = refl;
-  main_program_and_block_of_one_name = refl;
-  block_of_the_name_main = refl;
-  subroutine_of_the_name_main = refl;
-  constant_as_dummy = refl;
-  constant_called = refl;
-  constant_assigned_within_logical_if = refl;
-  constant_with_a_list_in_data = refl;
-  bounds_in_common_too = refl;
-  bounds_once = refl;
-  units_of_one_name_before_the_main_program = refl;
-  dummy_of_the_name_of_its_unit = refl;
-  dummies_apart_by_sign = refl;
-  variable_of_the_name_of_a_function = refl;
-  unit_called_that_is_typed_after = refl;
-  first_of_two_unknown = refl;
-  assigned_before_the_right_side = refl;
-  subroutine_before_its_actual = refl;
-  function_assigned = refl;
-  function_in_data = refl;
-  constant_with_a_list = refl;
-  asynchronous_name_of_a_state_function = refl;
-  array_of_the_name_of_a_function = refl;
-  created_without_a_subroutine = refl;
-  one_group_too_few_one_too_many = refl;
-  groups_without_comma = refl;
-  second_value_of_the_other_type = refl;
-  array_after_its_element = refl;
-  subscript_outside_with_a_number_inside = refl;
-  repeat_by_no_constant = refl;
-  array_as_value = refl;
-  data_of_an_asynchronous_element = refl;
-  lower_bounds_in_data = refl;
-  repeat_and_value_by_constants = refl;
-  data_between_executable_statements = refl;
-  data_of_a_dummy = refl;
-  same_element_by_two_subscripts = refl;
-  unknown_list_before_data_violations = refl;
-  repeat_at_the_length = refl;
-  later_number_in_an_earlier_line = refl;
-  calls_across_units = refl;
-  jump_and_block_in_one_line = refl;
-  type_twice_the_first_holds = refl;
-  letter_twice_the_first_holds = refl;
-  unit_twice_the_first_is_called = refl;
-  main_program_of_the_called_name = refl;
-  blank_common_continued = refl;
-  unit_between_without_the_block = refl;
-  inner_range_leaves_its_block = refl;
-  jump_to_the_outer_terminal = refl;
-  jump_to_the_inner_terminal = refl;
-  jump_of_a_shared_terminal_to_itself = refl;
-  unknown_condition = refl;
-  unknown_operands = refl;
-  unknown_do_parameter = refl;
-  unknown_value_assigned_to_a_logical = refl;
-  unknown_actual_for_logical = refl;
-  unknown_subscript = refl;
-  function_of_integers_to_a_logical = refl;
-  value_of_two_has_the_type_of_the_first = refl;
-  value_of_two_of_its_type = refl;
-  no_shape_beside_an_open_bound = refl;
-  value_of_an_expression_has_no_type = refl;
-  full_is_logical_of_anything = refl;
-  second_item_of_purge = refl;
-  power_too_large = refl;
-  powers_of_constants = refl;
-  power_of_zero_below = refl;
-  adjustable_shape_of_any_size = refl;
-  dummy_shape_too_large = refl;
-  open_bound_in_common = refl;
-  bounds_before_the_type = refl;
-  bound_by_implicit_logical = refl;
-  dummy_bound_by_a_later_constant = refl;
-  common_variable_called = refl;
-  call_after_the_variable = refl;
-  asynchronous_name_counts_its_sign = refl;
-  name_in_a_continuation_line = refl;
-  array_given_to_a_scalar_in_a_longer_list = refl;
-  terminal_before_its_do_and_forbidden = refl;
-  jump_over_a_second_else = refl;
-  assigned_do_variable = refl;
-  block_named_by_two_units_and_a_header_between = refl;
-  value_of_an_asynchronous_array = refl;
-  data_count_of_a_continued_statement = refl;
-  unclosed_do_before_the_wrong_jump = refl;
-  test_within_an_unknown_call = refl;
-  test_within_an_unknown_list = refl;
-  jump_to_end_if_from_its_else = refl;
-  doubled_division_by_constants = refl;
-  data_subscript_that_faults = refl;
-  data_subscript_by_a_test = refl;
-  logical_bound_of_a_dummy = refl;
-  constant_assigned_by_do = refl;
-  crossing_three = refl;
-  label_of_another_do_in_between = refl;
-  jump_into_the_range_from_its_do_region = refl;
-  jump_back_into_a_range_after_it = refl;
-  jump_back_into_a_range_by_a_terminal_logical_if = refl;
-  jump_and_call_in_one_unit_by_line = refl;
-  bounds_twice_in_a_later_unit = refl;
-  common_twice_in_a_later_unit = refl;
-  bound_by_a_later_constant = refl;
-  bound_of_the_other_type = refl;
-  constant_of_the_other_type = refl;
-  constant_by_a_wrong_count = refl;
-  constant_untyped = refl;
-  unknown_asynchronous_list_for_asynchronous = refl;
-  unknown_list_for_asynchronous = refl;
-  shape_by_a_wrong_count = refl;
-  division_by_a_wrong_count = refl;
-  called_name_as_value_in_data = refl;
-  constant_with_bounds_after_a_use = refl;
-  common_twice_in_two_blocks = refl;
-  constant_by_a_refused_one = refl;
-  terminal_of_a_do_in_a_logical_if = refl;
-  fault_beside_a_wrong_count = refl;
-  fault_in_a_list_of_a_wrong_count = refl;
-  fault_beside_a_refused_constant = refl;
-  value_beside_a_wrong_count = refl;
-  jump_into_a_block_before_else_without_end = refl;
-  jump_after_else_without_end = refl;
-  variable_beside_a_wrong_count_in_a_constant = refl;
-  variable_beside_a_wrong_count_in_a_bound = refl;
-  constant_by_an_element = refl;
-  bound_of_a_dummy_by_a_division_by_zero = refl;
-  bounds_in_common_too_in_a_later_unit = refl;
-}
+several = search refl parts 1
 
 -- ---- frames
 

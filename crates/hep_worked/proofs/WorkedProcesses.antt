@@ -1,11 +1,10 @@
 -- Worked runs of asynchronous variables and processes.
 use Rattle.std.specs.Prelude.{◌≡◌, true, false, [], ◌∷◌, None, refl}
-use Prim.Native.String.{String}
 use Rattle.hep_machine.specs.declared.event.Kind.TheVariants.{Divide, Range, Undefined}
 use Rattle.hep_machine.specs.declared.record.Item.TheVariants.{Truth}
 use Rattle.hep_machine.specs.Layout.{is_made, is_held}
 use Rattle.hep_machine.specs.State.{common}
-use Rattle.hep_worked.proofs.SerialRuns.{AllRun, report, runs, done, all_wait, halted, arena_full, no_such_process, int, one, fault, stands, waits_for_full, waits_for_empty, asynchronous, ended}
+use Rattle.hep_worked.proofs.SerialRuns.{AllRun, report, runs, done, all_wait, halted, arena_full, no_such_process, int, one, fault, stands, waits_for_full, waits_for_empty, asynchronous, ended, faulted, ended_by}
 
 -- ---- Asynchronous variables
 
@@ -52,7 +51,7 @@ asynchronous_variables : AllRun (
           ∷ "      I=SETE($X)"
           ∷ "      END"
           ∷ [],
-      record { records = (Truth false ∷ Truth true ∷ []) ∷ []; faults = fault 1 0 3 Undefined ∷ []; processes = []; entries = 4; used = 3; ending = done },
+      faulted ((Truth false ∷ Truth true ∷ []) ∷ []) (fault 1 0 3 Undefined) 4 3,
     )
     -- fill twice
     ∷ (
@@ -61,7 +60,7 @@ asynchronous_variables : AllRun (
           ∷ "      $X=2"
           ∷ "      END"
           ∷ [],
-      record { records = []; faults = []; processes = waits_for_empty 1 0 3 (asynchronous 1 "X" 1) ∷ []; entries = 2; used = 2; ending = all_wait },
+      ended_by all_wait [] (waits_for_empty 1 0 3 (asynchronous 1 "X" 1) ∷ []) 2 2,
     )
     -- the fourth by columns
     ∷ (
@@ -69,7 +68,7 @@ asynchronous_variables : AllRun (
           ∷ "      I=$X(2,2)"
           ∷ "      END"
           ∷ [],
-      record { records = []; faults = []; processes = waits_for_full 1 0 2 (asynchronous 1 "X" 4) ∷ []; entries = 1; used = 8; ending = all_wait },
+      ended_by all_wait [] (waits_for_full 1 0 2 (asynchronous 1 "X" 4) ∷ []) 1 8,
     )
     -- waits in common
     ∷ (
@@ -83,7 +82,7 @@ asynchronous_variables : AllRun (
           ∷ "      $K=2"
           ∷ "      END"
           ∷ [],
-      record { records = []; faults = []; processes = waits_for_full 1 0 3 (common None 1) ∷ waits_for_empty 2 1 8 (common None 2) ∷ []; entries = 4; used = 7; ending = all_wait },
+      ended_by all_wait [] (waits_for_full 1 0 3 (common None 1) ∷ waits_for_empty 2 1 8 (common None 2) ∷ []) 4 7,
     )
     -- the right side first
     ∷ (
@@ -91,7 +90,7 @@ asynchronous_variables : AllRun (
           ∷ "      X($I)=$J"
           ∷ "      END"
           ∷ [],
-      record { records = []; faults = []; processes = waits_for_full 1 0 2 (asynchronous 1 "J" 1) ∷ []; entries = 1; used = 5; ending = all_wait },
+      ended_by all_wait [] (waits_for_full 1 0 2 (asynchronous 1 "J" 1) ∷ []) 1 5,
     )
     -- and then the subscript
     ∷ (
@@ -100,7 +99,7 @@ asynchronous_variables : AllRun (
           ∷ "      X($I)=$J"
           ∷ "      END"
           ∷ [],
-      record { records = []; faults = []; processes = waits_for_full 1 0 3 (asynchronous 1 "I" 1) ∷ []; entries = 3; used = 5; ending = all_wait },
+      ended_by all_wait [] (waits_for_full 1 0 3 (asynchronous 1 "I" 1) ∷ []) 3 5,
     )
     ∷ [])
 unfolding runs
@@ -139,7 +138,7 @@ purge_range_runs : report (
     ∷ "      INTEGER $Z"
     ∷ "      PRINT *,FULL($Z(1)),FULL($Z(2))"
     ∷ "      END"
-    ∷ []) 65536 is_made 10000000 (1 ∷ 1 ∷ 1 ∷ 1 ∷ []) ≡ record { records = (Truth true ∷ Truth true ∷ []) ∷ []; faults = fault 1 0 6 Range ∷ []; processes = []; entries = 8; used = 4; ending = done }
+    ∷ []) 65536 is_made 10000000 (1 ∷ 1 ∷ 1 ∷ 1 ∷ []) ≡ faulted ((Truth true ∷ Truth true ∷ []) ∷ []) (fault 1 0 6 Range) 8 4
 unfolding report
 purge_range_runs = refl
 
@@ -220,11 +219,11 @@ woken_in_vain_runs : report (
     ∷ "      $K=5"
     ∷ "      I=$K"
     ∷ "      END"
-    ∷ []) 65536 is_made 10000000 (1 ∷ 1 ∷ 2 ∷ 2 ∷ 2 ∷ 2 ∷ []) ≡ record { records = []; faults = []; processes = waits_for_full 1 0 3 (asynchronous 1 "N" 1) ∷ []; entries = 7; used = 7; ending = all_wait }
+    ∷ []) 65536 is_made 10000000 (1 ∷ 1 ∷ 2 ∷ 2 ∷ 2 ∷ 2 ∷ []) ≡ ended_by all_wait [] (waits_for_full 1 0 3 (asynchronous 1 "N" 1) ∷ []) 7 7
 unfolding report
 woken_in_vain_runs = refl
 
-waits_again_runs : report ("      I=$N" ∷ "      END" ∷ []) 65536 is_made 10000000 (1 ∷ 1 ∷ 1 ∷ []) ≡ record { records = []; faults = []; processes = waits_for_full 1 0 1 (asynchronous 1 "N" 1) ∷ []; entries = 3; used = 3; ending = all_wait }
+waits_again_runs : report ("      I=$N" ∷ "      END" ∷ []) 65536 is_made 10000000 (1 ∷ 1 ∷ 1 ∷ []) ≡ ended_by all_wait [] (waits_for_full 1 0 1 (asynchronous 1 "N" 1) ∷ []) 3 3
 unfolding report
 waits_again_runs = refl
 
@@ -251,7 +250,7 @@ processes : AllRun (
           ∷ "      INTEGER $K"
           ∷ "      END"
           ∷ [],
-      record { records = []; faults = []; processes = waits_for_full 1 0 3 (asynchronous 1 "N" 1) ∷ []; entries = 12; used = 14; ending = all_wait },
+      ended_by all_wait [] (waits_for_full 1 0 3 (asynchronous 1 "N" 1) ∷ []) 12 14,
     )
     -- a fault ends all activations of its process, and no other process
     ∷ (
@@ -297,11 +296,11 @@ stop_in_a_process_runs : runs (
     ∷ "      SUBROUTINE S"
     ∷ "      STOP 12"
     ∷ "      END"
-    ∷ []) ≡ record { records = []; faults = []; processes = stands 1 0 2 ∷ stands 2 1 5 ∷ []; entries = 2; used = 2; ending = halted }
+    ∷ []) ≡ ended_by halted [] (stands 1 0 2 ∷ stands 2 1 5 ∷ []) 2 2
 unfolding runs
 stop_in_a_process_runs = refl
 
-choice_of_no_process_runs : report ("      PRINT *,1" ∷ "      END" ∷ []) 65536 is_made 10000000 (1 ∷ 2 ∷ []) ≡ record { records = one 1 ∷ []; faults = []; processes = stands 1 0 2 ∷ []; entries = 1; used = 1; ending = no_such_process }
+choice_of_no_process_runs : report ("      PRINT *,1" ∷ "      END" ∷ []) 65536 is_made 10000000 (1 ∷ 2 ∷ []) ≡ ended_by no_such_process (one 1 ∷ []) (stands 1 0 2 ∷ []) 1 1
 unfolding report
 choice_of_no_process_runs = refl
 
@@ -311,11 +310,11 @@ choice_of_an_ended_process_runs : report (
     ∷ "      END"
     ∷ "      SUBROUTINE S"
     ∷ "      END"
-    ∷ []) 65536 is_made 10000000 (1 ∷ 2 ∷ 2 ∷ []) ≡ record { records = []; faults = []; processes = stands 1 0 2 ∷ []; entries = 2; used = 2; ending = no_such_process }
+    ∷ []) 65536 is_made 10000000 (1 ∷ 2 ∷ 2 ∷ []) ≡ ended_by no_such_process [] (stands 1 0 2 ∷ []) 2 2
 unfolding report
 choice_of_an_ended_process_runs = refl
 
-choices_after_a_stop_runs : report ("      STOP" ∷ "      END" ∷ []) 65536 is_made 10000000 (1 ∷ 1 ∷ 7 ∷ []) ≡ record { records = []; faults = []; processes = stands 1 0 1 ∷ []; entries = 1; used = 1; ending = halted }
+choices_after_a_stop_runs : report ("      STOP" ∷ "      END" ∷ []) 65536 is_made 10000000 (1 ∷ 1 ∷ 7 ∷ []) ≡ ended_by halted [] (stands 1 0 1 ∷ []) 1 1
 unfolding report
 choices_after_a_stop_runs = refl
 
@@ -341,6 +340,6 @@ common_in_front_runs : report (
 unfolding report
 common_in_front_runs = refl
 
-common_full_runs : report ("      COMMON N(3)" ∷ "      END" ∷ []) 3 is_made 10000000 [] ≡ record { records = []; faults = []; processes = stands 1 0 2 ∷ []; entries = 0; used = 4; ending = arena_full }
+common_full_runs : report ("      COMMON N(3)" ∷ "      END" ∷ []) 3 is_made 10000000 [] ≡ ended_by arena_full [] (stands 1 0 2 ∷ []) 0 4
 unfolding report
 common_full_runs = refl

@@ -5,7 +5,7 @@ use Rattle.hep_machine.specs.declared.event.Kind.TheVariants.{Overflow, Range, U
 use Rattle.hep_machine.specs.declared.record.Item.TheVariants.{Truth, Text}
 use Rattle.hep_machine.specs.Layout.{is_made, is_held}
 use Rattle.hep_machine.specs.State.{common}
-use Rattle.hep_worked.proofs.SerialRuns.{AllRun, report, runs, history, used_along, layout_after, frames, view, done, all_wait, halted, arena_full, step_limit, no_such_process, int, minus, one, numbers, fault, stands, waits_for_full, asynchronous, plain, cell, unset_cell, holds, entries_of, ended, rejected}
+use Rattle.hep_worked.proofs.SerialRuns.{AllRun, report, runs, history, used_along, layout_after, frames, view, all_wait, halted, arena_full, step_limit, no_such_process, int, minus, one, numbers, fault, stands, waits_for_full, asynchronous, plain, cell, unset_cell, holds, entries_of, ended, rejected, faulted, ended_by}
 
 -- ---- Reading
 
@@ -119,7 +119,7 @@ one_process : AllRun (
           ∷ "   30 CONTINUE"
           ∷ "      END"
           ∷ [],
-      record { records = one 3 ∷ one 4 ∷ []; faults = fault 1 0 8 Step ∷ []; processes = []; entries = 15; used = 11; ending = done },
+      faulted (one 3 ∷ one 4 ∷ []) (fault 1 0 8 Step) 15 11,
     )
     -- quotients
     ∷ ("      PRINT *,(-7)/2,2**(-3),MOD(-7,2)" ∷ "      END" ∷ [], ended ((minus 3 ∷ int 0 ∷ minus 1 ∷ []) ∷ []) 8 1)
@@ -147,30 +147,21 @@ variable_without_value =
     ∷ "      END"
     ∷ []
 
-variable_without_value_runs : runs variable_without_value ≡ record { records = one 8 ∷ []; faults = fault 1 0 3 Undefined ∷ []; processes = []; entries = 7; used = 3; ending = done }
-unfolding runs
-variable_without_value_runs = refl
+record VariableWithoutValueRuns : Type 0 where
+  variable_without_value_runs : runs variable_without_value ≡ faulted (one 8 ∷ []) (fault 1 0 3 Undefined) 7 3
+  variable_without_value_history : history variable_without_value 65536 is_made 10000000 [] ≡ entries_of ((1, 1) ∷ (1, 1) ∷ (1, 1) ∷ (1, 1) ∷ (1, 1) ∷ (1, 1) ∷ (1, 1) ∷ [])
+  variable_without_value_given_back : report variable_without_value 65536 is_held 10000000 [] ≡ faulted (one 8 ∷ []) (fault 1 0 3 Undefined) 7 0
+  variable_without_value_in_2_cells : report variable_without_value 2 is_made 10000000 [] ≡ ended_by arena_full [] (stands 1 0 1 ∷ []) 0 3
+  variable_without_value_in_3_entries : report variable_without_value 65536 is_made 3 [] ≡ ended_by step_limit [] (stands 1 0 2 ∷ []) 3 3
 
-variable_without_value_history : history variable_without_value 65536 is_made 10000000 [] ≡ entries_of ((1, 1) ∷ (1, 1) ∷ (1, 1) ∷ (1, 1) ∷ (1, 1) ∷ (1, 1) ∷ (1, 1) ∷ [])
-unfolding history
-variable_without_value_history = refl
-
-variable_without_value_given_back : report variable_without_value 65536 is_held 10000000 [] ≡ record { records = one 8 ∷ []; faults = fault 1 0 3 Undefined ∷ []; processes = []; entries = 7; used = 0; ending = done }
-unfolding report
-variable_without_value_given_back = refl
-
-variable_without_value_in_2_cells : report variable_without_value 2 is_made 10000000 [] ≡ record { records = []; faults = []; processes = stands 1 0 1 ∷ []; entries = 0; used = 3; ending = arena_full }
-unfolding report
-variable_without_value_in_2_cells = refl
-
-variable_without_value_in_3_entries : report variable_without_value 65536 is_made 3 [] ≡ record { records = []; faults = []; processes = stands 1 0 2 ∷ []; entries = 3; used = 3; ending = step_limit }
-unfolding report
-variable_without_value_in_3_entries = refl
+variable_without_value_holds : VariableWithoutValueRuns
+unfolding runs history report
+variable_without_value_holds = search refl parts 1
 
 abbrev endless_loop : List String
 endless_loop = "   10 GO TO 10" ∷ "      END" ∷ []
 
-endless_loop_runs : report endless_loop 65536 is_made 5 [] ≡ record { records = []; faults = []; processes = stands 1 0 1 ∷ []; entries = 5; used = 1; ending = step_limit }
+endless_loop_runs : report endless_loop 65536 is_made 5 [] ≡ ended_by step_limit [] (stands 1 0 1 ∷ []) 5 1
 unfolding report
 endless_loop_runs = refl
 
@@ -185,17 +176,14 @@ stopped =
     ∷ "      END"
     ∷ []
 
-stopped_runs : runs stopped ≡ record { records = one 1 ∷ []; faults = []; processes = stands 1 0 2 ∷ []; entries = 2; used = 1; ending = halted }
-unfolding runs
-stopped_runs = refl
+record StoppedRuns : Type 0 where
+  stopped_runs : runs stopped ≡ ended_by halted (one 1 ∷ []) (stands 1 0 2 ∷ []) 2 1
+  stopped_history : history stopped 65536 is_made 10000000 [] ≡ entries_of ((1, 1) ∷ (1, 1) ∷ [])
+  stopped_before_a_choice : report stopped 65536 is_made 10000000 (1 ∷ 1 ∷ 1 ∷ []) ≡ ended_by halted (one 1 ∷ []) (stands 1 0 2 ∷ []) 2 1
 
-stopped_history : history stopped 65536 is_made 10000000 [] ≡ entries_of ((1, 1) ∷ (1, 1) ∷ [])
-unfolding history
-stopped_history = refl
-
-stopped_before_a_choice : report stopped 65536 is_made 10000000 (1 ∷ 1 ∷ 1 ∷ []) ≡ record { records = one 1 ∷ []; faults = []; processes = stands 1 0 2 ∷ []; entries = 2; used = 1; ending = halted }
-unfolding report
-stopped_before_a_choice = refl
+stopped_holds : StoppedRuns
+unfolding runs history report
+stopped_holds = search refl parts 1
 
 -- a constant takes no step
 abbrev named_sum : List String
@@ -247,7 +235,7 @@ adjustable_too_long_runs : runs (
     ∷ "      N=1"
     ∷ "      PRINT *,A(1,2)"
     ∷ "      END"
-    ∷ []) ≡ record { records = []; faults = fault 1 0 3 Shape ∷ []; processes = []; entries = 2; used = 7; ending = done }
+    ∷ []) ≡ faulted [] (fault 1 0 3 Shape) 2 7
 unfolding runs
 adjustable_too_long_runs = refl
 
@@ -299,17 +287,14 @@ undefined_anew =
     ∷ "      END"
     ∷ []
 
-undefined_anew_runs : runs undefined_anew ≡ record { records = []; faults = fault 1 2 8 Undefined ∷ []; processes = []; entries = 5; used = 5; ending = done }
-unfolding runs
-undefined_anew_runs = refl
+record UndefinedAnewRuns : Type 0 where
+  undefined_anew_runs : runs undefined_anew ≡ faulted [] (fault 1 2 8 Undefined) 5 5
+  undefined_anew_in_3_cells : report undefined_anew 3 is_held 10000000 [] ≡ faulted [] (fault 1 2 8 Undefined) 5 0
+  undefined_anew_kept_in_3_cells : report undefined_anew 3 is_made 10000000 [] ≡ ended_by arena_full [] (stands 1 0 2 ∷ []) 3 3
 
-undefined_anew_in_3_cells : report undefined_anew 3 is_held 10000000 [] ≡ record { records = []; faults = fault 1 2 8 Undefined ∷ []; processes = []; entries = 5; used = 0; ending = done }
-unfolding report
-undefined_anew_in_3_cells = refl
-
-undefined_anew_kept_in_3_cells : report undefined_anew 3 is_made 10000000 [] ≡ record { records = []; faults = []; processes = stands 1 0 2 ∷ []; entries = 3; used = 3; ending = arena_full }
-unfolding report
-undefined_anew_kept_in_3_cells = refl
+undefined_anew_holds : UndefinedAnewRuns
+unfolding runs report
+undefined_anew_holds = search refl parts 1
 
 subroutines : AllRun (
     -- rest of an array
@@ -324,7 +309,7 @@ subroutines : AllRun (
           ∷ "      PRINT *,A(4)"
           ∷ "      END"
           ∷ [],
-      record { records = one 9 ∷ []; faults = fault 1 1 8 Range ∷ []; processes = []; entries = 5; used = 9; ending = done },
+      faulted (one 9 ∷ []) (fault 1 1 8 Range) 5 9,
     )
     -- more than the rest
     ∷ (
@@ -338,7 +323,7 @@ subroutines : AllRun (
           ∷ "      PRINT *,A(4)"
           ∷ "      END"
           ∷ [],
-      record { records = []; faults = fault 1 0 3 Shape ∷ []; processes = []; entries = 2; used = 6; ending = done },
+      faulted [] (fault 1 0 3 Shape) 2 6,
     )
     ∷ [])
 unfolding runs
@@ -353,17 +338,14 @@ endless_recursion =
     ∷ "      END"
     ∷ []
 
-endless_recursion_runs : report endless_recursion 4 is_made 10000000 [] ≡ record { records = []; faults = []; processes = stands 1 1 4 ∷ []; entries = 3; used = 4; ending = arena_full }
-unfolding report
-endless_recursion_runs = refl
+record EndlessRecursionRuns : Type 0 where
+  endless_recursion_runs : report endless_recursion 4 is_made 10000000 [] ≡ ended_by arena_full [] (stands 1 1 4 ∷ []) 3 4
+  endless_recursion_runs_given_back : report endless_recursion 4 is_held 10000000 [] ≡ ended_by arena_full [] (stands 1 1 4 ∷ []) 3 4
+  endless_recursion_history : history endless_recursion 4 is_made 10000000 [] ≡ entries_of ((1, 1) ∷ (1, 1) ∷ (1, 1) ∷ [])
 
-endless_recursion_runs_given_back : report endless_recursion 4 is_held 10000000 [] ≡ record { records = []; faults = []; processes = stands 1 1 4 ∷ []; entries = 3; used = 4; ending = arena_full }
-unfolding report
-endless_recursion_runs_given_back = refl
-
-endless_recursion_history : history endless_recursion 4 is_made 10000000 [] ≡ entries_of ((1, 1) ∷ (1, 1) ∷ (1, 1) ∷ [])
-unfolding history
-endless_recursion_history = refl
+endless_recursion_holds : EndlessRecursionRuns
+unfolding report history
+endless_recursion_holds = search refl parts 1
 
 -- the frame of S is given back each time
 abbrev call_in_a_loop : List String
@@ -376,25 +358,16 @@ call_in_a_loop =
     ∷ "      END"
     ∷ []
 
-call_in_a_loop_in_6_cells : report call_in_a_loop 6 is_held 10000000 [] ≡ ended [] 42 0
-unfolding report
-call_in_a_loop_in_6_cells = refl
+record CallInALoopRuns : Type 0 where
+  call_in_a_loop_in_6_cells : report call_in_a_loop 6 is_held 10000000 [] ≡ ended [] 42 0
+  call_in_a_loop_in_5_cells : report call_in_a_loop 5 is_held 10000000 [] ≡ ended_by arena_full [] (stands 1 0 2 ∷ []) 1 4
+  call_in_a_loop_history_in_5_cells : history call_in_a_loop 5 is_held 10000000 [] ≡ entries_of ((1, 1) ∷ [])
+  call_in_a_loop_kept_in_24_cells : report call_in_a_loop 24 is_made 10000000 [] ≡ ended [] 42 24
+  call_in_a_loop_kept_in_23_cells : report call_in_a_loop 23 is_made 10000000 [] ≡ ended_by arena_full [] (stands 1 0 2 ∷ []) 37 22
 
-call_in_a_loop_in_5_cells : report call_in_a_loop 5 is_held 10000000 [] ≡ record { records = []; faults = []; processes = stands 1 0 2 ∷ []; entries = 1; used = 4; ending = arena_full }
-unfolding report
-call_in_a_loop_in_5_cells = refl
-
-call_in_a_loop_history_in_5_cells : history call_in_a_loop 5 is_held 10000000 [] ≡ entries_of ((1, 1) ∷ [])
-unfolding history
-call_in_a_loop_history_in_5_cells = refl
-
-call_in_a_loop_kept_in_24_cells : report call_in_a_loop 24 is_made 10000000 [] ≡ ended [] 42 24
-unfolding report
-call_in_a_loop_kept_in_24_cells = refl
-
-call_in_a_loop_kept_in_23_cells : report call_in_a_loop 23 is_made 10000000 [] ≡ record { records = []; faults = []; processes = stands 1 0 2 ∷ []; entries = 37; used = 22; ending = arena_full }
-unfolding report
-call_in_a_loop_kept_in_23_cells = refl
+call_in_a_loop_holds : CallInALoopRuns
+unfolding report history
+call_in_a_loop_holds = search refl parts 1
 
 abbrev call_in_a_longer_loop : List String
 call_in_a_longer_loop =
@@ -406,40 +379,31 @@ call_in_a_longer_loop =
     ∷ "      END"
     ∷ []
 
-call_in_a_longer_loop_in_6_cells : report call_in_a_longer_loop 6 is_held 10000000 [] ≡ ended [] 4002 0
-unfolding report
-call_in_a_longer_loop_in_6_cells = refl
+record CallInALongerLoopRuns : Type 0 where
+  call_in_a_longer_loop_in_6_cells : report call_in_a_longer_loop 6 is_held 10000000 [] ≡ ended [] 4002 0
+  call_in_a_longer_loop_history_in_6_cells : history call_in_a_longer_loop 6 is_held 10000000 [] ≡ entries_of (replicate 4002 (1, 1))
+  -- no frame is left
+  call_in_a_longer_loop_layout_in_6_cells : layout_after call_in_a_longer_loop 6 is_held (replicate 4002 1) ≡ Some []
+  -- at the END of the last S
+  call_in_a_longer_loop_in_3999_entries : report call_in_a_longer_loop 6 is_held 3999 [] ≡ ended_by step_limit [] (stands 1 1 6 ∷ []) 3999 6
+  -- the frame of the 1,000th S, after that of the main program
+  call_in_a_longer_loop_layout_in_3999_entries : layout_after call_in_a_longer_loop 6 is_held (replicate 3999 1) ≡ Some (record { activation = 1; first = 0; cells = 4 } ∷ record { activation = 1001; first = 4; cells = 2 } ∷ [])
+  call_in_a_longer_loop_in_5_cells : report call_in_a_longer_loop 5 is_held 10000000 [] ≡ ended_by arena_full [] (stands 1 0 2 ∷ []) 1 4
+  call_in_a_longer_loop_history_in_5_cells : history call_in_a_longer_loop 5 is_held 10000000 [] ≡ entries_of ((1, 1) ∷ [])
+  call_in_a_longer_loop_layout_in_5_cells : layout_after call_in_a_longer_loop 5 is_held (1 ∷ 1 ∷ []) ≡ None
 
-call_in_a_longer_loop_history_in_6_cells : history call_in_a_longer_loop 6 is_held 10000000 [] ≡ entries_of (replicate 4002 (1, 1))
-unfolding history
-call_in_a_longer_loop_history_in_6_cells = refl
-
--- no frame is left
-call_in_a_longer_loop_layout_in_6_cells : layout_after call_in_a_longer_loop 6 is_held (replicate 4002 1) ≡ Some []
-unfolding layout_after
-call_in_a_longer_loop_layout_in_6_cells = refl
-
--- at the END of the last S
-call_in_a_longer_loop_in_3999_entries : report call_in_a_longer_loop 6 is_held 3999 [] ≡ record { records = []; faults = []; processes = stands 1 1 6 ∷ []; entries = 3999; used = 6; ending = step_limit }
-unfolding report
-call_in_a_longer_loop_in_3999_entries = refl
-
--- the frame of the 1,000th S, after that of the main program
-call_in_a_longer_loop_layout_in_3999_entries : layout_after call_in_a_longer_loop 6 is_held (replicate 3999 1) ≡ Some (record { activation = 1; first = 0; cells = 4 } ∷ record { activation = 1001; first = 4; cells = 2 } ∷ [])
-unfolding layout_after
-call_in_a_longer_loop_layout_in_3999_entries = refl
-
-call_in_a_longer_loop_in_5_cells : report call_in_a_longer_loop 5 is_held 10000000 [] ≡ record { records = []; faults = []; processes = stands 1 0 2 ∷ []; entries = 1; used = 4; ending = arena_full }
-unfolding report
-call_in_a_longer_loop_in_5_cells = refl
-
-call_in_a_longer_loop_history_in_5_cells : history call_in_a_longer_loop 5 is_held 10000000 [] ≡ entries_of ((1, 1) ∷ [])
-unfolding history
-call_in_a_longer_loop_history_in_5_cells = refl
-
-call_in_a_longer_loop_layout_in_5_cells : layout_after call_in_a_longer_loop 5 is_held (1 ∷ 1 ∷ []) ≡ None
-unfolding layout_after
-call_in_a_longer_loop_layout_in_5_cells = refl
+call_in_a_longer_loop_holds : CallInALongerLoopRuns
+unfolding report history layout_after
+call_in_a_longer_loop_holds = record {
+  call_in_a_longer_loop_in_6_cells = refl;
+  call_in_a_longer_loop_history_in_6_cells = refl;
+  call_in_a_longer_loop_layout_in_6_cells = refl;
+  call_in_a_longer_loop_in_3999_entries = refl;
+  call_in_a_longer_loop_layout_in_3999_entries = refl;
+  call_in_a_longer_loop_in_5_cells = refl;
+  call_in_a_longer_loop_history_in_5_cells = refl;
+  call_in_a_longer_loop_layout_in_5_cells = refl;
+}
 
 -- ---- Processes
 
@@ -455,17 +419,14 @@ overflow_in_a_process =
     ∷ "      END"
     ∷ []
 
-overflow_in_a_process_runs : runs overflow_in_a_process ≡ record { records = (Text (codes "OK") ∷ []) ∷ []; faults = fault 2 1 7 Overflow ∷ []; processes = []; entries = 6; used = 3; ending = done }
-unfolding runs
-overflow_in_a_process_runs = refl
+record OverflowInAProcessRuns : Type 0 where
+  overflow_in_a_process_runs : runs overflow_in_a_process ≡ faulted ((Text (codes "OK") ∷ []) ∷ []) (fault 2 1 7 Overflow) 6 3
+  overflow_in_no_process : report overflow_in_a_process 65536 is_made 10000000 (99 ∷ []) ≡ ended_by no_such_process [] (stands 1 0 2 ∷ []) 0 1
+  overflow_in_no_process_yet : report overflow_in_a_process 65536 is_made 10000000 (2 ∷ []) ≡ ended_by no_such_process [] (stands 1 0 2 ∷ []) 0 1
 
-overflow_in_no_process : report overflow_in_a_process 65536 is_made 10000000 (99 ∷ []) ≡ record { records = []; faults = []; processes = stands 1 0 2 ∷ []; entries = 0; used = 1; ending = no_such_process }
-unfolding report
-overflow_in_no_process = refl
-
-overflow_in_no_process_yet : report overflow_in_a_process 65536 is_made 10000000 (2 ∷ []) ≡ record { records = []; faults = []; processes = stands 1 0 2 ∷ []; entries = 0; used = 1; ending = no_such_process }
-unfolding report
-overflow_in_no_process_yet = refl
+overflow_in_a_process_holds : OverflowInAProcessRuns
+unfolding runs report
+overflow_in_a_process_holds = search refl parts 1
 
 constant_too_large_in_a_process_runs : runs (
     "      PROGRAM P"
@@ -488,21 +449,15 @@ waiting_for_full =
     ∷ "      END"
     ∷ []
 
-waiting_for_full_runs : runs waiting_for_full ≡ record { records = []; faults = []; processes = waits_for_full 1 0 3 (asynchronous 1 "Q" 1) ∷ []; entries = 1; used = 3; ending = all_wait }
-unfolding runs
-waiting_for_full_runs = refl
+record WaitingForFullRuns : Type 0 where
+  waiting_for_full_runs : runs waiting_for_full ≡ ended_by all_wait [] (waits_for_full 1 0 3 (asynchronous 1 "Q" 1) ∷ []) 1 3
+  waiting_for_full_history : history waiting_for_full 65536 is_made 10000000 [] ≡ entries_of ((1, 0) ∷ [])
+  waiting_for_full_in_3_cells : report waiting_for_full 3 is_made 10000000 [] ≡ ended_by all_wait [] (waits_for_full 1 0 3 (asynchronous 1 "Q" 1) ∷ []) 1 3
+  waiting_for_full_in_2_cells : report waiting_for_full 2 is_made 10000000 [] ≡ ended_by arena_full [] (waits_for_full 1 0 3 (asynchronous 1 "Q" 1) ∷ []) 0 3
 
-waiting_for_full_history : history waiting_for_full 65536 is_made 10000000 [] ≡ entries_of ((1, 0) ∷ [])
-unfolding history
-waiting_for_full_history = refl
-
-waiting_for_full_in_3_cells : report waiting_for_full 3 is_made 10000000 [] ≡ record { records = []; faults = []; processes = waits_for_full 1 0 3 (asynchronous 1 "Q" 1) ∷ []; entries = 1; used = 3; ending = all_wait }
-unfolding report
-waiting_for_full_in_3_cells = refl
-
-waiting_for_full_in_2_cells : report waiting_for_full 2 is_made 10000000 [] ≡ record { records = []; faults = []; processes = waits_for_full 1 0 3 (asynchronous 1 "Q" 1) ∷ []; entries = 0; used = 3; ending = arena_full }
-unfolding report
-waiting_for_full_in_2_cells = refl
+waiting_for_full_holds : WaitingForFullRuns
+unfolding runs history report
+waiting_for_full_holds = search refl parts 1
 
 -- two processes add to one variable, and say so by another
 abbrev adders : List String
@@ -523,58 +478,25 @@ adders =
     ∷ "      END"
     ∷ []
 
-adders_runs : runs adders ≡ ended (one 2 ∷ []) 22 14
-unfolding runs
-adders_runs = refl
+record AddersRuns : Type 0 where
+  adders_runs : runs adders ≡ ended (one 2 ∷ []) 22 14
+  adders_chosen_run : report adders 65536 is_made 10000000 (1 ∷ 1 ∷ 1 ∷ 2 ∷ 3 ∷ []) ≡ ended (one 2 ∷ []) 22 14
+  adders_chosen_history : history adders 65536 is_made 10000000 (1 ∷ 1 ∷ 1 ∷ 2 ∷ 3 ∷ []) ≡ entries_of ((1, 1) ∷ (1, 1) ∷ (1, 1) ∷ (2, 1) ∷ (3, 0) ∷ (1, 0) ∷ (2, 1) ∷ (2, 1) ∷ (3, 1) ∷ (2, 1) ∷ (3, 1) ∷ (1, 1) ∷ (2, 1) ∷ (3, 1) ∷ (1, 1) ∷ (3, 1) ∷ (1, 1) ∷ (3, 1) ∷ (1, 1) ∷ (1, 1) ∷ (1, 1) ∷ (1, 1) ∷ [])
+  adders_begun_first_run : report adders 65536 is_made 10000000 (1 ∷ 1 ∷ 1 ∷ 1 ∷ []) ≡ ended (one 2 ∷ []) 22 14
+  adders_frames : frames adders ≡ (4 ∷ 5 ∷ [], 0)
+  -- the first of the two has emptied $X, whose value stays
+  adders_in_4_entries_view : view adders 65536 is_made 4 (1 ∷ 1 ∷ 1 ∷ 2 ∷ []) ≡ Some (record { records = []; faults = []; halted = false; processes = waits_for_full 1 0 6 (asynchronous 1 "D" 1) ∷ stands 2 1 12 ∷ waits_for_full 3 1 12 (asynchronous 1 "X" 1) ∷ []; common_contents = []; cells = holds (asynchronous 1 "X" 1) (cell 0 false) ∷ holds (asynchronous 1 "D" 1) (unset_cell false) ∷ holds (plain 1 "I" 1) (unset_cell false) ∷ [] })
+  adders_in_1_cells : report adders 1 is_made 10000000 (1 ∷ 1 ∷ 1 ∷ []) ≡ ended_by arena_full [] (stands 1 0 3 ∷ []) 0 4
+  adders_in_3_cells : report adders 3 is_made 10000000 (1 ∷ 1 ∷ 1 ∷ []) ≡ ended_by arena_full [] (stands 1 0 3 ∷ []) 0 4
+  adders_in_4_cells : report adders 4 is_made 10000000 (1 ∷ 1 ∷ 1 ∷ []) ≡ ended_by arena_full [] (stands 1 0 4 ∷ []) 1 4
+  adders_in_8_cells : report adders 8 is_made 10000000 (1 ∷ 1 ∷ 1 ∷ []) ≡ ended_by arena_full [] (stands 1 0 4 ∷ []) 1 4
+  adders_in_9_cells : report adders 9 is_made 10000000 (1 ∷ 1 ∷ 1 ∷ []) ≡ ended_by arena_full [] (stands 1 0 5 ∷ stands 2 1 12 ∷ []) 2 9
+  adders_in_13_cells : report adders 13 is_made 10000000 (1 ∷ 1 ∷ 1 ∷ []) ≡ ended_by arena_full [] (stands 1 0 5 ∷ stands 2 1 12 ∷ []) 2 9
+  adders_in_14_cells : report adders 14 is_made 10000000 (1 ∷ 1 ∷ 1 ∷ []) ≡ ended (one 2 ∷ []) 22 14
 
-adders_chosen_run : report adders 65536 is_made 10000000 (1 ∷ 1 ∷ 1 ∷ 2 ∷ 3 ∷ []) ≡ ended (one 2 ∷ []) 22 14
-unfolding report
-adders_chosen_run = refl
-
-adders_chosen_history : history adders 65536 is_made 10000000 (1 ∷ 1 ∷ 1 ∷ 2 ∷ 3 ∷ []) ≡ entries_of ((1, 1) ∷ (1, 1) ∷ (1, 1) ∷ (2, 1) ∷ (3, 0) ∷ (1, 0) ∷ (2, 1) ∷ (2, 1) ∷ (3, 1) ∷ (2, 1) ∷ (3, 1) ∷ (1, 1) ∷ (2, 1) ∷ (3, 1) ∷ (1, 1) ∷ (3, 1) ∷ (1, 1) ∷ (3, 1) ∷ (1, 1) ∷ (1, 1) ∷ (1, 1) ∷ (1, 1) ∷ [])
-unfolding history
-adders_chosen_history = refl
-
-adders_begun_first_run : report adders 65536 is_made 10000000 (1 ∷ 1 ∷ 1 ∷ 1 ∷ []) ≡ ended (one 2 ∷ []) 22 14
-unfolding report
-adders_begun_first_run = refl
-
-adders_frames : frames adders ≡ (4 ∷ 5 ∷ [], 0)
-unfolding frames
-adders_frames = refl
-
--- the first of the two has emptied $X, whose value stays
-adders_in_4_entries_view : view adders 65536 is_made 4 (1 ∷ 1 ∷ 1 ∷ 2 ∷ []) ≡ Some (record { records = []; faults = []; halted = false; processes = waits_for_full 1 0 6 (asynchronous 1 "D" 1) ∷ stands 2 1 12 ∷ waits_for_full 3 1 12 (asynchronous 1 "X" 1) ∷ []; common_contents = []; cells = holds (asynchronous 1 "X" 1) (cell 0 false) ∷ holds (asynchronous 1 "D" 1) (unset_cell false) ∷ holds (plain 1 "I" 1) (unset_cell false) ∷ [] })
-unfolding view
-adders_in_4_entries_view = refl
-
-adders_in_1_cells : report adders 1 is_made 10000000 (1 ∷ 1 ∷ 1 ∷ []) ≡ record { records = []; faults = []; processes = stands 1 0 3 ∷ []; entries = 0; used = 4; ending = arena_full }
-unfolding report
-adders_in_1_cells = refl
-
-adders_in_3_cells : report adders 3 is_made 10000000 (1 ∷ 1 ∷ 1 ∷ []) ≡ record { records = []; faults = []; processes = stands 1 0 3 ∷ []; entries = 0; used = 4; ending = arena_full }
-unfolding report
-adders_in_3_cells = refl
-
-adders_in_4_cells : report adders 4 is_made 10000000 (1 ∷ 1 ∷ 1 ∷ []) ≡ record { records = []; faults = []; processes = stands 1 0 4 ∷ []; entries = 1; used = 4; ending = arena_full }
-unfolding report
-adders_in_4_cells = refl
-
-adders_in_8_cells : report adders 8 is_made 10000000 (1 ∷ 1 ∷ 1 ∷ []) ≡ record { records = []; faults = []; processes = stands 1 0 4 ∷ []; entries = 1; used = 4; ending = arena_full }
-unfolding report
-adders_in_8_cells = refl
-
-adders_in_9_cells : report adders 9 is_made 10000000 (1 ∷ 1 ∷ 1 ∷ []) ≡ record { records = []; faults = []; processes = stands 1 0 5 ∷ stands 2 1 12 ∷ []; entries = 2; used = 9; ending = arena_full }
-unfolding report
-adders_in_9_cells = refl
-
-adders_in_13_cells : report adders 13 is_made 10000000 (1 ∷ 1 ∷ 1 ∷ []) ≡ record { records = []; faults = []; processes = stands 1 0 5 ∷ stands 2 1 12 ∷ []; entries = 2; used = 9; ending = arena_full }
-unfolding report
-adders_in_13_cells = refl
-
-adders_in_14_cells : report adders 14 is_made 10000000 (1 ∷ 1 ∷ 1 ∷ []) ≡ ended (one 2 ∷ []) 22 14
-unfolding report
-adders_in_14_cells = refl
+adders_holds : AddersRuns
+unfolding runs report history frames view
+adders_holds = search refl parts 1
 
 -- the frame of A stays until B has ended, whose dummy argument stands for a variable of A
 abbrev creator_returns : List String
@@ -594,21 +516,15 @@ creator_returns =
     ∷ "      END"
     ∷ []
 
-creator_returns_runs : report creator_returns 65536 is_made 10000000 (1 ∷ 1 ∷ 1 ∷ 1 ∷ 2 ∷ 1 ∷ 2 ∷ []) ≡ record { records = []; faults = fault 1 3 12 Undefined ∷ []; processes = []; entries = 7; used = 8; ending = done }
-unfolding report
-creator_returns_runs = refl
+record CreatorReturnsRuns : Type 0 where
+  creator_returns_runs : report creator_returns 65536 is_made 10000000 (1 ∷ 1 ∷ 1 ∷ 1 ∷ 2 ∷ 1 ∷ 2 ∷ []) ≡ faulted [] (fault 1 3 12 Undefined) 7 8
+  creator_returns_runs_given_back : report creator_returns 65536 is_held 10000000 (1 ∷ 1 ∷ 1 ∷ 1 ∷ 2 ∷ 1 ∷ 2 ∷ []) ≡ faulted [] (fault 1 3 12 Undefined) 7 0
+  creator_returns_uses : used_along creator_returns is_made (1 ∷ 1 ∷ 1 ∷ 1 ∷ 2 ∷ 1 ∷ 2 ∷ []) ≡ 1 ∷ 3 ∷ 6 ∷ 6 ∷ 8 ∷ 8 ∷ 8 ∷ 8 ∷ []
+  creator_returns_uses_given_back : used_along creator_returns is_held (1 ∷ 1 ∷ 1 ∷ 1 ∷ 2 ∷ 1 ∷ 2 ∷ []) ≡ 1 ∷ 3 ∷ 6 ∷ 6 ∷ 8 ∷ 8 ∷ 6 ∷ 0 ∷ []
 
-creator_returns_runs_given_back : report creator_returns 65536 is_held 10000000 (1 ∷ 1 ∷ 1 ∷ 1 ∷ 2 ∷ 1 ∷ 2 ∷ []) ≡ record { records = []; faults = fault 1 3 12 Undefined ∷ []; processes = []; entries = 7; used = 0; ending = done }
-unfolding report
-creator_returns_runs_given_back = refl
-
-creator_returns_uses : used_along creator_returns is_made (1 ∷ 1 ∷ 1 ∷ 1 ∷ 2 ∷ 1 ∷ 2 ∷ []) ≡ 1 ∷ 3 ∷ 6 ∷ 6 ∷ 8 ∷ 8 ∷ 8 ∷ 8 ∷ []
-unfolding used_along
-creator_returns_uses = refl
-
-creator_returns_uses_given_back : used_along creator_returns is_held (1 ∷ 1 ∷ 1 ∷ 1 ∷ 2 ∷ 1 ∷ 2 ∷ []) ≡ 1 ∷ 3 ∷ 6 ∷ 6 ∷ 8 ∷ 8 ∷ 6 ∷ 0 ∷ []
-unfolding used_along
-creator_returns_uses_given_back = refl
+creator_returns_holds : CreatorReturnsRuns
+unfolding report used_along
+creator_returns_holds = search refl parts 1
 
 -- the frames of B, A and the main program, which have ended one after the other, stay until C has ended
 abbrev creators_return : List String
@@ -658,7 +574,7 @@ processes : AllRun (
           ∷ "      I=VALUE($X)"
           ∷ "      END"
           ∷ [],
-      record { records = []; faults = fault 1 0 2 Undefined ∷ []; processes = []; entries = 1; used = 3; ending = done },
+      faulted [] (fault 1 0 2 Undefined) 1 3,
     )
     -- circle
     ∷ (
@@ -673,7 +589,7 @@ processes : AllRun (
           ∷ "      $V=$U"
           ∷ "      END"
           ∷ [],
-      record { records = []; faults = []; processes = waits_for_full 1 0 5 (asynchronous 1 "A" 1) ∷ waits_for_full 2 1 9 (asynchronous 1 "A" 1) ∷ waits_for_full 3 1 9 (asynchronous 1 "B" 1) ∷ []; entries = 5; used = 14; ending = all_wait },
+      ended_by all_wait [] (waits_for_full 1 0 5 (asynchronous 1 "A" 1) ∷ waits_for_full 2 1 9 (asynchronous 1 "A" 1) ∷ waits_for_full 3 1 9 (asynchronous 1 "B" 1) ∷ []) 5 14,
     )
     ∷ [])
 unfolding runs
@@ -696,26 +612,17 @@ gaps =
     ∷ "      END"
     ∷ []
 
-gaps_of_2_cells : report gaps 7 is_held 10000000 (1 ∷ 1 ∷ 2 ∷ 2 ∷ 1 ∷ []) ≡ record { records = []; faults = []; processes = stands 1 0 4 ∷ stands 3 1 7 ∷ []; entries = 4; used = 3; ending = arena_full }
-unfolding report
-gaps_of_2_cells = refl
+record GapsRuns : Type 0 where
+  gaps_of_2_cells : report gaps 7 is_held 10000000 (1 ∷ 1 ∷ 2 ∷ 2 ∷ 1 ∷ []) ≡ ended_by arena_full [] (stands 1 0 4 ∷ stands 3 1 7 ∷ []) 4 3
+  gaps_of_3_cells : report gaps 8 is_held 10000000 (1 ∷ 1 ∷ 2 ∷ 2 ∷ 1 ∷ []) ≡ ended [] 11 0
+  -- of two that are alike the one that has ended isn't seen, and the other one is seen by its number
+  gaps_first_ended_view : view gaps 65536 is_held 4 (1 ∷ 1 ∷ 2 ∷ 2 ∷ []) ≡ Some (record { records = []; faults = []; halted = false; processes = stands 1 0 4 ∷ stands 3 1 7 ∷ []; common_contents = []; cells = holds (plain 3 "I" 1) (unset_cell false) ∷ [] })
+  gaps_second_ended_view : view gaps 65536 is_held 4 (1 ∷ 1 ∷ 3 ∷ 3 ∷ []) ≡ Some (record { records = []; faults = []; halted = false; processes = stands 1 0 4 ∷ stands 2 1 7 ∷ []; common_contents = []; cells = holds (plain 2 "I" 1) (unset_cell false) ∷ [] })
+  gaps_use : used_along gaps is_held (1 ∷ 1 ∷ 2 ∷ 2 ∷ 1 ∷ []) ≡ 1 ∷ 3 ∷ 5 ∷ 5 ∷ 3 ∷ 6 ∷ []
 
-gaps_of_3_cells : report gaps 8 is_held 10000000 (1 ∷ 1 ∷ 2 ∷ 2 ∷ 1 ∷ []) ≡ ended [] 11 0
-unfolding report
-gaps_of_3_cells = refl
-
--- of two that are alike the one that has ended isn't seen, and the other one is seen by its number
-gaps_first_ended_view : view gaps 65536 is_held 4 (1 ∷ 1 ∷ 2 ∷ 2 ∷ []) ≡ Some (record { records = []; faults = []; halted = false; processes = stands 1 0 4 ∷ stands 3 1 7 ∷ []; common_contents = []; cells = holds (plain 3 "I" 1) (unset_cell false) ∷ [] })
-unfolding view
-gaps_first_ended_view = refl
-
-gaps_second_ended_view : view gaps 65536 is_held 4 (1 ∷ 1 ∷ 3 ∷ 3 ∷ []) ≡ Some (record { records = []; faults = []; halted = false; processes = stands 1 0 4 ∷ stands 2 1 7 ∷ []; common_contents = []; cells = holds (plain 2 "I" 1) (unset_cell false) ∷ [] })
-unfolding view
-gaps_second_ended_view = refl
-
-gaps_use : used_along gaps is_held (1 ∷ 1 ∷ 2 ∷ 2 ∷ 1 ∷ []) ≡ 1 ∷ 3 ∷ 5 ∷ 5 ∷ 3 ∷ 6 ∷ []
-unfolding used_along
-gaps_use = refl
+gaps_holds : GapsRuns
+unfolding report view used_along
+gaps_holds = search refl parts 1
 
 abbrev counters_in_common : List String
 counters_in_common =
@@ -730,14 +637,11 @@ counters_in_common =
     ∷ "      END"
     ∷ []
 
-counters_in_common_frames : frames counters_in_common ≡ (1 ∷ 4 ∷ [], 1)
-unfolding frames
-counters_in_common_frames = refl
+record CountersInCommonRuns : Type 0 where
+  counters_in_common_frames : frames counters_in_common ≡ (1 ∷ 4 ∷ [], 1)
+  counters_in_common_run : report counters_in_common 65536 is_held 10000000 [] ≡ ended [] 67 1
+  counters_in_common_view : view counters_in_common 65536 is_held 10000000 [] ≡ Some (record { records = []; faults = []; halted = false; processes = []; common_contents = holds (common None 1) (cell 10 false) ∷ []; cells = [] })
 
-counters_in_common_run : report counters_in_common 65536 is_held 10000000 [] ≡ ended [] 67 1
-unfolding report
-counters_in_common_run = refl
-
-counters_in_common_view : view counters_in_common 65536 is_held 10000000 [] ≡ Some (record { records = []; faults = []; halted = false; processes = []; common_contents = holds (common None 1) (cell 10 false) ∷ []; cells = [] })
-unfolding view
-counters_in_common_view = refl
+counters_in_common_holds : CountersInCommonRuns
+unfolding frames report view
+counters_in_common_holds = search refl parts 1

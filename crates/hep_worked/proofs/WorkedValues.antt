@@ -3,7 +3,7 @@ use Rattle.std.specs.Prelude.{◌≡◌, true, false, List, [], ◌∷◌, refl}
 use Prim.Native.String.{String}
 use Rattle.hep_machine.specs.declared.event.Kind.TheVariants.{Overflow, Divide, Undefined}
 use Rattle.hep_machine.specs.declared.record.Item.TheVariants.{Truth}
-use Rattle.hep_worked.proofs.SerialRuns.{AllRun, runs, done, int, minus, fault, ended}
+use Rattle.hep_worked.proofs.SerialRuns.{AllRun, runs, int, minus, fault, ended, faulted}
 
 -- ---- Functions and powers
 
@@ -27,14 +27,10 @@ functions_and_powers : AllRun (
           ∷ "      PRINT *,ABS(K)"
           ∷ "      END"
           ∷ [],
-      record { records = (int 0 ∷ minus 9223372036854775808 ∷ int 0 ∷ int 0 ∷ []) ∷ []; faults = fault 1 0 3 Overflow ∷ []; processes = []; entries = 16; used = 2; ending = done },
+      faulted ((int 0 ∷ minus 9223372036854775808 ∷ int 0 ∷ int 0 ∷ []) ∷ []) (fault 1 0 3 Overflow) 16 2,
     )
     -- remainder of 0
-    ∷ (
-      "      PRINT *,MOD(1,0)" ∷ "      END"
-          ∷ [],
-      record { records = []; faults = fault 1 0 1 Divide ∷ []; processes = []; entries = 1; used = 1; ending = done },
-    )
+    ∷ ("      PRINT *,MOD(1,0)" ∷ "      END" ∷ [], faulted [] (fault 1 0 1 Divide) 1 1)
     ∷ [])
 unfolding runs
 functions_and_powers = refl
@@ -47,7 +43,7 @@ powers =
     ∷ "      END"
     ∷ []
 
-powers_runs : runs powers ≡ record { records = (minus 1 ∷ int 1 ∷ int 1 ∷ int 1 ∷ []) ∷ (int 512 ∷ minus 4 ∷ minus 8 ∷ int 1000000000000000000 ∷ []) ∷ []; faults = fault 1 0 3 Overflow ∷ []; processes = []; entries = 19; used = 1; ending = done }
+powers_runs : runs powers ≡ faulted ((minus 1 ∷ int 1 ∷ int 1 ∷ int 1 ∷ []) ∷ (int 512 ∷ minus 4 ∷ minus 8 ∷ int 1000000000000000000 ∷ []) ∷ []) (fault 1 0 3 Overflow) 19 1
 unfolding runs
 powers_runs = refl
 
@@ -71,7 +67,7 @@ logical_values : AllRun (
           ∷ "      L=.FALSE..AND.1/0.EQ.1"
           ∷ "      END"
           ∷ [],
-      record { records = []; faults = fault 1 0 2 Divide ∷ []; processes = []; entries = 1; used = 2; ending = done },
+      faulted [] (fault 1 0 2 Divide) 1 2,
     )
     -- and where it is true
     ∷ (
@@ -79,7 +75,7 @@ logical_values : AllRun (
           ∷ "      L=.TRUE..OR.K.EQ.1"
           ∷ "      END"
           ∷ [],
-      record { records = []; faults = fault 1 0 2 Undefined ∷ []; processes = []; entries = 1; used = 3; ending = done },
+      faulted [] (fault 1 0 2 Undefined) 1 3,
     )
     ∷ [])
 unfolding runs
@@ -146,7 +142,7 @@ constants_and_data : AllRun (
           ∷ "      PRINT *,A(0,1)"
           ∷ "      END"
           ∷ [],
-      record { records = (int 4 ∷ minus 6 ∷ int 2 ∷ []) ∷ []; faults = fault 1 0 6 Undefined ∷ []; processes = []; entries = 5; used = 6; ending = done },
+      faulted ((int 4 ∷ minus 6 ∷ int 2 ∷ []) ∷ []) (fault 1 0 6 Undefined) 5 6,
     )
     ∷ [])
 unfolding runs
