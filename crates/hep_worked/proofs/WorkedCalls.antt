@@ -108,6 +108,10 @@ main_after_runs = refl
 
 -- ---- Arrays
 
+-- a CALL that gives an array of two elements and a number, by which the array among the dummy arguments is adjusted
+abbrev adjusted : String → String → List String
+adjusted call array = "      INTEGER X(2)" ∷ call ∷ "      END" ∷ "      SUBROUTINE S(A,N)" ∷ array ∷ "      END" ∷ []
+
 arrays : AllRun (
     -- lower bounds
     (
@@ -160,38 +164,11 @@ arrays : AllRun (
       faulted [] (fault 1 0 3 Shape) 1 8,
     )
     -- bound faults
-    ∷ (
-      "      INTEGER X(2)"
-          ∷ "      CALL S(X,0)"
-          ∷ "      END"
-          ∷ "      SUBROUTINE S(A,N)"
-          ∷ "      INTEGER A(1/N)"
-          ∷ "      END"
-          ∷ [],
-      faulted [] (fault 1 0 2 Shape) 1 3,
-    )
+    ∷ (adjusted "      CALL S(X,0)" "      INTEGER A(1/N)", faulted [] (fault 1 0 2 Shape) 1 3)
     -- upper below lower
-    ∷ (
-      "      INTEGER X(2)"
-          ∷ "      CALL S(X,0)"
-          ∷ "      END"
-          ∷ "      SUBROUTINE S(A,N)"
-          ∷ "      INTEGER A(N)"
-          ∷ "      END"
-          ∷ [],
-      faulted [] (fault 1 0 2 Shape) 1 3,
-    )
+    ∷ (adjusted "      CALL S(X,0)" "      INTEGER A(N)", faulted [] (fault 1 0 2 Shape) 1 3)
     -- too many cells
-    ∷ (
-      "      INTEGER X(2)"
-          ∷ "      CALL S(X,1048577)"
-          ∷ "      END"
-          ∷ "      SUBROUTINE S(A,N)"
-          ∷ "      INTEGER A(N)"
-          ∷ "      END"
-          ∷ [],
-      faulted [] (fault 1 0 2 Shape) 1 3,
-    )
+    ∷ (adjusted "      CALL S(X,1048577)" "      INTEGER A(N)", faulted [] (fault 1 0 2 Shape) 1 3)
     -- range before shape
     ∷ (
       "      INTEGER X(2)"

@@ -1,5 +1,6 @@
 -- Worked runs of asynchronous variables and processes.
-use Rattle.std.specs.Prelude.{◌≡◌, true, false, [], ◌∷◌, None, refl}
+use Rattle.std.specs.Prelude.{◌≡◌, true, false, List, [], ◌∷◌, None, refl}
+use Prim.Native.String.{String}
 use Rattle.hep_machine.specs.declared.event.Kind.TheVariants.{Divide, Range, Undefined}
 use Rattle.hep_machine.specs.declared.record.Item.TheVariants.{Truth}
 use Rattle.hep_machine.specs.Layout.{is_made, is_held}
@@ -142,35 +143,30 @@ purge_range_runs : report (
 unfolding report
 purge_range_runs = refl
 
+-- a subroutine that empties what it is given, which is the second of four elements
+abbrev emptied_by_a_call : String → List String
+emptied_by_a_call array =
+    "      INTEGER $Y(4)"
+    ∷ "      DO 10 I=1,4"
+    ∷ "   10 $Y(I)=I"
+    ∷ "      CALL S($Y(2))"
+    ∷ "      PRINT *,FULL($Y(1)),FULL($Y(2)),FULL($Y(3)),FULL($Y(4))"
+    ∷ "      END"
+    ∷ "      SUBROUTINE S($Z)"
+    ∷ array
+    ∷ "      PURGE $Z"
+    ∷ "      END"
+    ∷ []
+
 purge : AllRun (
     -- purge rest
     (
-      "      INTEGER $Y(4)"
-          ∷ "      DO 10 I=1,4"
-          ∷ "   10 $Y(I)=I"
-          ∷ "      CALL S($Y(2))"
-          ∷ "      PRINT *,FULL($Y(1)),FULL($Y(2)),FULL($Y(3)),FULL($Y(4))"
-          ∷ "      END"
-          ∷ "      SUBROUTINE S($Z)"
-          ∷ "      INTEGER $Z(*)"
-          ∷ "      PURGE $Z"
-          ∷ "      END"
-          ∷ [],
+      emptied_by_a_call "      INTEGER $Z(*)",
       ended ((Truth true ∷ Truth false ∷ Truth false ∷ Truth false ∷ []) ∷ []) 26 11,
     )
     -- purge shape
     ∷ (
-      "      INTEGER $Y(4)"
-          ∷ "      DO 10 I=1,4"
-          ∷ "   10 $Y(I)=I"
-          ∷ "      CALL S($Y(2))"
-          ∷ "      PRINT *,FULL($Y(1)),FULL($Y(2)),FULL($Y(3)),FULL($Y(4))"
-          ∷ "      END"
-          ∷ "      SUBROUTINE S($Z)"
-          ∷ "      INTEGER $Z(2)"
-          ∷ "      PURGE $Z"
-          ∷ "      END"
-          ∷ [],
+      emptied_by_a_call "      INTEGER $Z(2)",
       ended ((Truth true ∷ Truth false ∷ Truth false ∷ Truth true ∷ []) ∷ []) 26 11,
     )
     -- purge array in common

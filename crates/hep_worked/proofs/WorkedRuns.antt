@@ -204,11 +204,11 @@ named_sum_history = refl
 -- ---- Subroutines
 
 -- the bounds are those of the CALL
-abbrev adjustable : List String
-adjustable =
+abbrev adjustable_by : String → List String
+adjustable_by call =
     "      INTEGER X(6)"
     ∷ "      X(4)=8"
-    ∷ "      CALL S(X,3)"
+    ∷ call
     ∷ "      END"
     ∷ "      SUBROUTINE S(A,N)"
     ∷ "      INTEGER A(N,2)"
@@ -216,6 +216,9 @@ adjustable =
     ∷ "      PRINT *,A(1,2)"
     ∷ "      END"
     ∷ []
+
+abbrev adjustable : List String
+adjustable = adjustable_by "      CALL S(X,3)"
 
 adjustable_runs : runs adjustable ≡ ended (one 8 ∷ []) 7 16
 unfolding runs
@@ -225,17 +228,7 @@ adjustable_uses : used_along adjustable is_made (1 ∷ 1 ∷ []) ≡ 7 ∷ 7 ∷
 unfolding used_along
 adjustable_uses = refl
 
-adjustable_too_long_runs : runs (
-    "      INTEGER X(6)"
-    ∷ "      X(4)=8"
-    ∷ "      CALL S(X,4)"
-    ∷ "      END"
-    ∷ "      SUBROUTINE S(A,N)"
-    ∷ "      INTEGER A(N,2)"
-    ∷ "      N=1"
-    ∷ "      PRINT *,A(1,2)"
-    ∷ "      END"
-    ∷ []) ≡ faulted [] (fault 1 0 3 Shape) 2 7
+adjustable_too_long_runs : runs (adjustable_by "      CALL S(X,4)") ≡ faulted [] (fault 1 0 3 Shape) 2 7
 unfolding runs
 adjustable_too_long_runs = refl
 
@@ -348,15 +341,18 @@ unfolding report history
 endless_recursion_holds = search refl parts 1
 
 -- the frame of S is given back each time
-abbrev call_in_a_loop : List String
-call_in_a_loop =
-    "      DO 10 I=1,10"
+abbrev calls_in_a_loop : String → List String
+calls_in_a_loop head =
+    head
     ∷ "   10 CALL S"
     ∷ "      END"
     ∷ "      SUBROUTINE S"
     ∷ "      J=1"
     ∷ "      END"
     ∷ []
+
+abbrev call_in_a_loop : List String
+call_in_a_loop = calls_in_a_loop "      DO 10 I=1,10"
 
 record CallInALoopRuns : Type 0 where
   call_in_a_loop_in_6_cells : report call_in_a_loop 6 is_held 10000000 [] ≡ ended [] 42 0
@@ -370,14 +366,7 @@ unfolding report history
 call_in_a_loop_holds = search refl parts 1
 
 abbrev call_in_a_longer_loop : List String
-call_in_a_longer_loop =
-    "      DO 10 I=1,1000"
-    ∷ "   10 CALL S"
-    ∷ "      END"
-    ∷ "      SUBROUTINE S"
-    ∷ "      J=1"
-    ∷ "      END"
-    ∷ []
+call_in_a_longer_loop = calls_in_a_loop "      DO 10 I=1,1000"
 
 record CallInALongerLoopRuns : Type 0 where
   call_in_a_longer_loop_in_6_cells : report call_in_a_longer_loop 6 is_held 10000000 [] ≡ ended [] 4002 0
