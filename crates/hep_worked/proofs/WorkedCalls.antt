@@ -112,6 +112,20 @@ main_after_runs = refl
 abbrev adjusted : String → String → List String
 adjusted call array = "      INTEGER X(2)" ∷ call ∷ "      END" ∷ "      SUBROUTINE S(A,N)" ∷ array ∷ "      END" ∷ []
 
+-- an element that one subroutine passes on to another
+abbrev passed_on : List String → List String
+passed_on other =
+    "      INTEGER X(5)"
+    ∷ "      X(5)=9"
+    ∷ "      CALL S(X(2))"
+    ∷ "      END"
+    ∷ "      SUBROUTINE S(A)"
+    ∷ "      INTEGER A(*)"
+    ∷ "      CALL T(A(3))"
+    ∷ "      END"
+    ∷ "      SUBROUTINE T(B)"
+    ∷ other
+
 arrays : AllRun (
     -- lower bounds
     (
@@ -183,37 +197,12 @@ arrays : AllRun (
     )
     -- star passed on
     ∷ (
-      "      INTEGER X(5)"
-          ∷ "      X(5)=9"
-          ∷ "      CALL S(X(2))"
-          ∷ "      END"
-          ∷ "      SUBROUTINE S(A)"
-          ∷ "      INTEGER A(*)"
-          ∷ "      CALL T(A(3))"
-          ∷ "      END"
-          ∷ "      SUBROUTINE T(B)"
-          ∷ "      INTEGER B(*)"
-          ∷ "      PRINT *,B(2)"
-          ∷ "      PRINT *,B(3)"
-          ∷ "      END"
-          ∷ [],
+      passed_on ("      INTEGER B(*)" ∷ "      PRINT *,B(2)" ∷ "      PRINT *,B(3)" ∷ "      END" ∷ []),
       faulted (one 9 ∷ []) (fault 1 2 12 Range) 6 12,
     )
     -- star passed on shape
     ∷ (
-      "      INTEGER X(5)"
-          ∷ "      X(5)=9"
-          ∷ "      CALL S(X(2))"
-          ∷ "      END"
-          ∷ "      SUBROUTINE S(A)"
-          ∷ "      INTEGER A(*)"
-          ∷ "      CALL T(A(3))"
-          ∷ "      END"
-          ∷ "      SUBROUTINE T(B)"
-          ∷ "      INTEGER B(3)"
-          ∷ "      PRINT *,B(2)"
-          ∷ "      END"
-          ∷ [],
+      passed_on ("      INTEGER B(3)" ∷ "      PRINT *,B(2)" ∷ "      END" ∷ []),
       faulted [] (fault 1 1 7 Shape) 3 9,
     )
     -- star passed on range

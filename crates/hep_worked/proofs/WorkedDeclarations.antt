@@ -69,21 +69,13 @@ stacks_from a (suc n) = stack_of a ∷ stacks_from (suc a) n
 abbrev chain : ℕ → List Process → State
 chain n processes = record { processes = processes; activations = chain_from None 1 n; store = λ location. unset_cell; records = []; faults = []; halted = false }
 
-record Held : Type 0 where
-  all_live_first : is_held (chain 1000 (stacks_from 1 1000)) 1 ≡ true
-  all_live_last : is_held (chain 1000 (stacks_from 1 1000)) 1000 ≡ true
-  last_lives_first : is_held (chain 1000 (replicate 999 [] ++ stack_of 1000 ∷ [])) 1 ≡ true
-  one_lives_before : is_held (chain 1000 (replicate 499 [] ++ stack_of 500 ∷ replicate 500 [])) 499 ≡ true
-  one_lives_after : is_held (chain 1000 (replicate 499 [] ++ stack_of 500 ∷ replicate 500 [])) 501 ≡ false
-  none_lives : is_held (chain 1000 (replicate 1000 [])) 1 ≡ false
-
-held : Held
+-- all live, the last one alone, one in the middle, and none
+held :
+    is_held (chain 1000 (stacks_from 1 1000)) 1 ∷ is_held (chain 1000 (stacks_from 1 1000)) 1000
+    ∷ is_held (chain 1000 (replicate 999 [] ++ stack_of 1000 ∷ [])) 1
+    ∷ is_held (chain 1000 (replicate 499 [] ++ stack_of 500 ∷ replicate 500 [])) 499
+    ∷ is_held (chain 1000 (replicate 499 [] ++ stack_of 500 ∷ replicate 500 [])) 501
+    ∷ is_held (chain 1000 (replicate 1000 [])) 1
+    ∷ [] ≡ true ∷ true ∷ true ∷ true ∷ false ∷ false ∷ []
 unfolding chain_from stack_of stacks_from
-held = record {
-  all_live_first = refl;
-  all_live_last = refl;
-  last_lives_first = refl;
-  one_lives_before = refl;
-  one_lives_after = refl;
-  none_lives = refl;
-}
+held = refl

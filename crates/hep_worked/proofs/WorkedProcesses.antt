@@ -191,31 +191,16 @@ purge = refl
 
 -- ---- Processes
 
-woken_runs : report (
-    "      PROGRAM P"
-    ∷ "      CREATE S($N)"
-    ∷ "      I=$N"
-    ∷ "      PRINT *,I"
-    ∷ "      END"
-    ∷ "      SUBROUTINE S($K)"
-    ∷ "      $K=5"
-    ∷ "      END"
-    ∷ []) 65536 is_made 10000000 (1 ∷ 1 ∷ []) ≡ ended (one 5 ∷ []) 9 6
+-- a process that waits for what another one writes, and what that one does afterwards
+abbrev woken_by : List String → List String
+woken_by rest = "      PROGRAM P" ∷ "      CREATE S($N)" ∷ "      I=$N" ∷ "      PRINT *,I" ∷ "      END" ∷ "      SUBROUTINE S($K)" ∷ "      $K=5" ∷ rest
+
+woken_runs : report (woken_by ("      END" ∷ [])) 65536 is_made 10000000 (1 ∷ 1 ∷ []) ≡ ended (one 5 ∷ []) 9 6
 unfolding report
 woken_runs = refl
 
 -- another process has emptied it again
-woken_in_vain_runs : report (
-    "      PROGRAM P"
-    ∷ "      CREATE S($N)"
-    ∷ "      I=$N"
-    ∷ "      PRINT *,I"
-    ∷ "      END"
-    ∷ "      SUBROUTINE S($K)"
-    ∷ "      $K=5"
-    ∷ "      I=$K"
-    ∷ "      END"
-    ∷ []) 65536 is_made 10000000 (1 ∷ 1 ∷ 2 ∷ 2 ∷ 2 ∷ 2 ∷ []) ≡ ended_by all_wait [] (waits_for_full 1 0 3 (asynchronous 1 "N" 1) ∷ []) 7 7
+woken_in_vain_runs : report (woken_by ("      I=$K" ∷ "      END" ∷ [])) 65536 is_made 10000000 (1 ∷ 1 ∷ 2 ∷ 2 ∷ 2 ∷ 2 ∷ []) ≡ ended_by all_wait [] (waits_for_full 1 0 3 (asynchronous 1 "N" 1) ∷ []) 7 7
 unfolding report
 woken_in_vain_runs = refl
 

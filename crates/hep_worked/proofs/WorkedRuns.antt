@@ -368,31 +368,37 @@ call_in_a_loop_holds = search refl parts 1
 abbrev call_in_a_longer_loop : List String
 call_in_a_longer_loop = calls_in_a_loop "      DO 10 I=1,1000"
 
+call_in_a_longer_loop_in_6_cells : report call_in_a_longer_loop 6 is_held 10000000 [] ≡ ended [] 4002 0
+unfolding report
+call_in_a_longer_loop_in_6_cells = refl
+
+call_in_a_longer_loop_history_in_6_cells : history call_in_a_longer_loop 6 is_held 10000000 [] ≡ entries_of (replicate 4002 (1, 1))
+unfolding history
+call_in_a_longer_loop_history_in_6_cells = refl
+
+-- no frame is left
+call_in_a_longer_loop_layout_in_6_cells : layout_after call_in_a_longer_loop 6 is_held (replicate 4002 1) ≡ Some []
+unfolding layout_after
+call_in_a_longer_loop_layout_in_6_cells = refl
+
+-- at the END of the last S
+call_in_a_longer_loop_in_3999_entries : report call_in_a_longer_loop 6 is_held 3999 [] ≡ ended_by step_limit [] (stands 1 1 6 ∷ []) 3999 6
+unfolding report
+call_in_a_longer_loop_in_3999_entries = refl
+
+-- the frame of the 1,000th S, after that of the main program
+call_in_a_longer_loop_layout_in_3999_entries : layout_after call_in_a_longer_loop 6 is_held (replicate 3999 1) ≡ Some (record { activation = 1; first = 0; cells = 4 } ∷ record { activation = 1001; first = 4; cells = 2 } ∷ [])
+unfolding layout_after
+call_in_a_longer_loop_layout_in_3999_entries = refl
+
 record CallInALongerLoopRuns : Type 0 where
-  call_in_a_longer_loop_in_6_cells : report call_in_a_longer_loop 6 is_held 10000000 [] ≡ ended [] 4002 0
-  call_in_a_longer_loop_history_in_6_cells : history call_in_a_longer_loop 6 is_held 10000000 [] ≡ entries_of (replicate 4002 (1, 1))
-  -- no frame is left
-  call_in_a_longer_loop_layout_in_6_cells : layout_after call_in_a_longer_loop 6 is_held (replicate 4002 1) ≡ Some []
-  -- at the END of the last S
-  call_in_a_longer_loop_in_3999_entries : report call_in_a_longer_loop 6 is_held 3999 [] ≡ ended_by step_limit [] (stands 1 1 6 ∷ []) 3999 6
-  -- the frame of the 1,000th S, after that of the main program
-  call_in_a_longer_loop_layout_in_3999_entries : layout_after call_in_a_longer_loop 6 is_held (replicate 3999 1) ≡ Some (record { activation = 1; first = 0; cells = 4 } ∷ record { activation = 1001; first = 4; cells = 2 } ∷ [])
   call_in_a_longer_loop_in_5_cells : report call_in_a_longer_loop 5 is_held 10000000 [] ≡ ended_by arena_full [] (stands 1 0 2 ∷ []) 1 4
   call_in_a_longer_loop_history_in_5_cells : history call_in_a_longer_loop 5 is_held 10000000 [] ≡ entries_of ((1, 1) ∷ [])
   call_in_a_longer_loop_layout_in_5_cells : layout_after call_in_a_longer_loop 5 is_held (1 ∷ 1 ∷ []) ≡ None
 
 call_in_a_longer_loop_holds : CallInALongerLoopRuns
 unfolding report history layout_after
-call_in_a_longer_loop_holds = record {
-  call_in_a_longer_loop_in_6_cells = refl;
-  call_in_a_longer_loop_history_in_6_cells = refl;
-  call_in_a_longer_loop_layout_in_6_cells = refl;
-  call_in_a_longer_loop_in_3999_entries = refl;
-  call_in_a_longer_loop_layout_in_3999_entries = refl;
-  call_in_a_longer_loop_in_5_cells = refl;
-  call_in_a_longer_loop_history_in_5_cells = refl;
-  call_in_a_longer_loop_layout_in_5_cells = refl;
-}
+call_in_a_longer_loop_holds = search refl parts 1
 
 -- ---- Processes
 
