@@ -1,26 +1,12 @@
 -- Calls and references of functions of accepted programs.
-use Rattle.std.proofs.Common.{◌≡◌, ◌⊎◌, inl, inr, ℕ, zero, suc, Bool, true, false, List, [], ◌∷◌, length, Option, Some, refl, sym, ap, subst, true≢false, arith, ◌++◌, ◌||◌}
-use Rattle.std.specs.Prelude.{◌&&◌, not, slice_get, nat_eq, is_none}
+use Rattle.std.proofs.Common.{◌≡◌, ◌⊎◌, inl, inr, ℕ, zero, suc, Bool, true, false, List, [], ◌∷◌, length, Option, Some, refl, sym, ap, subst, true≢false, arith, ◌++◌, ◌||◌, ◌&&◌, not, slice_get, nat_eq, is_none}
 use Rattle.std.specs.List.{list_all}
 use Rattle.std.specs.Option.{unwrap_or}
 use Rattle.std.proofs.lemmas.Bool.{and_parts, not-true, eqb-true}
 use Rattle.std.proofs.lemmas.Bool.Decides.{nat_tests}
 use Rattle.std.proofs.lemmas.Option.{none-some, same_Some}
-use Rattle.hep_source.specs.Tree.{Tree, Trees, no_trees, trees}
-use Rattle.hep_source.specs.declared.declaration.Target.{Target}
-use Rattle.hep_source.specs.declared.function.PureFunction.{PureFunction}
-use Rattle.hep_source.specs.declared.function.StateFunction.{StateFunction}
-use Rattle.hep_source.specs.declared.name.Name.{Name}
-use Rattle.hep_source.specs.declared.statement.Statement.{Statement}
-use Rattle.hep_source.specs.Units.{Units, dummies_of, is_named, subroutine_called, subroutine_name, unit_at}
-use Rattle.hep_machine.specs.Declarations.{is_array, is_constant_name, is_nonempty}
-use Rattle.hep_machine.specs.Functions.{pure, state, listed_meaning}
-use Rattle.hep_check.specs.Arguments.{actual_class, all_given, fit_dummies, fits_call, fits_dummy, fits_subroutine, is_purgeable, is_reference_given, is_test_typed, is_tested_typed}
-use Rattle.hep_check.specs.Conditions.{IsAccepted}
-use Rattle.hep_check.specs.Counts.{count_of, is_call_counted, is_counted, takes, takes_actuals, takes_list}
-use Rattle.hep_check.specs.Names.{unknown_references, unknown_subroutines, unknown_targets}
-use Rattle.hep_check.specs.Statements.{Calling, NameWithList, calls_in, names_with_lists, targets_purged}
-use Rattle.hep_check.specs.Violations.{at_line, at_occurrence, when}
+use Rattle.hep_machine.specs.Words.{Tree, Trees, no_trees, trees, Target, PureFunction, StateFunction, Name, Statement, Units, dummies_of, is_named, subroutine_called, subroutine_name, unit_at, is_array, is_constant_name, is_nonempty, pure, state, listed_meaning}
+use Rattle.hep_check.specs.Words.{actual_class, all_given, fit_dummies, fits_call, fits_dummy, fits_subroutine, is_purgeable, is_reference_given, is_test_typed, is_tested_typed, IsAccepted, count_of, is_call_counted, is_counted, takes, takes_actuals, takes_list, unknown_references, unknown_subroutines, unknown_targets, Calling, NameWithList, calls_in, names_with_lists, targets_purged, at_line, at_occurrence, when}
 use Rattle.hep_accepted.specs.Agreement.{CallsSubroutine, FitPairwise, IsOneAsynchronousScalar}
 use Rattle.hep_accepted.proofs.Parts.{found_at, none-append, none-each, none-when, all-each, some_value, unviolated}
 use Rattle.hep_check.proofs.Agreeing.{none-when as none-unless}

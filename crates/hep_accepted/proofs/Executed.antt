@@ -1,33 +1,17 @@
 -- Types of the executable statements of accepted programs.
-use Rattle.std.proofs.Common.{◌≡◌, inl, inr, ℕ, zero, Bool, true, false, List, [], ◌∷◌, ◌++◌, Option, Some, None, refl, sym, ap, ◌∙◌, subst, true≢false}
-use Rattle.std.specs.Prelude.{◌&&◌, ◌||◌, not, slice_get, if◌then◌else◌, option_to_list}
+use Rattle.std.proofs.Common.{◌≡◌, inl, inr, ℕ, zero, Bool, true, false, List, [], ◌∷◌, ◌++◌, Some, None, refl, sym, ap, ◌∙◌, subst, true≢false, ◌&&◌, ◌||◌, not, slice_get, if◌then◌else◌, option_to_list}
 use Rattle.std.specs.List.{flat_map, list_all}
-use Rattle.std.proofs.lemmas.Bool.{and_from, and_parts}
+use Rattle.std.proofs.lemmas.Bool.{and_from, and_parts, not-true}
 use Rattle.std.proofs.lemmas.List.Folds.{list_all-append}
-use Rattle.hep_source.specs.Tree.{Tree, trees_of}
-use Rattle.hep_source.specs.declared.declaration.Target.{Target}
-use Rattle.hep_source.specs.declared.declaration.ValueType.{ValueType}
-use Rattle.hep_source.specs.declared.declaration.ValueType.TheVariants.{Integer, Logical}
-use Rattle.hep_source.specs.declared.name.Name.{Name}
-use Rattle.hep_source.specs.declared.name.Occurrence.{Occurrence}
-use Rattle.hep_source.specs.declared.statement.DoControl.{DoControl}
-use Rattle.hep_source.specs.declared.statement.Form.{Form}
+use Rattle.hep_machine.specs.Words.{Tree, trees_of, Target, ValueType, Integer, Logical, Name, Occurrence, DoControl, Form, Statement, Units, declarators_in, is_array, is_constant_name, is_nonempty, type_of, element, unknown, array_occurrence, occurrences_in, occurrences_in_all, occurrences_in_form, occurrences_in_target}
 use Rattle.hep_source.specs.declared.statement.Form.TheVariants as form
-use Rattle.hep_source.specs.declared.statement.Statement.{Statement}
-use Rattle.hep_source.specs.Units.{Units}
-use Rattle.hep_machine.specs.Declarations.{declarators_in, is_array, is_constant_name, is_nonempty, type_of}
-use Rattle.hep_machine.specs.Functions.{element, unknown}
-use Rattle.hep_machine.specs.Variables.{array_occurrence, occurrences_in, occurrences_in_all, occurrences_in_form, occurrences_in_target}
-use Rattle.hep_check.specs.Conditions.{IsAccepted}
-use Rattle.hep_check.specs.Nesting.{is_not_held}
-use Rattle.hep_check.specs.Statements.{names_with_lists_in, names_with_lists_in_all, targets_assigned, trees_in_declarator, trees_in_form, trees_in_statement}
-use Rattle.hep_check.specs.Types.{KnownType, agree, are_actuals, are_integers, has_dimensions, is_form_typed, is_list_typed, is_of, is_plain_integer_scalar, is_scalar_target, is_target_typed, is_typed, is_typed_as, same_declared, type_of_target, type_of_tree}
+use Rattle.hep_check.specs.Words.{IsAccepted, is_not_held, names_with_lists_in, names_with_lists_in_all, targets_assigned, trees_in_declarator, trees_in_form, trees_in_statement, KnownType, agree, are_actuals, are_integers, has_dimensions, is_form_typed, is_list_typed, is_of, is_plain_integer_scalar, is_scalar_target, is_target_typed, is_typed, is_typed_as, same_declared, type_of_target, type_of_tree}
 use Rattle.hep_accepted.specs.Typing.{HasTypes, IsOf, IsPlace}
 use Rattle.hep_accepted.proofs.Formed.{lists_in, names_have_types, names_in, target_typed, typed_statement}
 use Rattle.hep_accepted.proofs.Meant.{assigned_known}
 use Rattle.hep_accepted.proofs.Members.{Has, all_has, has_behind, has_front, has_more}
 use Rattle.hep_accepted.proofs.Nested.{held_is_allowed, loop_variable}
-use Rattle.hep_accepted.proofs.Operands.{AreNamesTyped, AreRight, are_subscripts, equal_types, has_type, is_name_typed, is_of_type, is_right}
+use Rattle.hep_accepted.proofs.Operands.{AreNamesTyped, AreRight, are_subscripts, declared_type, equal_types, has_type, is_name_typed, is_of_type, is_right}
 
 -- what the laws of names say of a form
 abbrev AreTreesGood : List Statement → Form → Type 0
@@ -75,12 +59,8 @@ same_types v w a b p q e = sym (equal_types v w (subst (λ c. agree (Some (Some 
 
 is_place : (unit : List Statement) (x : Target) → (is_nonempty x.subscripts ≡ true → is_array unit x.occurrence.name ≡ true) → AreNamesTyped unit (occurrences_in_all unit (trees_of x.subscripts)) → AreRight unit (names_with_lists_in_all (trees_of x.subscripts)) → is_scalar_target unit x ≡ true → is_target_typed unit x ≡ true → IsPlace unit x
 is_place unit x arrays names right scalar typed = by_list x.subscripts refl where
-  not_array : (a : Bool) → not a ≡ true → a ≡ false
-  not_array true e = absurd (true≢false (sym e))
-  not_array false e = refl
-
   by_list : (ts : List Tree) → x.subscripts ≡ ts → IsPlace unit x
-  by_list [] e = inl (e, not_array (is_array unit x.occurrence.name) (subst (λ (us : List Tree). (is_nonempty us || not (is_array unit x.occurrence.name)) ≡ true) e scalar))
+  by_list [] e = inl (e, not-true (is_array unit x.occurrence.name) (subst (λ (us : List Tree). (is_nonempty us || not (is_array unit x.occurrence.name)) ≡ true) e scalar))
   by_list (t ∷ ts) e =
       let listed : is_nonempty x.subscripts ≡ true = ap is_nonempty e in
       let test : (has_dimensions unit x.occurrence.name (trees_of x.subscripts) && are_integers unit (trees_of x.subscripts)) ≡ true
@@ -113,14 +93,7 @@ plain_parts unit x e =
     let p1 = and_parts (not (is_constant_name unit x)) _ e in
     let p2 = and_parts (not x.asynchronous) _ p1.1 in
     let p3 = and_parts (not (is_array unit x)) (same_declared (type_of unit x) (Some Integer)) p2.1 in
-    (not_array (is_array unit x) p3.0, integer (type_of unit x) p3.1) where
-      not_array : (a : Bool) → not a ≡ true → a ≡ false
-      not_array true f = absurd (true≢false (sym f))
-      not_array false f = refl
-
-      integer : (o : Option ValueType) → same_declared o (Some Integer) ≡ true → o ≡ Some Integer
-      integer None f = absurd (true≢false (sym f))
-      integer (Some t) f = ap (λ w. Some w) (equal_types t Integer f)
+    (not-true (is_array unit x) p3.0, declared_type (type_of unit x) Integer p3.1)
 
 loop : (unit : List Statement) (c : DoControl) → AreTreesGood unit (form.Do c) → HasPlainVariable unit (form.Do c) → is_form_typed unit (form.Do c) ≡ true → HasTypes unit (form.Do c)
 loop unit c trees_good plain test =

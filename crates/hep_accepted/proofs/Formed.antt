@@ -1,45 +1,18 @@
 -- Types of the names, expressions and statements of accepted programs.
-use Rattle.std.proofs.Common.{◌≡◌, ◌⊎◌, inl, inr, ℕ, zero, suc, Bool, true, List, [], ◌∷◌, ◌++◌, map, Option, Some, None, refl, sym, ap, subst}
-use Rattle.std.specs.Prelude.{◌&&◌, ◌||◌, not, slice_get, if◌then◌else◌, is_none, is_some, option_to_list, take}
+use Rattle.std.proofs.Common.{⊎_elim, ◌≡◌, ℕ, zero, suc, Bool, true, List, [], ◌∷◌, ◌++◌, map, Option, Some, None, refl, sym, ap, subst, ◌&&◌, not, slice_get, if◌then◌else◌, is_none, is_some, option_to_list, take}
 use Rattle.std.specs.List.{flat_map, list_all}
+use Rattle.std.proofs.lemmas.Grind.{flat_map-append}
 use Rattle.std.proofs.lemmas.Bool.{and_from, and_parts, not_from_false}
 use Rattle.std.proofs.lemmas.Option.{none-some, same_Some}
-use Rattle.hep_source.specs.Tree.{Tree, trees_of}
-use Rattle.hep_source.specs.declared.declaration.CommonBlock.{CommonBlock}
-use Rattle.hep_source.specs.declared.declaration.DataGroup.{DataGroup}
-use Rattle.hep_source.specs.declared.declaration.Declarator.{Declarator}
-use Rattle.hep_source.specs.declared.declaration.Dimension.{Dimension}
-use Rattle.hep_source.specs.declared.declaration.NamedConstant.{NamedConstant}
-use Rattle.hep_source.specs.declared.declaration.Target.{Target}
-use Rattle.hep_source.specs.declared.declaration.UpperBound.{UpperBound}
+use Rattle.hep_machine.specs.Words.{Tree, trees_of, CommonBlock, DataGroup, Declarator, Dimension, NamedConstant, Target, UpperBound, ValueType, Integer, Logical, Occurrence, DoControl, Form, PrintItem, Statement, Units, groups_in, constants_in, declarators_in, is_array, is_dummy, is_nonempty, named_constants, type_of, Meaning, element, listed_meaning, unknown, array_occurrence, occurrences_in, occurrences_in_block, occurrences_in_constant, occurrences_in_control, occurrences_in_data_value, occurrences_in_declarator, occurrences_in_dimension, occurrences_in_form, occurrences_in_group, occurrences_in_item, occurrences_in_some, occurrences_in_statement, occurrences_in_target, occurrences_in_upper}
 use Rattle.hep_source.specs.declared.declaration.UpperBound.TheVariants as bound
-use Rattle.hep_source.specs.declared.declaration.ValueType.{ValueType}
-use Rattle.hep_source.specs.declared.declaration.ValueType.TheVariants.{Integer, Logical}
-use Rattle.hep_source.specs.declared.name.Occurrence.{Occurrence}
-use Rattle.hep_source.specs.declared.statement.DoControl.{DoControl}
-use Rattle.hep_source.specs.declared.statement.Form.{Form}
 use Rattle.hep_source.specs.declared.statement.Form.TheVariants as form
-use Rattle.hep_source.specs.declared.statement.PrintItem.{PrintItem}
 use Rattle.hep_source.specs.declared.statement.PrintItem.TheVariants as item
-use Rattle.hep_source.specs.declared.statement.Statement.{Statement}
-use Rattle.hep_source.specs.Units.{Units}
-use Rattle.hep_machine.specs.Constants.{bounds_of, value_among}
-use Rattle.hep_machine.specs.Data.{groups_in}
-use Rattle.hep_machine.specs.Declarations.{constants_in, declarators_in, is_array, is_dummy, is_nonempty, named_constants, type_of}
-use Rattle.hep_machine.specs.Functions.{Meaning, element, listed_meaning, unknown}
-use Rattle.hep_machine.specs.Variables.{array_occurrence, occurrences_in, occurrences_in_block, occurrences_in_constant, occurrences_in_control, occurrences_in_data_value, occurrences_in_declarator, occurrences_in_dimension, occurrences_in_form, occurrences_in_group, occurrences_in_item, occurrences_in_some, occurrences_in_statement, occurrences_in_target, occurrences_in_upper}
-use Rattle.hep_check.specs.Arguments.{is_reference_given}
-use Rattle.hep_check.specs.Conditions.{IsAccepted}
-use Rattle.hep_check.specs.Constants.{Parameters, are_bounds_open, are_constants_given, has_bounds, has_constant_subscripts, has_value, is_adjustable, is_adjusted, is_bound, is_constant_given, is_constant_of, is_dimension, is_group_typed, is_shape_if_known, is_statement_typed, is_upper_bound, no_parameters, type_violations_from, with_parameter, with_parameters}
-use Rattle.hep_check.specs.Counts.{is_counted}
-use Rattle.hep_check.specs.Names.{is_unknown, untyped_in}
-use Rattle.hep_check.specs.Statements.{names_with_lists, names_with_lists_in, subexpressions_of, trees_in_declarator, trees_in_dimension, trees_in_form, trees_in_item, trees_in_statement, trees_in_upper}
-use Rattle.hep_check.specs.Types.{agree, are_actuals, are_integers, is_form_typed, is_item_typed, is_list_typed, is_of, is_scalar_target, is_target_typed, is_typed, is_typed_as, type_of_target, type_of_tree}
-use Rattle.hep_check.specs.Violations.{at_line, at_occurrence, when}
+use Rattle.hep_check.specs.Words.{is_reference_given, IsAccepted, Parameters, are_constants_given, has_bounds, has_constant_subscripts, is_bound, is_constant_given, is_dimension, is_group_typed, is_statement_typed, is_upper_bound, no_parameters, type_violations_from, with_parameter, with_parameters, is_counted, is_unknown, untyped_in, names_with_lists, names_with_lists_in, subexpressions_of, trees_in_declarator, trees_in_dimension, trees_in_form, trees_in_item, trees_in_statement, trees_in_upper, are_actuals, are_integers, is_form_typed, is_item_typed, is_list_typed, is_of, is_scalar_target, is_target_typed, is_typed, is_typed_as, type_of_tree, at_line, at_occurrence, when}
 use Rattle.hep_accepted.specs.Typing.{HasOperands, HasType, IsOf}
 use Rattle.hep_accepted.proofs.Agreed.{counted, given}
 use Rattle.hep_accepted.proofs.Meant.{reference_known}
-use Rattle.hep_accepted.proofs.Members.{Has, all_has, flat_has, has_behind, has_either, has_first_or, has_flat, has_front, has_more, has_one, map_at}
+use Rattle.hep_accepted.proofs.Members.{Each, Has, each_append, each_none, each_one, all_has, has_behind, has_either, has_flat, has_front, has_one}
 use Rattle.hep_accepted.proofs.Operands.{AreNamesTyped, AreRight, IsGood, actuals_parts, good_part, is_actual, is_name_typed, is_of_type, is_right, list_actuals, typed_actual}
 use Rattle.hep_accepted.proofs.Parts.{all-each, all_from, none-append, none-each, none-when, some_value, unviolated}
 use Rattle.hep_check.proofs.Agreeing.{with_parameters-append, none-when as none-unless}
@@ -52,143 +25,109 @@ names_have_types program u k i unit s p accepted iu ik ip =
     let one = none-each (λ (q : Occurrence). when (is_none (type_of unit q.name)) (at_occurrence 301 s.line q)) (occurrences_in_statement unit s) i p here ip in
     some_value (type_of unit p.name) (none-when _ (at_occurrence 301 s.line p) one)
 
--- ---- the expressions of a statement are among its occurrences
+-- ---- what occurs in the expressions of a statement is among its occurrences
 
-abbrev Occurs : List Statement → Occurrence → Tree → Type 0
-Occurs unit p e = Has (occurrences_in unit e) p
+module _ (unit : List Statement) where
+  -- what occurs in one of these expressions is one of these
+  record Within (ts : List Tree) (ps : List Occurrence) : Type 0 where
+    at : (e : Tree) (p : Occurrence) → Has ts e → Has (occurrences_in unit e) p → Has ps p
 
-one_occurs : (unit : List Statement) (t e : Tree) (p : Occurrence) → Has (t ∷ []) e → Occurs unit p e → Occurs unit p t
-one_occurs unit t e p h g = subst (Occurs unit p) (sym (has_one t e h)) g
+  none_within : {ps : List Occurrence} → Within [] ps
+  none_within = record { at = λ e p h g. absurd (none-some e h.1) }
 
-all_occur : (unit : List Statement) (ts : List Tree) (e : Tree) (p : Occurrence) → Has ts e → Occurs unit p e → Has (flat_map (occurrences_in unit) ts) p
-all_occur unit ts e p h g = has_flat (occurrences_in unit) ts e p h g
+  one_within : (t : Tree) → Within (t ∷ []) (occurrences_in unit t)
+  one_within t = record { at = λ e p h g. subst (λ w. Has (occurrences_in unit w) p) (sym (has_one t e h)) g }
 
-some_occurs : (unit : List Statement) (o : Option Tree) (e : Tree) (p : Occurrence) → Has (option_to_list o) e → Occurs unit p e → Has (occurrences_in_some unit o) p
-some_occurs unit None e p h g = absurd (none-some e h.1)
-some_occurs unit (Some t) e p h g = one_occurs unit t e p h g
+  in_front : {ts : List Tree} {ps : List Occurrence} (qs : List Occurrence) → Within ts ps → Within ts (ps ++ qs)
+  in_front {ts} {ps} qs w = record { at = λ e p h g. has_front ps qs p (w.at e p h g) }
 
-upper_occurs : (unit : List Statement) (b : UpperBound) (e : Tree) (p : Occurrence) → Has (trees_in_upper b) e → Occurs unit p e → Has (occurrences_in_upper unit b) p
-upper_occurs unit (bound.Expression t) e p h g = one_occurs unit t e p h g
-upper_occurs unit bound.Open e p h g = absurd (none-some e h.1)
+  behind : {ts : List Tree} {ps : List Occurrence} (qs : List Occurrence) → Within ts ps → Within ts (qs ++ ps)
+  behind {ts} {ps} qs w = record { at = λ e p h g. has_behind qs ps p (w.at e p h g) }
 
-dimension_occurs : (unit : List Statement) (d : Dimension) (e : Tree) (p : Occurrence) → Has (trees_in_dimension d) e → Occurs unit p e → Has (occurrences_in_dimension unit d) p
-dimension_occurs unit d e p h g = by_place (has_either (option_to_list d.lower) (trees_in_upper d.upper) e h) where
-  by_place : Has (option_to_list d.lower) e ⊎ Has (trees_in_upper d.upper) e → Has (occurrences_in_dimension unit d) p
-  by_place (inl f) = has_front (occurrences_in_some unit d.lower) (occurrences_in_upper unit d.upper) p (some_occurs unit d.lower e p f g)
-  by_place (inr f) = has_behind (occurrences_in_some unit d.lower) (occurrences_in_upper unit d.upper) p (upper_occurs unit d.upper e p f g)
+  both_within : {ts us : List Tree} {ps : List Occurrence} → Within ts ps → Within us ps → Within (ts ++ us) ps
+  both_within {ts} {us} v w = record { at = λ e p h g. ⊎_elim (λ i. v.at e p i g) (λ i. w.at e p i g) (has_either ts us e h) }
 
-declarators_occur : (unit : List Statement) (ds : List Declarator) (e : Tree) (p : Occurrence) → Has (flat_map trees_in_declarator ds) e → Occurs unit p e → Has (flat_map (occurrences_in_declarator unit) ds) p
-declarators_occur unit ds e p h g =
-    let d = flat_has trees_in_declarator ds e h in
-    let m = flat_has trees_in_dimension d.0.dimensions e d.2 in
-    let inner = has_flat (occurrences_in_dimension unit) d.0.dimensions m.0 p m.1 (dimension_occurs unit m.0 e p m.2 g) in
-    has_flat (occurrences_in_declarator unit) ds d.0 p d.1 (has_more d.0.occurrence (flat_map (occurrences_in_dimension unit) d.0.dimensions) p inner)
+  append_within : {ts us : List Tree} {ps qs : List Occurrence} → Within ts ps → Within us qs → Within (ts ++ us) (ps ++ qs)
+  append_within {ts} {us} {ps} {qs} v w = both_within (in_front qs v) (behind ps w)
 
-blocks_occur : (unit : List Statement) (bs : List CommonBlock) (e : Tree) (p : Occurrence) → Has (flat_map trees_in_declarator (flat_map (λ (b : CommonBlock). b.entries) bs)) e → Occurs unit p e → Has (flat_map (occurrences_in_block unit) bs) p
-blocks_occur unit bs e p h g =
-    let d = flat_has trees_in_declarator (flat_map (λ (b : CommonBlock). b.entries) bs) e h in
-    let b = flat_has (λ (c : CommonBlock). c.entries) bs d.0 d.1 in
-    let here = declarators_occur unit b.0.entries e p (has_flat trees_in_declarator b.0.entries d.0 e b.2 d.2) g in
-    has_flat (occurrences_in_block unit) bs b.0 p b.1 here
+  flat_within : {A : Type 0} {f : A → List Tree} {g : A → List Occurrence} → ((x : A) → Within (f x) (g x)) → (xs : List A) → Within (flat_map f xs) (flat_map g xs)
+  flat_within each [] = none_within
+  flat_within each (x ∷ xs) = append_within (each x) (flat_within each xs)
 
-bounds_occur : (unit : List Statement) (f : Form) (e : Tree) (p : Occurrence) → Has (flat_map trees_in_declarator (declarators_in f)) e → Occurs unit p e → Has (occurrences_in_form unit f) p
-bounds_occur unit (form.Declare t ds) e p h g = declarators_occur unit ds e p h g
-bounds_occur unit (form.Dimension ds) e p h g = declarators_occur unit ds e p h g
-bounds_occur unit (form.Common bs) e p h g = blocks_occur unit bs e p h g
-bounds_occur unit _ e p h g = absurd (none-some e h.1)
+  all_within : (ts : List Tree) → Within ts (flat_map (occurrences_in unit) ts)
+  all_within [] = none_within
+  all_within (t ∷ ts) = append_within (one_within t) (all_within ts)
 
-constants_occur : (unit : List Statement) (f : Form) (e : Tree) (p : Occurrence) → Has (map (λ (c : NamedConstant). c.value) (constants_in f)) e → Occurs unit p e → Has (occurrences_in_form unit f) p
-constants_occur unit (form.Parameter cs) e p h g =
-    let c = map_at (λ (d : NamedConstant). d.value) cs h.0 e h.1 in
-    has_flat (occurrences_in_constant unit) cs c.0 p (h.0, c.1) (has_more c.0.occurrence (occurrences_in unit c.0.value) p (subst (Occurs unit p) (sym c.2) g))
-constants_occur unit _ e p h g = absurd (none-some e h.1)
+  some_within : (o : Option Tree) → Within (option_to_list o) (occurrences_in_some unit o)
+  some_within None = none_within
+  some_within (Some t) = one_within t
 
-target_occurs : (unit : List Statement) (t : Target) (e : Tree) (p : Occurrence) → Has t.subscripts e → Occurs unit p e → Has (occurrences_in_target unit t) p
-target_occurs unit t e p h g =
-    has_behind (if is_nonempty t.subscripts then array_occurrence unit t.occurrence else t.occurrence ∷ []) (flat_map (occurrences_in unit) t.subscripts) p (all_occur unit t.subscripts e p h g)
+  upper_within : (b : UpperBound) → Within (trees_in_upper b) (occurrences_in_upper unit b)
+  upper_within (bound.Expression t) = one_within t
+  upper_within bound.Open = none_within
 
-groups_occur : (unit : List Statement) (f : Form) (e : Tree) (p : Occurrence) → Has (flat_map (λ (g : DataGroup). flat_map (λ (t : Target). t.subscripts) g.targets) (groups_in f)) e → Occurs unit p e → Has (occurrences_in_form unit f) p
-groups_occur unit (form.Data gs) e p h g =
-    let d = flat_has (λ (d : DataGroup). flat_map (λ (t : Target). t.subscripts) d.targets) gs e h in
-    let t = flat_has (λ (t : Target). t.subscripts) d.0.targets e d.2 in
-    has_flat (occurrences_in_group unit) gs d.0 p d.1 (
-    has_front (flat_map (occurrences_in_target unit) d.0.targets) (flat_map occurrences_in_data_value d.0.values) p (
-    has_flat (occurrences_in_target unit) d.0.targets t.0 p t.1 (target_occurs unit t.0 e p t.2 g)))
-groups_occur unit _ e p h g = absurd (none-some e h.1)
+  dimension_within : (d : Dimension) → Within (trees_in_dimension d) (occurrences_in_dimension unit d)
+  dimension_within d = append_within (some_within d.lower) (upper_within d.upper)
 
-control_occurs : (unit : List Statement) (c : DoControl) (e : Tree) (p : Occurrence) → Has (c.initial ∷ c.limit ∷ option_to_list c.increment) e → Occurs unit p e → Has (occurrences_in_control unit c) p
-control_occurs unit c e p h g = has_more c.variable (first ++ (second ++ third)) p (by_place (has_first_or c.initial (c.limit ∷ option_to_list c.increment) e h)) where
-  first : List Occurrence
-  first = occurrences_in unit c.initial
+  declarator_within : (d : Declarator) → Within (trees_in_declarator d) (occurrences_in_declarator unit d)
+  declarator_within d = behind (d.occurrence ∷ []) (flat_within dimension_within d.dimensions)
 
-  second : List Occurrence
-  second = occurrences_in unit c.limit
+  blocks_within : (bs : List CommonBlock) → Within (flat_map trees_in_declarator (flat_map (λ (b : CommonBlock). b.entries) bs)) (flat_map (occurrences_in_block unit) bs)
+  blocks_within [] = none_within
+  blocks_within (b ∷ bs) =
+      rw (flat_map-append trees_in_declarator b.entries (flat_map (λ (c : CommonBlock). c.entries) bs)) (append_within (flat_within declarator_within b.entries) (blocks_within bs))
 
-  third : List Occurrence
-  third = occurrences_in_some unit c.increment
+  bounds_within : (f : Form) → Within (flat_map trees_in_declarator (declarators_in f)) (occurrences_in_form unit f)
+  bounds_within (form.Declare t ds) = flat_within declarator_within ds
+  bounds_within (form.Dimension ds) = flat_within declarator_within ds
+  bounds_within (form.Common bs) = blocks_within bs
+  bounds_within _ = none_within
 
-  by_rest : (c.limit ≡ e) ⊎ Has (option_to_list c.increment) e → Has (occurrences_in unit c.limit ++ occurrences_in_some unit c.increment) p
-  by_rest (inl f) = has_front (occurrences_in unit c.limit) (occurrences_in_some unit c.increment) p (subst (Occurs unit p) (sym f) g)
-  by_rest (inr f) = has_behind (occurrences_in unit c.limit) (occurrences_in_some unit c.increment) p (some_occurs unit c.increment e p f g)
+  constants_within : (cs : List NamedConstant) → Within (map (λ (c : NamedConstant). c.value) cs) (flat_map (occurrences_in_constant unit) cs)
+  constants_within [] = none_within
+  constants_within (c ∷ cs) = append_within (behind (c.occurrence ∷ []) (one_within c.value)) (constants_within cs)
 
-  by_place : (c.initial ≡ e) ⊎ Has (c.limit ∷ option_to_list c.increment) e → Has (occurrences_in unit c.initial ++ (occurrences_in unit c.limit ++ occurrences_in_some unit c.increment)) p
-  by_place (inl f) = has_front (occurrences_in unit c.initial) (occurrences_in unit c.limit ++ occurrences_in_some unit c.increment) p (subst (Occurs unit p) (sym f) g)
-  by_place (inr f) = has_behind (occurrences_in unit c.initial) (occurrences_in unit c.limit ++ occurrences_in_some unit c.increment) p (by_rest (has_first_or c.limit (option_to_list c.increment) e f))
+  parameters_within : (f : Form) → Within (map (λ (c : NamedConstant). c.value) (constants_in f)) (occurrences_in_form unit f)
+  parameters_within (form.Parameter cs) = constants_within cs
+  parameters_within _ = none_within
 
-item_occurs : (unit : List Statement) (i : PrintItem) (e : Tree) (p : Occurrence) → Has (trees_in_item i) e → Occurs unit p e → Has (occurrences_in_item unit i) p
-item_occurs unit (item.Expression t) e p h g = one_occurs unit t e p h g
-item_occurs unit (item.Characters cs) e p h g = absurd (none-some e h.1)
+  target_within : (t : Target) → Within t.subscripts (occurrences_in_target unit t)
+  target_within t = behind (if is_nonempty t.subscripts then array_occurrence unit t.occurrence else t.occurrence ∷ []) (all_within t.subscripts)
 
-form_occurs : (unit : List Statement) (f : Form) (e : Tree) (p : Occurrence) → Has (trees_in_form f) e → Occurs unit p e → Has (occurrences_in_form unit f) p
-form_occurs unit (form.Assign x t) e p h g = by_place (has_either x.subscripts (t ∷ []) e h) where
-  by_place : Has x.subscripts e ⊎ Has (t ∷ []) e → Has (occurrences_in_target unit x ++ occurrences_in unit t) p
-  by_place (inl f) = has_front (occurrences_in_target unit x) (occurrences_in unit t) p (target_occurs unit x e p f g)
-  by_place (inr f) = has_behind (occurrences_in_target unit x) (occurrences_in unit t) p (one_occurs unit t e p f g)
-form_occurs unit (form.ComputedGoTo labels t) e p h g = one_occurs unit t e p h g
-form_occurs unit (form.ArithmeticIf t labels) e p h g = one_occurs unit t e p h g
-form_occurs unit (form.IfThen t) e p h g = one_occurs unit t e p h g
-form_occurs unit (form.ElseIf t) e p h g = one_occurs unit t e p h g
-form_occurs unit (form.Do c) e p h g = control_occurs unit c e p h g
-form_occurs unit (form.Call x ts) e p h g = all_occur unit ts e p h g
-form_occurs unit (form.Create x ts) e p h g = all_occur unit ts e p h g
-form_occurs unit (form.Purge targets) e p h g =
-    let t = flat_has (λ (t : Target). t.subscripts) targets e h in
-    has_flat (occurrences_in_target unit) targets t.0 p t.1 (target_occurs unit t.0 e p t.2 g)
-form_occurs unit (form.Print items) e p h g =
-    let i = flat_has trees_in_item items e h in
-    has_flat (occurrences_in_item unit) items i.0 p i.1 (item_occurs unit i.0 e p i.2 g)
-form_occurs unit _ e p h g = absurd (none-some e h.1)
+  group_within : (g : DataGroup) → Within (flat_map (λ (t : Target). t.subscripts) g.targets) (occurrences_in_group unit g)
+  group_within g = in_front (flat_map occurrences_in_data_value g.values) (flat_within target_within g.targets)
 
--- in which part of a statement an expression stands
-abbrev Part : Statement → Tree → Type 0
-Part s e =
-    Has s.conditions e
-    ⊎ (Has (flat_map trees_in_declarator (declarators_in s.form)) e
-    ⊎ (Has (map (λ (c : NamedConstant). c.value) (constants_in s.form)) e
-    ⊎ (Has (flat_map (λ (g : DataGroup). flat_map (λ (t : Target). t.subscripts) g.targets) (groups_in s.form)) e ⊎ Has (trees_in_form s.form) e)))
+  groups_within : (f : Form) → Within (flat_map (λ (g : DataGroup). flat_map (λ (t : Target). t.subscripts) g.targets) (groups_in f)) (occurrences_in_form unit f)
+  groups_within (form.Data gs) = flat_within group_within gs
+  groups_within _ = none_within
 
-or_else : {P Q R : Type 0} → P ⊎ Q → (Q → R) → P ⊎ R
-or_else (inl p) f = inl p
-or_else (inr q) f = inr (f q)
+  control_within : (c : DoControl) → Within (c.initial ∷ c.limit ∷ option_to_list c.increment) (occurrences_in_control unit c)
+  control_within c = behind (c.variable ∷ []) (append_within (one_within c.initial) (append_within (one_within c.limit) (some_within c.increment)))
 
-part_of : (s : Statement) (e : Tree) → Has (trees_in_statement s) e → Part s e
-part_of s e h = in_five s.conditions (flat_map trees_in_declarator (declarators_in s.form)) (map (λ (c : NamedConstant). c.value) (constants_in s.form)) (
-    flat_map (λ (g : DataGroup). flat_map (λ (t : Target). t.subscripts) g.targets) (groups_in s.form)) (trees_in_form s.form) h where
-      in_five : (v w x y z : List Tree) → Has (v ++ (w ++ (x ++ (y ++ z)))) e → Has v e ⊎ (Has w e ⊎ (Has x e ⊎ (Has y e ⊎ Has z e)))
-      in_five v w x y z g =
-          or_else (has_either v (w ++ (x ++ (y ++ z))) e g) (λ g1.
-          or_else (has_either w (x ++ (y ++ z)) e g1) (λ g2. or_else (has_either x (y ++ z) e g2) (λ g3. has_either y z e g3)))
+  item_within : (i : PrintItem) → Within (trees_in_item i) (occurrences_in_item unit i)
+  item_within (item.Expression t) = one_within t
+  item_within (item.Characters cs) = none_within
 
-occurs : (unit : List Statement) (s : Statement) (e : Tree) (p : Occurrence) → Part s e → Occurs unit p e → Has (occurrences_in_statement unit s) p
-occurs unit s e p (inl h) g = has_front (flat_map (occurrences_in unit) s.conditions) (occurrences_in_form unit s.form) p (all_occur unit s.conditions e p h g)
-occurs unit s e p (inr (inl h)) g = has_behind (flat_map (occurrences_in unit) s.conditions) (occurrences_in_form unit s.form) p (bounds_occur unit s.form e p h g)
-occurs unit s e p (inr (inr (inl h))) g = has_behind (flat_map (occurrences_in unit) s.conditions) (occurrences_in_form unit s.form) p (constants_occur unit s.form e p h g)
-occurs unit s e p (inr (inr (inr (inl h)))) g = has_behind (flat_map (occurrences_in unit) s.conditions) (occurrences_in_form unit s.form) p (groups_occur unit s.form e p h g)
-occurs unit s e p (inr (inr (inr (inr h)))) g = has_behind (flat_map (occurrences_in unit) s.conditions) (occurrences_in_form unit s.form) p (form_occurs unit s.form e p h g)
+  form_within : (f : Form) → Within (trees_in_form f) (occurrences_in_form unit f)
+  form_within (form.Assign x t) = append_within (target_within x) (one_within t)
+  form_within (form.ComputedGoTo labels t) = one_within t
+  form_within (form.ArithmeticIf t labels) = one_within t
+  form_within (form.IfThen t) = one_within t
+  form_within (form.ElseIf t) = one_within t
+  form_within (form.Do c) = control_within c
+  form_within (form.Call x ts) = all_within ts
+  form_within (form.Create x ts) = all_within ts
+  form_within (form.Purge targets) = flat_within target_within targets
+  form_within (form.Print items) = flat_within item_within items
+  form_within _ = none_within
+
+  statement_within : (s : Statement) → Within (trees_in_statement s) (occurrences_in_statement unit s)
+  statement_within s =
+      append_within (all_within s.conditions) (both_within (bounds_within s.form) (both_within (parameters_within s.form) (both_within (groups_within s.form) (form_within s.form))))
 
 -- each occurrence in an expression of a statement is one in the statement
 pub occurrence_in_statement : (unit : List Statement) (s : Statement) (e : Tree) (p : Occurrence) → Has (trees_in_statement s) e → Has (occurrences_in unit e) p → Has (occurrences_in_statement unit s) p
-occurrence_in_statement unit s e p h g = occurs unit s e p (part_of s e h) g
+occurrence_in_statement unit s e p h g = (statement_within unit s).at e p h g
 
 pub is_there : {A : Type 0} (o : Option A) → (x : A) × (o ≡ Some x) → is_some o ≡ true
 is_there o h = ap is_some h.1
@@ -196,7 +135,7 @@ is_there o h = ap is_some h.1
 pub names_in : (program : Units) (u k : ℕ) (unit : List Statement) (s : Statement) (e : Tree) → IsAccepted program → slice_get program u ≡ Some unit → slice_get unit k ≡ Some s → Has (trees_in_statement s) e → AreNamesTyped unit (occurrences_in unit e)
 names_in program u k unit s e accepted iu ik h =
     all_from (is_name_typed unit) (occurrences_in unit e) (λ i p g.
-    let o = occurs unit s e p (part_of s e h) (i, g) in
+    let o = occurrence_in_statement unit s e p h (i, g) in
     is_there (type_of unit p.name) (names_have_types program u k o.0 unit s p accepted iu ik o.1))
 
 -- ---- names with lists in the expressions of a statement
@@ -255,63 +194,6 @@ pub nonempty : {A : Type 0} (xs : List A) (x : A) → Has xs x → is_nonempty x
 nonempty [] x h = absurd (none-some x h.1)
 nonempty (y ∷ ys) x h = refl
 
-pub bound_typed : (unit : List Statement) (ps : Parameters) (dummy : Bool) (e : Tree) → is_bound unit ps dummy e ≡ true → is_typed_as unit Integer e ≡ true
-bound_typed unit ps dummy e test = (and_parts (is_typed_as unit Integer e) (has_value unit ps e || (dummy && (is_adjusted unit ps.known e && is_adjustable unit ps.known e))) test).0
-
-upper_typed : (unit : List Statement) (ps : Parameters) (dummy : Bool) (b : UpperBound) (e : Tree) → is_upper_bound unit ps dummy b ≡ true → Has (trees_in_upper b) e → is_typed_as unit Integer e ≡ true
-upper_typed unit ps dummy (bound.Expression t) e test h = subst (λ v. is_typed_as unit Integer v ≡ true) (has_one t e h) (bound_typed unit ps dummy t test)
-upper_typed unit ps dummy bound.Open e test h = absurd (none-some e h.1)
-
-dimension_typed : (unit : List Statement) (ps : Parameters) (dummy : Bool) (d : Dimension) (e : Tree) → is_dimension unit ps dummy d ≡ true → Has (trees_in_dimension d) e → is_typed_as unit Integer e ≡ true
-dimension_typed unit ps dummy d e test h = by_place (has_either (option_to_list d.lower) (trees_in_upper d.upper) e h) where
-  both : (list_all (is_bound unit ps dummy) (option_to_list d.lower) ≡ true) × (is_upper_bound unit ps dummy d.upper ≡ true)
-  both = and_parts (list_all (is_bound unit ps dummy) (option_to_list d.lower)) (is_upper_bound unit ps dummy d.upper) test
-
-  by_place : Has (option_to_list d.lower) e ⊎ Has (trees_in_upper d.upper) e → is_typed_as unit Integer e ≡ true
-  by_place (inl f) = bound_typed unit ps dummy e (all_has (is_bound unit ps dummy) (option_to_list d.lower) e both.0 f)
-  by_place (inr f) = upper_typed unit ps dummy d.upper e both.1 f
-
-bounds_typed : (unit : List Statement) (ps : Parameters) (ds : List Declarator) (e : Tree) → list_all (has_bounds unit ps) ds ≡ true → Has (flat_map trees_in_declarator ds) e → is_typed_as unit Integer e ≡ true
-bounds_typed unit ps ds e test h =
-    let d = flat_has trees_in_declarator ds e h in
-    let m = flat_has trees_in_dimension d.0.dimensions e d.2 in
-    let here = all_has (has_bounds unit ps) ds d.0 test d.1 in
-    let dummy = is_dummy unit d.0.occurrence.name in
-    let kept : (list_all (is_dimension unit ps (is_dummy unit d.0.occurrence.name)) d.0.dimensions && (are_bounds_open unit ps d.0 || is_shape_if_known (bounds_of unit (value_among ps.known) d.0.dimensions))) ≡ true
-    = subst (λ b. (if b then (list_all (is_dimension unit ps (is_dummy unit d.0.occurrence.name)) d.0.dimensions && (are_bounds_open unit ps d.0 || is_shape_if_known (bounds_of unit (value_among ps.known) d.0.dimensions))) else true) ≡ true) (nonempty d.0.dimensions m.0 m.1) here in
-    let each = (and_parts (list_all (is_dimension unit ps (is_dummy unit d.0.occurrence.name)) d.0.dimensions) _ kept).0 in
-    dimension_typed unit ps (is_dummy unit d.0.occurrence.name) m.0 e (all_has (is_dimension unit ps (is_dummy unit d.0.occurrence.name)) d.0.dimensions m.0 each m.1) m.2
-
-pub constant_given : (unit : List Statement) (ps : Parameters) (cs : List NamedConstant) (i : ℕ) (c : NamedConstant) → are_constants_given unit ps cs ≡ true → slice_get cs i ≡ Some c → is_constant_given unit (with_parameters unit ps (take i cs)) c ≡ true
-constant_given unit ps [] i c test g = absurd (none-some c g)
-constant_given unit ps (d ∷ ds) zero c test g =
-    subst (λ (v : NamedConstant). is_constant_given unit ps v ≡ true) (same_Some d c g) (and_parts (is_constant_given unit ps d) (are_constants_given unit (with_parameter unit ps d) ds) test).0
-constant_given unit ps (d ∷ ds) (suc i) c test g =
-    constant_given unit (with_parameter unit ps d) ds i c (and_parts (is_constant_given unit ps d) (are_constants_given unit (with_parameter unit ps d) ds) test).1 g
-
-constants_typed : (unit : List Statement) (ps : Parameters) (cs : List NamedConstant) (e : Tree) → are_constants_given unit ps cs ≡ true → Has (map (λ (c : NamedConstant). c.value) cs) e → is_typed unit e ≡ true
-constants_typed unit ps cs e test h =
-    let c = map_at (λ (d : NamedConstant). d.value) cs h.0 e h.1 in
-    subst (λ v. is_typed unit v ≡ true) c.2 (and_parts (is_typed unit c.0.value) _ (constant_given unit ps cs h.0 c.0 test c.1)).0
-
-groups_typed : (unit : List Statement) (ps : Parameters) (gs : List DataGroup) (e : Tree) → list_all (is_group_typed unit ps) gs ≡ true → Has (flat_map (λ (g : DataGroup). flat_map (λ (t : Target). t.subscripts) g.targets) gs) e → is_typed_as unit Integer e ≡ true
-groups_typed unit ps gs e test h =
-    let d = flat_has (λ (d : DataGroup). flat_map (λ (t : Target). t.subscripts) d.targets) gs e h in
-    let t = flat_has (λ (t : Target). t.subscripts) d.0.targets e d.2 in
-    let group = all_has (is_group_typed unit ps) gs d.0 test d.1 in
-    let target = all_has (has_constant_subscripts unit ps) d.0.targets t.0 group t.1 in
-    let subscripts = (and_parts (is_target_typed unit t.0) (list_all (is_constant_of unit ps Integer) t.0.subscripts) target).1 in
-    (and_parts (is_typed_as unit Integer e) (has_value unit ps e) (all_has (is_constant_of unit ps Integer) t.0.subscripts e subscripts t.2)).0
-
--- ---- the expressions of an executable statement
-
-actuals_has : (unit : List Statement) (ts : List Tree) (e : Tree) → are_actuals unit (trees_of ts) ≡ true → Has ts e → is_actual unit e ≡ true
-actuals_has unit ts e test h = at ts h.0 test h.1 where
-  at : (us : List Tree) (i : ℕ) → are_actuals unit (trees_of us) ≡ true → slice_get us i ≡ Some e → is_actual unit e ≡ true
-  at [] i f g = absurd (none-some e g)
-  at (t ∷ us) zero f g = subst (λ v. is_actual unit v ≡ true) (same_Some t e g) (actuals_parts unit t (trees_of us) f).0
-  at (t ∷ us) (suc i) f g = at us i (actuals_parts unit t (trees_of us) f).1 g
-
 abbrev pub target_meaning : List Statement → Target → Meaning
 target_meaning unit t = if is_array unit t.occurrence.name then element else unknown
 
@@ -320,58 +202,96 @@ pub target_typed : (unit : List Statement) (t : Target) → is_target_typed unit
 target_typed unit t test e =
     subst (λ b. (if b then is_list_typed unit (target_meaning unit t) t.occurrence.name (trees_of t.subscripts) (are_integers unit (trees_of t.subscripts)) (are_actuals unit (trees_of t.subscripts)) else true) ≡ true) e test
 
-target_actual : (unit : List Statement) (t : Target) (e : Tree) → is_target_typed unit t ≡ true → Has t.subscripts e → is_actual unit e ≡ true
-target_actual unit t e test h =
-    actuals_has unit t.subscripts e (
-    list_actuals unit (target_meaning unit t) t.occurrence.name (trees_of t.subscripts) (target_typed unit t test (nonempty t.subscripts e h))) h
+pub constant_given : (unit : List Statement) (ps : Parameters) (cs : List NamedConstant) (i : ℕ) (c : NamedConstant) → are_constants_given unit ps cs ≡ true → slice_get cs i ≡ Some c → is_constant_given unit (with_parameters unit ps (take i cs)) c ≡ true
+constant_given unit ps [] i c test g = absurd (none-some c g)
+constant_given unit ps (d ∷ ds) zero c test g =
+    subst (λ (v : NamedConstant). is_constant_given unit ps v ≡ true) (same_Some d c g) (and_parts (is_constant_given unit ps d) (are_constants_given unit (with_parameter unit ps d) ds) test).0
+constant_given unit ps (d ∷ ds) (suc i) c test g =
+    constant_given unit (with_parameter unit ps d) ds i c (and_parts (is_constant_given unit ps d) (are_constants_given unit (with_parameter unit ps d) ds) test).1 g
 
-one_as : (unit : List Statement) (v : ValueType) (t e : Tree) → is_typed_as unit v t ≡ true → Has (t ∷ []) e → is_actual unit e ≡ true
-one_as unit v t e test h = as_actual unit v e (subst (λ w. is_typed_as unit v w ≡ true) (has_one t e h) test)
+module _ (unit : List Statement) where
+  abbrev AreActual : List Tree → Type 0
+  AreActual ts = Each (λ e. is_actual unit e ≡ true) ts
 
-item_actual : (unit : List Statement) (i : PrintItem) (e : Tree) → is_item_typed unit i ≡ true → Has (trees_in_item i) e → is_actual unit e ≡ true
-item_actual unit (item.Expression t) e test h =
-    typed_actual unit e (subst (λ w. is_typed unit w ≡ true) (has_one t e h) (and_parts (is_typed unit t) (is_of Integer (type_of_tree unit t) || is_of Logical (type_of_tree unit t)) test).0)
-item_actual unit (item.Characters cs) e test h = absurd (none-some e h.1)
+  flat_actual : {A : Type 0} (f : A → List Tree) (test : A → Bool) → ((x : A) → test x ≡ true → AreActual (f x)) → (xs : List A) → list_all test xs ≡ true → AreActual (flat_map f xs)
+  flat_actual f test each [] all = each_none
+  flat_actual f test each (x ∷ xs) all = let parts = and_parts (test x) (list_all test xs) all in each_append (each x parts.0) (flat_actual f test each xs parts.1)
 
-form_actual : (unit : List Statement) (f : Form) (e : Tree) → is_form_typed unit f ≡ true → Has (trees_in_form f) e → is_actual unit e ≡ true
-form_actual unit (form.Assign x t) e test h = by_place (has_either x.subscripts (t ∷ []) e h) where
-  parts : (is_target_typed unit x ≡ true) × (is_typed unit t ≡ true)
-  parts =
-      let p1 = and_parts (is_scalar_target unit x) (is_target_typed unit x && (is_typed unit t && agree (type_of_target unit x) (type_of_tree unit t))) test in
-      let p2 = and_parts (is_target_typed unit x) (is_typed unit t && agree (type_of_target unit x) (type_of_tree unit t)) p1.1 in
-      (p2.0, (and_parts (is_typed unit t) (agree (type_of_target unit x) (type_of_tree unit t)) p2.1).0)
+  all_as : (v : ValueType) (ts : List Tree) → list_all (is_typed_as unit v) ts ≡ true → AreActual ts
+  all_as v ts all = record { at = λ e h. as_actual unit v e (all_has (is_typed_as unit v) ts e all h) }
 
-  by_place : Has x.subscripts e ⊎ Has (t ∷ []) e → is_actual unit e ≡ true
-  by_place (inl g) = target_actual unit x e parts.0 g
-  by_place (inr g) = typed_actual unit e (subst (λ w. is_typed unit w ≡ true) (has_one t e g) parts.1)
-form_actual unit (form.ComputedGoTo labels t) e test h = one_as unit Integer t e test h
-form_actual unit (form.ArithmeticIf t labels) e test h = one_as unit Integer t e test h
-form_actual unit (form.IfThen t) e test h = one_as unit Logical t e test h
-form_actual unit (form.ElseIf t) e test h = one_as unit Logical t e test h
-form_actual unit (form.Do c) e test h = as_actual unit Integer e (all_has (is_typed_as unit Integer) (c.initial ∷ c.limit ∷ option_to_list c.increment) e (and_parts (not (is_array unit c.variable.name)) _ test).1 h)
-form_actual unit (form.Call x ts) e test h = actuals_has unit ts e test h
-form_actual unit (form.Create x ts) e test h = actuals_has unit ts e test h
-form_actual unit (form.Purge targets) e test h =
-    let t = flat_has (λ (t : Target). t.subscripts) targets e h in
-    target_actual unit t.0 e (all_has (is_target_typed unit) targets t.0 test t.1) t.2
-form_actual unit (form.Print items) e test h =
-    let i = flat_has trees_in_item items e h in
-    item_actual unit i.0 e (all_has (is_item_typed unit) items i.0 test i.1) i.2
-form_actual unit _ e test h = absurd (none-some e h.1)
+  bound_actual : (ps : Parameters) (dummy : Bool) (t : Tree) → is_bound unit ps dummy t ≡ true → is_actual unit t ≡ true
+  bound_actual ps dummy t test = as_actual unit Integer t (and_parts (is_typed_as unit Integer t) _ test).0
 
-part_actual : (unit : List Statement) (ps : Parameters) (s : Statement) (e : Tree) → IsTypedStatement unit ps s → Part s e → is_actual unit e ≡ true
-part_actual unit ps s e t (inl h) = as_actual unit Logical e (all_has (is_typed_as unit Logical) s.conditions e t.conditions h)
-part_actual unit ps s e t (inr (inl h)) = as_actual unit Integer e (bounds_typed unit ps (declarators_in s.form) e t.bounds h)
-part_actual unit ps s e t (inr (inr (inl h))) = typed_actual unit e (constants_typed unit ps (constants_in s.form) e t.constants h)
-part_actual unit ps s e t (inr (inr (inr (inl h)))) = as_actual unit Integer e (groups_typed unit ps (groups_in s.form) e t.groups h)
-part_actual unit ps s e t (inr (inr (inr (inr h)))) = form_actual unit s.form e t.form h
+  upper_actual : (ps : Parameters) (dummy : Bool) (b : UpperBound) → is_upper_bound unit ps dummy b ≡ true → AreActual (trees_in_upper b)
+  upper_actual ps dummy (bound.Expression t) test = each_one t (bound_actual ps dummy t test)
+  upper_actual ps dummy bound.Open test = each_none
+
+  dimension_actual : (ps : Parameters) (dummy : Bool) (d : Dimension) → is_dimension unit ps dummy d ≡ true → AreActual (trees_in_dimension d)
+  dimension_actual ps dummy d test =
+      let both = and_parts (list_all (is_bound unit ps dummy) (option_to_list d.lower)) (is_upper_bound unit ps dummy d.upper) test in
+      each_append (record { at = λ e h. bound_actual ps dummy e (all_has (is_bound unit ps dummy) (option_to_list d.lower) e both.0 h) }) (upper_actual ps dummy d.upper both.1)
+
+  declarator_actual : (ps : Parameters) (d : Declarator) → has_bounds unit ps d ≡ true → AreActual (trees_in_declarator d)
+  declarator_actual ps d test = by_list d.dimensions _ test where
+    by_list : (ds : List Dimension) (more : Bool) → (if is_nonempty ds then list_all (is_dimension unit ps (is_dummy unit d.occurrence.name)) ds && more else true) ≡ true → AreActual (flat_map trees_in_dimension ds)
+    by_list [] more e = each_none
+    by_list (m ∷ ms) more e =
+        flat_actual trees_in_dimension (is_dimension unit ps (is_dummy unit d.occurrence.name)) (dimension_actual ps (is_dummy unit d.occurrence.name)) (m ∷ ms) (and_parts (list_all (is_dimension unit ps (is_dummy unit d.occurrence.name)) (m ∷ ms)) more e).0
+
+  constants_actual : (ps : Parameters) (cs : List NamedConstant) → are_constants_given unit ps cs ≡ true → AreActual (map (λ (c : NamedConstant). c.value) cs)
+  constants_actual ps [] test = each_none
+  constants_actual ps (c ∷ cs) test =
+      let both = and_parts (is_constant_given unit ps c) (are_constants_given unit (with_parameter unit ps c) cs) test in
+      each_append (each_one c.value (typed_actual unit c.value (and_parts (is_typed unit c.value) _ both.0).0)) (constants_actual (with_parameter unit ps c) cs both.1)
+
+  list_actual : (ts : List Tree) → are_actuals unit (trees_of ts) ≡ true → AreActual ts
+  list_actual [] test = each_none
+  list_actual (t ∷ ts) test = let both = actuals_parts unit t (trees_of ts) test in each_append (each_one t both.0) (list_actual ts both.1)
+
+  target_actual : (t : Target) → is_target_typed unit t ≡ true → AreActual t.subscripts
+  target_actual t test =
+      record {
+        at = λ e h.
+            (list_actual t.subscripts (list_actuals unit (target_meaning unit t) t.occurrence.name (trees_of t.subscripts) (target_typed unit t test (nonempty t.subscripts e h)))).at e h;
+      }
+
+  group_actual : (ps : Parameters) (g : DataGroup) → is_group_typed unit ps g ≡ true → AreActual (flat_map (λ (t : Target). t.subscripts) g.targets)
+  group_actual ps g test = flat_actual (λ (t : Target). t.subscripts) (has_constant_subscripts unit ps) (λ t e. target_actual t (and_parts (is_target_typed unit t) _ e).0) g.targets test
+
+  item_actual : (i : PrintItem) → is_item_typed unit i ≡ true → AreActual (trees_in_item i)
+  item_actual (item.Expression t) test = each_one t (typed_actual unit t (and_parts (is_typed unit t) _ test).0)
+  item_actual (item.Characters cs) test = each_none
+
+  form_actual : (f : Form) → is_form_typed unit f ≡ true → AreActual (trees_in_form f)
+  form_actual (form.Assign x t) test =
+      let p1 = and_parts (is_scalar_target unit x) _ test in
+      let p2 = and_parts (is_target_typed unit x) _ p1.1 in
+      each_append (target_actual x p2.0) (each_one t (typed_actual unit t (and_parts (is_typed unit t) _ p2.1).0))
+  form_actual (form.ComputedGoTo labels t) test = each_one t (as_actual unit Integer t test)
+  form_actual (form.ArithmeticIf t labels) test = each_one t (as_actual unit Integer t test)
+  form_actual (form.IfThen t) test = each_one t (as_actual unit Logical t test)
+  form_actual (form.ElseIf t) test = each_one t (as_actual unit Logical t test)
+  form_actual (form.Do c) test = all_as Integer (c.initial ∷ c.limit ∷ option_to_list c.increment) (and_parts (not (is_array unit c.variable.name)) _ test).1
+  form_actual (form.Call x ts) test = list_actual ts test
+  form_actual (form.Create x ts) test = list_actual ts test
+  form_actual (form.Purge targets) test = flat_actual (λ (t : Target). t.subscripts) (is_target_typed unit) target_actual targets test
+  form_actual (form.Print items) test = flat_actual trees_in_item (is_item_typed unit) item_actual items test
+  form_actual _ test = each_none
+
+  statement_actual : (ps : Parameters) (s : Statement) → IsTypedStatement unit ps s → AreActual (trees_in_statement s)
+  statement_actual ps s t =
+      each_append (all_as Logical s.conditions t.conditions) (
+      each_append (flat_actual trees_in_declarator (has_bounds unit ps) (declarator_actual ps) (declarators_in s.form) t.bounds) (
+      each_append (constants_actual ps (constants_in s.form) t.constants) (
+      each_append (flat_actual (λ (g : DataGroup). flat_map (λ (t : Target). t.subscripts) g.targets) (is_group_typed unit ps) (group_actual ps) (groups_in s.form) t.groups) (form_actual s.form t.form))))
 
 -- ---- expressions
 
 pub good_expressions : (program : Units) (u k i j : ℕ) (unit : List Statement) (s : Statement) (e t : Tree) → IsAccepted program → slice_get program u ≡ Some unit → slice_get unit k ≡ Some s → slice_get (trees_in_statement s) i ≡ Some e → slice_get (subexpressions_of e) j ≡ Some t → IsGood unit t
 good_expressions program u k i j unit s e t accepted iu ik ie jt =
     good_part unit e j t (names_in program u k unit s e accepted iu ik (i, ie)) (lists_in program u k unit s e accepted iu ik (i, ie)) (
-    part_actual unit (parameters_at unit k) s e (typed_statement program u k unit s accepted iu ik) (part_of s e (i, ie))) jt
+    (statement_actual unit (parameters_at unit k) s (typed_statement program u k unit s accepted iu ik)).at e (i, ie)) jt
 
 pub expressions_have_types : (program : Units) (u k i j : ℕ) (unit : List Statement) (s : Statement) (e t : Tree) → IsAccepted program → slice_get program u ≡ Some unit → slice_get unit k ≡ Some s → slice_get (trees_in_statement s) i ≡ Some e → slice_get (subexpressions_of e) j ≡ Some t → HasType unit t
 expressions_have_types program u k i j unit s e t accepted iu ik ie jt = (good_expressions program u k i j unit s e t accepted iu ik ie jt).0

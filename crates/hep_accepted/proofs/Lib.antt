@@ -1,6 +1,5 @@
 pub mod Parts
 pub mod Members
-pub mod Repeats
 pub mod Agreed
 pub mod Nested
 pub mod Meant
@@ -10,6 +9,3 @@ pub mod Executed
 pub mod Valued
 pub mod Shaped
 mod Assigned
-mod Fitted
-pub mod Given
-pub mod Named

@@ -1,31 +1,17 @@
 -- What names of accepted programs stand for.
-use Rattle.std.proofs.Common.{◌≡◌, ℕ, zero, suc, ◌<◌, Bool, true, false, List, [], ◌∷◌, ◌++◌, map, Option, Some, None, refl, sym, ap, ◌∙◌, subst, true≢false}
-use Rattle.std.specs.Prelude.{◌&&◌, not, max, slice_get, if◌then◌else◌, is_some, option_to_list}
+use Rattle.std.proofs.Common.{◌≡◌, ℕ, zero, suc, Bool, true, false, List, [], ◌∷◌, ◌++◌, map, Option, Some, None, refl, sym, ap, ◌∙◌, subst, true≢false, ◌&&◌, not, max, slice_get, if◌then◌else◌, is_some, option_to_list}
 use Rattle.std.specs.List.{flat_map, filter}
 use Rattle.std.specs.Option.{option_map, option_map_or}
-use Rattle.std.proofs.lemmas.Bool.{and_parts, false_from_ne_true}
+use Rattle.std.proofs.lemmas.Bool.{and_parts, false_from_ne_true, not-false}
+use Rattle.std.proofs.lemmas.List.{map-append}
 use Rattle.std.proofs.lemmas.Option.{none-some, same_Some}
 use Rattle.hep_source.proofs.NameTests.{equal_names, same_name-self}
-use Rattle.hep_source.specs.declared.declaration.CommonBlock.{CommonBlock}
-use Rattle.hep_source.specs.declared.declaration.Declarator.{Declarator}
-use Rattle.hep_source.specs.declared.declaration.NamedConstant.{NamedConstant}
-use Rattle.hep_source.specs.declared.declaration.Target.{Target}
-use Rattle.hep_source.specs.declared.name.Name.{Name}
-use Rattle.hep_source.specs.declared.statement.Form.{Form}
+use Rattle.hep_machine.specs.Words.{CommonBlock, Declarator, NamedConstant, Target, Name, Form, Statement, index_where, is_among, same_name, Units, dummies_of, is_named, subroutine_by_header, subroutine_called, subroutine_name, block_holding, block_of, blocks_in, blocks_of_unit, constants_in, declarator_among, declarators_in, declarators_of, is_array, is_common, is_constant_name, is_dummy, is_nonempty, named_constants, names_declared, names_of_constants, dimensions_of, listed_meaning}
 use Rattle.hep_source.specs.declared.statement.Form.TheVariants as form
-use Rattle.hep_source.specs.declared.statement.Statement.{Statement}
-use Rattle.hep_source.specs.Names.{index_where, is_among, same_name}
-use Rattle.hep_source.specs.Units.{Units, dummies_of, is_named, subroutine_by_header, subroutine_called, subroutine_name}
-use Rattle.hep_machine.specs.Declarations.{block_holding, block_of, blocks_in, blocks_of_unit, constants_in, declarator_among, declarators_in, declarators_of, is_array, is_common, is_constant_name, is_dummy, is_nonempty, named_constants, names_declared, names_of_constants, dimensions_of}
-use Rattle.hep_machine.specs.Functions.{listed_meaning}
-use Rattle.hep_check.specs.Conditions.{IsAccepted}
-use Rattle.hep_check.specs.Names.{Use, assigned_names, block_names, both_ways, bounded_names, called_names, common_names, constant_names, data_names, dummy_names, given_twice, header_name, is_unknown, letters_repeated, misused_constants, names_of_targets, repeated, typed_names, unit_uses, unknown_references, unknown_subroutines, unknown_targets, used_both_ways, uses_by, variable_names}
-use Rattle.hep_check.specs.Statements.{Calling, NameWithList, calls_in, names_with_lists, targets_assigned, targets_in_data, targets_purged}
-use Rattle.hep_check.specs.Violations.{at_line, at_occurrence, repeated_by, when}
+use Rattle.hep_check.specs.Words.{IsAccepted, Use, assigned_names, block_names, both_ways, bounded_names, called_names, common_names, constant_names, data_names, dummy_names, given_twice, header_name, is_unknown, letters_repeated, misused_constants, names_of_targets, repeated, typed_names, unit_uses, unknown_references, unknown_subroutines, unknown_targets, used_both_ways, uses_by, variable_names, Calling, NameWithList, calls_in, names_with_lists, targets_assigned, targets_in_data, targets_purged, at_line, at_occurrence, when}
 use Rattle.hep_accepted.specs.Meanings.{IsOneThing, how_many, name_in_header, name_of_unit}
-use Rattle.hep_accepted.proofs.Members.{Has, among_has, find_has, flat_has, has_behind, has_filter, has_flat, has_front, has_map, image_at, map_at}
-use Rattle.hep_accepted.proofs.Parts.{found_at, none-append, none-each, none-when, unviolated, unviolated_names, same_index}
-use Rattle.hep_accepted.proofs.Repeats.{unlike, unlike-each}
+use Rattle.hep_accepted.proofs.Members.{Has, among_has, find_has, flat_has, has_behind, has_filter, has_flat, has_front, has_map, image_at, map_at, new_uses, one_place, one_source}
+use Rattle.hep_accepted.proofs.Parts.{and_past, found_at, none-append, none-each, none-when, unviolated, unviolated_names}
 use Rattle.hep_source.proofs.Tests.{at-front}
 
 -- ---- a name that is used so in a unit
@@ -38,13 +24,14 @@ use_of names unit x used =
     has_flat (λ (s : Statement). map (λ (y : Name). (y, s.line)) (names s)) unit used.0 (x, used.0.line) used.1 (has_map (λ (y : Name). (y, used.0.line)) (names used.0) x used.2)
 
 -- no name is used in both ways
+no_use_both : (us ws : List Use) (x : Name) (l m : ℕ) → both_ways us ws ≡ [] → Has us (x, l) → Has ws (x, m) → ⊥
+no_use_both us ws x l m none a b =
+    let row = none-each (λ (u : Use). flat_map (λ (w : Use). when (same_name u.0 w.0) (at_line 309 (max u.1 w.1))) ws) us a.0 (x, l) none a.1 in
+    let cell = none-each (λ (w : Use). when (same_name x w.0) (at_line 309 (max l w.1))) ws b.0 (x, m) row b.1 in
+    true≢false (sym (same_name-self x) ∙ none-when (same_name x x) (at_line 309 (max l m)) cell)
+
 not_both : (one other : Statement → List Name) (unit : List Statement) (x : Name) → used_both_ways unit one other ≡ [] → Used one unit x → Used other unit x → ⊥
-not_both one other unit x none a b =
-    let us = use_of one unit x a in
-    let ws = use_of other unit x b in
-    let row = none-each (λ (u : Use). flat_map (λ (w : Use). when (same_name u.0 w.0) (at_line 309 (max u.1 w.1))) (uses_by other unit)) (uses_by one unit) us.0 (x, a.0.line) none us.1 in
-    let cell = none-each (λ (w : Use). when (same_name x w.0) (at_line 309 (max a.0.line w.1))) (uses_by other unit) ws.0 (x, b.0.line) row ws.1 in
-    true≢false (sym (same_name-self x) ∙ none-when (same_name x x) (at_line 309 (max a.0.line b.0.line)) cell)
+not_both one other unit x none a b = no_use_both (uses_by one unit) (uses_by other unit) x a.0.line b.0.line none (use_of one unit x a) (use_of other unit x b)
 
 -- ---- the parts of 309
 
@@ -117,11 +104,9 @@ array_used unit x e =
 one_of : (c d m : Bool) → (c ≡ true → d ≡ true → ⊥) → (c ≡ true → m ≡ true → ⊥) → (d ≡ true → m ≡ true → ⊥) → how_many (c ∷ d ∷ m ∷ (not d && (not m && not c)) ∷ []) ≡ 1
 one_of true true m f g h = absurd (f refl refl)
 one_of true false true f g h = absurd (g refl refl)
-one_of true false false f g h = refl
 one_of false true true f g h = absurd (h refl refl)
-one_of false true false f g h = refl
 one_of false false true f g h = refl
-one_of false false false f g h = refl
+one_of _ _ _ f g h = refl
 
 pub one_thing : (program : Units) (u : ℕ) (unit : List Statement) (x : Name) → IsAccepted program → slice_get program u ≡ Some unit → IsOneThing unit x
 one_thing program u unit x accepted iu =
@@ -160,10 +145,6 @@ called_are_no_variables program u j k i n unit s t c x accepted iu ij ik ic ix s
 
 -- ---- names that are given once
 
-map-append : {A B : Type 0} (f : A → B) (xs ys : List A) → map f (xs ++ ys) ≡ map f xs ++ map f ys
-map-append f [] ys = refl
-map-append f (x ∷ xs) ys = ap (λ zs. f x ∷ zs) (map-append f xs ys)
-
 names_of_line : (line : ℕ) (xs : List Name) → map (λ (u : Use). u.0) (map (λ (x : Name). (x, line)) xs) ≡ xs
 names_of_line line [] = refl
 names_of_line line (x ∷ xs) = ap (λ zs. x ∷ zs) (names_of_line line xs)
@@ -174,32 +155,19 @@ names_of_uses names (s ∷ ss) =
     map-append (λ (u : Use). u.0) (map (λ (x : Name). (x, s.line)) (names s)) (uses_by names ss)
     ∙ (λ i. names_of_line s.line (names s) i ++ names_of_uses names ss i)
 
-given_once : (names : Statement → List Name) (unit : List Statement) (i j : ℕ) (x : Name) → repeated (uses_by names unit) ≡ [] → slice_get (flat_map names unit) i ≡ Some x → slice_get (flat_map names unit) j ≡ Some x → i ≡ j
-given_once names unit i j x none ix jx = same_index i j (apart i j ix jx) (apart j i jx ix) where
-  place : (n : ℕ) → slice_get (flat_map names unit) n ≡ Some x → (u : Use) × (slice_get (uses_by names unit) n ≡ Some u) × (u.0 ≡ x)
-  place n g = map_at (λ (u : Use). u.0) (uses_by names unit) n x (ap (λ ys. slice_get ys n) (names_of_uses names unit) ∙ g)
-
-  apart : (m n : ℕ) → slice_get (flat_map names unit) m ≡ Some x → slice_get (flat_map names unit) n ≡ Some x → m < n → ⊥
-  apart m n gm gn less =
-      let a = place m gm in
-      let b = place n gn in
-      let differ = unlike 309 same_name [] (uses_by names unit) m n a.0 b.0 none less a.1 b.1 in
-      true≢false (sym (same_name-self x) ∙ (λ k. same_name (sym b.2 k) (sym a.2 k)) ∙ differ)
-
 abbrev once : List (Statement → List Name)
 once = dummy_names ∷ typed_names ∷ bounded_names ∷ common_names ∷ constant_names ∷ []
 
-once_in : (program : Units) (u n : ℕ) (unit : List Statement) (names : Statement → List Name) → IsAccepted program → slice_get program u ≡ Some unit → slice_get once n ≡ Some names → repeated (uses_by names unit) ≡ []
-once_in program u n unit names accepted iu is = none-each (λ (f : Statement → List Name). repeated (uses_by f unit)) once n names (unambiguous program u unit accepted iu).0 is
-
-pub types_once : (program : Units) (u i j : ℕ) (unit : List Statement) (x : Name) → IsAccepted program → slice_get program u ≡ Some unit → slice_get (flat_map typed_names unit) i ≡ Some x → slice_get (flat_map typed_names unit) j ≡ Some x → i ≡ j
-types_once program u i j unit x accepted iu ix jx = given_once typed_names unit i j x (once_in program u 1 unit typed_names accepted iu refl) ix jx
-
-pub bounds_once : (program : Units) (u i j : ℕ) (unit : List Statement) (x : Name) → IsAccepted program → slice_get program u ≡ Some unit → slice_get (flat_map bounded_names unit) i ≡ Some x → slice_get (flat_map bounded_names unit) j ≡ Some x → i ≡ j
-bounds_once program u i j unit x accepted iu ix jx = given_once bounded_names unit i j x (once_in program u 2 unit bounded_names accepted iu refl) ix jx
-
-pub positions_once : (program : Units) (u i j : ℕ) (unit : List Statement) (x : Name) → IsAccepted program → slice_get program u ≡ Some unit → slice_get (flat_map common_names unit) i ≡ Some x → slice_get (flat_map common_names unit) j ≡ Some x → i ≡ j
-positions_once program u i j unit x accepted iu ix jx = given_once common_names unit i j x (once_in program u 3 unit common_names accepted iu refl) ix jx
+pub name_once : (names : Statement → List Name) (n : ℕ) → slice_get once n ≡ Some names → (program : Units) (u i j : ℕ) (unit : List Statement) (x : Name) → IsAccepted program → slice_get program u ≡ Some unit → slice_get (flat_map names unit) i ≡ Some x → slice_get (flat_map names unit) j ≡ Some x → i ≡ j
+name_once names n is program u i j unit x accepted iu ix jx =
+    let none = none-each (λ (f : Statement → List Name). repeated (uses_by f unit)) once n names (unambiguous program u unit accepted iu).0 is in
+    let a = place i ix in
+    let b = place j jx in
+    let same : same_name a.0.0 b.0.0 ≡ true = (λ k. same_name (a.2 k) (b.2 k)) ∙ same_name-self x in
+    let turned : same_name b.0.0 a.0.0 ≡ true = (λ k. same_name (b.2 k) (a.2 k)) ∙ same_name-self x in
+    one_place same_name (λ (u : Use). u.0) (uses_by names unit) i j a.0 b.0 (new_uses 309 same_name [] (uses_by names unit) none) same turned a.1 b.1 where
+      place : (n : ℕ) → slice_get (flat_map names unit) n ≡ Some x → (u : Use) × (slice_get (uses_by names unit) n ≡ Some u) × (u.0 ≡ x)
+      place n g = map_at (λ (u : Use). u.0) (uses_by names unit) n x (ap (λ ys. slice_get ys n) (names_of_uses names unit) ∙ g)
 
 dummy_at : (unit : List Statement) (i : ℕ) (x : Name) → slice_get (dummies_of unit) i ≡ Some x → slice_get (flat_map dummy_names unit) i ≡ Some x
 dummy_at [] i x g = absurd (none-some x g)
@@ -207,7 +175,7 @@ dummy_at (s ∷ ss) i x g = at-front (dummy_names s) (flat_map dummy_names ss) i
 
 pub dummies_once : (program : Units) (u i j : ℕ) (unit : List Statement) (x : Name) → IsAccepted program → slice_get program u ≡ Some unit → slice_get (dummies_of unit) i ≡ Some x → slice_get (dummies_of unit) j ≡ Some x → i ≡ j
 dummies_once program u i j unit x accepted iu ix jx =
-    given_once dummy_names unit i j x (once_in program u 0 unit dummy_names accepted iu refl) (dummy_at unit i x ix) (dummy_at unit j x jx)
+    name_once dummy_names 0 refl program u i j unit x accepted iu (dummy_at unit i x ix) (dummy_at unit j x jx)
 
 constant_names_are : (unit : List Statement) → flat_map constant_names unit ≡ names_of_constants (named_constants unit)
 constant_names_are [] = refl
@@ -219,7 +187,7 @@ constant_at unit i c g = ap (λ ys. slice_get ys i) (constant_names_are unit) �
 
 pub constants_once : (program : Units) (u i j : ℕ) (unit : List Statement) (a b : NamedConstant) → IsAccepted program → slice_get program u ≡ Some unit → slice_get (named_constants unit) i ≡ Some a → slice_get (named_constants unit) j ≡ Some b → a.occurrence.name ≡ b.occurrence.name → i ≡ j
 constants_once program u i j unit a b accepted iu ia jb same =
-    given_once constant_names unit i j b.occurrence.name (once_in program u 4 unit constant_names accepted iu refl) (constant_at unit i a ia ∙ ap (λ x. Some x) same) (constant_at unit j b jb)
+    name_once constant_names 4 refl program u i j unit b.occurrence.name accepted iu (constant_at unit i a ia ∙ ap (λ x. Some x) same) (constant_at unit j b jb)
 
 -- ---- names with lists
 
@@ -234,13 +202,9 @@ reference_known program u k i unit s r accepted iu ik ir =
 
 target_known : (program : Units) (u k : ℕ) (unit : List Statement) (s : Statement) (t : Target) → IsAccepted program → slice_get program u ≡ Some unit → slice_get unit k ≡ Some s → Has (targets_assigned s.form ++ (targets_in_data s.form ++ targets_purged s.form)) t → is_nonempty t.subscripts ≡ true → is_array unit t.occurrence.name ≡ true
 target_known program u k unit s t accepted iu ik it listed =
-    is_known (is_nonempty t.subscripts) (is_array unit t.occurrence.name) listed (
+    not-false (is_array unit t.occurrence.name) (and_past (is_nonempty t.subscripts) (not (is_array unit t.occurrence.name)) listed (
     none-when _ (at_occurrence 310 s.line t.occurrence) (
-    none-each (λ (v : Target). when (is_nonempty v.subscripts && not (is_array unit v.occurrence.name)) (at_occurrence 310 s.line v.occurrence)) (targets_assigned s.form ++ (targets_in_data s.form ++ targets_purged s.form)) it.0 t (unknown_names program u k unit s accepted iu ik).1 it.1)) where
-      is_known : (p q : Bool) → p ≡ true → (p && not q) ≡ false → q ≡ true
-      is_known true true f g = refl
-      is_known true false f g = absurd (true≢false g)
-      is_known false q f g = absurd (true≢false (sym f))
+    none-each (λ (v : Target). when (is_nonempty v.subscripts && not (is_array unit v.occurrence.name)) (at_occurrence 310 s.line v.occurrence)) (targets_assigned s.form ++ (targets_in_data s.form ++ targets_purged s.form)) it.0 t (unknown_names program u k unit s accepted iu ik).1 it.1)))
 
 pub assigned_known : (program : Units) (u k i : ℕ) (unit : List Statement) (s : Statement) (t : Target) → IsAccepted program → slice_get program u ≡ Some unit → slice_get unit k ≡ Some s → slice_get (targets_assigned s.form) i ≡ Some t → is_nonempty t.subscripts ≡ true → is_array unit t.occurrence.name ≡ true
 assigned_known program u k i unit s t accepted iu ik it listed =
@@ -263,22 +227,17 @@ header_is (form.Program p) x e = ap (λ y. y ∷ []) (same_Some p.name x e)
 header_is (form.Subroutine p dummies) x e = ap (λ y. y ∷ []) (same_Some p.name x e)
 header_is _ x e = absurd (none-some x e)
 
-unit_use : (unit : List Statement) (x : Name) → name_of_unit unit ≡ Some x → (w : Use) × (slice_get (unit_uses unit) 0 ≡ Some w) × (w.0 ≡ x)
+-- a unit's name and the line of its header
+unit_use : (unit : List Statement) (x : Name) → name_of_unit unit ≡ Some x → (line : ℕ) × (slice_get (unit_uses unit) 0 ≡ Some (x, line))
 unit_use [] x e = absurd (none-some x e)
-unit_use (s ∷ ss) x e =
-    ((x, s.line), ap (λ (ys : List Name). slice_get (map (λ (y : Name). (y, s.line)) ys ++ unit_uses ss) 0) (header_is s.form x e), refl)
+unit_use (s ∷ ss) x e = (s.line, ap (λ (ys : List Name). slice_get (map (λ (y : Name). (y, s.line)) ys ++ unit_uses ss) 0) (header_is s.form x e))
 
 pub units_apart : (program : Units) (i j : ℕ) (a b : List Statement) (x : Name) → IsAccepted program → slice_get program i ≡ Some a → slice_get program j ≡ Some b → name_of_unit a ≡ Some x → name_of_unit b ≡ Some x → i ≡ j
-units_apart program i j a b x accepted ia jb na nb = same_index i j (apart i j a b ia jb na nb) (apart j i b a jb ia nb na) where
-  none : repeated_by 309 same_name (flat_map unit_uses program) ≡ []
-  none = (none-append (repeated (flat_map unit_uses program)) (both_ways (flat_map unit_uses program) (flat_map (uses_by block_names) program)) (unviolated_names program accepted)).0
-
-  apart : (m n : ℕ) (c d : List Statement) → slice_get program m ≡ Some c → slice_get program n ≡ Some d → name_of_unit c ≡ Some x → name_of_unit d ≡ Some x → m < n → ⊥
-  apart m n c d mc nd xc xd less =
-      let p = unit_use c x xc in
-      let q = unit_use d x xd in
-      let differ = unlike-each 309 same_name unit_uses [] program m n 0 0 c d p.0 q.0 none less mc nd p.1 q.1 in
-      true≢false (sym (same_name-self x) ∙ (λ k. same_name (sym q.2 k) (sym p.2 k)) ∙ differ)
+units_apart program i j a b x accepted ia jb na nb =
+    let none = (none-append (repeated (flat_map unit_uses program)) (both_ways (flat_map unit_uses program) (flat_map (uses_by block_names) program)) (unviolated_names program accepted)).0 in
+    let p = unit_use a x na in
+    let q = unit_use b x nb in
+    one_source same_name (λ (u : Use). u.0) unit_uses program i j a b (x, p.0) (x, q.0) (new_uses 309 same_name [] (flat_map unit_uses program) none) (same_name-self x) (same_name-self x) ia jb (0, p.1) (0, q.1)
 
 subroutine_named : (f : Form) (x : Name) → subroutine_by_header f ≡ Some x → name_in_header f ≡ Some x
 subroutine_named (form.Subroutine p dummies) x e = e
@@ -311,10 +270,8 @@ called_by_name program v unit x accepted iv named =
 pub units_and_blocks_apart : (program : Units) (i j k n : ℕ) (a b : List Statement) (s : Statement) (c : CommonBlock) (x : Name) → IsAccepted program → slice_get program i ≡ Some a → slice_get program j ≡ Some b → slice_get b k ≡ Some s → slice_get (blocks_in s.form) n ≡ Some c → name_of_unit a ≡ Some x → block_of c ≡ Some x → ⊥
 units_and_blocks_apart program i j k n a b s c x accepted ia jb ks nc named block =
     let p = unit_use a x named in
-    let us = has_flat unit_uses program a p.0 (i, ia) (0, p.1) in
+    let us = has_flat unit_uses program a (x, p.0) (i, ia) (0, p.1) in
     let name : Has (block_names s) x = has_flat (λ (d : CommonBlock). option_to_list (block_of d)) (blocks_in s.form) c x (n, nc) (0, ap (λ o. slice_get (option_to_list o) 0) block) in
     let ws = has_flat (uses_by block_names) program b (x, s.line) (j, jb) (use_of block_names b x (s, (k, ks), name)) in
     let none = (none-append (repeated (flat_map unit_uses program)) (both_ways (flat_map unit_uses program) (flat_map (uses_by block_names) program)) (unviolated_names program accepted)).1 in
-    let row = none-each (λ (u : Use). flat_map (λ (w : Use). when (same_name u.0 w.0) (at_line 309 (max u.1 w.1))) (flat_map (uses_by block_names) program)) (flat_map unit_uses program) us.0 p.0 none us.1 in
-    let cell = none-each (λ (w : Use). when (same_name p.0.0 w.0) (at_line 309 (max p.0.1 w.1))) (flat_map (uses_by block_names) program) ws.0 (x, s.line) row ws.1 in
-    true≢false (sym (same_name-self x) ∙ (ap (λ y. same_name y x) (sym p.2) ∙ none-when (same_name p.0.0 x) (at_line 309 (max p.0.1 s.line)) cell))
+    no_use_both (flat_map unit_uses program) (flat_map (uses_by block_names) program) x p.0 s.line none us ws

@@ -1,30 +1,16 @@
 -- Labels, jumps, DOs and block IFs of accepted programs.
-use Rattle.std.proofs.Common.{◌≡◌, ◌⊎◌, ℕ, zero, suc, ◌+◌, ◌<◌, ◌≤◌, Bool, true, false, List, [], ◌∷◌, ◌++◌, map, Option, Some, None, refl, sym, ap, ◌∙◌, subst, true≢false, arith}
-use Rattle.std.specs.Prelude.{◌&&◌, not, slice_get, nat_eq, nat_le, nat_lt, if◌then◌else◌, is_none, option_to_list}
+use Rattle.std.proofs.Common.{◌≡◌, ◌⊎◌, ℕ, zero, suc, ◌+◌, ◌<◌, ◌≤◌, Bool, true, false, List, [], ◌∷◌, ◌++◌, map, Option, Some, None, refl, sym, ap, ◌∙◌, subst, true≢false, arith, ◌&&◌, not, slice_get, nat_eq, nat_le, nat_lt, if◌then◌else◌, is_none, option_to_list}
 use Rattle.std.specs.List.{flat_map, list_any}
 use Rattle.std.specs.Option.{unwrap_or}
-use Rattle.std.proofs.lemmas.Bool.{and_parts, or_parts, eqb-true}
+use Rattle.std.proofs.lemmas.Bool.{and_parts, or_parts, eqb-true, not-false}
 use Rattle.std.proofs.lemmas.Bool.Decides.{nat_tests}
 use Rattle.std.proofs.lemmas.Option.{none-some, same_Some}
-use Rattle.hep_source.specs.Tree.{Tree}
-use Rattle.hep_source.specs.declared.statement.DoControl.{DoControl}
-use Rattle.hep_source.specs.declared.statement.Form.{Form}
+use Rattle.hep_machine.specs.Words.{Tree, DoControl, Form, Statement, no_statement, same_name, Units, is_executable, line_at, statement_at, has_label, index_labelled, is_labelled, role_of, is_nonempty}
 use Rattle.hep_source.specs.declared.statement.Form.TheVariants as form
-use Rattle.hep_source.specs.declared.statement.Statement.{Statement}
-use Rattle.hep_source.specs.Defaults.{no_statement}
-use Rattle.hep_source.specs.Names.{same_name}
-use Rattle.hep_source.specs.Units.{Units, is_executable, line_at, statement_at}
-use Rattle.hep_machine.specs.Control.{has_label, index_labelled, is_labelled, role_of}
-use Rattle.hep_machine.specs.Declarations.{is_nonempty}
-use Rattle.hep_check.specs.Conditions.{IsAccepted}
-use Rattle.hep_check.specs.Labels.{labels_of, unlabelled}
-use Rattle.hep_check.specs.Nesting.{BlockIf, DoRange, IndexedStatement, Region, block_ifs_of, block_violations, crossing, end_between, ends_after, enters, holds_wrongly, indexed_from, indexed_statements, is_between, is_division, is_in, is_no_terminal, is_not_held, is_wrong_terminal, jump_to, leaves_block, leaves_range, loop_violations, nesting_violations, range_pair, ranges_cross, ranges_of, regions_of, shares_variable, statement_violations, terminal_violations}
-use Rattle.hep_check.specs.Statements.{targets_of_jump, terminal_labels}
-use Rattle.hep_check.specs.Types.{is_plain_integer_scalar}
-use Rattle.hep_check.specs.Violations.{at_line, repeated_by, when}
+use Rattle.hep_check.specs.Words.{IsAccepted, labels_of, unlabelled, BlockIf, DoRange, IndexedStatement, Region, block_ifs_of, block_violations, crossing, end_between, ends_after, enters, holds_wrongly, indexed_from, indexed_statements, is_between, is_division, is_in, is_no_terminal, is_not_held, is_wrong_terminal, jump_to, leaves_block, leaves_range, loop_violations, nesting_violations, range_pair, ranges_cross, ranges_of, regions_of, shares_variable, statement_violations, terminal_violations, targets_of_jump, terminal_labels, is_plain_integer_scalar, at_line, repeated_by, when}
 use Rattle.hep_accepted.specs.Flow.{AreNested, EndsWithin, HasTerminal, HoldsWhole, IsOutside, Leads}
-use Rattle.hep_accepted.proofs.Parts.{any-each, found_at, none-append, none-each, none-map, none-when, some_value, unviolated, same_index}
-use Rattle.hep_accepted.proofs.Repeats.{unlike-each}
+use Rattle.hep_accepted.proofs.Members.{Has, new_uses, one_source}
+use Rattle.hep_accepted.proofs.Parts.{and_past, any-each, found_at, none-append, none-each, none-map, none-when, some_value, unviolated}
 use Rattle.hep_source.proofs.Tests.{number-self, at-front}
 use Rattle.hep_check.proofs.Agreeing.{none-when as none-unless}
 
@@ -61,31 +47,21 @@ labelled program u k i l unit s accepted iu ik il =
     let both = and_parts (is_executable (at.0).form) (has_label l (at.0).label) at.2 in
     (found.0, at.0, found.1, at.1, both.0, label_is l (at.0).label both.1)
 
-label_uses : Statement → List (ℕ × ℕ)
+abbrev label_uses : Statement → List (ℕ × ℕ)
 label_uses s = map (λ l. (l, s.line)) (option_to_list s.label)
 
-label_use : (s : Statement) (l : ℕ) → s.label ≡ Some l → slice_get (label_uses s) 0 ≡ Some (l, s.line)
-unfolding label_uses
-label_use s l e = ap (λ (o : Option ℕ). slice_get (map (λ l. (l, s.line)) (option_to_list o)) 0) e
-
-not_before : (unit : List Statement) (j k l : ℕ) (s t : Statement) → repeated_by 306 nat_eq (labels_of unit) ≡ [] → slice_get unit j ≡ Some s → slice_get unit k ≡ Some t → s.label ≡ Some l → t.label ≡ Some l → j < k → ⊥
-unfolding label_uses
-not_before unit j k l s t e ij ik ls lt less =
-    true≢false (sym (number-self l) ∙ unlike-each 306 nat_eq label_uses [] unit j k 0 0 s t (l, s.line) (l, t.line) e less ij ik (label_use s l ls) (label_use t l lt))
+label_use : (s : Statement) (l : ℕ) → s.label ≡ Some l → Has (label_uses s) (l, s.line)
+label_use s l e = (0, ap (λ (o : Option ℕ). slice_get (map (λ l. (l, s.line)) (option_to_list o)) 0) e)
 
 pub labels_are_unique : (program : Units) (u j k l : ℕ) (unit : List Statement) (s t : Statement) → IsAccepted program → slice_get program u ≡ Some unit → slice_get unit j ≡ Some s → slice_get unit k ≡ Some t → s.label ≡ Some l → t.label ≡ Some l → j ≡ k
 labels_are_unique program u j k l unit s t accepted iu ij ik ls lt =
     let none = (none-append (unlabelled unit) (repeated_by 306 nat_eq (labels_of unit)) (unviolated program unit u accepted iu).labels).1 in
-    same_index j k (not_before unit j k l s t none ij ik ls lt) (not_before unit k j l t s none ik ij lt ls)
+    one_source nat_eq (λ (u : ℕ × ℕ). u.0) label_uses unit j k s t (l, s.line) (l, t.line) (new_uses 306 nat_eq [] (labels_of unit) none) (number-self l) (number-self l) ij ik (label_use s l ls) (label_use t l lt)
 
 -- ---- jumps
 
 not_entered : (k j : ℕ) (r : Region) → enters k j r ≡ false → is_in r j ≡ true → is_in r k ≡ true
-not_entered k j r e there = by_test (is_in r j) (is_in r k) there e where
-  by_test : (p q : Bool) → p ≡ true → (p && not q) ≡ false → q ≡ true
-  by_test p true f g = refl
-  by_test true false f g = absurd (true≢false g)
-  by_test false false f g = absurd (true≢false (sym f))
+not_entered k j r e there = not-false (is_in r k) (and_past (is_in r j) (not (is_in r k)) there e)
 
 pub jumps_lead : (program : Units) (u k i l : ℕ) (unit : List Statement) (s : Statement) → IsAccepted program → slice_get program u ≡ Some unit → slice_get unit k ≡ Some s → slice_get (targets_of_jump s.form) i ≡ Some l → Leads unit k l
 jumps_lead program u k i l unit s accepted iu ik il =
@@ -180,26 +156,12 @@ pub ranges_are_nested : (program : Units) (u i j : ℕ) (unit : List Statement) 
 ranges_are_nested program u i j unit a b accepted iu ia ib later within =
     let pair = none-each (range_pair unit a) (ranges_of unit) j b (of_range program u i unit a accepted iu ia).0 ib in
     let tests = or_parts (ranges_cross a b) (shares_variable a b) (none-when _ (at_line 307 (line_at unit b.start)) pair) in
-    (ends tests.0, other tests.1) where
-      begins : (p q : ℕ) → p < q → nat_lt p q ≡ true
-      begins p q l = grind (arith, nat_tests)
+    (ends a.start b.start a.terminal b.terminal tests.0 later within, differ a.start b.start a.terminal (same_name a.variable b.variable) tests.1 later within) where
+      ends : (p q t m : ℕ) → (nat_lt p q && (nat_le q t && nat_lt t m)) ≡ false → p < q → q ≤ t → m ≤ t
+      ends p q t m e f g = grind (arith, nat_tests)
 
-      at_most : (p q : ℕ) → p ≤ q → nat_le p q ≡ true
-      at_most p q l = grind (arith, nat_tests)
-
-      not_past : (p q : ℕ) → nat_lt p q ≡ false → q ≤ p
-      not_past p q l = grind (arith, nat_tests)
-
-      last_of : (p q r : Bool) → p ≡ true → q ≡ true → (p && (q && r)) ≡ false → r ≡ false
-      last_of true true r e f g = g
-      last_of true false r e f g = absurd (true≢false (sym f))
-      last_of false q r e f g = absurd (true≢false (sym e))
-
-      ends : ranges_cross a b ≡ false → b.terminal ≤ a.terminal
-      ends e = not_past a.terminal b.terminal (last_of (nat_lt a.start b.start) (nat_le b.start a.terminal) (nat_lt a.terminal b.terminal) (begins a.start b.start later) (at_most b.start a.terminal within) e)
-
-      other : shares_variable a b ≡ false → same_name a.variable b.variable ≡ false
-      other e = last_of (nat_lt a.start b.start) (nat_le b.start a.terminal) (same_name a.variable b.variable) (begins a.start b.start later) (at_most b.start a.terminal within) e
+      differ : (p q t : ℕ) (same : Bool) → (nat_lt p q && (nat_le q t && same)) ≡ false → p < q → q ≤ t → same ≡ false
+      differ p q t same e f g = grind (arith, nat_tests)
 
 uncrossed : (program : Units) (u i j : ℕ) (unit : List Statement) (r : DoRange) (b : BlockIf) → IsAccepted program → slice_get program u ≡ Some unit → slice_get (ranges_of unit) i ≡ Some r → slice_get (block_ifs_of unit).closed j ≡ Some b
     → (leaves_range r b ≡ false) × (leaves_block r b ≡ false)
@@ -215,18 +177,14 @@ blocks_end_within program u i j unit r b accepted iu ir ib e is later within =
       by_end p q t m f g h = grind (arith, nat_tests)
 
 outside : (r : DoRange) (k : ℕ) → is_between r.start r.terminal k ≡ false → IsOutside r k
-outside r k e = by_tests r.start r.terminal k e where
-  by_tests : (p t n : ℕ) → (nat_lt p n && nat_le n t) ≡ false → (n ≤ p) ⊎ (t < n)
-  by_tests p t n f = grind (arith, nat_tests)
+outside r k e = by_numbers r.start r.terminal k e where
+  by_numbers : (p t n : ℕ) → (nat_lt p n && nat_le n t) ≡ false → (n ≤ p) ⊎ (t < n)
+  by_numbers p t n f = grind (arith, nat_tests)
 
 pub blocks_hold_whole : (program : Units) (u i j : ℕ) (unit : List Statement) (r : DoRange) (b : BlockIf) → IsAccepted program → slice_get program u ≡ Some unit → slice_get (ranges_of unit) i ≡ Some r → slice_get (block_ifs_of unit).closed j ≡ Some b → HoldsWhole r b
 blocks_hold_whole program u i j unit r b accepted iu ir ib before =
     let tests = or_parts (list_any (is_between r.start r.terminal) b.divisions) (end_between r.start r.terminal b.end) (
-    behind (nat_lt b.start r.start) _ (less b.start r.start before) (uncrossed program u i j unit r b accepted iu ir ib).1) in
+    and_past (nat_lt b.start r.start) _ (less b.start r.start before) (uncrossed program u i j unit r b accepted iu ir ib).1) in
     (λ n m g. outside r m (any-each (is_between r.start r.terminal) b.divisions n m tests.0 g), λ e is. outside r e (subst (λ o. end_between r.start r.terminal o ≡ false) is tests.1)) where
       less : (p q : ℕ) → p < q → nat_lt p q ≡ true
       less p q l = grind (arith, nat_tests)
-
-      behind : (p q : Bool) → p ≡ true → (p && q) ≡ false → q ≡ false
-      behind true q e f = f
-      behind false q e f = absurd (true≢false (sym e))

@@ -1,30 +1,14 @@
 -- Types of expressions whose names are typed, whose lists are right, and whose operands pass the tests of types.
-use Rattle.std.proofs.Common.{◌≡◌, ℕ, zero, suc, Bool, true, false, List, [], ◌∷◌, ◌++◌, length, Option, Some, None, refl, sym, ap, ◌∙◌, subst, true≢false}
-use Rattle.std.specs.Prelude.{◌&&◌, not, slice_get, if◌then◌else◌, is_some}
+use Rattle.std.proofs.Common.{◌≡◌, ℕ, Bool, true, false, List, [], ◌∷◌, ◌++◌, length, Option, Some, None, refl, sym, ap, ◌∙◌, subst, true≢false, ◌&&◌, not, slice_get, if◌then◌else◌, is_some}
 use Rattle.std.specs.List.{list_all}
 use Rattle.std.proofs.lemmas.Bool.{and_from, and_parts, eqb-true}
-use Rattle.std.proofs.lemmas.Option.{none-some, same_Some}
-use Rattle.hep_source.specs.Tree.{Tree, Trees, constant, occurrence, with_list, parenthesized, signed, negated, binary, no_trees, trees}
-use Rattle.hep_source.specs.declared.declaration.ValueType.{ValueType}
-use Rattle.hep_source.specs.declared.declaration.ValueType.TheVariants.{Integer, Logical}
-use Rattle.hep_source.specs.Names.{spelling}
-use Rattle.hep_source.specs.declared.function.PureFunction.{PureFunction}
-use Rattle.hep_source.specs.declared.function.StateFunction.{StateFunction}
-use Rattle.hep_source.specs.declared.function.StateFunction.TheVariants.{IsFull, IsEmpty}
-use Rattle.hep_source.specs.declared.name.Name.{Name}
-use Rattle.hep_source.specs.declared.name.Occurrence.{Occurrence}
-use Rattle.hep_source.specs.declared.statement.Statement.{Statement}
-use Rattle.hep_machine.specs.Declarations.{dimensions_of, is_array, type_of}
-use Rattle.hep_machine.specs.Functions.{Meaning, by_pure_function, element, function_named, listed_meaning, pure, pure_functions, state, state_functions, unknown, word_in}
-use Rattle.hep_machine.specs.Variables.{array_occurrence, occurrences_in, occurrences_in_all}
-use Rattle.hep_check.specs.Arguments.{actual_class, given_with_list, is_asynchronous_scalar, is_reference_given, is_test_typed}
-use Rattle.hep_check.specs.Counts.{count_of, is_counted, takes_list}
-use Rattle.hep_check.specs.Names.{is_unknown}
-use Rattle.hep_check.specs.Statements.{NameWithList, names_with_lists_in, names_with_lists_in_all, subexpressions_of, subexpressions_of_all}
-use Rattle.hep_check.specs.Types.{KnownType, are_actuals, are_integers, has_dimensions, is_list_typed, is_of, is_typed, same_type, type_of_listed, type_of_operands, type_of_operation, type_of_test, type_of_tested, type_of_tree, type_of_value}
+use Rattle.hep_machine.specs.Words.{Tree, Trees, constant, occurrence, with_list, parenthesized, signed, negated, binary, no_trees, trees, ValueType, Integer, Logical, spelling, PureFunction, StateFunction, IsFull, IsEmpty, Name, Occurrence, Statement, dimensions_of, is_array, type_of, Meaning, by_pure_function, element, function_named, listed_meaning, pure, pure_functions, state, state_functions, unknown, word_in, array_occurrence, occurrences_in, occurrences_in_all}
+use Rattle.hep_check.specs.Words.{actual_class, given_with_list, is_asynchronous_scalar, is_reference_given, is_test_typed, count_of, is_counted, takes_list, is_unknown, NameWithList, names_with_lists_in, names_with_lists_in_all, subexpressions_of, subexpressions_of_all, KnownType, are_actuals, are_integers, has_dimensions, is_list_typed, is_of, is_typed, same_declared, same_type, type_of_listed, type_of_operands, type_of_operation, type_of_test, type_of_tested, type_of_tree, type_of_value}
 use Rattle.hep_accepted.specs.Agreement.{IsOneAsynchronousScalar}
 use Rattle.hep_accepted.specs.Typing.{AreAllOf, AreSubscripts, HasOperands, HasType, IsListOf, IsOf}
 use Rattle.hep_accepted.proofs.Agreed.{one_tested}
+use Rattle.hep_accepted.proofs.Members.{Each, each_append, each_none, each_one}
+use Rattle.hep_accepted.proofs.Parts.{some_of}
 use Rattle.hep_check.proofs.Agreeing.{all-parts}
 
 -- ---- what the conditions say of an expression
@@ -49,12 +33,6 @@ is_actual unit t = is_typed unit t
 
 -- ---- types
 
-typed_name : (unit : List Statement) (x : Name) → is_some (type_of unit x) ≡ true → (t : ValueType) × (type_of unit x ≡ Some t)
-typed_name unit x e = by_type (type_of unit x) e where
-  by_type : (o : Option ValueType) → is_some o ≡ true → (t : ValueType) × (o ≡ Some t)
-  by_type (Some t) f = (t, refl)
-  by_type None f = absurd (true≢false (sym f))
-
 -- an element is one of an array
 never_element : (o : Option PureFunction) (p : Option StateFunction) → by_pure_function o p ≡ element → ⊥
 never_element (Some f) p e = cc
@@ -70,18 +48,16 @@ is_element unit x e = by_test (is_array unit x) e where
 element_named : (unit : List Statement) (p : Occurrence) (ps : List Occurrence) → listed_meaning unit p.name ≡ element → AreNamesTyped unit (array_occurrence unit p ++ ps) → (t : ValueType) × (type_of unit p.name ≡ Some t)
 element_named unit p ps e names =
     let one : AreNamesTyped unit (p ∷ []) = subst (λ b. AreNamesTyped unit (if b then p ∷ [] else [])) (is_element unit p.name e) (all-parts (is_name_typed unit) (array_occurrence unit p) ps names).0 in
-    typed_name unit p.name (and_parts (is_name_typed unit p) true one).0
+    some_of (type_of unit p.name) (and_parts (is_name_typed unit p) true one).0
 
 -- what is tested has the type of its name
 async_element : (unit : List Statement) (m : Meaning) (x : Name) (t : KnownType) → is_asynchronous_scalar (given_with_list unit m x t) ≡ true → m ≡ element
 async_element unit element x t e = refl
-async_element unit (pure f) x t e = absurd (true≢false (sym e))
-async_element unit (state f) x t e = absurd (true≢false (sym e))
-async_element unit unknown x t e = absurd (true≢false (sym e))
+async_element unit _ x t e = absurd (true≢false (sym e))
 
 tested_type : (unit : List Statement) (t : Tree) → AreNamesTyped unit (occurrences_in unit t) → is_asynchronous_scalar (actual_class unit t) ≡ true → (v : ValueType) × (type_of_tested unit (trees t no_trees) ≡ Some (Some v))
 tested_type unit (occurrence p) names e =
-    let t = typed_name unit p.name (and_parts (is_name_typed unit p) true names).0 in
+    let t = some_of (type_of unit p.name) (and_parts (is_name_typed unit p) true names).0 in
     (t.0, ap (λ o. Some o) t.1)
 tested_type unit (with_list p us) names e =
     let means = async_element unit (listed_meaning unit p.name) p.name (type_of_tree unit (with_list p us)) e in
@@ -117,7 +93,7 @@ listed_type unit p ts unknown e names right = absurd (true≢false (sym (right_p
 pub has_type : (unit : List Statement) (e : Tree) → AreNamesTyped unit (occurrences_in unit e) → AreRight unit (names_with_lists_in e) → HasType unit e
 has_type unit (constant v) names right = (type_of_value v, refl)
 has_type unit (occurrence p) names right =
-    let t = typed_name unit p.name (and_parts (is_name_typed unit p) true names).0 in
+    let t = some_of (type_of unit p.name) (and_parts (is_name_typed unit p) true names).0 in
     (t.0, ap (λ o. Some o) t.1)
 has_type unit (with_list p ts) names right =
     listed_type unit p ts (listed_meaning unit p.name) refl names (and_parts (is_right unit (record { occurrence = p; arguments = ts })) (list_all (is_right unit) (names_with_lists_in_all ts)) right).0
@@ -130,9 +106,12 @@ has_type unit (binary o a b) names right = (type_of_operation o, refl)
 
 pub equal_types : (u t : ValueType) → same_type u t ≡ true → u ≡ t
 equal_types Integer Integer e = refl
-equal_types Integer Logical e = absurd (true≢false (sym e))
-equal_types Logical Integer e = absurd (true≢false (sym e))
 equal_types Logical Logical e = refl
+equal_types _ _ e = absurd (true≢false (sym e))
+
+pub declared_type : (o : Option ValueType) (t : ValueType) → same_declared o (Some t) ≡ true → o ≡ Some t
+declared_type None t e = absurd (true≢false (sym e))
+declared_type (Some u) t e = ap (λ w. Some w) (equal_types u t e)
 
 -- a type that is known and isn't another one
 pub of_type : (t : ValueType) (a : KnownType) → (u : ValueType) × (a ≡ Some (Some u)) → is_of t a ≡ true → a ≡ Some (Some t)
@@ -183,20 +162,8 @@ has_operands unit (binary o a b) names right e =
 abbrev pub IsGood : List Statement → Tree → Type 0
 IsGood unit t = HasType unit t × HasOperands unit t
 
-AreGood : List Statement → List Tree → Type 0
-AreGood unit [] = Unit {0}
-AreGood unit (t ∷ ts) = IsGood unit t × AreGood unit ts
-
-good_append : (unit : List Statement) (xs ys : List Tree) → AreGood unit xs → AreGood unit ys → AreGood unit (xs ++ ys)
-unfolding AreGood
-good_append unit [] ys p q = q
-good_append unit (x ∷ xs) ys p q = (p.0, good_append unit xs ys p.1 q)
-
-good_at : (unit : List Statement) (xs : List Tree) (i : ℕ) (t : Tree) → AreGood unit xs → slice_get xs i ≡ Some t → IsGood unit t
-unfolding AreGood
-good_at unit [] i t p g = absurd (none-some t g)
-good_at unit (x ∷ xs) zero t p g = subst (IsGood unit) (same_Some x t g) p.0
-good_at unit (x ∷ xs) (suc i) t p g = good_at unit xs i t p.1 g
+abbrev AreGood : List Statement → List Tree → Type 0
+AreGood unit ts = Each (IsGood unit) ts
 
 pub typed_actual : (unit : List Statement) (t : Tree) → is_typed unit t ≡ true → is_actual unit t ≡ true
 typed_actual unit (occurrence p) e = refl
@@ -204,21 +171,11 @@ typed_actual unit _ e = e
 
 pub actuals_parts : (unit : List Statement) (t : Tree) (ts : Trees) → are_actuals unit (trees t ts) ≡ true → (is_actual unit t ≡ true) × (are_actuals unit ts ≡ true)
 actuals_parts unit (occurrence p) ts e = (refl, e)
-actuals_parts unit (constant v) ts e = (refl, e)
-actuals_parts unit (with_list p us) ts e = and_parts (is_typed unit (with_list p us)) (are_actuals unit ts) e
-actuals_parts unit (parenthesized t) ts e = and_parts (is_typed unit t) (are_actuals unit ts) e
-actuals_parts unit (signed s t) ts e = and_parts (is_typed unit (signed s t)) (are_actuals unit ts) e
-actuals_parts unit (negated t) ts e = and_parts (is_typed unit (negated t)) (are_actuals unit ts) e
-actuals_parts unit (binary o a b) ts e = and_parts (is_typed unit (binary o a b)) (are_actuals unit ts) e
+actuals_parts unit t ts e = and_parts (is_typed unit t) (are_actuals unit ts) e
 
 actuals_from : (unit : List Statement) (t : Tree) (ts : Trees) → is_typed unit t ≡ true → are_actuals unit ts ≡ true → are_actuals unit (trees t ts) ≡ true
 actuals_from unit (occurrence p) ts e f = f
-actuals_from unit (constant v) ts e f = f
-actuals_from unit (with_list p us) ts e f = and_from (is_typed unit (with_list p us)) (are_actuals unit ts) e f
-actuals_from unit (parenthesized t) ts e f = and_from (is_typed unit t) (are_actuals unit ts) e f
-actuals_from unit (signed s t) ts e f = and_from (is_typed unit (signed s t)) (are_actuals unit ts) e f
-actuals_from unit (negated t) ts e f = and_from (is_typed unit (negated t)) (are_actuals unit ts) e f
-actuals_from unit (binary o a b) ts e f = and_from (is_typed unit (binary o a b)) (are_actuals unit ts) e f
+actuals_from unit t ts e f = and_from (is_typed unit t) (are_actuals unit ts) e f
 
 pub integers_actuals : (unit : List Statement) (ts : Trees) → are_integers unit ts ≡ true → are_actuals unit ts ≡ true
 integers_actuals unit no_trees e = refl
@@ -233,20 +190,18 @@ list_actuals unit (state f) x ts e = e
 list_actuals unit unknown x ts e = e
 
 mutual
-  unfolding AreGood
-
   good : (unit : List Statement) (e : Tree) → AreNamesTyped unit (occurrences_in unit e) → AreRight unit (names_with_lists_in e) → is_actual unit e ≡ true → AreGood unit (subexpressions_of e)
-  good unit (constant v) names right e = ((has_type unit (constant v) names right, tt), tt)
-  good unit (occurrence p) names right e = ((has_type unit (occurrence p) names right, tt), tt)
+  good unit (constant v) names right e = each_one (constant v) (has_type unit (constant v) names right, tt)
+  good unit (occurrence p) names right e = each_one (occurrence p) (has_type unit (occurrence p) names right, tt)
   good unit (with_list p ts) names right e =
       let n = all-parts (is_name_typed unit) (array_occurrence unit p) (occurrences_in_all unit ts) names in
       let r = and_parts (is_right unit (record { occurrence = p; arguments = ts })) (list_all (is_right unit) (names_with_lists_in_all ts)) right in
-      ((has_type unit (with_list p ts) names right, has_operands unit (with_list p ts) names right e), good_all unit ts n.1 r.1 (list_actuals unit (listed_meaning unit p.name) p.name ts e))
-  good unit (parenthesized t) names right e = ((has_type unit (parenthesized t) names right, tt), good unit t names right (typed_actual unit t e))
+      each_append (each_one (with_list p ts) (has_type unit (with_list p ts) names right, has_operands unit (with_list p ts) names right e)) (good_all unit ts n.1 r.1 (list_actuals unit (listed_meaning unit p.name) p.name ts e))
+  good unit (parenthesized t) names right e = each_append (each_one (parenthesized t) (has_type unit (parenthesized t) names right, tt)) (good unit t names right (typed_actual unit t e))
   good unit (signed s t) names right e =
-      ((has_type unit (signed s t) names right, has_operands unit (signed s t) names right e), good unit t names right (typed_actual unit t (and_parts (is_typed unit t) (is_of Integer (type_of_tree unit t)) e).0))
+      each_append (each_one (signed s t) (has_type unit (signed s t) names right, has_operands unit (signed s t) names right e)) (good unit t names right (typed_actual unit t (and_parts (is_typed unit t) (is_of Integer (type_of_tree unit t)) e).0))
   good unit (negated t) names right e =
-      ((has_type unit (negated t) names right, has_operands unit (negated t) names right e), good unit t names right (typed_actual unit t (and_parts (is_typed unit t) (is_of Logical (type_of_tree unit t)) e).0))
+      each_append (each_one (negated t) (has_type unit (negated t) names right, has_operands unit (negated t) names right e)) (good unit t names right (typed_actual unit t (and_parts (is_typed unit t) (is_of Logical (type_of_tree unit t)) e).0))
   good unit (binary o a b) names right e =
       let n = all-parts (is_name_typed unit) (occurrences_in unit a) (occurrences_in unit b) names in
       let r = all-parts (is_right unit) (names_with_lists_in a) (names_with_lists_in b) right in
@@ -254,15 +209,15 @@ mutual
       let both = and_parts (is_typed unit a && is_of w (type_of_tree unit a)) (is_typed unit b && is_of w (type_of_tree unit b)) e in
       let left = good unit a n.0 r.0 (typed_actual unit a (and_parts (is_typed unit a) (is_of w (type_of_tree unit a)) both.0).0) in
       let behind = good unit b n.1 r.1 (typed_actual unit b (and_parts (is_typed unit b) (is_of w (type_of_tree unit b)) both.1).0) in
-      ((has_type unit (binary o a b) names right, has_operands unit (binary o a b) names right e), good_append unit (subexpressions_of a) (subexpressions_of b) left behind)
+      each_append (each_one (binary o a b) (has_type unit (binary o a b) names right, has_operands unit (binary o a b) names right e)) (each_append left behind)
 
   good_all : (unit : List Statement) (ts : Trees) → AreNamesTyped unit (occurrences_in_all unit ts) → AreRight unit (names_with_lists_in_all ts) → are_actuals unit ts ≡ true → AreGood unit (subexpressions_of_all ts)
-  good_all unit no_trees names right e = tt
+  good_all unit no_trees names right e = each_none
   good_all unit (trees t ts) names right e =
       let n = all-parts (is_name_typed unit) (occurrences_in unit t) (occurrences_in_all unit ts) names in
       let r = all-parts (is_right unit) (names_with_lists_in t) (names_with_lists_in_all ts) right in
       let both = actuals_parts unit t ts e in
-      good_append unit (subexpressions_of t) (subexpressions_of_all ts) (good unit t n.0 r.0 both.0) (good_all unit ts n.1 r.1 both.1)
+      each_append (good unit t n.0 r.0 both.0) (good_all unit ts n.1 r.1 both.1)
 
 pub good_part : (unit : List Statement) (e : Tree) (i : ℕ) (t : Tree) → AreNamesTyped unit (occurrences_in unit e) → AreRight unit (names_with_lists_in e) → is_actual unit e ≡ true → slice_get (subexpressions_of e) i ≡ Some t → IsGood unit t
-good_part unit e i t names right test g = good_at unit (subexpressions_of e) i t (good unit e names right test) g
+good_part unit e i t names right test g = (good unit e names right test).at t (i, g)

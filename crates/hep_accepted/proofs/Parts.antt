@@ -1,24 +1,12 @@
 -- Where a condition has no violation, its tests hold of each part.
-use Rattle.std.proofs.Common.{◌≡◌, ℕ, zero, suc, Bool, true, false, List, [], ◌∷◌, ◌++◌, map, Option, Some, None, refl, sym, subst, true≢false, arith}
-use Rattle.std.specs.Prelude.{slice_get, is_none, if◌then◌else◌, is_some, ◌<◌}
+use Rattle.std.proofs.Common.{◌≡◌, ℕ, zero, suc, Bool, true, false, List, [], ◌∷◌, ◌++◌, map, Option, Some, None, refl, sym, subst, true≢false, arith, ◌&&◌, slice_get, is_none, if◌then◌else◌, is_some, ◌<◌}
 use Rattle.std.specs.List.{flat_map, list_all, list_any}
 use Rattle.std.specs.Option.{option_map}
 use Rattle.std.proofs.lemmas.Bool.{and_from, and_parts, or_parts}
 use Rattle.std.proofs.lemmas.Option.{none-some, same_Some}
-use Rattle.hep_source.specs.declared.statement.Statement.{Statement}
-use Rattle.hep_source.specs.Names.{index_where}
-use Rattle.hep_source.specs.Units.{Units}
+use Rattle.hep_machine.specs.Words.{Statement, index_where, Units}
 use Rattle.hep_check.specs.declared.violation.Violation.{Violation}
-use Rattle.hep_check.specs.Arguments.{argument_violations}
-use Rattle.hep_check.specs.Conditions.{IsAccepted, violations_in}
-use Rattle.hep_check.specs.Constants.{type_violations}
-use Rattle.hep_check.specs.Counts.{count_violations}
-use Rattle.hep_check.specs.Data.{data_violations}
-use Rattle.hep_check.specs.Labels.{label_violations}
-use Rattle.hep_check.specs.Names.{ambiguous_in, ambiguous_units, name_violations, type_missing_violations, unknown_name_violations}
-use Rattle.hep_check.specs.Common.{common_violations}
-use Rattle.hep_check.specs.Nesting.{jump_violations, structure_violations}
-use Rattle.hep_check.specs.Violations.{when}
+use Rattle.hep_check.specs.Words.{argument_violations, IsAccepted, violations_in, type_violations, count_violations, data_violations, label_violations, ambiguous_in, ambiguous_units, name_violations, type_missing_violations, unknown_name_violations, common_violations, jump_violations, structure_violations, when}
 
 -- ---- lists without elements
 
@@ -39,7 +27,11 @@ pub none-map : {A B : Type 0} (f : A → B) (xs : List A) → map f xs ≡ [] �
 none-map f [] e = refl
 none-map f (x ∷ xs) e = absurd cc
 
--- ---- tests of each element
+-- ---- tests
+
+pub and_past : (p q : Bool) → p ≡ true → (p && q) ≡ false → q ≡ false
+and_past true q e f = f
+and_past false q e f = absurd (true≢false (sym e))
 
 pub all-each : {A : Type 0} (f : A → Bool) (xs : List A) (i : ℕ) (x : A) → list_all f xs ≡ true → slice_get xs i ≡ Some x → f x ≡ true
 all-each f [] i x e is = absurd (none-some x is)

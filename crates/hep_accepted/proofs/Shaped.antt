@@ -1,43 +1,22 @@
--- Shapes of the arrays of accepted programs.
-use Rattle.std.proofs.Common.{◌≡◌, ◌⊎◌, inl, inr, ℕ, zero, suc, Bool, true, false, List, [], ◌∷◌, ◌++◌, Option, Some, None, refl, sym, ap, ◌∙◌, subst, true≢false}
-use Rattle.std.specs.Prelude.{◌&&◌, ◌||◌, not, slice_get, if◌then◌else◌, option_to_list, ℤ, drop, take}
+-- Values of the named constants, and shapes of the arrays of accepted programs.
+use Rattle.std.proofs.Common.{◌≡◌, ℕ, Bool, true, false, List, [], ◌∷◌, ◌++◌, Option, Some, None, refl, sym, ap, ◌∙◌, subst, true≢false, ◌&&◌, ◌||◌, not, slice_get, if◌then◌else◌, option_to_list, ℤ, drop, take, take-append-drop}
 use Rattle.std.specs.List.{flat_map, list_all, list_any}
 use Rattle.std.specs.Option.{option_map}
 use Rattle.std.proofs.lemmas.Bool.{and_parts}
+use Rattle.std.proofs.lemmas.Grind.{flat_map-append}
 use Rattle.std.proofs.lemmas.Option.{none-some, same_Some}
-use Rattle.hep_source.specs.Names.{is_among}
-use Rattle.hep_source.specs.Tree.{Tree, Trees, constant, occurrence, with_list, parenthesized, signed, negated, binary, no_trees, trees}
-use Rattle.hep_source.specs.declared.declaration.Declarator.{Declarator}
-use Rattle.hep_source.specs.declared.declaration.Dimension.{Dimension}
-use Rattle.hep_source.specs.declared.declaration.NamedConstant.{NamedConstant}
-use Rattle.hep_source.specs.declared.declaration.UpperBound.{UpperBound}
+use Rattle.hep_machine.specs.Words.{is_among, Tree, Trees, constant, occurrence, with_list, parenthesized, signed, negated, binary, no_trees, trees, Declarator, Dimension, NamedConstant, UpperBound, Integer, Name, Occurrence, Statement, Value, Units, combined_value, integer_of, negated_value, signed_value, Constants, Values, both, bound_before, bound_of, bounds_of, by_meaning, constant_shape, constant_value, given_by, if_shape, lower_value, shape_by, upper_value, value_among, value_of, values_of, with_one, with_two, constants_in, declarators_in, dimensions_of, is_array, is_dummy, is_nonempty, named_constants, Meaning, listed_meaning, pure, Bounds, elements, extent, is_shape, product, occurrences_in, ValueType}
 use Rattle.hep_source.specs.declared.declaration.UpperBound.TheVariants as bound
-use Rattle.hep_source.specs.declared.declaration.ValueType.TheVariants.{Integer}
-use Rattle.hep_source.specs.declared.name.Name.{Name}
-use Rattle.hep_source.specs.declared.name.Occurrence.{Occurrence}
-use Rattle.hep_source.specs.declared.statement.Statement.{Statement}
-use Rattle.hep_source.specs.declared.value.Value.{Value}
-use Rattle.hep_source.specs.Units.{Units}
 use Rattle.hep_machine.specs.declared.shape.Bound.{Bound}
-use Rattle.hep_machine.specs.Arithmetic.{combined_value, integer_of, negated_value, signed_value}
-use Rattle.hep_machine.specs.Constants.{Constants, Values, both, bound_before, bound_of, bounds_of, by_meaning, constant_shape, constant_value, constants_of, given_by, if_shape, lower_value, shape_by, upper_value, value_among, value_of, values_of, with_one, with_two}
-use Rattle.hep_machine.specs.Declarations.{constants_in, declarators_in, dimensions_of, is_array, is_dummy, is_nonempty, named_constants}
-use Rattle.hep_machine.specs.Functions.{Meaning, element, listed_meaning, pure, state, unknown}
-use Rattle.hep_machine.specs.Shapes.{Bounds, elements, extent, is_shape, product}
-use Rattle.hep_machine.specs.Variables.{occurrences_in}
-use Rattle.hep_check.specs.Conditions.{IsAccepted}
-use Rattle.hep_check.specs.Constants.{Parameters, are_bounds_open, has_bounds, has_value, is_adjustable, is_adjusted, is_bound, is_dimension, is_open, is_shape_if_known, is_upper_bound, value_by}
-use Rattle.hep_check.specs.Counts.{is_counted}
-use Rattle.hep_check.specs.Laws.{Keeps}
-use Rattle.hep_check.specs.Statements.{names_with_lists, names_with_lists_in, trees_in_declarator, trees_in_dimension, trees_in_statement, trees_in_upper}
-use Rattle.hep_check.specs.Types.{is_typed_as}
-use Rattle.hep_accepted.specs.Typing.{HasShape}
+use Rattle.hep_check.specs.Words.{IsAccepted, Parameters, are_bounds_open, has_bounds, has_value, is_adjustable, is_adjusted, is_bound, is_dimension, is_open, is_shape_if_known, is_upper_bound, value_by, is_counted, Keeps, names_with_lists, names_with_lists_in, trees_in_declarator, trees_in_dimension, trees_in_statement, trees_in_upper, is_typed_as, type_of_value}
+use Rattle.hep_source.proofs.Tests.{or-false}
+use Rattle.hep_accepted.specs.Typing.{HasShape, HasValue, IsOf}
 use Rattle.hep_accepted.proofs.Agreed.{counted}
 use Rattle.hep_accepted.proofs.Formed.{parameters_at, typed_statement}
 use Rattle.hep_accepted.proofs.Meant.{array_declarator}
-use Rattle.hep_accepted.proofs.Members.{Has, all_has, flat_has, has_behind, has_either, has_flat, has_front, has_more, has_one}
+use Rattle.hep_accepted.proofs.Members.{Each, each_append, each_none, each_one, Has, all_has, flat_has, has_behind, has_flat, has_front, has_more}
 use Rattle.hep_accepted.proofs.Parts.{all_from, some_of}
-use Rattle.hep_accepted.proofs.Valued.{ConstantsAgree, kept_by, valued}
+use Rattle.hep_accepted.proofs.Valued.{ConstantsAgree, constant_from, constant_there, kept_by, one_type, typed_by, valued}
 use Rattle.hep_check.proofs.Agreeing.{given_by-append}
 
 -- ---- an expression that has a value keeps it where more names have values
@@ -45,41 +24,38 @@ use Rattle.hep_check.proofs.Agreeing.{given_by-append}
 abbrev pub Extends : Values → Values → Type 0
 Extends old new = (x : Name) (v : Value) → old x ≡ Some v → new x ≡ Some v
 
+-- what has a value where another thing has it, by functions that give none where there is none
+kept : {A B : Type 0} (f : Option A → Option B) (o n : Option A) (v : B) → ((w : B) → f None ≡ Some w → ⊥) → ((x : A) → o ≡ Some x → n ≡ Some x) → f o ≡ Some v → f n ≡ Some v
+kept f None n v none more e = absurd (none v e)
+kept f (Some x) n v none more e = ap f (more x refl) ∙ e
+
 mutual
   pub same_value : (unit : List Statement) (old new : Values) (t : Tree) (v : Value) → Extends old new → value_of unit old t ≡ Some v → value_of unit new t ≡ Some v
   same_value unit old new (constant w) v h e = e
   same_value unit old new (occurrence p) v h e = h p.name v e
-  same_value unit old new (with_list p ts) v h e = listed (listed_meaning unit p.name) (values_of unit old ts) (values_of unit new ts) v (same_values unit old new ts) h e where
-    listed : (m : Meaning) (o n : Option (List Value)) (w : Value) → ((vs : List Value) → Extends old new → o ≡ Some vs → n ≡ Some vs) → Extends old new → by_meaning m o ≡ Some w → by_meaning m n ≡ Some w
-    listed (pure f) (Some vs) n w more g d = ap (by_meaning (pure f)) (more vs g refl) ∙ d
-    listed (pure f) None n w more g d = absurd (none-some w d)
-    listed element o n w more g d = absurd (none-some w d)
-    listed (state f) o n w more g d = absurd (none-some w d)
-    listed unknown o n w more g d = absurd (none-some w d)
+  same_value unit old new (with_list p ts) v h e =
+      kept (by_meaning (listed_meaning unit p.name)) (values_of unit old ts) (values_of unit new ts) v (no_value (listed_meaning unit p.name)) (λ ws. same_values unit old new ts ws h) e where
+        no_value : (m : Meaning) (w : Value) → by_meaning m None ≡ Some w → ⊥
+        no_value (pure f) w d = none-some w d
+        no_value _ w d = none-some w d
   same_value unit old new (parenthesized t) v h e = same_value unit old new t v h e
-  same_value unit old new (signed s t) v h e = one (value_of unit old t) (value_of unit new t) (same_value unit old new t) e where
-    one : (o n : Option Value) → ((w : Value) → Extends old new → o ≡ Some w → n ≡ Some w) → with_one (signed_value s) o ≡ Some v → with_one (signed_value s) n ≡ Some v
-    one None n more d = absurd (none-some v d)
-    one (Some w) n more d = ap (with_one (signed_value s)) (more w h refl) ∙ d
-  same_value unit old new (negated t) v h e = one (value_of unit old t) (value_of unit new t) (same_value unit old new t) e where
-    one : (o n : Option Value) → ((w : Value) → Extends old new → o ≡ Some w → n ≡ Some w) → with_one negated_value o ≡ Some v → with_one negated_value n ≡ Some v
-    one None n more d = absurd (none-some v d)
-    one (Some w) n more d = ap (with_one negated_value) (more w h refl) ∙ d
-  same_value unit old new (binary o a b) v h e = two (value_of unit old a) (value_of unit old b) (value_of unit new a) (value_of unit new b) (same_value unit old new a) (same_value unit old new b) e where
-    two : (p q m n : Option Value) → ((w : Value) → Extends old new → p ≡ Some w → m ≡ Some w) → ((w : Value) → Extends old new → q ≡ Some w → n ≡ Some w)
-        → with_two (combined_value o) p q ≡ Some v → with_two (combined_value o) m n ≡ Some v
-    two None q m n left behind d = absurd (none-some v d)
-    two (Some w) None m n left behind d = absurd (none-some v d)
-    two (Some w) (Some x) m n left behind d = (λ i. with_two (combined_value o) (left w h refl i) (behind x h refl i)) ∙ d
+  same_value unit old new (signed s t) v h e = kept (with_one (signed_value s)) (value_of unit old t) (value_of unit new t) v none-some (λ w. same_value unit old new t w h) e
+  same_value unit old new (negated t) v h e = kept (with_one negated_value) (value_of unit old t) (value_of unit new t) v none-some (λ w. same_value unit old new t w h) e
+  same_value unit old new (binary o a b) v h e =
+      kept (λ p. with_two (combined_value o) p (value_of unit new b)) (value_of unit old a) (value_of unit new a) v none-some (λ w. same_value unit old new a w h) (
+      kept (with_two (combined_value o) (value_of unit old a)) (value_of unit old b) (value_of unit new b) v (no_second (value_of unit old a)) (λ w. same_value unit old new b w h) e) where
+        no_second : (p : Option Value) (w : Value) → with_two (combined_value o) p None ≡ Some w → ⊥
+        no_second None w d = none-some w d
+        no_second (Some x) w d = none-some w d
 
   pub same_values : (unit : List Statement) (old new : Values) (ts : Trees) (vs : List Value) → Extends old new → values_of unit old ts ≡ Some vs → values_of unit new ts ≡ Some vs
   same_values unit old new no_trees vs h e = e
-  same_values unit old new (trees t ts) vs h e = two (value_of unit old t) (values_of unit old ts) (value_of unit new t) (values_of unit new ts) (same_value unit old new t) (same_values unit old new ts) e where
-    two : (p : Option Value) (q : Option (List Value)) (m : Option Value) (n : Option (List Value)) → ((w : Value) → Extends old new → p ≡ Some w → m ≡ Some w) → ((ws : List Value) → Extends old new → q ≡ Some ws → n ≡ Some ws)
-        → both p q ≡ Some vs → both m n ≡ Some vs
-    two None q m n left behind d = absurd (none-some vs d)
-    two (Some w) None m n left behind d = absurd (none-some vs d)
-    two (Some w) (Some ws) m n left behind d = (λ i. both (left w h refl i) (behind ws h refl i)) ∙ d
+  same_values unit old new (trees t ts) vs h e =
+      kept (λ p. both p (values_of unit new ts)) (value_of unit old t) (value_of unit new t) vs none-some (λ w. same_value unit old new t w h) (
+      kept (both (value_of unit old t)) (values_of unit old ts) (values_of unit new ts) vs (no_second (value_of unit old t)) (λ ws. same_values unit old new ts ws h) e) where
+        no_second : (p : Option Value) (ws : List Value) → both p None ≡ Some ws → ⊥
+        no_second None ws d = none-some ws d
+        no_second (Some x) ws d = none-some ws d
 
 -- ---- bounds that have values
 
@@ -144,23 +120,16 @@ none_open unit ps (t ∷ ts) h = (λ i. h t (0, refl) i || none_open unit ps ts 
 constant_bound : (unit : List Statement) (ps : Parameters) (t : Tree) → is_open unit ps t ≡ false → is_bound unit ps false t ≡ true → IsValued unit (value_among ps.known) t
 constant_bound unit ps t shut e =
     let both = and_parts (is_typed_as unit Integer t) (has_value unit ps t || (false && (is_adjusted unit ps.known t && is_adjustable unit ps.known t))) e in
-    some_of (value_by unit ps t) (valued unit ps t shut (or_false (has_value unit ps t) both.1)) where
-      or_false : (b : Bool) → (b || false) ≡ true → b ≡ true
-      or_false true f = refl
-      or_false false f = f
+    some_of (value_by unit ps t) (valued unit ps t shut (sym (or-false (has_value unit ps t)) ∙ both.1))
 
-upper_valued : (unit : List Statement) (ps : Parameters) (b : UpperBound) (t : Tree) → is_open unit ps t ≡ false → is_upper_bound unit ps false b ≡ true → Has (trees_in_upper b) t → IsValued unit (value_among ps.known) t
-upper_valued unit ps (bound.Expression w) t shut e h = constant_bound unit ps t shut (subst (λ v. is_bound unit ps false v ≡ true) (has_one w t h) e)
-upper_valued unit ps bound.Open t shut e h = absurd (none-some t h.1)
+upper_valued : (unit : List Statement) (ps : Parameters) (b : UpperBound) → is_upper_bound unit ps false b ≡ true → Each (λ t. is_open unit ps t ≡ false → IsValued unit (value_among ps.known) t) (trees_in_upper b)
+upper_valued unit ps (bound.Expression w) e = each_one w (λ shut. constant_bound unit ps w shut e)
+upper_valued unit ps bound.Open e = each_none
 
-dimension_valued : (unit : List Statement) (ps : Parameters) (d : Dimension) (t : Tree) → is_open unit ps t ≡ false → is_dimension unit ps false d ≡ true → Has (trees_in_dimension d) t → IsValued unit (value_among ps.known) t
-dimension_valued unit ps d t shut e h = by_place (has_either (option_to_list d.lower) (trees_in_upper d.upper) t h) where
-  parts : (list_all (is_bound unit ps false) (option_to_list d.lower) ≡ true) × (is_upper_bound unit ps false d.upper ≡ true)
-  parts = and_parts (list_all (is_bound unit ps false) (option_to_list d.lower)) (is_upper_bound unit ps false d.upper) e
-
-  by_place : Has (option_to_list d.lower) t ⊎ Has (trees_in_upper d.upper) t → IsValued unit (value_among ps.known) t
-  by_place (inl f) = constant_bound unit ps t shut (all_has (is_bound unit ps false) (option_to_list d.lower) t parts.0 f)
-  by_place (inr f) = upper_valued unit ps d.upper t shut parts.1 f
+dimension_valued : (unit : List Statement) (ps : Parameters) (d : Dimension) → is_dimension unit ps false d ≡ true → Each (λ t. is_open unit ps t ≡ false → IsValued unit (value_among ps.known) t) (trees_in_dimension d)
+dimension_valued unit ps d e =
+    let parts = and_parts (list_all (is_bound unit ps false) (option_to_list d.lower)) (is_upper_bound unit ps false d.upper) e in
+    each_append (record { at = λ t h shut. constant_bound unit ps t shut (all_has (is_bound unit ps false) (option_to_list d.lower) t parts.0 h) }) (upper_valued unit ps d.upper parts.1)
 
 dimension_shut : (unit : List Statement) (ps : Parameters) (d : Dimension) → is_dimension unit ps false d ≡ true → IsExpression d.upper
 dimension_shut unit ps d e = by_upper d.upper (and_parts (list_all (is_bound unit ps false) (option_to_list d.lower)) (is_upper_bound unit ps false d.upper) e).1 where
@@ -169,56 +138,41 @@ dimension_shut unit ps d e = by_upper d.upper (and_parts (list_all (is_bound uni
   by_upper bound.Open f = absurd (true≢false (sym f))
 
 -- the bounds of a declarator, by the constants before it and by all constants
-declared_bounds : (program : Units) (u k : ℕ) (unit : List Statement) (s : Statement) (d : Declarator) → IsAccepted program → slice_get program u ≡ Some unit → slice_get unit k ≡ Some s → Has (declarators_in s.form) d → is_nonempty d.dimensions ≡ true → is_dummy unit d.occurrence.name ≡ false
-    → (parameters_at unit k).doubtful ≡ [] → Extends (value_among (parameters_at unit k).known) (constant_value unit)
-    → (bs : Bounds) × (bounds_of unit (constant_value unit) d.dimensions ≡ Some bs) × (is_shape bs ≡ true) × (n : ℕ) × (elements bs ≡ Some n)
-declared_bounds program u k unit s d accepted iu ik hd listed no_dummy doubtless extends =
-    let ps = parameters_at unit k in
-    let open_none : (t : Tree) → Has (trees_in_declarator d) t → is_open unit (parameters_at unit k) t ≡ false
-    = λ t g. shut program u k unit s t accepted iu ik (has_behind s.conditions _ t (has_front (flat_map trees_in_declarator (declarators_in s.form)) _ t (has_flat trees_in_declarator (declarators_in s.form) d t hd g))) doubtless in
-    let test = all_has (has_bounds unit (parameters_at unit k)) (declarators_in s.form) d (typed_statement program u k unit s accepted iu ik).bounds hd in
-    let kept = parts (parameters_at unit k) (subst (λ b. is_kept (parameters_at unit k) b ≡ true) no_dummy (by_list (parameters_at unit k) listed test)) in
-    let each = all_bounds unit (value_among (parameters_at unit k).known) (constant_value unit) d.dimensions extends
-    (λ m g. dimension_shut unit (parameters_at unit k) m (all_has (is_dimension unit (parameters_at unit k) false) d.dimensions m kept.0 g))
-    (λ m t g w. dimension_valued unit (parameters_at unit k) m t (open_none t (has_flat trees_in_dimension d.dimensions m t g w)) (all_has (is_dimension unit (parameters_at unit k) false) d.dimensions m kept.0 g) w) in
-    let shape = shaped (parameters_at unit k) (none_open unit (parameters_at unit k) (trees_in_declarator d) open_none) kept.1 each.0 each.1 in
-    (each.0, each.2, shape, each.3, each.4) where
-      is_kept : Parameters → Bool → Bool
-      is_kept ps dummy = list_all (is_dimension unit ps dummy) d.dimensions && (are_bounds_open unit ps d || is_shape_if_known (bounds_of unit (value_among ps.known) d.dimensions))
-
-      by_list : (ps : Parameters) → is_nonempty d.dimensions ≡ true → has_bounds unit ps d ≡ true → is_kept ps (is_dummy unit d.occurrence.name) ≡ true
-      by_list ps f e = subst (λ b. (if b then (list_all (is_dimension unit ps (is_dummy unit d.occurrence.name)) d.dimensions && (are_bounds_open unit ps d || is_shape_if_known (bounds_of unit (value_among ps.known) d.dimensions))) else true) ≡ true) f e
-
-      parts : (ps : Parameters) → is_kept ps false ≡ true → (list_all (is_dimension unit ps false) d.dimensions ≡ true) × ((are_bounds_open unit ps d || is_shape_if_known (bounds_of unit (value_among ps.known) d.dimensions)) ≡ true)
-      parts ps e = and_parts (list_all (is_dimension unit ps false) d.dimensions) (are_bounds_open unit ps d || is_shape_if_known (bounds_of unit (value_among ps.known) d.dimensions)) e
-
-      shaped : (ps : Parameters) → are_bounds_open unit ps d ≡ false → (are_bounds_open unit ps d || is_shape_if_known (bounds_of unit (value_among ps.known) d.dimensions)) ≡ true → (bs : Bounds) → bounds_of unit (value_among ps.known) d.dimensions ≡ Some bs → is_shape bs ≡ true
-      shaped ps f e bs g = subst (λ o. is_shape_if_known o ≡ true) g (subst (λ b. (b || is_shape_if_known (bounds_of unit (value_among ps.known) d.dimensions)) ≡ true) f e)
+declared_bounds : (unit : List Statement) (ps : Parameters) (d : Declarator) (values : Values) → has_bounds unit ps d ≡ true → is_nonempty d.dimensions ≡ true → is_dummy unit d.occurrence.name ≡ false
+    → ((t : Tree) → Has (trees_in_declarator d) t → is_open unit ps t ≡ false) → Extends (value_among ps.known) values
+    → (bs : Bounds) × (bounds_of unit values d.dimensions ≡ Some bs) × (is_shape bs ≡ true) × (n : ℕ) × (elements bs ≡ Some n)
+declared_bounds unit ps d values test listed no_dummy closed extends =
+    let whole : (list_all (is_dimension unit ps false) d.dimensions && (are_bounds_open unit ps d || is_shape_if_known (bounds_of unit (value_among ps.known) d.dimensions))) ≡ true = rw no_dummy at (rw listed at test) in
+    let kept = and_parts (list_all (is_dimension unit ps false) d.dimensions) (are_bounds_open unit ps d || is_shape_if_known (bounds_of unit (value_among ps.known) d.dimensions)) whole in
+    let each = all_bounds unit (value_among ps.known) values d.dimensions extends
+    (λ m g. dimension_shut unit ps m (all_has (is_dimension unit ps false) d.dimensions m kept.0 g))
+    (λ m t g w. (dimension_valued unit ps m (all_has (is_dimension unit ps false) d.dimensions m kept.0 g)).at t w (closed t (has_flat trees_in_dimension d.dimensions m t g w))) in
+    let shape : is_shape each.0 ≡ true = rw each.1 at (rw (none_open unit ps (trees_in_declarator d) closed) at kept.1) in
+    (each.0, each.2, shape, each.3, each.4)
 
 -- ---- arrays
 
 pub take_drop : {A : Type 0} (k : ℕ) (xs : List A) → xs ≡ take k xs ++ drop k xs
-take_drop zero xs = refl
-take_drop (suc k) [] = refl
-take_drop (suc k) (x ∷ xs) = ap (λ ys. x ∷ ys) (take_drop k xs)
+take_drop k xs = sym (take-append-drop k xs)
 
 pub named-append : (xs ys : List Statement) → named_constants (xs ++ ys) ≡ named_constants xs ++ named_constants ys
-named-append [] ys = refl
-named-append (s ∷ ss) ys = ap (λ cs. constants_in s.form ++ cs) (named-append ss ys) ∙ assoc (constants_in s.form) (named_constants ss) (named_constants ys) where
-  assoc : (xs ys zs : List NamedConstant) → xs ++ (ys ++ zs) ≡ (xs ++ ys) ++ zs
-  assoc [] ys zs = refl
-  assoc (x ∷ xs) ys zs = ap (λ ds. x ∷ ds) (assoc xs ys zs)
+named-append xs ys = flat_map-append (λ (s : Statement). constants_in s.form) xs ys
 
--- the constants before a statement are among all constants
-constants_extend : (unit : List Statement) (k : ℕ) → constants_of unit ≡ given_by unit (given_by unit [] (named_constants (take k unit))) (named_constants (drop k unit))
-constants_extend unit k =
-    ap (given_by unit []) (ap named_constants (take_drop k unit) ∙ named-append (take k unit) (drop k unit))
-    ∙ given_by-append unit [] (named_constants (take k unit)) (named_constants (drop k unit))
+-- the constants before a statement
+abbrev pub known_at : List Statement → ℕ → Constants
+known_at unit k = given_by unit [] (named_constants (take k unit))
 
-pub extends_at : (unit : List Statement) (k : ℕ) → Keeps (parameters_at unit k) (given_by unit [] (named_constants (take k unit))) → Extends (value_among (parameters_at unit k).known) (constant_value unit)
-extends_at unit k keeps x v e =
-    ap (λ (ks : Constants). value_among ks x) (constants_extend unit k)
-    ∙ kept_by unit (given_by unit [] (named_constants (take k unit))) (named_constants (drop k unit)) x v (sym (keeps.1 x) ∙ e)
+-- constants are among all constants
+pub before_extends : (unit : List Statement) (before after : List NamedConstant) → named_constants unit ≡ before ++ after → Extends (value_among (given_by unit [] before)) (constant_value unit)
+before_extends unit before after e x v f =
+    ap (λ (ks : Constants). value_among ks x) (ap (given_by unit []) e ∙ given_by-append unit [] before after)
+    ∙ kept_by unit (given_by unit [] before) after x v f
+
+pub known_extends : (unit : List Statement) (k : ℕ) → Extends (value_among (known_at unit k)) (constant_value unit)
+known_extends unit k = before_extends unit (named_constants (take k unit)) (named_constants (drop k unit)) (ap named_constants (take_drop k unit) ∙ named-append (take k unit) (drop k unit))
+
+pub extends_at : (unit : List Statement) (k : ℕ) → Keeps (parameters_at unit k) (known_at unit k) → Extends (value_among (parameters_at unit k).known) (constant_value unit)
+extends_at unit k keeps x v e = known_extends unit k x v (sym (keeps.1 x) ∙ e)
 
 pub shape_known : (unit : List Statement) (x : Name) (bs : Bounds) → is_array unit x ≡ true → bounds_of unit (constant_value unit) (dimensions_of unit x) ≡ Some bs → is_shape bs ≡ true → constant_shape unit x ≡ Some bs
 shape_known unit x bs array e shape =
@@ -230,16 +184,38 @@ arrays_have_shapes agrees program u unit x accepted iu array no_dummy =
     let d = array_declarator unit x array in
     let s = flat_has (λ (w : Statement). declarators_in w.form) unit d.0 d.1 in
     let k = (s.1).0 in
-    let keeps = agrees program unit (take (s.1).0 unit) (drop (s.1).0 unit) u accepted iu (take_drop (s.1).0 unit) in
-    let b = declared_bounds program u (s.1).0 unit s.0 d.0 accepted iu (s.1).1 s.2 d.3 (ap (is_dummy unit) d.2 ∙ no_dummy) keeps.0 (extends_at unit (s.1).0 keeps) in
+    let keeps = agrees program unit (take k unit) (drop k unit) u accepted iu (take_drop k unit) in
+    let bounds = all_has (has_bounds unit (parameters_at unit k)) (declarators_in s.0.form) d.0 (typed_statement program u k unit s.0 accepted iu (s.1).1).bounds s.2 in
+    let closed : (t : Tree) → Has (trees_in_declarator d.0) t → is_open unit (parameters_at unit k) t ≡ false
+    = λ t g. shut program u k unit s.0 t accepted iu (s.1).1 (has_behind s.0.conditions _ t (has_front (flat_map trees_in_declarator (declarators_in s.0.form)) _ t (has_flat trees_in_declarator (declarators_in s.0.form) d.0 t s.2 g))) keeps.0 in
+    let b = declared_bounds unit (parameters_at unit k) d.0 (constant_value unit) bounds d.3 (ap (is_dummy unit) d.2 ∙ no_dummy) closed (extends_at unit k keeps) in
     (b.0, shape_known unit x b.0 array (ap (bounds_of unit (constant_value unit)) d.4 ∙ b.1) b.2, b.2, b.3, b.4)
 
-pub shapes_are_shapes : (unit : List Statement) (x : Name) (bounds : Bounds) → is_array unit x ≡ true → constant_shape unit x ≡ Some bounds → is_shape bounds ≡ true
-shapes_are_shapes unit x bounds array e = by_bounds (bounds_of unit (constant_value unit) (dimensions_of unit x)) (sym (ap (λ b. if b then shape_by unit (constant_value unit) x else Some []) array) ∙ e) where
-  by_test : (b : Bool) (bs : Bounds) → is_shape bs ≡ b → (if b then Some bs else None) ≡ Some bounds → is_shape bounds ≡ true
-  by_test true bs f g = sym (ap is_shape (same_Some bs bounds g)) ∙ f
-  by_test false bs f g = absurd (none-some bounds g)
+-- a constant shape is that of the bounds, which are a shape
+pub shape_parts : (unit : List Statement) (x : Name) (bs : Bounds) → is_array unit x ≡ true → constant_shape unit x ≡ Some bs → (bounds_of unit (constant_value unit) (dimensions_of unit x) ≡ Some bs) × (is_shape bs ≡ true)
+shape_parts unit x bs array e = by_bounds (bounds_of unit (constant_value unit) (dimensions_of unit x)) (sym (ap (λ b. if b then shape_by unit (constant_value unit) x else Some []) array) ∙ e) where
+  by_test : (b : Bool) (cs : Bounds) → is_shape cs ≡ b → (if b then Some cs else None) ≡ Some bs → (◌≡◌ {A = Option Bounds} (Some cs) (Some bs)) × (is_shape bs ≡ true)
+  by_test true cs f g = (g, sym (ap is_shape (same_Some cs bs g)) ∙ f)
+  by_test false cs f g = absurd (none-some bs g)
 
-  by_bounds : (o : Option Bounds) → if_shape o ≡ Some bounds → is_shape bounds ≡ true
-  by_bounds None f = absurd (none-some bounds f)
-  by_bounds (Some bs) f = by_test (is_shape bs) bs refl f
+  by_bounds : (o : Option Bounds) → if_shape o ≡ Some bs → (o ≡ Some bs) × (is_shape bs ≡ true)
+  by_bounds None f = absurd (none-some bs f)
+  by_bounds (Some cs) f = by_test (is_shape cs) cs refl f
+
+pub shapes_are_shapes : (unit : List Statement) (x : Name) (bounds : Bounds) → is_array unit x ≡ true → constant_shape unit x ≡ Some bounds → is_shape bounds ≡ true
+shapes_are_shapes unit x bounds array e = (shape_parts unit x bounds array e).1
+
+-- ---- values of named constants
+
+pub constants_have_values : ConstantsAgree → (program : Units) (u i : ℕ) (unit : List Statement) (c : NamedConstant) → IsAccepted program → slice_get program u ≡ Some unit → slice_get (named_constants unit) i ≡ Some c → HasValue unit c
+constants_have_values agrees program u i unit c accepted iu ic =
+    let v = constant_there agrees program u i unit c accepted iu ic in
+    let one = one_type program u i unit c accepted iu ic in
+    let from = constant_from program u i unit c v.0 accepted iu ic v.1 in
+    let typed = typed_by unit [] (named_constants unit) (λ x w e. absurd (none-some w e)) (λ j d. one_type program u j unit d accepted iu) c.occurrence.name v.0 v.1 in (
+      v.0,
+      v.1,
+      same_value unit (value_among (given_by unit [] (take i (named_constants unit)))) (constant_value unit) c.value v.0 (before_extends unit (take i (named_constants unit)) (drop i (named_constants unit)) (take_drop i (named_constants unit))) from,
+      typed,
+      subst (λ (t : ValueType). IsOf unit t c.value) (same_Some one.0 (type_of_value v.0) (sym one.1 ∙ typed)) one.2,
+    )

@@ -1,38 +1,14 @@
 -- Named constants of accepted programs.
-use Rattle.std.proofs.Common.{◌≡◌, ◌⊎◌, inl, inr, ℕ, zero, suc, Bool, true, false, List, [], ◌∷◌, ◌++◌, map, Option, Some, None, Result, Ok, Err, refl, sym, ap, ◌∙◌, subst, true≢false}
-use Rattle.std.specs.Prelude.{◌||◌, not, slice_get, if◌then◌else◌, is_some, ℤ, take}
+use Rattle.std.proofs.Common.{◌≡◌, ◌⊎◌, inl, inr, ℕ, zero, suc, Bool, true, false, List, [], ◌∷◌, ◌++◌, map, Option, Some, None, Result, Ok, Err, refl, sym, ap, ◌∙◌, subst, ◌||◌, not, slice_get, if◌then◌else◌, is_some, ℤ, take, append-nil}
 use Rattle.std.specs.List.{flat_map, list_all}
-use Rattle.std.proofs.lemmas.Bool.{and_parts}
+use Rattle.std.proofs.lemmas.Bool.{and_parts, not-true}
 use Rattle.std.proofs.lemmas.Option.{none-some, same_Some}
 use Rattle.hep_source.proofs.NameTests.{equal_names, same_name-self}
-use Rattle.hep_source.specs.Names.{is_among, same_name}
-use Rattle.hep_source.specs.Tree.{Tree, Trees, constant, occurrence, with_list, parenthesized, signed, negated, binary}
-use Rattle.hep_source.specs.declared.declaration.DataGroup.{DataGroup}
-use Rattle.hep_source.specs.declared.declaration.NamedConstant.{NamedConstant}
-use Rattle.hep_source.specs.declared.declaration.Target.{Target}
-use Rattle.hep_source.specs.declared.declaration.ValueType.{ValueType}
-use Rattle.hep_source.specs.declared.declaration.ValueType.TheVariants.{Integer, Logical}
-use Rattle.hep_source.specs.declared.name.Name.{Name}
-use Rattle.hep_source.specs.declared.operator.Operator.{Operator}
-use Rattle.hep_source.specs.declared.operator.Operator.TheVariants.{Arithmetic, Relational, Logical as LogicalOperation}
-use Rattle.hep_source.specs.declared.statement.Form.{Form}
+use Rattle.hep_machine.specs.Words.{is_among, same_name, Tree, Trees, constant, occurrence, with_list, parenthesized, signed, negated, binary, DataGroup, NamedConstant, Target, ValueType, Integer, Logical, Name, Operator, Arithmetic, Relational, Form, Statement, Value, Int, Truth, Units, as_value, combined_value, function_result, integer_of, integers_of, logical_of, negated_value, result_of, signed_result, signed_value, Constants, Values, by_meaning, constant_value, given_by, value_among, value_of, values_of, with_constant, with_one, with_two, without_fault, groups_in, constants_in, declarators_in, named_constants, type_of, Meaning, listed_meaning, pure, occurrences_in, occurrences_in_constant, occurrences_in_form}
+use Rattle.hep_source.specs.declared.operator.Operator.TheVariants.{Logical as LogicalOperation}
 use Rattle.hep_source.specs.declared.statement.Form.TheVariants as form
-use Rattle.hep_source.specs.declared.statement.Statement.{Statement}
-use Rattle.hep_source.specs.declared.value.Value.{Value}
-use Rattle.hep_source.specs.declared.value.Value.TheVariants.{Int, Truth}
-use Rattle.hep_source.specs.Units.{Units}
 use Rattle.hep_machine.specs.declared.event.Kind.{Kind}
-use Rattle.hep_machine.specs.Arithmetic.{as_value, combined_value, function_result, integer_of, integers_of, logical_of, negated_value, result_of, signed_result, signed_value}
-use Rattle.hep_machine.specs.Constants.{Constants, Values, by_meaning, constant_value, given_by, value_among, value_of, values_of, with_constant, with_one, with_two, without_fault}
-use Rattle.hep_machine.specs.Data.{groups_in}
-use Rattle.hep_machine.specs.Declarations.{constants_in, declarators_in, named_constants, type_of}
-use Rattle.hep_machine.specs.Functions.{Meaning, element, listed_meaning, pure, state, unknown}
-use Rattle.hep_machine.specs.Variables.{occurrences_in, occurrences_in_constant, occurrences_in_form}
-use Rattle.hep_check.specs.Conditions.{IsAccepted}
-use Rattle.hep_check.specs.Constants.{Parameters, has_value, has_value_or_is_open, is_constant_expression, is_constant_given, is_given, is_known, is_open, no_parameters, value_by, with_parameter, with_parameters}
-use Rattle.hep_check.specs.Laws.{Keeps}
-use Rattle.hep_check.specs.Statements.{subexpressions_of, trees_in_declarator, trees_in_form}
-use Rattle.hep_check.specs.Types.{KnownType, agree, is_typed, type_of_listed, type_of_operation, type_of_tree, type_of_value}
+use Rattle.hep_check.specs.Words.{IsAccepted, Parameters, has_value, has_value_or_is_open, is_constant_expression, is_constant_given, is_given, is_known, is_open, no_parameters, value_by, with_parameter, with_parameters, Keeps, subexpressions_of, trees_in_declarator, trees_in_form, KnownType, agree, is_typed, type_of_listed, type_of_operation, type_of_tree, type_of_value}
 use Rattle.hep_accepted.specs.Typing.{IsOf}
 use Rattle.hep_accepted.proofs.Executed.{same_types}
 use Rattle.hep_accepted.proofs.Formed.{constant_given, expressions_have_types, names_have_types, parameters_at, typed_statement}
@@ -44,10 +20,6 @@ use Rattle.hep_accepted.proofs.Parts.{some_of}
 abbrev pub ConstantsAgree : Type 0
 ConstantsAgree =
     (program : Units) (unit before after : List Statement) (u : ℕ) → IsAccepted program → slice_get program u ≡ Some unit → unit ≡ before ++ after → Keeps (with_parameters unit no_parameters (named_constants before)) (given_by unit [] (named_constants before))
-
-append-nil : {A : Type 0} (xs : List A) → xs ≡ xs ++ []
-append-nil [] = refl
-append-nil (x ∷ xs) = ap (λ ys. x ∷ ys) (append-nil xs)
 
 -- ---- names that have values keep them
 
@@ -80,14 +52,11 @@ given_now (k ∷ ks) x w = by_test (same_name k.0 x) (given_now ks x w) where
 next : Bool → Bool → Parameters → Name → Option Value → Parameters
 next g o ps x v = if g then ps else if o then record ps { known = with_constant ps.known x v } else record ps { doubtful = x ∷ ps.doubtful }
 
-never_empty : {A : Type 0} (x : A) (xs : List A) → x ∷ xs ≡ [] → ⊥
-never_empty x xs e = cc
-
 doubtless-next : (g o : Bool) (ps : Parameters) (x : Name) (v : Option Value) → (next g o ps x v).doubtful ≡ [] → ps.doubtful ≡ []
 unfolding next
 doubtless-next true o ps x v e = e
 doubtless-next false true ps x v e = e
-doubtless-next false false ps x v e = absurd (never_empty x ps.doubtful e)
+doubtless-next false false ps x v e = absurd cc
 
 doubtless : (unit : List Statement) (ps : Parameters) (cs : List NamedConstant) → (with_parameters unit ps cs).doubtful ≡ [] → ps.doubtful ≡ []
 unfolding next
@@ -112,12 +81,7 @@ stays unit ps (c ∷ cs) y e =
 -- a whole expression is the first of its parts
 first_part : (t : Tree) → slice_get (subexpressions_of t) 0 ≡ Some t
 first_part (constant v) = refl
-first_part (occurrence p) = refl
-first_part (with_list p ts) = refl
-first_part (parenthesized w) = refl
-first_part (signed s w) = refl
-first_part (negated w) = refl
-first_part (binary o a b) = refl
+first_part _ = refl
 
 -- a whole expression is among its parts
 pub whole_part : (unit : List Statement) (ps : Parameters) (t : Tree) → list_all (has_value_or_is_open unit ps) (subexpressions_of t) ≡ true → has_value_or_is_open unit ps t ≡ true
@@ -135,17 +99,14 @@ known_valued : (unit : List Statement) (ps : Parameters) (c : NamedConstant) →
 known_valued unit ps c e =
     let both = and_parts (not (is_open unit ps c.value)) (is_constant_given unit ps c) e in
     let given = and_parts (is_typed unit c.value) _ both.1 in
-    valued unit ps c.value (not_open (is_open unit ps c.value) both.0) (and_parts (has_value unit ps c.value) _ given.1).0 where
-      not_open : (b : Bool) → not b ≡ true → b ≡ false
-      not_open true f = absurd (true≢false (sym f))
-      not_open false f = refl
+    valued unit ps c.value (not-true (is_open unit ps c.value) both.0) (and_parts (has_value unit ps c.value) _ given.1).0
 
 has-next : (g o : Bool) (ps : Parameters) (x : Name) (v : Option Value) → is_given ps x ≡ g → (o ≡ true → is_some v ≡ true) → (next g o ps x v).doubtful ≡ [] → is_some (value_among (next g o ps x v).known x) ≡ true
 unfolding next
 has-next true o ps x v is h e =
     subst (λ ds. (is_among x ds || is_some (value_among ps.known x)) ≡ true) e is
 has-next false true ps x v is h e = let w = some_of v (h refl) in subst (λ o. is_some (value_among (with_constant ps.known x o) x) ≡ true) (sym w.1) (given_now ps.known x w.0)
-has-next false false ps x v is h e = absurd (never_empty x ps.doubtful e)
+has-next false false ps x v is h e = absurd cc
 
 has_known : (unit : List Statement) (ps : Parameters) (cs : List NamedConstant) (i : ℕ) (c : NamedConstant) → (with_parameters unit ps cs).doubtful ≡ [] → slice_get cs i ≡ Some c → is_some (value_among (with_parameters unit ps cs).known c.occurrence.name) ≡ true
 unfolding next
@@ -157,7 +118,7 @@ has_known unit ps (d ∷ ds) (suc i) c e g = has_known unit (with_parameter unit
 
 pub constant_there : ConstantsAgree → (program : Units) (u i : ℕ) (unit : List Statement) (c : NamedConstant) → IsAccepted program → slice_get program u ≡ Some unit → slice_get (named_constants unit) i ≡ Some c → (v : Value) × (constant_value unit c.occurrence.name ≡ Some v)
 constant_there agrees program u i unit c accepted iu ic =
-    let k = agrees program unit unit [] u accepted iu (append-nil unit) in
+    let k = agrees program unit unit [] u accepted iu (sym (append-nil unit)) in
     some_of (constant_value unit c.occurrence.name) (sym (ap is_some (k.1 c.occurrence.name)) ∙ has_known unit no_parameters (named_constants unit) i c k.0 ic)
 
 -- ---- types of values
@@ -185,10 +146,7 @@ combined_typed (LogicalOperation o) w x y e = sym (ap type_of_value (same_Some _
 
 listed_value : (unit : List Statement) (m : Meaning) (x : Name) (ts : Trees) (o : Option (List Value)) (v : Value) → by_meaning m o ≡ Some v → type_of_listed unit m x ts ≡ Some (Some (type_of_value v))
 listed_value unit (pure f) x ts (Some vs) v e = ap (λ t. Some (Some t)) (sym (integer_there (function_result f (integers_of vs)) v e))
-listed_value unit (pure f) x ts None v e = absurd (none-some v e)
-listed_value unit element x ts o v e = absurd (none-some v e)
-listed_value unit (state f) x ts o v e = absurd (none-some v e)
-listed_value unit unknown x ts o v e = absurd (none-some v e)
+listed_value unit _ x ts _ v e = absurd (none-some v e)
 
 -- the value of an expression is of the type that the expression has
 pub value_typed : (unit : List Statement) (values : Values) (e : Tree) (v : Value) → AreValuesTyped unit values → value_of unit values e ≡ Some v → type_of_tree unit e ≡ Some (Some (type_of_value v))
@@ -241,9 +199,6 @@ constant_has : (f : Form) (c : NamedConstant) (unit : List Statement) → Has (c
 constant_has (form.Parameter cs) c unit h = has_flat (occurrences_in_constant unit) cs c c.occurrence h (0, refl)
 constant_has _ c unit h = absurd (none-some c h.1)
 
-one_from : (unit : List Statement) (c : NamedConstant) (t w : ValueType) → type_of unit c.occurrence.name ≡ Some t → IsOf unit w c.value → w ≡ t → IsOneType unit c
-one_from unit c t w named of same = (t, named, subst (λ (z : ValueType). IsOf unit z c.value) same of)
-
 pub one_type : (program : Units) (u i : ℕ) (unit : List Statement) (c : NamedConstant) → IsAccepted program → slice_get program u ≡ Some unit → slice_get (named_constants unit) i ≡ Some c → IsOneType unit c
 one_type program u i unit c accepted iu ic =
     let s = flat_has (λ (w : Statement). constants_in w.form) unit c (i, ic) in
@@ -257,7 +212,7 @@ one_type program u i unit c accepted iu ic =
     let place = has_behind s.0.conditions _ c.value (has_behind (flat_map trees_in_declarator (declarators_in s.0.form)) _ c.value (has_front (map (λ (d : NamedConstant). d.value) (constants_in s.0.form)) (flat_map (λ (g : DataGroup). flat_map (λ (t : Target). t.subscripts) g.targets) (groups_in s.0.form) ++ trees_in_form s.0.form) c.value (has_map (λ (d : NamedConstant). d.value) (constants_in s.0.form) c s.2))) in
     let w = expressions_have_types program u k place.0 0 unit s.0 c.value c.value accepted iu (s.1).1 place.1 (first_part c.value) in
     let same = same_types t.0 w.0 (Some (type_of unit c.occurrence.name)) (type_of_tree unit c.value) (ap (λ o. Some o) t.1) w.1 p2.1 in
-    one_from unit c t.0 w.0 t.1 w.1 same
+    (t.0, t.1, subst (λ (z : ValueType). IsOf unit z c.value) {x = w.0} same w.1)
 
 -- one of these constants gives a name this value, by the constants before it
 abbrev IsGivenAt : List Statement → Constants → List NamedConstant → Name → Value → Type 0

@@ -1,11 +1,7 @@
 -- How arguments agree with what they are given to: X3.9-1978, 15.6.2.3 and 15.9.3, and docs/LANGUAGE.md, 8 and 9.
 use Rattle.std.specs.Prelude.{◌≡◌, ℕ, true, List, Some, length, slice_get}
-use Rattle.hep_source.specs.Tree.{Tree, Trees, no_trees, trees}
-use Rattle.hep_source.specs.declared.name.Name.{Name}
-use Rattle.hep_source.specs.declared.statement.Statement.{Statement}
-use Rattle.hep_source.specs.Units.{Units, dummies_of, is_named, subroutine_called, subroutine_name}
-use Rattle.hep_check.specs.Arguments.{actual_class, fits_dummy, is_asynchronous_scalar}
-use Rattle.hep_check.specs.Statements.{Calling}
+use Rattle.hep_machine.specs.Words.{Tree, Trees, no_trees, trees, Name, Statement, Units, dummies_of, is_named, subroutine_called, subroutine_name}
+use Rattle.hep_check.specs.Words.{actual_class, fits_dummy, is_asynchronous_scalar, Calling}
 
 -- each actual argument fits the dummy argument in its place: 15.9.3
 abbrev pub FitPairwise : List Statement → List Statement → List Tree → Type 0

@@ -1,11 +1,7 @@
 -- Where an accepted program's statements go, and how its DOs and block IFs are nested: X3.9-1978, section 11.
 use Rattle.std.specs.Prelude.{◌≡◌, ◌⊎◌, ◌<◌, ◌≤◌, ℕ, true, false, List, Some, slice_get}
-use Rattle.hep_source.specs.declared.statement.DoControl.{DoControl}
-use Rattle.hep_source.specs.declared.statement.Statement.{Statement}
-use Rattle.hep_source.specs.Names.{same_name}
-use Rattle.hep_source.specs.Units.{is_executable}
-use Rattle.hep_machine.specs.Control.{index_labelled, role_of}
-use Rattle.hep_check.specs.Nesting.{BlockIf, DoRange, Region, is_division, is_in, is_wrong_terminal, regions_of}
+use Rattle.hep_machine.specs.Words.{DoControl, Statement, same_name, is_executable, index_labelled, role_of}
+use Rattle.hep_check.specs.Words.{BlockIf, DoRange, Region, is_division, is_in, is_wrong_terminal, regions_of}
 
 -- from index k to index j no DO range and no block of a block IF is entered: 11.6.3, 11.7.2, 11.8.2 and 11.10.8
 abbrev pub EntersNone : List Statement → ℕ → ℕ → Type 0

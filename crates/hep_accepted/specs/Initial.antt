@@ -2,18 +2,8 @@
 use Rattle.std.specs.Prelude.{◌≡◌, ◌+◌, ◌<◌, ◌≤◌, ℕ, List, Some, option_to_list}
 use Rattle.std.specs.List.{flat_map}
 use Rattle.std.specs.Option.{option_map}
-use Rattle.hep_source.specs.declared.declaration.DataGroup.{DataGroup}
-use Rattle.hep_source.specs.declared.declaration.DataValue.{DataValue}
-use Rattle.hep_source.specs.declared.declaration.Target.{Target}
-use Rattle.hep_source.specs.declared.name.Name.{Name}
-use Rattle.hep_source.specs.declared.statement.Statement.{Statement}
-use Rattle.hep_source.specs.declared.value.Value.{Value}
-use Rattle.hep_machine.specs.Constants.{constant_value}
-use Rattle.hep_machine.specs.Data.{Repeated, Stretch, elements_named, groups_in, item_at, values_given}
-use Rattle.hep_machine.specs.Declarations.{type_of}
-use Rattle.hep_check.specs.Data.{name_repeated}
-use Rattle.hep_check.specs.Known.{count_of_items}
-use Rattle.hep_check.specs.Types.{type_of_value}
+use Rattle.hep_machine.specs.Words.{DataGroup, DataValue, Target, Name, Statement, Value, constant_value, Repeated, Stretch, elements_named, groups_in, item_at, values_given, type_of}
+use Rattle.hep_check.specs.Words.{name_repeated, count_of_items, type_of_value}
 
 -- the elements that names stand for, as stretches in their order
 abbrev pub stretches_of : List Statement → List Target → List Stretch

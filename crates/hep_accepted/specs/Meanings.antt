@@ -1,11 +1,7 @@
 -- What a name stands for: X3.9-1978, 18.1 and 18.2.
 use Rattle.std.specs.Prelude.{◌≡◌, ℕ, suc, Bool, if◌then◌else◌, List, [], ◌∷◌, Option, Some, None}
-use Rattle.hep_source.specs.declared.name.Name.{Name}
-use Rattle.hep_source.specs.declared.statement.Form.{Form}
+use Rattle.hep_machine.specs.Words.{Name, Form, Statement, is_common, is_constant_name, is_dummy, is_local}
 use Rattle.hep_source.specs.declared.statement.Form.TheVariants as form
-use Rattle.hep_source.specs.declared.statement.Statement.{Statement}
-use Rattle.hep_machine.specs.Declarations.{is_common, is_constant_name, is_dummy}
-use Rattle.hep_machine.specs.Variables.{is_local}
 
 abbrev pub how_many : List Bool → ℕ
 how_many [] = 0

@@ -1,21 +1,8 @@
 -- What types the expressions and statements of an accepted program have: X3.9-1978, 4.1, sections 6, 10 and 11, and 15.10.
 use Rattle.std.specs.Prelude.{◌≡◌, ◌⊎◌, ℕ, true, false, List, [], length, Some}
-use Rattle.hep_source.specs.Tree.{Tree, Trees, with_list, signed, negated, binary, no_trees, trees, trees_of}
-use Rattle.hep_source.specs.declared.declaration.NamedConstant.{NamedConstant}
-use Rattle.hep_source.specs.declared.declaration.Target.{Target}
-use Rattle.hep_source.specs.declared.declaration.ValueType.{ValueType}
-use Rattle.hep_source.specs.declared.declaration.ValueType.TheVariants.{Integer, Logical}
-use Rattle.hep_source.specs.declared.name.Name.{Name}
-use Rattle.hep_source.specs.declared.statement.Form.{Form}
+use Rattle.hep_machine.specs.Words.{Tree, Trees, with_list, signed, negated, binary, no_trees, trees, trees_of, NamedConstant, Target, ValueType, Integer, Logical, Name, Form, Statement, Value, constant_shape, constant_value, value_of, dimensions_of, is_array, type_of, Meaning, element, pure, state, unknown, listed_meaning, Bounds, elements, is_shape}
 use Rattle.hep_source.specs.declared.statement.Form.TheVariants as form
-use Rattle.hep_source.specs.declared.statement.Statement.{Statement}
-use Rattle.hep_source.specs.declared.value.Value.{Value}
-use Rattle.hep_machine.specs.Constants.{constant_shape, constant_value, value_of}
-use Rattle.hep_machine.specs.Declarations.{dimensions_of, is_array, type_of}
-use Rattle.hep_machine.specs.Functions.{Meaning, element, pure, state, unknown, listed_meaning}
-use Rattle.hep_machine.specs.Shapes.{Bounds, elements, is_shape}
-use Rattle.hep_check.specs.Counts.{count_of}
-use Rattle.hep_check.specs.Types.{type_of_operands, type_of_tree, type_of_value}
+use Rattle.hep_check.specs.Words.{count_of, type_of_operands, type_of_tree, type_of_value}
 use Rattle.hep_accepted.specs.Agreement.{IsOneAsynchronousScalar}
 
 -- an expression of this type

@@ -1,15 +1,7 @@
 //! Calls, references of functions and what is purged (X3.9-1978, 15.6 to 15.10, and `docs/LANGUAGE.md`, 8 and 9).
 ghost use Rattle.std.specs.Prelude.{◌≡◌, ◌⊎◌, ℕ, Bool, true, false, List, [], Some, slice_get};
-ghost use Rattle.hep_source.specs.declared.declaration.Target.{Target};
-ghost use Rattle.hep_source.specs.declared.function.PureFunction.{PureFunction};
-ghost use Rattle.hep_source.specs.declared.function.StateFunction.{StateFunction};
-ghost use Rattle.hep_source.specs.declared.statement.Statement.{Statement};
-ghost use Rattle.hep_source.specs.Units.{Units};
-ghost use Rattle.hep_machine.specs.Declarations.{is_array, is_constant_name};
-ghost use Rattle.hep_machine.specs.Functions.{pure, state, listed_meaning};
-ghost use Rattle.hep_check.specs.Conditions.{IsAccepted};
-ghost use Rattle.hep_check.specs.Counts.{count_of, takes};
-ghost use Rattle.hep_check.specs.Statements.{Calling, NameWithList, calls_in, names_with_lists, targets_purged};
+ghost use Rattle.hep_machine.specs.Words.{Target, PureFunction, StateFunction, Statement, Units, is_array, is_constant_name, pure, state, listed_meaning};
+ghost use Rattle.hep_check.specs.Words.{IsAccepted, count_of, takes, Calling, NameWithList, calls_in, names_with_lists, targets_purged};
 ghost use Rattle.hep_accepted.specs.Agreement.{CallsSubroutine, IsOneAsynchronousScalar};
 
 /// What a CALL or CREATE calls is a subroutine of the program, which has as many dummy arguments as it

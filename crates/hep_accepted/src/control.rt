@@ -1,14 +1,8 @@
 //! Labels, jumps, DOs and block IFs (X3.9-1978, 3.4 and section 11).
 ghost use Rattle.std.specs.Prelude.{◌≡◌, ℕ, true, false, List, [], ◌∷◌, Some, slice_get};
-ghost use Rattle.hep_source.specs.Tree.{Tree};
-ghost use Rattle.hep_source.specs.declared.statement.DoControl.{DoControl};
+ghost use Rattle.hep_machine.specs.Words.{Tree, DoControl, Statement, Units};
 ghost use Rattle.hep_source.specs.declared.statement.Form.TheVariants as form;
-ghost use Rattle.hep_source.specs.declared.statement.Statement.{Statement};
-ghost use Rattle.hep_source.specs.Units.{Units};
-ghost use Rattle.hep_check.specs.Conditions.{IsAccepted};
-ghost use Rattle.hep_check.specs.Nesting.{BlockIf, DoRange, block_ifs_of, is_not_held, ranges_of};
-ghost use Rattle.hep_check.specs.Statements.{targets_of_jump};
-ghost use Rattle.hep_check.specs.Types.{is_plain_integer_scalar};
+ghost use Rattle.hep_check.specs.Words.{IsAccepted, BlockIf, DoRange, block_ifs_of, is_not_held, ranges_of, targets_of_jump, is_plain_integer_scalar};
 ghost use Rattle.hep_accepted.specs.Flow.{AreNested, EndsWithin, HasTerminal, HoldsWhole, Leads};
 
 /// Each label that a statement jumps to is on an executable statement of the unit, which is no ELSE IF

@@ -1,17 +1,7 @@
 //! What DATA gives values (X3.9-1978, section 9).
 ghost use Rattle.std.specs.Prelude.{◌≡◌, ℕ, true, List, Some, slice_get};
-ghost use Rattle.hep_source.specs.declared.declaration.DataGroup.{DataGroup};
-ghost use Rattle.hep_source.specs.declared.declaration.DataValue.{DataValue};
-ghost use Rattle.hep_source.specs.declared.declaration.Target.{Target};
-ghost use Rattle.hep_source.specs.declared.name.Name.{Name};
-ghost use Rattle.hep_source.specs.declared.statement.Statement.{Statement};
-ghost use Rattle.hep_source.specs.declared.value.Value.{Value};
-ghost use Rattle.hep_source.specs.Units.{Units, is_main, subroutine_name};
-ghost use Rattle.hep_machine.specs.Constants.{constant_value};
-ghost use Rattle.hep_machine.specs.Data.{Repeated, Stretch, elements_named, groups_in, values_given};
-ghost use Rattle.hep_machine.specs.Declarations.{is_nonempty};
-ghost use Rattle.hep_machine.specs.Variables.{is_local};
-ghost use Rattle.hep_check.specs.Conditions.{IsAccepted};
+ghost use Rattle.hep_machine.specs.Words.{DataGroup, DataValue, Target, Name, Statement, Value, Units, is_main, subroutine_name, constant_value, Repeated, Stretch, elements_named, groups_in, values_given, is_nonempty, is_local};
+ghost use Rattle.hep_check.specs.Words.{IsAccepted};
 ghost use Rattle.hep_accepted.specs.Initial.{FitsValues, IsWithin, all_stretches};
 
 use hep_check::laws;

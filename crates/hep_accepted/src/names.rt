@@ -1,17 +1,8 @@
 //! What names stand for (X3.9-1978, 18.1 and 18.2).
 ghost use Rattle.std.specs.Prelude.{◌≡◌, ℕ, true, false, List, [], ◌∷◌, Some, slice_get};
 ghost use Rattle.std.specs.List.{flat_map};
-ghost use Rattle.hep_source.specs.declared.declaration.CommonBlock.{CommonBlock};
-ghost use Rattle.hep_source.specs.declared.declaration.NamedConstant.{NamedConstant};
-ghost use Rattle.hep_source.specs.declared.declaration.Target.{Target};
-ghost use Rattle.hep_source.specs.declared.name.Name.{Name};
-ghost use Rattle.hep_source.specs.declared.statement.Statement.{Statement};
-ghost use Rattle.hep_source.specs.Units.{Units, dummies_of, subroutine_called, subroutine_name};
-ghost use Rattle.hep_machine.specs.Declarations.{block_of, blocks_in, is_array, is_common, is_constant_name, is_dummy, is_nonempty, named_constants};
-ghost use Rattle.hep_machine.specs.Functions.{listed_meaning};
-ghost use Rattle.hep_check.specs.Conditions.{IsAccepted};
-ghost use Rattle.hep_check.specs.Names.{bounded_names, common_names, is_unknown, typed_names, variable_names};
-ghost use Rattle.hep_check.specs.Statements.{Calling, NameWithList, calls_in, names_with_lists, targets_assigned, targets_in_data, targets_purged};
+ghost use Rattle.hep_machine.specs.Words.{CommonBlock, NamedConstant, Target, Name, Statement, Units, dummies_of, subroutine_called, subroutine_name, block_of, blocks_in, is_array, is_common, is_constant_name, is_dummy, is_nonempty, named_constants, listed_meaning};
+ghost use Rattle.hep_check.specs.Words.{IsAccepted, bounded_names, common_names, is_unknown, typed_names, variable_names, Calling, NameWithList, calls_in, names_with_lists, targets_assigned, targets_in_data, targets_purged};
 ghost use Rattle.hep_accepted.specs.Meanings.{IsOneThing, name_of_unit};
 
 /// In a unit each name is just one of these: a named constant, a dummy argument, in COMMON, or local. A

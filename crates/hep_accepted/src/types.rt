@@ -1,15 +1,7 @@
 //! Types of names, expressions and statements (X3.9-1978, 4.1 and sections 6, 10 and 11).
 ghost use Rattle.std.specs.Prelude.{◌≡◌, ℕ, List, Some, slice_get};
-ghost use Rattle.hep_source.specs.Tree.{Tree};
-ghost use Rattle.hep_source.specs.declared.declaration.ValueType.{ValueType};
-ghost use Rattle.hep_source.specs.declared.declaration.ValueType.TheVariants.{Logical};
-ghost use Rattle.hep_source.specs.declared.name.Occurrence.{Occurrence};
-ghost use Rattle.hep_source.specs.declared.statement.Statement.{Statement};
-ghost use Rattle.hep_source.specs.Units.{Units};
-ghost use Rattle.hep_machine.specs.Declarations.{type_of};
-ghost use Rattle.hep_machine.specs.Variables.{occurrences_in_statement};
-ghost use Rattle.hep_check.specs.Conditions.{IsAccepted};
-ghost use Rattle.hep_check.specs.Statements.{subexpressions_of, trees_in_statement};
+ghost use Rattle.hep_machine.specs.Words.{Tree, ValueType, Logical, Occurrence, Statement, Units, type_of, occurrences_in_statement};
+ghost use Rattle.hep_check.specs.Words.{IsAccepted, subexpressions_of, trees_in_statement};
 ghost use Rattle.hep_accepted.specs.Typing.{HasOperands, HasType, HasTypes, IsOf};
 
 /// Each variable and named constant is an integer or logical.

@@ -1,13 +1,7 @@
 //! Values of named constants, and shapes of arrays (X3.9-1978, 5.1 and 8.6).
 ghost use Rattle.std.specs.Prelude.{◌≡◌, ℕ, true, false, List, Some, slice_get};
-ghost use Rattle.hep_source.specs.declared.declaration.NamedConstant.{NamedConstant};
-ghost use Rattle.hep_source.specs.declared.name.Name.{Name};
-ghost use Rattle.hep_source.specs.declared.statement.Statement.{Statement};
-ghost use Rattle.hep_source.specs.Units.{Units};
-ghost use Rattle.hep_machine.specs.Constants.{constant_shape};
-ghost use Rattle.hep_machine.specs.Declarations.{is_array, is_dummy, named_constants};
-ghost use Rattle.hep_machine.specs.Shapes.{Bounds, is_shape};
-ghost use Rattle.hep_check.specs.Conditions.{IsAccepted};
+ghost use Rattle.hep_machine.specs.Words.{NamedConstant, Name, Statement, Units, constant_shape, is_array, is_dummy, named_constants, Bounds, is_shape};
+ghost use Rattle.hep_check.specs.Words.{IsAccepted};
 ghost use Rattle.hep_accepted.specs.Typing.{HasShape, HasValue};
 
 use hep_check::laws;

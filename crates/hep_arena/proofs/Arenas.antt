@@ -1,8 +1,7 @@
 -- What each call makes of an arena.
-use Rattle.std.proofs.Common.{◌≡◌, ◌⊎◌, inl, inr, ℕ, ◌+◌, ◌-◌, ◌<◌, ◌≤◌, Bool, true, false, List, [], ◌∷◌, length, Some, refl, sym, subst, ◌∙◌, arith}
-use Rattle.std.specs.Prelude.{if◌then◌else◌, nat_eq, nat_lt}
+use Rattle.hep_arena.proofs.Cases.{given-cases, joined-cases}
+use Rattle.std.proofs.Common.{◌≡◌, ◌⊎◌, inl, inr, ℕ, ◌+◌, ◌-◌, ◌<◌, ◌≤◌, List, [], ◌∷◌, length, Some, sym, subst, ◌∙◌, arith}
 use Rattle.std.proofs.lemmas.Bool.{cases_lt}
-use Rattle.std.proofs.lemmas.Bool.Decides.{nat_tests}
 use Rattle.hep_machine.specs.declared.slot.Slot.{Slot}
 use Rattle.hep_arena.specs.declared.holes.Holes.{Holes}
 use Rattle.hep_arena.specs.Holes.{Hole, AreHoles, IsOut, first_fit, free_cells, given, joined, taken}
@@ -48,27 +47,18 @@ pub block-reported : (s : List Slot) (holes : Holes) (at n at' n' : ℕ) (a : Sp
 block-reported s holes at n at' n' a view e₀ e₁ inside out =
     subst (λ (u : ℕ × ℕ × Space). (u.0 + u.1 ≤ length u.2.contents) × ((k : ℕ) → u.0 ≤ k → k < u.0 + u.1 → IsOut k u.2.holes)) (λ j. (sym e₀ j, sym e₁ j, sym view j)) (inside, out)
 
+out-joined : (k : ℕ) (b : Hole) (hs : List Hole) → IsOut k (joined b hs) → IsOut k hs × ((k < b.0) ⊎ (b.0 + b.1 ≤ k))
+out-joined k b [] = λ t. (tt, t.0)
+out-joined k b (h ∷ hs) = joined-cases (λ l. IsOut k l → IsOut k (h ∷ hs) × ((k < b.0) ⊎ (b.0 + b.1 ≤ k))) b h hs
+    (λ touch t. ((grind (arith, t.0), t.1), grind (arith, t.0))) (λ apart t. (t.1, t.0))
+
 -- a cell that is out of cells that were given back was out before, and is none of them
 pub out-given : (k : ℕ) (b : Hole) (hs : List Hole) → IsOut k (given b hs) → IsOut k hs × ((k < b.0) ⊎ (b.0 + b.1 ≤ k))
-out-given k b [] t = (tt, t.0)
-out-given k b (h ∷ hs) t = by_place (out-given k b hs) (nat_lt b.0 h.0) (nat_eq (h.0 + h.1) b.0) refl t where
-  out-joined : (b : Hole) (hs : List Hole) → IsOut k (joined b hs) → IsOut k hs × ((k < b.0) ⊎ (b.0 + b.1 ≤ k))
-  out-joined b [] t = (tt, t.0)
-  out-joined b (h ∷ hs) t = by_touch (nat_eq (b.0 + b.1) h.0) refl t where
-    by_touch : (c : Bool) → nat_eq (b.0 + b.1) h.0 ≡ c → IsOut k (if c then (b.0, b.1 + h.1) ∷ hs else b ∷ h ∷ hs) → IsOut k (h ∷ hs) × ((k < b.0) ⊎ (b.0 + b.1 ≤ k))
-    by_touch true e t =
-        let is : b.0 + b.1 ≡ h.0 = grind (arith, nat_tests) in
-        ((elim t.0 [ inl u ↦ inl (omega (arith, u, is)) | inr u ↦ inr (omega (arith, u, is)) ], t.1), elim t.0 [ inl u ↦ inl u | inr u ↦ inr (omega (arith, u)) ])
-    by_touch false e t = (t.1, t.0)
-
-  by_place : (IsOut k (given b hs) → IsOut k hs × ((k < b.0) ⊎ (b.0 + b.1 ≤ k))) → (c d : Bool) → nat_eq (h.0 + h.1) b.0 ≡ d
-      → IsOut k (if c then joined b (h ∷ hs) else (if d then joined (h.0, h.1 + b.1) hs else h ∷ given b hs)) → IsOut k (h ∷ hs) × ((k < b.0) ⊎ (b.0 + b.1 ≤ k))
-  by_place more true d e t = out-joined b (h ∷ hs) t
-  by_place more false true e t =
-      let is : h.0 + h.1 ≡ b.0 = grind (arith, nat_tests) in
-      let r = out-joined (h.0, h.1 + b.1) hs t in
-      ((elim r.1 [ inl u ↦ inl u | inr u ↦ inr (omega (arith, u)) ], r.0), elim r.1 [ inl u ↦ inl (omega (arith, u, is)) | inr u ↦ inr (omega (arith, u, is)) ])
-  by_place more false false e t = let r = more t.1 in ((t.0, r.0), r.1)
+out-given k b [] = λ t. (tt, t.0)
+out-given k b (h ∷ hs) = given-cases (λ l. IsOut k l → IsOut k (h ∷ hs) × ((k < b.0) ⊎ (b.0 + b.1 ≤ k))) b h hs
+    (λ front. out-joined k b (h ∷ hs))
+    (λ up touch t. let r = out-joined k (h.0, h.1 + b.1) hs t in ((grind (arith, r.1), r.0), grind (arith, r.1)))
+    (λ up apart t. let r = out-given k b hs t.1 in ((t.0, r.0), r.1))
 
 module _ (s : List Slot) (holes : Holes) (used at n : ℕ) (arena : IsArena s holes used) (some : 0 < n) (inside : at + n ≤ length s) (out : (k : ℕ) → at ≤ k → k < at + n → IsOut k (holes_of holes)) where
   back : AreHoles 0 (length s) (given (at, n) (holes_of holes))

@@ -12,3 +12,4 @@ pub mod Loans
 pub mod Arenas
 pub mod Gaps
 mod Worked
+pub mod Cases

@@ -1,6 +1,6 @@
 -- The gaps of a layout as holes: docs/MACHINE.md, "Layout".
 use Rattle.std.specs.Prelude.{ℕ, ◌+◌, ◌-◌, Bool, nat_eq, nat_lt, if◌then◌else◌, List, [], ◌∷◌, Option, Some, None}
-use Rattle.hep_machine.specs.Layout.{Frame, Layout}
+use Rattle.hep_machine.specs.Words.{Frame, Layout}
 use Rattle.hep_arena.specs.Holes.{Hole, given}
 
 -- the free cells from an index up to another, in front of these holes

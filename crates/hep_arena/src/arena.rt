@@ -2,7 +2,7 @@
 ghost use Rattle.std.specs.Prelude.{◌≡◌, ◌⊎◌, ◌∷◌, [], ℕ, ◌+◌, ◌<◌, ◌≤◌, length, slice_get, slice_range, slice_set, Some, None, IfOk, IfSome, MatchOption};
 ghost use Rattle.std.specs.Borrow.{sem};
 ghost use Rattle.std.specs.Option.{is_some};
-ghost use Rattle.hep_machine.specs.Access.{unset_cell};
+ghost use Rattle.hep_machine.specs.Words.{unset_cell};
 ghost use Rattle.hep_arena.specs.Holes.{AreHoles, IsOut, first_fit, free_cells, given, taken};
 
 use crate::block::Block;

@@ -1,9 +1,7 @@
 -- The least number above one: of rising numbers, and of those of the processes that wait.
-use Rattle.std.proofs.Common.{◌≡◌, ◌≢◌, ℕ, zero, suc, ◌+◌, ◌-◌, ◌<◌, ◌||◌, Bool, true, false, true≢false, List, [], ◌∷◌, length, get_or, Option, Some, None, refl, sym, subst, ap, ◌∙◌, inl, inr, arith}
-use Rattle.std.specs.Prelude.{◌==◌, nat_lt, is_none, is_some, IfNone, IfSome}
+use Rattle.std.proofs.Common.{◌≡◌, ◌≢◌, ℕ, zero, suc, ◌+◌, ◌-◌, ◌<◌, ◌||◌, Bool, true, false, true≢false, List, [], ◌∷◌, length, get_or, Option, Some, None, refl, sym, subst, ap, ◌∙◌, inl, inr, arith, ◌==◌, nat_lt, is_none, is_some, IfNone, IfSome}
 use Rattle.std.proofs.lemmas.Bool.{cases_lt, cases_eq, lt-ltb, le-ltb, ne_eqb, eq-eqb}
-use Rattle.hep_machine.specs.Processes.{is_number_among}
-use Rattle.hep_machine.specs.Schedules.{first_above}
+use Rattle.hep_machine.specs.Words.{is_number_among, first_above}
 use Rattle.hep_ready.specs.Numbers.{AreRising, Numbers}
 use Rattle.hep_blocked.specs.declared.want.Want.{Want}
 use Rattle.hep_blocked.specs.Lists.{AreNumbers}

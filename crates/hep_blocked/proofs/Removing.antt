@@ -1,30 +1,16 @@
 -- One process waits for nothing any more: what the others wait for, its list, and the numbers of those that wait.
-use Rattle.std.proofs.Common.{◌≡◌, ◌≢◌, ℕ, zero, suc, ◌-◌, ◌≤◌, ◌&&◌, Bool, true, false, true≢false, List, [], ◌∷◌, length, length-set, get_or, get_or-set_same, get_or-set_other, not, set, Option, Some, None, refl, sym, ap, ◌∙◌, inl, inr, arith}
-use Rattle.std.specs.Prelude.{nat_eq, if◌then◌else◌, is_some}
-use Rattle.std.specs.Global.{Vec}
+use Rattle.std.proofs.Common.{◌≡◌, ◌≢◌, ℕ, zero, suc, ◌-◌, ◌≤◌, ◌&&◌, Bool, true, false, true≢false, List, [], ◌∷◌, length, length-set, get_or, get_or-set_same, get_or-set_other, not, set, Option, Some, None, refl, sym, ap, ◌∙◌, inl, inr, arith, nat_eq, if◌then◌else◌, is_some}
 use Rattle.std.proofs.lemmas.Bool.{cases_lt, cases_eq, cases_Bool, ne_eqb, eq-eqb}
 use Rattle.std.proofs.Math.ListN.{get_or-eq_default}
-use Rattle.hep_machine.specs.Processes.{is_number_among}
-use Rattle.hep_machine.specs.Schedules.{without}
+use Rattle.hep_machine.specs.Words.{is_number_among, without}
 use Rattle.hep_ready.specs.Numbers.{Numbers}
 use Rattle.hep_blocked.specs.declared.want.Want.{Want}
-use Rattle.hep_blocked.specs.Lists.{AreApart, AreNumbers, IsTied, items_of, without_process}
+use Rattle.hep_blocked.specs.Lists.{AreApart, AreNumbers, IsTied, without_process}
 use Rattle.hep_blocked.specs.Waiting.{waiting_at, want_eq, wants, without_want}
 use Rattle.hep_blocked.proofs.Numbering.{among-without}
-use Rattle.hep_blocked.proofs.Wanting.{want-apart, want-is}
+use Rattle.hep_blocked.proofs.Wanting.{want-apart}
 
 -- ---- the lists
-
--- a process is taken out of a list, of those that a table has
-pub list-left : (f g : Want → Option (Vec ℕ)) (want : Want) (p : ℕ) (old new : Vec ℕ) → f want ≡ Some old → new.items ≡ without p old.items → ((w : Want) → g w ≡ (if want_eq want w then Some new else f w))
-    → (w : Want) → items_of (g w) ≡ (if want_eq want w then without p (items_of (f w)) else items_of (f w))
-list-left f g want p old new was is after w = elim (cases_Bool (want_eq want w)) [
-  | inl e ↦
-      let here : f w ≡ Some old = ap f (sym (want-is want w e)) ∙ was in
-      let there : g w ≡ Some new = rw e at (after w) in
-      rw (e, there, here) is
-  | inr e ↦ let there : g w ≡ f w = rw e at (after w) in rw (e, there) refl
-]
 
 apart-without : (p : ℕ) (ps : List ℕ) → AreApart ps → AreApart (without p ps)
 apart-without p [] apart = tt

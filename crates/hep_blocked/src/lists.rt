@@ -1,7 +1,7 @@
 //! The processes that wait for the same, and what they wait for.
 ghost use Rattle.std.specs.Prelude.{◌≡◌, ℕ, ◌≤◌, ◌-◌, ◌++◌, ◌∷◌, [], None, OnErr, OnOk, IsSome, true, length, replicate};
 ghost use Rattle.indexmap.specs.IndexMap.{IsUnique, get};
-ghost use Rattle.hep_machine.specs.Processes.{is_number_among};
+ghost use Rattle.hep_machine.specs.Words.{is_number_among};
 ghost use Rattle.hep_blocked.specs.declared.want.Want.{Want as PureWant};
 ghost use Rattle.hep_blocked.specs.Lists.{cleared, items_of, list_of, with_process, without_list, without_numbers, without_process};
 ghost use Rattle.hep_blocked.specs.Waiting.{want_eq, with_numbers};

@@ -1,18 +1,11 @@
 -- The code of a bound comes to the bound's value: X3.9-1978, 5.5.1.
-use Rattle.std.proofs.Common.{◌≡◌, ℕ, suc, ◌-◌, true, List, [], ◌∷◌, ◌++◌, take, drop, length, length-append, refl, ap, sym, ◌∙◌, arith, Option, Some, None}
+use Rattle.std.proofs.Common.{◌≡◌, ℕ, suc, ◌-◌, true, List, [], ◌∷◌, ◌++◌, take, drop, length, length-append, refl, ap, sym, ◌∙◌, arith, Option, Some, None, append_assoc, append-nil}
 use Rattle.std.proofs.Math.Seq.{take-append_seam, drop-append_seam}
-use Rattle.std.proofs.lemmas.List.{append_assoc, append-nil}
 use Rattle.std.specs.Option.{option_map, option_and_then}
-use Rattle.hep_source.specs.declared.name.Name.{Name}
-use Rattle.hep_source.specs.declared.operator.Operator.{Operator}
+use Rattle.hep_machine.specs.Words.{Name, Operator, Statement, Tree, Trees, constant, occurrence, with_list, parenthesized, signed, negated, binary, no_trees, trees, signed_value, negated_value, combined_value, Values, value_of, values_of, with_one, with_two, both, by_meaning, Meaning, element, pure, state, unknown, listed_meaning}
 use Rattle.hep_source.specs.declared.operator.Sign.{Sign as SignBefore}
-use Rattle.hep_source.specs.declared.statement.Statement.{Statement}
 use Rattle.hep_source.specs.declared.value.Value.{Value as Constant}
-use Rattle.hep_source.specs.Tree.{Tree, Trees, constant, occurrence, with_list, parenthesized, signed, negated, binary, no_trees, trees}
-use Rattle.hep_machine.specs.Arithmetic.{signed_value, negated_value, combined_value}
-use Rattle.hep_machine.specs.Constants.{Values, value_of, values_of, with_one, with_two, both, by_meaning}
-use Rattle.hep_machine.specs.Functions.{Meaning, element, pure, state, unknown, listed_meaning}
-use Rattle.hep_code.specs.ExpressionCode.{count}
+use Rattle.hep_code.specs.Words.{count}
 use Rattle.hep_bounds.specs.declared.operation.BoundOperation.{BoundOperation}
 use Rattle.hep_bounds.specs.declared.operation.BoundOperation.TheVariants.{Value, InCommon, InDummy, Sign, Not, Combine, Apply, Nowhere}
 use Rattle.hep_bounds.specs.BoundCode.{Sources, is_source, code_of_listed, code_of_bound, code_of_bounds, arity, behind, only_value, value_on, value_at, after_operation, after_code, coded_value}

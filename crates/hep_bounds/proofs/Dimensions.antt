@@ -1,20 +1,9 @@
 -- The code of an array's dimensions comes to the array's shape: X3.9-1978, 5.5.1.
-use Rattle.std.proofs.Common.{◌≡◌, ℕ, ◌+◌, ◌*◌, ◌<◌, ◌≤◌, ℤ, pos, Bool, true, false, ◌&&◌, nat_le, if◌then◌else◌, List, [], ◌∷◌, length, refl, ap, sym, ◌∙◌, arith, Option, Some, None}
-use Rattle.std.proofs.lemmas.List.{append-nil}
+use Rattle.std.proofs.Common.{◌≡◌, ℕ, ◌+◌, ◌*◌, ◌<◌, ◌≤◌, ℤ, pos, Bool, true, false, ◌&&◌, nat_le, if◌then◌else◌, List, [], ◌∷◌, length, refl, ap, sym, ◌∙◌, arith, Option, Some, None, append-nil}
 use Rattle.std.specs.Option.{option_map}
-use Rattle.hep_source.specs.declared.declaration.Dimension.{Dimension}
-use Rattle.hep_source.specs.declared.declaration.UpperBound.{UpperBound}
-use Rattle.hep_source.specs.declared.declaration.UpperBound.TheVariants.{Expression, Open}
-use Rattle.hep_source.specs.declared.name.Name.{Name}
-use Rattle.hep_source.specs.declared.statement.Statement.{Statement}
+use Rattle.hep_machine.specs.Words.{Dimension, UpperBound, Expression, Open, Name, Statement, Int, Tree, integer_of, Values, value_of, both, lower_value, upper_value, bound_of, bound_before, bounds_of, if_shape, shape_by, dimensions_of, Bounds, are_dimensions, is_between, is_most, elements, is_shape}
 use Rattle.hep_source.specs.declared.value.Value.{Value as Constant}
-use Rattle.hep_source.specs.declared.value.Value.TheVariants.{Int}
-use Rattle.hep_source.specs.Tree.{Tree}
 use Rattle.hep_machine.specs.declared.shape.Bound.{Bound}
-use Rattle.hep_machine.specs.Arithmetic.{integer_of}
-use Rattle.hep_machine.specs.Constants.{Values, value_of, both, lower_value, upper_value, bound_of, bound_before, bounds_of, if_shape, shape_by}
-use Rattle.hep_machine.specs.Declarations.{dimensions_of}
-use Rattle.hep_machine.specs.Shapes.{Bounds, are_dimensions, is_between, is_most, elements, is_shape}
 use Rattle.hep_bounds.specs.declared.operation.BoundOperation.{BoundOperation}
 use Rattle.hep_bounds.specs.declared.operation.BoundOperation.TheVariants.{Value, Nowhere}
 use Rattle.hep_bounds.specs.BoundCode.{Sources, is_source, code_of_bound, value_at}

@@ -1,16 +1,8 @@
 -- The sources of a unit's names have their values in bounds, so that the code of an adjustable array comes to its shape: X3.9-1978, 5.5.1.
 use Rattle.std.proofs.Common.{◌≡◌, ℕ, suc, Bool, true, false, ◌||◌, if◌then◌else◌, List, [], ◌∷◌, Option, Some, None, Ok, is_some, refl, ap, sym, ◌∙◌}
 use Rattle.std.specs.Option.{option_map, option_or}
-use Rattle.hep_source.specs.declared.name.Name.{Name}
-use Rattle.hep_source.specs.declared.statement.Statement.{Statement}
+use Rattle.hep_machine.specs.Words.{Name, Statement, index_among, is_among, same_name, dummies_of, bound_values, dummy_with_shape, with_shape, constant_value, is_array, is_common, Scope, storage_by_dummy, storage_of, Dummy, Store}
 use Rattle.hep_source.specs.declared.value.Value.{Value as Constant}
-use Rattle.hep_source.specs.Names.{index_among, is_among, same_name}
-use Rattle.hep_source.specs.Units.{dummies_of}
-use Rattle.hep_machine.specs.Binding.{bound_values, dummy_with_shape, with_shape}
-use Rattle.hep_machine.specs.Constants.{constant_value}
-use Rattle.hep_machine.specs.Declarations.{is_array, is_common}
-use Rattle.hep_machine.specs.Locations.{Scope, storage_by_dummy, storage_of}
-use Rattle.hep_machine.specs.State.{Dummy, Store}
 use Rattle.hep_bounds.specs.BoundCode.{is_source, value_at}
 use Rattle.hep_bounds.specs.DimensionCode.{coded_shape}
 use Rattle.hep_bounds.specs.Sources.{AreStored, adjustable_code, source_by, source_of}

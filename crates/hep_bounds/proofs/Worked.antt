@@ -1,19 +1,8 @@
 -- Worked bounds: of a unit whose first dummy argument is N and whose second is K, with M in cell 3 of COMMON.
 use Rattle.std.specs.Prelude.{◌≡◌, ℕ, ℤ, pos, negsuc, false, codes, if◌then◌else◌, nat_eq, List, [], ◌∷◌, Option, Some, None, refl}
-use Rattle.hep_source.specs.declared.function.PureFunction.TheVariants.{Largest}
-use Rattle.hep_source.specs.declared.declaration.Dimension.{Dimension}
-use Rattle.hep_source.specs.declared.declaration.UpperBound.{UpperBound}
-use Rattle.hep_source.specs.declared.declaration.UpperBound.TheVariants.{Expression, Open}
-use Rattle.hep_source.specs.declared.name.Occurrence.{Occurrence}
-use Rattle.hep_source.specs.declared.operator.ArithmeticOperator.TheVariants.{Add, Subtract, Multiply}
-use Rattle.hep_source.specs.declared.operator.Operator.TheVariants.{Arithmetic}
-use Rattle.hep_source.specs.declared.operator.Sign.TheVariants.{Minus}
+use Rattle.hep_machine.specs.Words.{Largest, Dimension, UpperBound, Expression, Open, Occurrence, Add, Subtract, Multiply, Arithmetic, Minus, Int, Tree, constant, occurrence, with_list, parenthesized, signed, binary, no_trees, trees, first_letter, Bounds}
 use Rattle.hep_source.specs.declared.value.Value.{Value as Constant}
-use Rattle.hep_source.specs.declared.value.Value.TheVariants.{Int}
-use Rattle.hep_source.specs.Tree.{Tree, constant, occurrence, with_list, parenthesized, signed, binary, no_trees, trees}
-use Rattle.hep_machine.specs.Declarations.{first_letter}
 use Rattle.hep_machine.specs.declared.shape.Bound.{Bound}
-use Rattle.hep_machine.specs.Shapes.{Bounds}
 use Rattle.hep_bounds.specs.declared.operation.BoundOperation.{BoundOperation}
 use Rattle.hep_bounds.specs.declared.operation.BoundOperation.TheVariants.{Value, InCommon, InDummy, Sign, Combine, Apply, Nowhere}
 use Rattle.hep_bounds.specs.BoundCode.{code_of_bound, coded_value}

@@ -2,14 +2,9 @@
 -- them what is done with them.
 use Rattle.std.specs.Prelude.{◌≡◌, ℕ, ◌-◌, Bool, true, false, List, [], ◌∷◌, ◌++◌, take, drop, length, Option, Some, None}
 use Rattle.std.specs.Option.{option_map, option_and_then}
-use Rattle.hep_source.specs.declared.name.Name.{Name}
-use Rattle.hep_source.specs.declared.statement.Statement.{Statement}
+use Rattle.hep_machine.specs.Words.{Name, Statement, Tree, Trees, constant, occurrence, with_list, parenthesized, signed, negated, binary, no_trees, trees, signed_value, negated_value, combined_value, function_value, Values, without_fault, Meaning, pure, listed_meaning}
 use Rattle.hep_source.specs.declared.value.Value.{Value as Constant}
-use Rattle.hep_source.specs.Tree.{Tree, Trees, constant, occurrence, with_list, parenthesized, signed, negated, binary, no_trees, trees}
-use Rattle.hep_machine.specs.Arithmetic.{signed_value, negated_value, combined_value, function_value}
-use Rattle.hep_machine.specs.Constants.{Values, without_fault}
-use Rattle.hep_machine.specs.Functions.{Meaning, pure, listed_meaning}
-use Rattle.hep_code.specs.ExpressionCode.{count}
+use Rattle.hep_code.specs.Words.{count}
 use Rattle.hep_bounds.specs.declared.operation.BoundOperation.{BoundOperation}
 use Rattle.hep_bounds.specs.declared.operation.BoundOperation.TheVariants.{Value, InCommon, InDummy, Sign, Not, Combine, Apply, Nowhere}
 

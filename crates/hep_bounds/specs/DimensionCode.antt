@@ -1,17 +1,9 @@
 -- The code of an array's dimensions, and the shape that it comes to: X3.9-1978, 5.1.1, 5.1.2 and 5.5.1.
 use Rattle.std.specs.Prelude.{ℕ, pos, List, [], ◌∷◌, ◌++◌, Option, Some, None}
 use Rattle.std.specs.Option.{option_map}
-use Rattle.hep_source.specs.declared.declaration.Dimension.{Dimension}
-use Rattle.hep_source.specs.declared.declaration.UpperBound.{UpperBound}
-use Rattle.hep_source.specs.declared.declaration.UpperBound.TheVariants.{Expression, Open}
-use Rattle.hep_source.specs.declared.statement.Statement.{Statement}
+use Rattle.hep_machine.specs.Words.{Dimension, UpperBound, Expression, Open, Statement, Int, Tree, integer_of, if_shape, Bounds}
 use Rattle.hep_source.specs.declared.value.Value.{Value as Constant}
-use Rattle.hep_source.specs.declared.value.Value.TheVariants.{Int}
-use Rattle.hep_source.specs.Tree.{Tree}
-use Rattle.hep_machine.specs.Arithmetic.{integer_of}
-use Rattle.hep_machine.specs.Constants.{if_shape}
 use Rattle.hep_machine.specs.declared.shape.Bound.{Bound}
-use Rattle.hep_machine.specs.Shapes.{Bounds}
 use Rattle.hep_bounds.specs.declared.operation.BoundOperation.{BoundOperation}
 use Rattle.hep_bounds.specs.declared.operation.BoundOperation.TheVariants.{Value, Nowhere}
 use Rattle.hep_bounds.specs.BoundCode.{Sources, code_of_bound, after_code}

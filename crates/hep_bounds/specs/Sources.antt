@@ -1,14 +1,7 @@
 -- Where the values of the names of a unit are when it is called: X3.9-1978, 5.5.1, 8.3 and 8.6.
 use Rattle.std.specs.Prelude.{◌≡◌, ℕ, Bool, true, false, List, Option, Some, None, slice_get}
-use Rattle.hep_source.specs.declared.name.Name.{Name}
-use Rattle.hep_source.specs.declared.statement.Statement.{Statement}
+use Rattle.hep_machine.specs.Words.{Name, Statement, index_among, dummies_of, constant_value, dimensions_of, is_common, Scope, dummy_at, own_storage, Store}
 use Rattle.hep_source.specs.declared.value.Value.{Value as Constant}
-use Rattle.hep_source.specs.Names.{index_among}
-use Rattle.hep_source.specs.Units.{dummies_of}
-use Rattle.hep_machine.specs.Constants.{constant_value}
-use Rattle.hep_machine.specs.Declarations.{dimensions_of, is_common}
-use Rattle.hep_machine.specs.Locations.{Scope, dummy_at, own_storage}
-use Rattle.hep_machine.specs.State.{Store}
 use Rattle.hep_bounds.specs.declared.operation.BoundOperation.{BoundOperation}
 use Rattle.hep_bounds.specs.declared.operation.BoundOperation.TheVariants.{Value, InCommon, InDummy, Nowhere}
 use Rattle.hep_bounds.specs.BoundCode.{Sources}

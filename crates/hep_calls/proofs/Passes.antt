@@ -1,17 +1,8 @@
 -- 304, as one pass over a unit tells it.
 use Rattle.std.proofs.Common.{◌≡◌, ◌<◌, get_or, drop, min, arith, ℕ, zero, suc, Bool, true, false, ◌&&◌, Option, Some, None, List, [], ◌∷◌, length, refl, ap, sym, ◌∙◌, if◌then◌else◌}
 use Rattle.std.specs.Option.{option_map}
-use Rattle.hep_source.specs.Tree.{Tree, Trees, with_list}
-use Rattle.hep_source.specs.Units.{Units, unit_at, dummies_of, names_of_occurrences}
-use Rattle.hep_source.specs.Names.{spelling}
-use Rattle.hep_source.specs.declared.function.PureFunction.{PureFunction}
-use Rattle.hep_source.specs.declared.function.StateFunction.{StateFunction}
-use Rattle.hep_source.specs.declared.name.Occurrence.{Occurrence}
-use Rattle.hep_source.specs.declared.statement.Statement.{Statement}
-use Rattle.hep_machine.specs.Declarations.{is_array}
-use Rattle.hep_machine.specs.Functions.{element, by_pure_function, word_in, pure_functions, state_functions}
-use Rattle.hep_check.specs.Arguments.{ActualClass, given_with_list, actual_class, all_given, fits_dummy, fit_dummies, fits_subroutine, is_asynchronous_scalar}
-use Rattle.hep_check.specs.Types.{type_of_tree}
+use Rattle.hep_machine.specs.Words.{Tree, Trees, with_list, Units, unit_at, dummies_of, names_of_occurrences, spelling, PureFunction, StateFunction, Occurrence, Statement, is_array, element, by_pure_function, word_in, pure_functions, state_functions}
+use Rattle.hep_check.specs.Words.{ActualClass, given_with_list, actual_class, all_given, fits_dummy, fit_dummies, fits_subroutine, is_asynchronous_scalar, type_of_tree}
 use Rattle.hep_calls.specs.Passes.{fits_unit}
 
 pub fits_called : (program : Units) (unit : List Statement) (o : Option ℕ) (ts : List Tree)

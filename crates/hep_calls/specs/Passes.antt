@@ -1,11 +1,8 @@
 -- 304, as one pass over a unit tells it.
 use Rattle.std.specs.Prelude.{Bool, true, not, ◌&&◌, List, Option, Some, None}
 use Rattle.std.specs.List.{list_all}
-use Rattle.hep_source.specs.Tree.{Tree}
-use Rattle.hep_source.specs.Units.{Units, dummies_of}
-use Rattle.hep_source.specs.declared.statement.Statement.{Statement}
-use Rattle.hep_check.specs.Arguments.{all_given, fit_dummies, fits_call, is_reference_given, is_purgeable}
-use Rattle.hep_check.specs.Statements.{names_with_lists, targets_purged, calls_in}
+use Rattle.hep_machine.specs.Words.{Tree, Units, dummies_of, Statement}
+use Rattle.hep_check.specs.Words.{all_given, fit_dummies, fits_call, is_reference_given, is_purgeable, names_with_lists, targets_purged, calls_in}
 
 -- the dummy arguments of the unit that is called take these actual arguments
 abbrev pub fits_unit : List Statement → Option (List Statement) → List Tree → Bool

@@ -1,8 +1,7 @@
 //! Actual arguments for the dummy arguments of a subroutine (X3.9-1978, 15.9.3).
 ghost use Rattle.std.specs.Prelude.{◌≡◌, ◌&&◌};
 ghost use Rattle.std.specs.List.{list_all};
-ghost use Rattle.hep_source.specs.Names.{same_logical};
-ghost use Rattle.hep_source.specs.Units.{names_of_occurrences};
+ghost use Rattle.hep_machine.specs.Words.{same_logical, names_of_occurrences};
 ghost use Rattle.hep_check.specs.Arguments as conditions;
 ghost use Rattle.hep_check.specs.Statements as statements;
 ghost use Rattle.hep_check.specs.Types as types;

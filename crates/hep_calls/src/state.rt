@@ -1,7 +1,7 @@
 //! What FULL, EMPTY, VALUE, SETE, WAITF and PURGE are given (docs/LANGUAGE.md, 8 and 9).
 ghost use Rattle.std.specs.Prelude.{◌≡◌, map};
 ghost use Rattle.std.specs.List.{list_all};
-ghost use Rattle.hep_source.specs.Tree.{trees_of};
+ghost use Rattle.hep_machine.specs.Words.{trees_of};
 ghost use Rattle.hep_check.specs.Arguments as conditions;
 ghost use Rattle.hep_check.specs.Statements as statements;
 ghost use Rattle.hep_symbols.specs.Meanings.{meaning};

@@ -2,7 +2,7 @@
 ghost use Rattle.std.specs.Prelude.{◌≡◌, IfOk};
 ghost use Rattle.hep_check.specs.Arguments as conditions;
 ghost use Rattle.hep_check.specs.Reported as reported;
-ghost use Rattle.hep_check.specs.Violations.{first_of};
+ghost use Rattle.hep_check.specs.Words.{first_of};
 ghost use Rattle.hep_symbols.specs.Passes.{line_of};
 ghost use Rattle.hep_calls.specs.Passes as passes;
 

@@ -1,9 +1,8 @@
 -- Worked rows: each access to a cell that is empty without a value, empty with a value, and full.
 use Rattle.std.specs.Prelude.{◌≡◌, pos, true, false, Some, None, refl}
 use Rattle.hep_machine.specs.declared.slot.Slot.{Slot}
-use Rattle.hep_source.specs.declared.value.Value.{Value}
-use Rattle.hep_source.specs.declared.value.Value.TheVariants.{Int}
-use Rattle.hep_machine.specs.Access.{gives, makes, waits, undefined, purged_cell, reading, reading_asynchronous, setting_empty, unset_cell, waiting_full, writing, writing_asynchronous}
+use Rattle.hep_machine.specs.Words.{Value, Int, makes, undefined, purged_cell, reading_asynchronous, setting_empty, unset_cell, waiting_full, writing, writing_asynchronous}
+use Rattle.hep_machine.specs.Access.{gives, waits, reading}
 
 abbrev seven : Value
 seven = Int (pos 7)

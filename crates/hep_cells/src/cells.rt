@@ -1,6 +1,7 @@
 //! The accesses, each to the cell that is handed in.
 ghost use Rattle.std.specs.Prelude.{◌≡◌};
-ghost use Rattle.hep_machine.specs.Access.{purged_cell, reading, reading_asynchronous, setting_empty, waiting_full, writing, writing_asynchronous};
+ghost use Rattle.hep_machine.specs.Access.{reading};
+ghost use Rattle.hep_machine.specs.Words.{purged_cell, reading_asynchronous, setting_empty, waiting_full, writing, writing_asynchronous};
 ghost use Rattle.hep_cells.specs.Outcomes.{outcome_meant};
 
 use crate::outcome::{AccessOutcome, CellState};

@@ -1,31 +1,14 @@
 -- The constants that the conditions keep are those of the source machine.
-use Rattle.std.proofs.Common.{◌≡◌, ℕ, zero, suc, Bool, true, false, List, [], ◌∷◌, ◌++◌, map, Option, Some, None, refl, sym, ap, ◌∙◌, subst}
-use Rattle.std.specs.Prelude.{◌&&◌, ◌||◌, not, if◌then◌else◌, is_some, slice_get}
+use Rattle.std.proofs.Common.{◌≡◌, ℕ, zero, suc, Bool, true, false, List, [], ◌∷◌, ◌++◌, map, Option, Some, None, refl, sym, ap, ◌∙◌, subst, ◌&&◌, ◌||◌, not, if◌then◌else◌, is_some, slice_get}
 use Rattle.std.specs.List.{flat_map, list_all, list_any}
 use Rattle.std.specs.Option.{option_or}
 use Rattle.std.proofs.lemmas.Bool.{and_parts, false≢true}
 use Rattle.std.proofs.lemmas.List.Folds.{list_all-append}
 use Rattle.std.proofs.lemmas.Option.{none-some, same_Some}
-use Rattle.hep_source.specs.declared.declaration.NamedConstant.{NamedConstant}
-use Rattle.hep_source.specs.declared.name.Name.{Name}
-use Rattle.hep_source.specs.declared.name.Occurrence.{Occurrence}
-use Rattle.hep_source.specs.declared.statement.Statement.{Statement}
-use Rattle.hep_source.specs.declared.value.Value.{Value}
-use Rattle.hep_source.specs.Names.{same_name, is_among}
-use Rattle.hep_source.specs.Tree.{Tree}
+use Rattle.hep_machine.specs.Words.{NamedConstant, Name, Occurrence, Statement, Value, same_name, is_among, Tree, Units, Constants, value_of, value_among, with_constant, given_by, constants_in, declarators_in, named_constants, occurrences_in}
 use Rattle.hep_source.proofs.NameTests.{equal_names}
-use Rattle.hep_source.specs.Units.{Units}
-use Rattle.hep_machine.specs.Constants.{Constants, value_of, value_among, with_constant, given_by}
-use Rattle.hep_machine.specs.Declarations.{constants_in, declarators_in, named_constants}
-use Rattle.hep_machine.specs.Variables.{occurrences_in}
 use Rattle.hep_check.specs.declared.violation.Violation.{Violation}
-use Rattle.hep_check.specs.Conditions.{IsAccepted, violations_in}
-use Rattle.hep_check.specs.Constants.{Parameters, no_parameters, is_open, is_given, is_known, is_constant_given, value_by, with_parameter, with_parameters, are_constants_given, is_statement_typed, type_violations_from, type_violations}
-use Rattle.hep_check.specs.Counts.{is_counted, is_call_counted, count_violations}
-use Rattle.hep_check.specs.Laws.{Keeps}
-use Rattle.hep_check.specs.Names.{type_missing_violations}
-use Rattle.hep_check.specs.Statements.{names_with_lists, names_with_lists_in, trees_in_declarator, calls_in}
-use Rattle.hep_check.specs.Violations.{Violations, at_line, when}
+use Rattle.hep_check.specs.Words.{IsAccepted, violations_in, Parameters, no_parameters, is_open, is_given, is_known, is_constant_given, value_by, with_parameter, with_parameters, are_constants_given, is_statement_typed, type_violations_from, type_violations, is_counted, is_call_counted, count_violations, Keeps, type_missing_violations, names_with_lists, names_with_lists_in, trees_in_declarator, calls_in, Violations, at_line, when}
 
 -- ---- no violations
 

@@ -4,8 +4,7 @@ use Rattle.std.specs.List.{flat_map}
 use Rattle.std.proofs.lemmas.Bool.Decides.{nat_tests}
 use Rattle.std.proofs.lemmas.Grind.{flat_map-append}
 use Rattle.hep_check.specs.declared.violation.Violation.{Violation}
-use Rattle.hep_check.specs.Violations.{Violations, precedes, first_of}
-use Rattle.hep_check.specs.Reported.{first_of_two}
+use Rattle.hep_check.specs.Words.{Violations, precedes, first_of, first_of_two}
 
 pub first_of_two-none : (a : Option Violation) → first_of_two a None ≡ a
 first_of_two-none None = refl

@@ -4,8 +4,7 @@ use Rattle.std.specs.List.{flat_map, list_any}
 use Rattle.std.specs.Option.{option_map}
 use Rattle.std.proofs.lemmas.Bool.Decides.{nat_tests}
 use Rattle.hep_check.specs.declared.violation.Violation.{Violation}
-use Rattle.hep_check.specs.Violations.{Violations, precedes, first_of, when, at_line}
-use Rattle.hep_check.specs.Reported.{first_of_two, reported, least_line, line_when, least_line_of, least_line_where}
+use Rattle.hep_check.specs.Words.{Violations, precedes, first_of, when, at_line, first_of_two, reported, least_line, line_when, least_line_of, least_line_where}
 use Rattle.hep_check.proofs.First.{first_of-append}
 
 -- ---- the lesser of two lines

@@ -1,11 +1,7 @@
 -- A worked condition of what no text reads to: no name in PARAMETER has a `$` there (docs/LANGUAGE.md, 3).
 use Rattle.std.specs.Prelude.{◌≡◌, codes, pos, [], ◌∷◌, None, true, refl}
-use Rattle.hep_source.specs.Tree.{constant}
-use Rattle.hep_source.specs.declared.name.Occurrence.{Occurrence}
-use Rattle.hep_source.specs.declared.statement.Form.TheVariants.{Parameter, Purge, End}
-use Rattle.hep_source.specs.declared.value.Value.TheVariants.{Int}
-use Rattle.hep_source.specs.Units.{Units}
-use Rattle.hep_check.specs.Conditions.{violations}
+use Rattle.hep_machine.specs.Words.{constant, Occurrence, Parameter, Purge, End, Int, Units}
+use Rattle.hep_check.specs.Words.{violations}
 
 -- $I
 abbrev name : Occurrence

@@ -1,7 +1,6 @@
 -- What the laws of the conditions speak of: docs/LANGUAGE.md, 10.
 use Rattle.std.specs.Prelude.{◌≡◌, []}
-use Rattle.hep_source.specs.declared.name.Name.{Name}
-use Rattle.hep_machine.specs.Constants.{Constants, value_among}
+use Rattle.hep_machine.specs.Words.{Name, Constants, value_among}
 use Rattle.hep_check.specs.Constants.{Parameters}
 
 -- the constants that the conditions keep are these ones, and none is doubtful: each name has the same value, or none

@@ -13,3 +13,4 @@ pub mod Nesting
 pub mod Data
 pub mod Conditions
 pub mod Laws
+pub mod Words

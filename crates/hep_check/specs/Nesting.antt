@@ -1,15 +1,8 @@
 -- Conditions of DO ranges and IF blocks: 307 and 308 (X3.9-1978, 11.5 to 11.10).
 use Rattle.std.specs.Prelude.{ℕ, suc, Bool, true, false, not, ◌&&◌, ◌||◌, nat_lt, nat_le, if◌then◌else◌, List, [], ◌∷◌, ◌++◌, map, Option, Some, None}
 use Rattle.std.specs.List.{flat_map, list_any}
-use Rattle.hep_source.specs.Tree.{Tree}
-use Rattle.hep_source.specs.declared.name.Name.{Name}
-use Rattle.hep_source.specs.declared.statement.Form.{Form}
+use Rattle.hep_machine.specs.Words.{Tree, Name, Form, Statement, Role, opens, alternative, otherwise, closes, other, role_of, index_labelled, is_nonempty, same_name, line_at, statement_at}
 use Rattle.hep_source.specs.declared.statement.Form.TheVariants as form
-use Rattle.hep_source.specs.declared.statement.Statement.{Statement}
-use Rattle.hep_machine.specs.Control.{Role, opens, alternative, otherwise, closes, other, role_of, index_labelled}
-use Rattle.hep_machine.specs.Declarations.{is_nonempty}
-use Rattle.hep_source.specs.Names.{same_name}
-use Rattle.hep_source.specs.Units.{line_at, statement_at}
 use Rattle.hep_check.specs.Types.{is_plain_integer_scalar}
 use Rattle.hep_check.specs.Statements.{targets_of_jump}
 use Rattle.hep_check.specs.Violations.{Violations, at_line, when}

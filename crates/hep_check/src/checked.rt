@@ -1,8 +1,8 @@
 //! Checked programs.
 ghost use Rattle.std.specs.Prelude.{◌≡◌, ◌<◌, length, map};
-ghost use Rattle.hep_source.specs.Units.{unit_at};
+ghost use Rattle.hep_machine.specs.Words.{unit_at};
 ghost use Rattle.hep_machine.specs.Variables as variables;
-ghost use Rattle.hep_check.specs.Conditions.{IsAccepted};
+ghost use Rattle.hep_check.specs.Words.{IsAccepted};
 
 use hep_source::Program;
 use std::marker::Model;

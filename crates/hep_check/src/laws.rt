@@ -1,12 +1,7 @@
 //! Laws of the conditions: what holds of every accepted program.
 ghost use Rattle.std.specs.Prelude.{◌≡◌, ◌++◌, ℕ, List, [], Some, slice_get};
-ghost use Rattle.hep_source.specs.declared.statement.Statement.{Statement};
-ghost use Rattle.hep_source.specs.Units.{Units};
-ghost use Rattle.hep_machine.specs.Constants.{given_by};
-ghost use Rattle.hep_machine.specs.Declarations.{named_constants};
-ghost use Rattle.hep_check.specs.Conditions.{IsAccepted};
-ghost use Rattle.hep_check.specs.Constants.{no_parameters, with_parameters};
-ghost use Rattle.hep_check.specs.Laws.{Keeps};
+ghost use Rattle.hep_machine.specs.Words.{Statement, Units, given_by, named_constants};
+ghost use Rattle.hep_check.specs.Words.{IsAccepted, no_parameters, with_parameters, Keeps};
 
 /// Before each statement of a unit of an accepted program, and after the last one, the constants
 /// by which the conditions judge expressions, bounds and blocks are those of the source machine.

@@ -1,8 +1,7 @@
 -- The first violation of several lists is the first of those that the lists have first.
 use Rattle.std.proofs.Common.{◌≡◌, List, [], ◌∷◌, ◌++◌, Option, ap, sym, ◌∙◌}
 use Rattle.hep_check.specs.declared.violation.Violation.{Violation}
-use Rattle.hep_check.specs.Reported.{first_of_two}
-use Rattle.hep_check.specs.Violations.{Violations, first_of}
+use Rattle.hep_check.specs.Words.{first_of_two, Violations, first_of}
 use Rattle.hep_check.proofs.First.{first_of-append, first_of_two-none, first_of_two-assoc}
 use Rattle.hep_checked.specs.Found.{first_found}
 

@@ -2,12 +2,7 @@
 use Rattle.std.proofs.Common.{◌≡◌, ℕ, zero, suc, ◌+◌, ◌*◌, ◌<◌, ◌≤◌, List, [], ◌∷◌, length, drop, get_or, refl, ap, sym, ◌∙◌, arith, Bool, true, false, cond, if◌then◌else◌}
 use Rattle.std.proofs.lemmas.List.{drop_all}
 use Rattle.std.specs.List.{filter}
-use Rattle.hep_source.specs.Units.{Units, unit_at, dummies_of, names_of_occurrences}
-use Rattle.hep_source.specs.declared.name.Name.{Name}
-use Rattle.hep_source.specs.declared.name.Occurrence.{Occurrence}
-use Rattle.hep_source.specs.declared.statement.Statement.{Statement}
-use Rattle.hep_machine.specs.Constants.{cells_of, cells_of_all, adjustable_dimensions}
-use Rattle.hep_machine.specs.Variables.{locals_of, is_do, do_statements, adjustable_dimensions_of_all, frame_cells}
+use Rattle.hep_machine.specs.Words.{Units, unit_at, dummies_of, names_of_occurrences, Name, Occurrence, Statement, cells_of, cells_of_all, adjustable_dimensions, locals_of, is_do, do_statements, adjustable_dimensions_of_all, frame_cells}
 use Rattle.hep_source.proofs.Statements.{names-length}
 
 -- one term more

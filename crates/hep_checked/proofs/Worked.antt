@@ -1,18 +1,9 @@
 -- Worked lines of units and common blocks.
-use Rattle.std.proofs.Common.{◌≡◌, ℕ, pos, Bool, true, false, Some, None, List, [], ◌∷◌, ◌++◌, replicate, take, refl}
-use Rattle.std.specs.Prelude.{codes}
+use Rattle.std.proofs.Common.{◌≡◌, ℕ, pos, Bool, true, false, Some, None, List, [], ◌∷◌, ◌++◌, replicate, take, refl, codes}
 use Rattle.std.specs.Fmt.{digits}
 use Prim.Native.String.{String}
-use Rattle.hep_source.specs.Tree.{Tree, constant, occurrence}
-use Rattle.hep_source.specs.declared.declaration.Declarator.{Declarator}
-use Rattle.hep_source.specs.declared.declaration.UpperBound.TheVariants.{Expression}
-use Rattle.hep_source.specs.declared.declaration.ValueType.TheVariants.{Integer}
-use Rattle.hep_source.specs.declared.name.Name.{Name}
-use Rattle.hep_source.specs.declared.name.Occurrence.{Occurrence}
-use Rattle.hep_source.specs.declared.statement.Form.{Form}
+use Rattle.hep_machine.specs.Words.{Tree, constant, occurrence, Declarator, Expression, Integer, Name, Occurrence, Form, Statement, Int}
 use Rattle.hep_source.specs.declared.statement.Form.TheVariants as form
-use Rattle.hep_source.specs.declared.statement.Statement.{Statement}
-use Rattle.hep_source.specs.declared.value.Value.TheVariants.{Int}
 use Rattle.hep_checked.specs.Listing.{listing}
 
 -- ---- statements

@@ -3,10 +3,9 @@ use Rattle.std.specs.Prelude.{◌≡◌, [], Some}
 use Rattle.std.specs.Option.{option_map_or}
 use Rattle.hep_base.specs.declared.refusal.Refusal.{Refusal}
 use Rattle.hep_base.specs.declared.refusal.Refusal.TheVariants.{NoMemory, Refused}
-use Rattle.hep_check.specs.Conditions.{first_violation}
+use Rattle.hep_check.specs.Words.{first_violation}
 use Rattle.hep_check.specs.declared.violation.Violation.{Violation}
-use Rattle.hep_source.specs.Names.{spelling}
-use Rattle.hep_source.specs.Units.{Units}
+use Rattle.hep_machine.specs.Words.{spelling, Units}
 
 -- a refusal says what a violation is; want of memory says nothing of it
 abbrev pub Reports : Violation → Refusal → Type 0

@@ -3,12 +3,7 @@ use Rattle.std.specs.Prelude.{ℕ, List, [], ◌++◌, codes}
 use Rattle.std.specs.Fmt.{decimal}
 use Rattle.std.specs.List.{flat_map}
 use Rattle.std.specs.Option.{option_map_or}
-use Rattle.hep_source.specs.Names.{spelling}
-use Rattle.hep_source.specs.Units.{Units, unit_name}
-use Rattle.hep_source.specs.declared.statement.Statement.{Statement}
-use Rattle.hep_machine.specs.Declarations.{BlockName, blocks_of}
-use Rattle.hep_machine.specs.Layout.{block_cells}
-use Rattle.hep_machine.specs.Variables.{frame_cells}
+use Rattle.hep_machine.specs.Words.{spelling, Units, unit_name, Statement, BlockName, blocks_of, block_cells, frame_cells}
 
 abbrev pub unit_text : List ℕ → ℕ → List ℕ
 unit_text name cells = codes "UNIT " ++ name ++ codes " CELLS " ++ decimal cells ++ codes "\n"

@@ -1,7 +1,7 @@
 //! Which programs are accepted.
 ghost use Rattle.std.specs.Prelude.{◌≡◌, Some, None, map, IfOk, IfErr, OnOk};
-ghost use Rattle.hep_machine.specs.Variables.{frame_cells};
-ghost use Rattle.hep_check.specs.Conditions.{IsAccepted, first_violation};
+ghost use Rattle.hep_machine.specs.Words.{frame_cells};
+ghost use Rattle.hep_check.specs.Words.{IsAccepted, first_violation};
 ghost use Rattle.hep_checked.specs.Faults.{Refuses, Reports};
 
 use crate::frames::frames;

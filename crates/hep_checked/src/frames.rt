@@ -1,7 +1,6 @@
 //! How many cells the frame of a unit has (docs/MACHINE.md, "Variables and frames").
 ghost use Rattle.std.specs.Prelude.{◌≡◌, ◌<◌, ◌^◌, map, if◌then◌else◌, IfOk};
-ghost use Rattle.hep_source.specs.Units.{dummies_of};
-ghost use Rattle.hep_machine.specs.Constants.{value_among, constant_value, cells_of_all};
+ghost use Rattle.hep_machine.specs.Words.{dummies_of, value_among, constant_value, cells_of_all};
 ghost use Rattle.hep_machine.specs.Variables as variables;
 
 use hep_source::{Form, Name, Statement};

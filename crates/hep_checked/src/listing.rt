@@ -3,7 +3,7 @@
 ghost use Rattle.std.specs.Prelude.{◌≡◌, ◌++◌, IfOk, OnOk};
 ghost use Rattle.std.specs.Fmt.{decimal};
 ghost use Rattle.std.specs.List.{flat_map};
-ghost use Rattle.hep_machine.specs.Declarations.{blocks_of};
+ghost use Rattle.hep_machine.specs.Words.{blocks_of};
 ghost use Rattle.hep_checked.specs.Listing as words;
 
 use hep_check::Checked;

@@ -2,8 +2,7 @@
 ghost use Rattle.std.specs.Prelude.{◌≡◌, IfOk};
 ghost use Rattle.std.specs.List.{flat_map};
 ghost use Rattle.hep_check.specs.Conditions as conditions;
-ghost use Rattle.hep_check.specs.Names.{ambiguous_in};
-ghost use Rattle.hep_check.specs.Violations.{first_of};
+ghost use Rattle.hep_check.specs.Words.{ambiguous_in, first_of};
 
 use crate::unit::{first_found, unit_violation};
 use hep_check::Violation;

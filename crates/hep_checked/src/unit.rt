@@ -1,7 +1,6 @@
 //! The first violation in a unit.
 ghost use Rattle.std.specs.Prelude.{◌≡◌, IfOk};
-ghost use Rattle.hep_check.specs.Conditions.{violations_in};
-ghost use Rattle.hep_check.specs.Violations.{first_of};
+ghost use Rattle.hep_check.specs.Words.{violations_in, first_of};
 ghost use Rattle.hep_checked.specs.Found.{first_found};
 
 use hep_calls::argument_violation;

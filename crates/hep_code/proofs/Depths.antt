@@ -1,17 +1,196 @@
--- The deepest stack of operands of code, and one pass that finds it.
-use Rattle.std.proofs.Common.{◌≡◌, ℕ, zero, suc, ◌+◌, ◌-◌, ◌≤◌, Bool, true, false, List, [], ◌∷◌, length, drop, Option, Some, None, refl, ap, sym, ◌∙◌, subst, arith, nat_lt, if◌then◌else◌}
-use Rattle.std.proofs.lemmas.Bool.Decides.{nat_tests}
-use Rattle.std.proofs.lemmas.List.{drop_all}
-use Rattle.hep_source.specs.declared.value.Value.{Value}
-use Rattle.hep_machine.specs.State.{Work}
+-- So many operands as there are in front of an instruction are just those that are taken from there on; and the deepest stack of operands
+-- of code, and one pass that finds it.
+use Rattle.std.proofs.Common.{◌≡◌, ℕ, suc, ◌+◌, ◌-◌, ◌≤◌, List, [], ◌∷◌, ◌++◌, map, length, take, Option, Some, None, refl, ap, sym, ◌∙◌, subst, arith, append_assoc, zero, Bool, true, false, drop, nat_lt, if◌then◌else◌}
+use Rattle.std.specs.List.{flat_map}
+use Rattle.std.proofs.Math.Seq.{take-append_seam}
+use Rattle.std.proofs.lemmas.List.{length-map, drop_all}
+use Rattle.hep_machine.specs.Words.{Tree, Trees, constant, occurrence, with_list, parenthesized, signed, negated, binary, no_trees, trees, trees_of, Name, Occurrence, DoControl, Form, PrintItem, Value, line_at, increment_of, Meaning, element, pure, state, unknown, Work, doing, ending}
+use Rattle.hep_source.specs.declared.statement.Form.TheVariants as form
+use Rattle.hep_source.specs.declared.statement.PrintItem.TheVariants as item
+use Rattle.hep_code.specs.declared.instruction.Evaluation.{Evaluation}
+use Rattle.hep_code.specs.declared.instruction.Evaluation.TheVariants.{Load, Sign, Not, Combine, Apply, Test}
 use Rattle.hep_code.specs.declared.instruction.Instruction.{Instruction}
-use Rattle.hep_code.specs.declared.instruction.Instruction.TheVariants.{Push, Step, To, Pass, Show}
-use Rattle.hep_code.specs.Ahead.{values_ahead}
-use Rattle.hep_code.specs.Depths.{operands_before, operands_ahead, deeper, deepest, line_before, line_ahead, line_too_deep}
-use Rattle.hep_code.specs.Limits.{most_operands}
-use Rattle.hep_code.specs.Standing.{Stands}
-use Rattle.hep_code.specs.UnitCode.{AddressedUnit, code_of}
-use Rattle.hep_code.proofs.Takes.{Takes, takes_are, after_pushes, work_takes}
+use Rattle.hep_code.specs.declared.instruction.Instruction.TheVariants.{Push, Step, Pass, Show}
+use Rattle.hep_code.specs.declared.instruction.Operation.TheVariants.{Evaluate, Condition}
+use Rattle.hep_code.specs.Words.{arity, count, asked, asked_listed, asked_listed_code, asked_code, name_code, listed_code, tree_code, trees_code, evaluating, actual_code, actual_name_code, actual_listed_code, argument_of, argument_of_name, argument_of_listed, target_code, argument_of_target, item_code, printed_of, control_code, operation_code, form_code, conditions_code, work_code, Stands, NameTable, Table, AddressedUnit, table_of, code_of, operands_passed, operands_shown, operands_of_entries, operands_of_entry, operands_by, operands_ahead, operands_before, deeper, deepest, line_before, line_ahead, line_too_deep, values_ahead, most_operands}
+use Rattle.std.proofs.lemmas.Bool.Decides.{nat_tests}
+
+-- h operands are taken by these instructions, up to an operation that takes all that are there
+abbrev pub Takes : ℕ → List Instruction → Type 0
+Takes h [] = ⊥
+Takes h (Push v ∷ is) = Takes (suc h) is
+Takes h (Step line (Evaluate e) ∷ is) = (arity e ≤ h) × Takes (suc (h - arity e)) is
+Takes h (Step line o ∷ is) = h ≡ operands_by o 0 is
+Takes h (_ ∷ is) = ⊥
+
+pub takes_are : (h : ℕ) (is : List Instruction) → Takes h is → h ≡ operands_ahead is
+takes_are h [] t = elim t [ ]
+takes_are h (Push v ∷ is) t = omega (arith, takes_are (suc h) is t)
+takes_are h (Step line (Evaluate e) ∷ is) t = omega (arith, t.0, takes_are (suc (h - arity e)) is t.1)
+takes_are h (Step line _ ∷ is) t = t
+takes_are h (_ ∷ is) t = elim t [ ]
+
+-- ---- operands that are there
+
+pub after_pushes : (h n : ℕ) (vs : List Value) (is : List Instruction) → n ≡ h + length vs → Takes h (map Push vs ++ is) → Takes n is
+after_pushes h n [] is e t = let f : h ≡ n = omega (arith, e) in subst (λ m. Takes m is) f t
+after_pushes h n (v ∷ vs) is e t = after_pushes (suc h) n vs is (omega (arith, e)) t
+
+-- ---- expressions
+
+evaluated : (line h m : ℕ) (e : Evaluation) (is : List Instruction) → m ≡ arity e + h → Takes (suc h) is → Takes m (evaluating line e ++ is)
+evaluated line h m e is f t = (omega (arith, f), let g : suc h ≡ suc (m - arity e) = omega (arith, f) in subst (λ n. Takes n is) g t)
+
+turned : (h : ℕ) (xs ys is : List Instruction) → Takes h (xs ++ (ys ++ is)) → Takes h ((xs ++ ys) ++ is)
+turned h xs ys is t = subst (Takes h) (sym (append_assoc xs ys is)) t
+
+module _ (names : NameTable) (line : ℕ) where
+  name_takes : (o : Option Value) (x : Name) (h : ℕ) (is : List Instruction) → Takes (suc h) is → Takes h (name_code names line o x ++ is)
+  name_takes None x h is t = evaluated line h h (Load (names.variables x) 0) is (omega arith) t
+  name_takes (Some v) x h is t = t
+
+  -- what is asked takes as many as its subscripts are
+  abbrev AllTake : Trees → Type 0
+  AllTake ts = (h m : ℕ) (is : List Instruction) → m ≡ count ts + h → Takes m is → Takes h (trees_code names line ts ++ is)
+
+  abbrev AskedTakes : Trees → Type 0
+  AskedTakes ts = (h m : ℕ) (is : List Instruction) → m ≡ (asked names ts).1 + h → Takes m is → Takes h (asked_code names line ts ++ is)
+
+  nothing_takes : (h n : ℕ) (is : List Instruction) → n ≡ 0 + h → Takes n is → Takes h is
+  nothing_takes h n is e t = let d : n ≡ h = omega (arith, e) in subst (λ k. Takes k is) d t
+
+  asked_takes : (m : Meaning) (x : Name) (ts : Trees) → AllTake ts → (h n : ℕ) (is : List Instruction) → n ≡ (asked_listed m x (count ts)).1 + h → Takes n is → Takes h (asked_listed_code m (trees_code names line ts) ++ is)
+  asked_takes element x ts all h n is e t = all h n is e t
+  asked_takes _ x ts all h n is e t = nothing_takes h n is e t
+
+  listed_takes : (m : Meaning) (x : Name) (ts : Trees) → AllTake ts → AskedTakes ts → (h : ℕ) (is : List Instruction) → Takes (suc h) is
+      → Takes h (listed_code names m line x ts (trees_code names line ts) (asked_code names line ts) ++ is)
+  listed_takes element x ts all some h is t =
+      let e = Load (names.variables x) (count ts) in
+      turned h (trees_code names line ts) (evaluating line e) is (all h (count ts + h) (evaluating line e ++ is) refl (evaluated line h (count ts + h) e is refl t))
+  listed_takes (pure f) x ts all some h is t =
+      let e = Apply f (count ts) in
+      turned h (trees_code names line ts) (evaluating line e) is (all h (count ts + h) (evaluating line e ++ is) refl (evaluated line h (count ts + h) e is refl t))
+  listed_takes (state f) x ts all some h is t =
+      let n = (asked names ts).1 in
+      let e = Test f (names.variables (asked names ts).0) (asked names ts).1 in
+      turned h (asked_code names line ts) (evaluating line e) is (some h (n + h) (evaluating line e ++ is) refl (evaluated line h (n + h) e is refl t))
+  listed_takes unknown x ts all some h is t = t
+
+  mutual
+    pub tree_takes : (t : Tree) (h : ℕ) (is : List Instruction) → Takes (suc h) is → Takes h (tree_code names line t ++ is)
+    tree_takes (constant v) h is t = t
+    tree_takes (occurrence p) h is t = name_takes (names.constants p.name) p.name h is t
+    tree_takes (with_list p ts) h is t = listed_takes (names.meanings p.name) p.name ts (trees_take ts) (some_takes ts) h is t
+    tree_takes (parenthesized a) h is t = tree_takes a h is t
+    tree_takes (signed s a) h is t =
+        turned h (tree_code names line a) (evaluating line (Sign s)) is (tree_takes a h (evaluating line (Sign s) ++ is) (evaluated line h (suc h) (Sign s) is (omega arith) t))
+    tree_takes (negated a) h is t =
+        turned h (tree_code names line a) (evaluating line Not) is (tree_takes a h (evaluating line Not ++ is) (evaluated line h (suc h) Not is (omega arith) t))
+    tree_takes (binary o a b) h is t =
+        let e = evaluating line (Combine o) in
+        turned h (tree_code names line a ++ tree_code names line b) e is (turned h (tree_code names line a) (tree_code names line b) (e ++ is)
+        (tree_takes a h (tree_code names line b ++ (e ++ is)) (tree_takes b (suc h) (e ++ is) (evaluated line h (suc (suc h)) (Combine o) is (omega arith) t))))
+
+    pub trees_take : (ts : Trees) → AllTake ts
+    trees_take no_trees h m is e t = nothing_takes h m is e t
+    trees_take (trees a ts) h m is e t =
+        turned h (tree_code names line a) (trees_code names line ts) is (tree_takes a h (trees_code names line ts ++ is) (trees_take ts (suc h) m is (omega (arith, e)) t))
+
+    pub some_takes : (ts : Trees) → AskedTakes ts
+    some_takes (trees (with_list p us) no_trees) h m is e t = asked_takes (names.meanings p.name) p.name us (trees_take us) h m is e t
+    some_takes (trees (occurrence p) no_trees) h m is e t = nothing_takes h m is e t
+    some_takes _ h m is e t = nothing_takes h m is e t
+
+  -- ---- lists
+
+  value_takes : (t : Tree) (h m : ℕ) (is : List Instruction) → m ≡ 1 + h → Takes m is → Takes h (tree_code names line t ++ is)
+  value_takes t h m is e u = let d : m ≡ suc h = omega (arith, e) in tree_takes t h is (subst (λ n. Takes n is) d u)
+
+  actual_name_takes : (o : Option Value) (x : Name) (h m : ℕ) (is : List Instruction) → m ≡ operands_passed (argument_of_name names o x) + h → Takes m is → Takes h (actual_name_code o ++ is)
+  actual_name_takes None x h m is e u = nothing_takes h m is e u
+  actual_name_takes (Some v) x h m is e u = let d : m ≡ suc h = omega (arith, e) in subst (λ n. Takes n is) d u
+
+  actual_listed_takes : (meaning : Meaning) (p : Occurrence) (ts : Trees) (h m : ℕ) (is : List Instruction) → m ≡ operands_passed (argument_of_listed names meaning p.name (count ts)) + h → Takes m is
+      → Takes h (actual_listed_code meaning (trees_code names line ts) (tree_code names line (with_list p ts)) ++ is)
+  actual_listed_takes element p ts h m is e u = trees_take ts h m is e u
+  actual_listed_takes _ p ts h m is e u = value_takes (with_list p ts) h m is e u
+
+  actual_takes : (t : Tree) (h m : ℕ) (is : List Instruction) → m ≡ operands_passed (argument_of names t) + h → Takes m is → Takes h (actual_code names line t ++ is)
+  actual_takes (occurrence p) h m is e u = actual_name_takes (names.constants p.name) p.name h m is e u
+  actual_takes (with_list p ts) h m is e u = actual_listed_takes (names.meanings p.name) p ts h m is e u
+  actual_takes t h m is e u = value_takes t h m is e u
+
+  item_takes : (i : PrintItem) (h m : ℕ) (is : List Instruction) → m ≡ operands_shown (printed_of i) + h → Takes m is → Takes h (item_code names line i ++ is)
+  item_takes (item.Expression t) h m is e u = value_takes t h m is e u
+  item_takes (item.Characters cs) h m is e u = nothing_takes h m is e u
+
+  -- the code of a list, by what each of it takes
+  list_takes : {T : Type 0} (entry : T → Instruction) (c : T → List Instruction) → ((t : T) (h m : ℕ) (is : List Instruction) → m ≡ operands_of_entry (entry t) + h → Takes m is → Takes h (c t ++ is))
+      → (ts : List T) (h m : ℕ) (is : List Instruction) → m ≡ operands_of_entries (map entry ts) + h → Takes m is → Takes h (flat_map c ts ++ is)
+  list_takes entry c each [] h m is e u = nothing_takes h m is e u
+  list_takes entry c each (t ∷ ts) h m is e u =
+      let n = operands_of_entry (entry t) + h in
+      turned h (c t) (flat_map c ts) is (each t h n (flat_map c ts ++ is) refl (list_takes entry c each ts n m is (omega (arith, e)) u))
+
+  control_takes : (c : DoControl) (is : List Instruction) → Takes 3 is → Takes 0 (control_code names line c ++ is)
+  control_takes c is u =
+      let a = tree_code names line c.initial in
+      let b = tree_code names line c.limit in
+      let d = tree_code names line (increment_of c.increment) in
+      turned 0 a (b ++ d) is (tree_takes c.initial 0 ((b ++ d) ++ is) (turned 1 b d is (tree_takes c.limit 1 (d ++ is) (tree_takes (increment_of c.increment) 2 is u))))
+
+-- ---- statements
+
+first_entries : (n : ℕ) (es is : List Instruction) → n ≡ length es → take n (es ++ is) ≡ es
+first_entries n es is e = ap (λ k. take k (es ++ is)) e ∙ take-append_seam es is
+
+-- an operation takes those of as many entries behind it as it has
+entries_taken : (n m : ℕ) (es is : List Instruction) → n ≡ operands_of_entries es + 0 → m ≡ length es → n ≡ operands_of_entries (take m (es ++ is))
+entries_taken n m es is e f = omega (arith, e, ap operands_of_entries (first_entries m es is f))
+
+module _ (table : Table) (line k : ℕ) where
+  -- an expression, and then an operation of one operand
+  one_takes : (t : Tree) (after is : List Instruction) → Takes 1 (after ++ is) → Takes 0 ((tree_code table.names line t ++ after) ++ is)
+  one_takes t after is u = turned 0 (tree_code table.names line t) after is (tree_takes table.names line t 0 (after ++ is) u)
+
+  -- a list, and then an operation that has an entry for each of it
+  entries_take : {T : Type 0} (entry : T → Instruction) (c : T → List Instruction) → ((t : T) (h m : ℕ) (is : List Instruction) → m ≡ operands_of_entry (entry t) + h → Takes m is → Takes h (c t ++ is))
+      → (ts : List T) (after is : List Instruction) → ((n : ℕ) → n ≡ operands_of_entries (take (length ts) (map entry ts ++ is)) → Takes n (after ++ is)) → Takes 0 ((flat_map c ts ++ after) ++ is)
+  entries_take entry c each ts after is takes =
+      let n = operands_of_entries (map entry ts) + 0 in
+      turned 0 (flat_map c ts) after is (list_takes table.names line entry c each ts 0 n (after ++ is) refl (takes n (entries_taken n (length ts) (map entry ts) is refl (sym (length-map ts entry)))))
+
+  form_takes : (f : Form) (is : List Instruction) → Takes 0 (form_code table line k f ++ is)
+  form_takes (form.Assign x t) is =
+      let store = operation_code table line k (form.Assign x t) in
+      let subscripts = target_code table.names line x in
+      turned 0 (tree_code table.names line t ++ subscripts) store is (turned 0 (tree_code table.names line t) subscripts (store ++ is)
+      (tree_takes table.names line t 0 (subscripts ++ (store ++ is)) (trees_take table.names line (trees_of x.subscripts) 1 (count (trees_of x.subscripts) + 1) (store ++ is) refl (omega arith))))
+  form_takes (form.ComputedGoTo labels t) is = one_takes t (operation_code table line k (form.ComputedGoTo labels t)) is refl
+  form_takes (form.ArithmeticIf t labels) is = one_takes t (operation_code table line k (form.ArithmeticIf t labels)) is refl
+  form_takes (form.IfThen t) is = one_takes t (operation_code table line k (form.IfThen t)) is refl
+  form_takes (form.ElseIf t) is = one_takes t (operation_code table line k (form.ElseIf t)) is refl
+  form_takes (form.Do c) is =
+      let entry = operation_code table line k (form.Do c) in
+      turned 0 (control_code table.names line c) entry is (control_takes table.names line c (entry ++ is) refl)
+  form_takes (form.Call p ts) is =
+      entries_take (λ t. Pass (argument_of table.names t)) (actual_code table.names line) (actual_takes table.names line) ts (operation_code table line k (form.Call p ts)) is (λ n e. e)
+  form_takes (form.Create p ts) is =
+      entries_take (λ t. Pass (argument_of table.names t)) (actual_code table.names line) (actual_takes table.names line) ts (operation_code table line k (form.Create p ts)) is (λ n e. e)
+  form_takes (form.Purge ts) is =
+      entries_take (λ t. Pass (argument_of_target table.names t)) (target_code table.names line) (λ t. trees_take table.names line (trees_of t.subscripts)) ts (operation_code table line k (form.Purge ts)) is (λ n e. e)
+  form_takes (form.Print items) is =
+      entries_take (λ i. Show (printed_of i)) (item_code table.names line) (item_takes table.names line) items (operation_code table line k (form.Print items)) is (λ n e. e)
+  form_takes _ is = refl
+
+  conditions_take : (ts : List Tree) (f : Form) (is : List Instruction) → Takes 0 (conditions_code table line k ts f ++ is)
+  conditions_take [] f is = form_takes f is
+  conditions_take (t ∷ ts) f is = one_takes t (Step line (Condition (table.flows k).next) ∷ conditions_code table line k ts f) is refl
+
+pub work_takes : (addressed : AddressedUnit) (k : ℕ) (work : Work) (is : List Instruction) → Takes 0 (work_code addressed k work ++ is)
+work_takes addressed k (doing ts f) is = conditions_take (table_of addressed) (line_at addressed.unit k) k ts f is
+work_takes addressed k (ending d) is = refl
 
 -- ---- the deepest stack
 
@@ -31,9 +210,7 @@ within : (h : ℕ) (is : List Instruction) → Takes h is → h + values_ahead i
 within h [] t = elim t [ ]
 within h (Push v ∷ is) t = omega (arith, within (suc h) is t, deepest_behind (Push v) is)
 within h (Step line o ∷ is) t = omega (arith, takes_are h (Step line o ∷ is) t, deepest_first (Step line o ∷ is))
-within h (To _ ∷ is) t = elim t [ ]
-within h (Pass _ ∷ is) t = elim t [ ]
-within h (Show _ ∷ is) t = elim t [ ]
+within h (_ ∷ is) t = elim t [ ]
 
 deepest_rest : (is : List Instruction) (i : ℕ) → deepest (drop i is) ≤ deepest is
 deepest_rest [] i = let e : deepest (drop i []) ≡ 0 = ap deepest (drop_all i [] (omega arith)) in omega (arith, e)

@@ -1,33 +1,22 @@
 -- The code of actual arguments, of what is assigned or purged, of items and of the control of a DO, and what stands of them behind the
--- operation, which stays while they are evaluated.
-use Rattle.std.proofs.Common.{◌≡◌, ℕ, List, [], ◌∷◌, ◌++◌, map, length, refl, ap, sym, ◌∙◌, Option, Some, None}
+-- operation, which stays while they are evaluated: these entries, with the operands, are what the action has.
+use Rattle.std.proofs.Common.{◌≡◌, ℕ, List, [], ◌∷◌, ◌++◌, map, length, refl, ap, sym, ◌∙◌, Option, Some, None, suc, drop}
 use Rattle.std.specs.List.{flat_map}
-use Rattle.hep_source.specs.declared.declaration.Target.{Target}
-use Rattle.hep_source.specs.declared.name.Name.{Name}
-use Rattle.hep_source.specs.declared.name.Occurrence.{Occurrence}
-use Rattle.hep_source.specs.declared.operator.Operator.{Operator}
+use Rattle.hep_machine.specs.Words.{Target, Name, Occurrence, Operator, DoControl, PrintItem, Value, Tree, Trees, constant, occurrence, with_list, parenthesized, signed, negated, binary, trees, trees_of, constant_value, Reference, Part, whole, first_redex, redex_of, then_part, mapped_part, signing, negating, combined, part_of_listed, part_of, parts_of, reference_of, plugged, plugged_first, plugged_listed, plug, plug_all, list_part, plug_list, Actual, evaluated, actual_of_name, actual_of_listed, actual_of, actuals_of, plug_actuals, target_part, plug_target, targets_part, plug_targets, item_of, item_part, items_part, plug_item, plug_items, increment_of, control_part, plug_control, referred, Meaning, element, pure, state, unknown, listed_meaning}
 use Rattle.hep_source.specs.declared.operator.Sign.{Sign as SignBefore}
-use Rattle.hep_source.specs.declared.statement.DoControl.{DoControl}
-use Rattle.hep_source.specs.declared.statement.PrintItem.{PrintItem}
 use Rattle.hep_source.specs.declared.statement.PrintItem.TheVariants as print_item
-use Rattle.hep_source.specs.declared.value.Value.{Value}
 use Rattle.hep_source.specs.declared.value.Value.TheVariants as value
-use Rattle.hep_source.specs.Tree.{Tree, Trees, constant, occurrence, with_list, parenthesized, signed, negated, binary, trees, trees_of}
 use Rattle.hep_machine.specs.declared.record.Item.{Item}
-use Rattle.hep_machine.specs.Constants.{constant_value}
-use Rattle.hep_machine.specs.Evaluation.{Reference, Part, whole, first_redex, redex_of, then_part, mapped_part, signing, negating, combined, part_of_listed, part_of, parts_of, reference_of, plugged, plugged_first, plugged_listed, plug, plug_all, list_part, plug_list, Actual, evaluated, actual_of_name, actual_of_listed, actual_of, actuals_of, plug_actuals, target_part, plug_target, targets_part, plug_targets, item_of, item_part, items_part, plug_item, plug_items, increment_of, control_part, plug_control}
-use Rattle.hep_machine.specs.Functions.{Meaning, element, pure, state, unknown, listed_meaning}
 use Rattle.hep_code.specs.declared.instruction.Argument.{Argument}
 use Rattle.hep_code.specs.declared.instruction.Argument.TheVariants.{Evaluated, Referred}
 use Rattle.hep_code.specs.declared.instruction.Instruction.{Instruction}
 use Rattle.hep_code.specs.declared.instruction.Instruction.TheVariants.{Push, Pass, Show}
 use Rattle.hep_code.specs.declared.instruction.Printed.TheVariants.{Operand}
 use Rattle.hep_code.specs.declared.variable.Variable.{Variable}
-use Rattle.hep_code.specs.Actions.{operands_of_actual, argument_of_actual, referred_argument, operands_of_item, printed_item}
-use Rattle.hep_code.specs.ExpressionCode.{count, actual_name_code, actual_listed_code, actual_code, actuals_code, argument_of_name, argument_of_listed, argument_of, target_code, targets_code, argument_of_target, item_code, items_code, printed_of, control_code}
-use Rattle.hep_code.specs.UnitCode.{AddressedUnit, names_of}
-use Rattle.hep_code.proofs.Parts.{FirstIs, PartIs, one, Any, before_more, behind_values, both_values, same_after}
-use Rattle.hep_code.proofs.Expressions.{code, codes, ValueIs, ValuesAre, count_stays, tree_is, trees_are}
+use Rattle.hep_code.specs.Words.{operands_of_actual, argument_of_actual, referred_argument, operands_of_item, printed_item, count, actual_name_code, actual_listed_code, actual_code, actuals_code, argument_of_name, argument_of_listed, argument_of, target_code, targets_code, argument_of_target, item_code, items_code, printed_of, control_code, AddressedUnit, names_of, by_reference, passed_from, passed_reference, passed_actual, items_from}
+use Rattle.hep_code.proofs.Expressions.{FirstIs, PartIs, one, Any, before_more, behind_values, both_values, same_after, code, codes, ValueIs, ValuesAre, count_stays, tree_is, trees_are}
+use Rattle.std.proofs.Math.Seq.{take-append_seam, drop-append_seam}
+use Rattle.hep_machine.specs.declared.record.Item.TheVariants as item
 
 -- where a part has a redex
 abbrev pub IfFirst : {A : Type 0} → Part A → Type 0 → Type 0
@@ -51,16 +40,10 @@ module _ (addressed : AddressedUnit) (line : ℕ) where
 
   -- one more before a list
   pub list_entries : {A T : Type 0} (operands : A → List Value) (entry : A → Instruction) (c : T → List Instruction) (entry_of : T → Instruction) (p : Part A) (q : Part (List A)) (t : T) (ts : List T) (f : Value → T) (g : Value → List T) → HasEntry operands entry p (c t) (λ v. c (f v)) (entry_of t) (λ v. entry_of (f v)) → HasEntry (flat_map operands) (map entry) q (flat_map c ts) (λ v. flat_map c (g v)) (map entry_of ts) (λ v. map entry_of (g v)) → HasEntry (flat_map operands) (map entry) (then_part (λ x xs. x ∷ xs) p q) (flat_map c (t ∷ ts)) (λ v. flat_map c (plugged_first p (f v ∷ ts) (t ∷ g v))) (map entry_of (t ∷ ts)) (λ v. map entry_of (plugged_first p (f v ∷ ts) (t ∷ g v)))
-  list_entries operands entry c entry_of (first_redex r) q t ts f g h i = (
-    before_more addressed line r (c t) (flat_map c ts) (λ v. c (f v)) h.0,
-    λ v. ap (λ i. i ∷ map entry_of ts) (h.1 v),
-  )
-  list_entries operands entry c entry_of (whole x) (first_redex r) t ts f g h i = (
-    behind_values addressed line r (operands x) (c t) (flat_map c ts) (λ v. flat_map c (g v)) h.0 i.0,
-    λ v. ap (λ is. entry_of t ∷ is) (i.1 v),
-  )
+  list_entries operands entry c entry_of (first_redex r) q t ts f g h i = (before_more (flat_map c ts) h.0, λ v. ap (λ i. i ∷ map entry_of ts) (h.1 v))
+  list_entries operands entry c entry_of (whole x) (first_redex r) t ts f g h i = (behind_values (operands x) h.0 i.0, λ v. ap (λ is. entry_of t ∷ is) (i.1 v))
   list_entries operands entry c entry_of (whole x) (whole xs) t ts f g h i = (
-    both_values addressed line (operands x) (flat_map operands xs) (flat_map operands (x ∷ xs)) (c t) (flat_map c ts) h.0 i.0 refl,
+    both_values (operands x) (flat_map operands xs) h.0 i.0,
     ap (λ y. y ∷ map entry xs) h.1 ∙ ap (λ is. entry_of t ∷ is) i.1,
   )
 
@@ -81,8 +64,7 @@ module _ (addressed : AddressedUnit) (line : ℕ) where
   -- one that is an expression, and stays one
   expression_is : (p : Part Value) (c : List Instruction) (after later : Value → List Instruction) (e : Argument) (passed_later : Value → Argument) → e ≡ Evaluated → IfFirst p ((v : Value) → (later v ≡ after v) × (passed_later v ≡ Evaluated)) → PartIs addressed line (one addressed line) (Any addressed line) p c after → ActualIs (mapped_part evaluated p) c later e passed_later
   expression_is (whole x) c after later e passed_later is stays h = (h.0, ap Pass (sym is))
-  expression_is (first_redex r) c after later e passed_later is stays h =
-      (same_after addressed line r c after later (λ v. (stays v).0) h, λ v. ap Pass ((stays v).1 ∙ sym is))
+  expression_is (first_redex r) c after later e passed_later is stays h = (same_after (λ v. (stays v).0) h, λ v. ap Pass ((stays v).1 ∙ sym is))
 
   name_is : (p : Occurrence) (known : Option Value) → ActualIs (actual_of_name known p.name) (actual_name_code known) (λ v. Push v ∷ []) (argument_of_name (names_of addressed) known p.name) (λ v. Evaluated)
   name_is p None = (refl, refl)
@@ -99,21 +81,17 @@ module _ (addressed : AddressedUnit) (line : ℕ) where
   listed_is element p ts (whole xs) r is h i = (h.0, ap (λ n. Pass (Referred (addressed.variables p.name) n)) h.1)
   listed_is element p ts (first_redex s) r is h i =
       let us : Value → Trees = plug_all addressed.unit ts in (
-        same_after addressed line s (codes addressed line ts) (λ v. codes addressed line (us v)) (λ v. argument_code (with_list p (us v))) (λ v. with_list_code element p (us v) is) h,
+        same_after (λ v. with_list_code element p (us v) is) h,
         λ v. ap Pass (with_list_argument element p (us v) is ∙ ap (Referred (addressed.variables p.name)) (count_stays addressed line ts v)),
       )
   listed_is (pure f) p ts (whole xs) r is h i = (i, λ v. refl)
   listed_is (pure f) p ts (first_redex s) r is h i =
-      let us : Value → Trees = plug_all addressed.unit ts in (
-        same_after addressed line s (code addressed line (with_list p ts)) (λ v. code addressed line (with_list p (us v))) (λ v. argument_code (with_list p (us v))) (λ v. with_list_code (pure f) p (us v) is) i,
-        λ v. ap Pass (with_list_argument (pure f) p (us v) is),
-      )
+      let us : Value → Trees = plug_all addressed.unit ts in
+      (same_after (λ v. with_list_code (pure f) p (us v) is) i, λ v. ap Pass (with_list_argument (pure f) p (us v) is))
   listed_is (state f) p ts q (whole x) is h i = (i, λ v. refl)
   listed_is (state f) p ts q (first_redex s) is h i =
-      let us : Value → Trees = plug_all addressed.unit ts in (
-        same_after addressed line s (code addressed line (with_list p ts)) (λ v. code addressed line (with_list p (us v))) (λ v. argument_code (with_list p (us v))) (λ v. with_list_code (state f) p (us v) is) i,
-        λ v. ap Pass (with_list_argument (state f) p (us v) is),
-      )
+      let us : Value → Trees = plug_all addressed.unit ts in
+      (same_after (λ v. with_list_code (state f) p (us v) is) i, λ v. ap Pass (with_list_argument (state f) p (us v) is))
   listed_is unknown p ts q r is h i = (i.0, refl)
 
   -- an expression that is neither a name nor a name with a list stays one, or becomes a value
@@ -182,8 +160,7 @@ module _ (addressed : AddressedUnit) (line : ℕ) where
   target_by : (x : Name) (ts : List Tree) (q : Part (List Value)) → ValuesAre addressed line q (trees_of ts) (plug_all addressed.unit (trees_of ts)) → HasEntry subscripts place_of_reference (mapped_part (λ vs. (x, vs)) q) (codes addressed line (trees_of ts)) (λ v. codes addressed line (trees_of (plug_list addressed.unit ts v))) (addressed.variables x, count (trees_of ts)) (λ v. (addressed.variables x, count (trees_of (plug_list addressed.unit ts v))))
   target_by x ts (whole xs) h = (h.0, ap (λ n. (addressed.variables x, n)) h.1)
   target_by x ts (first_redex r) h = (
-    same_after addressed line r (codes addressed line (trees_of ts)) (λ v. codes addressed line (plug_all addressed.unit (trees_of ts) v)) (λ v. codes addressed line (trees_of (plug_list addressed.unit ts v)))
-        (λ v. ap (codes addressed line) (plugged_trees ts v)) h,
+    same_after (λ v. ap (codes addressed line) (plugged_trees ts v)) h,
     λ v. ap (λ n. (addressed.variables x, n)) (ap count (plugged_trees ts v) ∙ count_stays addressed line (trees_of ts) v),
   )
 
@@ -241,28 +218,39 @@ module _ (addressed : AddressedUnit) (line : ℕ) where
       plugged_first q (record c { limit = plug addressed.unit c.limit v }) (record c { increment = Some (plug addressed.unit (increment_of c.increment) v) }))
 
   control_by : (c : DoControl) (p q r : Part Value) → ValueIs addressed line p c.initial (plug addressed.unit c.initial) → ValueIs addressed line q c.limit (plug addressed.unit c.limit) → ValueIs addressed line r (increment_of c.increment) (plug addressed.unit (increment_of c.increment)) → HasEntry three (λ m. c.variable.name) (then_part (λ m (rest_after : Value × Value). (m, rest_after.0, rest_after.1)) p (then_part (λ m n. (m, n)) q r)) (control_code (names_of addressed) line c) (λ v. control_code (names_of addressed) line (control_after c p q v)) c.variable.name (λ v. (control_after c p q v).variable.name)
-  control_by c (first_redex s) q r h i j =
-      let limit_and_increment = code addressed line c.limit ++ code addressed line (increment_of c.increment) in
-      (before_more addressed line s (code addressed line c.initial) limit_and_increment (λ v. code addressed line (plug addressed.unit c.initial v)) h, λ v. refl)
-  control_by c (whole x) (first_redex s) r h i j =
-      let last = code addressed line (increment_of c.increment) in (
-        behind_values addressed line s (x ∷ []) (code addressed line c.initial) (code addressed line c.limit ++ last) (λ v. code addressed line (plug addressed.unit c.limit v) ++ last) h.0
-            (before_more addressed line s (code addressed line c.limit) last (λ v. code addressed line (plug addressed.unit c.limit v)) i),
-        λ v. refl,
-      )
-  control_by c (whole x) (whole y) (first_redex s) h i j =
-      let increment = increment_of c.increment in
-      let after : Value → List Instruction = λ v. code addressed line (plug addressed.unit increment v) in (
-        behind_values addressed line s (x ∷ []) (code addressed line c.initial) (code addressed line c.limit ++ code addressed line increment) (λ v. code addressed line c.limit ++ after v) h.0
-            (behind_values addressed line s (y ∷ []) (code addressed line c.limit) (code addressed line increment) after i.0 j),
-        λ v. refl,
-      )
-  control_by c (whole x) (whole y) (whole z) h i j = (
-    both_values addressed line (x ∷ []) (y ∷ z ∷ []) (x ∷ y ∷ z ∷ []) (code addressed line c.initial) (code addressed line c.limit ++ code addressed line (increment_of c.increment)) h.0
-        (both_values addressed line (y ∷ []) (z ∷ []) (y ∷ z ∷ []) (code addressed line c.limit) (code addressed line (increment_of c.increment)) i.0 j.0 refl) refl,
-    refl,
-  )
+  control_by c (first_redex s) q r h i j = (before_more (code addressed line c.limit ++ code addressed line (increment_of c.increment)) h, λ v. refl)
+  control_by c (whole x) (first_redex s) r h i j = (behind_values (x ∷ []) h.0 (before_more (code addressed line (increment_of c.increment)) i), λ v. refl)
+  control_by c (whole x) (whole y) (first_redex s) h i j = (behind_values (x ∷ []) h.0 (behind_values (y ∷ []) i.0 j), λ v. refl)
+  control_by c (whole x) (whole y) (whole z) h i j = (both_values (x ∷ []) (y ∷ z ∷ []) h.0 (both_values (y ∷ []) (z ∷ []) i.0 j.0), refl)
 
   pub control_is : (c : DoControl) → HasEntry three (λ m. c.variable.name) (control_part addressed.unit c) (control_code (names_of addressed) line c) (λ v. control_code (names_of addressed) line (plug_control addressed.unit c v)) c.variable.name (λ v. (plug_control addressed.unit c v).variable.name)
   control_is c =
       control_by c (part_of addressed.unit c.initial) (part_of addressed.unit c.limit) (part_of addressed.unit (increment_of c.increment)) (tree_is addressed line c.initial) (tree_is addressed line c.limit) (tree_is addressed line (increment_of c.increment))
+
+-- ---- the entries of a CALL, CREATE, PURGE or PRINT
+
+module _ (variables : Name → Variable) where
+  -- a reference by its subscripts, and the operands behind them
+  reference_first : (r : Reference) (n : ℕ) (entries : List Instruction) (vs : List Value) → passed_from (suc n) (Pass (referred_argument variables r) ∷ entries) (r.1 ++ vs) ≡ passed_reference variables r ∷ passed_from n entries vs
+  reference_first r n entries vs =
+      ap (λ xs. by_reference (variables r.0) xs ∷ passed_from n entries (drop (length r.1) (r.1 ++ vs))) (take-append_seam r.1 vs)
+      ∙ ap (λ xs. passed_reference variables r ∷ passed_from n entries xs) (drop-append_seam r.1 vs)
+
+  pub actuals_passed : (xs : List Actual) (more : List Instruction) → passed_from (length xs) (map (λ a. Pass (argument_of_actual variables a)) xs ++ more) (flat_map operands_of_actual xs) ≡ map (passed_actual variables) xs
+  actuals_passed [] more = refl
+  actuals_passed (evaluated v ∷ xs) more = ap (λ ys. passed_actual variables (evaluated v) ∷ ys) (actuals_passed xs more)
+  actuals_passed (referred r ∷ xs) more =
+      reference_first r (length xs) (map (λ a. Pass (argument_of_actual variables a)) xs ++ more) (flat_map operands_of_actual xs)
+      ∙ ap (λ ys. passed_reference variables r ∷ ys) (actuals_passed xs more)
+
+  pub references_passed : (rs : List Reference) (more : List Instruction) → passed_from (length rs) (map (λ r. Pass (referred_argument variables r)) rs ++ more) (flat_map (λ (r : Reference). r.1) rs) ≡ map (passed_reference variables) rs
+  references_passed [] more = refl
+  references_passed (r ∷ rs) more =
+      reference_first r (length rs) (map (λ r. Pass (referred_argument variables r)) rs ++ more) (flat_map (λ (r : Reference). r.1) rs)
+      ∙ ap (λ ys. passed_reference variables r ∷ ys) (references_passed rs more)
+
+pub items_shown : (xs : List Item) (more : List Instruction) → items_from (length xs) (map (λ i. Show (printed_item i)) xs ++ more) (flat_map operands_of_item xs) ≡ xs
+items_shown [] more = refl
+items_shown (item.Int z ∷ xs) more = ap (λ ys. item.Int z ∷ ys) (items_shown xs more)
+items_shown (item.Truth b ∷ xs) more = ap (λ ys. item.Truth b ∷ ys) (items_shown xs more)
+items_shown (item.Text cs ∷ xs) more = ap (λ ys. item.Text cs ∷ ys) (items_shown xs more)

@@ -1,20 +1,82 @@
--- The code of an expression and what is left of it: X3.9-1978, 6.6.
-use Rattle.std.proofs.Common.{◌≡◌, ℕ, suc, List, [], ◌∷◌, ◌++◌, length, refl, ap, sym, ◌∙◌, Option, Some, None}
-use Rattle.hep_source.specs.declared.name.Name.{Name}
-use Rattle.hep_source.specs.declared.name.Occurrence.{Occurrence}
-use Rattle.hep_source.specs.declared.operator.Operator.{Operator}
-use Rattle.hep_source.specs.declared.operator.Sign.{Sign as SignBefore}
-use Rattle.hep_source.specs.declared.value.Value.{Value}
-use Rattle.hep_source.specs.Tree.{Tree, Trees, constant, occurrence, with_list, parenthesized, signed, negated, binary, no_trees, trees}
-use Rattle.hep_machine.specs.Constants.{constant_value}
-use Rattle.hep_machine.specs.Evaluation.{Reference, reading, signing, negating, applying, testing, combining, Part, whole, first_redex, redex_of, then_part, part_of_name, part_of_listed, reference_of_listed, combined, part_of, parts_of, reference_of, plugged, plugged_first, plugged_listed, plug, plug_all}
-use Rattle.hep_machine.specs.Functions.{Meaning, element, pure, state, unknown, listed_meaning}
-use Rattle.hep_code.specs.declared.instruction.Evaluation.TheVariants.{Load, Sign, Not, Combine, Apply, Test}
+-- The code of a part of a statement: of a whole its values, and else its first redex behind the values that it needs; and so the code of an
+-- expression and what is left of it: X3.9-1978, 6.6.
+use Rattle.std.proofs.Common.{◌≡◌, ℕ, List, [], ◌∷◌, ◌++◌, map, refl, ap, sym, ◌∙◌, append_assoc, suc, length, Option, Some, None}
+use Rattle.std.proofs.lemmas.List.{map-append}
+use Rattle.hep_machine.specs.Words.{Value, Redex, Part, whole, first_redex, Reference, signing, negating, applying, testing, combining, redex_of, then_part, part_of_name, part_of_listed, reference_of_listed, combined, part_of, parts_of, reference_of, plugged, plugged_first, plugged_listed, plug, plug_all, Name, Occurrence, Operator, Tree, Trees, constant, occurrence, with_list, parenthesized, signed, negated, binary, no_trees, trees, constant_value, Meaning, element, pure, state, unknown, listed_meaning}
+use Rattle.hep_machine.specs.Evaluation.{reading}
+use Rattle.hep_code.specs.declared.instruction.Evaluation.{Evaluation}
 use Rattle.hep_code.specs.declared.instruction.Instruction.{Instruction}
-use Rattle.hep_code.specs.declared.instruction.Instruction.TheVariants.{Push}
-use Rattle.hep_code.specs.ExpressionCode.{count, evaluating, name_code, asked_listed, asked, asked_listed_code, listed_code, tree_code, trees_code, asked_code}
-use Rattle.hep_code.specs.UnitCode.{AddressedUnit, names_of}
-use Rattle.hep_code.proofs.Parts.{PartIs, one, Any, before_more, behind_values, both_values, same_after, redex_alone}
+use Rattle.hep_code.specs.declared.instruction.Instruction.TheVariants.{Push, Step}
+use Rattle.hep_code.specs.declared.instruction.Operation.TheVariants.{Evaluate}
+use Rattle.hep_code.specs.Words.{operands_of_redex, evaluation_of, evaluating, count, name_code, asked_listed, asked, asked_listed_code, listed_code, tree_code, trees_code, asked_code, AddressedUnit, names_of}
+use Rattle.hep_source.specs.declared.operator.Sign.{Sign as SignBefore}
+use Rattle.hep_code.specs.declared.instruction.Evaluation.TheVariants.{Load, Sign, Not, Combine, Apply, Test}
+
+module _ (addressed : AddressedUnit) (line : ℕ) where
+  abbrev pub redex_code : Redex → Instruction
+  redex_code r = Step line (Evaluate (evaluation_of addressed.variables r))
+
+  -- code begins with operands, of which the last ones are those of a redex, and with the operation of that; and the code that has a
+  -- value in the place of the redex
+  pub record FirstIs (r : Redex) (code : List Instruction) (after : Value → List Instruction) : Type 0 where
+    pub before : List Value
+    pub rest : List Instruction
+    pub is : code ≡ map Push (before ++ operands_of_redex r) ++ (redex_code r ∷ rest)
+    pub filled : (v : Value) → after v ≡ map Push (before ++ v ∷ []) ++ rest
+
+  -- the code of a part, and the code after its first redex; of a whole, its operands and what holds of it
+  abbrev pub PartIs : {A : Type 0} → (A → List Value) → (A → Type 0) → Part A → List Instruction → (Value → List Instruction) → Type 0
+  PartIs operands Holds (whole x) code after = (code ≡ map Push (operands x)) × Holds x
+  PartIs operands Holds (first_redex r) code after = FirstIs r code after
+
+  -- ---- one value, and nothing more of it
+
+  abbrev pub one : Value → List Value
+  one v = v ∷ []
+
+  abbrev pub Any : {A : Type 0} → A → Type 0
+  Any x = Unit {0}
+
+-- ---- more code
+
+module _ {addressed : AddressedUnit} {line : ℕ} {r : Redex} {code : List Instruction} {after : Value → List Instruction} where
+  pub before_more : (more : List Instruction) → FirstIs addressed line r code after → FirstIs addressed line r (code ++ more) (λ v. after v ++ more)
+  before_more more h =
+      record {
+        before = h.before;
+        rest = h.rest ++ more;
+        is = ap (λ c. c ++ more) h.is ∙ append_assoc (map Push (h.before ++ operands_of_redex r)) (redex_code addressed line r ∷ h.rest) more;
+        filled = λ v. ap (λ c. c ++ more) (h.filled v) ∙ append_assoc (map Push (h.before ++ v ∷ [])) h.rest more;
+      }
+
+  pub behind_values : (xs : List Value) {front : List Instruction} → front ≡ map Push xs → FirstIs addressed line r code after → FirstIs addressed line r (front ++ code) (λ v. front ++ after v)
+  behind_values xs e h =
+      let joined : (ys : List Value) (more : List Instruction) → map Push xs ++ (map Push (h.before ++ ys) ++ more) ≡ map Push ((xs ++ h.before) ++ ys) ++ more =
+      λ ys more. simp (append_assoc, map-append) in
+      record {
+        before = xs ++ h.before;
+        rest = h.rest;
+        is = ap (λ c. c ++ code) e ∙ ap (λ c. map Push xs ++ c) h.is ∙ joined (operands_of_redex r) (redex_code addressed line r ∷ h.rest);
+        filled = λ v. ap (λ c. c ++ after v) e ∙ ap (λ c. map Push xs ++ c) (h.filled v) ∙ joined (v ∷ []) h.rest;
+      }
+
+  pub same_after : {later : Value → List Instruction} → ((v : Value) → later v ≡ after v) → FirstIs addressed line r code after → FirstIs addressed line r code later
+  same_after e h = record { before = h.before; rest = h.rest; is = h.is; filled = λ v. e v ∙ h.filled v }
+
+-- values beside values
+pub both_values : (xs ys : List Value) {front code : List Instruction} → front ≡ map Push xs → code ≡ map Push ys → front ++ code ≡ map Push (xs ++ ys)
+both_values xs ys {front} {code} e f = ap (λ c. c ++ code) e ∙ ap (λ c. map Push xs ++ c) f ∙ sym (map-append Push xs ys)
+
+-- a redex whose operands are all that stands before it
+pub redex_alone : (addressed : AddressedUnit) (line : ℕ) (r : Redex) {e : Evaluation} {code : List Instruction} → code ≡ map Push (operands_of_redex r) → evaluation_of addressed.variables r ≡ e → FirstIs addressed line r (code ++ evaluating line e) (λ v. Push v ∷ [])
+redex_alone addressed line r {e} is same = record {
+  before = [];
+  rest = [];
+  is = ap (λ c. c ++ evaluating line e) is ∙ ap (λ f. map Push (operands_of_redex r) ++ evaluating line f) (sym same);
+  filled = λ v. refl;
+}
+
+-- ---- expressions
 
 module _ (addressed : AddressedUnit) (line : ℕ) where
   abbrev pub code : Tree → List Instruction
@@ -57,31 +119,26 @@ module _ (addressed : AddressedUnit) (line : ℕ) where
   -- ---- each kind of expression, by what its operands are so far
 
   name_is : (p : Occurrence) (known : Option Value) → PartIs addressed line (one addressed line) (Any addressed line) (part_of_name known p.name) (name_code (names_of addressed) line known p.name) (λ v. Push v ∷ [])
-  name_is p None = redex_alone addressed line (reading (p.name, [])) (Load (addressed.variables p.name) 0) [] refl refl
+  name_is p None = redex_alone addressed line (reading (p.name, [])) refl refl
   name_is p (Some v) = (refl, tt)
 
   signed_is : (s : SignBefore) (t : Tree) (p : Part Value) (filled : Value → Tree) → ValueIs p t filled → ValueIs (redex_of (signing s) p) (signed s t) (λ v. plugged p (signed s (filled v)) v)
-  signed_is s t (whole x) filled h = redex_alone addressed line (signing s x) (Sign s) (code t) h.0 refl
-  signed_is s t (first_redex r) filled h = before_more addressed line r (code t) (evaluating line (Sign s)) (λ v. code (filled v)) h
+  signed_is s t (whole x) filled h = redex_alone addressed line (signing s x) h.0 refl
+  signed_is s t (first_redex r) filled h = before_more (evaluating line (Sign s)) h
 
   negated_is : (t : Tree) (p : Part Value) (filled : Value → Tree) → ValueIs p t filled → ValueIs (redex_of negating p) (negated t) (λ v. plugged p (negated (filled v)) v)
-  negated_is t (whole x) filled h = redex_alone addressed line (negating x) Not (code t) h.0 refl
-  negated_is t (first_redex r) filled h = before_more addressed line r (code t) (evaluating line Not) (λ v. code (filled v)) h
+  negated_is t (whole x) filled h = redex_alone addressed line (negating x) h.0 refl
+  negated_is t (first_redex r) filled h = before_more (evaluating line Not) h
 
   binary_is : (o : Operator) (a b : Tree) (p q : Part Value) (f g : Value → Tree) → ValueIs p a f → ValueIs q b g → ValueIs (redex_of (combined o) (then_part (λ v w. (v, w)) p q)) (binary o a b) (λ v. plugged_first p (binary o (f v) b) (plugged q (binary o a (g v)) v))
-  binary_is o a b (first_redex r) q f g h i =
-      before_more addressed line r (code a ++ code b) (evaluating line (Combine o)) (λ v. code (f v) ++ code b) (
-      before_more addressed line r (code a) (code b) (λ v. code (f v)) h)
-  binary_is o a b (whole x) (first_redex r) f g h i =
-      before_more addressed line r (code a ++ code b) (evaluating line (Combine o)) (λ v. code a ++ code (g v)) (
-      behind_values addressed line r (x ∷ []) (code a) (code b) (λ v. code (g v)) h.0 i)
-  binary_is o a b (whole x) (whole y) f g h i =
-      redex_alone addressed line (combining o x y) (Combine o) (code a ++ code b) (both_values addressed line (x ∷ []) (y ∷ []) (x ∷ y ∷ []) (code a) (code b) h.0 i.0 refl) refl
+  binary_is o a b (first_redex r) q f g h i = before_more (evaluating line (Combine o)) (before_more (code b) h)
+  binary_is o a b (whole x) (first_redex r) f g h i = before_more (evaluating line (Combine o)) (behind_values (x ∷ []) h.0 i)
+  binary_is o a b (whole x) (whole y) f g h i = redex_alone addressed line (combining o x y) (both_values (x ∷ []) (y ∷ []) h.0 i.0) refl
 
   list_is : (t : Tree) (ts : Trees) (p : Part Value) (q : Part (List Value)) (f : Value → Tree) (g : Value → Trees) → ValueIs p t f → ValuesAre q ts g → ValuesAre (then_part (λ v vs. v ∷ vs) p q) (trees t ts) (λ v. plugged_first p (trees (f v) ts) (trees t (g v)))
-  list_is t ts (first_redex r) q f g h i = before_more addressed line r (code t) (codes ts) (λ v. code (f v)) h
-  list_is t ts (whole x) (first_redex r) f g h i = behind_values addressed line r (x ∷ []) (code t) (codes ts) (λ v. codes (g v)) h.0 i
-  list_is t ts (whole x) (whole xs) f g h i = (both_values addressed line (x ∷ []) xs (x ∷ xs) (code t) (codes ts) h.0 i.0 refl, ap suc i.1)
+  list_is t ts (first_redex r) q f g h i = before_more (codes ts) h
+  list_is t ts (whole x) (first_redex r) f g h i = behind_values (x ∷ []) h.0 i
+  list_is t ts (whole x) (whole xs) f g h i = (both_values (x ∷ []) xs h.0 i.0, ap suc i.1)
 
   -- ---- a name with a list, by what it is
 
@@ -102,33 +159,21 @@ module _ (addressed : AddressedUnit) (line : ℕ) where
   after_list m p us is = ap (λ m. listed_after m p us) (sym is)
 
   listed_is : (m : Meaning) (p : Occurrence) (ts : Trees) (q : Part (List Value)) (r : Part Reference) → m ≡ listed_meaning addressed.unit p.name → ValuesAre q ts (plug_all addressed.unit ts) → ReferenceIs r ts (plug_all addressed.unit ts) → AskedStays r ts (plug_all addressed.unit ts) → PartIs addressed line (one addressed line) (Any addressed line) (part_of_listed m p.name q r) (listed_after m p ts) (λ v. code (plugged_listed m q r (with_list p (plug_all addressed.unit ts v)) v))
-  listed_is element p ts (whole xs) r is h i stays =
-      redex_alone addressed line (reading (p.name, xs)) (Load (addressed.variables p.name) (count ts)) (codes ts) h.0 (ap (Load (addressed.variables p.name)) h.1)
+  listed_is element p ts (whole xs) r is h i stays = redex_alone addressed line (reading (p.name, xs)) h.0 (ap (Load (addressed.variables p.name)) h.1)
   listed_is element p ts (first_redex s) r is h i stays =
       let us : Value → Trees = plug_all addressed.unit ts in
-      let step = evaluating line (Load (addressed.variables p.name) (count ts)) in
-      same_after addressed line s (codes ts ++ step) (λ v. codes (us v) ++ step) (λ v. code (with_list p (us v)))
-      (λ v. after_list element p (us v) is ∙ ap (λ n. codes (us v) ++ evaluating line (Load (addressed.variables p.name) n)) (count_stays ts v))
-      (before_more addressed line s (codes ts) step (λ v. codes (us v)) h)
-  listed_is (pure f) p ts (whole xs) r is h i stays =
-      redex_alone addressed line (applying f xs) (Apply f (count ts)) (codes ts) h.0 (ap (Apply f) h.1)
+      same_after (λ v. after_list element p (us v) is ∙ ap (λ n. codes (us v) ++ evaluating line (Load (addressed.variables p.name) n)) (count_stays ts v))
+      (before_more (evaluating line (Load (addressed.variables p.name) (count ts))) h)
+  listed_is (pure f) p ts (whole xs) r is h i stays = redex_alone addressed line (applying f xs) h.0 (ap (Apply f) h.1)
   listed_is (pure f) p ts (first_redex s) r is h i stays =
       let us : Value → Trees = plug_all addressed.unit ts in
-      let step = evaluating line (Apply f (count ts)) in
-      same_after addressed line s (codes ts ++ step) (λ v. codes (us v) ++ step) (λ v. code (with_list p (us v)))
-      (λ v. after_list (pure f) p (us v) is ∙ ap (λ n. codes (us v) ++ evaluating line (Apply f n)) (count_stays ts v))
-      (before_more addressed line s (codes ts) step (λ v. codes (us v)) h)
+      same_after (λ v. after_list (pure f) p (us v) is ∙ ap (λ n. codes (us v) ++ evaluating line (Apply f n)) (count_stays ts v)) (before_more (evaluating line (Apply f (count ts))) h)
   listed_is (state f) p ts q (whole x) is h i stays =
-      let a = asked (names_of addressed) ts in
-      redex_alone addressed line (testing f x) (Test f (addressed.variables a.0) a.1) (asked_code (names_of addressed) line ts) i.0
-      (ap (λ y. Test f (addressed.variables y) (length x.1)) i.1.0 ∙ ap (Test f (addressed.variables a.0)) i.1.1)
+      redex_alone addressed line (testing f x) i.0 (ap (λ y. Test f (addressed.variables y) (length x.1)) i.1.0 ∙ ap (Test f (addressed.variables (asked (names_of addressed) ts).0)) i.1.1)
   listed_is (state f) p ts q (first_redex s) is h i stays =
       let us : Value → Trees = plug_all addressed.unit ts in
-      let c : Trees → List Instruction = asked_code (names_of addressed) line in
       let step : Name × ℕ → List Instruction = λ a. evaluating line (Test f (addressed.variables a.0) a.1) in
-      same_after addressed line s (c ts ++ step (asked (names_of addressed) ts)) (λ v. c (us v) ++ step (asked (names_of addressed) ts)) (λ v. code (with_list p (us v)))
-      (λ v. after_list (state f) p (us v) is ∙ ap (λ a. c (us v) ++ step a) (stays v))
-      (before_more addressed line s (c ts) (step (asked (names_of addressed) ts)) (λ v. c (us v)) i)
+      same_after (λ v. after_list (state f) p (us v) is ∙ ap (λ a. asked_code (names_of addressed) line (us v) ++ step a) (stays v)) (before_more (step (asked (names_of addressed) ts)) i)
   listed_is unknown p ts q r is h i stays = (refl, tt)
 
   -- ---- what is asked of, by the meaning of its name
@@ -140,9 +185,7 @@ module _ (addressed : AddressedUnit) (line : ℕ) where
 
   element_is : (m : Meaning) (p : Occurrence) (us : Trees) (q : Part (List Value)) (r : Part Reference) → m ≡ listed_meaning addressed.unit p.name → ValuesAre q us (plug_all addressed.unit us) → PartIs addressed line subscripts (IsAsked (asked_listed m p.name (count us))) (reference_of_listed m p.name q) (asked_listed_code m (codes us)) (λ v. asked_code (names_of addressed) line (element_after m p us q r v))
   element_is element p us (whole xs) r is h = (h.0, (refl, h.1))
-  element_is element p us (first_redex s) r is h =
-      same_after addressed line s (codes us) (λ v. codes (plug_all addressed.unit us v)) (λ v. asked_code (names_of addressed) line (element_after element p us (first_redex s) r v))
-      (λ v. ap (λ m. asked_listed_code m (codes (plug_all addressed.unit us v))) (sym is)) h
+  element_is element p us (first_redex s) r is h = same_after (λ v. ap (λ m. asked_listed_code m (codes (plug_all addressed.unit us v))) (sym is)) h
   element_is _ p us q r is h = (refl, (refl, refl))
 
   element_stays : (m : Meaning) (p : Occurrence) (us : Trees) (q : Part (List Value)) (r : Part Reference) → m ≡ listed_meaning addressed.unit p.name → AskedStays (reference_of_listed m p.name q) (trees (with_list p us) no_trees) (element_after m p us q r)
@@ -153,9 +196,7 @@ module _ (addressed : AddressedUnit) (line : ℕ) where
   asked_stays : (ts : Trees) → AskedStays (reference_of addressed.unit ts) ts (plug_all addressed.unit ts)
   asked_stays (trees (with_list p us) no_trees) =
       element_stays (listed_meaning addressed.unit p.name) p us (parts_of addressed.unit us) (reference_of addressed.unit us) refl
-  asked_stays (trees (with_list p us) (trees t ts)) = tt
   asked_stays (trees (occurrence p) no_trees) = tt
-  asked_stays (trees (occurrence p) (trees t ts)) = tt
   asked_stays _ = tt
 
   -- ---- expressions
@@ -180,7 +221,5 @@ module _ (addressed : AddressedUnit) (line : ℕ) where
     pub reference_is : (ts : Trees) → ReferenceIs (reference_of addressed.unit ts) ts (plug_all addressed.unit ts)
     reference_is (trees (with_list p us) no_trees) =
         element_is (listed_meaning addressed.unit p.name) p us (parts_of addressed.unit us) (reference_of addressed.unit us) refl (trees_are us)
-    reference_is (trees (with_list p us) (trees t ts)) = (refl, (refl, refl))
     reference_is (trees (occurrence p) no_trees) = (refl, (refl, refl))
-    reference_is (trees (occurrence p) (trees t ts)) = (refl, (refl, refl))
     reference_is _ = (refl, (refl, refl))

@@ -1,22 +1,11 @@
 -- An operation replies what the machine answers.
-use Rattle.std.proofs.Common.{◌≡◌, ℕ, Bool, true, false, List, refl, ap, sym, ◌∙◌, subst}
-use Rattle.std.specs.Prelude.{Result, Ok, Err}
-use Rattle.hep_source.specs.declared.function.StateFunction.{StateFunction}
-use Rattle.hep_source.specs.declared.function.StateFunction.TheVariants.{IsFull, IsEmpty, ValueOf, SetEmpty, WaitFull}
-use Rattle.hep_source.specs.declared.name.Name.{Name}
-use Rattle.hep_source.specs.declared.value.Value.{Value}
-use Rattle.hep_source.specs.Units.{Units}
+use Rattle.std.proofs.Common.{◌≡◌, ℕ, Bool, true, false, List, refl, ap, sym, ◌∙◌, subst, Result, Ok, Err}
+use Rattle.hep_machine.specs.Words.{StateFunction, IsFull, Name, Value, Units, Outcome, level_after_statement, Redex, signing, negating, combining, applying, testing, Scope, location_of_name, Location, Store, Answer, fails, answer_at, answer_of_read_at, answer_of_test, answer_of_test_at, answer_of, written, Top, unit_on_top, result_after_write, result_after_assignment}
 use Rattle.hep_machine.specs.declared.event.Kind.{Kind}
 use Rattle.hep_machine.specs.declared.slot.Slot.{Slot}
-use Rattle.hep_machine.specs.Access.{Outcome}
-use Rattle.hep_machine.specs.Control.{level_after_statement}
-use Rattle.hep_machine.specs.Evaluation.{Redex, reading, signing, negating, combining, applying, testing}
-use Rattle.hep_machine.specs.Locations.{Scope, location_of_name}
-use Rattle.hep_machine.specs.State.{Location, Store}
-use Rattle.hep_machine.specs.Step.{Answer, fails, answer_at, answer_of_read_at, answer_of_test, answer_of_test_at, answer_of, written, Top, unit_on_top, result_after_write, result_after_assignment}
+use Rattle.hep_machine.specs.Evaluation.{reading}
 use Rattle.hep_code.specs.declared.variable.Variable.{Variable}
-use Rattle.hep_code.specs.Actions.{operands_of_redex, evaluation_of}
-use Rattle.hep_code.specs.Replies.{accessing, read, tested, reply_of, reply_to_store, Addressing, Finds, Answers, IsSame, IsAddressed, IsAddressedIn, answer_to_store}
+use Rattle.hep_code.specs.Words.{operands_of_redex, evaluation_of, accessing, read, tested, reply_of, reply_to_store, Addressing, Finds, Answers, IsSame, IsAddressed, IsAddressedIn, answer_to_store}
 
 module _ (addressing : Addressing) (store : Store) (cells : ℕ → Slot) (found : Finds addressing cells store) where
   -- an access to one cell
@@ -32,10 +21,7 @@ module _ (addressing : Addressing) (store : Store) (cells : ℕ → Slot) (found
 
   test_is : (f : StateFunction) (at : Location) → answer_of_test f store at ≡ answer_at store at (tested f (store at))
   test_is IsFull at = refl
-  test_is IsEmpty at = refl
-  test_is ValueOf at = refl
-  test_is SetEmpty at = refl
-  test_is WaitFull at = refl
+  test_is _ at = refl
 
   module _ (scope : Scope) (address : Variable → List Value → Result ℕ Kind) (variables : Name → Variable) where
     pub reply_is : (r : Redex) → IsAddressedIn addressing scope address variables r → Answers addressing store (reply_of cells address (evaluation_of variables r) (operands_of_redex r)) (answer_of scope store r)

@@ -1,20 +1,9 @@
 -- Processes in the code, as activations are added, begin and end: X3.9-1978, 15.6.2 and 15.8.
 use Rattle.std.proofs.Common.{◌≡◌, ℕ, zero, suc, ◌+◌, ◌≤◌, List, [], ◌∷◌, ◌++◌, length, length-append, refl, ap, sym, ◌∙◌, subst, arith, Option, Some}
 use Rattle.std.specs.Option.{unwrap_or}
-use Rattle.hep_source.specs.declared.value.Value.{Value}
-use Rattle.hep_source.specs.Units.{Units, unit_at, executable_from}
-use Rattle.hep_machine.specs.Binding.{Binding}
-use Rattle.hep_machine.specs.Control.{level_after_statement}
-use Rattle.hep_machine.specs.Defaults.{no_activation}
-use Rattle.hep_machine.specs.Evaluation.{Redex, plug_work}
-use Rattle.hep_machine.specs.Processes.{numbered, unit_of}
-use Rattle.hep_machine.specs.State.{Activation, Level, Process, State}
-use Rattle.hep_machine.specs.Step.{Top, entry_level, next_activation, with_activation, stack_after_return}
+use Rattle.hep_machine.specs.Words.{Value, Units, unit_at, executable_from, Binding, level_after_statement, no_activation, Redex, plug_work, numbered, unit_of, Activation, Level, Process, State, Top, entry_level, next_activation, with_activation, stack_after_return}
 use Rattle.hep_code.specs.declared.instruction.Operation.{Operation}
-use Rattle.hep_code.specs.Ahead.{IsRedex}
-use Rattle.hep_code.specs.Leads.{Moves}
-use Rattle.hep_code.specs.Stacks.{Addresses, addressed_unit, CodeLevel, IsOf, IsBelow, IsTop, AreBelow, AreLevels, NoLoops, entered, calling}
-use Rattle.hep_code.specs.Standing.{Counts, HoldsLoops, Stands}
+use Rattle.hep_code.specs.Words.{IsRedex, Moves, Addresses, addressed_unit, CodeLevel, IsOf, IsBelow, IsTop, AreBelow, AreLevels, NoLoops, entered, calling, Counts, HoldsLoops, Stands}
 use Rattle.hep_code.proofs.Moves.{StandsAt, after_statement_stands, after_statement_keeps, entry_stands}
 use Rattle.hep_machine.proofs.Others.{front_kept}
 use Rattle.hep_source.proofs.Tests.{at-last}

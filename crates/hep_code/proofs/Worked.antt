@@ -1,21 +1,9 @@
 -- Worked code: what the definitions give for small units.
 use Rattle.std.specs.Prelude.{◌≡◌, ℕ, ◌+◌, ◌*◌, pos, true, false, [], ◌∷◌, Option, Some, None, refl}
-use Rattle.hep_source.specs.declared.declaration.Dimension.{Dimension}
+use Rattle.hep_machine.specs.Words.{Dimension, Integer, ValueOf, Name, Occurrence, Add, Multiply, Arithmetic, Form, Statement, Int, Tree, constant, occurrence, with_list, binary, no_trees, trees, Units, first_letter}
 use Rattle.hep_source.specs.declared.declaration.UpperBound.TheVariants as bound
-use Rattle.hep_source.specs.declared.declaration.ValueType.TheVariants.{Integer}
-use Rattle.hep_source.specs.declared.function.StateFunction.TheVariants.{ValueOf}
-use Rattle.hep_source.specs.declared.name.Name.{Name}
-use Rattle.hep_source.specs.declared.name.Occurrence.{Occurrence}
-use Rattle.hep_source.specs.declared.operator.ArithmeticOperator.TheVariants.{Add, Multiply}
-use Rattle.hep_source.specs.declared.operator.Operator.TheVariants.{Arithmetic}
-use Rattle.hep_source.specs.declared.statement.Form.{Form}
 use Rattle.hep_source.specs.declared.statement.Form.TheVariants as form
 use Rattle.hep_source.specs.declared.statement.PrintItem.TheVariants as item
-use Rattle.hep_source.specs.declared.statement.Statement.{Statement}
-use Rattle.hep_source.specs.declared.value.Value.TheVariants.{Int}
-use Rattle.hep_source.specs.Tree.{Tree, constant, occurrence, with_list, binary, no_trees, trees}
-use Rattle.hep_source.specs.Units.{Units}
-use Rattle.hep_machine.specs.Declarations.{first_letter}
 use Rattle.hep_code.specs.declared.instruction.Argument.TheVariants.{Evaluated, Referred}
 use Rattle.hep_code.specs.declared.instruction.Evaluation.TheVariants.{Load, Combine, Test}
 use Rattle.hep_code.specs.declared.instruction.Instruction.TheVariants.{Push, Step, To, Pass, Show}
@@ -23,9 +11,7 @@ use Rattle.hep_code.specs.declared.instruction.Operation.TheVariants.{Evaluate, 
 use Rattle.hep_code.specs.declared.instruction.Printed.TheVariants.{Operand, Characters}
 use Rattle.hep_code.specs.declared.variable.Variable.{Variable}
 use Rattle.hep_code.specs.declared.variable.Variable.TheVariants.{Local}
-use Rattle.hep_code.specs.Targets.{onward, outward, inward, aside, labelled}
-use Rattle.hep_code.specs.UnitCode.{code_of}
-use Rattle.hep_code.specs.Stacks.{Addresses, addressed_unit}
+use Rattle.hep_code.specs.Words.{onward, outward, inward, aside, labelled, code_of, Addresses, addressed_unit}
 
 -- ---- small units: a name of one letter has the letter's code as its cell, and the DO at index d has the cells 100+2*d and the next one
 

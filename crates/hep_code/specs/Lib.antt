@@ -13,3 +13,4 @@ pub mod Leads
 pub mod Stacks
 pub mod Limits
 pub mod Depths
+pub mod Words

@@ -1,8 +1,6 @@
 -- Where operations lead that end a statement: X3.9-1978, section 11.
 use Rattle.std.specs.Prelude.{ℕ, zero, suc, ◌+◌, ℤ, pos, negsuc, nat_lt, if◌then◌else◌, List, [], ◌∷◌, Option, Some, slice_get}
-use Rattle.hep_source.specs.declared.value.Value.{Value}
-use Rattle.hep_machine.specs.Arithmetic.{integer_of, logical_of}
-use Rattle.hep_machine.specs.Defaults.{no_value}
+use Rattle.hep_machine.specs.Words.{Value, integer_of, logical_of, no_value}
 use Rattle.hep_code.specs.declared.instruction.Instruction.{Instruction}
 use Rattle.hep_code.specs.declared.instruction.Instruction.TheVariants.{To}
 use Rattle.hep_code.specs.declared.instruction.Operation.{Operation}

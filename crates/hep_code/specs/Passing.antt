@@ -1,10 +1,8 @@
 -- What entries behind an operation are, together with its operands: X3.9-1978, 12.8.2 and 15.9.2.
 use Rattle.std.specs.Prelude.{ℕ, zero, suc, List, [], ◌∷◌, take, drop}
-use Rattle.hep_source.specs.declared.name.Name.{Name}
-use Rattle.hep_source.specs.declared.value.Value.{Value}
+use Rattle.hep_machine.specs.Words.{Name, Value, Actual, evaluated, referred, Reference, item_of}
 use Rattle.hep_machine.specs.declared.record.Item.{Item}
 use Rattle.hep_machine.specs.declared.record.Item.TheVariants.{Text}
-use Rattle.hep_machine.specs.Evaluation.{Actual, evaluated, referred, Reference, item_of}
 use Rattle.hep_code.specs.declared.instruction.Argument.TheVariants.{Evaluated, Referred}
 use Rattle.hep_code.specs.declared.instruction.Instruction.{Instruction}
 use Rattle.hep_code.specs.declared.instruction.Instruction.TheVariants.{Pass, Show}

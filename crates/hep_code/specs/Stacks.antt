@@ -1,12 +1,6 @@
 -- A process in the code of its program's units: docs/MACHINE.md, "Activations and processes".
 use Rattle.std.specs.Prelude.{◌≡◌, ℕ, ◌≤◌, List, [], ◌∷◌, length}
-use Rattle.hep_source.specs.declared.name.Name.{Name}
-use Rattle.hep_source.specs.declared.statement.Statement.{Statement}
-use Rattle.hep_source.specs.declared.value.Value.{Value}
-use Rattle.hep_source.specs.Units.{Units, unit_at, executable_from}
-use Rattle.hep_machine.specs.Processes.{unit_of}
-use Rattle.hep_machine.specs.State.{Level, Process, State}
-use Rattle.hep_machine.specs.Step.{unit_called}
+use Rattle.hep_machine.specs.Words.{Name, Statement, Value, Units, unit_at, executable_from, unit_of, Level, Process, State, unit_called}
 use Rattle.hep_code.specs.declared.variable.Variable.{Variable}
 use Rattle.hep_code.specs.Targets.{at}
 use Rattle.hep_code.specs.UnitCode.{AddressedUnit, index_of, table_of}

@@ -1,8 +1,6 @@
 -- What the code of a unit is made from, beside the unit's statements.
 use Rattle.std.specs.Prelude.{ℕ, Option}
-use Rattle.hep_source.specs.declared.name.Name.{Name}
-use Rattle.hep_source.specs.declared.value.Value.{Value}
-use Rattle.hep_machine.specs.Functions.{Meaning}
+use Rattle.hep_machine.specs.Words.{Name, Value, Meaning}
 use Rattle.hep_code.specs.declared.variable.Variable.{Variable}
 
 -- what the code has of a statement: the indexes of the code at which one goes on from it, in its range or block, after its

@@ -1,11 +1,8 @@
 //! How many operands a unit's code has at once.
 ghost use Rattle.std.specs.Prelude.{◌≡◌, ◌≤◌, ◌<◌, ◌+◌, ◌*◌, ◌∷◌, ℕ, List, nat_lt, if◌then◌else◌, drop, take, Some, None, length};
-ghost use Rattle.hep_source.specs.declared.value.Value.{Value};
-ghost use Rattle.hep_machine.specs.State.{Work};
-ghost use Rattle.hep_code.specs.Standing.{Stands};
-ghost use Rattle.hep_code.specs.UnitCode.{AddressedUnit, code_of};
+ghost use Rattle.hep_machine.specs.Words.{Value, Work};
+ghost use Rattle.hep_code.specs.Words.{Stands, AddressedUnit, code_of, most_instructions, most_operands};
 ghost use Rattle.hep_code.specs.Depths as spec;
-ghost use Rattle.hep_code.specs.Limits.{most_instructions, most_operands};
 
 use crate::instruction::{Argument, Instruction, Operation, Printed};
 
@@ -74,15 +71,15 @@ fn operands_by(operation: Operation, operands: usize, behind: &[Instruction]) ->
             evaluation.arity() as usize + operands.saturating_sub(1)
         }
         Operation::Store { subscripts, .. } => 1 + subscripts as usize,
-        Operation::Choose { .. } => 1,
-        Operation::BySign { .. } => 1,
-        Operation::Condition { .. } => 1,
-        Operation::Branch { .. } => 1,
+        Operation::Choose { .. }
+        | Operation::BySign { .. }
+        | Operation::Condition { .. }
+        | Operation::Branch { .. } => 1,
         Operation::EnterLoop { .. } => 3,
-        Operation::Call { count, .. } => operands_of_entries(first_of(behind, count)),
-        Operation::Create { count, .. } => operands_of_entries(first_of(behind, count)),
-        Operation::Purge { count, .. } => operands_of_entries(first_of(behind, count)),
-        Operation::Print { count, .. } => operands_of_entries(first_of(behind, count)),
+        Operation::Call { count, .. }
+        | Operation::Create { count, .. }
+        | Operation::Purge { count, .. }
+        | Operation::Print { count, .. } => operands_of_entries(first_of(behind, count)),
         _ => 0,
     }
 }

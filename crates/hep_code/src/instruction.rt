@@ -9,7 +9,7 @@ use hep_source::{Operator, PureFunction, Sign, StateFunction, Syntax, Value};
 use std::alloc::{AllocError, Global};
 
 /// An operation that puts a value in the place of its operands, which are the last ones of all.
-#[derive(Clone, Copy, Debug)]
+#[derive(Clone, Copy, Debug, PartialEq, Eq)]
 pub enum Evaluation {
     /// Reads a variable, or the element with these subscripts (X3.9-1978, 5.3).
     Load {
@@ -115,7 +115,7 @@ pub enum Operation {
 }
 
 /// How an actual argument is passed (X3.9-1978, 15.9.3), or what is purged.
-#[derive(Clone, Copy, Debug)]
+#[derive(Clone, Copy, Debug, PartialEq, Eq)]
 pub enum Argument {
     /// The value of an expression, which is an operand.
     Evaluated,
@@ -170,44 +170,7 @@ impl Syntax for Evaluation {
     }
 
     fn same(&self, other: &Evaluation) -> bool {
-        match (self, other) {
-            (
-                Evaluation::Load {
-                    variable: x,
-                    subscripts: m,
-                },
-                Evaluation::Load {
-                    variable: y,
-                    subscripts: n,
-                },
-            ) => x.same(y) && m == n,
-            (Evaluation::Sign(a), Evaluation::Sign(b)) => a == b,
-            (Evaluation::Not, Evaluation::Not) => true,
-            (Evaluation::Combine(a), Evaluation::Combine(b)) => a == b,
-            (
-                Evaluation::Apply {
-                    function: f,
-                    arguments: m,
-                },
-                Evaluation::Apply {
-                    function: g,
-                    arguments: n,
-                },
-            ) => f == g && m == n,
-            (
-                Evaluation::Test {
-                    function: f,
-                    variable: x,
-                    subscripts: m,
-                },
-                Evaluation::Test {
-                    function: g,
-                    variable: y,
-                    subscripts: n,
-                },
-            ) => f == g && x.same(y) && m == n,
-            _ => false,
-        }
+        self == other
     }
 }
 
@@ -230,7 +193,7 @@ impl Syntax for Operation {
                     subscripts: n,
                     next: j,
                 },
-            ) => x.same(y) && m == n && i == j,
+            ) => x == y && m == n && i == j,
             (Operation::Jump { next: i }, Operation::Jump { next: j }) => i == j,
             (Operation::Choose { count: m, next: i }, Operation::Choose { count: n, next: j }) => {
                 m == n && i == j
@@ -273,7 +236,7 @@ impl Syntax for Operation {
                     inside: b,
                     behind: j,
                 },
-            ) => x.same(y) && c == d && a == b && i == j,
+            ) => x == y && c == d && a == b && i == j,
             (
                 Operation::EndLoop {
                     variable: x,
@@ -287,7 +250,7 @@ impl Syntax for Operation {
                     inside: b,
                     behind: j,
                 },
-            ) => x.same(y) && c == d && a == b && i == j,
+            ) => x == y && c == d && a == b && i == j,
             (
                 Operation::Call {
                     unit: u,
@@ -331,20 +294,7 @@ impl Syntax for Argument {
     }
 
     fn same(&self, other: &Argument) -> bool {
-        match (self, other) {
-            (Argument::Evaluated, Argument::Evaluated) => true,
-            (
-                Argument::Referred {
-                    variable: x,
-                    subscripts: m,
-                },
-                Argument::Referred {
-                    variable: y,
-                    subscripts: n,
-                },
-            ) => x.same(y) && m == n,
-            _ => false,
-        }
+        self == other
     }
 }
 
@@ -376,7 +326,7 @@ impl Syntax for Instruction {
                 },
             ) => a == b && o.same(p),
             (Instruction::To(a), Instruction::To(b)) => a == b,
-            (Instruction::Pass(a), Instruction::Pass(b)) => a.same(b),
+            (Instruction::Pass(a), Instruction::Pass(b)) => a == b,
             (Instruction::Show(a), Instruction::Show(b)) => a.same(b),
             _ => false,
         }

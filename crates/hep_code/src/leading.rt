@@ -1,16 +1,10 @@
 //! Where operations lead that end a statement (X3.9-1978, section 11).
 ghost use Rattle.std.specs.Prelude.{◌≡◌, ◌+◌, ◌-◌, ◌<◌, ◌^◌, ◌∷◌, ℕ, ℤ, pos, ◌-ℤ◌, List, drop};
-ghost use Rattle.hep_source.specs.declared.name.Name.{Name};
-ghost use Rattle.hep_source.specs.declared.value.Value.{Value};
+ghost use Rattle.hep_machine.specs.Words.{Name, Value, Action, does, entering_loop, ending_loop, next_of, loop_at, natural, Level};
 ghost use Rattle.hep_machine.specs.Arithmetic as arithmetic;
-ghost use Rattle.hep_machine.specs.Evaluation.{Action, does, entering_loop, ending_loop, next_of};
-ghost use Rattle.hep_machine.specs.Processes.{loop_at};
-ghost use Rattle.hep_machine.specs.Shapes.{natural};
-ghost use Rattle.hep_machine.specs.State.{Level};
 ghost use Rattle.hep_code.specs.Leads as leads_words;
 ghost use Rattle.hep_code.specs.Moves as moves_words;
-ghost use Rattle.hep_code.specs.Standing.{Counts, IsAt};
-ghost use Rattle.hep_code.specs.UnitCode.{AddressedUnit, code_of};
+ghost use Rattle.hep_code.specs.Words.{Counts, IsAt, AddressedUnit, code_of};
 
 use crate::instruction::{Instruction, Operation};
 use hep_source::Value;

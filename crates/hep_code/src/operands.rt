@@ -1,12 +1,9 @@
 //! Operands: the values that stand ahead in the code, and how many an operation takes.
 ghost use Rattle.std.specs.Prelude.{◌≡◌, ◌+◌, ◌<◌, ◌≤◌, ◌++◌, ◌∷◌, [], ℕ, drop, length, vec_len, vec_capacity};
-ghost use Rattle.hep_source.specs.declared.name.Name.{Name};
-ghost use Rattle.hep_machine.specs.Evaluation.{Redex};
-ghost use Rattle.hep_machine.specs.State.{Work};
+ghost use Rattle.hep_machine.specs.Words.{Name, Redex, Work};
 ghost use Rattle.hep_code.specs.Actions as actions;
-ghost use Rattle.hep_code.specs.Ahead.{IsPastPushes, values_ahead};
+ghost use Rattle.hep_code.specs.Words.{IsPastPushes, values_ahead, AddressedUnit, code_of};
 ghost use Rattle.hep_code.specs.Standing as standing;
-ghost use Rattle.hep_code.specs.UnitCode.{AddressedUnit, code_of};
 
 use crate::instruction::{Evaluation, Instruction};
 use crate::variable::Variable;

@@ -7,7 +7,7 @@ use std::alloc::{AllocError, Global};
 
 /// Where the storage units of a variable are (X3.9-1978, 2.13, 8.3.2 and 15.9.3), as every activation of its unit
 /// finds them, and whether it is asynchronous.
-#[derive(Clone, Copy, Debug)]
+#[derive(Clone, Copy, Debug, PartialEq, Eq)]
 pub enum Variable {
     /// A local scalar, by its cell, counted from the first one of the frame.
     Local { asynchronous: bool, cell: u32 },
@@ -44,49 +44,6 @@ impl Syntax for Variable {
     }
 
     fn same(&self, other: &Variable) -> bool {
-        match (self, other) {
-            (
-                Variable::Local {
-                    asynchronous: a,
-                    cell: c,
-                },
-                Variable::Local {
-                    asynchronous: b,
-                    cell: d,
-                },
-            ) => a == b && c == d,
-            (
-                Variable::Common {
-                    asynchronous: a,
-                    cell: c,
-                },
-                Variable::Common {
-                    asynchronous: b,
-                    cell: d,
-                },
-            ) => a == b && c == d,
-            (
-                Variable::Dummy {
-                    asynchronous: a,
-                    cells: c,
-                },
-                Variable::Dummy {
-                    asynchronous: b,
-                    cells: d,
-                },
-            ) => a == b && c == d,
-            (
-                Variable::Array {
-                    asynchronous: a,
-                    array: x,
-                },
-                Variable::Array {
-                    asynchronous: b,
-                    array: y,
-                },
-            ) => a == b && x == y,
-            (Variable::Absent, Variable::Absent) => true,
-            _ => false,
-        }
+        self == other
     }
 }

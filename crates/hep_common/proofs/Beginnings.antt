@@ -3,11 +3,8 @@ use Rattle.std.proofs.Common.{◌≡◌, ℕ, ◌+◌, ◌≤◌, Bool, true, fa
 use Rattle.std.proofs.lemmas.Bool.Decides.{nat_tests}
 use Rattle.std.proofs.lemmas.List.{drop_all}
 use Rattle.std.specs.Option.{option_eq}
-use Rattle.hep_source.specs.Names.{name_eq}
-use Rattle.hep_source.specs.Units.{Units}
-use Rattle.hep_machine.specs.Declarations.{BlockName, same_block, blocks_of, is_block_among}
-use Rattle.hep_machine.specs.Layout.{block_cells, cells_of_blocks, common_cells}
-use Rattle.hep_frames.specs.Rows.{Row, cells_in, common_row, first_in, first_of_block}
+use Rattle.hep_machine.specs.Words.{name_eq, Units, BlockName, same_block, blocks_of, is_block_among, block_cells, cells_of_blocks, common_cells}
+use Rattle.hep_frames.specs.Words.{Row, cells_in, common_row, first_in, first_of_block}
 use Rattle.hep_frames.proofs.CommonRows.{common_row-cells}
 use Rattle.hep_values.proofs.BlockNames.{changed}
 use Rattle.hep_common.specs.Starts.{AreStarts, narrowed, start_in}

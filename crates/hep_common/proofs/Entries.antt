@@ -1,12 +1,7 @@
 -- What the COMMON statements of a unit say in one row: the same blocks, and the same cells in each.
 use Rattle.std.proofs.Common.{◌≡◌, ℕ, ◌+◌, Bool, true, false, ◌||◌, List, [], ◌∷◌, ◌++◌, map, refl, ap, sym, ◌∙◌, append_assoc, arith, if◌then◌else◌}
 use Rattle.std.proofs.lemmas.Grind.{flat_map-append}
-use Rattle.hep_source.specs.declared.declaration.CommonBlock.{CommonBlock}
-use Rattle.hep_source.specs.declared.declaration.Declarator.{Declarator}
-use Rattle.hep_source.specs.declared.name.Name.{Name}
-use Rattle.hep_source.specs.declared.statement.Statement.{Statement}
-use Rattle.hep_machine.specs.Constants.{cells_of, cells_of_all}
-use Rattle.hep_machine.specs.Declarations.{BlockName, same_block, block_of, blocks_in, blocks_of_unit, names_in_block, entries_under, names_declared, is_block_among, with_blocks}
+use Rattle.hep_machine.specs.Words.{CommonBlock, Declarator, Name, Statement, cells_of, cells_of_all, BlockName, same_block, block_of, blocks_in, blocks_of_unit, names_in_block, entries_under, names_declared, is_block_among, with_blocks}
 use Rattle.hep_machine.proofs.Locations.{block-self}
 use Rattle.hep_common.specs.declared.common.Entry.{Entry}
 use Rattle.hep_common.specs.Lengths.{entry_of, entries_listed, entries_in_list, entries_in_lists, entries_of, cells_of_entry, cells_in_block, with_block, with_blocks_of}

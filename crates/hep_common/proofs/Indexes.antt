@@ -1,13 +1,10 @@
 -- The index at which a table has a key is that of the first element that is the same.
-use Rattle.std.proofs.Common.{◌≡◌, ℕ, suc, ◌+◌, arith, Bool, true, false, not, cond, List, [], ◌∷◌, length, Some, None, refl, ap, ◌∙◌}
-use Rattle.std.specs.Prelude.{if◌then◌else◌, nat_lt}
+use Rattle.std.proofs.Common.{◌≡◌, ℕ, suc, ◌+◌, arith, Bool, true, false, not, cond, List, [], ◌∷◌, length, Some, None, refl, ap, ◌∙◌, if◌then◌else◌, nat_lt}
 use Rattle.std.specs.List.{position, position_or_len}
 use Rattle.std.specs.Option.{option_eq, option_map}
 use Rattle.std.proofs.lemmas.Bool.Decides.{nat_tests}
-use Rattle.hep_source.specs.declared.name.Name.{Name}
-use Rattle.hep_source.specs.Names.{index_among, index_where, name_eq, same_name}
+use Rattle.hep_machine.specs.Words.{Name, index_among, index_where, name_eq, same_name, BlockName, same_block}
 use Rattle.hep_source.proofs.NameTests.{name_eq-is}
-use Rattle.hep_machine.specs.Declarations.{BlockName, same_block}
 use Rattle.hep_values.proofs.BlockNames.{block_eq-is}
 
 pub position-is : {A : Type 0} (test : A → Bool) (xs : List A) → position test xs ≡ index_where test xs

@@ -1,9 +1,7 @@
 -- Each block of a program is there once.
 use Rattle.std.proofs.Common.{◌≡◌, ℕ, ◌+◌, ◌≤◌, Bool, true, false, ◌||◌, List, [], ◌∷◌, ◌++◌, refl, sym, subst, arith, true≢false, if◌then◌else◌}
 use Rattle.std.specs.List.{flat_map}
-use Rattle.hep_source.specs.Units.{Units}
-use Rattle.hep_source.specs.declared.declaration.CommonBlock.{CommonBlock}
-use Rattle.hep_machine.specs.Declarations.{BlockName, same_block, block_of, blocks_of_unit, blocks_of, is_block_among, with_blocks}
+use Rattle.hep_machine.specs.Words.{Units, CommonBlock, BlockName, same_block, block_of, blocks_of_unit, blocks_of, is_block_among, with_blocks}
 use Rattle.hep_common.specs.Lengths.{with_block}
 use Rattle.hep_common.proofs.Entries.{grouped}
 use Rattle.hep_machine.proofs.Locations.{equal_blocks}

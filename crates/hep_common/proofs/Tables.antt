@@ -1,16 +1,10 @@
 -- The table of the lengths of common blocks, entry by entry and unit by unit.
-use Rattle.std.proofs.Common.{◌≡◌, ℕ, ◌+◌, ◌*◌, ◌^◌, ◌<◌, ◌≤◌, max, nat_eq, Bool, true, false, true≢false, ◌||◌, Option, Some, None, is_some, List, [], ◌∷◌, ◌++◌, length, drop, append_assoc, refl, ap, sym, ◌∙◌, arith, if◌then◌else◌}
-use Rattle.std.proofs.lemmas.Bool.{eq-eqb}
+use Rattle.std.proofs.Common.{◌≡◌, ℕ, ◌+◌, ◌*◌, ◌^◌, ◌<◌, ◌≤◌, max, nat_eq, Bool, true, false, true≢false, ◌||◌, Option, Some, None, is_some, List, [], ◌∷◌, ◌++◌, length, drop, append_assoc, refl, ap, sym, ◌∙◌, arith, if◌then◌else◌, eq-eqb}
 use Rattle.std.proofs.lemmas.List.{drop_all, length-append}
 use Rattle.std.proofs.lemmas.Bool.Decides.{nat_tests}
 use Rattle.std.specs.List.{list_any, flat_map}
 use Rattle.std.specs.Option.{option_eq}
-use Rattle.hep_source.specs.Names.{name_eq}
-use Rattle.hep_source.specs.Units.{Units}
-use Rattle.hep_source.specs.declared.statement.Statement.{Statement}
-use Rattle.hep_machine.specs.Constants.{cells_of_all}
-use Rattle.hep_machine.specs.Declarations.{BlockName, same_block, blocks_of_unit, names_in_block, is_block_among, with_blocks}
-use Rattle.hep_machine.specs.Layout.{block_cells}
+use Rattle.hep_machine.specs.Words.{name_eq, Units, Statement, cells_of_all, BlockName, same_block, blocks_of_unit, names_in_block, is_block_among, with_blocks, block_cells}
 use Rattle.hep_values.proofs.BlockNames.{block_eq-is}
 use Rattle.hep_machine.proofs.Locations.{equal_blocks}
 use Rattle.hep_common.specs.declared.common.Entry.{Entry}

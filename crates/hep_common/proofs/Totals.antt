@@ -1,15 +1,8 @@
 -- The cells of all common blocks together: no more than all entries of COMMON have.
-use Rattle.std.proofs.Common.{◌≡◌, ℕ, ◌+◌, ◌*◌, ◌^◌, ◌<◌, ◌≤◌, max, Bool, true, false, ◌&&◌, Option, Some, None, List, [], ◌∷◌, length, unwrap_or, nat_le, refl, arith, if◌then◌else◌}
+use Rattle.std.proofs.Common.{◌≡◌, ℕ, ◌+◌, ◌*◌, ◌^◌, ◌<◌, ◌≤◌, max, Bool, true, false, ◌&&◌, Option, Some, None, List, [], ◌∷◌, length, unwrap_or, nat_le, refl, arith, if◌then◌else◌, length-append}
 use Rattle.std.proofs.lemmas.Bool.Decides.{nat_tests}
-use Rattle.std.proofs.lemmas.List.{length-append}
 use Rattle.std.specs.Option.{option_map_or}
-use Rattle.hep_source.specs.Units.{Units}
-use Rattle.hep_source.specs.declared.name.Name.{Name}
-use Rattle.hep_source.specs.declared.statement.Statement.{Statement}
-use Rattle.hep_machine.specs.Constants.{constant_value, bounds_of, cells_of, cells_of_all, cells_of_shape, if_shape}
-use Rattle.hep_machine.specs.Declarations.{BlockName, same_block, blocks_of, dimensions_of, is_array, names_in_block}
-use Rattle.hep_machine.specs.Layout.{block_cells, cells_of_blocks, common_cells}
-use Rattle.hep_machine.specs.Shapes.{Bounds, are_dimensions, elements, is_most, is_shape}
+use Rattle.hep_machine.specs.Words.{Units, Name, Statement, constant_value, bounds_of, cells_of, cells_of_all, cells_of_shape, if_shape, BlockName, same_block, blocks_of, dimensions_of, is_array, names_in_block, block_cells, cells_of_blocks, common_cells, Bounds, are_dimensions, elements, is_most, is_shape}
 use Rattle.hep_common.specs.declared.common.Entry.{Entry}
 use Rattle.hep_common.specs.Lengths.{entries_of, entries_of_program, cells_of_entry, cells_in_block}
 use Rattle.hep_common.proofs.Entries.{unit-cells}

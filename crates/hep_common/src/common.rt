@@ -2,11 +2,8 @@
 ghost use Rattle.std.specs.Prelude.{◌≡◌, ◌+◌, ◌<◌, ◌≤◌, ◌^◌, ◌++◌, [], ℕ, ◌&&◌, Some, None, is_some, max, map, if◌then◌else◌, IfOk, OnOk};
 ghost use Rattle.std.specs.Option.{option_eq, unwrap_or};
 ghost use Rattle.indexmap.specs.IndexMap.{get};
-ghost use Rattle.hep_source.specs.Names.{index_where, name_eq};
-ghost use Rattle.hep_machine.specs.Constants.{value_among, constant_value, cells_of_all};
+ghost use Rattle.hep_machine.specs.Words.{index_where, name_eq, value_among, constant_value, cells_of_all, BlockName, same_block, block_cells, common_cells};
 ghost use Rattle.hep_machine.specs.Declarations as declarations;
-ghost use Rattle.hep_machine.specs.Declarations.{BlockName, same_block};
-ghost use Rattle.hep_machine.specs.Layout.{block_cells, common_cells};
 ghost use Rattle.hep_common.specs.Lengths as reading;
 ghost use Rattle.hep_common.specs.Lengths.{AreKept, IsUnread};
 

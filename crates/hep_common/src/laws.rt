@@ -1,9 +1,7 @@
 //! Laws of the starts of common blocks.
 ghost use Rattle.std.specs.Prelude.{◌≡◌, ◌≤◌, true};
-ghost use Rattle.hep_source.specs.Units.{Units};
-ghost use Rattle.hep_machine.specs.Declarations.{BlockName, blocks_of, is_block_among};
-ghost use Rattle.hep_machine.specs.Layout.{common_cells};
-ghost use Rattle.hep_frames.specs.Rows.{first_of_block};
+ghost use Rattle.hep_machine.specs.Words.{Units, BlockName, blocks_of, is_block_among, common_cells};
+ghost use Rattle.hep_frames.specs.Words.{first_of_block};
 ghost use Rattle.hep_common.specs.Starts.{AreStarts, start_in};
 ghost use Rattle.hep_common.specs.declared.starts.CommonStarts.{CommonStarts};
 

@@ -1,8 +1,6 @@
 //! Where common blocks begin, one behind the other (docs/MACHINE.md, "Layout").
 ghost use Rattle.std.specs.Prelude.{◌≡◌, ◌+◌, ◌<◌, ◌^◌, if◌then◌else◌, IfOk, OnOk};
-ghost use Rattle.hep_source.specs.Units.{Units};
-ghost use Rattle.hep_machine.specs.Declarations.{BlockName, same_block};
-ghost use Rattle.hep_machine.specs.Layout.{common_cells};
+ghost use Rattle.hep_machine.specs.Words.{Units, BlockName, same_block, common_cells};
 ghost use Rattle.hep_common.specs.Starts.{AreBlocks, AreStarts, narrowed, start_in};
 
 use crate::common::CommonBlocks;

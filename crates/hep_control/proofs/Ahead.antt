@@ -3,13 +3,8 @@ use Rattle.std.proofs.Common.{◌≡◌, ℕ, zero, suc, ◌+◌, ◌<◌, Bool,
 use Rattle.std.proofs.Math.Seq.{drop-cons}
 use Rattle.std.proofs.lemmas.List.{drop_all, reverse-append, length-drop}
 use Rattle.std.specs.Option.{unwrap_or}
-use Rattle.hep_source.specs.Tree.{Tree}
-use Rattle.hep_source.specs.Defaults.{no_statement}
-use Rattle.hep_source.specs.declared.statement.Form.{Form}
+use Rattle.hep_machine.specs.Words.{Tree, no_statement, Form, Statement, is_executable, passed_over, executable_from, statement_at, Role, opens, alternative, otherwise, closes, other, role_of_form, role_after, role_of, to_end_if, before_end_if, to_alternative, before_alternative, end_if_after, past_block, following, past_else, alternative_of}
 use Rattle.hep_source.specs.declared.statement.Form.TheVariants as form
-use Rattle.hep_source.specs.declared.statement.Statement.{Statement}
-use Rattle.hep_source.specs.Units.{is_executable, passed_over, executable_from, statement_at}
-use Rattle.hep_machine.specs.Control.{Role, opens, alternative, otherwise, closes, other, role_of_form, role_after, role_of, to_end_if, before_end_if, to_alternative, before_alternative, end_if_after, past_block, following, past_else, alternative_of}
 use Rattle.hep_control.specs.declared.successors.Successors as code
 use Rattle.hep_control.specs.Successors.{successors_seen, successors_at, successors_from, Ahead, innermost, without_innermost, successors_before, with_role, with_statement, at_end, ahead_of}
 use Rattle.hep_source.proofs.Statements.{first_of_rest, rest_of_rest}
@@ -17,8 +12,7 @@ use Rattle.hep_source.proofs.Statements.{first_of_rest, rest_of_rest}
 -- ---- statements of a unit
 
 past-end : (unit : List Statement) (k : ℕ) → drop k unit ≡ [] → statement_at unit k ≡ no_statement
-past-end [] zero h = refl
-past-end [] (suc k) h = refl
+past-end [] k h = refl
 past-end (x ∷ xs) zero h = cc
 past-end (x ∷ xs) (suc k) h = past-end xs k h
 
@@ -76,16 +70,13 @@ module _ (unit : List Statement) where
     next_by opens = refl
     next_by alternative = end_if_here
     next_by otherwise = end_if_here
-    next_by closes = refl
-    next_by other = refl
+    next_by _ = refl
 
     end_ifs_by : (r : Role) (depth : ℕ) → unwrap_or (slice_get (with_role a k r).end_ifs depth) a.past ≡ k + to_end_if r depth (before_end_if ss)
     end_ifs_by opens depth = ap (λ o. unwrap_or o a.past) (without a.end_ifs depth) ∙ (h.end_ifs_are (suc depth) ∙ one-later k (before_end_if ss (suc depth)))
     end_ifs_by closes zero = sym (plus-none k)
     end_ifs_by closes (suc depth) = h.end_ifs_are depth ∙ one-later k (before_end_if ss depth)
-    end_ifs_by alternative depth = h.end_ifs_are depth ∙ one-later k (before_end_if ss depth)
-    end_ifs_by otherwise depth = h.end_ifs_are depth ∙ one-later k (before_end_if ss depth)
-    end_ifs_by other depth = h.end_ifs_are depth ∙ one-later k (before_end_if ss depth)
+    end_ifs_by _ depth = h.end_ifs_are depth ∙ one-later k (before_end_if ss depth)
 
     target_here : (r : Role) → role_of s ≡ r → target (k + 0) ≡ past_else unit k r
     target_here r e = ap target (plus-none k) ∙ ap (past_else unit k) (role_here ∙ e)
@@ -105,17 +96,11 @@ module _ (unit : List Statement) where
 
     past_by : (r : Role) → (with_role a k r).past ≡ a.past
     past_by opens = refl
-    past_by alternative = refl
-    past_by otherwise = refl
-    past_by closes = refl
-    past_by other = refl
+    past_by _ = refl
 
     executable_by : (r : Role) → (with_role a k r).executable ≡ k
     executable_by opens = refl
-    executable_by alternative = refl
-    executable_by otherwise = refl
-    executable_by closes = refl
-    executable_by other = refl
+    executable_by _ = refl
 
     stands-executable : (r : Role) → role_of s ≡ r → (b : Bool) → b ≡ true → is_executable s.form ≡ b → Stands k (s ∷ ss) (with_role a k r)
     stands-executable r e b t x =

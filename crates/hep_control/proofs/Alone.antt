@@ -2,20 +2,14 @@
 use Rattle.std.proofs.Common.{◌≡◌, ℕ, zero, suc, ◌+◌, ◌<◌, Bool, true, false, not, nat_lt, if◌then◌else◌, List, [], ◌∷◌, ◌++◌, map, reverse, length, get_or, slice_get, Option, Some, None, refl, ◌∙◌, sym, ap, arith}
 use Rattle.std.specs.Option.{unwrap_or}
 use Rattle.std.specs.List.{flat_map}
-use Rattle.hep_source.specs.declared.statement.Form.{Form}
+use Rattle.hep_machine.specs.Words.{Form, Statement, line_at, statement_at, index_labelled}
 use Rattle.hep_source.specs.declared.statement.Form.TheVariants as form
-use Rattle.hep_source.specs.declared.statement.Statement.{Statement}
-use Rattle.hep_source.specs.Units.{line_at, statement_at}
-use Rattle.hep_machine.specs.Control.{index_labelled}
-use Rattle.hep_check.specs.Nesting.{IndexedStatement, BlockIf, indexed_from, indexed_statements, is_unconditional, is_wrong_terminal, holds_wrongly, terminal_violations, loop_violations, statement_violations, block_ifs_of, block_violations, nesting_violations, structure_violations}
-use Rattle.hep_check.specs.Types.{is_plain_integer_scalar}
-use Rattle.hep_check.specs.Violations.{first_of, when, at_line}
-use Rattle.hep_check.specs.Reported.{reported, least_line, line_when, least_line_of}
+use Rattle.hep_check.specs.Words.{IndexedStatement, BlockIf, indexed_from, indexed_statements, is_unconditional, is_wrong_terminal, holds_wrongly, terminal_violations, loop_violations, statement_violations, block_ifs_of, block_violations, nesting_violations, structure_violations, is_plain_integer_scalar, first_of, when, at_line, reported, least_line, line_when, least_line_of}
 use Rattle.hep_check.proofs.Lines.{reported-append, reported-when, reported-of, least_line-assoc}
 use Rattle.hep_control.specs.declared.blocks.BlockIf as code
-use Rattle.hep_control.specs.Blocks.{block_if}
+use Rattle.hep_control.specs.Ranges.{block_if}
 use Rattle.hep_control.specs.Structure.{has_loop_variable, terminal_line, loop_line, statement_line, least_statement, line_of_stray, line_of_unclosed}
-use Rattle.hep_control.proofs.Moved.{least_line_of-reverse}
+use Rattle.hep_control.proofs.Sets.{least_line_of-reverse}
 use Rattle.hep_control.proofs.Leaps.{least_line_of-map}
 
 module _ (unit : List Statement) where

@@ -1,28 +1,252 @@
--- What isn't nested, by three passes over events and one over ranges: 307.
-use Rattle.std.proofs.Common.{◌≡◌, ℕ, suc, Bool, true, false, ◌&&◌, ◌||◌, nat_lt, nat_le, List, [], ◌∷◌, ◌++◌, map, reverse, Option, Some, None, refl, ◌∙◌, sym, ap, arith}
+-- Ranges of one variable, one in another; and what isn't nested, in four parts, by three passes over events and one over ranges: 307.
+use Rattle.std.proofs.Common.{◌≡◌, ℕ, suc, ◌<◌, ◌≤◌, Bool, true, false, ◌&&◌, ◌||◌, nat_lt, nat_le, cond, if◌then◌else◌, List, [], ◌∷◌, ◌++◌, Option, Some, None, refl, ◌∙◌, sym, ap, arith, map, reverse, le-ltb, lt-ltb}
 use Rattle.std.specs.List.{flat_map, list_any}
-use Rattle.std.specs.Option.{unwrap_or}
 use Rattle.std.proofs.lemmas.Bool.Decides.{nat_tests}
-use Rattle.hep_source.specs.declared.statement.Statement.{Statement}
-use Rattle.hep_source.specs.Units.{line_at}
+use Rattle.hep_machine.specs.Words.{Name, Form, Statement, name_eq, same_name, line_at, index_labelled}
+use Rattle.hep_source.specs.declared.statement.Form.TheVariants as form
+use Rattle.hep_source.proofs.NameTests.{equal_names, name_eq-is}
+use Rattle.hep_check.specs.Words.{indexed_from, is_unconditional, range_to, range_by, ranges_of, shares_variable, block_ifs_of, ranges_cross, range_pair, leaves_range, leaves_block, crossing, nesting_violations, is_between, ends_after, end_between, least_line, line_when, least_line_of, reported, first_of, when, at_line}
+use Rattle.hep_check.proofs.Lines.{least_line-assoc, reported-append, reported-when, reported-of, least_line-or, least_line_of-same, least_line_of-both, least_line_of-any, least_line_of-turned}
+use Rattle.hep_control.specs.Ranges.{range_at, block_if, do_range}
+use Rattle.hep_control.specs.Crossing.{later, with_range, reaches, least_shared, value_of_range, question_of_range, question_of_block, BlockEnd, ends_from, ends_in, value_of_end, values_in, question_in_range}
+use Rattle.hep_source.proofs.Tests.{and-false, and-true, or-assoc, or-false, or-turned, any-or, and-assoc, any-flat}
+use Rattle.std.specs.Option.{unwrap_or}
+use Rattle.std.proofs.lemmas.List.{map-append}
 use Rattle.hep_check.specs.Nesting as nesting
-use Rattle.hep_check.specs.Nesting.{ranges_of, block_ifs_of, is_between, ends_after, end_between, ranges_cross, leaves_range, leaves_block, nesting_violations}
-use Rattle.hep_check.specs.Violations.{first_of}
-use Rattle.hep_check.specs.Reported.{reported, least_line, line_when, least_line_of}
-use Rattle.hep_check.proofs.Lines.{least_line_of-same}
 use Rattle.hep_control.specs.declared.blocks.BlockIf.{BlockIf}
-use Rattle.hep_control.specs.declared.do_range.DoRange.{DoRange}
-use Rattle.hep_control.specs.Blocks.{block_if}
-use Rattle.hep_control.specs.Ranges.{do_range}
+use Rattle.hep_control.specs.declared.region.DoRange.{DoRange}
 use Rattle.hep_control.specs.Sweep.{is_within, least_met}
-use Rattle.hep_control.specs.Crossing.{value_of_range, question_of_range, question_of_block, BlockEnd, ends_from, ends_in, value_of_end, values_in, question_in_range, least_shared}
-use Rattle.hep_control.proofs.Sets.{any-same, any-map}
-use Rattle.hep_control.proofs.Moved.{least_line_of-reverse, any-reverse}
-use Rattle.hep_control.proofs.Leaps.{least_line_of-map, strictly_after}
-use Rattle.hep_control.proofs.Asked.{met-asked}
-use Rattle.hep_control.proofs.Nested.{crossed, shared, left_by_block, left_by_range, reported-nesting}
-use Rattle.hep_control.proofs.Shared.{least-shared}
-use Rattle.hep_source.proofs.Tests.{and-assoc, or-false, or-assoc, any-flat}
+use Rattle.hep_control.proofs.Sets.{any-same, any-map, least_line_of-reverse, any-reverse}
+use Rattle.hep_control.proofs.Leaps.{least_line_of-map}
+use Rattle.hep_control.proofs.Swept.{met-asked}
+
+-- ---- the pass
+
+-- a range that a table gets
+pub met-range : (last : Name → Option ℕ) (r : nesting.DoRange) (x : Name)
+    → cond (name_eq r.variable x) (Some (later (last r.variable) r.terminal)) (last x) ≡ with_range last r x
+met-range last r x = ap (λ b. cond b (Some (later (last r.variable) r.terminal)) (last x)) (name_eq-is r.variable x) ∙ by (same_name r.variable x)
+  where
+    by : (b : Bool) → cond b (Some (later (last r.variable) r.terminal)) (last x) ≡ (if b then Some (later (last r.variable) r.terminal) else last x)
+    by true = refl
+    by false = refl
+
+with_range-same : (f g : Name → Option ℕ) → ((x : Name) → f x ≡ g x) → (r : nesting.DoRange) (x : Name) → with_range f r x ≡ with_range g r x
+with_range-same f g h r x = by (same_name r.variable x)
+  where
+    by : (b : Bool) → (if b then Some (later (f r.variable) r.terminal) else f x) ≡ (if b then Some (later (g r.variable) r.terminal) else g x)
+    by true = ap (λ o. Some (later o r.terminal)) (h r.variable)
+    by false = h x
+
+module _ (unit : List Statement) where
+  least_shared-same : (f g : Name → Option ℕ) → ((x : Name) → f x ≡ g x) → (rs : List nesting.DoRange) → least_shared unit f rs ≡ least_shared unit g rs
+  least_shared-same f g h [] = refl
+  least_shared-same f g h (r ∷ rs) =
+      ap (λ o. least_line (line_when (reaches o r.start) (line_at unit r.start)) (least_shared unit (with_range f r) rs)) (h r.variable)
+      ∙ ap (least_line (line_when (reaches (g r.variable) r.start) (line_at unit r.start)))
+      (least_shared-same (with_range f r) (with_range g r) (with_range-same f g h r) rs)
+
+  -- one range more
+  pub shared-next : (best : Option ℕ) (last new : Name → Option ℕ) (r : nesting.DoRange) (rs : List nesting.DoRange) → ((x : Name) → new x ≡ with_range last r x)
+      → least_line (least_line best (line_when (reaches (last r.variable) r.start) (line_at unit r.start))) (least_shared unit new rs)
+      ≡ least_line best (least_shared unit last (r ∷ rs))
+  shared-next best last new r rs h =
+      ap (least_line (least_line best (line_when (reaches (last r.variable) r.start) (line_at unit r.start)))) (least_shared-same new (with_range last r) h rs)
+      ∙ least_line-assoc best (line_when (reaches (last r.variable) r.start) (line_at unit r.start)) (least_shared unit (with_range last r) rs)
+
+-- ---- ranges in order
+
+abbrev Rising : ℕ → List nesting.DoRange → Type 0
+Rising n [] = Unit {0}
+Rising n (r ∷ rs) = (n ≤ r.start) × Rising (suc r.start) rs
+
+rising-later : (m n : ℕ) (rs : List nesting.DoRange) → m ≤ n → Rising n rs → Rising m rs
+rising-later m n [] l h = tt
+rising-later m n (r ∷ rs) l h = (omega (arith, l, h.0), h.1)
+
+module _ (unit : List Statement) where
+  rising-to : (k : ℕ) (x : Name) (o : Option ℕ) (rs : List nesting.DoRange) → Rising (suc k) rs → Rising k (range_to k x o ++ rs)
+  rising-to k x None rs h = rising-later k (suc k) rs (omega arith) h
+  rising-to k x (Some t) rs h = by (nat_lt k t)
+    where
+      by : (b : Bool) → Rising k ((if b then record { start = k; terminal = t; variable = x } ∷ [] else []) ++ rs)
+      by true = (omega arith, h)
+      by false = rising-later k (suc k) rs (omega arith) h
+
+  rising-by : (k : ℕ) (f : Form) (rs : List nesting.DoRange) → Rising (suc k) rs → Rising k (range_by unit k f ++ rs)
+  rising-by k (form.Do c) rs h = rising-to k c.variable.name (index_labelled unit c.terminal) rs h
+  rising-by k _ rs h = rising-later k (suc k) rs (omega arith) h
+
+  rising-at : (b : Bool) (k : ℕ) (f : Form) (rs : List nesting.DoRange) → Rising (suc k) rs → Rising k ((if b then range_by unit k f else []) ++ rs)
+  rising-at true k f rs h = rising-by k f rs h
+  rising-at false k f rs h = rising-later k (suc k) rs (omega arith) h
+
+  rising-from : (k : ℕ) (ss : List Statement) → Rising k (flat_map (range_at unit) (indexed_from k ss))
+  rising-from k [] = tt
+  rising-from k (s ∷ ss) = rising-at (is_unconditional s) k s.form (flat_map (range_at unit) (indexed_from (suc k) ss)) (rising-from (suc k) ss)
+
+  rising : Rising 0 (ranges_of unit)
+  rising = rising-from 0 unit
+
+-- ---- what the pass keeps
+
+abbrev latest : List nesting.DoRange → Name → Option ℕ
+latest [] x = None
+latest (r ∷ rs) x = with_range (latest rs) r x
+
+abbrev reaches_by : ℕ → Name → nesting.DoRange → Bool
+reaches_by k x r = nat_le k r.terminal && same_name r.variable x
+
+reaches-later : (o : Option ℕ) (t k : ℕ) → reaches (Some (later o t)) k ≡ (nat_le k t || reaches o k)
+reaches-later None t k = sym (or-false (nat_le k t))
+reaches-later (Some s) t k = grind (arith, nat_tests)
+
+latest-reaches : (k : ℕ) (x : Name) (rs : List nesting.DoRange) → reaches (latest rs x) k ≡ list_any (reaches_by k x) rs
+latest-reaches k x [] = refl
+latest-reaches k x (r ∷ rs) = by (same_name r.variable x) refl (latest-reaches k x rs)
+  where
+    by : (b : Bool) → same_name r.variable x ≡ b → reaches (latest rs x) k ≡ list_any (reaches_by k x) rs
+        → reaches (if b then Some (later (latest rs r.variable) r.terminal) else latest rs x) k ≡ ((nat_le k r.terminal && b) || list_any (reaches_by k x) rs)
+    by true e h =
+        ap (λ y. reaches (Some (later (latest rs y) r.terminal)) k) (equal_names r.variable x e)
+        ∙ (reaches-later (latest rs x) r.terminal k ∙ (ap (λ b. nat_le k r.terminal || b) h ∙ ap (λ b. b || list_any (reaches_by k x) rs) (sym (and-true (nat_le k r.terminal)))))
+    by false e h = h ∙ ap (λ b. b || list_any (reaches_by k x) rs) (sym (and-false (nat_le k r.terminal)))
+
+abbrev Started : ℕ → List nesting.DoRange → Type 0
+Started n [] = Unit {0}
+Started n (r ∷ rs) = (r.start < n) × Started n rs
+
+started-later : (m n : ℕ) (rs : List nesting.DoRange) → m ≤ n → Started m rs → Started n rs
+started-later m n [] l h = tt
+started-later m n (r ∷ rs) l h = (omega (arith, l, h.0), started-later m n rs l h.1)
+
+before-shares : (b : nesting.DoRange) (rs : List nesting.DoRange) → Started b.start rs → list_any (λ a. shares_variable a b) rs ≡ list_any (reaches_by b.start b.variable) rs
+before-shares b [] h = refl
+before-shares b (r ∷ rs) h =
+    ap (λ t. (t && reaches_by b.start b.variable r) || list_any (λ a. shares_variable a b) rs) (lt-ltb r.start b.start h.0)
+    ∙ ap (λ t. reaches_by b.start b.variable r || t) (before-shares b rs h.1)
+
+after-shares : (b : nesting.DoRange) (n : ℕ) (rs : List nesting.DoRange) → b.start ≤ n → Rising n rs → list_any (λ a. shares_variable a b) rs ≡ false
+after-shares b n [] l h = refl
+after-shares b n (r ∷ rs) l h =
+    ap (λ t. (t && reaches_by b.start b.variable r) || list_any (λ a. shares_variable a b) rs) (le-ltb r.start b.start (omega (arith, l, h.0)))
+    ∙ after-shares b (suc r.start) rs (omega (arith, l, h.0)) h.1
+
+-- all ranges are those that were met and those ahead
+abbrev Together : List nesting.DoRange → List nesting.DoRange → List nesting.DoRange → Type 0
+Together met ahead all = (test : nesting.DoRange → Bool) → list_any test all ≡ (list_any test met || list_any test ahead)
+
+together-next : (met ahead all : List nesting.DoRange) (r : nesting.DoRange) → Together met (r ∷ ahead) all → Together (r ∷ met) ahead all
+together-next met ahead all r h test = h test ∙ or-turned (list_any test met) (test r) (list_any test ahead) ∙ sym (or-assoc (test r) (list_any test met) (list_any test ahead))
+
+shares-here : (met ahead all : List nesting.DoRange) (r : nesting.DoRange) → Started r.start met → Rising (suc r.start) ahead → Together met (r ∷ ahead) all
+    → reaches (latest met r.variable) r.start ≡ list_any (λ a. shares_variable a r) all
+shares-here met ahead all r s a h =
+    latest-reaches r.start r.variable met
+    ∙ (sym (before-shares r met s)
+    ∙ (sym (or-false (list_any (λ x. shares_variable x r) met))
+    ∙ (ap (λ t. list_any (λ x. shares_variable x r) met || t) (sym (after-shares r r.start (r ∷ ahead) (omega arith) (omega arith, a))) ∙ sym (h (λ x. shares_variable x r)))))
+
+module _ (unit : List Statement) (all : List nesting.DoRange) where
+  abbrev in_another : nesting.DoRange → Option ℕ
+  in_another b = line_when (list_any (λ a. shares_variable a b) all) (line_at unit b.start)
+
+  shared-pass : (n : ℕ) (met ahead : List nesting.DoRange) → Started n met → Rising n ahead → Together met ahead all → least_shared unit (latest met) ahead ≡ least_line_of in_another ahead
+  shared-pass n met [] s a h = refl
+  shared-pass n met (r ∷ ahead) s a h =
+      ap (λ b. least_line (line_when b (line_at unit r.start)) (least_shared unit (latest (r ∷ met)) ahead)) (shares-here met ahead all r (started-later n r.start met a.0 s) a.1 h)
+      ∙ ap (least_line (in_another r))
+      (shared-pass (suc r.start) (r ∷ met) ahead (omega arith, started-later n (suc r.start) met (omega (arith, a.0)) s) a.1 (together-next met ahead all r h))
+
+pub least-shared : (unit : List Statement)
+    → least_shared unit (λ x. None) (ranges_of unit) ≡ least_line_of (λ b. line_when (list_any (λ a. shares_variable a b) (ranges_of unit)) (line_at unit b.start)) (ranges_of unit)
+least-shared unit = shared-pass unit (ranges_of unit) 0 [] (ranges_of unit) tt (rising unit) (λ test. refl)
+
+-- ---- what isn't nested
+
+module _ (unit : List Statement) where
+  abbrev rs : List nesting.DoRange
+  rs = ranges_of unit
+
+  abbrev bs : List nesting.BlockIf
+  bs = (block_ifs_of unit).closed
+
+  abbrev line : nesting.DoRange → ℕ
+  line r = line_at unit r.start
+
+  abbrev block_line : nesting.BlockIf → ℕ
+  block_line b = line_at unit b.start
+
+  -- the later of two ranges that cross, or that share a variable
+  abbrev pub crossed : nesting.DoRange → Option ℕ
+  crossed b = line_when (list_any (λ a. ranges_cross a b) rs) (line b)
+
+  abbrev pub shared : nesting.DoRange → Option ℕ
+  shared b = line_when (list_any (λ a. shares_variable a b) rs) (line b)
+
+  -- a block IF that leaves a range, and a range that leaves a block
+  abbrev pub left_by_block : nesting.BlockIf → Option ℕ
+  left_by_block b = line_when (list_any (λ a. leaves_range a b) rs) (block_line b)
+
+  abbrev pub left_by_range : nesting.DoRange → Option ℕ
+  left_by_range a = line_when (list_any (leaves_block a) bs) (line a)
+
+  abbrev pairs : nesting.DoRange → Option ℕ
+  pairs a = least_line_of (λ b. line_when (ranges_cross a b || shares_variable a b) (line b)) rs
+
+  abbrev out_of_range : nesting.DoRange → Option ℕ
+  out_of_range a = least_line_of (λ b. line_when (leaves_range a b) (block_line b)) bs
+
+  abbrev out_of_block : nesting.DoRange → Option ℕ
+  out_of_block a = least_line_of (λ b. line_when (leaves_block a b) (line a)) bs
+
+  reported-pair : (a b : nesting.DoRange) → first_of (range_pair unit a b) ≡ reported 307 (line_when (ranges_cross a b || shares_variable a b) (line b))
+  reported-pair a b = reported-when 307 (line b) (ranges_cross a b || shares_variable a b)
+
+  reported-out : (a : nesting.DoRange) (b : nesting.BlockIf)
+      → first_of (crossing unit a b) ≡ reported 307 (least_line (line_when (leaves_range a b) (block_line b)) (line_when (leaves_block a b) (line a)))
+  reported-out a b =
+      reported-append 307 (when (leaves_range a b) (at_line 307 (block_line b))) (when (leaves_block a b) (at_line 307 (line a)))
+      (line_when (leaves_range a b) (block_line b)) (line_when (leaves_block a b) (line a))
+      (reported-when 307 (block_line b) (leaves_range a b)) (reported-when 307 (line a) (leaves_block a b))
+
+  reported-range : (a : nesting.DoRange) → first_of (flat_map (range_pair unit a) rs ++ flat_map (crossing unit a) bs) ≡ reported 307 (least_line (pairs a) (least_line (out_of_range a) (out_of_block a)))
+  reported-range a =
+      reported-append 307 (flat_map (range_pair unit a) rs) (flat_map (crossing unit a) bs) (pairs a) (least_line (out_of_range a) (out_of_block a))
+      (reported-of 307 (range_pair unit a) (λ b. line_when (ranges_cross a b || shares_variable a b) (line b)) (reported-pair a) rs)
+      (reported-of 307 (crossing unit a) (λ b. least_line (line_when (leaves_range a b) (block_line b)) (line_when (leaves_block a b) (line a))) (reported-out a) bs
+      ∙ ap (reported 307) (least_line_of-both (λ b. line_when (leaves_range a b) (block_line b)) (λ b. line_when (leaves_block a b) (line a)) bs))
+
+  two : (b : nesting.DoRange) → least_line_of (λ a. line_when (ranges_cross a b || shares_variable a b) (line b)) rs ≡ least_line (crossed b) (shared b)
+  two b =
+      least_line_of-any (λ a. ranges_cross a b || shares_variable a b) (line b) rs
+      ∙ (ap (λ t. line_when t (line b)) (any-or (λ a. ranges_cross a b) (λ a. shares_variable a b) rs)
+      ∙ sym (least_line-or (line b) (list_any (λ a. ranges_cross a b) rs) (list_any (λ a. shares_variable a b) rs)))
+
+  all_pairs : least_line_of pairs rs ≡ least_line (least_line_of crossed rs) (least_line_of shared rs)
+  all_pairs =
+      least_line_of-turned (λ a b. line_when (ranges_cross a b || shares_variable a b) (line b)) rs rs
+      ∙ (least_line_of-same (λ b. least_line_of (λ a. line_when (ranges_cross a b || shares_variable a b) (line b)) rs) (λ b. least_line (crossed b) (shared b)) two rs
+      ∙ least_line_of-both crossed shared rs)
+
+  all_out_of_range : least_line_of out_of_range rs ≡ least_line_of left_by_block bs
+  all_out_of_range =
+      least_line_of-turned (λ a b. line_when (leaves_range a b) (block_line b)) rs bs
+      ∙ least_line_of-same (λ b. least_line_of (λ a. line_when (leaves_range a b) (block_line b)) rs) left_by_block (λ b. least_line_of-any (λ a. leaves_range a b) (block_line b) rs) bs
+
+  all_out_of_block : least_line_of out_of_block rs ≡ least_line_of left_by_range rs
+  all_out_of_block = least_line_of-same out_of_block left_by_range (λ a. least_line_of-any (leaves_block a) (line a) bs) rs
+
+  pub reported-nesting : first_of (nesting_violations unit)
+      ≡ reported 307 (least_line (least_line (least_line_of crossed rs) (least_line_of shared rs)) (least_line (least_line_of left_by_block bs) (least_line_of left_by_range rs)))
+  reported-nesting =
+      reported-of 307 (λ (a : nesting.DoRange). flat_map (range_pair unit a) rs ++ flat_map (crossing unit a) bs) (λ a. least_line (pairs a) (least_line (out_of_range a) (out_of_block a))) reported-range rs
+      ∙ ap (reported 307)
+      (least_line_of-both pairs (λ a. least_line (out_of_range a) (out_of_block a)) rs
+      ∙ (ap (least_line (least_line_of pairs rs)) (least_line_of-both out_of_range out_of_block rs)
+      ∙ (ap (λ o. least_line o (least_line (least_line_of out_of_range rs) (least_line_of out_of_block rs))) all_pairs
+      ∙ (ap (λ o. least_line (least_line (least_line_of crossed rs) (least_line_of shared rs)) (least_line o (least_line_of out_of_block rs))) all_out_of_range
+      ∙ ap (λ o. least_line (least_line (least_line_of crossed rs) (least_line_of shared rs)) (least_line (least_line_of left_by_block bs) o)) all_out_of_block))))
 
 -- ---- block IFs that leave a range
 
@@ -38,18 +262,11 @@ one-leaves_range r b =
 
 -- ---- ranges that leave a block
 
-at_or_before : (a b : ℕ) → nat_lt a (suc b) ≡ nat_le a b
-at_or_before a b = grind (arith, nat_tests)
-
 within : (low high e : ℕ) → is_within (suc low) (suc high) e ≡ is_between low high e
-within low high e = ap (λ t. t && nat_lt e (suc high)) (strictly_after low e) ∙ ap (λ t. nat_lt low e && t) (at_or_before e high)
+within low high e = grind (arith, nat_tests)
 
 abbrev answers : DoRange → BlockEnd → Bool
 answers r e = nat_lt e.start r.start && is_within (suc r.start) (suc r.terminal) e.end
-
-nothing : (a : Bool) → false ≡ (a && false)
-nothing true = refl
-nothing false = refl
 
 first_end : (a b c : Bool) → ((a && b) || (a && c)) ≡ (a && (b || c))
 first_end true b c = refl
@@ -57,7 +274,7 @@ first_end false b c = refl
 
 any-ends : (r : DoRange) (start : ℕ) (ds : List ℕ) (o : Option ℕ)
     → list_any (answers r) (ends_from start ds o) ≡ (nat_lt start r.start && (list_any (is_between r.start r.terminal) ds || end_between r.start r.terminal o))
-any-ends r start [] None = nothing (nat_lt start r.start)
+any-ends r start [] None = sym (and-false (nat_lt start r.start))
 any-ends r start [] (Some e) = or-false (nat_lt start r.start && is_within (suc r.start) (suc r.terminal) e) ∙ ap (λ t. nat_lt start r.start && t) (within r.start r.terminal e)
 any-ends r start (d ∷ ds) o =
     ap (λ t. (nat_lt start r.start && t) || list_any (answers r) (ends_from start ds o)) (within r.start r.terminal d)
@@ -72,11 +289,7 @@ one-leaves_block r b =
 
 values_in-all : (bs : List BlockIf) → flat_map values_in bs ≡ map value_of_end (flat_map ends_in bs)
 values_in-all [] = refl
-values_in-all (b ∷ bs) = ap (λ es. values_in b ++ es) (values_in-all bs) ∙ sym (apart (ends_in b) (flat_map ends_in bs))
-  where
-    apart : (es fs : List BlockEnd) → map value_of_end (es ++ fs) ≡ map value_of_end es ++ map value_of_end fs
-    apart [] fs = refl
-    apart (e ∷ es) fs = ap (λ l. value_of_end e ∷ l) (apart es fs)
+values_in-all (b ∷ bs) = ap (λ es. values_in b ++ es) (values_in-all bs) ∙ sym (map-append value_of_end (ends_in b) (flat_map ends_in bs))
 
 -- ---- all four
 

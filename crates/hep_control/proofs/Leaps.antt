@@ -1,25 +1,78 @@
--- What is reported of jumps: 308.
-use Rattle.std.proofs.Common.{◌≡◌, ℕ, suc, ◌-◌, ◌<◌, ◌≤◌, Bool, true, false, not, ◌&&◌, ◌||◌, nat_lt, nat_le, List, [], ◌∷◌, ◌++◌, map, Option, Some, None, refl, ◌∙◌, sym, ap, arith}
+-- The regions of a unit in another order, and what is reported of jumps: 308.
+use Rattle.std.proofs.Common.{◌≡◌, ℕ, Bool, ◌||◌, List, [], ◌∷◌, ◌++◌, map, reverse, Option, Some, None, refl, ◌∙◌, sym, ap, suc, ◌-◌, ◌≤◌, not, ◌&&◌, nat_lt, arith}
+use Rattle.std.proofs.lemmas.List.{reverse-append}
 use Rattle.std.specs.List.{flat_map, list_any}
+use Rattle.std.proofs.lemmas.List.Folds.{list_any-append}
+use Rattle.hep_machine.specs.Words.{Statement, statement_at, role_of, index_labelled}
+use Rattle.hep_check.specs.Nesting as nesting
+use Rattle.hep_check.specs.Words.{regions_before, regions_to_last, block_regions, range_region, ranges_of, block_ifs_of, regions_of, IndexedStatement, indexed_statements, enters, is_division, is_wrong_jump, jump_to, jump_violations, targets_of_jump, Violations, first_of, reported, least_line, line_when, least_line_of}
+use Rattle.hep_control.specs.declared.blocks.BlockIf.{BlockIf}
+use Rattle.hep_control.specs.Ranges.{block_if}
+use Rattle.hep_control.specs.Jumps.{blocks_from, blocks_in, region, Leap, leap, leap_to, leaps_at, leaps_of, value_by_start, question_by_start, value_by_end, question_by_end, line_to_division}
+use Rattle.hep_control.proofs.Sets.{or-comm, any-same, any-map, any-reverse}
+use Rattle.hep_source.proofs.Tests.{or-false, or-assoc, any-flat, any-or}
 use Rattle.std.below.core.specs.declared.int.usize.TheConstants.{MAX}
 use Rattle.std.proofs.lemmas.Bool.Decides.{nat_tests}
-use Rattle.hep_source.specs.declared.statement.Statement.{Statement}
-use Rattle.hep_source.specs.Units.{statement_at}
-use Rattle.hep_machine.specs.Control.{role_of, index_labelled}
-use Rattle.hep_check.specs.Nesting as nesting
-use Rattle.hep_check.specs.Nesting.{IndexedStatement, indexed_statements, enters, is_division, is_wrong_jump, jump_to, jump_violations, regions_of}
-use Rattle.hep_check.specs.Statements.{targets_of_jump}
-use Rattle.hep_check.specs.Violations.{Violations, first_of}
-use Rattle.hep_check.specs.Reported.{reported, least_line, line_when, least_line_of}
 use Rattle.hep_check.proofs.Lines.{reported-append, reported-when, least_line_of-append, least_line_of-same, least_line_of-both, least_line-or, least_line-none}
 use Rattle.hep_control.specs.declared.region.Region.{Region}
 use Rattle.hep_control.specs.declared.region.Jump.{Jump}
 use Rattle.hep_control.specs.Sweep.{is_within, least_met}
-use Rattle.hep_control.specs.Jumps.{region, Leap, leap, leap_to, leaps_at, leaps_of, value_by_start, question_by_start, value_by_end, question_by_end, line_to_division}
-use Rattle.hep_control.proofs.Sets.{any-same, any-map}
-use Rattle.hep_control.proofs.Asked.{met-asked}
-use Rattle.std.proofs.lemmas.Bool.{ltb-true}
-use Rattle.hep_source.proofs.Tests.{any-or}
+use Rattle.hep_control.proofs.Swept.{met-asked}
+
+-- ---- regions in another order
+
+reverse-first : {A : Type 0} (x : A) (xs : List A) → reverse (x ∷ xs) ≡ reverse xs ++ x ∷ []
+reverse-first x xs = reverse-append (x ∷ []) xs
+
+abbrev piece : ℕ → ℕ → nesting.Region
+piece start end = record { after = start; before = end }
+
+before-first : (s e d : ℕ) (xs : List ℕ) → regions_before s e (xs ++ d ∷ []) ≡ regions_before d e xs ++ piece s d ∷ []
+before-first s e d [] = refl
+before-first s e d (k ∷ xs) = ap (λ l. piece k e ∷ l) (before-first s k d xs)
+
+last-first : (s d : ℕ) (xs : List ℕ) → regions_to_last s (xs ++ d ∷ []) ≡ regions_to_last d xs ++ piece s d ∷ []
+last-first s d [] = refl
+last-first s d (k ∷ xs) = before-first s k d xs
+
+module _ (test : nesting.Region → Bool) where
+  last_first : (rs : List nesting.Region) (r : nesting.Region) → list_any test (rs ++ r ∷ []) ≡ (test r || list_any test rs)
+  last_first rs r = list_any-append test rs (r ∷ []) ∙ (ap (λ b. list_any test rs || b) (or-false (test r)) ∙ or-comm (list_any test rs) (test r))
+
+  closed : (s e : ℕ) (ds : List ℕ) → list_any test (blocks_from s ds (Some e)) ≡ list_any test (regions_before s e (reverse ds))
+  closed s e [] = refl
+  closed s e (d ∷ ds) =
+      ap (λ b. test (piece s d) || b) (closed d e ds)
+      ∙ (sym (last_first (regions_before d e (reverse ds)) (piece s d)) ∙ (ap (list_any test) (sym (before-first s e d (reverse ds))) ∙ ap (λ l. list_any test (regions_before s e l)) (sym (reverse-first d ds))))
+
+  unclosed : (s : ℕ) (ds : List ℕ) → list_any test (blocks_from s ds None) ≡ list_any test (regions_to_last s (reverse ds))
+  unclosed s [] = refl
+  unclosed s (d ∷ ds) =
+      ap (λ b. test (piece s d) || b) (unclosed d ds)
+      ∙ (sym (last_first (regions_to_last d (reverse ds)) (piece s d)) ∙ (ap (list_any test) (sym (last-first s d (reverse ds))) ∙ ap (λ l. list_any test (regions_to_last s l)) (sym (reverse-first d ds))))
+
+  by_end : (s : ℕ) (ds : List ℕ) (has_else : Bool) (end : Option ℕ)
+      → list_any test (blocks_from s ds end) ≡ list_any test (block_regions (record { start = s; divisions = reverse ds; has_else = has_else; end = end }))
+  by_end s ds has_else None = unclosed s ds
+  by_end s ds has_else (Some e) = closed s e ds
+
+  one_block : (b : BlockIf) → list_any test (blocks_in b) ≡ list_any test (block_regions (block_if b))
+  one_block b = by_end b.start b.divisions.items b.has_else b.end
+
+  blocks-any : (bs : List BlockIf) → list_any test (flat_map blocks_in bs) ≡ list_any test (flat_map block_regions (reverse (map block_if bs)))
+  blocks-any bs =
+      any-flat test blocks_in bs
+      ∙ (any-same (λ b. list_any test (blocks_in b)) (λ b. list_any test (block_regions (block_if b))) one_block bs
+      ∙ (sym (any-map (λ b. list_any test (block_regions b)) block_if bs)
+      ∙ (sym (any-reverse (λ b. list_any test (block_regions b)) (map block_if bs)) ∙ sym (any-flat test block_regions (reverse (map block_if bs))))))
+
+  pub regions-any : (unit : List Statement) (rs : List nesting.DoRange) (cs us : List BlockIf) → rs ≡ ranges_of unit
+      → reverse (map block_if cs) ≡ (block_ifs_of unit).closed → reverse (map block_if us) ≡ (block_ifs_of unit).unclosed
+      → list_any test ((map range_region rs ++ flat_map blocks_in cs) ++ flat_map blocks_in us) ≡ list_any test (regions_of unit)
+  regions-any unit rs cs us r c u =
+      let closed_are : list_any test (flat_map blocks_in cs) ≡ list_any test (flat_map block_regions (block_ifs_of unit).closed) = blocks-any cs ∙ ap (λ l. list_any test (flat_map block_regions l)) c in
+      let unclosed_are : list_any test (flat_map blocks_in us) ≡ list_any test (flat_map block_regions (block_ifs_of unit).unclosed) = blocks-any us ∙ ap (λ l. list_any test (flat_map block_regions l)) u in
+      simp (r, list_any-append, or-assoc, closed_are, unclosed_are)
 
 -- ---- jump by jump
 
@@ -53,52 +106,17 @@ enters_late j r = nat_lt r.after j.to && is_within (suc j.to) (suc j.from) r.bef
 abbrev pub enters_early : Jump → Region → Bool
 enters_early j r = nat_lt (MAX - r.before) (MAX - j.to) && is_within j.from j.to r.after
 
-below-false : (a b : ℕ) → nat_lt a b ≡ false → a < b → ⊥
-below-false a b e l = grind (arith, nat_tests, e, l)
+from_end : (m before to : ℕ) → before ≤ m → nat_lt (m - before) (m - to) ≡ nat_lt to before
+from_end m before to h = grind (arith, nat_tests)
 
-lt-alike : (a b c d : ℕ) → (a < b → c < d) → (c < d → a < b) → nat_lt a b ≡ nat_lt c d
-lt-alike a b c d f g = by (nat_lt a b) (nat_lt c d) refl refl
-  where
-    by : (p q : Bool) → nat_lt a b ≡ p → nat_lt c d ≡ q → p ≡ q
-    by true true e k = refl
-    by false false e k = refl
-    by true false e k = absurd (below-false c d k (f (ltb-true a b e)))
-    by false true e k = absurd (below-false a b e (g (ltb-true c d k)))
-
-from_end : (before to : ℕ) → before ≤ MAX → nat_lt (MAX - before) (MAX - to) ≡ nat_lt to before
-from_end before to h = lt-alike (MAX - before) (MAX - to) to before (λ l. omega (arith, h, l)) (λ l. omega (arith, h, l))
-
-at_or_after : (a b : ℕ) → nat_le a b ≡ not (nat_lt b a)
-at_or_after a b = grind (arith, nat_tests)
-
-at_or_before : (a b : ℕ) → nat_lt b (suc a) ≡ not (nat_lt a b)
-at_or_before a b = grind (arith, nat_tests)
-
-pub strictly_after : (a b : ℕ) → nat_le (suc a) b ≡ nat_lt a b
-strictly_after a b = grind (arith, nat_tests)
-
--- in the region with p and q, and out of it without u or w
-cases : (p q u w : Bool) → ((p && q) && not (u && w)) ≡ ((p && (q && not w)) || (q && (not u && p)))
-cases true true true true = refl
-cases true true true false = refl
-cases true true false true = refl
-cases true true false false = refl
-cases true false u w = refl
-cases false true true w = refl
-cases false true false w = refl
-cases false false u w = refl
-
+-- in the region, and out of it before its start or after its end
 plain : (from to after before : ℕ)
     → ((nat_lt after to && nat_lt to before) && not (nat_lt after from && nat_lt from before))
     ≡ ((nat_lt after to && is_within (suc to) (suc from) before) || (nat_lt to before && is_within from to after))
-plain from to after before =
-    cases (nat_lt after to) (nat_lt to before) (nat_lt after from) (nat_lt from before)
-    ∙ (ap (λ b. (nat_lt after to && (b && not (nat_lt from before))) || (nat_lt to before && (not (nat_lt after from) && nat_lt after to))) (sym (strictly_after to before))
-    ∙ (ap (λ b. (nat_lt after to && (nat_le (suc to) before && b)) || (nat_lt to before && (not (nat_lt after from) && nat_lt after to))) (sym (at_or_before from before))
-    ∙ ap (λ b. (nat_lt after to && is_within (suc to) (suc from) before) || (nat_lt to before && (b && nat_lt after to))) (sym (at_or_after from after))))
+plain from to after before = grind (arith, nat_tests)
 
 one-enters : (j : Jump) (r : Region) → enters j.from j.to (region r) ≡ (enters_late j r || enters_early j r)
-one-enters j r = plain j.from j.to r.after r.before ∙ ap (λ b. (nat_lt r.after j.to && is_within (suc j.to) (suc j.from) r.before) || (b && is_within j.from j.to r.after)) (sym (from_end r.before j.to r.counted))
+one-enters j r = plain j.from j.to r.after r.before ∙ ap (λ b. (nat_lt r.after j.to && is_within (suc j.to) (suc j.from) r.before) || (b && is_within j.from j.to r.after)) (sym (from_end MAX r.before j.to r.counted))
 
 any-enters : (j : Jump) (rs : List Region) → list_any (enters j.from j.to) (map region rs) ≡ (list_any (enters_late j) rs || list_any (enters_early j) rs)
 any-enters j rs =

@@ -1,14 +1,7 @@
 pub mod Labelled
-pub mod Repeated
 pub mod Sets
-pub mod Moved
 pub mod Swept
-pub mod Lists
-pub mod Asked
 pub mod Leaps
-pub mod Reordered
-pub mod Nested
-pub mod Shared
 pub mod Crossed
 pub mod Alone
 pub mod Ahead

@@ -1,60 +1,35 @@
 -- One pass over a unit has the innermost DO that ends at each statement: around each one is that which was found before it.
-use Rattle.std.proofs.Common.{◌≡◌, ◌≢◌, ℕ, zero, suc, ◌+◌, ◌-◌, ◌<◌, ◌≤◌, Bool, true, false, true≢false, ◌&&◌, nat_eq, nat_lt, if◌then◌else◌, List, [], ◌∷◌, ◌++◌, ◌⊎◌, inl, inr, length, take, replicate, get_or, slice_get, slice_set, Option, Some, None, refl, ◌∙◌, sym, ap, arith, IfSome}
+use Rattle.std.proofs.Common.{◌≡◌, ◌≢◌, ℕ, zero, suc, ◌+◌, ◌-◌, ◌<◌, ◌≤◌, Bool, true, false, true≢false, ◌&&◌, nat_eq, nat_lt, if◌then◌else◌, List, [], ◌∷◌, ◌++◌, ◌⊎◌, inl, inr, length, take, replicate, get_or, slice_get, slice_set, Option, Some, None, refl, ◌∙◌, sym, ap, arith, IfSome, eqb-true, ltb-false, ltb-true, ne_eqb}
 use Rattle.std.specs.Option.{option_map, unwrap_or}
 use Rattle.std.proofs.lemmas.Bool.Decides.{nat_tests}
-use Rattle.std.proofs.lemmas.List.{length-append}
-use Rattle.hep_source.specs.Tree.{Tree}
-use Rattle.hep_source.specs.Units.{statement_at}
-use Rattle.hep_source.specs.declared.statement.Form.{Form}
+use Rattle.std.proofs.lemmas.List.{get_or_default, length-append, length-take, take-take, take_all, take_more}
+use Rattle.std.proofs.lemmas.Option.{unwrap_or-slice_get}
+use Rattle.hep_machine.specs.Words.{no_statement, Tree, statement_at, Form, Statement, index_labelled, index_of_label, terminal_by_form, is_ended_at, loops_among, loops_ending_at, loops_around}
+use Rattle.hep_machine.proofs.Others.{front_kept}
 use Rattle.hep_source.specs.declared.statement.Form.TheVariants as form
-use Rattle.hep_source.specs.declared.statement.Statement.{Statement}
-use Rattle.hep_machine.specs.Control.{index_labelled, index_of_label, terminal_by_form, is_ended_at, loops_among, loops_ending_at, loops_around}
 use Rattle.hep_control.specs.Loops.{innermost_loop, outer_loop, terminal_at, with_loop, loop_met, innermost_among}
 use Rattle.hep_control.proofs.Labelled.{index_labelled-below}
-use Rattle.std.proofs.lemmas.Bool.{eqb-true, ltb-false, ltb-true, ne_eqb}
-use Rattle.hep_source.proofs.Tests.{and-false, number-self}
+use Rattle.hep_source.proofs.Tests.{and-false, at-last, number-self}
 
 -- ---- lists
 
+statement-is : (xs : List Statement) (m : ℕ) → statement_at xs m ≡ get_or xs m no_statement
+statement-is xs m = unwrap_or-slice_get xs m no_statement
+
 take-more : (xs : List Statement) (k m : ℕ) → m < k → m < length xs → take (suc m) (take k xs) ≡ take m (take k xs) ++ statement_at xs m ∷ []
-take-more [] k m l h = absurd (omega (arith, h))
-take-more (x ∷ xs) zero m l h = absurd (omega (arith, l))
-take-more (x ∷ xs) (suc k) zero l h = refl
-take-more (x ∷ xs) (suc k) (suc m) l h = ap (λ ys. x ∷ ys) (take-more xs k m (omega (arith, l)) (omega (arith, h)))
-
-abbrev no_statements : List Statement
-no_statements = []
-
-take-none : (m : ℕ) → take (suc m) no_statements ≡ take m no_statements
-take-none zero = refl
-take-none (suc m) = refl
+take-more xs k m l h =
+    take-take (suc m) k xs (omega (arith, l))
+    ∙ (let e : suc m ≡ m + 1 = omega arith in ap (λ n. take n xs) e ∙ take_more xs m no_statement h)
+    ∙ (λ i. sym (take-take m k xs (omega (arith, l))) i ++ sym (statement-is xs m) i ∷ [])
 
 take-done : (xs : List Statement) (k m : ℕ) → k ≤ m → take (suc m) (take k xs) ≡ take m (take k xs)
-take-done [] zero m l = take-none m
-take-done [] (suc k) m l = take-none m
-take-done (x ∷ xs) zero m l = take-none m
-take-done (x ∷ xs) (suc k) zero l = absurd (omega (arith, l))
-take-done (x ∷ xs) (suc k) (suc m) l = ap (λ ys. x ∷ ys) (take-done xs k m (omega (arith, l)))
-
-take-length : (xs : List Statement) (k m : ℕ) → m < k → m < length xs → length (take m (take k xs)) ≡ m
-take-length [] k m l h = absurd (omega (arith, h))
-take-length (x ∷ xs) zero m l h = absurd (omega (arith, l))
-take-length (x ∷ xs) (suc k) zero l h = refl
-take-length (x ∷ xs) (suc k) (suc m) l h = ap suc (take-length xs k m (omega (arith, l)) (omega (arith, h)))
-
-take-nothing : (m : ℕ) → take m no_statements ≡ []
-take-nothing zero = refl
-take-nothing (suc m) = refl
+take-done xs k m l = take_all (suc m) (take k xs) (omega (arith, l, length-take k xs)) ∙ sym (take_all m (take k xs) (omega (arith, l, length-take k xs)))
 
 take-whole : (xs : List Statement) (k : ℕ) → take (length xs) (take k xs) ≡ take k xs
-take-whole [] k = sym (take-nothing k)
-take-whole (x ∷ xs) zero = take-nothing (suc (length xs))
-take-whole (x ∷ xs) (suc k) = ap (λ ys. x ∷ ys) (take-whole xs k)
+take-whole xs k = take_all (length xs) (take k xs) (omega (arith, length-take k xs))
 
 item-at : (xs : List Statement) (m : ℕ) (s : Statement) → m < length xs → s ≡ get_or xs m s → s ≡ statement_at xs m
-item-at [] m s l is = absurd (omega (arith, l))
-item-at (x ∷ xs) zero s l is = is
-item-at (x ∷ xs) (suc m) s l is = item-at xs m s (omega (arith, l)) is
+item-at xs m s l is = is ∙ get_or_default xs m s no_statement l ∙ sym (statement-is xs m)
 
 set-same : (xs : List (Option ℕ)) (i : ℕ) (x y : Option ℕ) → slice_get xs i ≡ Some y → slice_get (slice_set xs i x) i ≡ Some x
 set-same [] i x y h = cc
@@ -112,14 +87,11 @@ module _ (unit : List Statement) (k : ℕ) where
           let less : m < k = ltb-true m k e in
           ap (λ xs. loops_among unit k 0 xs []) (take-more unit k m less l)
           ∙ (among-more 0 (take m (take k unit)) (statement_at unit m) []
-          ∙ ap (λ n. if ended (statement_at unit m) then n ∷ found m else found m) (let none : 0 + length (take m (take k unit)) ≡ length (take m (take k unit)) = omega arith in none ∙ take-length unit k m less l))
+          ∙ ap (λ n. if ended (statement_at unit m) then n ∷ found m else found m) (omega (arith, less, l, length-take m (take k unit), length-take k unit)))
       by false e = ap (λ xs. loops_among unit k 0 xs []) (take-done unit k m (ltb-false m k e))
 
   found-all : found (length unit) ≡ loops_ending_at unit k
   found-all = ap (λ xs. loops_among unit k 0 xs []) (take-whole unit k)
-
-  found-none : found 0 ≡ []
-  found-none = refl
 
   past : (d m : ℕ) (es : List ℕ) → m ≢ d → loops_around d (m ∷ es) ≡ loops_around d es
   past d m es ne = ap (λ b. if b then es else loops_around d es) (ne_eqb m d ne)
@@ -182,12 +154,7 @@ module _ (unit : List Statement) where
   loop-cases m t k loops before h true false e f =
       ap (λ n. slice_get (if nat_lt m n then slice_set loops n (Some m) else loops) k) (eqb-true t k e)
       ∙ (ap (λ b. slice_get (if b then slice_set loops k (Some m) else loops) k) f ∙ h)
-  loop-cases m t k loops before h false true e f = other-index (nat_lt m t) ∙ h
-    where
-      other-index : (b : Bool) → slice_get (if b then slice_set loops t (Some m) else loops) k ≡ slice_get loops k
-      other-index true = set-other loops t k (Some m) (are-other t k e)
-      other-index false = refl
-  loop-cases m t k loops before h false false e f = other-index (nat_lt m t) ∙ h
+  loop-cases m t k loops before h false c e f = other-index (nat_lt m t) ∙ h ∙ ap (λ b. Some (slice_get (if b then m ∷ before else before) 0)) (sym (and-false c))
     where
       other-index : (b : Bool) → slice_get (if b then slice_set loops t (Some m) else loops) k ≡ slice_get loops k
       other-index true = set-other loops t k (Some m) (are-other t k e)
@@ -231,17 +198,6 @@ module _ (unit : List Statement) where
       by [] _ e = not_one (length unit) e
       by (t ∷ ts) f e = not_one (unwrap_or (option_map (index_of_label unit) (terminal_by_form [] f)) (length unit)) e
 
-  get-before : (xs : List (Option ℕ)) (x : Option ℕ) (d : ℕ) → d < length xs → slice_get (xs ++ x ∷ []) d ≡ slice_get xs d
-  get-before [] x d l = absurd (omega (arith, l))
-  get-before (y ∷ ys) x zero l = refl
-  get-before (y ∷ ys) x (suc d) l = get-before ys x d (omega (arith, l))
-
-  get-last : (xs : List (Option ℕ)) (x : Option ℕ) (d : ℕ) → d ≡ length xs → slice_get (xs ++ x ∷ []) d ≡ Some x
-  get-last [] x zero l = refl
-  get-last [] x (suc d) l = absurd (omega (arith, l))
-  get-last (y ∷ ys) x zero l = absurd (omega (arith, l))
-  get-last (y ∷ ys) x (suc d) l = get-last ys x d (omega (arith, l))
-
   pub record Passed (m : ℕ) (innermost outer : List (Option ℕ)) : Type 0 where
     pub found_are : (k : ℕ) → k ≤ length unit → slice_get innermost k ≡ Some (innermost_among unit m k)
     pub long : length outer ≡ m
@@ -264,17 +220,13 @@ module _ (unit : List Statement) where
         found_are = λ k le. found-next m innermost new l (ne ∙ ap (λ z. with_loop innermost m (terminal_at unit z)) here) h.found_are k le ∙ ap (λ n. Some (innermost_among unit n k)) next;
         long = omega (arith, length-append outer (met ∷ []), h.long);
         outer_are = λ d b. elim (below_or_last d b) [
-          | inl p ↦ get-before outer met d (omega (arith, p, h.long)) ∙ h.outer_are d p
-          | inr p ↦ get-last outer met d (omega (arith, p, h.long)) ∙ ap Some (me ∙ (ap (λ z. loop_met innermost m (terminal_at unit z)) here ∙ (outer-is m innermost l h.found_are ∙ ap (outer_loop unit) (sym p))))
+          | inl p ↦ front_kept outer (met ∷ []) d (omega (arith, p, h.long)) ∙ h.outer_are d p
+          | inr p ↦ ap (slice_get (outer ++ met ∷ [])) (p ∙ sym h.long) ∙ at-last outer met ∙ ap Some (me ∙ (ap (λ z. loop_met innermost m (terminal_at unit z)) here ∙ (outer-is m innermost l h.found_are ∙ ap (outer_loop unit) (sym p))))
         ];
       }
     where
       below_or_last : (d : ℕ) → d < m + 1 → (d < m) ⊎ (d ≡ m)
-      below_or_last d b = by (nat_lt d m) refl
-        where
-          by : (t : Bool) → nat_lt d m ≡ t → (d < m) ⊎ (d ≡ m)
-          by true e = inl (ltb-true d m e)
-          by false e = let le : m ≤ d = ltb-false d m e in inr (omega (arith, le, b))
+      below_or_last d b = grind arith
 
   pub all-innermost : (innermost outer : List (Option ℕ)) (k : ℕ) → Passed (length unit) innermost outer → k ≤ length unit → slice_get innermost k ≡ Some (innermost_loop unit k)
   all-innermost innermost outer k h l = h.found_are k l ∙ ap (λ ls. Some (slice_get ls 0)) (found-all unit k)

@@ -1,6 +1,6 @@
--- Lists and sets of numbers, as tests of some element see them.
-use Rattle.std.proofs.Common.{◌≡◌, ℕ, ◌≤◌, Bool, true, false, ◌||◌, is_some, List, [], ◌∷◌, map, refl, ◌∙◌, sym, ap, arith, slice_get, if◌then◌else◌}
-use Rattle.std.specs.List.{list_any, filter}
+-- Lists and sets, as tests of some element see them; and lists that grow at their end, or stand in another order.
+use Rattle.std.proofs.Common.{◌≡◌, ℕ, ◌≤◌, Bool, true, false, ◌||◌, is_some, List, [], ◌∷◌, map, refl, ◌∙◌, sym, ap, arith, slice_get, if◌then◌else◌, ◌+◌, ◌++◌, append_assoc, Option, Some, None, reverse}
+use Rattle.std.specs.List.{list_any, filter, flat_map, All}
 use Rattle.std.specs.BTreeSet.{insert_key}
 use Rattle.std.specs.Ordering.{nat_cmp, match_ordering}
 use Rattle.std.specs.declared.cmp.Ordering.{Ordering}
@@ -11,6 +11,12 @@ use Rattle.std.proofs.lemmas.Bool.Decides.{nat_tests}
 use Rattle.std.proofs.lemmas.Map.Lookups.{exact_unsigned}
 use Rattle.hep_control.specs.Sweep.{is_within}
 use Rattle.hep_source.proofs.Tests.{or-turned}
+use Rattle.hep_machine.specs.Words.{Statement}
+use Rattle.hep_check.specs.Words.{IndexedStatement, indexed_from, least_line, least_line_of}
+use Rattle.std.specs.List.Sorted.{IsPermutation}
+use Rattle.std.proofs.lemmas.List.Sorted.{list_any-IsPermutation, All-permutation, IsPermutation-sym, IsPermutation-reverse}
+use Rattle.std.proofs.lemmas.List.Elements.{All-nil, All-cons, All-head, All-tail, All-weaker}
+use Rattle.hep_check.proofs.Lines.{least_line-none, least_line-assoc, least_line-comm}
 
 pub or-comm : (a b : Bool) → (a || b) ≡ (b || a)
 or-comm true true = refl
@@ -69,3 +75,59 @@ nothing_within low high v h = grind (arith, nat_tests)
 
 pub any-empty : (low high : ℕ) (ks : List ℕ) → high ≤ low → false ≡ list_any (is_within low high) ks
 any-empty low high ks h = sym (any-none (is_within low high) (λ v. nothing_within low high v h) ks)
+
+-- ---- lists that grow at their end
+
+-- a statement more of a unit
+pub indexed-next : {A : Type 0} (f : IndexedStatement → List A) (old new : List A) (index : ℕ) (s : Statement) (ss : List Statement)
+    → new ≡ old ++ f (record { index = index; statement = s })
+    → new ++ flat_map f (indexed_from (index + 1) ss) ≡ old ++ flat_map f (indexed_from index (s ∷ ss))
+indexed-next f old new index s ss h =
+    ap (λ l. l ++ flat_map f (indexed_from (index + 1) ss)) h
+    ∙ (append_assoc old (f (record { index = index; statement = s })) (flat_map f (indexed_from (index + 1) ss))
+    ∙ ap (λ n. old ++ (f (record { index = index; statement = s }) ++ flat_map f (indexed_from n ss))) (omega arith))
+
+-- ---- lists in another order give the same line
+
+least_line-again : (m : Option ℕ) → least_line m m ≡ m
+least_line-again None = refl
+least_line-again (Some k) = grind (arith, nat_tests)
+
+module _ {A : Type 0} (line : A → Option ℕ) where
+  -- an element's line isn't below another
+  abbrev pub Bounds : Option ℕ → A → Type 0
+  Bounds m x = least_line m (line x) ≡ m
+
+  all_bound : (m : Option ℕ) (xs : List A) → All (Bounds m) xs → least_line m (least_line_of line xs) ≡ m
+  all_bound m [] h = least_line-none m
+  all_bound m (x ∷ xs) h =
+      sym (least_line-assoc m (line x) (least_line_of line xs))
+      ∙ (ap (λ o. least_line o (least_line_of line xs)) (All-head (Bounds m) x xs h) ∙ all_bound m xs (All-tail (Bounds m) x xs h))
+
+  here : (a b : Option ℕ) → least_line (least_line a b) a ≡ least_line a b
+  here a b = least_line-comm (least_line a b) a ∙ (sym (least_line-assoc a a b) ∙ ap (λ o. least_line o b) (least_line-again a))
+
+  weaker : (a m b : Option ℕ) → least_line m b ≡ m → least_line (least_line a m) b ≡ least_line a m
+  weaker a m b h = least_line-assoc a m b ∙ ap (least_line a) h
+
+  bounded : (xs : List A) → All (Bounds (least_line_of line xs)) xs
+  bounded [] = All-nil (Bounds None)
+  bounded (x ∷ xs) =
+      All-cons (Bounds (least_line_of line (x ∷ xs))) x xs (here (line x) (least_line_of line xs))
+      (All-weaker (Bounds (least_line_of line xs)) (Bounds (least_line_of line (x ∷ xs))) (λ y h. weaker (line x) (least_line_of line xs) (line y) h) xs (bounded xs))
+
+  below : (xs ys : List A) → IsPermutation xs ys → least_line (least_line_of line xs) (least_line_of line ys) ≡ least_line_of line xs
+  below xs ys p = all_bound (least_line_of line xs) ys (All-permutation (Bounds (least_line_of line xs)) xs ys p (bounded xs))
+
+  pub least_line_of-permutation : (xs ys : List A) → IsPermutation xs ys → least_line_of line ys ≡ least_line_of line xs
+  least_line_of-permutation xs ys p =
+      sym (below ys xs (IsPermutation-sym xs ys p)) ∙ (least_line-comm (least_line_of line ys) (least_line_of line xs) ∙ below xs ys p)
+
+pub any-permutation : {A : Type 0} (test : A → Bool) (xs ys : List A) → IsPermutation xs ys → list_any test ys ≡ list_any test xs
+any-permutation test xs ys p = sym (list_any-IsPermutation test xs ys p)
+
+pub least_line_of-reverse : {A : Type 0} (line : A → Option ℕ) (xs : List A) → least_line_of line (reverse xs) ≡ least_line_of line xs
+least_line_of-reverse line xs = least_line_of-permutation line xs (reverse xs) (IsPermutation-reverse xs)
+
+pub any-reverse : {A : Type 0} (test : A → Bool) (xs : List A) → list_any test (reverse xs) ≡ list_any test xs
+any-reverse test xs = any-permutation test xs (reverse xs) (IsPermutation-reverse xs)

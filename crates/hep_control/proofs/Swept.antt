@@ -1,18 +1,62 @@
--- One pass over events in order gives the lines that their questions give.
-use Rattle.std.proofs.Common.{◌≡◌, ℕ, suc, ◌+◌, ◌*◌, ◌<◌, ◌≤◌, Bool, true, false, ◌&&◌, ◌||◌, nat_lt, Option, List, [], ◌∷◌, ◌++◌, refl, ◌∙◌, sym, ap, arith, append_assoc}
+-- What questions give that stand after values, in a list without order; and one pass over events in order, which gives the lines that their
+-- questions give.
+use Rattle.std.proofs.Common.{◌≡◌, ℕ, Bool, false, ◌&&◌, ◌||◌, nat_lt, List, [], ◌∷◌, ◌++◌, map, Option, None, refl, ◌∙◌, ap, suc, ◌+◌, ◌*◌, ◌<◌, ◌≤◌, true, sym, arith, append_assoc}
 use Rattle.std.specs.List.{list_any}
-use Rattle.std.specs.List.Sorted.{IsNonDecreasingBy, IsPermutation}
-use Rattle.std.proofs.lemmas.Bool.Decides.{nat_tests}
 use Rattle.std.proofs.lemmas.List.Folds.{list_any-append}
-use Rattle.hep_check.specs.Reported.{least_line, line_when, least_line_of}
-use Rattle.hep_check.proofs.Lines.{least_line-assoc, least_line_of-same}
+use Rattle.hep_check.specs.Words.{least_line, line_when, least_line_of}
+use Rattle.hep_check.proofs.Lines.{least_line_of-append, least_line-assoc, least_line_of-same}
 use Rattle.hep_control.specs.declared.sweep.Event.{Event}
 use Rattle.hep_control.specs.declared.sweep.Event.TheVariants.{Value, Question}
 use Rattle.hep_control.specs.Sweep.{is_within, comes_before, line_asked, least_met, rank, line_met, with_event, least_swept}
-use Rattle.hep_control.proofs.Moved.{least_line_of-permutation, any-permutation}
-use Rattle.hep_source.proofs.Tests.{or-false}
+use Rattle.hep_source.proofs.Tests.{or-false, or-turned}
+use Rattle.std.specs.List.Sorted.{IsNonDecreasingBy, IsPermutation}
+use Rattle.std.proofs.lemmas.Bool.Decides.{nat_tests}
+use Rattle.hep_control.proofs.Sets.{least_line_of-permutation, any-permutation}
 
--- ---- what a pass keeps
+module _ {A B : Type 0} (vk vv : A → ℕ) (qk low high line : B → ℕ) where
+  abbrev value : A → Event
+  value x = Value (vk x) (vv x)
+
+  abbrev question : B → Event
+  question y = Question (qk y) (low y) (high y) (line y)
+
+  -- a value that a question asks for
+  abbrev pub answers : B → A → Bool
+  answers y x = nat_lt (vk x) (qk y) && is_within (low y) (high y) (vv x)
+
+  no_question : (key l h : ℕ) (ys : List B) → list_any (comes_before key l h) (map question ys) ≡ false
+  no_question key l h [] = refl
+  no_question key l h (y ∷ ys) = no_question key l h ys
+
+  by_values : (y : B) (xs : List A) → list_any (comes_before (qk y) (low y) (high y)) (map value xs) ≡ list_any (answers y) xs
+  by_values y [] = refl
+  by_values y (x ∷ xs) = ap (λ b. answers y x || b) (by_values y xs)
+
+  one : (xs : List A) (ys : List B) (y : B)
+      → line_asked (map value xs ++ map question ys) (question y) ≡ line_when (list_any (answers y) xs) (line y)
+  one xs ys y =
+      ap (λ b. line_when b (line y))
+      (list_any-append (comes_before (qk y) (low y) (high y)) (map value xs) (map question ys)
+      ∙ (ap (λ b. list_any (comes_before (qk y) (low y) (high y)) (map value xs) || b) (no_question (qk y) (low y) (high y) ys)
+      ∙ (or-false (list_any (comes_before (qk y) (low y) (high y)) (map value xs)) ∙ by_values y xs)))
+
+  no_lines : (all : List Event) (xs : List A) → least_line_of (line_asked all) (map value xs) ≡ None
+  no_lines all [] = refl
+  no_lines all (x ∷ xs) = no_lines all xs
+
+  lines : (all : List Event) (f : B → Option ℕ) → ((y : B) → line_asked all (question y) ≡ f y) → (ys : List B)
+      → least_line_of (line_asked all) (map question ys) ≡ least_line_of f ys
+  lines all f h [] = refl
+  lines all f h (y ∷ ys) = ap (λ o. least_line o (least_line_of (line_asked all) (map question ys))) (h y) ∙ ap (least_line (f y)) (lines all f h ys)
+
+  pub met-asked : (xs : List A) (ys : List B)
+      → least_met (map value xs ++ map question ys) ≡ least_line_of (λ y. line_when (list_any (answers y) xs) (line y)) ys
+  met-asked xs ys =
+      least_line_of-append (line_asked (map value xs ++ map question ys)) (map value xs) (map question ys)
+      ∙ (ap (λ o. least_line o (least_line_of (line_asked (map value xs ++ map question ys)) (map question ys))) (no_lines (map value xs ++ map question ys) xs)
+      ∙ lines (map value xs ++ map question ys) (λ y. line_when (list_any (answers y) xs) (line y)) (one xs ys) ys)
+
+-- ---- what one pass over events in order keeps
 
 abbrev pub Alike : List ℕ → List ℕ → Type 0
 Alike vs ws = (test : ℕ → Bool) → list_any test vs ≡ list_any test ws
@@ -64,22 +108,16 @@ below-push : (n : ℕ) (es : List Event) (e : Event) → Below n es → rank e �
 below-push n [] e b h = (h, tt)
 below-push n (f ∷ es) e b h = (b.0, below-push n es e b.1 h)
 
-values_of : List Event → List ℕ
+abbrev values_of : List Event → List ℕ
 values_of [] = []
 values_of (Value k v ∷ es) = v ∷ values_of es
 values_of (Question k low high line ∷ es) = values_of es
 
 not_below : (k key n : ℕ) → 2 * key ≤ n → n ≤ 2 * k + 1 → nat_lt k key ≡ false
-not_below k key n h a = by (omega (arith, h, a))
-  where
-    by : key ≤ k → nat_lt k key ≡ false
-    by l = grind (arith, nat_tests, l)
+not_below k key n h a = let l : key ≤ k = omega (arith, h, a) in grind (arith, nat_tests, l)
 
 is_below : (k key : ℕ) → 2 * k + 1 ≤ 2 * key → nat_lt k key ≡ true
-is_below k key h = by (omega (arith, h))
-  where
-    by : k < key → nat_lt k key ≡ true
-    by l = grind (arith, nat_tests, l)
+is_below k key h = let l : k < key = omega (arith, h) in grind (arith, nat_tests, l)
 
 -- no value after a question comes before it
 none_after : (key low high n : ℕ) (es : List Event) → 2 * key ≤ n → Ascending n es → list_any (comes_before key low high) es ≡ false
@@ -91,7 +129,6 @@ none_after key low high n (Question k l m line ∷ es) h a = none_after key low 
 
 -- each value before it does
 all_before : (key low high : ℕ) (es : List Event) → Below (2 * key) es → list_any (comes_before key low high) es ≡ list_any (is_within low high) (values_of es)
-unfolding values_of
 all_before key low high [] b = refl
 all_before key low high (Value k v ∷ es) b =
     ap (λ t. (t && is_within low high v) || list_any (comes_before key low high) es) (is_below k key b.0)
@@ -99,20 +136,11 @@ all_before key low high (Value k v ∷ es) b =
 all_before key low high (Question k l m line ∷ es) b = all_before key low high es b.1
 
 values_of-push : (es : List Event) (e : Event) → Alike (values_of (es ++ e ∷ [])) (with_event e (values_of es))
-unfolding values_of
 values_of-push [] (Value k v) test = refl
 values_of-push [] (Question k low high line) test = refl
-values_of-push (Value j u ∷ es) (Value k v) test = ap (λ b. test u || b) (values_of-push es (Value k v) test) ∙ turn (test u) (test v) (list_any test (values_of es))
-  where
-    turn : (a b c : Bool) → (a || (b || c)) ≡ (b || (a || c))
-    turn true true c = refl
-    turn true false c = refl
-    turn false b c = refl
+values_of-push (Value j u ∷ es) (Value k v) test = ap (λ b. test u || b) (values_of-push es (Value k v) test) ∙ or-turned (test u) (test v) (list_any test (values_of es))
 values_of-push (Value j u ∷ es) (Question k low high line) test = ap (λ b. test u || b) (values_of-push es (Question k low high line) test)
-values_of-push (Question j l m n ∷ es) e test = values_of-push es e test ∙ same e
-  where
-    same : (f : Event) → list_any test (with_event f (values_of es)) ≡ list_any test (with_event f (values_of es))
-    same f = refl
+values_of-push (Question j l m n ∷ es) e test = values_of-push es e test
 
 line_here : (before : List Event) (e : Event) (es : List Event) → Below (rank e) before → Ascending (rank e) es
     → line_met (values_of before) e ≡ line_asked (before ++ e ∷ es) e
@@ -133,13 +161,6 @@ swept-asked n before (e ∷ es) b a =
     ∙ (swept-asked (rank e) (before ++ e ∷ []) es (below-push (rank e) before e (below-later n (rank e) before a.0 b) (omega arith)) a.1
     ∙ ap (λ all. least_line_of (line_asked all) es) (append_assoc before (e ∷ []) es)))
 
-none_before : values_of [] ≡ []
-unfolding values_of
-none_before = refl
-
-pub swept-met : (es : List Event) → IsNonDecreasingBy rank es → least_swept [] es ≡ least_met es
-swept-met es h = ap (λ vs. least_swept vs es) (sym none_before) ∙ swept-asked 0 [] es tt (ascending es h)
-
 -- ---- events in another order
 
 line_asked-permutation : (xs ys : List Event) → IsPermutation xs ys → (e : Event) → line_asked ys e ≡ line_asked xs e
@@ -151,4 +172,4 @@ least_met-permutation xs ys p =
     least_line_of-same (line_asked ys) (line_asked xs) (line_asked-permutation xs ys p) ys ∙ least_line_of-permutation (line_asked xs) xs ys p
 
 pub sorted-met : (xs ys : List Event) → IsPermutation xs ys → IsNonDecreasingBy rank ys → least_swept [] ys ≡ least_met xs
-sorted-met xs ys p h = swept-met ys h ∙ least_met-permutation xs ys p
+sorted-met xs ys p h = swept-asked 0 [] ys tt (ascending ys h) ∙ least_met-permutation xs ys p

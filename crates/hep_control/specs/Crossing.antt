@@ -1,14 +1,11 @@
 -- What isn't nested, by events and by variables (X3.9-1978, 11.10.1).
 use Rattle.std.specs.Prelude.{ℕ, suc, Bool, false, nat_le, max, if◌then◌else◌, List, [], ◌∷◌, map, Option, Some, None}
 use Rattle.std.specs.Option.{unwrap_or}
-use Rattle.hep_source.specs.declared.name.Name.{Name}
-use Rattle.hep_source.specs.declared.statement.Statement.{Statement}
-use Rattle.hep_source.specs.Names.{same_name}
-use Rattle.hep_source.specs.Units.{line_at}
+use Rattle.hep_machine.specs.Words.{Name, Statement, same_name, line_at}
 use Rattle.hep_check.specs.Nesting as nesting
-use Rattle.hep_check.specs.Reported.{least_line, line_when}
+use Rattle.hep_check.specs.Words.{least_line, line_when}
 use Rattle.hep_control.specs.declared.blocks.BlockIf.{BlockIf}
-use Rattle.hep_control.specs.declared.do_range.DoRange.{DoRange}
+use Rattle.hep_control.specs.declared.region.DoRange.{DoRange}
 use Rattle.hep_control.specs.declared.sweep.Event.{Event}
 use Rattle.hep_control.specs.declared.sweep.Event.TheVariants.{Value, Question}
 

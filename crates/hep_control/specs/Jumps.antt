@@ -2,13 +2,9 @@
 use Rattle.std.specs.Prelude.{ℕ, suc, ◌-◌, List, [], ◌∷◌, Option, Some, None}
 use Rattle.std.specs.List.{flat_map}
 use Rattle.std.below.core.specs.declared.int.usize.TheConstants.{MAX}
-use Rattle.hep_source.specs.declared.statement.Statement.{Statement}
-use Rattle.hep_source.specs.Units.{statement_at}
-use Rattle.hep_machine.specs.Control.{role_of, index_labelled}
+use Rattle.hep_machine.specs.Words.{Statement, statement_at, role_of, index_labelled}
 use Rattle.hep_check.specs.Nesting as nesting
-use Rattle.hep_check.specs.Nesting.{DoRange, IndexedStatement, indexed_statements, is_division}
-use Rattle.hep_check.specs.Statements.{targets_of_jump}
-use Rattle.hep_check.specs.Reported.{line_when}
+use Rattle.hep_check.specs.Words.{DoRange, IndexedStatement, indexed_statements, is_division, targets_of_jump, line_when}
 use Rattle.hep_control.specs.declared.blocks.BlockIf.{BlockIf}
 use Rattle.hep_control.specs.declared.region.Region.{Region}
 use Rattle.hep_control.specs.declared.region.Jump.{Jump}

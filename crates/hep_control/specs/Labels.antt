@@ -1,11 +1,8 @@
 -- One pass over the labels of a unit (X3.9-1978, 3.4).
 use Rattle.std.specs.Prelude.{ℕ, Bool, false, ◌||◌, nat_eq, if◌then◌else◌, List, [], ◌∷◌, ◌++◌, Option, Some, None, is_none}
 use Rattle.std.specs.List.{list_any}
-use Rattle.hep_source.specs.declared.statement.Statement.{Statement}
-use Rattle.hep_source.specs.Units.{is_executable}
-use Rattle.hep_machine.specs.Control.{index_labelled}
-use Rattle.hep_check.specs.Statements.{targets_of_jump, terminal_labels}
-use Rattle.hep_check.specs.Reported.{least_line, line_when, least_line_where}
+use Rattle.hep_machine.specs.Words.{Statement, is_executable, index_labelled}
+use Rattle.hep_check.specs.Words.{targets_of_jump, terminal_labels, least_line, line_when, least_line_where}
 
 -- the label of a statement that one may go to
 abbrev pub executable_label : Statement → Option ℕ

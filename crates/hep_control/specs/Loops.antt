@@ -1,8 +1,7 @@
 -- The DOs that end at a statement, the innermost one alone (X3.9-1978, 11.10).
 use Rattle.std.specs.Prelude.{ℕ, nat_lt, if◌then◌else◌, List, [], Option, Some, None, slice_get, slice_set, take}
 use Rattle.std.specs.Option.{option_map, unwrap_or}
-use Rattle.hep_source.specs.declared.statement.Statement.{Statement}
-use Rattle.hep_machine.specs.Control.{loops_among, loops_ending_at, loops_around, terminal_of, terminal_by_form, index_of_label}
+use Rattle.hep_machine.specs.Words.{Statement, loops_among, loops_ending_at, loops_around, terminal_of, terminal_by_form, index_of_label}
 
 -- the innermost DO that ends at index k
 abbrev pub innermost_loop : List Statement → ℕ → Option ℕ

@@ -1,13 +1,8 @@
 -- 307 by lines (X3.9-1978, 11.5 to 11.10).
 use Rattle.std.specs.Prelude.{ℕ, Bool, true, not, nat_lt, if◌then◌else◌, List, map, Option, Some, None}
-use Rattle.hep_source.specs.declared.statement.Form.{Form}
+use Rattle.hep_machine.specs.Words.{Form, Statement, line_at, statement_at, index_labelled}
 use Rattle.hep_source.specs.declared.statement.Form.TheVariants as form
-use Rattle.hep_source.specs.declared.statement.Statement.{Statement}
-use Rattle.hep_source.specs.Units.{line_at, statement_at}
-use Rattle.hep_machine.specs.Control.{index_labelled}
-use Rattle.hep_check.specs.Nesting.{IndexedStatement, is_unconditional, is_wrong_terminal, holds_wrongly}
-use Rattle.hep_check.specs.Types.{is_plain_integer_scalar}
-use Rattle.hep_check.specs.Reported.{least_line, line_when, least_line_of}
+use Rattle.hep_check.specs.Words.{IndexedStatement, is_unconditional, is_wrong_terminal, holds_wrongly, is_plain_integer_scalar, least_line, line_when, least_line_of}
 use Rattle.hep_control.specs.declared.blocks.BlockIf.{BlockIf}
 
 -- for each statement whether its DO variable, where it has one, is a plain integer scalar

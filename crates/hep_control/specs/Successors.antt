@@ -1,10 +1,8 @@
 -- Where one goes from each statement, by one pass over a unit from its end (X3.9-1978, 11.6 to 11.9).
 use Rattle.std.specs.Prelude.{ℕ, suc, if◌then◌else◌, List, [], ◌∷◌, slice_get}
 use Rattle.std.specs.Option.{unwrap_or}
-use Rattle.hep_source.specs.declared.statement.Statement.{Statement}
-use Rattle.hep_source.specs.Units.{is_executable}
+use Rattle.hep_machine.specs.Words.{Statement, is_executable, Role, opens, alternative, otherwise, closes, other, role_of, end_if_after, alternative_of}
 use Rattle.hep_machine.specs.Control as control
-use Rattle.hep_machine.specs.Control.{Role, opens, alternative, otherwise, closes, other, role_of, end_if_after, alternative_of}
 use Rattle.hep_control.specs.declared.successors.Successors as code
 
 -- the statement that is executed next; where the condition of an IF THEN or ELSE IF is false; the END IF of the block IF

@@ -125,10 +125,7 @@ impl<'a> Control<'a> {
         requires { index ≤ length self.now }
         ensures { result ≡ slice_get (control.loops_ending_at self.now index) 0 }
     {
-        match self.loops.innermost.get(index) {
-            Some(innermost) => *innermost,
-            None => None,
-        }
+        self.loops.innermost.get(index).copied().flatten()
     }
 
     /// The innermost DO that is around the DO at an index and ends at the same statement.
@@ -137,10 +134,7 @@ impl<'a> Control<'a> {
         ensures { result ≡ slice_get (control.loops_around index
             (control.loops_ending_at self.now (control.terminal_of self.now index))) 0 }
     {
-        match self.loops.outer.get(index) {
-            Some(outer) => *outer,
-            None => None,
-        }
+        self.loops.outer.get(index).copied().flatten()
     }
 
     fn successors_at(&self, index: usize) -> Successors

@@ -6,9 +6,7 @@ ghost use Rattle.indexmap.specs.IndexMap.{get};
 ghost use Rattle.indexmap.specs.IndexSet.{contains};
 ghost use Rattle.hep_machine.specs.Control as control;
 ghost use Rattle.hep_source.specs.Units as units;
-ghost use Rattle.hep_check.specs.Labels.{label_violations};
-ghost use Rattle.hep_check.specs.Statements.{targets_of_jump, terminal_labels};
-ghost use Rattle.hep_check.specs.Violations.{first_of};
+ghost use Rattle.hep_check.specs.Words.{label_violations, targets_of_jump, terminal_labels, first_of};
 ghost use Rattle.hep_control.specs.Labels as passes;
 
 use hep_check::Violation;

@@ -5,7 +5,6 @@
 pub(crate) mod blocks;
 pub mod control;
 pub(crate) mod crossing;
-pub(crate) mod do_range;
 pub mod jumps;
 pub mod labels;
 pub(crate) mod loops;

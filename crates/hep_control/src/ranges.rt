@@ -5,8 +5,8 @@ ghost use Rattle.hep_check.specs.Nesting as nesting;
 ghost use Rattle.hep_control.specs.Ranges as spec;
 ghost use Rattle.hep_control.specs.Ranges.{do_range};
 
-use crate::do_range::DoRange;
 use crate::labels::Labels;
+use crate::region::DoRange;
 use hep_source::{Form, Statement};
 use std::alloc::{AllocError, Global};
 

@@ -6,10 +6,9 @@ ghost use Rattle.hep_control.specs.Jumps as spec;
 ghost use Rattle.hep_control.specs.Ranges.{do_range};
 
 use crate::blocks::{BlockIf, block_ifs_of};
-use crate::do_range::DoRange;
 use crate::labels::Labels;
 use crate::ranges::ranges_of;
-use crate::region::Region;
+use crate::region::{DoRange, Region};
 use std::alloc::{AllocError, Global};
 
 // The ranges and blocks of a unit, in whatever order.

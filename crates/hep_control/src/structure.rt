@@ -3,7 +3,7 @@ ghost use Rattle.std.specs.Prelude.{◌≡◌, IfOk, true, slice_get};
 ghost use Rattle.std.specs.Option.{unwrap_or};
 ghost use Rattle.hep_check.specs.Nesting as nesting;
 ghost use Rattle.hep_check.specs.Reported as lines;
-ghost use Rattle.hep_check.specs.Violations.{first_of};
+ghost use Rattle.hep_check.specs.Words.{first_of};
 ghost use Rattle.hep_control.specs.Structure as spec;
 
 use crate::blocks::{BlockIf, BlockIfs, block_ifs_of};

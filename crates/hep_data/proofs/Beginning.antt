@@ -1,27 +1,10 @@
 -- What is stored at the opening is what the rows of DATA have, and these give values to storage units alone.
-use Rattle.std.proofs.Common.{◌≡◌, ℕ, ◌+◌, ◌-◌, ◌≤◌, Bool, true, false, List, [], ◌∷◌, ◌++◌, Option, Some, None, refl, sym, ap, ◌∙◌, subst}
-use Rattle.std.specs.Prelude.{if◌then◌else◌, map, option_and_then, option_to_list}
+use Rattle.std.proofs.Common.{◌≡◌, ℕ, ◌+◌, ◌-◌, ◌≤◌, Bool, true, false, List, [], ◌∷◌, ◌++◌, Option, Some, None, refl, sym, ap, ◌∙◌, subst, if◌then◌else◌, map, option_and_then, option_to_list}
 use Rattle.std.specs.Option.{option_map, option_or}
 use Rattle.std.proofs.lemmas.Option.{none-some}
-use Rattle.hep_source.specs.declared.declaration.DataGroup.{DataGroup}
-use Rattle.hep_source.specs.declared.declaration.Target.{Target}
-use Rattle.hep_source.specs.declared.name.Name.{Name}
-use Rattle.hep_source.specs.declared.statement.Statement.{Statement}
-use Rattle.hep_source.specs.declared.value.Value.{Value}
-use Rattle.hep_source.specs.Names.{is_among}
-use Rattle.hep_source.specs.Units.{Units, main_unit, unit_at}
-use Rattle.hep_machine.specs.Access.{unset_cell}
-use Rattle.hep_machine.specs.Constants.{cells_of, constant_value}
-use Rattle.hep_machine.specs.Data.{Stretch, data_groups, elements_named, item_at}
-use Rattle.hep_machine.specs.Layout.{common_cells}
-use Rattle.hep_machine.specs.Locations.{storage_of}
-use Rattle.hep_machine.specs.Opening.{StorageUnits, cell_given, index_of_location, index_within, opening, storage_units_named, storage_units_of, with_group, with_groups}
-use Rattle.hep_machine.specs.State.{Cell, Location, Store}
-use Rattle.hep_machine.specs.Storage.{distance, further}
-use Rattle.hep_machine.specs.Variables.{locals_of}
+use Rattle.hep_machine.specs.Words.{DataGroup, Target, Name, Statement, Value, is_among, Units, main_unit, unit_at, unset_cell, cells_of, constant_value, Stretch, data_groups, elements_named, item_at, common_cells, storage_of, StorageUnits, cell_given, index_of_location, index_within, opening, storage_units_named, storage_units_of, with_group, with_groups, Cell, Location, Store, distance, further, locals_of}
 use Rattle.hep_code.specs.declared.variable.Variable.{Variable}
-use Rattle.hep_frames.specs.Addresses.{address}
-use Rattle.hep_frames.specs.Rows.{first_of_part, variable}
+use Rattle.hep_frames.specs.Words.{address, first_of_part, variable}
 use Rattle.hep_accepted.proofs.Members.{Has, has_more}
 use Rattle.hep_image.specs.declared.array.Array.{Array}
 use Rattle.hep_image.specs.declared.data.DataRow.{DataRow}

@@ -1,31 +1,15 @@
 -- What names in DATA of an accepted program stand for, as the tables tell it.
-use Rattle.std.proofs.Common.{◌≡◌, ℕ, ◌+◌, ◌-◌, ◌≤◌, Bool, true, false, List, [], Option, Some, None, refl, sym, ap, ◌∙◌, subst, true≢false, arith}
-use Rattle.std.specs.Prelude.{◌&&◌, not, if◌then◌else◌, length, nat_eq, nat_le, nat_lt, slice_get}
+use Rattle.std.proofs.Common.{◌≡◌, ℕ, ◌+◌, ◌-◌, ◌≤◌, Bool, true, false, List, [], Option, Some, None, refl, sym, ap, ◌∙◌, subst, true≢false, arith, ◌&&◌, not, if◌then◌else◌, length, nat_eq, nat_le, nat_lt, slice_get}
 use Rattle.std.specs.Option.{option_map, unwrap_or}
 use Rattle.std.proofs.lemmas.Bool.{and_parts, not-true}
 use Rattle.std.proofs.lemmas.Bool.Decides.{nat_tests}
 use Rattle.std.proofs.lemmas.Option.{none-some}
-use Rattle.hep_source.specs.Tree.{trees_of}
-use Rattle.hep_source.specs.declared.declaration.DataGroup.{DataGroup}
-use Rattle.hep_source.specs.declared.declaration.Target.{Target}
-use Rattle.hep_source.specs.declared.name.Name.{Name}
-use Rattle.hep_source.specs.declared.statement.Statement.{Statement}
-use Rattle.hep_source.specs.declared.value.Value.{Value}
-use Rattle.hep_source.specs.Names.{index_among, is_among}
-use Rattle.hep_source.specs.Units.{Units, main_unit, unit_at}
-use Rattle.hep_machine.specs.Arithmetic.{integers_of}
-use Rattle.hep_machine.specs.Constants.{cells_of, cells_of_shape, constant_shape, constant_value, shape_by, values_of}
-use Rattle.hep_machine.specs.Data.{Stretch, all_elements, data_groups, element_with, elements_named, groups_in}
-use Rattle.hep_machine.specs.Declarations.{common_block, is_array, is_common, is_constant_name, is_dummy, is_nonempty}
-use Rattle.hep_machine.specs.Defaults.{no_shape}
-use Rattle.hep_machine.specs.Layout.{common_cells}
+use Rattle.hep_machine.specs.Words.{trees_of, DataGroup, Target, Name, Statement, Value, index_among, is_among, Units, main_unit, unit_at, integers_of, cells_of, cells_of_shape, constant_shape, constant_value, shape_by, values_of, Stretch, all_elements, data_groups, element_with, elements_named, groups_in, common_block, is_array, is_common, is_constant_name, is_dummy, is_nonempty, no_shape, common_cells, Bounds, are_dimensions, counted_element, element_number, elements, is_most, is_shape, most_elements, frame_cells, is_local, locals_of, names_of}
 use Rattle.hep_machine.proofs.ConstantShapes.{constant-shape}
-use Rattle.hep_machine.specs.Shapes.{Bounds, are_dimensions, counted_element, element_number, elements, is_most, is_shape, most_elements}
-use Rattle.hep_machine.specs.Variables.{frame_cells, is_local, locals_of, names_of}
-use Rattle.hep_check.specs.Conditions.{IsAccepted}
+use Rattle.hep_check.specs.Words.{IsAccepted}
 use Rattle.hep_code.specs.declared.variable.Variable.{Variable}
 use Rattle.hep_code.specs.declared.variable.Variable.TheVariants as variables
-use Rattle.hep_frames.specs.Rows.{bounds, first_of_part, frame_row, same_part, size_in, variable}
+use Rattle.hep_frames.specs.Words.{bounds, first_of_part, frame_row, same_part, size_in, variable}
 use Rattle.hep_frames.proofs.FrameRows.{frame_row-cells, variable-first, first-size}
 use Rattle.hep_frames.proofs.Runs.{local-index}
 use Rattle.hep_values.proofs.Elements.{number-within}
@@ -44,7 +28,7 @@ use Rattle.hep_data.specs.Frame.{IsMainFrame}
 use Rattle.hep_data.specs.Given.{cell_of_element, cells_by_array, cells_by_start, cells_by_variable, cells_from, cells_named, cells_of_all_elements, cells_of_array, number_by, value_by_groups}
 use Rattle.hep_data.proofs.Beginning.{IsFound, initial, of_units}
 use Rattle.hep_data.proofs.Owning.{at_index, local_among, named}
-use Rattle.hep_frames.proofs.Storages.{no-block}
+use Rattle.hep_source.proofs.Tests.{none-from-not}
 
 -- ---- cells of a frame
 
@@ -97,7 +81,7 @@ module _ (agrees : ConstantsAgree) (are_local : AreLocal) (are_there : AreThere)
     begins = λ i. start_by program unit x (local-index unit x own i) (block i) (own i) where
       block : common_block unit x ≡ None
       block =
-          no-block (common_block unit x) (not-true (is_common unit x) (and_parts (not (is_common unit x)) (not (is_constant_name unit x)) (and_parts (not (is_dummy unit x)) (not (is_common unit x) && not (is_constant_name unit x)) local).1).0)
+          none-from-not (common_block unit x) (not-true (is_common unit x) (and_parts (not (is_common unit x)) (not (is_constant_name unit x)) (and_parts (not (is_dummy unit x)) (not (is_common unit x) && not (is_constant_name unit x)) local).1).0)
 
     of_variable : cells_named unit table arrays common t ≡ cells_by_variable unit arrays common (variable_by unit x (Some (Local cell))) t
     unfolding variable_of

@@ -1,10 +1,7 @@
 -- Groups of DATA, of which the last one holds.
 use Rattle.std.proofs.Common.{◌≡◌, ℕ, List, [], ◌∷◌, ◌++◌, Option, sym, ap, ◌∙◌}
 use Rattle.std.specs.Option.{option_or}
-use Rattle.hep_source.specs.declared.declaration.DataGroup.{DataGroup}
-use Rattle.hep_source.specs.declared.name.Name.{Name}
-use Rattle.hep_source.specs.declared.statement.Statement.{Statement}
-use Rattle.hep_source.specs.declared.value.Value.{Value}
+use Rattle.hep_machine.specs.Words.{DataGroup, Name, Statement, Value}
 use Rattle.hep_code.specs.declared.variable.Variable.{Variable}
 use Rattle.hep_image.specs.declared.array.Array.{Array}
 use Rattle.hep_data.specs.Given.{value_by_group, value_by_groups}

@@ -1,26 +1,13 @@
 -- The storage units of local variables of a main program, and the cells in which they are kept at the opening.
-use Rattle.std.proofs.Common.{◌≡◌, ℕ, ◌+◌, ◌-◌, ◌<◌, ◌≤◌, Bool, true, false, [], ◌∷◌, Option, Some, None, refl, sym, ap, ◌∙◌, subst, true≢false, arith}
-use Rattle.std.specs.Prelude.{◌&&◌, nat_eq, nat_le, nat_lt, if◌then◌else◌}
+use Rattle.std.proofs.Common.{◌≡◌, ℕ, ◌+◌, ◌-◌, ◌<◌, ◌≤◌, Bool, true, false, [], ◌∷◌, Option, Some, None, refl, sym, ap, ◌∙◌, subst, true≢false, arith, ◌&&◌, nat_eq, nat_le, nat_lt, if◌then◌else◌}
 use Rattle.std.specs.Option.{option_map}
 use Rattle.std.proofs.lemmas.Bool.{and_parts, eqb-true}
 use Rattle.std.proofs.lemmas.Bool.Decides.{nat_tests}
 use Rattle.std.proofs.lemmas.Option.{none-some, same_Some}
 use Rattle.hep_source.proofs.NameTests.{equal_names, same_name-self}
-use Rattle.hep_source.specs.declared.name.Name.{Name}
-use Rattle.hep_source.specs.Names.{is_among, same_name}
-use Rattle.hep_source.specs.Units.{Units, main_unit, unit_at}
-use Rattle.hep_machine.specs.Constants.{cells_of}
-use Rattle.hep_machine.specs.Declarations.{same_block}
-use Rattle.hep_machine.specs.Layout.{common_cells, opening_layout}
-use Rattle.hep_machine.specs.Locations.{Scope, storage_by_dummy, storage_of}
-use Rattle.hep_machine.specs.Opening.{index_within, opening}
-use Rattle.hep_machine.specs.State.{Location, State, common, local}
-use Rattle.hep_machine.specs.Storage.{distance, further}
-use Rattle.hep_machine.specs.Variables.{frame_cells, locals_of}
+use Rattle.hep_machine.specs.Words.{Name, is_among, same_name, Units, main_unit, unit_at, cells_of, same_block, common_cells, opening_layout, Scope, storage_by_dummy, storage_of, index_within, opening, Location, State, common, local, distance, further, frame_cells, locals_of}
 use Rattle.hep_machine.proofs.Locations.{equal_blocks, block-self}
-use Rattle.hep_frames.specs.Addresses.{IsLaid, address}
-use Rattle.hep_frames.specs.Rows.{first_of_part, variable}
-use Rattle.hep_frames.specs.Runs.{RunsFrom}
+use Rattle.hep_frames.specs.Words.{IsLaid, address, first_of_part, variable, RunsFrom}
 use Rattle.hep_frames.proofs.Addresses.{one-location}
 use Rattle.hep_frames.proofs.HeldFrames.{opening-is, placed-opening}
 use Rattle.hep_frames.proofs.Runs.{local-index, further-further}

@@ -1,14 +1,7 @@
 -- The cells of what a name in DATA stands for, as tables tell them.
-use Rattle.std.proofs.Common.{◌≡◌, ℕ, ℤ, true, List, Option, sym, ap, ◌∙◌}
-use Rattle.std.specs.Prelude.{if◌then◌else◌}
+use Rattle.std.proofs.Common.{◌≡◌, ℕ, ℤ, true, List, Option, sym, ap, ◌∙◌, if◌then◌else◌}
 use Rattle.std.specs.Option.{option_map}
-use Rattle.hep_source.specs.Tree.{trees_of}
-use Rattle.hep_source.specs.declared.declaration.Target.{Target}
-use Rattle.hep_source.specs.declared.statement.Statement.{Statement}
-use Rattle.hep_machine.specs.Arithmetic.{integers_of}
-use Rattle.hep_machine.specs.Constants.{Values, constant_value, values_of}
-use Rattle.hep_machine.specs.Declarations.{is_nonempty}
-use Rattle.hep_machine.specs.Shapes.{Bounds, elements}
+use Rattle.hep_machine.specs.Words.{trees_of, Target, Statement, integers_of, Values, constant_value, values_of, is_nonempty, Bounds, elements}
 use Rattle.hep_data.specs.Given.{cell_of_element, cells_of_all_elements, cells_of_array, number_by}
 
 pub by_subscripts : (unit : List Statement) (common cell : ℕ) (bounds : Bounds) (t : Target) (values : Values) (o : Option (List ℤ)) → is_nonempty t.subscripts ≡ true → values ≡ constant_value unit

@@ -1,21 +1,11 @@
 -- What DATA names is among the variables of its unit.
-use Rattle.std.proofs.Common.{◌≡◌, zero, Bool, true, false, List, [], ◌∷◌, Some, refl, sym, ap, ◌∙◌, subst}
-use Rattle.std.specs.Prelude.{if◌then◌else◌, slice_get}
+use Rattle.std.proofs.Common.{◌≡◌, zero, Bool, true, false, List, [], ◌∷◌, Some, refl, sym, ap, ◌∙◌, subst, if◌then◌else◌, slice_get}
 use Rattle.std.specs.List.{flat_map}
 use Rattle.std.specs.Option.{unwrap_or}
 use Rattle.std.proofs.lemmas.Option.{none-some}
-use Rattle.hep_source.specs.declared.declaration.DataGroup.{DataGroup}
-use Rattle.hep_source.specs.declared.declaration.Target.{Target}
-use Rattle.hep_source.specs.declared.name.Name.{Name}
-use Rattle.hep_source.specs.declared.statement.Form.{Form}
+use Rattle.hep_machine.specs.Words.{DataGroup, Target, Name, Form, Statement, index_among, is_among, groups_in, is_array, is_nonempty, array_occurrence, is_local, locals_of, names_of, occurrences_in, occurrences_in_data_value, occurrences_in_form, occurrences_in_group, occurrences_in_statement, occurrences_in_target}
 use Rattle.hep_source.specs.declared.statement.Form.TheVariants as form
-use Rattle.hep_source.specs.declared.statement.Statement.{Statement}
-use Rattle.hep_source.specs.Names.{index_among, is_among}
-use Rattle.hep_machine.specs.Data.{groups_in}
-use Rattle.hep_machine.specs.Declarations.{is_array, is_nonempty}
-use Rattle.hep_machine.specs.Variables.{array_occurrence, is_local, locals_of, names_of, occurrences_in, occurrences_in_data_value, occurrences_in_form, occurrences_in_group, occurrences_in_statement, occurrences_in_target}
-use Rattle.hep_accepted.proofs.Members.{Has, has_behind, has_filter, has_flat, has_front}
-use Rattle.hep_accepted.proofs.Named.{has_among, name_of_unit}
+use Rattle.hep_accepted.proofs.Members.{Has, has_behind, has_filter, has_flat, has_front, has_among, name_of_unit}
 use Rattle.hep_image.proofs.Members.{indexed}
 
 -- a name stands at its index

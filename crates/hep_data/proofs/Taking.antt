@@ -1,10 +1,8 @@
 -- Where the values of a group end.
-use Rattle.std.proofs.Common.{◌≡◌, ℕ, ◌-◌, ◌≤◌, Bool, true, false, List, [], ◌∷◌, Some, None, refl, sym, ap, ◌∙◌, arith}
-use Rattle.std.specs.Prelude.{nat_lt, if◌then◌else◌}
+use Rattle.std.proofs.Common.{◌≡◌, ℕ, ◌-◌, ◌≤◌, Bool, true, false, List, [], ◌∷◌, Some, None, refl, sym, ap, ◌∙◌, arith, nat_lt, if◌then◌else◌}
 use Rattle.std.proofs.lemmas.Bool.Decides.{nat_tests}
 use Rattle.std.proofs.lemmas.Option.{none-some}
-use Rattle.hep_source.specs.declared.value.Value.{Value}
-use Rattle.hep_machine.specs.Data.{Repeated, item_at}
+use Rattle.hep_machine.specs.Words.{Value, Repeated, item_at}
 
 -- past the end of a list there is nothing
 pub item_at-end : (vs : List (Repeated Value)) (i j : ℕ) → item_at vs i ≡ None → i ≤ j → item_at vs j ≡ None

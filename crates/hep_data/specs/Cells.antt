@@ -1,8 +1,7 @@
 -- Cells of the arena, one after the other, and the values that DATA gives them in a row: X3.9-1978, 9.2.
 use Rattle.std.specs.Prelude.{◌≡◌, ◌+◌, ◌-◌, ◌<◌, ◌≤◌, ℕ, Bool, ◌&&◌, nat_le, nat_lt, if◌then◌else◌, List, [], ◌∷◌, Option, Some, None, option_and_then}
 use Rattle.std.specs.Option.{option_map, option_or}
-use Rattle.hep_source.specs.declared.value.Value.{Value}
-use Rattle.hep_machine.specs.Data.{Repeated, item_at}
+use Rattle.hep_machine.specs.Words.{Value, Repeated, item_at}
 use Rattle.hep_image.specs.declared.data.DataRow.{DataRow}
 use Rattle.hep_image.specs.Data.{value_in_rows}
 use Rattle.hep_data.specs.declared.cells.Cells.{Cells}

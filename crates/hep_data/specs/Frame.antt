@@ -1,11 +1,7 @@
 -- The frame of a main program, as tables say where its variables are: docs/MACHINE.md, "Variables and frames".
 use Rattle.std.specs.Prelude.{◌≡◌, ◌≤◌, ℕ, List, map, Option}
 use Rattle.std.specs.Option.{unwrap_or}
-use Rattle.hep_source.specs.declared.name.Name.{Name}
-use Rattle.hep_source.specs.declared.statement.Statement.{Statement}
-use Rattle.hep_source.specs.Units.{Units, main_unit, unit_at}
-use Rattle.hep_machine.specs.Layout.{common_cells}
-use Rattle.hep_machine.specs.Variables.{frame_cells}
+use Rattle.hep_machine.specs.Words.{Name, Statement, Units, main_unit, unit_at, common_cells, frame_cells}
 use Rattle.hep_code.specs.declared.variable.Variable.{Variable}
 use Rattle.hep_code.specs.declared.variable.Variable.TheVariants.{Absent}
 use Rattle.hep_image.specs.declared.array.Array.{Array}

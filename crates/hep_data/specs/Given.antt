@@ -2,18 +2,7 @@
 use Rattle.std.specs.Prelude.{ℕ, ◌+◌, ◌-◌, nat_lt, if◌then◌else◌, ℤ, List, [], ◌∷◌, Option, Some, None, option_and_then, option_to_list, slice_get}
 use Rattle.std.specs.List.{flat_map}
 use Rattle.std.specs.Option.{option_map, option_or, unwrap_or}
-use Rattle.hep_source.specs.Tree.{trees_of}
-use Rattle.hep_source.specs.declared.declaration.DataGroup.{DataGroup}
-use Rattle.hep_source.specs.declared.declaration.DataValue.{DataValue}
-use Rattle.hep_source.specs.declared.declaration.Target.{Target}
-use Rattle.hep_source.specs.declared.name.Name.{Name}
-use Rattle.hep_source.specs.declared.statement.Statement.{Statement}
-use Rattle.hep_source.specs.declared.value.Value.{Value}
-use Rattle.hep_machine.specs.Arithmetic.{integers_of}
-use Rattle.hep_machine.specs.Constants.{Values, constant_value, values_of}
-use Rattle.hep_machine.specs.Data.{Repeated, values_given}
-use Rattle.hep_machine.specs.Declarations.{is_nonempty}
-use Rattle.hep_machine.specs.Shapes.{Bounds, counted_element, elements}
+use Rattle.hep_machine.specs.Words.{trees_of, DataGroup, DataValue, Target, Name, Statement, Value, integers_of, Values, constant_value, values_of, Repeated, values_given, is_nonempty, Bounds, counted_element, elements}
 use Rattle.hep_code.specs.declared.variable.Variable.{Variable}
 use Rattle.hep_code.specs.declared.variable.Variable.TheVariants as variables
 use Rattle.hep_image.specs.declared.array.Array.{Array}

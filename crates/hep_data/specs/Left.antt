@@ -1,9 +1,7 @@
 -- The values of a group that are left: X3.9-1978, 9.1.
 use Rattle.std.specs.Prelude.{◌≡◌, ℕ, List, ◌∷◌, None}
-use Rattle.hep_source.specs.declared.declaration.DataValue.{DataValue}
-use Rattle.hep_source.specs.declared.value.Value.{Value}
-use Rattle.hep_machine.specs.Constants.{Values as Meanings, value_among}
-use Rattle.hep_machine.specs.Data.{Repeated, item_at}
+use Rattle.hep_machine.specs.Words.{DataValue, Value, value_among, Repeated, item_at}
+use Rattle.hep_machine.specs.Constants.{Values as Meanings}
 use Rattle.hep_data.specs.declared.values.Values.{Values}
 use Rattle.hep_data.specs.Given.{all_values}
 

@@ -2,9 +2,7 @@
 ghost use Rattle.std.specs.Prelude.{◌≡◌, IfOk, slice_get};
 ghost use Rattle.std.specs.Option.{option_map, unwrap_or};
 ghost use Rattle.indexmap.specs.IndexMap.{get};
-ghost use Rattle.hep_source.specs.Names.{name_eq};
-ghost use Rattle.hep_machine.specs.Constants.{value_among, constant_value};
-ghost use Rattle.hep_machine.specs.Declarations.{is_nonempty};
+ghost use Rattle.hep_machine.specs.Words.{name_eq, value_among, constant_value, is_nonempty};
 ghost use Rattle.hep_data.specs.Given as given;
 
 use crate::main_frame::MainFrame;

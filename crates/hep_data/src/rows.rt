@@ -2,8 +2,7 @@
 ghost use Rattle.std.specs.Prelude.{◌≡◌, ◌+◌, ◌<◌, ◌≤◌, [], ◌∷◌, IfOk, IfSome, OnOk, ℕ, option_to_list};
 ghost use Rattle.std.specs.Option.{option_or};
 ghost use Rattle.indexmap.specs.IndexMap.{get};
-ghost use Rattle.hep_source.specs.Names.{name_eq};
-ghost use Rattle.hep_machine.specs.Constants.{value_among, constant_value};
+ghost use Rattle.hep_machine.specs.Words.{name_eq, value_among, constant_value};
 ghost use Rattle.hep_image.specs.Data.{value_in_rows};
 ghost use Rattle.hep_data.specs.Cells.{Gives, GivesSome};
 ghost use Rattle.hep_data.specs.Given as given;

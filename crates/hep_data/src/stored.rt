@@ -1,10 +1,8 @@
 //! What is stored before the first step (X3.9-1978, section 9).
 ghost use Rattle.std.specs.Prelude.{◌≡◌, ℕ, List, IfOk};
 ghost use Rattle.indexmap.specs.IndexMap.{get};
-ghost use Rattle.hep_source.specs.Names.{name_eq};
-ghost use Rattle.hep_source.specs.Units.{Units};
-ghost use Rattle.hep_machine.specs.Data.{data_groups};
-ghost use Rattle.hep_check.specs.Conditions.{IsAccepted};
+ghost use Rattle.hep_machine.specs.Words.{name_eq, Units, data_groups};
+ghost use Rattle.hep_check.specs.Words.{IsAccepted};
 ghost use Rattle.hep_image.specs.Data.{AreInitial, AreOfUnits, value_in_rows};
 ghost use Rattle.hep_data.specs.Frame.{IsMainFrame};
 ghost use Rattle.hep_data.specs.Given as given;

@@ -1,8 +1,7 @@
 //! The values of a group of DATA, from the first on (X3.9-1978, 9.1).
 ghost use Rattle.std.specs.Prelude.{◌≡◌, ◌≤◌, ◌<◌, ◌++◌, min, true, false, length, option_to_list};
 ghost use Rattle.std.specs.Option.{option_map};
-ghost use Rattle.hep_machine.specs.Constants.{value_among};
-ghost use Rattle.hep_machine.specs.Data.{values_given};
+ghost use Rattle.hep_machine.specs.Words.{value_among, values_given};
 ghost use Rattle.hep_data.specs.Cells.{Takes};
 ghost use Rattle.hep_data.specs.Given.{all_values};
 ghost use Rattle.hep_data.specs.Left.{AreNone, AreSame, left, left_by, repeated};

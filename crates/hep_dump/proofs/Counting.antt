@@ -2,10 +2,10 @@
 use Rattle.std.proofs.Common.{◌≡◌, ℕ, zero, suc, ◌+◌, ◌-◌, ◌<◌, ◌≤◌, List, [], ◌++◌, Option, Some, None, refl, sym, ap, ◌∙◌, arith}
 use Rattle.std.specs.Option.{option_or}
 use Rattle.hep_machine.specs.declared.event.Entry.{Entry}
-use Rattle.hep_source.specs.Units.{Units}
+use Rattle.hep_machine.specs.Words.{Units}
 use Rattle.hep_image.specs.Names.{names_in_order}
 use Rattle.hep_waiting.specs.declared.listed.Listed.{Listed}
-use Rattle.hep_scheduler.proofs.Following.{number-listed}
+use Rattle.hep_scheduler.proofs.Histories.{number-listed}
 use Rattle.hep_scheduler.specs.Value.{first_listed, listed_after}
 use Rattle.hep_dump.specs.Waiting as words
 

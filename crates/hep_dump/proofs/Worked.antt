@@ -1,6 +1,5 @@
 -- Worked lines of faults and of processes that wait.
-use Rattle.std.proofs.Common.{◌≡◌, ℕ, Bool, true, false, List, [], ◌∷◌, refl}
-use Rattle.std.specs.Prelude.{codes}
+use Rattle.std.proofs.Common.{◌≡◌, ℕ, Bool, true, false, List, [], ◌∷◌, refl, codes}
 use Rattle.std.specs.Fmt.{digits}
 use Rattle.hep_machine.specs.declared.event.Kind.TheVariants.{Undefined, Divide}
 use Rattle.hep_waiting.specs.declared.listed.Listed.{Listed}

@@ -1,10 +1,7 @@
 -- What FULL, EMPTY, VALUE, SETE or WAITF is asked of.
 use Rattle.std.proofs.Common.{◌≡◌, ◌∙◌, ℕ, ◌≤◌, ap, refl, arith}
-use Rattle.hep_source.specs.Tree.{Trees, constant, occurrence, with_list, parenthesized, signed, negated, binary, no_trees, trees, nodes_of_all}
-use Rattle.hep_source.specs.declared.name.Name.{Name}
-use Rattle.hep_machine.specs.Functions.{Meaning, element, pure, state, unknown}
-use Rattle.hep_code.specs.ExpressionCode.{count, asked, asked_listed, asked_code, asked_listed_code, trees_code}
-use Rattle.hep_code.specs.Tables.{NameTable}
+use Rattle.hep_machine.specs.Words.{Trees, constant, occurrence, with_list, parenthesized, signed, negated, binary, no_trees, trees, nodes_of_all, Name, Meaning, element, pure, state, unknown}
+use Rattle.hep_code.specs.Words.{count, asked, asked_listed, asked_code, asked_listed_code, trees_code, NameTable}
 use Rattle.hep_emit.specs.Asked.{subscripts_asked, subscripts_asked_listed}
 
 module _ (names : NameTable) (line : ℕ) where

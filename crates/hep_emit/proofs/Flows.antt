@@ -1,17 +1,10 @@
 -- Where one goes on from a statement.
-use Rattle.std.proofs.Common.{◌≡◌, ℕ, suc, ◌+◌, ◌≤◌, Bool, true, false, List, [], ◌∷◌, length, Option, Some, None, refl, ap, ◌∙◌, arith, if◌then◌else◌}
-use Rattle.std.specs.Prelude.{slice_get}
+use Rattle.std.proofs.Common.{◌≡◌, ℕ, suc, ◌+◌, ◌≤◌, Bool, true, false, List, [], ◌∷◌, length, Option, Some, None, refl, ap, ◌∙◌, arith, if◌then◌else◌, slice_get}
 use Rattle.std.specs.Option.{unwrap_or, option_map}
 use Rattle.std.proofs.lemmas.List.{drop_all}
 use Rattle.std.proofs.lemmas.Option.{slice_get_past}
-use Rattle.hep_source.specs.declared.name.Name.{Name}
-use Rattle.hep_source.specs.declared.statement.Statement.{Statement}
-use Rattle.hep_source.specs.Names.{index_where}
-use Rattle.hep_source.specs.Units.{Units, passed_over, executable_from, statement_at, is_named, subroutine_name}
-use Rattle.hep_machine.specs.Control.{following, terminal_of, terminal_by_form, index_of_label, is_labelled}
-use Rattle.hep_machine.specs.Defaults.{no_index}
-use Rattle.hep_machine.specs.Step.{unit_called}
-use Rattle.hep_code.specs.Targets.{at, end_of, behind}
+use Rattle.hep_machine.specs.Words.{Name, Statement, index_where, Units, passed_over, executable_from, statement_at, is_named, subroutine_name, following, terminal_of, terminal_by_form, index_of_label, is_labelled, no_index, unit_called}
+use Rattle.hep_code.specs.Words.{at, end_of, behind}
 
 -- ---- by the innermost DO that ends there
 

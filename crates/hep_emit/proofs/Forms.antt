@@ -1,18 +1,10 @@
 -- Lists of a statement are no longer than its code.
 use Rattle.std.proofs.Common.{◌≡◌, ℕ, ◌+◌, ◌≤◌, List, [], ◌∷◌, length, arith, length-append, Option, Some, None}
 use Rattle.std.proofs.lemmas.List.{length-map}
-use Rattle.hep_source.specs.Tree.{Tree, Trees, constant, occurrence, with_list, parenthesized, signed, negated, binary, trees_of}
-use Rattle.hep_source.specs.declared.declaration.Target.{Target}
-use Rattle.hep_source.specs.declared.name.Name.{Name}
-use Rattle.hep_source.specs.declared.name.Occurrence.{Occurrence}
-use Rattle.hep_source.specs.declared.statement.Form.{Form}
+use Rattle.hep_machine.specs.Words.{Tree, Trees, constant, occurrence, with_list, parenthesized, signed, negated, binary, trees_of, Target, Name, Occurrence, Form, Value, Meaning, element, pure, state, unknown}
 use Rattle.hep_source.specs.declared.statement.Form.TheVariants as form
-use Rattle.hep_source.specs.declared.value.Value.{Value}
-use Rattle.hep_machine.specs.Functions.{Meaning, element, pure, state, unknown}
 use Rattle.hep_code.specs.declared.instruction.Instruction.TheVariants.{To, Pass, Show}
-use Rattle.hep_code.specs.ExpressionCode.{count, tree_code, trees_code, actual_code, actual_name_code, actual_listed_code, actuals_code, argument_of, argument_of_name, argument_of_listed, target_code, targets_code, argument_of_target, printed_of}
-use Rattle.hep_code.specs.StatementCode.{operands_code, operation_code, form_code}
-use Rattle.hep_code.specs.Tables.{NameTable, Table}
+use Rattle.hep_code.specs.Words.{count, tree_code, trees_code, actual_code, actual_name_code, actual_listed_code, actuals_code, argument_of, argument_of_name, argument_of_listed, target_code, targets_code, argument_of_target, printed_of, operands_code, operation_code, form_code, NameTable, Table}
 use Rattle.hep_emit.specs.Limits.{subscripts_of, subscripts_of_all}
 use Rattle.hep_emit.specs.Operations.{list_length, list_subscripts}
 use Rattle.hep_emit.proofs.Lengths.{count_long, trees_long}

@@ -1,34 +1,19 @@
 -- Indexes that were found are those of the definitions.
-use Rattle.std.proofs.Common.{◌≡◌, ℕ, zero, suc, ◌+◌, ◌-◌, ◌≤◌, List, [], ◌∷◌, length, refl, ap, ◌∙◌, arith, length-append}
+use Rattle.std.proofs.Common.{◌≡◌, ℕ, zero, suc, ◌+◌, ◌-◌, ◌≤◌, List, [], ◌∷◌, length, refl, ap, ◌∙◌, arith, length-append, slice_get, le-leb}
 use Rattle.std.proofs.lemmas.List.{length-map}
 use Rattle.hep_emit.proofs.Flows.{called_at_most}
-use Rattle.std.specs.Prelude.{slice_get}
 use Rattle.std.specs.Option.{unwrap_or}
-use Rattle.hep_source.specs.declared.name.Name.{Name}
-use Rattle.hep_source.specs.declared.statement.Form.{Form}
+use Rattle.hep_machine.specs.Words.{Name, Form, Statement, no_statement, Tree, Units, line_at, value_among, constant_value, terminal_of, listed_meaning, unit_called}
 use Rattle.hep_source.specs.declared.statement.Form.TheVariants as form
-use Rattle.hep_source.specs.declared.statement.Statement.{Statement}
-use Rattle.hep_source.specs.Defaults.{no_statement}
-use Rattle.hep_source.specs.Tree.{Tree}
-use Rattle.hep_source.specs.Units.{Units, line_at}
-use Rattle.hep_machine.specs.Constants.{value_among, constant_value}
-use Rattle.hep_machine.specs.Control.{terminal_of}
-use Rattle.hep_machine.specs.Functions.{listed_meaning}
-use Rattle.hep_machine.specs.Step.{unit_called}
 use Rattle.hep_code.specs.declared.instruction.Instruction.TheVariants.{Step, To}
 use Rattle.hep_code.specs.declared.instruction.Operation.TheVariants.{Condition}
-use Rattle.hep_code.specs.ExpressionCode.{tree_code}
-use Rattle.hep_code.specs.StatementCode.{operands_code, operation_code, form_code, conditions_code, loop_end_code, statement_code, statements_code, instructions_before}
-use Rattle.hep_code.specs.Tables.{Table}
-use Rattle.hep_code.specs.Targets.{Target, at, end_of, onward, outward, inward, aside, labelled}
-use Rattle.hep_code.specs.UnitCode.{AddressedUnit, names_of, table_by, unplaced, index_of, code_of}
+use Rattle.hep_code.specs.Words.{tree_code, operands_code, operation_code, form_code, conditions_code, loop_end_code, statement_code, statements_code, instructions_before, Table, Target, at, end_of, onward, outward, inward, aside, labelled, AddressedUnit, names_of, table_by, unplaced, index_of, code_of}
 use Rattle.hep_emit.specs.declared.names.Names.{Names}
 use Rattle.hep_emit.specs.declared.tables.Starts.{Starts}
 use Rattle.hep_emit.specs.declared.tables.Tables.{Tables}
 use Rattle.hep_variables.specs.Places.{variable_in, cells_in}
 use Rattle.hep_emit.specs.Starts.{starts_from, end_from}
 use Rattle.hep_emit.specs.Tables.{names_in, greatest, number_called, start_in, index_in, table_in, addressed_in}
-use Rattle.std.proofs.lemmas.Bool.{le-leb}
 
 -- ---- where statements begin
 

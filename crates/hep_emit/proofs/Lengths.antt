@@ -1,12 +1,8 @@
 -- How long the code of lists is.
 use Rattle.std.proofs.Common.{◌≡◌, ℕ, suc, ◌≤◌, List, [], ◌∷◌, ◌++◌, length, refl, ap, arith, length-append, Option, Some, None}
-use Rattle.hep_source.specs.Tree.{Tree, Trees, constant, occurrence, with_list, parenthesized, signed, negated, binary, no_trees, trees, trees_of}
-use Rattle.hep_source.specs.declared.name.Name.{Name}
-use Rattle.hep_source.specs.declared.value.Value.{Value}
-use Rattle.hep_machine.specs.Functions.{Meaning, element, pure, state, unknown}
+use Rattle.hep_machine.specs.Words.{Tree, Trees, constant, occurrence, with_list, parenthesized, signed, negated, binary, no_trees, trees, trees_of, Name, Value, Meaning, element, pure, state, unknown}
 use Rattle.hep_code.specs.declared.instruction.Instruction.{Instruction}
-use Rattle.hep_code.specs.ExpressionCode.{count, name_code, listed_code, tree_code, trees_code, asked_code}
-use Rattle.hep_code.specs.Tables.{NameTable}
+use Rattle.hep_code.specs.Words.{count, name_code, listed_code, tree_code, trees_code, asked_code, NameTable}
 
 pub count_length : (ts : List Tree) → count (trees_of ts) ≡ length ts
 count_length [] = refl

@@ -1,13 +1,11 @@
 -- What leaves a function by a `?`.
-use Rattle.std.proofs.Common.{◌≡◌, ℕ, ◌<◌, ◌≤◌, List, ◌++◌, length, get_or, sym, ap, ◌∙◌, arith, length-append}
+use Rattle.std.proofs.Common.{◌≡◌, ℕ, ◌<◌, ◌≤◌, List, ◌++◌, length, get_or, sym, ap, ◌∙◌, arith, length-append, Result, Ok, Err, IfErr}
 use Rattle.std.proofs.lemmas.List.Folds.{length-flat_map-take}
 use Rattle.std.specs.List.{flat_map}
-use Rattle.std.specs.Prelude.{Result, Ok, Err, IfErr}
 use Rattle.std.specs.Result.{IsErr, IsErrAnd}
-use Rattle.hep_source.specs.Tree.{Tree, Trees, trees_of}
+use Rattle.hep_machine.specs.Words.{Tree, Trees, trees_of}
 use Rattle.hep_code.specs.declared.instruction.Instruction.{Instruction}
-use Rattle.hep_code.specs.ExpressionCode.{trees_code}
-use Rattle.hep_code.specs.Tables.{NameTable}
+use Rattle.hep_code.specs.Words.{trees_code, NameTable}
 use Rattle.hep_emit.specs.declared.fault.EmitFault.{EmitFault}
 use Rattle.hep_emit.specs.Limits.{IsTooLong, IsOverLimit}
 use Rattle.hep_emit.specs.Tables.{greatest}

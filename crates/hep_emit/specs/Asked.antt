@@ -1,7 +1,6 @@
 -- The subscripts of what FULL, EMPTY, VALUE, SETE or WAITF is asked of: docs/LANGUAGE.md, 8.
-use Rattle.hep_source.specs.Tree.{Trees, with_list, no_trees, trees}
-use Rattle.hep_machine.specs.Functions.{Meaning, element}
-use Rattle.hep_code.specs.Tables.{NameTable}
+use Rattle.hep_machine.specs.Words.{Trees, with_list, no_trees, trees, Meaning, element}
+use Rattle.hep_code.specs.Words.{NameTable}
 
 abbrev pub subscripts_asked_listed : Meaning → Trees → Trees
 subscripts_asked_listed element ts = ts

@@ -1,5 +1,5 @@
 -- Where one goes, as contracts see it.
-use Rattle.hep_code.specs.Targets.{Target, at, end_of}
+use Rattle.hep_code.specs.Words.{Target, at, end_of}
 use Rattle.hep_emit.specs.declared.flow.Destination.{Destination}
 use Rattle.hep_emit.specs.declared.flow.Destination.TheVariants as destinations
 

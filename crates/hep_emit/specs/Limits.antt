@@ -2,7 +2,7 @@
 use Rattle.std.specs.Prelude.{◌≡◌, ℕ, ◌+◌, ◌<◌, List, [], ◌∷◌}
 use Rattle.hep_code.specs.declared.instruction.Argument.{Argument}
 use Rattle.hep_code.specs.declared.instruction.Argument.TheVariants.{Evaluated, Referred}
-use Rattle.hep_code.specs.Limits.{most_instructions}
+use Rattle.hep_code.specs.Words.{most_instructions}
 use Rattle.hep_emit.specs.declared.fault.EmitFault.{EmitFault}
 use Rattle.hep_emit.specs.declared.fault.EmitFault.TheVariants.{TooLong}
 use Rattle.hep_emit.specs.Tables.{greatest}

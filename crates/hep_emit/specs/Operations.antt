@@ -1,11 +1,10 @@
 -- The lists that operations count, and what stands for them behind an operation.
 use Rattle.std.specs.Prelude.{ℕ, List, [], map, length}
-use Rattle.hep_source.specs.declared.statement.Form.{Form}
+use Rattle.hep_machine.specs.Words.{Form}
 use Rattle.hep_source.specs.declared.statement.Form.TheVariants as form
 use Rattle.hep_code.specs.declared.instruction.Instruction.{Instruction}
 use Rattle.hep_code.specs.declared.instruction.Instruction.TheVariants.{To, Pass, Show}
-use Rattle.hep_code.specs.ExpressionCode.{argument_of, argument_of_target, printed_of}
-use Rattle.hep_code.specs.Tables.{NameTable, Table}
+use Rattle.hep_code.specs.Words.{argument_of, argument_of_target, printed_of, NameTable, Table}
 use Rattle.hep_emit.specs.Limits.{subscripts_of_all}
 
 -- subscripts, labels, actual arguments, or what is purged or printed

@@ -1,8 +1,7 @@
 -- Where the code of each statement begins, in the order of the text.
 use Rattle.std.specs.Prelude.{ℕ, suc, ◌+◌, List, [], ◌∷◌, length}
-use Rattle.hep_source.specs.declared.statement.Statement.{Statement}
-use Rattle.hep_code.specs.StatementCode.{statement_code}
-use Rattle.hep_code.specs.Tables.{Table}
+use Rattle.hep_machine.specs.Words.{Statement}
+use Rattle.hep_code.specs.Words.{statement_code, Table}
 
 -- that of statements from index k on, of which the first has so many instructions before it
 abbrev pub starts_from : Table → ℕ → ℕ → List Statement → List ℕ

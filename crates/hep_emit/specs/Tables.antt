@@ -1,16 +1,8 @@
 -- The tables from which code is made, as the definitions of the code have them.
 use Rattle.std.specs.Prelude.{ℕ, suc, ◌-◌, nat_le, if◌then◌else◌, List, slice_get}
 use Rattle.std.specs.Option.{unwrap_or}
-use Rattle.hep_source.specs.declared.name.Name.{Name}
-use Rattle.hep_source.specs.declared.statement.Statement.{Statement}
-use Rattle.hep_source.specs.Units.{Units, line_at}
-use Rattle.hep_machine.specs.Constants.{value_among}
-use Rattle.hep_machine.specs.Control.{terminal_of}
-use Rattle.hep_machine.specs.Functions.{listed_meaning}
-use Rattle.hep_machine.specs.Step.{unit_called}
-use Rattle.hep_code.specs.Tables.{NameTable, Table}
-use Rattle.hep_code.specs.Targets.{Target, at, end_of, onward, outward, inward, aside, labelled}
-use Rattle.hep_code.specs.UnitCode.{AddressedUnit}
+use Rattle.hep_machine.specs.Words.{Name, Statement, Units, line_at, value_among, terminal_of, listed_meaning, unit_called}
+use Rattle.hep_code.specs.Words.{NameTable, Table, Target, at, end_of, onward, outward, inward, aside, labelled, AddressedUnit}
 use Rattle.hep_emit.specs.declared.names.Names.{Names}
 use Rattle.hep_variables.specs.declared.places.Places.{Places}
 use Rattle.hep_emit.specs.declared.tables.Starts.{Starts}

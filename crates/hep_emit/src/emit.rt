@@ -1,6 +1,6 @@
 //! Instructions behind those that are there.
 ghost use Rattle.std.specs.Prelude.{◌≡◌, ◌++◌, ◌∷◌, [], ◌<◌, IfOk, OnOk, IfErr};
-ghost use Rattle.hep_code.specs.ExpressionCode.{evaluating};
+ghost use Rattle.hep_code.specs.Words.{evaluating};
 ghost use Rattle.hep_emit.specs.Tables.{greatest};
 
 use crate::fault::EmitFault;

@@ -1,6 +1,6 @@
 //! The code of expressions: operands from left to right, and then what is done with them (X3.9-1978, 6.6).
 ghost use Rattle.std.specs.Prelude.{◌≡◌, ◌++◌, length, OnOk, IfErr};
-ghost use Rattle.hep_source.specs.Tree.{trees, no_trees, trees_of};
+ghost use Rattle.hep_machine.specs.Words.{trees, no_trees, trees_of};
 ghost use Rattle.hep_symbols.specs.Meanings.{meaning};
 ghost use Rattle.hep_code.specs.ExpressionCode as code_words;
 ghost use Rattle.hep_emit.specs.Asked.{subscripts_asked, subscripts_asked_listed};

@@ -3,7 +3,7 @@ ghost use Rattle.std.specs.Prelude.{◌≡◌, ◌++◌, ◌<◌, map, IfOk, OnO
 ghost use Rattle.hep_code.specs.declared.instruction.Argument.{Argument as PureArgument};
 ghost use Rattle.hep_code.specs.declared.instruction.Instruction.TheVariants as instruction;
 ghost use Rattle.hep_code.specs.ExpressionCode as code_words;
-ghost use Rattle.hep_code.specs.Tables.{NameTable};
+ghost use Rattle.hep_code.specs.Words.{NameTable};
 ghost use Rattle.hep_emit.specs.Limits.{IsTooLong, subscripts_of, subscripts_of_all};
 ghost use Rattle.hep_emit.specs.Tables.{greatest, names_in, table_in};
 

@@ -1,9 +1,6 @@
 //! A unit's code with what is known of it.
 ghost use Rattle.std.specs.Prelude.{◌≡◌, ◌≤◌, None, length, IfOk, IfErr};
-ghost use Rattle.hep_code.specs.Depths.{deepest, line_too_deep};
-ghost use Rattle.hep_code.specs.Limits.{most_instructions, most_operands};
-ghost use Rattle.hep_code.specs.Stacks.{entry_index};
-ghost use Rattle.hep_code.specs.UnitCode.{code_of};
+ghost use Rattle.hep_code.specs.Words.{deepest, line_too_deep, most_instructions, most_operands, entry_index, code_of};
 ghost use Rattle.hep_emit.specs.Limits.{IsOverLimit};
 ghost use Rattle.hep_emit.specs.Tables.{greatest, addressed_by};
 

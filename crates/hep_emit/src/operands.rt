@@ -4,7 +4,7 @@ ghost use Rattle.std.specs.Prelude.{◌≡◌, ◌++◌, ◌<◌, ℕ, List, len
 ghost use Rattle.std.specs.List.{flat_map};
 ghost use Rattle.hep_code.specs.declared.instruction.Instruction.{Instruction as PureInstruction};
 ghost use Rattle.hep_code.specs.ExpressionCode as code_words;
-ghost use Rattle.hep_code.specs.Tables.{NameTable};
+ghost use Rattle.hep_code.specs.Words.{NameTable};
 ghost use Rattle.hep_emit.specs.Limits.{IsTooLong};
 ghost use Rattle.hep_emit.specs.Tables.{names_in};
 

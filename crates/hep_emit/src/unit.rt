@@ -1,11 +1,8 @@
 //! The code of a unit.
 ghost use Rattle.std.specs.Prelude.{◌≡◌, ◌<◌, ◌≤◌, length, IfOk, IfErr};
-ghost use Rattle.hep_machine.specs.Constants.{value_among, constant_value};
+ghost use Rattle.hep_machine.specs.Words.{value_among, constant_value};
 ghost use Rattle.hep_source.specs.Units as units;
-ghost use Rattle.hep_code.specs.Limits.{most_instructions};
-ghost use Rattle.hep_code.specs.Stacks.{entry_index};
-ghost use Rattle.hep_code.specs.StatementCode.{statements_code};
-ghost use Rattle.hep_code.specs.UnitCode.{code_of};
+ghost use Rattle.hep_code.specs.Words.{most_instructions, entry_index, statements_code, code_of};
 ghost use Rattle.hep_emit.specs.Limits.{IsOverLimit};
 ghost use Rattle.hep_emit.specs.Starts.{starts_from, end_from};
 ghost use Rattle.hep_emit.specs.Tables.{greatest, table_in, addressed_in};

@@ -1,28 +1,45 @@
--- The state after a CALL or CREATE: what is on stacks in it, and the frames that it keeps.
-use Rattle.std.proofs.Common.{◌≡◌, ℕ, suc, Bool, true, false, List, [], ◌∷◌, ◌++◌, length, Some, refl, sym, ap, ◌∙◌, arith}
-use Rattle.std.specs.Prelude.{if◌then◌else◌, nat_eq}
-use Rattle.std.proofs.lemmas.List.{length-append}
-use Rattle.hep_source.specs.Units.{Units, unit_at}
-use Rattle.hep_machine.specs.Binding.{Binding}
-use Rattle.hep_machine.specs.Control.{level_after_statement}
-use Rattle.hep_machine.specs.Layout.{Layout, activations_on}
-use Rattle.hep_machine.specs.Processes.{living, unit_of, with_process}
-use Rattle.hep_machine.specs.Run.{run}
-use Rattle.hep_machine.specs.State.{Activation, Level, Process, State}
-use Rattle.hep_machine.specs.Step.{entry_level, next_activation, with_activation}
+-- The state after a CALL or CREATE: that the step leads to it, what is on stacks in it, and what its frames keep.
+use Rattle.std.proofs.Common.{◌≡◌, ℕ, false, List, None, Some, ap, ◌∙◌, suc, Bool, true, [], ◌∷◌, ◌++◌, length, refl, sym, arith, zero, ◌-◌, ◌<◌, ◌≤◌, Option, subst, if◌then◌else◌, nat_eq, slice_get, slice_set, length-append}
+use Rattle.hep_machine.specs.Words.{Name, Units, unit_at, dummies_of, Binding, Next, Actual, calling, creating, does, next_of, unit_of, living, with_process, activation_of, numbered, top_of, with_numbered, run, Level, Process, State, Activation, result_after_call, result_after_create, result_after_next, state_made, step, step_result_of, step_result_of_top, stepped, unit_called, entry_level, next_activation, with_activation, level_after_statement, Layout, activations_on, index_among, unset_cell}
+use Rattle.hep_entering.specs.Calling.{caller, IsPassing, state_called, state_created, IsAllWritten, called_activation, layout_with, IsWritten, unit_begun}
 use Rattle.hep_arena.specs.Space.{Space}
 use Rattle.hep_code.proofs.Moves.{after_statement_keeps}
-use Rattle.hep_frames.specs.Addresses.{IsLaid}
-use Rattle.hep_frames.specs.Descriptors.{level_of, wanted_of}
-use Rattle.hep_frames.specs.Tree.{Nodes, also, is_stacked}
+use Rattle.hep_frames.specs.Words.{IsLaid, level_of, wanted_of, Wanted, slot_by_dummy, slot_of_bounds, slot_of_dummy, slot_on_level, Nodes, also, is_stacked, FramePart, argument, bounds, header, iteration, variable, place_of_part}
 use Rattle.hep_frames.proofs.References.{references-made}
 use Rattle.hep_frames.proofs.StackChanges.{stacks-begun, stacks-created, stacks-same}
-use Rattle.hep_frames.proofs.Stacks.{top-numbered}
+use Rattle.hep_frames.proofs.Stacks.{top-numbered, level-found}
 use Rattle.hep_proc.specs.Keeping.{Keeps}
 use Rattle.hep_step.specs.Simulation.{unit_addressed}
-use Rattle.hep_entering.specs.Calling.{caller, IsAllWritten, called_activation, layout_with, state_called, state_created}
-use Rattle.hep_entering.proofs.Entered.{keeps-entered}
-use Rattle.hep_entering.proofs.Others.{WereLoops, called-loops, created-loops}
+use Rattle.hep_entering.proofs.Entered.{keeps-entered, WereLoops, called-loops, created-loops}
+use Rattle.std.specs.Option.{unwrap_or}
+use Rattle.std.proofs.lemmas.Option.{none-some, same_Some}
+use Rattle.hep_machine.specs.declared.slot.Slot.{Slot}
+use Rattle.hep_frames.proofs.HeldFrames.{run-last}
+use Rattle.hep_entering.specs.Shapes.{cells_to_bounds, cells_to_bounds_of, cells_to_locals}
+use Rattle.hep_entering.specs.Writing.{wanted_up_to}
+use Rattle.hep_entering.proofs.Cells.{keeps-skipped, argument-place, bounds-place, cells-ordered, to-first}
+use Rattle.hep_machine.proofs.Others.{last-numbered}
+
+-- ---- the step
+
+module _ (program : Units) (choices : List ℕ) (p : ℕ) (top : Level × Process) (x : Name) (actuals : List Actual) (b : Binding) (on : (run program choices).halted ≡ false) (h : IsPassing program choices p top (unit_called program x) actuals b) where
+  -- what comes next makes a state
+  made-step : (t : State) → step_result_of program p (run program choices) ≡ stepped t → step program p (run program choices) ≡ Some t
+  made-step t made = ap (λ c. if c then None else state_made (step_result_of program p (run program choices))) on ∙ ap state_made made
+
+  result-of : (n : Next) → next_of (unit_at program (unit_of (run program choices) top.0.activation)) top.0.work ≡ n → step_result_of program p (run program choices) ≡ result_after_next program (caller program choices p top) n
+  unfolding step_result_of
+  result-of n next = ap (step_result_of_top program (run program choices) p) h.lives ∙ ap (result_after_next program (caller program choices p top)) next
+
+  pub called-step : next_of (unit_at program (unit_of (run program choices) top.0.activation)) top.0.work ≡ does (calling x actuals) → step program p (run program choices) ≡ Some (state_called program choices p top (unit_called program x) b)
+  called-step next =
+      made-step (state_called program choices p top (unit_called program x) b) (result-of (does (calling x actuals)) next ∙ ap (result_after_call program (caller program choices p top) (unit_called program x)) h.bound)
+
+  pub created-step : next_of (unit_at program (unit_of (run program choices) top.0.activation)) top.0.work ≡ does (creating x actuals) → step program p (run program choices) ≡ Some (state_created program choices p top (unit_called program x) b)
+  created-step next =
+      made-step (state_created program choices p top (unit_called program x) b) (result-of (does (creating x actuals)) next ∙ ap (result_after_create program (caller program choices p top) (unit_called program x)) h.bound)
+
+-- ---- the state after it
 
 module _ (program : Units) (choices : List ℕ) (p : ℕ) (top : Level × Process) (u : ℕ) (b : Binding) (lives : living (run program choices) p ≡ Some top) where
   abbrev s : State
@@ -85,3 +102,68 @@ module _ (program : Units) (choices : List ℕ) (p : ℕ) (top : Level × Proces
         → Keeps program (state_created program choices p top u b) (is_stacked (state_created program choices p top u b)) (also (length (state_created program choices p top u b).activations) out) (layout_with program (state_created program choices p top u b) layout first) (wanted_of program (state_created program choices p top u b) (layout_with program (state_created program choices p top u b) layout first)) arena nodes
     created-keeps h =
         keeps-entered program s created x layout first cells laid refl (λ a k le. references-made program choices a k le) created-were (also n (is_stacked s)) (also n out) arena nodes h created-stacks
+
+-- ---- what isn't written of the new frame is unset: its variables, and its DOs, of which none was begun
+
+module _ (program : Units) (t : State) (a : ℕ) (layout : Layout) (level : Level) (found : level_of t a ≡ Some level) (none : level.loops ≡ []) where
+  unset : (d : FramePart × ℕ) (n : ℕ) (v : Slot) → place_of_part (unit_at program (unit_of t a)) d.0 d.1 ≡ Some n → cells_to_locals (unit_at program (unit_of t a)) ≤ n → n < cells_to_bounds (unit_at program (unit_of t a)) → wanted_of program t layout a d ≡ Some v → v ≡ unset_cell
+  unset (header, i) n v at low high w = absurd (none-some v w)
+  unset (variable x, i) n v at low high w = absurd (none-some v w)
+  unset (iteration d, i) n v at low high w =
+      let no_loop : wanted_of program t layout a (iteration d, i) ≡ Some unset_cell = ap (λ o. slot_on_level o d i) found ∙ ap (λ ls. slot_on_level (Some (record level { loops = ls })) d i) none in
+      sym (same_Some unset_cell v (sym no_loop ∙ w))
+  unset (argument x, i) n v at low high w = by_index (index_among x (dummies_of (unit_at program (unit_of t a)))) refl w where
+    by_index : (o : Option ℕ) → index_among x (dummies_of (unit_at program (unit_of t a))) ≡ o → slot_by_dummy (λ z. slot_of_dummy program t layout a z i) (activation_of t a).dummies o ≡ Some v → v ≡ unset_cell
+    by_index None e w = absurd (none-some v w)
+    by_index (Some k) e w = absurd (omega (arith, argument-place (unit_at program (unit_of t a)) x k e i n at, low))
+  unset (bounds x, i) n v at low high w = by_index (index_among x (dummies_of (unit_at program (unit_of t a)))) refl w where
+    by_index : (o : Option ℕ) → index_among x (dummies_of (unit_at program (unit_of t a))) ≡ o → slot_by_dummy (λ z. slot_of_bounds z.shape i) (activation_of t a).dummies o ≡ Some v → v ≡ unset_cell
+    by_index None e w = absurd (none-some v w)
+    by_index (Some k) e w = absurd (omega (arith, bounds-place (unit_at program (unit_of t a)) x k e i n at, high))
+
+  pub keeps-rest : (on out : ℕ → Bool) (wanted : Wanted) (arena : Space) (nodes : Nodes) → Keeps program t on out layout (wanted_up_to program t layout a (cells_to_locals (unit_at program (unit_of t a))) wanted) arena nodes
+      → Keeps program t on out layout (wanted_up_to program t layout a (cells_to_bounds (unit_at program (unit_of t a))) wanted) arena nodes
+  keeps-rest on out wanted arena nodes h =
+      keeps-skipped program t on out layout wanted a nodes t.store arena (cells_to_locals (unit_at program (unit_of t a))) (cells_to_bounds (unit_at program (unit_of t a))) (cells-ordered (unit_at program (unit_of t a))) unset h
+
+-- ---- the level of the new activation
+
+pub set-numbered : {A : Type 0} (xs : List A) (p : ℕ) (x y : A) → numbered xs p ≡ Some x → numbered (with_numbered xs p y) p ≡ Some y
+set-numbered xs zero x y e = absurd (none-some x e)
+set-numbered xs (suc i) x y e = let same : suc i - 1 ≡ i = omega arith in rw same (at xs i e) where
+  at : {A : Type 0} (xs : List A) (i : ℕ) {x y : A} → slice_get xs i ≡ Some x → slice_get (slice_set xs i y) i ≡ Some y
+  at [] i e = absurd (none-some _ e)
+  at (z ∷ zs) zero e = refl
+  at (z ∷ zs) (suc i) e = at zs i e
+
+module _ (program : Units) (choices : List ℕ) (p : ℕ) (top : Level × Process) (u : ℕ) (b : Binding) (lives : living (run program choices) p ≡ Some top) where
+  -- it is found where its process has it on top
+  on-top : (t : State) (q : ℕ) (below : Process) → step program p (run program choices) ≡ Some t → numbered t.processes q ≡ Some (entry program choices p top u b lives ∷ below)
+      → level_of t (length ((run program choices).activations ++ called_activation u top b ∷ [])) ≡ Some (entry program choices p top u b lives)
+  on-top t q below made there =
+      let new = entry program choices p top u b lives in
+      let next : run program (choices ++ p ∷ []) ≡ t = run-last program choices p ∙ ap (λ o. unwrap_or o (run program choices)) made in
+      ap (level_of t) (sym (entry-number program choices p top u b lives))
+      ∙ subst (λ (z : State). living z q ≡ Some (new, below) → level_of z new.activation ≡ Some new) next (level-found program (choices ++ p ∷ []) q (new, below)) (ap top_of there)
+
+  pub called-level : step program p (run program choices) ≡ Some (state_called program choices p top u b) → level_of (state_called program choices p top u b) (length (state_called program choices p top u b).activations) ≡ Some (entry program choices p top u b lives)
+  called-level made =
+      let s = run program choices in
+      let t = state_called program choices p top u b in
+      let stack = top.0 ∷ top.1 in
+      on-top t p stack made (set-numbered s.processes p stack (entry program choices p top u b lives ∷ stack) (top-numbered s p top lives))
+
+  pub created-level : step program p (run program choices) ≡ Some (state_created program choices p top u b) → level_of (state_created program choices p top u b) (length (state_created program choices p top u b).activations) ≡ Some (entry program choices p top u b lives)
+  created-level made =
+      let t = state_created program choices p top u b in
+      let front = with_numbered (run program choices).processes p (after program choices p top u b lives ∷ top.1) in
+      on-top t (suc (length front)) [] made (last-numbered front (entry program choices p top u b lives ∷ []))
+
+  -- in a state that has it on top
+  pub rest-unset : (t : State) (layout : Layout) (first : ℕ) (out : ℕ → Bool) (arena : Space) (nodes : Nodes) → level_of t (length t.activations) ≡ Some (entry program choices p top u b lives)
+      → IsWritten program (run program choices) t layout first (cells_to_locals (unit_begun program t)) out arena nodes → IsWritten program (run program choices) t layout first (cells_to_bounds_of (unit_begun program t) 0) out arena nodes
+  rest-unset t layout first out arena nodes level h =
+      let s = run program choices in
+      let n = length t.activations in
+      subst (λ m. IsWritten program s t layout first m out arena nodes) (sym (to-first (unit_begun program t))) (
+      keeps-rest program t n (layout_with program t layout first) (entry program choices p top u b lives) level refl (also n (is_stacked s)) (also n out) (wanted_of program s layout) arena nodes h)

@@ -1,27 +1,75 @@
--- The cells of a new frame are written one after the other.
-use Rattle.std.proofs.Common.{◌≡◌, ℕ, suc, ◌+◌, ◌<◌, ◌≤◌, Bool, true, false, List, Option, Some, None, refl, sym, ap, ◌∙◌, arith}
-use Rattle.std.specs.Prelude.{if◌then◌else◌, nat_eq, nat_lt}
-use Rattle.std.proofs.lemmas.Bool.{eqb-true, eq-eqb, ltb-true, lt-ltb, ltb-false}
-use Rattle.std.proofs.lemmas.Option.{same_Some}
-use Rattle.hep_source.specs.declared.statement.Statement.{Statement}
-use Rattle.hep_source.specs.Units.{Units, unit_at}
-use Rattle.hep_machine.specs.Access.{unset_cell}
+-- Which cells of a frame those are of which values are wanted, and that they are written one after the other.
+use Rattle.std.proofs.Common.{◌≡◌, ℕ, zero, suc, ◌+◌, ◌*◌, ◌<◌, ◌≤◌, List, [], ◌∷◌, length, take, Some, sym, ap, ◌∙◌, subst, arith, Bool, true, false, Option, None, refl, slice_get, if◌then◌else◌, nat_eq, nat_lt, take_all, eqb-true, eq-eqb, ltb-true, lt-ltb, ltb-false}
+use Rattle.std.proofs.lemmas.Option.{none-some, same_Some, slice_get_within}
+use Rattle.hep_machine.specs.Words.{Name, Statement, index_among, same_name, dummies_of, Units, unit_at, adjustable_dimensions, adjustable_dimensions_of_all, frame_cells, unset_cell, Frame, Layout, unit_of, Location, State, Store, with_cell}
+use Rattle.hep_accepted.proofs.Parts.{found_at}
+use Rattle.hep_frames.specs.Words.{argument, bounds, frame_row, place_of_part, same_part, FramePart, address, cell_in, frame_address, Wanted, is_descriptor, wanted_of, Nodes}
+use Rattle.hep_frames.proofs.FrameRows.{argument-first, bounds-first, equal_parts}
+use Rattle.hep_frames.proofs.Rows.{place-at, placed, owned-by}
+use Rattle.hep_entering.specs.Shapes.{cells_to_bounds, cells_to_bounds_of, cells_to_locals}
 use Rattle.hep_machine.specs.declared.slot.Slot.{Slot}
-use Rattle.hep_machine.specs.Layout.{Frame, Layout}
-use Rattle.hep_machine.specs.Processes.{unit_of}
-use Rattle.hep_machine.specs.State.{Location, State, Store}
-use Rattle.hep_machine.specs.Storage.{with_cell}
 use Rattle.hep_arena.specs.Gaps.{frame_among}
 use Rattle.hep_arena.specs.Space.{Space}
-use Rattle.hep_frames.specs.Addresses.{address, cell_in, frame_address}
-use Rattle.hep_frames.specs.Descriptors.{Wanted, is_descriptor, wanted_of}
-use Rattle.hep_frames.specs.Rows.{FramePart, frame_row, place_of_part, same_part}
-use Rattle.hep_frames.specs.Tree.{Nodes}
-use Rattle.hep_frames.proofs.FrameRows.{equal_parts}
-use Rattle.hep_frames.proofs.Rows.{owned-by}
 use Rattle.hep_proc.specs.Keeping.{Keeps}
 use Rattle.hep_proc.proofs.Stays.{keeps-described, keeps-same, keeps-stored}
 use Rattle.hep_entering.specs.Writing.{IsSet, is_before, wanted_up_to, with_stored}
+
+-- ---- places
+
+index-within : (x : Name) (xs : List Name) (k : ℕ) → index_among x xs ≡ Some k → k < length xs
+index-within x xs k e = let there = found_at (same_name x) xs k e in slice_get_within xs k there.0 there.1
+
+module _ (unit : List Statement) (x : Name) (k : ℕ) (index : index_among x (dummies_of unit) ≡ Some k) where
+  -- a dummy argument's cells are in front of local variables
+  pub argument-place : (i n : ℕ) → place_of_part unit (argument x) i ≡ Some n → n < cells_to_locals unit
+  argument-place i n e =
+      let there = placed (same_part (argument x)) i (frame_row unit) n e in
+      let entry = argument-first unit x k index in
+      omega (arith, there.below, there.at, entry.begins, entry.sized, index-within x (dummies_of unit) k index)
+
+  -- bounds stand behind
+  pub bounds-place : (i n : ℕ) → place_of_part unit (bounds x) i ≡ Some n → cells_to_bounds unit ≤ n
+  bounds-place i n e =
+      let there = placed (same_part (bounds x)) i (frame_row unit) n e in
+      let entry = bounds-first unit x k index in
+      omega (arith, there.at, entry.begins)
+
+  pub place-bounds : (i : ℕ) → i < 2 * adjustable_dimensions unit x → place_of_part unit (bounds x) i ≡ Some (cells_to_bounds_of unit k + i)
+  place-bounds i less =
+      let entry = bounds-first unit x k index in
+      place-at (same_part (bounds x)) i (frame_row unit) (subst (λ n. i < n) (sym entry.sized) less) ∙ ap (λ n. Some n) (omega (arith, entry.begins))
+
+pub cells-ordered : (unit : List Statement) → cells_to_locals unit ≤ cells_to_bounds unit
+cells-ordered unit = omega arith
+
+-- up to the first bounds, from those of one dummy argument to those of the next, and to the end
+pub to-first : (unit : List Statement) → cells_to_bounds_of unit 0 ≡ cells_to_bounds unit
+to-first unit = none (dummies_of unit) where
+  none : (xs : List Name) → cells_to_bounds unit + 2 * adjustable_dimensions_of_all unit (take 0 xs) ≡ cells_to_bounds unit
+  none [] = omega arith
+  none (x ∷ xs) = omega arith
+
+dimensions-next : (unit : List Statement) (xs : List Name) (k : ℕ) (x : Name) → slice_get xs k ≡ Some x → adjustable_dimensions_of_all unit (take (suc k) xs) ≡ adjustable_dimensions_of_all unit (take k xs) + adjustable_dimensions unit x
+dimensions-next unit [] k x e = absurd (none-some x e)
+dimensions-next unit (y ∷ ys) zero x e = first ys (ap (λ z. adjustable_dimensions unit z) (same_Some y x e)) where
+  first : (zs : List Name) → adjustable_dimensions unit y ≡ adjustable_dimensions unit x → adjustable_dimensions unit y + adjustable_dimensions_of_all unit (take 0 zs) ≡ 0 + adjustable_dimensions unit x
+  first [] same = omega (arith, same)
+  first (z ∷ zs) same = omega (arith, same)
+dimensions-next unit (y ∷ ys) (suc k) x e = omega (arith, dimensions-next unit ys k x e)
+
+pub to-next : (unit : List Statement) (k : ℕ) (x : Name) → slice_get (dummies_of unit) k ≡ Some x → cells_to_bounds_of unit (suc k) ≡ cells_to_bounds_of unit k + 2 * adjustable_dimensions unit x
+to-next unit k x e = omega (arith, dimensions-next unit (dummies_of unit) k x e)
+
+pub to-end : (unit : List Statement) → cells_to_bounds_of unit (length (dummies_of unit)) ≡ frame_cells unit
+to-end unit =
+    let all : adjustable_dimensions_of_all unit (take (length (dummies_of unit)) (dummies_of unit)) ≡ adjustable_dimensions_of_all unit (dummies_of unit) = ap (adjustable_dimensions_of_all unit) (take_all (length (dummies_of unit)) (dummies_of unit) (omega arith)) in
+    omega (arith, all)
+
+-- where no dummy argument is an adjustable array
+pub to-plain : (unit : List Statement) → adjustable_dimensions_of_all unit (dummies_of unit) ≡ 0 → cells_to_bounds_of unit 0 ≡ frame_cells unit
+to-plain unit none = omega (arith, to-first unit, none)
+
+-- ---- the cells are written
 
 -- two cells at one place of a frame are one
 pub one-cell : (unit : List Statement) (c d : FramePart × ℕ) (n : ℕ) → place_of_part unit c.0 c.1 ≡ Some n → place_of_part unit d.0 d.1 ≡ Some n → c ≡ d
@@ -39,27 +87,29 @@ module _ (program : Units) (t : State) (on out : ℕ → Bool) (layout : Layout)
   abbrev up_to : ℕ → Wanted
   up_to m = wanted_up_to program t layout a m wanted
 
-  -- more cells of which no value is wanted
-  fewer : (m more : ℕ) → m ≤ more → ((d : FramePart × ℕ) (n : ℕ) (v : Slot) → place_of_part unit d.0 d.1 ≡ Some n → m ≤ n → n < more → wanted_of program t layout a d ≡ Some v → v ≡ unset_cell)
-      → (b : ℕ) (d : FramePart × ℕ) (v : Slot) → up_to more b d ≡ Some v → up_to m b d ≡ Some v
-  fewer m more le unset b d v = by_number (nat_eq b a) where
-    by_test : (n : ℕ) → place_of_part unit d.0 d.1 ≡ Some n → (p q : Bool) → nat_lt n m ≡ p → nat_lt n more ≡ q → of_frame q d ≡ Some v → of_frame p d ≡ Some v
-    by_test n there true true x y w = w
-    by_test n there false false x y w = w
-    by_test n there true false x y w = absurd (omega (arith, ltb-true n m x, ltb-false n more y, le))
-    by_test n there false true x y w = ap (λ z. Some z) (sym (unset d n v there (ltb-false n m x) (ltb-true n more y) w))
+  -- more cells, of which no value is wanted of those of the frame
+  fewer : (m more : ℕ) → m ≤ more → (b : ℕ) (d : FramePart × ℕ) (v : Slot)
+      → (b ≡ a → (n : ℕ) → place_of_part unit d.0 d.1 ≡ Some n → m ≤ n → n < more → wanted_of program t layout a d ≡ Some v → v ≡ unset_cell)
+      → up_to more b d ≡ Some v → up_to m b d ≡ Some v
+  fewer m more le b d v unset = by_number (nat_eq b a) refl where
+    by_test : b ≡ a → (n : ℕ) → place_of_part unit d.0 d.1 ≡ Some n → (p q : Bool) → nat_lt n m ≡ p → nat_lt n more ≡ q → of_frame q d ≡ Some v → of_frame p d ≡ Some v
+    by_test own n there true true x y w = w
+    by_test own n there false false x y w = w
+    by_test own n there true false x y w = absurd (omega (arith, ltb-true n m x, ltb-false n more y, le))
+    by_test own n there false true x y w = ap (λ z. Some z) (sym (unset own n there (ltb-false n m x) (ltb-true n more y) w))
 
-    by_place : (o : Option ℕ) → place_of_part unit d.0 d.1 ≡ o → of_frame (is_before more o) d ≡ Some v → of_frame (is_before m o) d ≡ Some v
-    by_place None there w = w
-    by_place (Some n) there w = by_test n there (nat_lt n m) (nat_lt n more) refl refl w
+    by_place : b ≡ a → (o : Option ℕ) → place_of_part unit d.0 d.1 ≡ o → of_frame (is_before more o) d ≡ Some v → of_frame (is_before m o) d ≡ Some v
+    by_place own None there w = w
+    by_place own (Some n) there w = by_test own n there (nat_lt n m) (nat_lt n more) refl refl w
 
-    by_number : (x : Bool) → (if x then of_frame (is_before more (place_of_part unit d.0 d.1)) d else wanted b d) ≡ Some v → (if x then of_frame (is_before m (place_of_part unit d.0 d.1)) d else wanted b d) ≡ Some v
-    by_number false w = w
-    by_number true w = by_place (place_of_part unit d.0 d.1) refl w
+    by_number : (x : Bool) → nat_eq b a ≡ x → (if x then of_frame (is_before more (place_of_part unit d.0 d.1)) d else wanted b d) ≡ Some v → (if x then of_frame (is_before m (place_of_part unit d.0 d.1)) d else wanted b d) ≡ Some v
+    by_number false e w = w
+    by_number true e w = by_place (eqb-true b a e) (place_of_part unit d.0 d.1) refl w
 
   pub keeps-skipped : (store : Store) (arena : Space) (m more : ℕ) → m ≤ more → ((d : FramePart × ℕ) (n : ℕ) (v : Slot) → place_of_part unit d.0 d.1 ≡ Some n → m ≤ n → n < more → wanted_of program t layout a d ≡ Some v → v ≡ unset_cell)
       → Keeps program (with_stored t store) on out layout (up_to m) arena nodes → Keeps program (with_stored t store) on out layout (up_to more) arena nodes
-  keeps-skipped store arena m more le unset h = keeps-same program (with_stored t store) (with_stored t store) on on out layout (up_to m) (up_to more) arena nodes h refl refl (λ b. refl) (fewer m more le unset)
+  keeps-skipped store arena m more le unset h =
+      keeps-same program (with_stored t store) (with_stored t store) on on out layout (up_to m) (up_to more) arena nodes h refl refl (λ b. refl) (λ b d v. fewer m more le b d v (λ own n. unset d n v))
 
   -- the next cell, which keeps no storage unit
   pub keeps-written : (store : Store) (before after : Space) (m : ℕ) (f : Frame) (c : FramePart × ℕ) (slot : Slot)
@@ -76,22 +126,10 @@ module _ (program : Units) (t : State) (on out : ℕ → Bool) (layout : Layout)
             ∙ (ap (λ o. of_frame (is_before (suc m) o) c) there ∙ (ap (λ b. of_frame b c) (lt-ltb m (suc m) (omega arith)) ∙ wants))
 
         others : (b : ℕ) (d : FramePart × ℕ) (v : Slot) → ((a ≡ b) × (c ≡ d) → ⊥) → up_to (suc m) b d ≡ Some v → up_to m b d ≡ Some v
-        others b d v apart = by_number (nat_eq b a) refl where
-          by_test : (n : ℕ) → place_of_part unit d.0 d.1 ≡ Some n → (c ≡ d → ⊥) → (p q : Bool) → nat_lt n m ≡ p → nat_lt n (suc m) ≡ q → of_frame q d ≡ Some v → of_frame p d ≡ Some v
-          by_test n at other true true x y w = w
-          by_test n at other false false x y w = w
-          by_test n at other true false x y w = absurd (omega (arith, ltb-true n m x, ltb-false n (suc m) y))
-          by_test n at other false true x y w =
-              let same : m ≡ n = omega (arith, ltb-false n m x, ltb-true n (suc m) y) in
-              absurd (other (one-cell unit c d m there (at ∙ ap (λ z. Some z) (sym same))))
-
-          by_place : (c ≡ d → ⊥) → (o : Option ℕ) → place_of_part unit d.0 d.1 ≡ o → of_frame (is_before (suc m) o) d ≡ Some v → of_frame (is_before m o) d ≡ Some v
-          by_place other None at w = w
-          by_place other (Some n) at w = by_test n at other (nat_lt n m) (nat_lt n (suc m)) refl refl w
-
-          by_number : (x : Bool) → nat_eq b a ≡ x → (if x then of_frame (is_before (suc m) (place_of_part unit d.0 d.1)) d else wanted b d) ≡ Some v → (if x then of_frame (is_before m (place_of_part unit d.0 d.1)) d else wanted b d) ≡ Some v
-          by_number false e w = w
-          by_number true e w = by_place (λ same. apart (sym (eqb-true b a e), same)) (place_of_part unit d.0 d.1) refl w
+        others b d v apart =
+            fewer m (suc m) (omega arith) b d v (λ own n at low high w.
+            let same : n ≡ m = omega (arith, low, high) in
+            absurd (apart (sym own, one-cell unit c d m there (at ∙ ap (λ z. Some z) same))))
 
   -- a cell that keeps a storage unit
   pub keeps-given : (store : Store) (before after : Space) (m p : ℕ) (at : Location) (slot : Slot)

@@ -1,25 +1,14 @@
 -- Once the cells of a new frame are written, the frames of the state with its activation are kept.
-use Rattle.std.proofs.Common.{◌≡◌, ◌⊎◌, inl, inr, ℕ, suc, ◌<◌, ◌≤◌, Bool, true, false, List, [], ◌∷◌, ◌++◌, length, Option, Some, None, refl, sym, ap, ◌∙◌, subst, arith}
-use Rattle.std.specs.Prelude.{if◌then◌else◌, nat_eq}
-use Rattle.std.proofs.lemmas.Bool.{eqb-true, eq-eqb, lt-ltb}
-use Rattle.std.proofs.lemmas.List.{length-append}
+use Rattle.std.proofs.Common.{◌≡◌, inl, inr, ℕ, ◌-◌, ◌≤◌, true, false, List, [], ◌∷◌, ◌++◌, Some, refl, sym, ap, ◌∙◌, subst, arith, ◌⊎◌, suc, ◌<◌, Bool, length, Option, None, nat_eq, if◌then◌else◌, eq-eqb, eqb-true, lt-ltb, length-append}
+use Rattle.std.proofs.lemmas.Grind.{flat_map-append}
+use Rattle.hep_machine.specs.Words.{Units, unit_at, activations_on, Frame, Layout, numbered, with_numbered, activation_of, unit_of, run, Level, Process, State, Activation, Statement, unset_cell, dummy_at, frame_cells}
+use Rattle.hep_frames.specs.Words.{level_of, Describes, loop_among, slot_of_loop, slot_on_level, wanted_of, times, IsLaid, cell_in, frame_address, frame_from, IsMadeAt, FramePart, argument, iteration, bounds, frame_row, place_of_part, same_part, AreWantedBut, is_stacked, IsTree, Nodes}
+use Rattle.hep_frames.proofs.Stacks.{once}
+use Rattle.hep_entering.proofs.Found.{IsAmong, all_levels, among-numbered, among-parts, among-set, find-among, found, times-all}
 use Rattle.std.proofs.lemmas.Option.{none-some}
-use Rattle.hep_source.specs.declared.statement.Statement.{Statement}
-use Rattle.hep_source.specs.Units.{Units, unit_at}
-use Rattle.hep_machine.specs.Access.{unset_cell}
 use Rattle.hep_machine.specs.declared.slot.Slot.{Slot}
-use Rattle.hep_machine.specs.Layout.{Frame, Layout}
-use Rattle.hep_machine.specs.Locations.{dummy_at}
-use Rattle.hep_machine.specs.Processes.{activation_of, unit_of}
-use Rattle.hep_machine.specs.State.{Activation, Level, State}
-use Rattle.hep_machine.specs.Variables.{frame_cells}
 use Rattle.hep_arena.specs.Gaps.{frame_among}
 use Rattle.hep_arena.specs.Space.{Space}
-use Rattle.hep_frames.specs.Addresses.{IsLaid, cell_in, frame_address, frame_from}
-use Rattle.hep_frames.specs.Descriptors.{Describes, level_of, loop_among, slot_of_loop, slot_on_level, wanted_of}
-use Rattle.hep_frames.specs.References.{IsMadeAt}
-use Rattle.hep_frames.specs.Rows.{FramePart, header, argument, variable, iteration, bounds, frame_row, place_of_part, same_part}
-use Rattle.hep_frames.specs.Tree.{AreWantedBut, is_stacked, IsTree, Nodes}
 use Rattle.hep_frames.proofs.Addresses.{IsFramed, framed}
 use Rattle.hep_frames.proofs.FrameRows.{equal_parts, frame_row-cells}
 use Rattle.hep_frames.proofs.Memory.{one-of}
@@ -28,7 +17,61 @@ use Rattle.hep_frames.proofs.Wants.{wanted-entered}
 use Rattle.hep_proc.specs.Keeping.{Keeps}
 use Rattle.hep_entering.specs.Calling.{layout_with}
 use Rattle.hep_entering.specs.Writing.{is_before, wanted_up_to}
-use Rattle.hep_entering.proofs.Others.{WereLoops}
+
+-- ---- the levels of the other activations stay
+
+-- a level's DOs were those of its activation's level
+abbrev pub WereLoops : State → ℕ → Level → Type 0
+WereLoops s a x = (y : Level) × (level_of s a ≡ Some y) × (y.loops ≡ x.loops)
+
+module _ (program : Units) (choices : List ℕ) (a : ℕ) where
+  abbrev s : State
+  s = run program choices
+
+  were : (x y : Level) → IsAmong y (all_levels s.processes) → y.activation ≡ a → y.loops ≡ x.loops → WereLoops s a x
+  were x y there same loops =
+      let few : times a (activations_on (all_levels s.processes)) ≤ 1 = omega (arith, times-all a s.processes, (once program choices a).0) in
+      (y, found a (all_levels s.processes) y few there same, loops)
+
+  module _ (p n : ℕ) (top after new : Level) (below : Process) (there : numbered s.processes p ≡ Some (top ∷ below)) (other : nat_eq a n ≡ false) (is_new : new.activation ≡ n) where
+    -- a level that stands below another one, or the new one
+    pub of-stack : (x : Level) → IsAmong x (new ∷ (top ∷ below)) → x.activation ≡ a → WereLoops s a x
+    of-stack x (inl same) own =
+        let both : true ≡ false = sym (eq-eqb a n (sym own ∙ (ap (λ (z : Level). z.activation) (sym same) ∙ is_new))) ∙ other in
+        absurd cc
+    of-stack x (inr rest) own = were x x (among-numbered x s.processes p (top ∷ below) there rest) own refl
+
+    -- or one at another statement
+    pub of-after : after.activation ≡ top.activation → after.loops ≡ top.loops → (x : Level) → IsAmong x (after ∷ below) → x.activation ≡ a → WereLoops s a x
+    of-after one loops x (inl same) own =
+        were x top (among-numbered top s.processes p (top ∷ below) there (inl refl)) (sym one ∙ (ap (λ (z : Level). z.activation) same ∙ own)) (sym loops ∙ ap (λ (z : Level). z.loops) same)
+    of-after one loops x (inr rest) own = were x x (among-numbered x s.processes p (top ∷ below) there (inr rest)) own refl
+
+    pub called-loops : (t : State) → t.processes ≡ with_numbered s.processes p (new ∷ (top ∷ below)) → (x : Level) → level_of t a ≡ Some x → WereLoops s a x
+    called-loops t set x e =
+        let now = find-among a (all_levels t.processes) x e in
+        elim (among-set x s.processes (p - 1) (new ∷ (top ∷ below)) (subst (λ qs. IsAmong x (all_levels qs)) set now.0)) [
+          | inl own ↦ of-stack x own now.1
+          | inr was ↦ were x x was now.1 refl
+        ]
+
+    pub created-loops : (t : State) → t.processes ≡ with_numbered s.processes p (after ∷ below) ++ (new ∷ []) ∷ [] → after.activation ≡ top.activation → after.loops ≡ top.loops → (x : Level) → level_of t a ≡ Some x → WereLoops s a x
+    created-loops t set one loops x e =
+        let now = find-among a (all_levels t.processes) x e in
+        let qs = with_numbered s.processes p (after ∷ below) in
+        let parts : all_levels t.processes ≡ all_levels qs ++ all_levels ((new ∷ []) ∷ []) = ap all_levels set ∙ flat_map-append (λ (q : Process). q) qs ((new ∷ []) ∷ []) in
+        elim (among-parts x (all_levels qs) (all_levels ((new ∷ []) ∷ [])) (subst (IsAmong x) parts now.0)) [
+          | inr last ↦ of-new x last now.1
+          | inl front ↦ elim (among-set x s.processes (p - 1) (after ∷ below) front) [ inl own ↦ of-after one loops x own now.1 | inr was ↦ were x x was now.1 refl ]
+        ]
+      where
+        of-new : (x : Level) → IsAmong x (all_levels ((new ∷ []) ∷ [])) → x.activation ≡ a → WereLoops s a x
+        of-new x (inl same) own =
+            let both : true ≡ false = sym (eq-eqb a n (sym own ∙ (ap (λ (z : Level). z.activation) (sym same) ∙ is_new))) ∙ other in
+            absurd cc
+        of-new x (inr none) own = absurd none
+
+-- ---- all frames are kept
 
 module _ (program : Units) (s t : State) (x : Activation) (layout : Layout) (first cells : ℕ) (laid : IsLaid program s cells layout) (more : t.activations ≡ s.activations ++ x ∷ [])
     (made : (a k : ℕ) → a ≤ length s.activations → IsMadeAt (length s.activations) (dummy_at (activation_of s a).dummies k).start)
@@ -44,16 +87,15 @@ module _ (program : Units) (s t : State) (x : Activation) (layout : Layout) (fir
 
   -- what is wanted of the others was wanted
   was-wanted : (a : ℕ) (c : FramePart × ℕ) (v : Slot) → nat_eq a n ≡ false → a ≤ length s.activations → wanted_of program t after a c ≡ Some v → wanted_of program s layout a c ≡ Some v
-  was-wanted a (header, i) v other le w = w
-  was-wanted a (variable y, i) v other le w = w
-  was-wanted a (argument y, i) v other le w =
-      sym (wanted-entered program s (record t { processes = s.processes }) x layout first cells a (argument y, i) laid more le (λ k. made a k le) refl) ∙ w
-  was-wanted a (bounds y, i) v other le w =
-      sym (wanted-entered program s (record t { processes = s.processes }) x layout first cells a (bounds y, i) laid more le (λ k. made a k le) refl) ∙ w
   was-wanted a (iteration d, i) v other le w = by_level (level_of t a) refl w where
     by_level : (o : Option Level) → level_of t a ≡ o → slot_on_level o d i ≡ Some v → slot_on_level (level_of s a) d i ≡ Some v
     by_level None e w = absurd (none-some v w)
     by_level (Some y) e w = let was = loops a other y e in ap (λ o. slot_on_level o d i) was.1 ∙ (ap (λ ls. slot_of_loop (loop_among d ls) i) was.2 ∙ w)
+  was-wanted a (argument y, i) v other le w =
+      sym (wanted-entered program s (record t { processes = s.processes }) x layout first cells a (argument y, i) laid more le (λ k. made a k le) refl) ∙ w
+  was-wanted a (bounds y, i) v other le w =
+      sym (wanted-entered program s (record t { processes = s.processes }) x layout first cells a (bounds y, i) laid more le (λ k. made a k le) refl) ∙ w
+  was-wanted a (_, i) v other le w = w
 
   -- each cell of the new frame is among those that were written
   all-before : (c : FramePart × ℕ) (p : ℕ) → frame_address program t after n c ≡ Some p → is_before (frame_cells (unit_at program (unit_of t n))) (place_of_part (unit_at program (unit_of t n)) c.0 c.1) ≡ true

@@ -1,13 +1,9 @@
 -- A level among those of all processes, and the level that is found of an activation.
-use Rattle.std.proofs.Common.{◌≡◌, ◌⊎◌, inl, inr, ℕ, zero, suc, ◌+◌, ◌≤◌, Bool, true, false, List, [], ◌∷◌, ◌++◌, Some, refl, sym, ap, ◌∙◌, subst, arith}
-use Rattle.std.specs.Prelude.{if◌then◌else◌, nat_eq, slice_get, slice_set}
+use Rattle.std.proofs.Common.{◌≡◌, ◌⊎◌, inl, inr, ℕ, zero, suc, ◌+◌, ◌≤◌, Bool, true, false, List, [], ◌∷◌, ◌++◌, Some, refl, sym, ap, ◌∙◌, subst, arith, if◌then◌else◌, nat_eq, slice_get, slice_set, eqb-true, eq-eqb}
 use Rattle.std.specs.List.{find, flat_map}
-use Rattle.std.proofs.lemmas.Bool.{eqb-true, eq-eqb}
 use Rattle.std.proofs.lemmas.Option.{same_Some, none-some}
-use Rattle.hep_machine.specs.Layout.{activations_on}
-use Rattle.hep_machine.specs.Processes.{numbered}
-use Rattle.hep_machine.specs.State.{Level, Process}
-use Rattle.hep_frames.specs.Stacks.{times, times_on}
+use Rattle.hep_machine.specs.Words.{activations_on, numbered, Level, Process}
+use Rattle.hep_frames.specs.Words.{times, times_on}
 use Rattle.hep_frames.proofs.Stacks.{times-append}
 
 -- ---- levels among others

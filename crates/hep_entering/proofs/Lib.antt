@@ -1,18 +1,9 @@
-mod Cells
+pub mod Cells
 mod Names
-mod Dummies
-mod Bound
-mod Passing
-mod Begun
+pub mod Dummies
+pub mod Begun
 pub mod Found
-mod Others
-mod Entered
-mod Kept
+pub mod Entered
 pub mod Calls
-mod Leading
-mod Places
-pub mod Rest
-mod Shaped
-pub mod AllShaped
-mod Blocks
+pub mod Shaped
 pub mod Nodes

@@ -1,16 +1,9 @@
 -- Names that are distinct are found where they stand; and what is given, one by one.
-use Rattle.std.proofs.Common.{◌≡◌, ℕ, zero, suc, Bool, true, false, List, [], ◌∷◌, length, take, Some, refl, sym, ap, ◌∙◌, subst}
-use Rattle.std.specs.Prelude.{if◌then◌else◌, slice_get}
+use Rattle.std.proofs.Common.{◌≡◌, ℕ, zero, suc, Bool, true, false, List, [], ◌∷◌, length, take, Some, refl, sym, ap, ◌∙◌, subst, if◌then◌else◌, slice_get}
 use Rattle.std.specs.Option.{option_map}
 use Rattle.std.proofs.lemmas.Option.{same_Some, none-some}
-use Rattle.hep_source.specs.declared.name.Name.{Name}
-use Rattle.hep_source.specs.Names.{index_among, same_name}
-use Rattle.hep_source.specs.Units.{Units}
+use Rattle.hep_machine.specs.Words.{Name, index_among, same_name, Units, Layout, dummy_at, Dummy, Location, State, Store, local, same_location}
 use Rattle.hep_source.proofs.NameTests.{equal_names, same_name-self}
-use Rattle.hep_machine.specs.Layout.{Layout}
-use Rattle.hep_machine.specs.Locations.{dummy_at}
-use Rattle.hep_machine.specs.State.{Dummy, Location, State, Store, local}
-use Rattle.hep_machine.specs.Storage.{same_location}
 use Rattle.hep_machine.proofs.Locations.{equal_locations}
 use Rattle.hep_passing.specs.declared.given.Given.{Given}
 use Rattle.hep_passing.specs.declared.given.Given.TheVariants as given
@@ -44,19 +37,13 @@ given-at program s layout a (x ∷ xs) (d ∷ ds) (z ∷ gs) zero g h e = record
 given-at program s layout a (x ∷ xs) (d ∷ ds) (z ∷ gs) (suc k) g h e =
     let rest = given-at program s layout a xs ds gs k g h.1 e in
     record { name = rest.name; named = rest.named; dummy = rest.dummy; there = rest.there; is_given = rest.is_given }
-given-at program s layout a [] [] (z ∷ gs) k g h e = absurd h
-given-at program s layout a [] (d ∷ ds) gs k g h e = absurd h
-given-at program s layout a (x ∷ xs) [] gs k g h e = absurd h
-given-at program s layout a (x ∷ xs) (d ∷ ds) [] k g h e = absurd h
+given-at program s layout a _ _ _ k g h e = absurd h
 
 -- as many as there are names
 pub given-many : (program : Units) (s : State) (layout : Layout) (a : ℕ) (xs : List Name) (ds : List Dummy) (gs : List Given) → AreGiven program s layout a xs ds gs → length gs ≡ length xs
 given-many program s layout a [] [] [] h = refl
 given-many program s layout a (x ∷ xs) (d ∷ ds) (g ∷ gs) h = ap suc (given-many program s layout a xs ds gs h.1)
-given-many program s layout a [] [] (g ∷ gs) h = absurd h
-given-many program s layout a [] (d ∷ ds) gs h = absurd h
-given-many program s layout a (x ∷ xs) [] gs h = absurd h
-given-many program s layout a (x ∷ xs) (d ∷ ds) [] h = absurd h
+given-many program s layout a _ _ _ h = absurd h
 
 -- ---- what is stored
 

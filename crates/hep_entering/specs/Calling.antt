@@ -1,22 +1,8 @@
 -- A CALL or CREATE, and the activation that it makes: docs/MACHINE.md, "Steps" and "Binding".
 use Rattle.std.specs.Prelude.{◌≡◌, ℕ, ◌≤◌, Bool, true, List, [], ◌∷◌, ◌++◌, length, Some, Ok}
-use Rattle.hep_source.specs.declared.statement.Statement.{Statement}
-use Rattle.hep_source.specs.Units.{Units, dummies_of, unit_at}
-use Rattle.hep_machine.specs.Binding.{Binding, first_element, from_element}
-use Rattle.hep_machine.specs.Control.{level_after_statement}
-use Rattle.hep_machine.specs.Evaluation.{Actual, evaluated, referred}
-use Rattle.hep_machine.specs.Layout.{Layout, with_frame}
-use Rattle.hep_machine.specs.Locations.{Scope, storage_of}
-use Rattle.hep_machine.specs.Processes.{living, unit_of, with_process}
-use Rattle.hep_machine.specs.Run.{run}
-use Rattle.hep_machine.specs.State.{Activation, Dummy, Level, Process, State}
-use Rattle.hep_machine.specs.Step.{Top, binding_of, entry_level, next_activation, with_activation, with_new_process}
-use Rattle.hep_machine.specs.Variables.{frame_cells}
+use Rattle.hep_machine.specs.Words.{Statement, Units, dummies_of, unit_at, Binding, first_element, from_element, level_after_statement, Actual, evaluated, referred, Layout, with_frame, Scope, storage_of, living, unit_of, with_process, run, Activation, Dummy, Level, Process, State, Top, binding_of, entry_level, next_activation, with_activation, with_new_process, frame_cells}
 use Rattle.hep_arena.specs.Space.{Space}
-use Rattle.hep_frames.specs.Addresses.{frame_from}
-use Rattle.hep_frames.specs.Descriptors.{wanted_of}
-use Rattle.hep_frames.specs.Runs.{RunsFrom}
-use Rattle.hep_frames.specs.Tree.{Nodes, also, is_stacked}
+use Rattle.hep_frames.specs.Words.{frame_from, wanted_of, RunsFrom, Nodes, also, is_stacked}
 use Rattle.hep_finding.specs.Bound.{AreKept}
 use Rattle.hep_proc.specs.Keeping.{Keeps}
 use Rattle.hep_passing.specs.declared.given.Given.{Given}

@@ -1,12 +1,7 @@
 -- What the actual arguments give to the dummy arguments of a new activation: X3.9-1978, 15.9.3.
 use Rattle.std.specs.Prelude.{◌≡◌, ℕ, ◌≤◌, false, List, [], ◌∷◌, Some, slice_get}
-use Rattle.hep_source.specs.declared.name.Name.{Name}
-use Rattle.hep_source.specs.Units.{Units}
-use Rattle.hep_machine.specs.Layout.{Layout}
-use Rattle.hep_machine.specs.State.{Dummy, local, State, Store}
-use Rattle.hep_machine.specs.Storage.{with_value}
-use Rattle.hep_machine.specs.Views.{is_owned}
-use Rattle.hep_frames.specs.Runs.{RunsFrom}
+use Rattle.hep_machine.specs.Words.{Name, Units, Layout, Dummy, local, State, Store, with_value, is_owned}
+use Rattle.hep_frames.specs.Words.{RunsFrom}
 use Rattle.hep_passing.specs.declared.given.Given.{Given}
 use Rattle.hep_passing.specs.declared.given.Given.TheVariants as given
 

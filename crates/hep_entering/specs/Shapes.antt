@@ -1,19 +1,9 @@
 -- The bounds of adjustable arrays in a frame: X3.9-1978, 5.5, and docs/MACHINE.md, "Variables and frames".
 use Rattle.std.specs.Prelude.{◌≡◌, ℕ, ◌+◌, ◌*◌, List, [], ◌∷◌, length, ℤ, take, Option, Some, None, slice_get}
-use Rattle.hep_source.specs.declared.name.Name.{Name}
-use Rattle.hep_source.specs.declared.statement.Statement.{Statement}
-use Rattle.hep_source.specs.Units.{Units, dummies_of, unit_at}
-use Rattle.hep_machine.specs.Constants.{adjustable_dimensions, cells_of_all}
-use Rattle.hep_machine.specs.Layout.{Frame, Layout}
-use Rattle.hep_machine.specs.Locations.{dummy_at}
-use Rattle.hep_machine.specs.Processes.{activation_of, unit_of}
-use Rattle.hep_machine.specs.Shapes.{Bounds}
-use Rattle.hep_machine.specs.State.{State}
-use Rattle.hep_machine.specs.Variables.{adjustable_dimensions_of_all, do_statements, frame_cells, locals_of}
+use Rattle.hep_machine.specs.Words.{Name, Statement, Units, dummies_of, unit_at, adjustable_dimensions, cells_of_all, Frame, Layout, dummy_at, activation_of, unit_of, Bounds, State, adjustable_dimensions_of_all, do_statements, frame_cells, locals_of}
 use Rattle.hep_arena.specs.Gaps.{frame_among}
 use Rattle.hep_arena.specs.Space.{Space}
-use Rattle.hep_frames.specs.Descriptors.{number}
-use Rattle.hep_frames.specs.Tree.{Node}
+use Rattle.hep_frames.specs.Words.{number, Node}
 use Rattle.hep_passing.specs.Shapes.{AreShapesOf}
 use Rattle.hep_entering.specs.Giving.{AreDistinct}
 use Rattle.hep_entering.specs.Writing.{IsSet}

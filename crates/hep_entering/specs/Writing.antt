@@ -1,15 +1,10 @@
 -- The frame of a new activation while its cells are written: docs/MACHINE.md, "Variables and frames".
 use Rattle.std.specs.Prelude.{◌≡◌, ℕ, ◌+◌, Bool, false, nat_eq, nat_lt, pos, if◌then◌else◌, List, Option, Some, None, slice_set}
-use Rattle.hep_source.specs.Units.{Units, dummies_of, unit_at}
-use Rattle.hep_machine.specs.Access.{unset_cell}
+use Rattle.hep_machine.specs.Words.{Units, dummies_of, unit_at, unset_cell, Frame, Layout, activation_of, unit_of, State, Store}
 use Rattle.hep_machine.specs.declared.slot.Slot.{Slot}
-use Rattle.hep_machine.specs.Layout.{Frame, Layout}
-use Rattle.hep_machine.specs.Processes.{activation_of, unit_of}
-use Rattle.hep_machine.specs.State.{State, Store}
 use Rattle.hep_arena.specs.Gaps.{frame_among}
 use Rattle.hep_arena.specs.Space.{Space}
-use Rattle.hep_frames.specs.Descriptors.{Wanted, number, wanted_of}
-use Rattle.hep_frames.specs.Rows.{place_of_part}
+use Rattle.hep_frames.specs.Words.{Wanted, number, wanted_of, place_of_part}
 use Rattle.hep_passing.specs.declared.given.Given.{Given}
 use Rattle.hep_passing.specs.declared.given.Given.TheVariants as given
 use Rattle.hep_entering.specs.Giving.{AreDistinct, AreGiven}

@@ -1,16 +1,10 @@
 //! The frame of a new activation enters, and its dummy arguments are written.
 ghost use Rattle.std.specs.Prelude.{◌≡◌, ◌+◌, ◌*◌, ◌≤◌, ℕ, Bool, List, Some, None, IsSome, length};
 ghost use Rattle.slab.specs.Slab.{ContainsKey, HasRoomFor};
-ghost use Rattle.hep_source.specs.Units.{Units};
-ghost use Rattle.hep_machine.specs.Binding.{Binding};
-ghost use Rattle.hep_machine.specs.Evaluation.{Actual};
-ghost use Rattle.hep_machine.specs.Layout.{Layout, common_cells, frame_of, lowest_gap};
-ghost use Rattle.hep_machine.specs.Run.{run};
-ghost use Rattle.hep_machine.specs.State.{Level, Process, State};
-ghost use Rattle.hep_machine.specs.Step.{scope_of};
+ghost use Rattle.hep_machine.specs.Words.{Units, Binding, Actual, Layout, common_cells, frame_of, lowest_gap, run, Level, Process, State, scope_of};
 ghost use Rattle.hep_arena.specs.Holes.{first_fit};
-ghost use Rattle.hep_frames.specs.Descriptors.{wanted_of};
-ghost use Rattle.hep_frames.specs.Tree.{Node as TreeNode, is_stacked, new_node, with_node};
+ghost use Rattle.hep_frames.specs.Words.{wanted_of, is_stacked, new_node, with_node};
+ghost use Rattle.hep_frames.specs.Tree.{Node as TreeNode};
 ghost use Rattle.hep_proc.specs.Keeping.{AreOfSomeState, Keeps};
 ghost use Rattle.hep_proc.specs.Nodes.{CanCount, nodes_of};
 ghost use Rattle.hep_entering.specs.Calling.{ArePassed, IsPassing, IsWritten, state_begun, unit_begun};

@@ -1,13 +1,9 @@
 //! What actual arguments give is written to the cells of dummy arguments.
 ghost use Rattle.std.specs.Prelude.{◌≡◌, ◌+◌, ◌*◌, ◌<◌, ◌≤◌, ℕ, Bool, List, Some, length};
-ghost use Rattle.hep_source.specs.declared.name.Name.{Name};
-ghost use Rattle.hep_source.specs.Units.{Units, dummies_of, unit_at};
-ghost use Rattle.hep_machine.specs.Access.{unset_cell};
-ghost use Rattle.hep_machine.specs.Layout.{Layout};
-ghost use Rattle.hep_machine.specs.Processes.{unit_of};
-ghost use Rattle.hep_machine.specs.State.{State, local};
+ghost use Rattle.hep_machine.specs.Words.{Name, Units, dummies_of, unit_at, unset_cell, Layout, unit_of, State, local};
 ghost use Rattle.hep_arena.specs.Holes.{IsOut};
-ghost use Rattle.hep_frames.specs.Descriptors.{Wanted, number as slot_of_number};
+ghost use Rattle.hep_frames.specs.Descriptors.{number as slot_of_number};
+ghost use Rattle.hep_frames.specs.Words.{Wanted};
 ghost use Rattle.hep_proc.specs.Keeping.{Keeps, with_unset};
 ghost use Rattle.hep_proc.specs.Nodes.{nodes_of};
 ghost use Rattle.hep_entering.specs.Giving.{with_given};

@@ -1,27 +1,11 @@
 //! Laws of new activations: they begin with nothing stored, and once their dummy arguments are written the state that a CALL or
 //! CREATE gives is kept.
 ghost use Rattle.std.specs.Prelude.{◌≡◌, ◌+◌, ◌*◌, ◌++◌, ◌∷◌, [], ℕ, Bool, false, List, Some, length, slice_get};
-ghost use Rattle.hep_source.specs.declared.name.Name.{Name};
-ghost use Rattle.hep_source.specs.declared.statement.Statement.{Statement};
-ghost use Rattle.hep_source.specs.Names.{index_among};
-ghost use Rattle.hep_source.specs.Units.{Units, dummies_of, unit_at};
-ghost use Rattle.hep_machine.specs.Binding.{Binding};
-ghost use Rattle.hep_machine.specs.Constants.{adjustable_dimensions};
-ghost use Rattle.hep_machine.specs.Evaluation.{Actual, calling, creating, does, next_of};
-ghost use Rattle.hep_machine.specs.Layout.{Frame, Layout};
+ghost use Rattle.hep_machine.specs.Words.{Name, Statement, index_among, Units, dummies_of, unit_at, Binding, adjustable_dimensions, Actual, calling, creating, does, next_of, Frame, Layout, dummy_at, activation_of, living, unit_of, run, Bounds, Activation, Dummy, Level, Process, State, Store, local, scope_of, step, unit_called, adjustable_dimensions_of_all, frame_cells};
 ghost use Rattle.hep_machine.specs.declared.shape.Bound.{Bound};
-ghost use Rattle.hep_machine.specs.Locations.{dummy_at};
-ghost use Rattle.hep_machine.specs.Processes.{activation_of, living, unit_of};
-ghost use Rattle.hep_machine.specs.Run.{run};
-ghost use Rattle.hep_machine.specs.Shapes.{Bounds};
-ghost use Rattle.hep_machine.specs.State.{Activation, Dummy, Level, Process, State, Store, local};
-ghost use Rattle.hep_machine.specs.Step.{scope_of, step, unit_called};
-ghost use Rattle.hep_machine.specs.Variables.{adjustable_dimensions_of_all, frame_cells};
 ghost use Rattle.hep_arena.specs.Gaps.{frame_among};
 ghost use Rattle.hep_arena.specs.Space.{Space};
-ghost use Rattle.hep_frames.specs.Descriptors.{Wanted};
-ghost use Rattle.hep_frames.specs.Addresses.{IsLaid};
-ghost use Rattle.hep_frames.specs.Tree.{Nodes};
+ghost use Rattle.hep_frames.specs.Words.{Wanted, IsLaid, Nodes};
 ghost use Rattle.hep_proc.specs.Keeping.{IsBegun, Keeps, with_unset};
 ghost use Rattle.hep_passing.specs.declared.given.Given.{Given};
 ghost use Rattle.hep_entering.specs.Calling.{AreAllKept, ArePassed, IsAllWritten, IsKeptIn, IsPassing, IsWritten, called_activation, layout_with, state_begun, state_called, state_created, unit_begun};

@@ -1,15 +1,10 @@
 //! The bounds of adjustable arrays are written to the last cells of a new frame.
 ghost use Rattle.std.specs.Prelude.{◌≡◌, ◌+◌, ◌*◌, ◌<◌, ◌≤◌, ℕ, Bool, Some, None, length};
 ghost use Rattle.slab.specs.Slab.{ContainsKey};
-ghost use Rattle.hep_machine.specs.Shapes.{Bounds};
-ghost use Rattle.hep_source.specs.Units.{Units, unit_at};
-ghost use Rattle.hep_machine.specs.Layout.{Frame, Layout};
-ghost use Rattle.hep_machine.specs.Processes.{unit_of};
-ghost use Rattle.hep_machine.specs.State.{State};
-ghost use Rattle.hep_machine.specs.Variables.{frame_cells};
+ghost use Rattle.hep_machine.specs.Words.{Bounds, Units, unit_at, Frame, Layout, unit_of, State, frame_cells};
 ghost use Rattle.hep_arena.specs.Gaps.{frame_among};
 ghost use Rattle.hep_arena.specs.Holes.{IsOut};
-ghost use Rattle.hep_frames.specs.Descriptors.{Wanted};
+ghost use Rattle.hep_frames.specs.Words.{Wanted};
 ghost use Rattle.hep_frames.specs.Tree.{Node as TreeNode};
 ghost use Rattle.hep_proc.specs.Keeping.{AreOfSomeState, Keeps};
 ghost use Rattle.hep_proc.specs.Nodes.{nodes_of};

@@ -1,6 +1,5 @@
 -- Digits that are read as an integer constant, as those of a label.
-use Rattle.std.proofs.Common.{◌≡◌, inl, inr, ℕ, zero, suc, ◌+◌, ◌-◌, ◌*◌, ◌<◌, ◌≤◌, true, false, List, [], ◌∷◌, length, Some, None, refl, sym, ap, ◌∙◌, arith, length-append, to_z, of_z, w64}
-use Rattle.std.specs.Prelude.{◌^◌, IsTrue, ℤ, pos, min, nat_le, Result, Ok, Err, FitsSigned, unsigned_abs}
+use Rattle.std.proofs.Common.{◌≡◌, inl, inr, ℕ, zero, suc, ◌+◌, ◌-◌, ◌*◌, ◌<◌, ◌≤◌, true, false, List, [], ◌∷◌, length, Some, None, refl, sym, ap, ◌∙◌, arith, length-append, to_z, of_z, w64, ◌^◌, IsTrue, ℤ, pos, min, nat_le, Result, Ok, Err, FitsSigned, unsigned_abs}
 use Rattle.std.specs.Result.{OkIff, is_ok, result_ok}
 use Rattle.std.specs.Int.{FitsUnsignedBits}
 use Rattle.std.specs.List.{list_all}

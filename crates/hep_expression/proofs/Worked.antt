@@ -1,7 +1,6 @@
 -- Worked rows: what the grammar gives for some texts.
-use Rattle.std.specs.Prelude.{◌≡◌, ℕ, Bool, true, false, pos, codes, map, List, [], ◌∷◌, length, Option, Some, None, refl}
 use Rattle.std.specs.List.{AllByRecursion}
-use Rattle.std.proofs.Common.{sym, ◌∙◌, arith}
+use Rattle.std.proofs.Common.{sym, ◌∙◌, arith, ◌≡◌, ℕ, Bool, true, false, pos, codes, map, List, [], ◌∷◌, length, Option, Some, None, refl}
 use Prim.Native.String.{String}
 use Rattle.hep_source.specs.Tree.{Tree, constant, occurrence, with_list, parenthesized, signed, negated, binary, no_trees, trees}
 use Rattle.hep_source.specs.declared.value.Value.TheVariants.{Int, Truth}

@@ -1,17 +1,8 @@
 -- A step makes no activation, or one of which holds what holds of what its actual arguments bind.
-use Rattle.std.proofs.Common.{◌≡◌, ◌⊎◌, inl, inr, ℕ, Bool, List, [], ◌∷◌, ◌++◌, length, Option, Some, None, Result, Ok, Err, refl}
-use Rattle.std.specs.Prelude.{ℤ, ◌+ℤ◌}
-use Rattle.hep_source.specs.declared.value.Value.{Value}
-use Rattle.hep_source.specs.Units.{Units, dummies_of, unit_at}
+use Rattle.std.proofs.Common.{◌≡◌, ◌⊎◌, inl, inr, ℕ, Bool, List, [], ◌∷◌, ◌++◌, length, Option, Some, None, Result, Ok, Err, refl, ℤ, ◌+ℤ◌}
+use Rattle.hep_machine.specs.Words.{Value, Units, dummies_of, unit_at, integer_of, integer_or_overflow, Binding, level_after_statement, variable_of, Actual, Action, assigning, entering_loop, ending_loop, calling, creating, purging, Next, wants, does, Scope, location_of_name, loop_at, Activation, Level, Location, Loop, State, Store, Answer, answer_at, answer_of, binding_of, iterations, result_after_action, result_after_answer, result_after_assignment, result_after_call, result_after_create, result_after_do, result_after_increment, result_after_loop_end, result_after_loop_variable, result_after_next, result_after_purge, result_after_write, scope_of, store_after_purge, Top, unit_called, unit_on_top, written}
 use Rattle.hep_machine.specs.declared.event.Kind.{Kind}
-use Rattle.hep_machine.specs.Arithmetic.{integer_of, integer_or_overflow}
-use Rattle.hep_machine.specs.Binding.{Binding}
-use Rattle.hep_machine.specs.Control.{level_after_statement, variable_of}
-use Rattle.hep_machine.specs.Evaluation.{Actual, Action, assigning, jumping, choosing, branching, testing_condition, entering_block, entering_loop, ending_loop, calling, creating, purging, printing, continuing, leaving, stopping, Next, wants, does}
-use Rattle.hep_machine.specs.Locations.{Scope, location_of_name}
-use Rattle.hep_machine.specs.Processes.{loop_at}
-use Rattle.hep_machine.specs.State.{Activation, Level, Location, Loop, State, Store}
-use Rattle.hep_machine.specs.Step.{Answer, gives, waits, fails, answer_at, answer_of, binding_of, iterations, result_after_action, result_after_answer, result_after_assignment, result_after_call, result_after_create, result_after_do, result_after_increment, result_after_loop_end, result_after_loop_variable, result_after_next, result_after_purge, result_after_write, scope_of, store_after_purge, Top, unit_called, unit_on_top, written}
+use Rattle.hep_machine.specs.Step.{waits}
 use Rattle.hep_machine.proofs.Changes.{Makes}
 use Rattle.hep_finding.specs.Bound.{Agrees, NextAgrees}
 
@@ -34,14 +25,12 @@ module _ (program : Units) (t : Top) (Holds : Activation → Type 0) where
   same = inl refl
 
   added-answer : (a : Answer) → Makes Adds (result_after_answer program t a)
-  added-answer (gives v store) = same
   added-answer (waits w) = tt
-  added-answer (fails k) = same
+  added-answer _ = same
 
   added-write : (level : Level) (a : Answer) → Makes Adds (result_after_write program t level a)
-  added-write level (gives v store) = same
   added-write level (waits w) = tt
-  added-write level (fails k) = same
+  added-write level _ = same
 
   added-assignment : (asynchronous : Bool) (at : Result Location Kind) (v : Value) → Makes Adds (result_after_assignment program t asynchronous at v)
   added-assignment asynchronous (Err k) v = same
@@ -80,20 +69,12 @@ module _ (program : Units) (t : Top) (Holds : Activation → Type 0) where
   module _ (binds : (u : ℕ) (ys : List Actual) → length ys ≡ length (dummies_of (unit_at program u)) → Binds u (binding_of program t u ys)) where
     added-action : (a : Action) → Agrees program a → Makes Adds (result_after_action program t a)
     added-action (assigning r v) h = added-assignment r.0.asynchronous (location_of_name scope r.0 r.1) v
-    added-action (jumping l) h = same
-    added-action (choosing labels v) h = same
-    added-action (branching labels v) h = same
-    added-action (testing_condition v) h = same
-    added-action (entering_block v) h = same
     added-action (entering_loop x m k l) h = added-do (location_of_name scope x []) (integer_of m) (integer_of l) (iterations (integer_of m) (integer_of k) (integer_of l))
     added-action (ending_loop d) h = added-loop_end (loop_at t.level.loops d) (location_of_name scope (variable_of (unit_on_top program t) d) [])
     added-action (calling x actuals) h = added-call (unit_called program x) (binding_of program t (unit_called program x) actuals) (binds (unit_called program x) actuals h)
     added-action (creating x actuals) h = added-create (unit_called program x) (binding_of program t (unit_called program x) actuals) (binds (unit_called program x) actuals h)
     added-action (purging targets) h = added-purge (store_after_purge scope targets old)
-    added-action (printing items) h = same
-    added-action continuing h = same
-    added-action leaving h = same
-    added-action stopping h = same
+    added-action _ h = same
 
     pub added-next : (m : Next) → NextAgrees program m → Makes Adds (result_after_next program t m)
     added-next (wants r) h = added-answer (answer_of scope old r)

@@ -1,21 +1,11 @@
 -- The cells of DOs have their counts and increments.
-use Rattle.std.proofs.Common.{◌≡◌, ◌<◌, ℕ, zero, suc, ◌+◌, Bool, true, false, List, [], ◌∷◌, Option, Some, None, refl, ap, ◌∙◌, arith}
-use Rattle.std.specs.Prelude.{ℤ, pos, if◌then◌else◌, nat_eq, slice_get}
+use Rattle.std.proofs.Common.{◌≡◌, ◌<◌, ℕ, zero, suc, ◌+◌, Bool, true, false, List, [], ◌∷◌, Option, Some, None, refl, ap, ◌∙◌, arith, ℤ, pos, if◌then◌else◌, nat_eq, slice_get}
 use Rattle.std.specs.Option.{unwrap_or}
-use Rattle.hep_source.specs.declared.statement.Statement.{Statement}
-use Rattle.hep_source.specs.Defaults.{no_statement}
-use Rattle.hep_source.specs.Units.{Units, statement_at, unit_at}
+use Rattle.hep_machine.specs.Words.{Statement, no_statement, Units, statement_at, unit_at, unset_cell, Frame, Layout, loop_at, unit_of, Level, Loop, State, is_do}
 use Rattle.hep_machine.specs.declared.slot.Slot.{Slot}
-use Rattle.hep_machine.specs.Access.{unset_cell}
-use Rattle.hep_machine.specs.Layout.{Frame, Layout}
-use Rattle.hep_machine.specs.Processes.{loop_at, unit_of}
-use Rattle.hep_machine.specs.State.{Level, Loop, State}
-use Rattle.hep_machine.specs.Variables.{is_do}
 use Rattle.hep_arena.specs.Gaps.{frame_among}
-use Rattle.hep_code.specs.Standing.{counts_of}
-use Rattle.hep_frames.specs.Addresses.{frame_address}
-use Rattle.hep_frames.specs.Descriptors.{Describes, level_of, loop_among, slot_of_loop, wanted_of}
-use Rattle.hep_frames.specs.Rows.{first_of_part, iteration}
+use Rattle.hep_code.specs.Words.{counts_of}
+use Rattle.hep_frames.specs.Words.{frame_address, Describes, level_of, loop_among, slot_of_loop, wanted_of, first_of_part, iteration}
 use Rattle.hep_frames.proofs.FrameRows.{iteration-first}
 use Rattle.hep_frames.proofs.Telling.{part-address, tells-loop}
 use Rattle.hep_image.specs.Finding.{cells_in, counts_at, integer_by, natural_in}

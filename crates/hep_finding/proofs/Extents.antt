@@ -1,35 +1,15 @@
 -- Shapes have an element at least; and bounds that are constant are the same where more names have values.
-use Rattle.std.proofs.Common.{◌≡◌, ◌≢◌, ◌≤◌, ℕ, suc, ℤ, pos, ◌+ℤ◌, ◌-ℤ◌, ◌≤ℤ◌, Bool, true, false, List, [], ◌∷◌, length, Option, Some, None, refl, sym, ap, ◌∙◌, arith}
-use Rattle.std.specs.Prelude.{◌&&◌, IfSome, if◌then◌else◌, is_some, nat_le}
+use Rattle.std.proofs.Common.{◌≡◌, ◌≢◌, ◌≤◌, ℕ, suc, ℤ, Bool, true, false, List, [], ◌∷◌, length, Option, Some, None, refl, sym, ap, ◌∙◌, arith, ◌&&◌, IfSome, if◌then◌else◌, is_some, nat_le}
 use Rattle.std.specs.List.{list_all}
 use Rattle.std.specs.Option.{option_map, unwrap_or}
 use Rattle.std.proofs.Math.Nat.{mul-le-mul}
 use Rattle.std.proofs.lemmas.Bool.{and_parts}
-use Rattle.std.proofs.lemmas.Int.{ints}
 use Rattle.std.proofs.lemmas.Option.{same_Some, none-some}
-use Rattle.hep_source.specs.declared.declaration.Dimension.{Dimension}
-use Rattle.hep_source.specs.declared.declaration.UpperBound.{UpperBound}
-use Rattle.hep_source.specs.declared.declaration.UpperBound.TheVariants.{Expression, Open}
-use Rattle.hep_source.specs.declared.name.Name.{Name}
-use Rattle.hep_source.specs.declared.operator.Operator.{Operator}
-use Rattle.hep_source.specs.declared.statement.Statement.{Statement}
-use Rattle.hep_source.specs.declared.value.Value.{Value}
-use Rattle.hep_source.specs.Tree.{Tree, Trees, constant, occurrence, with_list, parenthesized, signed, negated, binary, no_trees, trees}
+use Rattle.hep_machine.specs.Words.{Dimension, UpperBound, Expression, Open, Name, Operator, Statement, Value, Tree, Trees, constant, occurrence, with_list, parenthesized, signed, negated, binary, no_trees, trees, combined_value, integer_of, negated_value, signed_value, Values, adjustable_dimensions, both, bound_before, bound_of, bounds_of, by_meaning, constant_value, is_constant_dimension, is_constant_lower, is_constant_upper, lower_value, upper_value, value_of, values_of, with_one, with_two, dimensions_of, is_array, is_nonempty, Meaning, element, listed_meaning, Bounds, are_dimensions, elements, extent, is_between, is_most, is_shape, product}
 use Rattle.hep_machine.specs.declared.shape.Bound.{Bound}
-use Rattle.hep_machine.specs.Arithmetic.{combined_value, integer_of, negated_value, signed_value}
-use Rattle.hep_machine.specs.Constants.{Values, adjustable_dimensions, both, bound_before, bound_of, bounds_of, by_meaning, constant_value, is_constant_dimension, is_constant_lower, is_constant_upper, lower_value, upper_value, value_of, values_of, with_one, with_two}
-use Rattle.hep_machine.specs.Declarations.{dimensions_of, is_array, is_nonempty}
-use Rattle.hep_machine.specs.Functions.{Meaning, element, pure, state, unknown, listed_meaning}
-use Rattle.hep_machine.specs.Shapes.{Bounds, are_dimensions, elements, extent, is_between, is_most, is_shape, product, size_between}
-use Rattle.hep_shape.proofs.Extents.{le_of_test, some_natural}
+use Rattle.hep_shape.proofs.Extents.{between_extent}
 
 -- ---- how many elements a shape has
-
-size-some : (l : ℤ) (u : Option ℤ) (bs : Bounds) → is_between l u bs ≡ true → IfSome (size_between l u) (λ n. 1 ≤ n)
-size-some l None bs h = tt
-size-some l (Some u) bs h =
-    let up : l ≤ℤ u = le_of_test l u h in
-    some_natural ((u -ℤ l) +ℤ pos 1) (omega (arith, ints))
 
 product-some : (o p : Option ℕ) → IfSome o (λ n. 1 ≤ n) → IfSome p (λ n. 1 ≤ n) → IfSome (product o p) (λ n. 1 ≤ n)
 product-some None p h k = tt
@@ -40,16 +20,17 @@ elements-some : (bs : Bounds) → are_dimensions bs ≡ true → IfSome (element
 elements-some [] h = omega arith
 elements-some (b ∷ bs) h =
     let parts = and_parts (is_between b.lower b.upper bs) (are_dimensions bs) h in
-    product-some (extent b) (elements bs) (size-some b.lower b.upper bs parts.0) (elements-some bs parts.1)
+    product-some (extent b) (elements bs) (between_extent b bs parts.0) (elements-some bs parts.1)
+
+-- what makes bounds a shape, apart from that there are some
+pub shape-parts : (bs : Bounds) → is_shape bs ≡ true → (nat_le (length bs) 7 ≡ true) × (are_dimensions bs ≡ true) × (is_most (elements bs) ≡ true)
+shape-parts bs h =
+    let few = and_parts (nat_le (length bs) 7) (are_dimensions bs && is_most (elements bs)) (and_parts (nat_le 1 (length bs)) _ h).1 in
+    let sized = and_parts (are_dimensions bs) (is_most (elements bs)) few.1 in
+    (few.0, sized.0, sized.1)
 
 pub shape-some : (bs : Bounds) (rest : ℕ) → is_shape bs ≡ true → 1 ≤ rest → 1 ≤ unwrap_or (elements bs) rest
-shape-some bs rest h one = by_elements (elements bs) (elements-some bs dimensions) where
-  dimensions : are_dimensions bs ≡ true
-  dimensions =
-      let few = (and_parts (nat_le 1 (length bs)) (nat_le (length bs) 7 && (are_dimensions bs && is_most (elements bs))) h).1 in
-      let sized = (and_parts (nat_le (length bs) 7) (are_dimensions bs && is_most (elements bs)) few).1 in
-      (and_parts (are_dimensions bs) (is_most (elements bs)) sized).0
-
+shape-some bs rest h one = by_elements (elements bs) (elements-some bs (shape-parts bs h).1) where
   by_elements : (o : Option ℕ) → IfSome o (λ n. 1 ≤ n) → 1 ≤ unwrap_or o rest
   by_elements None k = one
   by_elements (Some n) k = k
@@ -60,12 +41,10 @@ pub bounds-length : (unit : List Statement) (values : Values) (ds : List Dimensi
 bounds-length unit values [] bs e = ap (λ (cs : Bounds). length cs) (sym (same_Some [] bs e))
 bounds-length unit values (d ∷ ds) bs e = by_parts (bounds-length unit values ds) (lower_value unit values d.lower) (upper_value unit values d.upper) (bounds_of unit values ds) refl e where
   by_parts : ((cs : Bounds) → bounds_of unit values ds ≡ Some cs → length cs ≡ length ds) → (l : Option ℤ) (u : Option (Option ℤ)) (r : Option Bounds) → bounds_of unit values ds ≡ r → bound_before (bound_of l u) r ≡ Some bs → length bs ≡ length (d ∷ ds)
-  by_parts more None u r h e = absurd (none-some bs e)
-  by_parts more (Some l) None r h e = absurd (none-some bs e)
-  by_parts more (Some l) (Some u) None h e = absurd (none-some bs e)
   by_parts more (Some l) (Some u) (Some cs) h e =
       let known : Bound = record { lower = l; upper = u } in
       ap (λ (xs : Bounds). length xs) (sym (same_Some (known ∷ cs) bs e)) ∙ ap suc (more cs h)
+  by_parts more _ _ _ h e = absurd (none-some bs e)
 
 -- ---- more values
 
@@ -80,9 +59,7 @@ more-by f strict (Some w) p h v e = ap f (h w refl) ∙ e
 
 meaning-strict : (m : Meaning) → by_meaning m None ≡ None
 meaning-strict element = refl
-meaning-strict (pure f) = refl
-meaning-strict (state f) = refl
-meaning-strict unknown = refl
+meaning-strict _ = refl
 
 two-strict : (o : Operator) (v : Option Value) → with_two (combined_value o) v None ≡ None
 two-strict o None = refl

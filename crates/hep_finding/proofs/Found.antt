@@ -1,33 +1,54 @@
 -- Variables and elements are found where the source machine has them.
-use Rattle.std.proofs.Common.{◌≡◌, ◌≤◌, ℕ, Bool, true, false, List, [], Some, refl, sym, ap, subst}
-use Rattle.std.specs.Prelude.{if◌then◌else◌, map}
-use Rattle.std.specs.Option.{unwrap_or}
-use Rattle.hep_source.specs.declared.name.Name.{Name}
-use Rattle.hep_source.specs.declared.statement.Statement.{Statement}
-use Rattle.hep_source.specs.declared.value.Value.{Value}
-use Rattle.hep_source.specs.Names.{index_among}
-use Rattle.hep_source.specs.Units.{Units, unit_at}
+use Rattle.std.proofs.Common.{◌≡◌, ℕ, ◌-◌, ◌≤◌, ◌<◌, Bool, true, false, List, [], ◌∷◌, Option, Some, None, Ok, Err, refl, ap, ◌∙◌, arith, sym, subst, ℤ, if◌then◌else◌, nat_le, map}
+use Rattle.std.proofs.lemmas.Bool.Decides.{nat_tests}
+use Rattle.hep_machine.specs.Words.{Value, Units, unit_at, Layout, Frame, StorageSequence, element_in, element_of, location_in, Scope, location_of_name, storage_of, Bounds, before_element, counted_element, element_number, is_most, most_elements, elements, Location, State, Name, Statement, integers_of, is_array, unit_of, scope_of}
 use Rattle.hep_machine.specs.declared.slot.Slot.{Slot}
-use Rattle.hep_machine.specs.Arithmetic.{integers_of}
-use Rattle.hep_machine.specs.Declarations.{is_array}
-use Rattle.hep_machine.specs.Layout.{Frame, Layout}
-use Rattle.hep_machine.specs.Locations.{Scope, element_of, location_in, location_of_name, storage_of}
-use Rattle.hep_machine.specs.Processes.{unit_of}
-use Rattle.hep_machine.specs.Shapes.{Bounds, counted_element, elements, most_elements}
-use Rattle.hep_machine.specs.State.{State}
-use Rattle.hep_machine.specs.Step.{scope_of}
+use Rattle.hep_machine.specs.declared.event.Kind.TheVariants.{Range}
+use Rattle.hep_code.specs.Words.{IsSame, is_asynchronous}
+use Rattle.hep_frames.specs.Words.{address, RunsFrom}
+use Rattle.hep_image.specs.Finding.{address_of_scalar, element_within, address_in_array, address_of, base_at, bounds_at, rest_at}
+use Rattle.hep_frames.proofs.Storages.{from-one}
+use Rattle.std.specs.Option.{unwrap_or}
 use Rattle.hep_code.specs.declared.variable.Variable.{Variable}
-use Rattle.hep_code.specs.declared.variable.Variable.TheVariants as variables
-use Rattle.hep_code.specs.Replies.{IsSame, is_asynchronous}
-use Rattle.hep_frames.specs.Addresses.{address}
-use Rattle.hep_frames.specs.Runs.{RunsFrom}
 use Rattle.hep_image.specs.declared.array.Array.{Array}
 use Rattle.hep_image.specs.declared.array.Start.{Start}
 use Rattle.hep_image.specs.declared.array.Start.TheVariants.{Local, Common, Dummy}
-use Rattle.hep_image.specs.Finding.{address_in_array, address_of, address_of_scalar, base_at, bounds_at, element_within, rest_at}
-use Rattle.hep_image.specs.Places.{array_of, arrays_of, extents_of, scalar, start_of, variable_by, variable_of}
-use Rattle.hep_finding.proofs.Elements.{same-element, same-scalar}
-use Rattle.hep_finding.proofs.Named.{array-listed, at-index}
+use Rattle.hep_image.specs.Places.{array_of, arrays_of, extents_of, scalar, start_of, variable_of}
+use Rattle.hep_finding.proofs.Named.{array-listed, at-index, by-kind}
+
+-- ---- elements
+
+module _ (program : Units) (s : State) (layout : Layout) (start : Location) (rest base : ℕ) (cells : ℕ → Slot) (first : ℕ) (runs : RunsFrom program s layout start rest base) where
+  abbrev sequence : Bounds → StorageSequence
+  sequence shape = record { start = start; rest = rest; shape = shape }
+
+  within : (shape : Bounds) (n : ℕ) → 1 ≤ n → rest ≤ most_elements → (fits few : Bool) → nat_le n rest ≡ fits → nat_le n most_elements ≡ few
+      → IsSame (address program s layout) (element_within cells first base rest (if few then Some n else None)) (location_in (sequence shape) (if fits then Ok n else Err Range))
+  within shape n one most true true f g = rw f (runs (n - 1) (let le : n ≤ rest = grind (arith, nat_tests) in omega (arith, one, le)))
+  within shape n one most true false f g =
+      let le : n ≤ rest = grind (arith, nat_tests) in
+      let more : most_elements < n = grind (arith, nat_tests) in
+      absurd (omega (arith, le, more, most))
+  within shape n one most false true f g = rw f refl
+  within shape n one most false false f g = refl
+
+  -- by its number: both are none, or both the same
+  pub same-element : (shape : Bounds) (ss : List ℤ) → rest ≤ most_elements
+      → IsSame (address program s layout) (element_within cells first base rest (counted_element shape ss)) (location_in (sequence shape) (element_in (sequence shape) (element_number shape ss)))
+  same-element shape ss most = by_number (element_number shape ss) (from-one (before_element 1 shape ss)) where
+    by_number : (o : Option ℕ) → ((n : ℕ) → o ≡ Some n → 1 ≤ n)
+        → IsSame (address program s layout) (element_within cells first base rest (if is_most o then o else None)) (location_in (sequence shape) (element_in (sequence shape) o))
+    by_number None one = refl
+    by_number (Some n) one = within shape n (one n refl) most (nat_le n rest) (nat_le n most_elements) refl refl
+
+  -- a scalar is its one element
+  pub same-scalar : (vs : List Value) → rest ≡ 1 → IsSame (address program s layout) (address_of_scalar cells first base vs) (location_in (sequence []) (element_of (sequence []) vs))
+  same-scalar [] one =
+      let fits : nat_le 1 rest ≡ true = rw one refl in
+      rw fits (runs 0 (omega (arith, one)) ∙ ap (λ n. Some n) (omega arith))
+  same-scalar (v ∷ vs) one = refl
+
+-- ---- variables
 
 module _ (program : Units) (s : State) (layout : Layout) (cells : ℕ → Slot) (a : ℕ) (f : Frame) where
   abbrev pub unit : List Statement
@@ -79,9 +100,7 @@ module _ (program : Units) (s : State) (layout : Layout) (cells : ℕ → Slot) 
       same-element program s layout e.start e.rest (base_at cells f.first at) cells f.first found.runs e.shape (integers_of vs) found.few)))
 
   pub addressed : (x : Name) (at : Start) (vs : List Value) → IsFound x at → IsAddressedBy x vs (variable_of program unit x)
-  unfolding variable_of
-  addressed x at vs found = subst (λ o. IsAddressedBy x vs (variable_by unit x o)) (sym found.starts) (by_kind (is_array unit x) refl) where
-    by_kind : (b : Bool) → is_array unit x ≡ b → IsAddressedBy x vs (if b then variables.Array x.asynchronous (unwrap_or (index_among x (arrays_of unit)) 0) else scalar x.asynchronous at)
-    by_kind true is =
-        (refl, subst (λ o. IsSame (address program s layout) (address_in_array cells f.first o vs) (location_of_name scope x vs)) (sym (at-index x (array_of program unit) (arrays_of unit) (array-listed x unit is))) (array-found x at vs found is))
-    by_kind false is = (scalar-asynchronous x.asynchronous at, scalar-found x at vs found is)
+  addressed x at vs found =
+      by-kind program unit x at (IsAddressedBy x vs) found.starts
+      (λ is. (refl, subst (λ o. IsSame (address program s layout) (address_in_array cells f.first o vs) (location_of_name scope x vs)) (sym (at-index x (array_of program unit) (arrays_of unit) (array-listed x unit is))) (array-found x at vs found is)))
+      (λ is. (scalar-asynchronous x.asynchronous at, scalar-found x at vs found is))

@@ -1,13 +1,8 @@
 pub mod Named
-pub mod Elements
-pub mod Counted
 pub mod Found
-pub mod Own
-pub mod Held
-pub mod Dummies
+pub mod Counted
+pub mod Variables
 pub mod Within
 pub mod Extents
-pub mod Binds
-pub mod Added
 pub mod Activations
-pub mod Reached
+pub mod Added

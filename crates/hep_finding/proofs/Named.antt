@@ -1,24 +1,18 @@
--- Arrays: each is among the names of its unit, and found among its arrays; its bounds are constant where it has a constant shape.
-use Rattle.std.proofs.Common.{◌≡◌, inl, inr, Bool, true, false, List, [], ◌∷◌, Some, refl, sym, ap, ◌∙◌}
-use Rattle.std.specs.Prelude.{◌&&◌, ◌||◌, if◌then◌else◌, map, slice_get}
+-- Names and their variables: an array is among the names of its unit, and found among its arrays.
+use Rattle.std.proofs.Common.{◌≡◌, ◌≢◌, subst, inl, inr, Bool, true, false, List, [], ◌∷◌, Some, refl, sym, ap, ◌∙◌, ◌&&◌, ◌||◌, if◌then◌else◌, map, slice_get}
 use Rattle.std.specs.List.{flat_map, list_any}
 use Rattle.std.specs.Option.{option_map, option_map_or, unwrap_or}
 use Rattle.std.proofs.lemmas.Bool.{and_parts, or_left, or_right, or_cases}
 use Rattle.std.proofs.lemmas.List.Folds.{list_any-append}
 use Rattle.std.proofs.lemmas.Option.{slice_get-map}
-use Rattle.hep_source.specs.declared.declaration.CommonBlock.{CommonBlock}
-use Rattle.hep_source.specs.declared.declaration.Declarator.{Declarator}
-use Rattle.hep_source.specs.declared.name.Name.{Name}
-use Rattle.hep_source.specs.declared.name.Occurrence.{Occurrence}
-use Rattle.hep_source.specs.declared.statement.Form.{Form}
+use Rattle.hep_machine.specs.Words.{CommonBlock, Declarator, Name, Occurrence, Form, Statement, same_name, is_among, index_among, Units, names_of_occurrences, declarator_among, declarators_in, declarators_of, dimensions_among, is_array, is_nonempty, names_of, occurrences_in_block, occurrences_in_declarator, occurrences_in_dimension, occurrences_in_form, occurrences_in_statement, occurrences_of, occurrences_in}
 use Rattle.hep_source.specs.declared.statement.Form.TheVariants as form
-use Rattle.hep_source.specs.declared.statement.Statement.{Statement}
-use Rattle.hep_source.specs.Names.{same_name, is_among, index_among}
-use Rattle.hep_source.specs.Units.{names_of_occurrences}
 use Rattle.hep_source.proofs.NameTests.{same_name-turned}
-use Rattle.hep_machine.specs.Declarations.{declarator_among, declarators_in, declarators_of, dimensions_among, is_array, is_nonempty}
-use Rattle.hep_machine.specs.Variables.{names_of, occurrences_in_block, occurrences_in_declarator, occurrences_in_dimension, occurrences_in_form, occurrences_in_statement, occurrences_of, occurrences_in}
-use Rattle.hep_image.specs.Places.{arrays_of}
+use Rattle.hep_code.specs.declared.variable.Variable.{Variable}
+use Rattle.hep_code.specs.declared.variable.Variable.TheVariants.{Absent}
+use Rattle.hep_code.specs.declared.variable.Variable.TheVariants as variables
+use Rattle.hep_image.specs.declared.array.Start.{Start}
+use Rattle.hep_image.specs.Places.{arrays_of, scalar, start_of, variable_by, variable_of}
 use Rattle.hep_image.proofs.Members.{among-added, among-passing, indexed}
 use Rattle.hep_source.proofs.Tests.{any-flat}
 
@@ -40,9 +34,10 @@ module _ (x : Name) where
   abbrev declares : Declarator → Bool
   declares d = same_name x d.occurrence.name
 
-  among-any : (ps : List Occurrence) → is_among x (names_of_occurrences ps) ≡ list_any names ps
-  among-any [] = refl
-  among-any (p ∷ ps) = ap (λ b. if same_name x p.name then true else b) (among-any ps) ∙ by_test (same_name x p.name) (list_any names ps) where
+  -- a name is among those of some things if it is that of one
+  pub among-any : {A : Type 0} (name : A → Name) (ys : List A) → is_among x (map name ys) ≡ list_any (λ y. same_name x (name y)) ys
+  among-any name [] = refl
+  among-any name (y ∷ ys) = ap (λ b. if same_name x (name y) then true else b) (among-any name ys) ∙ by_test (same_name x (name y)) (list_any (λ z. same_name x (name z)) ys) where
     by_test : (a b : Bool) → (if a then true else b) ≡ (a || b)
     by_test true b = refl
     by_test false b = refl
@@ -84,7 +79,7 @@ module _ (x : Name) where
 
   pub array-listed : (unit : List Statement) → is_array unit x ≡ true → is_among x (arrays_of unit) ≡ true
   array-listed unit h =
-      among-passing x (is_array unit) (names_of unit) h (among-added x [] (names_of_occurrences (occurrences_of unit)) (among-any (occurrences_of unit) ∙ named-statements unit h))
+      among-passing x (is_array unit) (names_of unit) h (among-added x [] (names_of_occurrences (occurrences_of unit)) (among-any (λ (p : Occurrence). p.name) (occurrences_of unit) ∙ named-statements unit h))
 
   -- ---- what stands at the index of a name
 
@@ -92,3 +87,23 @@ module _ (x : Name) where
   at-index g xs h =
       let found = indexed x xs h in
       ap (λ o. slice_get (map g xs) (unwrap_or o 0)) found.1 ∙ (slice_get-map g xs found.0 ∙ ap (option_map g) found.2)
+
+-- ---- the variable of a name
+
+-- it is absent or not
+pub absent-or : (v : Variable) (P : Variable → Type 0) → P Absent → (v ≢ Absent → P v) → P v
+absent-or Absent P none there = none
+absent-or (variables.Local b c) P none there = there (λ h. absurd cc)
+absent-or (variables.Common b c) P none there = there (λ h. absurd cc)
+absent-or (variables.Dummy b c) P none there = there (λ h. absurd cc)
+absent-or (variables.Array b i) P none there = there (λ h. absurd cc)
+
+-- one that begins somewhere is an array or a scalar
+pub by-kind : (program : Units) (unit : List Statement) (x : Name) (at : Start) (P : Variable → Type 0) → start_of program unit x ≡ Some at
+    → (is_array unit x ≡ true → P (variables.Array x.asynchronous (unwrap_or (index_among x (arrays_of unit)) 0)))
+    → (is_array unit x ≡ false → P (scalar x.asynchronous at)) → P (variable_of program unit x)
+unfolding variable_of
+by-kind program unit x at P starts array plain = subst (λ o. P (variable_by unit x o)) (sym starts) (by_test (is_array unit x) refl) where
+  by_test : (b : Bool) → is_array unit x ≡ b → P (if b then variables.Array x.asynchronous (unwrap_or (index_among x (arrays_of unit)) 0) else scalar x.asynchronous at)
+  by_test true is = array is
+  by_test false is = plain is

@@ -1,26 +1,18 @@
 -- What is read of a frame, and what is kept in it, lies in it.
-use Rattle.std.proofs.Common.{◌≡◌, ℕ, zero, suc, ◌+◌, ◌*◌, ◌≤◌, Bool, true, false, List, [], ◌∷◌, length, Option, Some, None, refl, sym, ap, subst, arith}
-use Rattle.std.specs.Prelude.{◌&&◌, if◌then◌else◌, map, nat_eq, nat_le, slice_get}
-use Rattle.std.specs.List.{filter}
-use Rattle.std.specs.Option.{unwrap_or}
-use Rattle.std.proofs.lemmas.Bool.{and_parts, eqb-false, eqb-true}
-use Rattle.std.proofs.lemmas.Bool.Decides.{nat_tests}
+use Rattle.std.proofs.Common.{◌≡◌, ℕ, ◌+◌, ◌≤◌, Bool, true, false, List, [], ◌∷◌, ◌++◌, Some, refl, sym, ap, ◌∙◌, arith, zero, suc, ◌*◌, length, Option, None, subst, if◌then◌else◌, slice_get, map, nat_eq}
+use Rattle.std.specs.List.{list_any, filter}
+use Rattle.std.proofs.lemmas.List.Folds.{list_any-append}
 use Rattle.std.proofs.lemmas.Option.{same_Some, none-some}
-use Rattle.hep_source.specs.declared.name.Name.{Name}
-use Rattle.hep_source.specs.declared.statement.Statement.{Statement}
-use Rattle.hep_source.specs.Names.{index_among, is_among}
-use Rattle.hep_source.specs.Units.{Units, dummies_of, statement_at, unit_at}
-use Rattle.hep_machine.specs.Constants.{adjustable_dimensions, cells_of, constant_shape}
-use Rattle.hep_machine.specs.Declarations.{BlockName, common_block, is_array}
-use Rattle.hep_machine.specs.Defaults.{no_shape}
-use Rattle.hep_machine.specs.Layout.{common_cells}
-use Rattle.hep_machine.specs.Shapes.{are_dimensions, elements, is_most}
-use Rattle.hep_machine.specs.Processes.{unit_of}
-use Rattle.hep_machine.specs.State.{State}
-use Rattle.hep_machine.specs.Variables.{frame_cells, is_do, locals_of, names_of}
+use Rattle.hep_machine.specs.Words.{CommonBlock, Declarator, Name, Statement, same_name, is_among, index_among, Units, dummies_of, statement_at, unit_at, cells_of, adjustable_dimensions, constant_shape, BlockName, block_holding, block_of, blocks_of_unit, common_block, entries_under, names_declared, names_in_block, same_block, is_array, common_cells, no_shape, unit_of, State, frame_cells, is_do, locals_of, names_of}
+use Rattle.hep_frames.specs.Words.{block_row, common_row, first_in_common, FramePart, argument, bounds, first_of_part, frame_row, iteration, same_part, size_in, variable}
+use Rattle.hep_frames.proofs.CommonRows.{block_row-below, common_row-cells, name-size}
+use Rattle.hep_frames.proofs.Runs.{common-size}
+use Rattle.hep_frames.proofs.FrameRows.{first-size, argument-first, bounds-first, frame_row-cells, iteration-first, variable-first}
+use Rattle.hep_machine.proofs.Locations.{block-self}
+use Rattle.std.proofs.lemmas.Bool.{or_left, or_right, eqb-false, eqb-true}
+use Rattle.std.specs.Option.{unwrap_or}
+use Rattle.std.proofs.lemmas.Bool.Decides.{nat_tests}
 use Rattle.hep_code.specs.declared.variable.Variable.TheVariants as variables
-use Rattle.hep_frames.specs.Rows.{FramePart, argument, bounds, first_in_common, first_of_part, frame_row, iteration, same_part, size_in, variable}
-use Rattle.hep_frames.proofs.FrameRows.{argument-first, bounds-first, frame_row-cells, iteration-first, variable-first, first-size}
 use Rattle.hep_image.specs.declared.array.Extents.{Extents}
 use Rattle.hep_image.specs.declared.array.Extents.TheVariants.{Constant, Adjustable}
 use Rattle.hep_image.specs.declared.array.Start.{Start}
@@ -31,9 +23,51 @@ use Rattle.hep_finding.specs.Constant.{HasConstantShape}
 use Rattle.hep_image.specs.Within.{AreExtentsIn, IsArrayIn, IsStartIn, LiesIn}
 use Rattle.hep_finding.specs.Within.{ArePlacedArrays}
 use Rattle.hep_finding.proofs.Counted.{do-there}
-use Rattle.hep_finding.proofs.Held.{held-cells}
+use Rattle.hep_finding.proofs.Named.{among-any}
+use Rattle.hep_finding.proofs.Extents.{shape-parts}
 use Rattle.hep_machine.proofs.ConstantShapes.{constant-shape}
-use Rattle.hep_finding.proofs.Own.{shaped-constant}
+use Rattle.hep_finding.proofs.Variables.{shaped-constant}
+
+-- ---- names in COMMON
+
+module _ (x : Name) where
+  abbrev declares : Declarator → Bool
+  declares d = same_name x d.occurrence.name
+
+  declared-any : (ds : List Declarator) → is_among x (names_declared ds) ≡ list_any declares ds
+  declared-any = among-any x (λ (d : Declarator). d.occurrence.name)
+
+  -- a name is among those of its block
+  held : (b : BlockName) (cs : List CommonBlock) → block_holding x cs ≡ Some b → list_any declares (entries_under b cs) ≡ true
+  held b [] e = absurd (none-some b e)
+  held b (c ∷ cs) e = by_test (held b cs) (is_among x (names_declared c.entries)) refl e where
+    added : (t : Bool) → list_any declares (entries_under b cs) ≡ true → list_any declares (if t then c.entries ++ entries_under b cs else entries_under b cs) ≡ true
+    added true h = list_any-append declares c.entries (entries_under b cs) ∙ or_right (list_any declares c.entries) (list_any declares (entries_under b cs)) h
+    added false h = h
+
+    by_test : (block_holding x cs ≡ Some b → list_any declares (entries_under b cs) ≡ true) → (t : Bool) → is_among x (names_declared c.entries) ≡ t → (if t then Some (block_of c) else block_holding x cs) ≡ Some b
+        → list_any declares (if same_block (block_of c) b then c.entries ++ entries_under b cs else entries_under b cs) ≡ true
+    by_test rest true t e =
+        let same : same_block (block_of c) b ≡ true = ap (same_block (block_of c)) (sym (same_Some (block_of c) b e)) ∙ block-self (block_of c) in
+        rw same (list_any-append declares c.entries (entries_under b cs) ∙ or_left (list_any declares c.entries) (list_any declares (entries_under b cs)) (sym (declared-any c.entries) ∙ t))
+    by_test rest false t e = added (same_block (block_of c) b) (rest e)
+
+  pub held-cells : (program : Units) (u : ℕ) (unit : List Statement) (b : BlockName) → slice_get program u ≡ Some unit → common_block unit x ≡ Some b → first_in_common program unit b x + cells_of unit x ≤ common_cells program
+  held-cells program u unit b e h =
+      let among : is_among x (names_in_block unit b) ≡ true = declared-any (entries_under b (blocks_of_unit unit)) ∙ held b (blocks_of_unit unit) h in
+      let name = name-size unit b x among in
+      let block = common-size program u unit x b e h in
+      omega (
+        arith,
+        name,
+        block,
+        first-size (same_name x) (block_row unit b),
+        first-size (same_block b) (common_row program),
+        block_row-below program u unit b e,
+        common_row-cells program,
+      )
+
+-- ---- what begins somewhere
 
 -- the cells of a part lie in the frame
 part-within : (unit : List Statement) (part : FramePart) (n : ℕ) → size_in (same_part part) (frame_row unit) ≡ n → first_of_part unit part + n ≤ frame_cells unit
@@ -158,8 +192,7 @@ few-dimensions program s a x bound is own = by_index (index_among x (dummies_of 
   by_count k e false t =
       let there = bound x k e in
       let known = there.2.adjustable is (eqb-false (adjustable_dimensions (unit_at program (unit_of s a)) x) 0 t) in
-      let few = (and_parts (nat_le 1 (length there.0.shape)) (nat_le (length there.0.shape) 7 && (are_dimensions there.0.shape && is_most (elements there.0.shape))) known.1).1 in
-      let seven = (and_parts (nat_le (length there.0.shape) 7) (are_dimensions there.0.shape && is_most (elements there.0.shape)) few).0 in
+      let seven = (shape-parts there.0.shape known.1).0 in
       let within : length there.0.shape ≤ 7 = grind (arith, nat_tests) in
       omega (arith, within, known.0)
 

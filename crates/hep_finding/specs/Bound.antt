@@ -1,21 +1,7 @@
 -- What the dummy arguments of an activation stand for: X3.9-1978, 5.5 and 15.9.3, and docs/MACHINE.md, "Binding".
 use Rattle.std.specs.Prelude.{◌≡◌, ◌≢◌, ℕ, ◌≤◌, true, false, List, [], length, Some, None, slice_get}
-use Rattle.hep_source.specs.declared.name.Name.{Name}
-use Rattle.hep_source.specs.declared.statement.Statement.{Statement}
-use Rattle.hep_source.specs.Names.{index_among}
-use Rattle.hep_source.specs.Units.{Units, dummies_of, unit_at}
-use Rattle.hep_machine.specs.Constants.{adjustable_dimensions, constant_shape}
-use Rattle.hep_machine.specs.Declarations.{is_array}
-use Rattle.hep_machine.specs.Evaluation.{Action, Next, calling, creating, does, next_of, wants}
-use Rattle.hep_machine.specs.Layout.{Layout}
-use Rattle.hep_machine.specs.Locations.{dummy_at}
-use Rattle.hep_machine.specs.Processes.{activation_of, living, unit_of}
-use Rattle.hep_machine.specs.Run.{run}
-use Rattle.hep_machine.specs.Shapes.{Bounds, elements, fits, is_shape, most_elements}
-use Rattle.hep_machine.specs.State.{Dummy, Level, Process, State, local}
-use Rattle.hep_machine.specs.Step.{unit_called}
-use Rattle.hep_machine.specs.Views.{is_owned}
-use Rattle.hep_frames.specs.Runs.{RunsFrom}
+use Rattle.hep_machine.specs.Words.{Name, Statement, index_among, Units, dummies_of, unit_at, adjustable_dimensions, constant_shape, is_array, Action, Next, calling, creating, does, next_of, wants, Layout, dummy_at, activation_of, living, unit_of, run, Bounds, elements, fits, is_shape, most_elements, Dummy, Level, Process, State, local, unit_called, is_owned}
+use Rattle.hep_frames.specs.Words.{RunsFrom}
 
 -- a dummy argument of activation a of a unit stands for storage units, or for an expression, whose value is a variable of its own
 pub record IsBoundTo (unit : List Statement) (a : ℕ) (x : Name) (d : Dummy) : Type 0 where

@@ -1,10 +1,6 @@
 -- Names of which all bounds are constant: X3.9-1978, 5.1.1.
 use Rattle.std.specs.Prelude.{◌≡◌, true, List, Some}
-use Rattle.hep_source.specs.declared.name.Name.{Name}
-use Rattle.hep_source.specs.declared.statement.Statement.{Statement}
-use Rattle.hep_machine.specs.Constants.{constant_shape}
-use Rattle.hep_machine.specs.Declarations.{is_array}
-use Rattle.hep_machine.specs.Shapes.{Bounds}
+use Rattle.hep_machine.specs.Words.{Name, Statement, constant_shape, is_array, Bounds}
 
 -- a name that is a scalar, or an array whose bounds are all constant and are a shape
 abbrev pub HasConstantShape : List Statement → Name → Type 0

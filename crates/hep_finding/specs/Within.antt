@@ -1,11 +1,6 @@
 -- Which cells of its activation's frame the code of a unit reads to find a variable: docs/MACHINE.md, "Variables and frames".
 use Rattle.std.specs.Prelude.{◌≡◌, ◌≢◌, ◌≤◌, true, List, None}
-use Rattle.hep_source.specs.declared.name.Name.{Name}
-use Rattle.hep_source.specs.declared.statement.Statement.{Statement}
-use Rattle.hep_source.specs.Names.{index_among}
-use Rattle.hep_source.specs.Units.{Units, dummies_of}
-use Rattle.hep_machine.specs.Constants.{adjustable_dimensions}
-use Rattle.hep_machine.specs.Declarations.{is_array}
+use Rattle.hep_machine.specs.Words.{Name, Statement, index_among, Units, dummies_of, adjustable_dimensions, is_array}
 use Rattle.hep_image.specs.Places.{start_of}
 use Rattle.hep_finding.specs.Constant.{HasConstantShape}
 

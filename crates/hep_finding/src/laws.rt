@@ -1,33 +1,15 @@
 //! Laws of finding: where the code of a unit finds a variable, an element or the cells of a DO in the arena, there
 //! is what the source machine has of it.
 ghost use Rattle.std.specs.Prelude.{◌≡◌, ◌≢◌, ◌+◌, ◌<◌, ◌≤◌, ℕ, true, false, List, [], Some, None, Result, Ok, length, map, slice_get};
-ghost use Rattle.hep_source.specs.declared.name.Name.{Name};
-ghost use Rattle.hep_source.specs.declared.statement.Statement.{Statement};
-ghost use Rattle.hep_source.specs.declared.value.Value.{Value};
-ghost use Rattle.hep_source.specs.Names.{index_among};
-ghost use Rattle.hep_source.specs.Units.{Units, dummies_of, main_unit, statement_at, unit_at};
+ghost use Rattle.hep_machine.specs.Words.{Name, Statement, Value, index_among, Units, dummies_of, main_unit, statement_at, unit_at, adjustable_dimensions, cells_of, is_array, Frame, Layout, common_cells, frame_of, Scope, dummy_at, activation_of, loop_at, unit_of, run, Level, State, scope_of, frame_cells, is_do, is_owned};
 ghost use Rattle.hep_machine.specs.declared.event.Kind.{Kind};
 ghost use Rattle.hep_machine.specs.declared.slot.Slot.{Slot};
-ghost use Rattle.hep_machine.specs.Constants.{adjustable_dimensions, cells_of};
-ghost use Rattle.hep_machine.specs.Declarations.{is_array};
-ghost use Rattle.hep_machine.specs.Layout.{Frame, Layout, common_cells, frame_of};
-ghost use Rattle.hep_machine.specs.Locations.{Scope, dummy_at};
-ghost use Rattle.hep_machine.specs.Processes.{activation_of, loop_at, unit_of};
-ghost use Rattle.hep_machine.specs.Run.{run};
-ghost use Rattle.hep_machine.specs.State.{Level, State};
-ghost use Rattle.hep_machine.specs.Step.{scope_of};
-ghost use Rattle.hep_machine.specs.Variables.{frame_cells, is_do};
-ghost use Rattle.hep_machine.specs.Views.{is_owned};
 ghost use Rattle.hep_arena.specs.Gaps.{frame_among};
 ghost use Rattle.hep_arena.specs.Holes.{Hole, IsOut};
 ghost use Rattle.hep_code.specs.declared.variable.Variable.{Variable};
 ghost use Rattle.hep_code.specs.declared.variable.Variable.TheVariants.{Absent};
-ghost use Rattle.hep_code.specs.Replies.{Finds, IsAddressed};
-ghost use Rattle.hep_code.specs.Standing.{HoldsLoops, counts_of};
-ghost use Rattle.hep_frames.specs.Addresses.{Holds, IsMemory, address, frame_address};
-ghost use Rattle.hep_frames.specs.Descriptors.{Describes, level_of, wanted_of};
-ghost use Rattle.hep_frames.specs.Rows.{iteration};
-ghost use Rattle.hep_frames.specs.Runs.{RunsFrom};
+ghost use Rattle.hep_code.specs.Words.{Finds, IsAddressed, HoldsLoops, counts_of};
+ghost use Rattle.hep_frames.specs.Words.{Holds, IsMemory, address, frame_address, Describes, level_of, wanted_of, iteration, RunsFrom};
 ghost use Rattle.hep_image.specs.declared.array.Start.TheVariants.{Common, Local};
 ghost use Rattle.hep_image.specs.Finding.{address_of, cells_in, counts_at};
 ghost use Rattle.hep_image.specs.Places.{array_of, arrays_of, loop_cells, start_of, variable_of};

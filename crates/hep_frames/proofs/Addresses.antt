@@ -1,26 +1,15 @@
 -- Addresses: no two storage units have the same one, and each lies in the arena.
-use Rattle.std.proofs.Common.{◌≡◌, ◌⊎◌, inl, inr, ℕ, zero, suc, ◌+◌, ◌<◌, ◌≤◌, Bool, true, false, List, Option, Some, None, refl, sym, ap, ◌∙◌, subst, arith}
-use Rattle.std.specs.Prelude.{if◌then◌else◌}
-use Rattle.std.proofs.lemmas.Bool.{eq-eqb}
-use Rattle.std.proofs.lemmas.Option.{same_Some, none-some}
-use Rattle.hep_source.specs.declared.name.Name.{Name}
-use Rattle.hep_source.specs.Names.{index_among}
-use Rattle.hep_source.specs.Units.{Units, unit_at, dummies_of}
-use Rattle.hep_machine.specs.Declarations.{BlockName, same_block}
-use Rattle.hep_machine.specs.Layout.{Frame, Layout, common_cells}
-use Rattle.hep_machine.specs.Locations.{dummy_at}
-use Rattle.hep_machine.specs.Processes.{activation_of, unit_of}
-use Rattle.hep_machine.specs.State.{Activation, Dummy, Location, local, common, State}
-use Rattle.hep_machine.specs.Views.{is_owned}
+use Rattle.std.proofs.Common.{◌≡◌, ◌⊎◌, inl, inr, ℕ, zero, suc, ◌+◌, ◌<◌, ◌≤◌, true, List, Option, Some, None, refl, sym, ap, ◌∙◌, subst, arith, eq-eqb}
+use Rattle.std.proofs.lemmas.Option.{same_Some, none-some, cond_some}
+use Rattle.hep_machine.specs.Words.{Name, index_among, Units, unit_at, dummies_of, BlockName, same_block, Frame, Layout, common_cells, dummy_at, activation_of, unit_of, Activation, Dummy, Location, local, common, State, is_owned}
 use Rattle.hep_machine.proofs.Locations.{equal_blocks}
 use Rattle.hep_arena.specs.Gaps.{frame_among, gaps}
 use Rattle.hep_arena.specs.Holes.{IsOut}
-use Rattle.hep_arena.proofs.Gaps.{front-out}
-use Rattle.hep_frames.specs.Addresses.{cell_in, frame_address, kept_in, address_of_kept, address, IsLaid}
-use Rattle.hep_frames.specs.Rows.{FramePart, argument, variable, common_row, frame_row, owner_in, place_of_block, place_of_part, same_part}
+use Rattle.hep_arena.proofs.Gaps.{apart-end, front-out}
+use Rattle.hep_frames.specs.Words.{cell_in, frame_address, kept_in, address_of_kept, address, IsLaid, FramePart, argument, variable, common_row, frame_row, owner_in, place_of_block, place_of_part, same_part}
 use Rattle.hep_frames.proofs.CommonRows.{common_row-cells}
 use Rattle.hep_frames.proofs.FrameRows.{equal_parts, frame_row-cells}
-use Rattle.hep_frames.proofs.Frames.{among, among-out, apart-end, apart-frames}
+use Rattle.hep_frames.proofs.Frames.{among, among-out, apart-frames}
 use Rattle.hep_frames.proofs.Rows.{owned-by}
 
 -- ---- cells of frames
@@ -82,39 +71,20 @@ one-frame_cell program s cells layout a b p c d laid h k = (owner, within (subst
 
 -- ---- storage units of activations
 
+-- a cell is kept for a variable, or as the first one of a dummy argument
+kept-as : (a : ℕ) (dummies : List Dummy) (x : Name) (i : ℕ) (o : Option ℕ) (c : FramePart × ℕ) → kept_in a dummies x i o ≡ Some c → ((variable x ≡ c.0) ⊎ (argument x ≡ c.0)) × (i ≡ c.1)
+kept-as a dummies x i None c e = let same = same_Some (variable x, i) c e in (inl (ap (λ (q : FramePart × ℕ). q.0) same), ap (λ (q : FramePart × ℕ). q.1) same)
+kept-as a dummies x zero (Some k) c e =
+    let same = (cond_some (is_owned a (dummy_at dummies k).start) (argument x, 0) c e).1 in
+    (inr (ap (λ (q : FramePart × ℕ). q.0) same), ap (λ (q : FramePart × ℕ). q.1) same)
+kept-as a dummies x (suc i) (Some k) c e = absurd (none-some c e)
+
 -- a cell of a frame keeps one element of one variable
 kept-one : (a : ℕ) (dummies : List Dummy) (names : List Name) (x y : Name) (i j : ℕ) (c : FramePart × ℕ) → kept_in a dummies x i (index_among x names) ≡ Some c → kept_in a dummies y j (index_among y names) ≡ Some c → (x ≡ y) × (i ≡ j)
-kept-one a dummies names x y i j c d e = by_index (index_among x names) (index_among y names) i j d e where
-  part : (z : FramePart) (n : ℕ) → ◌≡◌ {A = Option (FramePart × ℕ)} (Some (z, n)) (Some c) → (z ≡ c.0) × (n ≡ c.1)
-  part z n e = let same = same_Some (z, n) c e in (ap (λ (q : FramePart × ℕ). q.0) same, ap (λ (q : FramePart × ℕ). q.1) same)
-
-  value : (k : ℕ) (z : Name) → kept_in a dummies z 0 (Some k) ≡ Some c → argument z ≡ c.0
-  value k z = by_owner (is_owned a (dummy_at dummies k).start) where
-    by_owner : (b : Bool) → (if b then Some (argument z, 0) else None) ≡ Some c → argument z ≡ c.0
-    by_owner true e = (part (argument z) 0 e).0
-    by_owner false e = absurd (none-some c e)
-
-  by_index : (k l : Option ℕ) (i j : ℕ) → kept_in a dummies x i k ≡ Some c → kept_in a dummies y j l ≡ Some c → (x ≡ y) × (i ≡ j)
-  by_index None None i j d e =
-      let first = part (variable x) i d in
-      let second = part (variable y) j e in
-      let names_are : variable x ≡ variable y = first.0 ∙ sym second.0 in
-      (cc, first.1 ∙ sym second.1)
-  by_index None (Some l) i zero d e =
-      let first = part (variable x) i d in
-      let kinds : variable x ≡ argument y = first.0 ∙ sym (value l y e) in
-      absurd cc
-  by_index None (Some l) i (suc j) d e = absurd (none-some c e)
-  by_index (Some k) None zero j d e =
-      let second = part (variable y) j e in
-      let kinds : argument x ≡ variable y = value k x d ∙ sym second.0 in
-      absurd cc
-  by_index (Some k) None (suc i) j d e = absurd (none-some c d)
-  by_index (Some k) (Some l) zero zero d e =
-      let names_are : argument x ≡ argument y = value k x d ∙ sym (value l y e) in
-      (cc, refl)
-  by_index (Some k) (Some l) zero (suc j) d e = absurd (none-some c e)
-  by_index (Some k) (Some l) (suc i) j d e = absurd (none-some c d)
+kept-one a dummies names x y i j c d e =
+    let first = kept-as a dummies x i (index_among x names) c d in
+    let second = kept-as a dummies y j (index_among y names) c e in
+    (elim first.0 [ inl f ↦ elim second.0 [ inl g ↦ cc | inr g ↦ absurd cc ] | inr f ↦ elim second.0 [ inl g ↦ absurd cc | inr g ↦ cc ] ], first.1 ∙ sym second.1)
 
 abbrev kept_of : Units → State → ℕ → Name → ℕ → Option (FramePart × ℕ)
 kept_of program s a x i = kept_in a (activation_of s a).dummies x i (index_among x (dummies_of (unit_at program (unit_of s a))))
@@ -190,24 +160,16 @@ address-out program s cells layout at p laid e = by_kind (located program s layo
 pub frame_address-alike : (program : Units) (s t : State) (layout another : Layout) (a : ℕ) (c : FramePart × ℕ) → activation_of t a ≡ activation_of s a → frame_among a another ≡ frame_among a layout → frame_address program t another a c ≡ frame_address program s layout a c
 frame_address-alike program s t layout another a c e f = λ k. cell_in (f k) (place_of_part (unit_at program (e k).unit) c.0 c.1)
 
--- an element's address by an activation and its frame
-abbrev by_cell : Units → Activation → Option Frame → Option (FramePart × ℕ) → Option ℕ
-by_cell program z frame None = None
-by_cell program z frame (Some c) = cell_in frame (place_of_part (unit_at program z.unit) c.0 c.1)
-
-abbrev by_frame : Units → ℕ → Name → ℕ → Activation → Option Frame → Option ℕ
-by_frame program a x i z frame = by_cell program z frame (kept_in a z.dummies x i (index_among x (dummies_of (unit_at program z.unit))))
-
-opened : (program : Units) (s : State) (layout : Layout) (a : ℕ) (x : Name) (i : ℕ) → address program s layout (local a x (suc i)) ≡ by_frame program a x i (activation_of s a) (frame_among a layout)
-opened program s layout a x i = by_kept (kept_of program s a x i) where
-  by_kept : (o : Option (FramePart × ℕ)) → address_of_kept program s layout a o ≡ by_cell program (activation_of s a) (frame_among a layout) o
-  by_kept None = refl
-  by_kept (Some c) = refl
-
 pub address-alike : (program : Units) (s t : State) (layout another : Layout) (at : Location) → ((a : ℕ) → is_owned a at ≡ true → (activation_of t a ≡ activation_of s a) × (frame_among a another ≡ frame_among a layout)) → address program t another at ≡ address program s layout at
 address-alike program s t layout another (local a x zero) same = refl
 address-alike program s t layout another (common b zero) same = refl
 address-alike program s t layout another (common b (suc i)) same = refl
 address-alike program s t layout another (local a x (suc i)) same =
-    let both = same a (eq-eqb a a refl) in
-    opened program t another a x i ∙ (λ k. by_frame program a x i (both.0 k) (both.1 k)) ∙ sym (opened program s layout a x i)
+    ap (λ (z : Activation). address_of_kept program t another a (kept_in a z.dummies x i (index_among x (dummies_of (unit_at program z.unit))))) both.0 ∙ by_kept (kept_of program s a x i)
+  where
+    both : (activation_of t a ≡ activation_of s a) × (frame_among a another ≡ frame_among a layout)
+    both = same a (eq-eqb a a refl)
+
+    by_kept : (o : Option (FramePart × ℕ)) → address_of_kept program t another a o ≡ address_of_kept program s layout a o
+    by_kept None = refl
+    by_kept (Some c) = frame_address-alike program s t layout another a c both.0 both.1

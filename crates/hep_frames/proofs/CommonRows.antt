@@ -1,16 +1,9 @@
 -- The rows of COMMON: their cells, and where a name begins.
-use Rattle.std.proofs.Common.{◌≡◌, ℕ, zero, suc, ◌+◌, ◌≤◌, Bool, true, false, List, [], ◌∷◌, Some, refl, sym, ap, subst, arith}
-use Rattle.std.specs.Prelude.{if◌then◌else◌, map, max, slice_get}
+use Rattle.std.proofs.Common.{◌≡◌, ℕ, zero, suc, ◌+◌, ◌≤◌, true, List, [], ◌∷◌, Some, refl, ap, subst, arith, if◌then◌else◌, map, max, slice_get}
 use Rattle.std.proofs.lemmas.Option.{same_Some, none-some}
-use Rattle.hep_source.specs.declared.name.Name.{Name}
-use Rattle.hep_source.specs.declared.statement.Statement.{Statement}
-use Rattle.hep_source.specs.Names.{same_name, is_among}
-use Rattle.hep_source.specs.Units.{Units}
+use Rattle.hep_machine.specs.Words.{Name, Statement, same_name, is_among, Units, cells_of, cells_of_all, cells_before, BlockName, names_in_block, blocks_of, block_cells, cells_of_blocks, common_cells}
 use Rattle.hep_source.proofs.NameTests.{equal_names}
-use Rattle.hep_machine.specs.Constants.{cells_of, cells_of_all, cells_before}
-use Rattle.hep_machine.specs.Declarations.{BlockName, names_in_block, blocks_of}
-use Rattle.hep_machine.specs.Layout.{block_cells, cells_of_blocks, common_cells}
-use Rattle.hep_frames.specs.Rows.{cells_in, first_in, size_in, block_row, common_row, first_of_block, first_in_common}
+use Rattle.hep_frames.specs.Words.{cells_in, first_in, size_in, block_row, common_row, first_of_block, first_in_common}
 
 blocks-cells : (program : Units) (bs : List BlockName) → cells_in (map (λ (b : BlockName). (b, block_cells program b)) bs) ≡ cells_of_blocks program bs
 blocks-cells program [] = refl
@@ -47,10 +40,7 @@ name-first program unit b x = ap (λ n. first_of_block program b + n) (names-fir
 
 names-size : (unit : List Statement) (x : Name) (xs : List Name) → is_among x xs ≡ true → size_in (same_name x) (map (λ (y : Name). (y, cells_of unit y)) xs) ≡ cells_of unit x
 names-size unit x [] h = absurd cc
-names-size unit x (y ∷ ys) h = by_test (names-size unit x ys) (same_name x y) refl h where
-  by_test : (is_among x ys ≡ true → size_in (same_name x) (map (λ (z : Name). (z, cells_of unit z)) ys) ≡ cells_of unit x) → (b : Bool) → same_name x y ≡ b → (if b then true else is_among x ys) ≡ true → (if b then cells_of unit y else size_in (same_name x) (map (λ (z : Name). (z, cells_of unit z)) ys)) ≡ cells_of unit x
-  by_test rest true t h = ap (cells_of unit) (sym (equal_names x y t))
-  by_test rest false t h = rest h
+names-size unit x (y ∷ ys) h = grind (arith, names-size unit x ys, equal_names x y)
 
 pub name-size : (unit : List Statement) (b : BlockName) (x : Name) → is_among x (names_in_block unit b) ≡ true → size_in (same_name x) (block_row unit b) ≡ cells_of unit x
 name-size unit b x = names-size unit x (names_in_block unit b)

@@ -1,32 +1,18 @@
 -- Descriptors: writes to their cells and to storage units, and frames that enter and leave.
-use Rattle.std.proofs.Common.{◌≡◌, ◌⊎◌, inl, inr, ℕ, zero, suc, ◌+◌, ◌<◌, ◌≤◌, Bool, true, false, List, [], ◌∷◌, ◌++◌, length, Option, Some, None, refl, sym, ap, ◌∙◌, subst, arith}
-use Rattle.std.specs.Prelude.{if◌then◌else◌, not, ◌&&◌, nat_eq, pos, slice_get, slice_set}
-use Rattle.std.proofs.lemmas.Bool.{and_parts, eqb-true, eqb-false, eq-eqb}
-use Rattle.std.proofs.lemmas.List.{length-set}
-use Rattle.std.proofs.lemmas.Option.{same_Some, none-some}
-use Rattle.hep_source.specs.declared.name.Name.{Name}
-use Rattle.hep_source.specs.Names.{index_among}
-use Rattle.hep_source.specs.Units.{Units, unit_at, dummies_of}
+use Rattle.hep_frames.proofs.FrameRows.{equal_parts}
+use Rattle.std.proofs.lemmas.Bool.Decides.{nat_tests}
+use Rattle.std.proofs.Common.{◌≡◌, ◌⊎◌, inl, inr, ℕ, zero, suc, ◌+◌, ◌<◌, ◌≤◌, Bool, true, false, List, [], ◌∷◌, ◌++◌, length, Option, Some, None, refl, sym, ap, ◌∙◌, subst, arith, if◌then◌else◌, not, ◌&&◌, nat_eq, pos, slice_get, slice_set, length-set}
+use Rattle.std.proofs.lemmas.Bool.{and_parts, eqb-true, eqb-false, eq-eqb, cases_Bool, false_from_ne_true, both_ways}
+use Rattle.std.proofs.lemmas.Option.{same_Some, none-some, cond_some}
+use Rattle.hep_machine.specs.Words.{Name, index_among, Units, unit_at, dummies_of, unset_cell, Frame, Layout, lowest_gap, with_frame, frame_of, common_cells, dummy_at, activation_of, unit_of, with_loop, natural, Activation, Dummy, Level, Location, Loop, State, is_owned}
 use Rattle.hep_machine.specs.declared.slot.Slot.{Slot}
-use Rattle.hep_machine.specs.Access.{unset_cell}
-use Rattle.hep_machine.specs.Layout.{Frame, Layout, lowest_gap, with_frame, frame_of, common_cells}
-use Rattle.hep_machine.specs.Locations.{dummy_at}
-use Rattle.hep_machine.specs.Processes.{activation_of, unit_of, with_loop}
-use Rattle.hep_machine.specs.Shapes.{natural}
-use Rattle.hep_machine.specs.State.{Activation, Dummy, Level, Location, Loop, State}
-use Rattle.hep_machine.specs.Views.{is_owned}
 use Rattle.hep_arena.specs.Gaps.{frame_among, gaps, without}
 use Rattle.hep_arena.specs.Holes.{Hole, IsOut}
 use Rattle.hep_arena.proofs.Lists.{get-set_same, get-set_other}
-use Rattle.hep_frames.specs.Addresses.{address, frame_address, frame_from, kept_in, IsLaid, IsMemory}
-use Rattle.hep_frames.specs.Descriptors.{Describes, Wanted, is_descriptor, is_value, keeps_unit, level_of, loop_among, number, slot_by_dummy, slot_of_bounds, slot_of_dummy, slot_of_loop, slot_of_reference, slot_of_value, slot_on_level, wanted_of}
-use Rattle.hep_frames.specs.Rows.{FramePart, header, argument, variable, iteration, bounds}
+use Rattle.hep_frames.specs.Words.{address, frame_address, frame_from, kept_in, IsLaid, IsMemory, Describes, Wanted, is_descriptor, keeps_unit, level_of, loop_among, number, slot_by_dummy, slot_of_bounds, slot_of_dummy, slot_of_loop, slot_on_level, wanted_of, FramePart, header, argument, variable, iteration, bounds, same_part}
 use Rattle.hep_frames.proofs.Addresses.{IsLocal, IsCommon, IsFramed, frame_address-alike, framed, in-common, located, one-frame_cell}
 use Rattle.hep_frames.proofs.Frames.{among-out}
 use Rattle.hep_frames.proofs.Memory.{activation-kept, address-same, laid-entered, laid-left, one-of, others, same-activation, stays}
-
-pub clash : {A : Type 0} → true ≡ false → A
-clash e = absurd cc
 
 -- ---- no descriptor is kept where a storage unit is
 
@@ -34,12 +20,9 @@ clash e = absurd cc
 unit-kept : (a : ℕ) (dummies : List Dummy) (names : List Name) (x : Name) (i : ℕ) (c : FramePart × ℕ) → kept_in a dummies x i (index_among x names) ≡ Some c → keeps_unit a dummies names c ≡ true
 unit-kept a dummies names x i c e = by_index (index_among x names) refl i e where
   by_index : (o : Option ℕ) → index_among x names ≡ o → (i : ℕ) → kept_in a dummies x i o ≡ Some c → keeps_unit a dummies names c ≡ true
-  by_index None k i e = ap (keeps_unit a dummies names) (sym (same_Some (variable x, i) c e))
+  by_index None k i e = rw (sym (same_Some (variable x, i) c e)) refl
   by_index (Some k) at (suc i) e = absurd (none-some c e)
-  by_index (Some k) at zero e = by_owner (is_owned a (dummy_at dummies k).start) refl e where
-    by_owner : (b : Bool) → is_owned a (dummy_at dummies k).start ≡ b → (if b then Some (argument x, 0) else None) ≡ Some c → keeps_unit a dummies names c ≡ true
-    by_owner false o e = absurd (none-some c e)
-    by_owner true o e = ap (keeps_unit a dummies names) (sym (same_Some (argument x, 0) c e)) ∙ (ap (is_value a dummies) at ∙ o)
+  by_index (Some k) at zero e = let kept = cond_some (is_owned a (dummy_at dummies k).start) (argument x, 0) c e in rw (sym kept.1, at) kept.0
 
 pub descriptor-apart : (program : Units) (s : State) (cells : ℕ) (layout : Layout) (at : Location) (b p : ℕ) (d : FramePart × ℕ)
     → IsLaid program s cells layout → address program s layout at ≡ Some p → frame_address program s layout b d ≡ Some p → is_descriptor program s b d ≡ true → ⊥
@@ -50,7 +33,7 @@ descriptor-apart program s cells layout at b p d laid e k is = by_kind (located 
       let keeps = unit-kept f.activation (activation_of s f.activation).dummies (dummies_of (unit_at program (unit_of s f.activation))) f.name f.index f.cell f.kept in
       let plain : is_descriptor program s f.activation f.cell ≡ false = ap not keeps in
       let here : is_descriptor program s f.activation f.cell ≡ true = (λ i. is_descriptor program s (same.0 i) (same.1 i)) ∙ is in
-      clash (sym here ∙ plain)
+      both_ways (is_descriptor program s f.activation f.cell) plain here
   by_kind (inr f) =
       let frame = framed program s cells layout b d p laid k in
       omega (arith, frame.low, frame.behind, (in-common program at p f).1)
@@ -148,57 +131,37 @@ described-left program s a layout wanted old new laid h kept b d p v is k w =
 
 with_loop-among : (loops : List Loop) (l : Loop) (e : ℕ) → loop_among e (with_loop loops l) ≡ (if nat_eq l.statement e then Some l else loop_among e loops)
 with_loop-among [] l e = refl
-with_loop-among (k ∷ ks) l e = by_head (with_loop-among ks l e) (nat_eq k.statement l.statement) refl where
-  head : nat_eq k.statement l.statement ≡ true → (if nat_eq l.statement e then Some l else loop_among e ks) ≡ (if nat_eq l.statement e then Some l else (if nat_eq k.statement e then Some k else loop_among e ks))
-  head same = by_test (nat_eq l.statement e) refl where
-    by_test : (t : Bool) → nat_eq l.statement e ≡ t → (if t then Some l else loop_among e ks) ≡ (if t then Some l else (if nat_eq k.statement e then Some k else loop_among e ks))
-    by_test true t = refl
-    by_test false t =
-        let other : nat_eq k.statement e ≡ false = ap (λ n. nat_eq n e) (eqb-true k.statement l.statement same) ∙ t in
-        rw other refl
-
-  swapped : nat_eq k.statement l.statement ≡ false → (t u : Bool) → nat_eq k.statement e ≡ t → nat_eq l.statement e ≡ u
-      → (if t then Some k else (if u then Some l else loop_among e ks)) ≡ (if u then Some l else (if t then Some k else loop_among e ks))
-  swapped other true true t u = absurd (eqb-false k.statement l.statement other (eqb-true k.statement e t ∙ sym (eqb-true l.statement e u)))
-  swapped other true false t u = refl
-  swapped other false true t u = refl
-  swapped other false false t u = refl
-
-  by_head : loop_among e (with_loop ks l) ≡ (if nat_eq l.statement e then Some l else loop_among e ks) → (t : Bool) → nat_eq k.statement l.statement ≡ t
-      → loop_among e (if t then l ∷ ks else k ∷ with_loop ks l) ≡ (if nat_eq l.statement e then Some l else (if nat_eq k.statement e then Some k else loop_among e ks))
-  by_head rest true t = head t
-  by_head rest false t = ap (λ (o : Option Loop). if nat_eq k.statement e then Some k else o) rest ∙ swapped t (nat_eq k.statement e) (nat_eq l.statement e) refl refl
+with_loop-among (k ∷ ks) l e = grind (arith, nat_tests, with_loop-among ks l e)
 
 -- what is wanted of DOs, where one of them is set on an activation's level
 pub wanted-loop : (levels new : ℕ → Option Level) (a : ℕ) (level after : Level) (l : Loop)
     → levels a ≡ Some level → new a ≡ Some after → after.loops ≡ with_loop level.loops l → ((b : ℕ) → nat_eq a b ≡ false → new b ≡ levels b)
     → (b e i : ℕ) → slot_on_level (new b) e i ≡ (if nat_eq a b && nat_eq l.statement e then slot_of_loop (Some l) i else slot_on_level (levels b) e i)
-wanted-loop levels new a level after l was now loops others b e i = by_number (nat_eq a b) refl where
-  set : (t : Bool) → nat_eq l.statement e ≡ t → slot_of_loop (if t then Some l else loop_among e level.loops) i ≡ (if t then slot_of_loop (Some l) i else slot_on_level (Some level) e i)
-  set true t = refl
-  set false t = refl
-
-  by_number : (t : Bool) → nat_eq a b ≡ t → slot_on_level (new b) e i ≡ (if t && nat_eq l.statement e then slot_of_loop (Some l) i else slot_on_level (levels b) e i)
-  by_number false t = ap (λ o. slot_on_level o e i) (others b t)
-  by_number true t =
-      let same = eqb-true a b t in
-      let here : new b ≡ Some after = ap new (sym same) ∙ now in
-      let before : levels b ≡ Some level = ap levels (sym same) ∙ was in
-      ap (λ o. slot_on_level o e i) here ∙ (ap (λ ls. slot_of_loop (loop_among e ls) i) loops ∙ (ap (λ o. slot_of_loop o i) (with_loop-among level.loops l e) ∙ (set (nat_eq l.statement e) refl ∙ ap (λ o. if nat_eq l.statement e then slot_of_loop (Some l) i else slot_on_level o e i) (sym before))))
+wanted-loop levels new a level after l was now loops others b e i = elim (cases_Bool (nat_eq a b)) [
+  | inr apart ↦ rw (others b apart, apart) refl
+  | inl same ↦ rw (sym (eqb-true a b same), now, was, loops, with_loop-among level.loops l e, eq-eqb a a refl) (grind (arith, nat_tests))
+]
 
 -- ---- what a state wants
 
--- where the activations are the same, and what is wanted of this cell if it is a DO's
+-- by an activation, where its dummy arguments stand for something, and what is wanted of this cell if it is a DO's
+pub wanted-alike : (program : Units) (s t : State) (layout another : Layout) (a : ℕ) (c : FramePart × ℕ) → activation_of t a ≡ activation_of s a
+    → ((d i : ℕ) → c ≡ (iteration d, i) → slot_on_level (level_of t a) d i ≡ slot_on_level (level_of s a) d i)
+    → ((k : ℕ) → address program t another (dummy_at (activation_of s a).dummies k).start ≡ address program s layout (dummy_at (activation_of s a).dummies k).start) → wanted_of program t another a c ≡ wanted_of program s layout a c
+wanted-alike program s t layout another a (header, i) e loops starts = refl
+wanted-alike program s t layout another a (variable x, i) e loops starts = refl
+wanted-alike program s t layout another a (iteration d, i) e loops starts = loops d i refl
+wanted-alike program s t layout another a (bounds x, i) e loops starts =
+    ap (λ (z : Activation). slot_by_dummy (λ d. slot_of_bounds d.shape i) z.dummies (index_among x (dummies_of (unit_at program z.unit)))) e
+wanted-alike program s t layout another a (argument x, i) e loops starts =
+    ap (λ (z : Activation). slot_by_dummy (λ d. slot_of_dummy program t another a d i) z.dummies (index_among x (dummies_of (unit_at program z.unit)))) e ∙ by_index (index_among x (dummies_of (unit_at program (unit_of s a)))) where
+      by_index : (o : Option ℕ) → slot_by_dummy (λ d. slot_of_dummy program t another a d i) (activation_of s a).dummies o ≡ slot_by_dummy (λ d. slot_of_dummy program s layout a d i) (activation_of s a).dummies o
+      by_index None = refl
+      by_index (Some k) = rw (starts k) refl
+
 pub wanted-same : (program : Units) (s t : State) (layout : Layout) (a : ℕ) (c : FramePart × ℕ) → t.activations ≡ s.activations
     → ((d i : ℕ) → c ≡ (iteration d, i) → slot_on_level (level_of t a) d i ≡ slot_on_level (level_of s a) d i) → wanted_of program t layout a c ≡ wanted_of program s layout a c
-wanted-same program s t layout a (header, i) e loops = refl
-wanted-same program s t layout a (variable x, i) e loops = refl
-wanted-same program s t layout a (iteration d, i) e loops = loops d i refl
-wanted-same program s t layout a (bounds x, i) e loops =
-    ap (λ (z : Activation). slot_by_dummy (λ d. slot_of_bounds d.shape i) z.dummies (index_among x (dummies_of (unit_at program z.unit)))) (same-activation s t a e)
-wanted-same program s t layout a (argument x, i) e loops = λ k. slot_by_dummy (λ d. starts d k) (same-activation s t a e k).dummies (index_among x (dummies_of (unit_at program (same-activation s t a e k).unit))) where
-  starts : (d : Dummy) → slot_of_dummy program t layout a d i ≡ slot_of_dummy program s layout a d i
-  starts d = ap (λ o. if is_owned a d.start then slot_of_value i else slot_of_reference o d.rest i) (address-same program s t layout d.start e)
+wanted-same program s t layout a c e loops = wanted-alike program s t layout layout a c (same-activation s t a e) loops (λ k. address-same program s t layout (dummy_at (activation_of s a).dummies k).start e)
 
 -- a DO of an activation is set: its count and its increment are written
 pub described-loop : (program : Units) (s t : State) (layout : Layout) (contents : List Slot) (a : ℕ) (level after : Level) (l : Loop) (p q : ℕ)
@@ -206,60 +169,48 @@ pub described-loop : (program : Units) (s t : State) (layout : Layout) (contents
     → level_of s a ≡ Some level → level_of t a ≡ Some after → after.loops ≡ with_loop level.loops l → ((b : ℕ) → nat_eq a b ≡ false → level_of t b ≡ level_of s b)
     → frame_address program s layout a (iteration l.statement, 0) ≡ Some p → frame_address program s layout a (iteration l.statement, 1) ≡ Some q
     → Describes program t layout (wanted_of program t layout) (slice_set (slice_set contents p (number (pos (natural l.count)))) q (number l.increment))
-described-loop program s t layout contents a level after l p q laid h e was now loops others at_p at_q b d r v is k w = by_place (nat_eq r q) (nat_eq r p) refl refl where
-  before : frame_address program s layout b d ≡ Some r
-  before = sym (frame_address-alike program s t layout layout b d (same-activation s t b e) refl) ∙ k
+described-loop program s t layout contents a level after l p q laid h e was now loops others at_p at_q =
+    described-same program s t layout new new (slice_set (slice_set contents p (number (pos (natural l.count)))) q (number l.increment)) (
+    described-set program s layout first new (slice_set contents p (number (pos (natural l.count)))) a q (iteration l.statement, 1) (number l.increment) (rw length-set laid) (
+    described-set program s layout (wanted_of program s layout) first contents a p (iteration l.statement, 0) (number (pos (natural l.count))) laid h at_p (rw (eq-eqb a a refl, eq-eqb l.statement l.statement refl) (here 0)) counted) at_q (here 1) increased) e (λ b d v w. w)
+  where
+    new : Wanted
+    new = wanted_of program t layout
 
-  -- what is wanted of the two cells
-  here : (i : ℕ) → slot_on_level (level_of t a) l.statement i ≡ slot_of_loop (Some l) i
-  here i =
-      let one = eq-eqb a a refl in
-      let two = eq-eqb l.statement l.statement refl in
-      wanted-loop (level_of s) (level_of t) a level after l was now loops others a l.statement i ∙ rw (one, two) refl
+    -- what is wanted of the two cells
+    here : (i : ℕ) → new a (iteration l.statement, i) ≡ slot_of_loop (Some l) i
+    here i = wanted-loop (level_of s) (level_of t) a level after l was now loops others a l.statement i ∙ rw (eq-eqb a a refl, eq-eqb l.statement l.statement refl) refl
 
-  found : (i : ℕ) (v' : Slot) → slot_of_loop (Some l) i ≡ Some v' → (a ≡ b) × ((iteration l.statement, i) ≡ d) → v' ≡ v
-  found i v' wants same =
-      let wanted : wanted_of program t layout a (iteration l.statement, i) ≡ wanted_of program t layout b d = λ j. wanted_of program t layout (same.0 j) (same.1 j) in
-      same_Some v' v (sym wants ∙ (sym (here i) ∙ (wanted ∙ w)))
+    is_second : ℕ → FramePart × ℕ → Bool
+    is_second b d = nat_eq a b && (same_part (iteration l.statement) d.0 && nat_eq 1 d.1)
 
-  -- no other cell has either address
-  elsewhere : (i o : ℕ) → frame_address program s layout a (iteration l.statement, i) ≡ Some o → nat_eq r o ≡ false → (a ≡ b) × ((iteration l.statement, i) ≡ d) → ⊥
-  elsewhere i o at n same = eqb-false r o n (same_Some r o (sym before ∙ ((λ j. frame_address program s layout (sym same.0 j) (sym same.1 j)) ∙ at)))
+    -- between the two writes nothing is wanted of the second cell
+    first : Wanted
+    first b d = if is_second b d then None else new b d
 
-  unwanted : (i : ℕ) → slot_of_loop (Some l) (suc (suc i)) ≡ Some v → ⊥
-  unwanted i none = none-some v none
+    increased : (b : ℕ) (d : FramePart × ℕ) (v : Slot) → ((a ≡ b) × ((iteration l.statement, 1) ≡ d) → ⊥) → new b d ≡ Some v → first b d ≡ Some v
+    increased b d v other w = rw (false_from_ne_true (is_second b d) (λ k.
+        let parts = and_parts (nat_eq a b) (same_part (iteration l.statement) d.0 && nat_eq 1 d.1) k in
+        let rest = and_parts (same_part (iteration l.statement) d.0) (nat_eq 1 d.1) parts.1 in
+        let part = equal_parts (iteration l.statement) d.0 rest.0 in
+        let index = eqb-true 1 d.1 rest.1 in
+        other (eqb-true a b parts.0, λ j. (part j, index j)))) w
 
-  -- of other cells no more is wanted than before
-  still : nat_eq r q ≡ false → nat_eq r p ≡ false → wanted_of program s layout b d ≡ Some v
-  still n m = sym (wanted-same program s t layout b d e (λ f i is_loop. by_test f i is_loop (nat_eq a b && nat_eq l.statement f) refl)) ∙ w where
-    by_index : (f i : ℕ) → d ≡ (iteration f, i) → (a ≡ b) × (l.statement ≡ f) → ⊥
-    by_index f zero is_loop same = elsewhere 0 p at_p m (same.0, (λ j. (iteration (same.1 j), 0)) ∙ sym is_loop)
-    by_index f (suc zero) is_loop same = elsewhere 1 q at_q n (same.0, (λ j. (iteration (same.1 j), 1)) ∙ sym is_loop)
-    by_index f (suc (suc i)) is_loop same =
-        let place : (iteration l.statement, suc (suc i)) ≡ d = (λ j. (iteration (same.1 j), suc (suc i))) ∙ sym is_loop in
-        unwanted i (sym (here (suc (suc i))) ∙ ((λ j. wanted_of program t layout (same.0 j) (place j)) ∙ w))
+    -- of the cells of other DOs no more is wanted than before
+    not_its : (b : ℕ) (d : FramePart × ℕ) (v : Slot) (i : ℕ) → ((a ≡ b) × ((iteration l.statement, 0) ≡ d) → ⊥) → is_second b d ≡ false → new b d ≡ Some v → a ≡ b → (iteration l.statement, i) ≡ d → ⊥
+    not_its b d v zero other second wants owner same = other (owner, same)
+    not_its b d v (suc zero) other second wants owner same =
+        both_ways (is_second b d) second (sym (λ j. is_second (owner j) (same j)) ∙ rw (eq-eqb a a refl, eq-eqb l.statement l.statement refl) refl)
+    not_its b d v (suc (suc i)) other second wants owner same = none-some v (sym (here (suc (suc i))) ∙ ((λ j. new (owner j) (same j)) ∙ wants))
 
-    by_test : (f i : ℕ) → d ≡ (iteration f, i) → (u : Bool) → (nat_eq a b && nat_eq l.statement f) ≡ u → slot_on_level (level_of t b) f i ≡ slot_on_level (level_of s b) f i
-    by_test f i is_loop false u = wanted-loop (level_of s) (level_of t) a level after l was now loops others b f i ∙ ap (λ z. if z then slot_of_loop (Some l) i else slot_on_level (level_of s b) f i) u
-    by_test f i is_loop true u =
-        let parts = and_parts (nat_eq a b) (nat_eq l.statement f) u in
-        absurd (by_index f i is_loop (eqb-true a b parts.0, eqb-true l.statement f parts.1))
-
-  by_place : (x y : Bool) → nat_eq r q ≡ x → nat_eq r p ≡ y → slice_get (slice_set (slice_set contents p (number (pos (natural l.count)))) q (number l.increment)) r ≡ Some v
-  by_place true y x m =
-      let place : r ≡ q = eqb-true r q x in
-      let same = one-frame_cell program s (length contents) layout a b q (iteration l.statement, 1) d laid at_q (before ∙ ap (λ z. Some z) place) in
-      let frame = framed program s (length contents) layout a (iteration l.statement, 1) q laid at_q in
-      let long : length (slice_set contents p (number (pos (natural l.count)))) ≡ length contents = length-set contents p (number (pos (natural l.count))) in
-      ap (slice_get (slice_set (slice_set contents p (number (pos (natural l.count)))) q (number l.increment))) place
-      ∙ (get-set_same (slice_set contents p (number (pos (natural l.count)))) q (number l.increment) (omega (arith, frame.high, frame.inside, long)) ∙ ap (λ z. Some z) (found 1 (number l.increment) refl same))
-  by_place false true x m =
-      let place : r ≡ p = eqb-true r p m in
-      let same = one-frame_cell program s (length contents) layout a b p (iteration l.statement, 0) d laid at_p (before ∙ ap (λ z. Some z) place) in
-      let frame = framed program s (length contents) layout a (iteration l.statement, 0) p laid at_p in
-      get-set_other (slice_set contents p (number (pos (natural l.count)))) q r (number l.increment) (eqb-false r q x)
-      ∙ (ap (slice_get (slice_set contents p (number (pos (natural l.count))))) place
-      ∙ (get-set_same contents p (number (pos (natural l.count))) (omega (arith, frame.high, frame.inside)) ∙ ap (λ z. Some z) (found 0 (number (pos (natural l.count))) refl same)))
-  by_place false false x m =
-      get-set_other (slice_set contents p (number (pos (natural l.count)))) q r (number l.increment) (eqb-false r q x)
-      ∙ (get-set_other contents p r (number (pos (natural l.count))) (eqb-false r p m) ∙ h b d r v (sym (ap (λ (z : Activation). not (keeps_unit b z.dummies (dummies_of (unit_at program z.unit)) d)) (same-activation s t b e)) ∙ is) before (still x m))
+    counted : (b : ℕ) (d : FramePart × ℕ) (v : Slot) → ((a ≡ b) × ((iteration l.statement, 0) ≡ d) → ⊥) → first b d ≡ Some v → wanted_of program s layout b d ≡ Some v
+    counted b d v other w = elim (cases_Bool (is_second b d)) [
+      | inl second ↦ absurd (none-some v (rw second at w))
+      | inr second ↦
+          let wants : new b d ≡ Some v = rw second at w in
+          sym (wanted-same program s t layout b d e (λ f i is.
+          let other_loop = false_from_ne_true (nat_eq a b && nat_eq l.statement f) (λ k.
+          let parts = and_parts (nat_eq a b) (nat_eq l.statement f) k in
+          not_its b d v i other second wants (eqb-true a b parts.0) ((λ j. (iteration (eqb-true l.statement f parts.1 j), i)) ∙ sym is)) in
+          wanted-loop (level_of s) (level_of t) a level after l was now loops others b f i ∙ rw other_loop refl)) ∙ wants
+    ]

@@ -1,31 +1,18 @@
 -- The arena of a state: what a write, a new frame and a frame that leaves make of it.
-use Rattle.std.proofs.Common.{◌≡◌, ◌⊎◌, inl, inr, ℕ, suc, ◌+◌, ◌<◌, ◌≤◌, Bool, true, false, List, [], ◌∷◌, ◌++◌, length, Option, Some, None, refl, sym, ap, ◌∙◌, subst, arith}
+use Rattle.std.proofs.Common.{◌≡◌, ◌⊎◌, inl, inr, ℕ, suc, ◌+◌, ◌<◌, ◌≤◌, true, false, List, [], ◌∷◌, ◌++◌, length, Option, Some, None, refl, sym, ap, ◌∙◌, subst, arith, nat_eq, slice_get, slice_set, length-append, length-set}
 use Rattle.std.specs.Option.{unwrap_or}
-use Rattle.std.specs.Prelude.{if◌then◌else◌, ◌&&◌, nat_eq, slice_get, slice_set}
-use Rattle.std.proofs.lemmas.Bool.{eqb-true, eqb-false, eq-eqb, and_from, ne_eqb}
-use Rattle.std.proofs.lemmas.List.{length-append, length-set}
-use Rattle.std.proofs.lemmas.Option.{same_Some, none-some, slice_get_within}
-use Rattle.hep_source.specs.declared.name.Name.{Name}
-use Rattle.hep_source.specs.Names.{same_name}
-use Rattle.hep_source.specs.Units.{Units, unit_at}
+use Rattle.std.proofs.lemmas.Bool.{eqb-true, eq-eqb, ne_eqb, cases_Bool, cases_eq, false_from_ne_true, both_ways}
+use Rattle.std.proofs.lemmas.Option.{same_Some, slice_get_within}
+use Rattle.hep_machine.specs.Words.{Name, Units, unit_at, unset_cell, no_activation, Frame, Layout, lowest_gap, with_frame, frame_of, common_cells, activation_of, numbered, Activation, Location, local, common, State, Store, same_location, with_cell, frame_cells, is_owned}
 use Rattle.hep_source.proofs.NameTests.{same_name-self}
 use Rattle.hep_machine.specs.declared.slot.Slot.{Slot}
-use Rattle.hep_machine.specs.Access.{unset_cell}
-use Rattle.hep_machine.specs.Declarations.{same_block}
-use Rattle.hep_machine.specs.Defaults.{no_activation}
-use Rattle.hep_machine.specs.Layout.{Frame, Layout, lowest_gap, with_frame, frame_of, common_cells}
-use Rattle.hep_machine.specs.Processes.{activation_of, numbered}
-use Rattle.hep_machine.specs.State.{Activation, Location, local, common, State, Store}
-use Rattle.hep_machine.specs.Storage.{same_location, with_cell}
-use Rattle.hep_machine.specs.Variables.{frame_cells}
-use Rattle.hep_machine.specs.Views.{is_owned}
 use Rattle.hep_machine.proofs.Locations.{equal_locations, block-self}
 use Rattle.hep_machine.proofs.Others.{front_numbered}
 use Rattle.hep_arena.specs.Gaps.{frame_among, framed_cells, gaps, without}
 use Rattle.hep_arena.specs.Holes.{Hole, IsOut, first_fit, free_cells, given, taken}
 use Rattle.hep_arena.proofs.Gaps.{fit-gaps, gaps-cells, given-without, taken-gaps}
 use Rattle.hep_arena.proofs.Lists.{get-set_same, get-set_other}
-use Rattle.hep_frames.specs.Addresses.{address, frame_from, Holds, IsLaid, IsMemory}
+use Rattle.hep_frames.specs.Words.{address, frame_from, Holds, IsLaid, IsMemory}
 use Rattle.hep_frames.proofs.Addresses.{IsFramed, IsLocal, IsCommon, address-alike, address-out, framed, located, one-location}
 use Rattle.hep_frames.proofs.Frames.{among-out, among-with_frame, among-without, apart-with_frame, apart-without, single-with_frame, single-without}
 use Rattle.hep_source.proofs.Tests.{at-last}
@@ -33,13 +20,25 @@ use Rattle.hep_source.proofs.Tests.{at-last}
 -- ---- a location is itself
 
 pub location-self : (at : Location) → same_location at at ≡ true
-location-self (local a x i) =
-    and_from (nat_eq a a) (same_name x x && nat_eq i i) (eq-eqb a a refl) (and_from (same_name x x) (nat_eq i i) (same_name-self x) (eq-eqb i i refl))
-location-self (common b k) = and_from (same_block b b) (nat_eq k k) (block-self b) (eq-eqb k k refl)
+location-self (local a x i) = rw (eq-eqb a a refl, same_name-self x, eq-eqb i i refl) refl
+location-self (common b k) = rw (block-self b, eq-eqb k k refl) refl
 
 -- who owns an element
 owner-is : (a : ℕ) (at : Location) (b : ℕ) (x : Name) (i : ℕ) → at ≡ local b x i → is_owned a at ≡ true → a ≡ b
 owner-is a at b x i e owned = eqb-true a b (ap (is_owned a) (sym e) ∙ owned)
+
+-- what has an address keeps it, where its activation and that one's frame stay
+address-kept : (program : Units) (s t : State) (cells : ℕ) (layout another : Layout) (at : Location) (p : ℕ) → IsLaid program s cells layout
+    → ((a : ℕ) (f : Frame) → frame_among a layout ≡ Some f → (activation_of t a ≡ activation_of s a) × (frame_among a another ≡ Some f)) → address program s layout at ≡ Some p → address program t another at ≡ Some p
+address-kept program s t cells layout another at p laid still e = elim (located program s layout at p e) [
+  | inr f ↦ rw f.at_is f.placed
+  | inl f ↦
+      let frame = framed program s cells layout f.activation f.cell p laid f.cell_at in
+      address-alike program s t layout another at (λ a owned.
+      let there : frame_among a layout ≡ Some frame.frame = rw (owner-is a at f.activation f.name (suc f.index) f.at_is owned) frame.framed in
+      let now = still a frame.frame there in
+      (now.0, now.1 ∙ sym there)) ∙ e
+]
 
 -- ---- the same activations
 
@@ -70,20 +69,17 @@ memory-same program s t layout contents holes h e f =
 
 holds-written : (program : Units) (s t : State) (cells : ℕ) (layout : Layout) (contents : List Slot) (l : Location) (p : ℕ) (c : Slot)
     → IsLaid program s cells layout → Holds program s layout contents → address program s layout l ≡ Some p → t.activations ≡ s.activations → t.store ≡ with_cell s.store l c → Holds program t layout (slice_set contents p c)
-holds-written program s t cells layout contents l p c laid h at_l e f at q k = by_place (nat_eq q p) refl ∙ ap (λ (store : Store). Some (store at)) (sym f) where
+holds-written program s t cells layout contents l p c laid h at_l e f at q k = by_place (cases_eq q p) ∙ ap (λ (store : Store). Some (store at)) (sym f) where
   here : address program s layout at ≡ Some q
   here = sym (address-same program s t layout at e) ∙ k
 
-  by_place : (b : Bool) → nat_eq q p ≡ b → slice_get (slice_set contents p c) q ≡ Some (with_cell s.store l c at)
-  by_place true n =
-      let place : q ≡ p = eqb-true q p n in
+  by_place : (q ≡ p) ⊎ (q ≡ p → ⊥) → slice_get (slice_set contents p c) q ≡ Some (with_cell s.store l c at)
+  by_place (inl place) =
       let same : at ≡ l = one-location program s cells layout at l p laid (here ∙ ap (λ m. Some m) place) at_l in
-      let test : same_location at l ≡ true = ap (λ m. same_location m l) same ∙ location-self l in
-      rw test (ap (slice_get (slice_set contents p c)) place ∙ get-set_same contents p c (slice_get_within contents p (s.store l) (h l p at_l)))
-  by_place false n = get-set_other contents p q c (eqb-false q p n) ∙ (h at q here ∙ other (same_location at l) refl) where
-    other : (b : Bool) → same_location at l ≡ b → Some (s.store at) ≡ Some (if b then c else s.store at)
-    other false m = refl
-    other true m = absurd (eqb-false q p n (same_Some q p (sym here ∙ (ap (address program s layout) (equal_locations at l m) ∙ at_l))))
+      rw (place, same, location-self l) (get-set_same contents p c (slice_get_within contents p (s.store l) (h l p at_l)))
+  by_place (inr other) =
+      let apart : same_location at l ≡ false = false_from_ne_true (same_location at l) (λ m. other (same_Some q p (sym here ∙ (ap (address program s layout) (equal_locations at l m) ∙ at_l)))) in
+      rw apart (get-set_other contents p q c other ∙ h at q here)
 
 pub memory-written : (program : Units) (s t : State) (layout : Layout) (contents : List Slot) (holes : List Hole) (l : Location) (p : ℕ) (c : Slot)
     → IsMemory program s layout contents holes → address program s layout l ≡ Some p → t.activations ≡ s.activations → t.store ≡ with_cell s.store l c → IsMemory program t layout (slice_set contents p c) holes
@@ -110,7 +106,7 @@ module _ (program : Units) (s t : State) (x : Activation) (layout : Layout) (fir
   n = length t.activations
 
   long : length t.activations ≡ suc (length s.activations)
-  long = ap (λ (xs : List Activation). length xs) more ∙ length-append s.activations (x ∷ []) ∙ omega arith
+  long = omega (arith, simp length-append at (ap (λ (xs : List Activation). length xs) more))
 
   abbrev new_frame : Frame
   new_frame = frame_from program t n first
@@ -130,10 +126,9 @@ module _ (program : Units) (s t : State) (x : Activation) (layout : Layout) (fir
 
   -- each frame is the new one or one that was there
   pub one-of : {cells : ℕ} (a : ℕ) (f : Frame) → IsLaid program s cells layout → frame_among a (with_frame layout new_frame) ≡ Some f → ((n ≡ a) × (new_frame ≡ f)) ⊎ (frame_among a layout ≡ Some f)
-  one-of a f laid e = by_number (nat_eq n a) refl (sym (among-with_frame a layout new_frame (unmade laid)) ∙ e) where
-    by_number : (b : Bool) → nat_eq n a ≡ b → (if b then Some new_frame else frame_among a layout) ≡ Some f → ((n ≡ a) × (new_frame ≡ f)) ⊎ (frame_among a layout ≡ Some f)
-    by_number true u e = inl (eqb-true n a u, same_Some new_frame f e)
-    by_number false u e = inr e
+  one-of a f laid e =
+      let parts = among-with_frame a layout new_frame (unmade laid) in
+      elim (cases_Bool (nat_eq n a)) [ inl u ↦ inl (eqb-true n a u, same_Some new_frame f (rw (parts, u) at e)) | inr u ↦ inr (rw (parts, u) at e) ]
 
   pub laid-entered : (cells : ℕ) → IsLaid program s cells layout → lowest_gap cells (frame_of program t n) (common_cells program) layout ≡ Some first → IsLaid program t cells (with_frame layout new_frame)
   laid-entered cells laid gap =
@@ -152,15 +147,8 @@ module _ (program : Units) (s t : State) (x : Activation) (layout : Layout) (fir
 
   -- what has an address keeps it
   pub address-entered : (cells : ℕ) (at : Location) (p : ℕ) → IsLaid program s cells layout → address program s layout at ≡ Some p → address program t (with_frame layout new_frame) at ≡ Some p
-  address-entered cells at p laid e = by_kind (located program s layout at p e) where
-    by_kind : IsLocal program s layout at p ⊎ IsCommon program at p → address program t (with_frame layout new_frame) at ≡ Some p
-    by_kind (inr f) = ap (address program t (with_frame layout new_frame)) f.at_is ∙ f.placed
-    by_kind (inl f) =
-        let frame = framed program s cells layout f.activation f.cell p laid f.cell_at in
-        address-alike program s t layout (with_frame layout new_frame) at (λ a owned.
-        let same : f.activation ≡ a = sym (owner-is a at f.activation f.name (suc f.index) f.at_is owned) in
-        let there : frame_among a layout ≡ Some frame.frame = ap (λ b. frame_among b layout) (sym same) ∙ frame.framed in
-        (activation-kept s t x a more (laid.made a frame.frame there).1, (others a frame.frame laid there).1 ∙ sym there)) ∙ e
+  address-entered cells at p laid e =
+      address-kept program s t cells layout (with_frame layout new_frame) at p laid (λ a f there. (activation-kept s t x a more (laid.made a f there).1, (others a f laid there).1)) e
 
   -- and what has one has it in the new frame or had it before
   entered-cases : (cells : ℕ) (at : Location) (p : ℕ) → IsLaid program s cells layout → lowest_gap cells (frame_of program t n) (common_cells program) layout ≡ Some first → address program t (with_frame layout new_frame) at ≡ Some p
@@ -213,10 +201,7 @@ module _ (program : Units) (s t : State) (x : Activation) (layout : Layout) (fir
 
 module _ (program : Units) (s : State) (a : ℕ) (layout : Layout) where
   pub stays : {cells : ℕ} (b : ℕ) (f : Frame) → IsLaid program s cells layout → frame_among b (without a layout) ≡ Some f → frame_among b layout ≡ Some f
-  stays b f laid e = by_number (nat_eq a b) (sym (among-without a b layout laid.single) ∙ e) where
-    by_number : (t : Bool) → (if t then None else frame_among b layout) ≡ Some f → frame_among b layout ≡ Some f
-    by_number true e = absurd (none-some f e)
-    by_number false e = e
+  stays b f laid e = grind (arith, among-without a b layout laid.single, e)
 
   pub laid-left : (cells : ℕ) → IsLaid program s cells layout → IsLaid program s cells (without a layout)
   laid-left cells laid =
@@ -229,25 +214,14 @@ module _ (program : Units) (s : State) (a : ℕ) (layout : Layout) where
 
   -- what has an address had it before
   pub address-before : (cells : ℕ) (at : Location) (p : ℕ) → IsLaid program s cells layout → address program s (without a layout) at ≡ Some p → address program s layout at ≡ Some p
-  address-before cells at p laid e = by_kind (located program s (without a layout) at p e) where
-    by_kind : IsLocal program s (without a layout) at p ⊎ IsCommon program at p → address program s layout at ≡ Some p
-    by_kind (inr f) = ap (address program s layout) f.at_is ∙ f.placed
-    by_kind (inl f) =
-        let frame = framed program s cells (without a layout) f.activation f.cell p (laid-left cells laid) f.cell_at in
-        sym (address-alike program s s layout (without a layout) at (λ b owned.
-        let same : f.activation ≡ b = sym (owner-is b at f.activation f.name (suc f.index) f.at_is owned) in
-        let there : frame_among b (without a layout) ≡ Some frame.frame = ap (λ c. frame_among c (without a layout)) (sym same) ∙ frame.framed in
-        (refl, there ∙ sym (stays b frame.frame laid there)))) ∙ e
+  address-before cells at p laid e = address-kept program s s cells (without a layout) layout at p (laid-left cells laid) (λ b f there. (refl, stays b f laid there)) e
 
   -- and what is of another activation keeps it
   pub address-left : (cells : ℕ) (at : Location) → IsLaid program s cells layout → is_owned a at ≡ false → address program s (without a layout) at ≡ address program s layout at
   address-left cells at laid other =
       address-alike program s s layout (without a layout) at (λ b owned.
-      let apart = ne_eqb a b (λ same. clash (sym other ∙ (ap (λ c. is_owned c at) same ∙ owned))) in
+      let apart = ne_eqb a b (λ same. both_ways (is_owned a at) other (rw same owned)) in
       (refl, among-without a b layout laid.single ∙ rw apart refl))
-    where
-      clash : false ≡ true → ⊥
-      clash e = cc
 
   pub memory-left : (f : Frame) (old new : List Slot) (holes : List Hole)
       → IsMemory program s layout old holes → frame_among a layout ≡ Some f → length new ≡ length old → ((p : ℕ) → IsOut p (given (f.first, f.cells) holes) → slice_get new p ≡ slice_get old p)

@@ -1,34 +1,15 @@
 -- What a step passes to a new activation, and where it stores.
-use Rattle.std.proofs.Common.{◌≡◌, ◌⊎◌, inl, inr, ℕ, zero, suc, ◌+◌, ◌-◌, ◌<◌, ◌≤◌, Bool, true, false, List, [], ◌∷◌, ◌++◌, length, Option, Some, None, Result, Ok, Err, refl, ap, ◌∙◌, arith}
-use Rattle.std.specs.Prelude.{ℤ, ◌+ℤ◌, ◌&&◌, if◌then◌else◌, not, nat_eq}
-use Rattle.std.proofs.lemmas.List.{length-append}
-use Rattle.hep_source.specs.declared.function.StateFunction.{StateFunction}
-use Rattle.hep_source.specs.declared.function.StateFunction.TheVariants.{IsFull, IsEmpty, ValueOf, SetEmpty, WaitFull}
-use Rattle.hep_source.specs.declared.name.Name.{Name}
-use Rattle.hep_source.specs.declared.statement.Statement.{Statement}
-use Rattle.hep_source.specs.declared.value.Value.{Value}
-use Rattle.hep_source.specs.declared.value.Value.TheVariants.{Int}
-use Rattle.hep_source.specs.Names.{same_name, index_among}
-use Rattle.hep_source.specs.Units.{Units, unit_at, dummies_of}
+use Rattle.std.specs.Result.{IfOk}
+use Rattle.std.proofs.Common.{◌≡◌, ◌⊎◌, inl, inr, ℕ, zero, suc, ◌-◌, ◌<◌, ◌≤◌, Bool, true, false, List, [], ◌∷◌, ◌++◌, length, Option, Some, None, Result, Ok, Err, refl, ◌∙◌, arith, ℤ, ◌+ℤ◌, ◌&&◌, not, length-append}
+use Rattle.hep_machine.specs.Words.{StateFunction, IsFull, IsEmpty, ValueOf, SetEmpty, WaitFull, Name, Statement, Value, Int, index_among, Units, unit_at, dummies_of, Outcome, reading_asynchronous, setting_empty, waiting_full, integer_of, integer_or_overflow, signed_value, negated_value, combined_value, function_value, Binding, binding_for, binding_with_shapes, bound_values, dummies_for, dummy_before, dummy_for, dummy_with_shape, first_element, from_element, with_actual, with_actuals, with_shape, with_shapes, with_store, shape_by, level_after_statement, variable_of, BlockName, common_block, is_array, is_nonempty, Redex, signing, negating, combining, applying, testing, Actual, evaluated, referred, Action, assigning, jumping, choosing, branching, testing_condition, entering_block, entering_loop, ending_loop, calling, creating, purging, printing, continuing, leaving, stopping, Next, wants, does, Reference, Scope, dummy_at, element_of, location_in, location_of_name, start_by_block, storage_by_dummy, storage_of, loop_at, Bounds, fits, Activation, Cell, Dummy, Level, Location, Loop, State, Store, local, common, Answer, fails, answer_at, answer_of, answer_of_read_at, answer_of_test_at, binding_of, by_result, iterations, next_activation, result_after_action, result_after_answer, result_after_assignment, result_after_call, result_after_create, result_after_do, result_after_increment, result_after_loop_end, result_after_loop_variable, result_after_next, result_after_purge, result_after_write, scope_of, store_after_both, store_after_purge, store_after_purge_at, store_after_purge_of, Top, unit_called, unit_on_top, written, with_activation, emptied_from, further, same_location, with_cell, with_empty, with_value}
 use Rattle.hep_machine.specs.declared.event.Kind.{Kind}
 use Rattle.hep_machine.specs.declared.event.Kind.TheVariants.{Shape}
 use Rattle.hep_machine.specs.Access as access
-use Rattle.hep_machine.specs.Access.{Outcome, reading_asynchronous, setting_empty, waiting_full}
-use Rattle.hep_machine.specs.Arithmetic.{integer_of, integer_or_overflow, signed_value, negated_value, combined_value, function_value}
-use Rattle.hep_machine.specs.Binding.{Binding, binding_for, binding_with_shapes, bound_values, dummies_for, dummy_before, dummy_for, dummy_with_shape, first_element, from_element, with_actual, with_actuals, with_shape, with_shapes, with_store}
-use Rattle.hep_machine.specs.Constants.{shape_by}
-use Rattle.hep_machine.specs.Control.{level_after_statement, variable_of}
-use Rattle.hep_machine.specs.Declarations.{BlockName, common_block, is_array, is_nonempty}
-use Rattle.hep_machine.specs.Evaluation.{Redex, reading, signing, negating, combining, applying, testing, Actual, evaluated, referred, Action, assigning, jumping, choosing, branching, testing_condition, entering_block, entering_loop, ending_loop, calling, creating, purging, printing, continuing, leaving, stopping, Next, wants, does, Reference}
-use Rattle.hep_machine.specs.Locations.{Scope, dummy_at, element_of, location_in, location_of_name, start_by_block, storage_by_dummy, storage_of}
-use Rattle.hep_machine.specs.Processes.{loop_at}
-use Rattle.hep_machine.specs.Shapes.{Bounds, fits}
-use Rattle.hep_machine.specs.State.{Activation, Cell, Dummy, Level, Location, Loop, State, Store, local, common}
-use Rattle.hep_machine.specs.Step.{Answer, gives, waits, fails, answer_at, answer_of, answer_of_read_at, answer_of_test_at, binding_of, by_result, iterations, next_activation, result_after_action, result_after_answer, result_after_assignment, result_after_call, result_after_create, result_after_do, result_after_increment, result_after_loop_end, result_after_loop_variable, result_after_next, result_after_purge, result_after_write, scope_of, store_after_both, store_after_purge, store_after_purge_at, store_after_purge_of, Top, unit_called, unit_on_top, written}
-use Rattle.hep_machine.specs.Storage.{emptied_from, further, same_location, with_cell, with_empty, with_value}
+use Rattle.hep_machine.specs.Evaluation.{reading}
+use Rattle.hep_machine.specs.Step.{gives, waits}
 use Rattle.hep_machine.proofs.Changes.{Makes}
-use Rattle.hep_frames.specs.References.{IsMadeAt}
-use Rattle.std.proofs.lemmas.Bool.{ne_eqb}
+use Rattle.hep_frames.specs.Words.{IsMadeAt}
+use Rattle.std.proofs.lemmas.Bool.{ne_eqb, cond_both}
 
 -- ---- dummy arguments
 
@@ -41,12 +22,10 @@ ArePassed scope a [] = Unit {0}
 ArePassed scope a (d ∷ ds) = IsPassed scope a d.start × ArePassed scope a ds
 
 abbrev OnePassed : Scope → ℕ → Result Dummy Kind → Type 0
-OnePassed scope a (Err k) = Unit {0}
-OnePassed scope a (Ok d) = IsPassed scope a d.start
+OnePassed scope a r = IfOk r (λ d. IsPassed scope a d.start)
 
 abbrev AllPassed : Scope → ℕ → Result (List Dummy) Kind → Type 0
-AllPassed scope a (Err k) = Unit {0}
-AllPassed scope a (Ok ds) = ArePassed scope a ds
+AllPassed scope a r = IfOk r (ArePassed scope a)
 
 passed-before : (scope : Scope) (a : ℕ) (d : Result Dummy Kind) (ds : Result (List Dummy) Kind) → OnePassed scope a d → AllPassed scope a ds → AllPassed scope a (dummy_before d ds)
 passed-before scope a (Err k) ds h l = tt
@@ -68,16 +47,12 @@ passed-dummies scope a (x ∷ xs) (y ∷ ys) = passed-before scope a (dummy_for 
 
 passed-shaped : (scope : Scope) (a : ℕ) (d : Dummy) (shape : Option Bounds) → IsPassed scope a d.start → OnePassed scope a (dummy_with_shape d shape)
 passed-shaped scope a d None h = tt
-passed-shaped scope a d (Some bs) h = by_test (fits bs d.rest) where
-  by_test : (b : Bool) → OnePassed scope a (if b then Ok (record d { shape = bs }) else Err Shape)
-  by_test true = h
-  by_test false = tt
+passed-shaped scope a d (Some bs) h = cond_both (fits bs d.rest) (Ok (record d { shape = bs })) (Err Shape) (OnePassed scope a) (λ e. h) (λ e. tt)
 
 passed-shape : (scope : Scope) (a : ℕ) (new : Scope) (store : Store) (x : Name) (d : Dummy) → IsPassed scope a d.start → OnePassed scope a (with_shape new store x d)
-passed-shape scope a new store x d h = by_test (is_array new.unit x) where
-  by_test : (b : Bool) → OnePassed scope a (if b then dummy_with_shape d (shape_by new.unit (bound_values new store) x) else Ok d)
-  by_test true = passed-shaped scope a d (shape_by new.unit (bound_values new store) x) h
-  by_test false = h
+passed-shape scope a new store x d h =
+    let shape = shape_by new.unit (bound_values new store) x in
+    cond_both (is_array new.unit x) (dummy_with_shape d shape) (Ok d) (OnePassed scope a) (λ e. passed-shaped scope a d shape h) (λ e. h)
 
 passed-shapes : (scope : Scope) (a : ℕ) (new : Scope) (store : Store) (xs : List Name) (ds : List Dummy) → ArePassed scope a ds → AllPassed scope a (with_shapes new store xs ds)
 passed-shapes scope a new store [] ds h = tt
@@ -93,7 +68,7 @@ KeepsLater n old new = (a : ℕ) (x : Name) (i : ℕ) → n < a → new (local a
 
 elsewhere : (n a : ℕ) (x : Name) (i : ℕ) (at : Location) → IsMadeAt n at → n < a → same_location (local a x i) at ≡ false
 elsewhere n a x i (common b k) made later = refl
-elsewhere n a x i (local b y j) made later = ap (λ t. t && (same_name x y && nat_eq i j)) (ne_eqb a b (λ same. omega (arith, same, made, later)))
+elsewhere n a x i (local b y j) made later = rw (ne_eqb a b (λ same. omega arith)) refl
 
 later-with_cell : (n : ℕ) (old : Store) (at : Location) (cell : Cell) → IsMadeAt n at → KeepsLater n old (with_cell old at cell)
 later-with_cell n old at cell made a x i later = rw (elsewhere n a x i at made later) refl
@@ -119,8 +94,7 @@ later-with_actuals old a (x ∷ xs) (y ∷ ys) b z i later = later-with_actuals 
 -- ---- binding
 
 abbrev BindsPassed : Scope → ℕ → Store → Result Binding Kind → Type 0
-BindsPassed scope a old (Err k) = Unit {0}
-BindsPassed scope a old (Ok b) = KeepsLater a old b.store × ArePassed scope a b.dummies
+BindsPassed scope a old r = IfOk r (λ b. KeepsLater a old b.store × ArePassed scope a b.dummies)
 
 binds-with_store : (scope : Scope) (a : ℕ) (old new : Store) (ds : Result (List Dummy) Kind) → KeepsLater a old new → AllPassed scope a ds → BindsPassed scope a old (with_store new ds)
 binds-with_store scope a old new (Err k) h l = tt
@@ -142,8 +116,7 @@ abbrev pub IsMadeScope : ℕ → Scope → Type 0
 IsMadeScope n scope = (scope.number ≤ n) × ((k : ℕ) → IsMadeAt n (dummy_at scope.dummies k).start)
 
 abbrev OkMade : ℕ → Result Location Kind → Type 0
-OkMade n (Err k) = Unit {0}
-OkMade n (Ok at) = IsMadeAt n at
+OkMade n r = IfOk r (IsMadeAt n)
 
 pub made-storage : (n : ℕ) (scope : Scope) (x : Name) → IsMadeScope n scope → IsMadeAt n (storage_of scope x).start
 made-storage n scope x made = by_index (index_among x (dummies_of scope.unit)) where
@@ -205,18 +178,17 @@ later-answer n scope old (testing f r) made = later-test n f old (location_of_na
 -- ---- PURGE
 
 abbrev OkLater : ℕ → Store → Result Store Kind → Type 0
-OkLater n old (Err k) = Unit {0}
-OkLater n old (Ok new) = KeepsLater n old new
+OkLater n old r = IfOk r (KeepsLater n old)
 
 later-purge_at : (n : ℕ) (old : Store) (at : Result Location Kind) → OkMade n at → OkLater n old (store_after_purge_at old at)
 later-purge_at n old (Err k) made = tt
 later-purge_at n old (Ok at) made = later-with_cell n old at (access.purged_cell (old at)) made
 
 later-purge_of : (n : ℕ) (scope : Scope) (r : Reference) (old : Store) → IsMadeScope n scope → OkLater n old (store_after_purge_of scope r old)
-later-purge_of n scope r old made = by_test (is_array scope.unit r.0 && not (is_nonempty r.1)) where
-  by_test : (b : Bool) → OkLater n old (if b then Ok (emptied_from (storage_of scope r.0).rest (storage_of scope r.0).start old) else store_after_purge_at old (location_of_name scope r.0 r.1))
-  by_test true = later-emptied n (storage_of scope r.0).rest (storage_of scope r.0).start old (made-storage n scope r.0 made)
-  by_test false = later-purge_at n old (location_of_name scope r.0 r.1) (made-location n scope r.0 r.1 made)
+later-purge_of n scope r old made =
+    let all = storage_of scope r.0 in
+    cond_both (is_array scope.unit r.0 && not (is_nonempty r.1)) (Ok (emptied_from all.rest all.start old)) (store_after_purge_at old (location_of_name scope r.0 r.1)) (OkLater n old)
+    (λ e. later-emptied n all.rest all.start old (made-storage n scope r.0 made)) (λ e. later-purge_at n old (location_of_name scope r.0 r.1) (made-location n scope r.0 r.1 made))
 
 later-purge : (n : ℕ) (scope : Scope) (rs : List Reference) (first old : Store) → IsMadeScope n scope → KeepsLater n first old → OkLater n first (store_after_purge scope rs old)
 later-purge n scope [] first old made h = h
@@ -246,7 +218,7 @@ module _ (program : Units) (t : Top) (made : IsMadeScope (length t.state.activat
   abbrev scope : Scope
   scope = scope_of program t.state t.level.activation
 
-  unchanged : KeepsLater (length t.state.activations) t.state.store t.state.store × ((t.state.activations ≡ t.state.activations) ⊎ ((x : Activation) × (t.state.activations ≡ t.state.activations ++ x ∷ []) × (x.parent ≡ Some t.level.activation) × ArePassed (scope_of program t.state t.level.activation) (next_activation t.state) x.dummies))
+  unchanged : HasStored program t t.state
   unchanged = (keeps-all n old, inl refl)
 
   stored-answer : (a : Answer) → GivesLater n old a → Makes (HasStored program t) (result_after_answer program t a)
@@ -289,18 +261,16 @@ module _ (program : Units) (t : Top) (made : IsMadeScope (length t.state.activat
   stored-loop_end l (Ok at) there = stored-variable l at (old at).value there
 
   -- a new activation
-  stored-more : (x : Activation) (new : Store) → KeepsLater (next_activation t.state) old new → KeepsLater (length (t.state.activations ++ x ∷ [])) old new
-  stored-more x new h a z i later =
-      let long : length (t.state.activations ++ x ∷ []) ≡ length t.state.activations + 1 = length-append t.state.activations (x ∷ []) ∙ omega arith in
-      h a z i (omega (arith, later, long))
+  stored-new : (u : ℕ) (b : Binding) → KeepsLater (next_activation t.state) old b.store × ArePassed scope (next_activation t.state) b.dummies → HasStored program t (with_activation t u b)
+  stored-new u b h = (λ a z i later. h.0 a z i (omega (arith, simp length-append at later)), inr (_, refl, refl, h.1))
 
   stored-call : (u : ℕ) (b : Result Binding Kind) → BindsPassed scope (next_activation t.state) old b → Makes (HasStored program t) (result_after_call program t u b)
   stored-call u (Err k) h = unchanged
-  stored-call u (Ok b) h = (stored-more (record { unit = u; parent = Some t.level.activation; dummies = b.dummies }) b.store h.0, inr (record { unit = u; parent = Some t.level.activation; dummies = b.dummies }, refl, refl, h.1))
+  stored-call u (Ok b) h = stored-new u b h
 
   stored-create : (u : ℕ) (b : Result Binding Kind) → BindsPassed scope (next_activation t.state) old b → Makes (HasStored program t) (result_after_create program t u b)
   stored-create u (Err k) h = unchanged
-  stored-create u (Ok b) h = (stored-more (record { unit = u; parent = Some t.level.activation; dummies = b.dummies }) b.store h.0, inr (record { unit = u; parent = Some t.level.activation; dummies = b.dummies }, refl, refl, h.1))
+  stored-create u (Ok b) h = stored-new u b h
 
   binds : (u : ℕ) (ys : List Actual) → BindsPassed scope (next_activation t.state) old (binding_of program t u ys)
   binds u ys = binds-binding (scope_of program t.state t.level.activation) t.state.store (unit_at program u) (next_activation t.state) ys

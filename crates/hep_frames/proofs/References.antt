@@ -1,35 +1,15 @@
 -- In a run dummy arguments stand for what is of their activation, of one above it, or in COMMON; and nothing is stored ahead.
-use Rattle.std.proofs.Common.{◌≡◌, ◌⊎◌, inl, inr, ℕ, zero, suc, ◌+◌, ◌-◌, ◌<◌, ◌≤◌, Bool, true, false, List, [], ◌∷◌, ◌++◌, length, Option, Some, None, refl, sym, ap, ◌∙◌, subst, arith, append_assoc, append-nil}
-use Rattle.std.specs.Prelude.{◌&&◌, if◌then◌else◌, map, nat_eq, nat_le, option_and_then, option_to_list}
-use Rattle.std.specs.Option.{option_map, unwrap_or}
-use Rattle.std.proofs.lemmas.Bool.{eqb-true, eqb-false, ne_eqb}
+use Rattle.hep_machine.proofs.Others.{each_turn}
+use Rattle.std.proofs.Common.{◌≡◌, ◌⊎◌, inl, inr, ℕ, zero, suc, ◌-◌, ◌<◌, ◌≤◌, true, List, [], ◌∷◌, ◌++◌, length, Option, Some, None, refl, ap, ◌∙◌, subst, arith, map, nat_le, option_to_list, length-append}
+use Rattle.std.proofs.lemmas.Bool.{ne_eqb, cases_order}
 use Rattle.std.proofs.lemmas.Bool.Decides.{nat_tests}
-use Rattle.std.proofs.lemmas.List.{length-append}
 use Rattle.std.proofs.lemmas.Option.{slice_get_past}
-use Rattle.hep_source.specs.declared.declaration.DataGroup.{DataGroup}
-use Rattle.hep_source.specs.declared.declaration.Target.{Target}
-use Rattle.hep_source.specs.declared.name.Name.{Name}
-use Rattle.hep_source.specs.declared.value.Value.{Value}
-use Rattle.hep_source.specs.Names.{same_name, index_among}
-use Rattle.hep_source.specs.Units.{Units, dummies_of, main_unit, unit_at}
-use Rattle.hep_machine.specs.Access.{unset_cell}
-use Rattle.hep_machine.specs.Constants.{constant_value}
-use Rattle.hep_machine.specs.Data.{Repeated, Stretch, data_groups, elements_named, item_at}
-use Rattle.hep_machine.specs.Declarations.{BlockName, common_block}
-use Rattle.hep_machine.specs.Defaults.{no_activation, no_dummy}
-use Rattle.hep_machine.specs.Layout.{is_held}
-use Rattle.hep_machine.specs.Locations.{Scope, dummy_at, start_by_block, storage_by_dummy, storage_of}
-use Rattle.hep_machine.specs.Opening.{StorageUnits, all_values_given, cell_given, index_of_location, index_within, opening, storage_units_named, storage_units_of, with_group, with_groups, with_values}
-use Rattle.hep_machine.specs.Processes.{activation_of, living, numbered, parent_of}
-use Rattle.hep_machine.specs.Run.{run, run_from}
-use Rattle.hep_machine.specs.State.{Activation, Dummy, Level, Location, Process, State, Store, local, common}
-use Rattle.hep_machine.specs.Step.{Top, next_activation, scope_of, step}
-use Rattle.hep_machine.specs.Storage.{distance, further}
+use Rattle.hep_machine.specs.Words.{DataGroup, Target, Name, Value, index_among, Units, dummies_of, main_unit, unit_at, unset_cell, constant_value, Repeated, Stretch, data_groups, elements_named, BlockName, common_block, no_dummy, is_held, Scope, dummy_at, start_by_block, storage_by_dummy, storage_of, StorageUnits, all_values_given, index_of_location, opening, storage_units_named, storage_units_of, with_group, with_groups, with_values, activation_of, living, parent_of, run, run_from, Activation, Dummy, Level, Location, Process, State, Store, local, common, Top, next_activation, scope_of, step, distance, further}
 use Rattle.hep_machine.proofs.Ages.{IsAged, aged, older_parent, on_stack_made}
 use Rattle.hep_machine.proofs.Changes.{by_step, next_on, top_in}
 use Rattle.hep_machine.proofs.Held.{held_is}
-use Rattle.hep_frames.specs.References.{IsAbove, IsMadeAt, IsOwnedAbove}
-use Rattle.hep_frames.proofs.HeldFrames.{run-last}
+use Rattle.hep_frames.specs.Words.{IsAbove, IsMadeAt, IsOwnedAbove}
+use Rattle.hep_frames.proofs.HeldFrames.{run-last, each-run, turned}
 use Rattle.hep_frames.proofs.Memory.{activation-kept, activation-last, same-activation}
 use Rattle.hep_frames.proofs.Passed.{ArePassed, HasPassed, HasStored, IsMadeScope, IsPassed, KeepsLater, made-further, made-storage, stored-next}
 use Rattle.hep_frames.proofs.Stacks.{top-numbered}
@@ -37,19 +17,9 @@ use Rattle.hep_frames.proofs.Tree.{stacked-top}
 
 -- ---- what holds of the opening and goes on from step to step
 
-module _ (program : Units) (P : State → Type 0) (next : (ps : List ℕ) (p : ℕ) (t : State) → step program p (run program ps) ≡ Some t → run program (ps ++ p ∷ []) ≡ t → P (run program ps) → P t) where
-  one-turn : (ps : List ℕ) (p : ℕ) → P (run program ps) → P (run program (ps ++ p ∷ []))
-  one-turn ps p h = by_result (step program p (run program ps)) refl (run-last program ps p) where
-    by_result : (o : Option State) → step program p (run program ps) ≡ o → run program (ps ++ p ∷ []) ≡ unwrap_or o (run program ps) → P (run program (ps ++ p ∷ []))
-    by_result None e last = subst P (sym last) h
-    by_result (Some t) e last = subst P (sym last) (next ps p t e last h)
-
-  more-turns : (ps qs : List ℕ) → P (run program ps) → P (run program (ps ++ qs))
-  more-turns ps [] h = subst (λ qs. P (run program qs)) (sym (append-nil ps)) h
-  more-turns ps (q ∷ qs) h = subst (λ rs. P (run program rs)) (append_assoc ps (q ∷ []) qs) (more-turns (ps ++ q ∷ []) qs (one-turn ps q h))
-
-  pub each-state : P (run program []) → (ps : List ℕ) → P (run program ps)
-  each-state h ps = more-turns [] ps h
+pub each-state : (program : Units) (P : State → Type 0) → ((ps : List ℕ) (p : ℕ) (t : State) → step program p (run program ps) ≡ Some t → run program (ps ++ p ∷ []) ≡ t → P (run program ps) → P t) → P (run program []) → (ps : List ℕ) → P (run program ps)
+each-state program P next first =
+    each-run (λ ps. P (run program ps)) first (λ ps p h. rw run-last (each_turn P program p (run program ps) h (λ t e. next ps p t e (turned program ps p t e) h)))
 
 -- ---- above
 
@@ -81,17 +51,7 @@ AreReferences s = (a k : ℕ) → IsOwnedAbove s a (dummy_at (activation_of s a)
 
 -- what is above an activation that was made was made
 above-made : (s : State) (above a : ℕ) → IsAged s → a ≤ length s.activations → IsAbove s above a → above ≤ length s.activations
-above-made s above a old le h =
-    let itself : nat_le a (length s.activations) ≡ true = grind (arith, nat_tests) in
-    let test = h (λ z. nat_le z (length s.activations)) itself closed in
-    grind (arith, nat_tests)
-  where
-    closed : (c b : ℕ) → nat_le c (length s.activations) ≡ true → parent_of s c ≡ Some b → nat_le b (length s.activations) ≡ true
-    closed c b k e =
-        let later = older_parent s c b old e in
-        let less : b < c = later.1 in
-        let within : c ≤ length s.activations = later.2 in
-        grind (arith, nat_tests)
+above-made s above a old le h = grind (arith, nat_tests, h (λ z. nat_le z (length s.activations)) (grind (arith, nat_tests)) (λ c b k e. grind (arith, nat_tests, older_parent s c b old e)))
 
 owned-made : (s : State) (a : ℕ) (at : Location) → IsAged s → a ≤ length s.activations → IsOwnedAbove s a at → IsMadeAt (length s.activations) at
 owned-made s a (local b x i) old le h = above-made s b a old le h
@@ -118,57 +78,41 @@ passed-at scope c (d ∷ ds) zero h = inl h.0
 passed-at scope c (d ∷ ds) (suc k) h = passed-at scope c ds k h.1
 
 no-activation : (s : State) (a k : ℕ) → length s.activations < a → IsOwnedAbove s a (dummy_at (activation_of s a).dummies k).start
-no-activation s zero k less = absurd (omega (arith, less))
-no-activation s (suc i) k less =
-    let none : numbered s.activations (suc i) ≡ None = slice_get_past s.activations i (omega (arith, less)) in
-    subst (λ (o : Option Activation). IsOwnedAbove s (suc i) (dummy_at (unwrap_or o no_activation).dummies k).start) (sym none) tt
+no-activation s zero k less = absurd (omega arith)
+no-activation s (suc i) k less = rw (slice_get_past s.activations i (omega arith)) tt
 
 references-step : (program : Units) (t : Top) (s : State) → IsAged t.state → AreReferences t.state → HasPassed program t s → AreReferences s
 references-step program t s old h (inl same) a k =
-    let parents : (c b : ℕ) → parent_of t.state c ≡ Some b → parent_of s c ≡ Some b = λ c b e. ap (λ (z : Activation). z.parent) (same-activation t.state s c same) ∙ e in
-    subst (λ (z : Activation). IsOwnedAbove s a (dummy_at z.dummies k).start) (sym (same-activation t.state s a same)) (
-    owned-later t.state s a (dummy_at (activation_of t.state a).dummies k).start parents (h a k))
-references-step program t s old h (inr (x, more, owner, passed)) a k = by_number (nat_le a (length t.state.activations)) (nat_eq a (suc (length t.state.activations))) refl refl where
+    let kept = λ (c : ℕ). same-activation t.state s c same in
+    rw kept (owned-later t.state s a (dummy_at (activation_of t.state a).dummies k).start (λ c b e. ap (λ (z : Activation). z.parent) (kept c) ∙ e) (h a k))
+references-step program t s old h (inr (x, more, owner, passed)) a k = elim (cases_order a (suc (length t.state.activations))) [
+  | inl same ↦
+      let here : activation_of s a ≡ x = ap (activation_of s) same ∙ newest in
+      let number : a ≡ next_activation t.state = omega (arith, same) in
+      rw here (rw number (of_new (passed-at (scope_of program t.state t.level.activation) (next_activation t.state) x.dummies k passed)))
+  | inr (inl less) ↦
+      rw (activation-kept t.state s x a more (omega (arith, less))) (owned-later t.state s a (dummy_at (activation_of t.state a).dummies k).start parents (h a k))
+  | inr (inr above) ↦ no-activation s a k (omega (arith, above, simp length-append at (ap length more)))
+] where
+  newest : activation_of s (suc (length t.state.activations)) ≡ x
+  newest = activation-last t.state s x more
+
   parents : (c b : ℕ) → parent_of t.state c ≡ Some b → parent_of s c ≡ Some b
   parents c b e = ap (λ (z : Activation). z.parent) (activation-kept t.state s x c more (older_parent t.state c b old e).2) ∙ e
 
   child : parent_of s (next_activation t.state) ≡ Some t.level.activation
-  child =
-      let same : next_activation t.state ≡ suc (length t.state.activations) = omega arith in
-      ap (parent_of s) same ∙ (ap (λ (z : Activation). z.parent) (activation-last t.state s x more) ∙ owner)
+  child = let same : next_activation t.state ≡ suc (length t.state.activations) = omega arith in ap (parent_of s) same ∙ (ap (λ (z : Activation). z.parent) newest ∙ owner)
 
   of_passed : (at : Location) → IsPassed (scope_of program t.state t.level.activation) (next_activation t.state) at → IsOwnedAbove s (next_activation t.state) at
-  of_passed at (inl (z, e)) = subst (IsOwnedAbove s (next_activation t.state)) (sym e) (above-self s (next_activation t.state))
+  of_passed at (inl (z, e)) = rw e (above-self s (next_activation t.state))
   of_passed at (inr (z, j, e)) =
-      let here = owned-storage program t.state t.level.activation z h in
-      let there = owned-further t.state t.level.activation (storage_of (scope_of program t.state t.level.activation) z).start j here in
-      subst (IsOwnedAbove s (next_activation t.state)) (sym e) (
-      owned-child s t.level.activation (next_activation t.state) (further (storage_of (scope_of program t.state t.level.activation) z).start j) (
-      owned-later t.state s t.level.activation (further (storage_of (scope_of program t.state t.level.activation) z).start j) parents there) child)
+      let start = (storage_of (scope_of program t.state t.level.activation) z).start in
+      let there = owned-further t.state t.level.activation start j (owned-storage program t.state t.level.activation z h) in
+      rw e (owned-child s t.level.activation (next_activation t.state) (further start j) (owned-later t.state s t.level.activation (further start j) parents there) child)
 
   of_new : IsPassed (scope_of program t.state t.level.activation) (next_activation t.state) (dummy_at x.dummies k).start ⊎ (dummy_at x.dummies k ≡ no_dummy) → IsOwnedAbove s (next_activation t.state) (dummy_at x.dummies k).start
   of_new (inl there) = of_passed (dummy_at x.dummies k).start there
-  of_new (inr none) = subst (λ (d : Dummy). IsOwnedAbove s (next_activation t.state) d.start) (sym none) tt
-
-  by_number : (b c : Bool) → nat_le a (length t.state.activations) ≡ b → nat_eq a (suc (length t.state.activations)) ≡ c → IsOwnedAbove s a (dummy_at (activation_of s a).dummies k).start
-  by_number true c le n =
-      let within : a ≤ length t.state.activations = grind (arith, nat_tests) in
-      subst (λ (z : Activation). IsOwnedAbove s a (dummy_at z.dummies k).start) (sym (activation-kept t.state s x a more within)) (
-      owned-later t.state s a (dummy_at (activation_of t.state a).dummies k).start parents (h a k))
-  by_number false true le n =
-      let same : a ≡ suc (length t.state.activations) = eqb-true a (suc (length t.state.activations)) n in
-      let number : next_activation t.state ≡ a = omega (arith, same) in
-      let here : activation_of s a ≡ x = ap (activation_of s) same ∙ activation-last t.state s x more in
-      subst (λ (z : Activation). IsOwnedAbove s a (dummy_at z.dummies k).start) (sym here) (
-      subst (λ b. IsOwnedAbove s b (dummy_at x.dummies k).start) number (of_new (passed-at (scope_of program t.state t.level.activation) (next_activation t.state) x.dummies k passed)))
-  by_number false false le n =
-      let long : length s.activations ≡ length t.state.activations + 1 = ap length more ∙ (length-append t.state.activations (x ∷ []) ∙ omega arith) in
-      no-activation s a k (above le (eqb-false a (suc (length t.state.activations)) n) long)
-    where
-      above : nat_le a (length t.state.activations) ≡ false → (a ≡ suc (length t.state.activations) → ⊥) → length s.activations ≡ length t.state.activations + 1 → length s.activations < a
-      above le other long =
-          let past : length t.state.activations < a = grind (arith, nat_tests) in
-          omega (arith, past, long, other)
+  of_new (inr none) = rw none tt
 
 -- ---- what is stored
 
@@ -178,10 +122,8 @@ IsUnsetAhead s = (a : ℕ) (x : Name) (i : ℕ) → length s.activations < a →
 unset-step : (program : Units) (t : Top) (s : State) → IsUnsetAhead t.state → HasStored program t s → IsUnsetAhead s
 unset-step program t s h stored a x i later = stored.0 a x i later ∙ h a x i (before stored.1) where
   before : HasPassed program t s → length t.state.activations < a
-  before (inl same) = let e : length s.activations ≡ length t.state.activations = ap length same in omega (arith, later, e)
-  before (inr (x, more, owner, passed)) =
-      let long : length s.activations ≡ length t.state.activations + 1 = ap length more ∙ (length-append t.state.activations (x ∷ []) ∙ omega arith) in
-      omega (arith, later, long)
+  before (inl same) = omega (arith, ap length same)
+  before (inr more) = omega (arith, simp length-append at (ap length more.1))
 
 -- ---- the opening
 
@@ -205,16 +147,14 @@ made-named scope (t ∷ ts) made =
 -- an element of a later activation isn't one of them
 no-distance : (at : Location) (a : ℕ) (x : Name) (i : ℕ) → IsMadeAt 1 at → 1 < a → distance at (local a x i) ≡ None
 no-distance (common b k) a x i made later = refl
-no-distance (local b y j) a x i made later =
-    ap (λ t. if t && (same_name y x && nat_le j i) then Some (i - j) else None) (ne_eqb b a (λ same. omega (arith, made, later, same)))
+no-distance (local b y j) a x i made later = rw (ne_eqb b a (λ same. omega arith)) refl
 
 no-index : (us : List StorageUnits) (a : ℕ) (x : Name) (i : ℕ) → AreMadeAt us → 1 < a → index_of_location us (local a x i) ≡ None
 no-index [] a x i made later = refl
-no-index (u ∷ us) a x i made later =
-    ap (λ o. index_within u.1 o (index_of_location us (local a x i))) (no-distance u.0 a x i made.0 later) ∙ ap (option_map (λ n. u.1 + n)) (no-index us a x i made.1 later)
+no-index (u ∷ us) a x i made later = rw (no-distance u.0 a x i made.0 later, no-index us a x i made.1 later) refl
 
 later-values : (us : List StorageUnits) (vs : List (Repeated Value)) (store : Store) → AreMadeAt us → KeepsLater 1 store (with_values store us vs)
-later-values us vs store made a x i later = ap (λ o. cell_given (option_and_then (item_at vs) o) (store (local a x i))) (no-index us a x i made later)
+later-values us vs store made a x i later = rw (no-index us a x i made later) refl
 
 later-groups : (scope : Scope) (groups : List DataGroup) (store : Store) → IsMadeScope 1 scope → KeepsLater 1 store (with_groups scope store groups)
 later-groups scope [] store made a x i later = refl

@@ -1,7 +1,7 @@
 -- From rest to rest: what a step makes of a tree in which nothing is to be given back.
 use Rattle.std.proofs.Common.{◌≡◌, ℕ, Bool, [], ◌∷◌, ◌++◌, length, Some, None, sym, subst}
-use Rattle.hep_machine.specs.State.{Activation, State}
-use Rattle.hep_frames.specs.Tree.{also, AreWantedBut, but, is_stacked, IsAtRest, IsTree, new_node, Node, Nodes, with_ended, with_node}
+use Rattle.hep_machine.specs.Words.{Activation, State}
+use Rattle.hep_frames.specs.Words.{also, AreWantedBut, but, is_stacked, IsAtRest, IsTree, new_node, Node, Nodes, with_ended, with_node}
 use Rattle.hep_frames.proofs.Beginning.{tree-same, wanted-same}
 use Rattle.hep_frames.proofs.TreeSteps.{tree-ended, tree-entered, wanted-ended, wanted-entered}
 

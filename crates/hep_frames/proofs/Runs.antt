@@ -1,32 +1,15 @@
 -- What names stand for is kept in consecutive cells.
-use Rattle.std.proofs.Common.{◌≡◌, ◌⊎◌, inl, inr, ℕ, zero, suc, ◌+◌, ◌<◌, ◌≤◌, Bool, true, false, List, [], ◌∷◌, ◌++◌, length, Some, None, refl, sym, ap, ◌∙◌, subst, arith}
-use Rattle.std.specs.Prelude.{◌&&◌, ◌||◌, if◌then◌else◌, not, map, slice_get}
-use Rattle.std.specs.List.{filter, flat_map}
-use Rattle.std.specs.Option.{option_map}
-use Rattle.std.proofs.lemmas.Bool.{and_parts, or_left, or_right, not-true}
+use Rattle.hep_frames.proofs.Telling.{part-address}
+use Rattle.std.proofs.Common.{◌≡◌, inl, inr, ℕ, zero, suc, ◌+◌, ◌<◌, ◌≤◌, Bool, true, false, List, [], ◌∷◌, ◌++◌, length, Some, None, refl, sym, ap, ◌∙◌, subst, arith, ◌&&◌, if◌then◌else◌, not, map, slice_get}
+use Rattle.std.specs.List.{filter, flat_map, list_any}
+use Rattle.std.proofs.lemmas.Bool.{and_parts, not-true, or_cases}
 use Rattle.std.proofs.lemmas.List.Folds.{list_any-append}
-use Rattle.std.proofs.lemmas.Option.{same_Some, none-some}
-use Rattle.hep_source.specs.declared.declaration.CommonBlock.{CommonBlock}
-use Rattle.hep_source.specs.declared.declaration.Declarator.{Declarator}
-use Rattle.hep_source.specs.declared.name.Name.{Name}
-use Rattle.hep_source.specs.declared.statement.Statement.{Statement}
-use Rattle.hep_source.specs.Names.{same_name, is_among, index_among}
-use Rattle.hep_source.specs.Units.{Units, unit_at, dummies_of}
+use Rattle.std.proofs.lemmas.Option.{none-some}
+use Rattle.hep_machine.specs.Words.{CommonBlock, Declarator, Name, Statement, is_among, index_among, Units, unit_at, dummies_of, cells_of, cells_of_all, cells_before, BlockName, block_holding, block_of, blocks_of, blocks_of_unit, common_block, entries_under, is_common, is_constant_name, is_block_among, names_declared, names_in_block, same_block, with_blocks, dummy_at, Frame, Layout, block_cells, with_frame, activation_of, unit_of, Activation, Location, local, common, State, further, is_local, locals_of, names_of, is_owned}
 use Rattle.hep_source.proofs.NameTests.{equal_names}
-use Rattle.hep_machine.specs.Constants.{cells_of, cells_of_all, cells_before}
-use Rattle.hep_machine.specs.Declarations.{BlockName, block_holding, block_of, blocks_of, blocks_of_unit, common_block, entries_under, is_common, is_constant_name, is_block_among, names_declared, names_in_block, same_block, with_blocks}
-use Rattle.hep_machine.specs.Locations.{dummy_at}
-use Rattle.hep_machine.specs.Layout.{Frame, Layout, block_cells, with_frame}
-use Rattle.hep_machine.specs.Processes.{activation_of, unit_of}
-use Rattle.hep_machine.specs.State.{Activation, Location, local, common, State}
-use Rattle.hep_machine.specs.Storage.{further}
-use Rattle.hep_machine.specs.Variables.{is_local, locals_of, names_of}
-use Rattle.hep_machine.specs.Views.{is_owned}
 use Rattle.hep_machine.proofs.Locations.{equal_blocks, block-self, block-stays}
 use Rattle.hep_arena.specs.Gaps.{frame_among, without}
-use Rattle.hep_frames.specs.Addresses.{address, address_of_kept, cell_in, frame_from, kept_in, IsLaid}
-use Rattle.hep_frames.specs.Rows.{argument, variable, common_row, first_in, first_in_common, first_of_part, frame_row, place_of_part, same_part, size_in}
-use Rattle.hep_frames.specs.Runs.{RunsFrom}
+use Rattle.hep_frames.specs.Words.{address, frame_from, IsLaid, argument, variable, common_row, first_in, first_in_common, first_of_part, size_in, RunsFrom}
 use Rattle.hep_frames.proofs.CommonRows.{name-first, unit-cells}
 use Rattle.hep_frames.proofs.FrameRows.{argument-first, variable-first}
 use Rattle.hep_frames.proofs.Memory.{address-entered, address-left}
@@ -62,27 +45,14 @@ runs-left program s a cells layout start count first laid other h k less =
 
 -- ---- variables of an activation
 
-among-cons : (x : Name) (b : Bool) (xs : List Name) → (if b then true else is_among x xs) ≡ true → (b ≡ true) ⊎ (is_among x xs ≡ true)
-among-cons x true xs h = inl refl
-among-cons x false xs h = inr h
-
 -- what passes a test
 pub among-filter : (x : Name) (test : Name → Bool) (xs : List Name) → is_among x (filter test xs) ≡ true → test x ≡ true
 among-filter x test [] h = absurd cc
-among-filter x test (y ∷ ys) h = by_test (among-filter x test ys) (test y) refl h where
-  by_test : (is_among x (filter test ys) ≡ true → test x ≡ true) → (b : Bool) → test y ≡ b → is_among x (if b then y ∷ filter test ys else filter test ys) ≡ true → test x ≡ true
-  by_test rest false t h = rest h
-  by_test rest true t h = by_name (same_name x y) refl h where
-    by_name : (b : Bool) → same_name x y ≡ b → (if b then true else is_among x (filter test ys)) ≡ true → test x ≡ true
-    by_name true same h = ap test (equal_names x y same) ∙ t
-    by_name false same h = rest h
+among-filter x test (y ∷ ys) h = grind (arith, among-filter x test ys, equal_names x y)
 
 not-among : (x : Name) (xs : List Name) → is_among x xs ≡ false → index_among x xs ≡ None
 not-among x [] h = refl
-not-among x (y ∷ ys) h = by_test (not-among x ys) (same_name x y) h where
-  by_test : (is_among x ys ≡ false → index_among x ys ≡ None) → (b : Bool) → (if b then true else is_among x ys) ≡ false → (if b then Some 0 else option_map suc (index_among x ys)) ≡ None
-  by_test rest true h = absurd cc
-  by_test rest false h = ap (option_map suc) (rest h)
+not-among x (y ∷ ys) h = grind (arith, not-among x ys)
 
 pub local-index : (unit : List Statement) (x : Name) → is_among x (locals_of unit) ≡ true → index_among x (dummies_of unit) ≡ None
 local-index unit x h =
@@ -91,25 +61,15 @@ local-index unit x h =
 pub runs-local : (program : Units) (s : State) (layout : Layout) (a : ℕ) (x : Name) (f : Frame) → frame_among a layout ≡ Some f → is_among x (locals_of (unit_at program (unit_of s a))) ≡ true
     → RunsFrom program s layout (local a x 1) (cells_of (unit_at program (unit_of s a)) x) (f.first + first_of_part (unit_at program (unit_of s a)) (variable x))
 runs-local program s layout a x f framed h k less =
-    ap (λ i. address program s layout (local a x i)) (let next : 1 + k ≡ suc k = omega arith in next)
-    ∙ (ap (λ o. address_of_kept program s layout a (kept_in a (activation_of s a).dummies x k o)) (local-index (unit_at program (unit_of s a)) x h) ∙ ((λ i. cell_in (framed i) (there i)) ∙ ap (λ n. Some n) (omega arith)))
-  where
-    there : place_of_part (unit_at program (unit_of s a)) (variable x) k ≡ Some (first_of_part (unit_at program (unit_of s a)) (variable x) + k)
-    there =
-        let entry = variable-first (unit_at program (unit_of s a)) x h in
-        place-at (same_part (variable x)) k (frame_row (unit_at program (unit_of s a))) (subst (λ n. k < n) (sym entry.sized) less)
+    let unit = unit_at program (unit_of s a) in
+    let next : 1 + k ≡ suc k = omega arith in
+    rw (next, local-index unit x h) (part-address program s layout a f (variable x) k (cells_of unit x) framed (variable-first unit x h).sized less)
 
 -- the value of an expression
 pub runs-value : (program : Units) (s : State) (layout : Layout) (a : ℕ) (x : Name) (i : ℕ) (f : Frame) → frame_among a layout ≡ Some f → index_among x (dummies_of (unit_at program (unit_of s a))) ≡ Some i
     → is_owned a (dummy_at (activation_of s a).dummies i).start ≡ true → RunsFrom program s layout (local a x 1) 1 (f.first + first_of_part (unit_at program (unit_of s a)) (argument x))
 runs-value program s layout a x i f framed e owned zero less =
-    ap (λ o. address_of_kept program s layout a (kept_in a (activation_of s a).dummies x 0 o)) e
-    ∙ (ap (λ b. address_of_kept program s layout a (if b then Some (argument x, 0) else None)) owned ∙ ((λ j. cell_in (framed j) (there j)) ∙ ap (λ n. Some n) (omega arith)))
-  where
-    there : place_of_part (unit_at program (unit_of s a)) (argument x) 0 ≡ Some (first_of_part (unit_at program (unit_of s a)) (argument x) + 0)
-    there =
-        let entry = argument-first (unit_at program (unit_of s a)) x i e in
-        place-at (same_part (argument x)) 0 (frame_row (unit_at program (unit_of s a))) (subst (λ n. 0 < n) (sym entry.sized) (omega arith))
+    rw (e, owned) (part-address program s layout a f (argument x) 0 2 framed (argument-first (unit_at program (unit_of s a)) x i e).sized (omega arith))
 runs-value program s layout a x i f framed e owned (suc k) less = absurd (omega (arith, less))
 
 -- ---- variables in COMMON
@@ -120,86 +80,48 @@ block-turned b c e = ap (same_block c) (equal_blocks b c e) ∙ block-self c
 -- the names before one, and its own cells, are no more than those of all
 before-within : (unit : List Statement) (x : Name) (xs : List Name) → is_among x xs ≡ true → cells_before unit x xs + cells_of unit x ≤ cells_of_all unit xs
 before-within unit x [] h = absurd cc
-before-within unit x (y ∷ ys) h = by_test (before-within unit x ys) (same_name x y) refl h where
-  by_test : (is_among x ys ≡ true → cells_before unit x ys + cells_of unit x ≤ cells_of_all unit ys) → (b : Bool) → same_name x y ≡ b → (if b then true else is_among x ys) ≡ true
-      → (if b then 0 else cells_of unit y + cells_before unit x ys) + cells_of unit x ≤ cells_of unit y + cells_of_all unit ys
-  by_test rest true t h = let same : cells_of unit x ≡ cells_of unit y = ap (cells_of unit) (equal_names x y t) in omega (arith, same)
-  by_test rest false t h = omega (arith, rest h)
+before-within unit x (y ∷ ys) h = grind (arith, before-within unit x ys, equal_names x y)
 
 -- a name is among those of its block
 among-append : (x : Name) (ds es : List Declarator) → is_among x (names_declared ds) ≡ true → is_among x (names_declared (ds ++ es)) ≡ true
 among-append x [] es h = absurd cc
-among-append x (d ∷ ds) es h = by_test (among-append x ds es) (same_name x d.occurrence.name) h where
-  by_test : (is_among x (names_declared ds) ≡ true → is_among x (names_declared (ds ++ es)) ≡ true) → (b : Bool) → (if b then true else is_among x (names_declared ds)) ≡ true → (if b then true else is_among x (names_declared (ds ++ es))) ≡ true
-  by_test rest true h = refl
-  by_test rest false h = rest h
+among-append x (d ∷ ds) es h = grind (arith, among-append x ds es)
 
 among-behind : (x : Name) (ds es : List Declarator) → is_among x (names_declared es) ≡ true → is_among x (names_declared (ds ++ es)) ≡ true
 among-behind x [] es h = h
-among-behind x (d ∷ ds) es h = by_test (among-behind x ds es h) (same_name x d.occurrence.name) where
-  by_test : is_among x (names_declared (ds ++ es)) ≡ true → (b : Bool) → (if b then true else is_among x (names_declared (ds ++ es))) ≡ true
-  by_test rest true = refl
-  by_test rest false = rest
+among-behind x (d ∷ ds) es h = grind (arith, among-behind x ds es h)
 
 held-under : (x : Name) (b : BlockName) (cs : List CommonBlock) → block_holding x cs ≡ Some b → is_among x (names_declared (entries_under b cs)) ≡ true
 held-under x b [] e = absurd (none-some b e)
-held-under x b (c ∷ cs) e = by_test (held-under x b cs) (is_among x (names_declared c.entries)) refl e where
-  by_test : (block_holding x cs ≡ Some b → is_among x (names_declared (entries_under b cs)) ≡ true) → (t : Bool) → is_among x (names_declared c.entries) ≡ t → (if t then Some (block_of c) else block_holding x cs) ≡ Some b
-      → is_among x (names_declared (if same_block (block_of c) b then c.entries ++ entries_under b cs else entries_under b cs)) ≡ true
-  by_test rest true t e =
-      let same : same_block (block_of c) b ≡ true = ap (same_block (block_of c)) (sym (same_Some (block_of c) b e)) ∙ block-self (block_of c) in
-      rw same (among-append x c.entries (entries_under b cs) t)
-  by_test rest false t e = by_block (same_block (block_of c) b) (rest e) where
-    by_block : (u : Bool) → is_among x (names_declared (entries_under b cs)) ≡ true → is_among x (names_declared (if u then c.entries ++ entries_under b cs else entries_under b cs)) ≡ true
-    by_block true h = among-behind x c.entries (entries_under b cs) h
-    by_block false h = h
+held-under x b (c ∷ cs) e = grind (arith, held-under x b cs, block-self b, among-append x c.entries (entries_under b cs), among-behind x c.entries (entries_under b cs))
 
 -- ---- the blocks of a program
 
 -- a block of this name is among blocks of COMMON statements
-abbrev IsNamed : BlockName → List CommonBlock → Type 0
-IsNamed b [] = ⊥
-IsNamed b (c ∷ cs) = (block_of c ≡ b) ⊎ IsNamed b cs
+abbrev is_named : BlockName → List CommonBlock → Bool
+is_named b cs = list_any (λ (c : CommonBlock). same_block b (block_of c)) cs
 
-held-named : (x : Name) (b : BlockName) (cs : List CommonBlock) → block_holding x cs ≡ Some b → IsNamed b cs
-held-named x b [] e = none-some b e
-held-named x b (c ∷ cs) e = by_test (held-named x b cs) (is_among x (names_declared c.entries)) e where
-  by_test : (block_holding x cs ≡ Some b → IsNamed b cs) → (t : Bool) → (if t then Some (block_of c) else block_holding x cs) ≡ Some b → (block_of c ≡ b) ⊎ IsNamed b cs
-  by_test rest true e = inl (same_Some (block_of c) b e)
-  by_test rest false e = inr (rest e)
+held-named : (x : Name) (b : BlockName) (cs : List CommonBlock) → block_holding x cs ≡ Some b → is_named b cs ≡ true
+held-named x b [] e = absurd (none-some b e)
+held-named x b (c ∷ cs) e = grind (arith, held-named x b cs, block-self b)
 
-named-append : (b : BlockName) (cs ds : List CommonBlock) → IsNamed b cs ⊎ IsNamed b ds → IsNamed b (cs ++ ds)
-named-append b [] ds (inl h) = absurd h
-named-append b [] ds (inr h) = h
-named-append b (c ∷ cs) ds (inl (inl h)) = inl h
-named-append b (c ∷ cs) ds (inl (inr h)) = inr (named-append b cs ds (inl h))
-named-append b (c ∷ cs) ds (inr h) = inr (named-append b cs ds (inr h))
-
-named-unit : (program : Units) (u : ℕ) (unit : List Statement) (b : BlockName) → slice_get program u ≡ Some unit → IsNamed b (blocks_of_unit unit) → IsNamed b (flat_map blocks_of_unit program)
+named-unit : (program : Units) (u : ℕ) (unit : List Statement) (b : BlockName) → slice_get program u ≡ Some unit → is_named b (blocks_of_unit unit) ≡ true → is_named b (flat_map blocks_of_unit program) ≡ true
 named-unit [] u unit b e h = absurd (none-some unit e)
-named-unit (v ∷ vs) zero unit b e h = named-append b (blocks_of_unit v) (flat_map blocks_of_unit vs) (inl (subst (λ w. IsNamed b (blocks_of_unit w)) (sym (same_Some v unit e)) h))
-named-unit (v ∷ vs) (suc u) unit b e h = named-append b (blocks_of_unit v) (flat_map blocks_of_unit vs) (inr (named-unit vs u unit b e h))
+named-unit (v ∷ vs) zero unit b e h = grind (arith, list_any-append (λ (c : CommonBlock). same_block b (block_of c)) (blocks_of_unit v) (flat_map blocks_of_unit vs))
+named-unit (v ∷ vs) (suc u) unit b e h = grind (arith, list_any-append (λ (c : CommonBlock). same_block b (block_of c)) (blocks_of_unit v) (flat_map blocks_of_unit vs), named-unit vs u unit b e h)
 
-block-append : (b : BlockName) (bs cs : List BlockName) → is_block_among b (bs ++ cs) ≡ (is_block_among b bs || is_block_among b cs)
-block-append b bs cs = list_any-append (same_block b) bs cs
-
-block-added : (b : BlockName) (bs : List BlockName) (cs : List CommonBlock) → IsNamed b cs → is_block_among b (with_blocks bs cs) ≡ true
-block-added b bs [] h = absurd h
-block-added b bs (c ∷ cs) (inr h) = block-added b (if is_block_among (block_of c) bs then bs else bs ++ block_of c ∷ []) cs h
-block-added b bs (c ∷ cs) (inl h) = block-stays b (if is_block_among (block_of c) bs then bs else bs ++ block_of c ∷ []) cs (by_test (is_block_among (block_of c) bs) refl) where
-  by_test : (t : Bool) → is_block_among (block_of c) bs ≡ t → is_block_among b (if t then bs else bs ++ block_of c ∷ []) ≡ true
-  by_test true t = ap (λ d. is_block_among d bs) (sym h) ∙ t
-  by_test false t =
-      let own : is_block_among b (block_of c ∷ []) ≡ true = or_left (same_block b (block_of c)) false (ap (λ d. same_block d (block_of c)) (sym h) ∙ block-self (block_of c)) in
-      block-append b bs (block_of c ∷ []) ∙ or_right (is_block_among b bs) (is_block_among b (block_of c ∷ [])) own
+block-added : (b : BlockName) (bs : List BlockName) (cs : List CommonBlock) → is_named b cs ≡ true → is_block_among b (with_blocks bs cs) ≡ true
+block-added b bs [] h = absurd cc
+block-added b bs (c ∷ cs) h =
+    let more = if is_block_among (block_of c) bs then bs else bs ++ block_of c ∷ [] in
+    elim (or_cases (same_block b (block_of c)) (is_named b cs) h) [
+      | inl here ↦ block-stays b more cs (grind (arith, here, equal_blocks b (block_of c), list_any-append (same_block b) bs (block_of c ∷ [])))
+      | inr rest ↦ block-added b more cs rest
+    ]
 
 block-size : (program : Units) (b : BlockName) (bs : List BlockName) → is_block_among b bs ≡ true → size_in (same_block b) (map (λ (c : BlockName). (c, block_cells program c)) bs) ≡ block_cells program b
 block-size program b [] h = absurd cc
-block-size program b (c ∷ cs) h = by_test (block-size program b cs) (same_block b c) refl h where
-  by_test : (is_block_among b cs ≡ true → size_in (same_block b) (map (λ (d : BlockName). (d, block_cells program d)) cs) ≡ block_cells program b) → (t : Bool) → same_block b c ≡ t → (t || is_block_among b cs) ≡ true
-      → (if t then block_cells program c else size_in (same_block b) (map (λ (d : BlockName). (d, block_cells program d)) cs)) ≡ block_cells program b
-  by_test rest true t h = ap (block_cells program) (sym (equal_blocks b c t))
-  by_test rest false t h = rest h
+block-size program b (c ∷ cs) h = grind (arith, block-size program b cs, equal_blocks b c)
 
 pub common-size : (program : Units) (u : ℕ) (unit : List Statement) (x : Name) (b : BlockName) → slice_get program u ≡ Some unit → common_block unit x ≡ Some b → size_in (same_block b) (common_row program) ≡ block_cells program b
 common-size program u unit x b e h =

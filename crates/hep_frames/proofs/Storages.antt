@@ -1,74 +1,34 @@
 -- Storage sequences of names, their elements, and what dummy arguments stand for, in the arena.
-use Rattle.std.proofs.Common.{◌≡◌, ℕ, ◌+◌, ◌-◌, ◌≤◌, Bool, true, false, List, [], Option, Some, None, Result, Ok, Err, refl, sym, ap, ◌∙◌, subst, arith}
-use Rattle.std.specs.Prelude.{◌&&◌, if◌then◌else◌, not, nat_le, is_some, slice_get}
+use Rattle.hep_source.proofs.Tests.{none-from-not}
+use Rattle.std.proofs.Common.{◌≡◌, ℕ, ◌+◌, ◌-◌, ◌≤◌, true, List, [], Option, Some, None, Result, Ok, Err, refl, sym, ap, ◌∙◌, subst, arith, ◌&&◌, not, nat_le, slice_get}
 use Rattle.std.specs.Option.{unwrap_or}
 use Rattle.std.proofs.lemmas.Bool.{and_parts, not-true}
 use Rattle.std.proofs.lemmas.Bool.Decides.{nat_tests}
 use Rattle.std.proofs.lemmas.Option.{same_Some, none-some}
-use Rattle.hep_source.specs.declared.name.Name.{Name}
-use Rattle.hep_source.specs.declared.statement.Statement.{Statement}
-use Rattle.hep_source.specs.declared.value.Value.{Value}
-use Rattle.hep_source.specs.Names.{is_among, index_among}
-use Rattle.hep_source.specs.Units.{Units, unit_at, dummies_of}
+use Rattle.hep_machine.specs.Words.{Name, Statement, Value, is_among, index_among, Units, unit_at, dummies_of, integers_of, dummy_for, first_element, from_element, BlockName, common_block, is_constant_name, is_common, is_dummy, referred, Reference, Frame, Layout, Scope, StorageSequence, dummy_at, element_in, element_of, location_in, location_of_name, storage_of, activation_of, unit_of, Bounds, before_element, element_number, elements, fits, sum, Dummy, Location, State, scope_of, further, is_local, locals_of, names_of}
 use Rattle.hep_machine.specs.declared.event.Kind.{Kind}
 use Rattle.hep_machine.specs.declared.event.Kind.TheVariants.{Range}
-use Rattle.hep_machine.specs.Arithmetic.{integers_of}
-use Rattle.hep_machine.specs.Binding.{dummy_for, first_element, from_element}
-use Rattle.hep_machine.specs.Declarations.{BlockName, common_block, is_array, is_constant_name, is_common, is_dummy, is_nonempty}
-use Rattle.hep_machine.specs.Evaluation.{referred, Reference}
-use Rattle.hep_machine.specs.Layout.{Frame, Layout}
-use Rattle.hep_machine.specs.Locations.{Scope, StorageSequence, dummy_at, element_in, element_of, location_in, location_of_name, own_storage, start_by_block, storage_by_dummy, storage_of}
-use Rattle.hep_machine.specs.Processes.{activation_of, unit_of}
-use Rattle.hep_machine.specs.Shapes.{Bounds, before_element, element_number, elements, fits, sum}
-use Rattle.hep_machine.specs.State.{Dummy, Location, State}
-use Rattle.hep_machine.specs.Step.{scope_of}
-use Rattle.hep_machine.specs.Storage.{further}
-use Rattle.hep_machine.specs.Variables.{is_local, locals_of, names_of}
 use Rattle.hep_arena.specs.Gaps.{frame_among}
-use Rattle.hep_frames.specs.Addresses.{address}
-use Rattle.hep_frames.specs.Rows.{first_in_common, first_of_part, variable}
-use Rattle.hep_frames.specs.Runs.{RunsFrom}
+use Rattle.hep_frames.specs.Words.{address, first_in_common, first_of_part, variable, RunsFrom}
 use Rattle.hep_frames.proofs.Runs.{among-filter, local-index, runs-common, runs-fewer, runs-from, runs-local}
 
 -- ---- names
 
-abbrev RunsAs : Units → State → Layout → StorageSequence → ℕ → Type 0
-RunsAs program s layout e first = RunsFrom program s layout e.start e.rest first
-
 -- a local variable is in no common block
-pub no-block : (o : Option BlockName) → is_some o ≡ false → o ≡ None
-no-block None h = refl
-no-block (Some b) h = absurd cc
-
 local-block : (unit : List Statement) (x : Name) → is_among x (locals_of unit) ≡ true → common_block unit x ≡ None
 local-block unit x h =
     let both = (and_parts (not (is_dummy unit x)) (not (is_common unit x) && not (is_constant_name unit x)) (among-filter x (is_local unit) (names_of unit) h)).1 in
-    no-block (common_block unit x) (not-true (is_common unit x) (and_parts (not (is_common unit x)) (not (is_constant_name unit x)) both).0)
+    none-from-not (common_block unit x) (not-true (is_common unit x) (and_parts (not (is_common unit x)) (not (is_constant_name unit x)) both).0)
 
 pub storage-local : (program : Units) (s : State) (layout : Layout) (a : ℕ) (x : Name) (f : Frame) → frame_among a layout ≡ Some f → is_among x (locals_of (unit_at program (unit_of s a))) ≡ true
     → RunsFrom program s layout (storage_of (scope_of program s a) x).start (storage_of (scope_of program s a) x).rest (f.first + first_of_part (unit_at program (unit_of s a)) (variable x))
 storage-local program s layout a x f framed h =
-    subst (λ e. RunsAs program s layout e (f.first + first_of_part (unit_at program (unit_of s a)) (variable x))) (sym own) (
-    subst (λ start. RunsFrom program s layout start (own_storage (scope_of program s a) x).rest (f.first + first_of_part (unit_at program (unit_of s a)) (variable x))) (sym start) (runs-local program s layout a x f framed h))
-  where
-    own : storage_of (scope_of program s a) x ≡ own_storage (scope_of program s a) x
-    own = ap (storage_by_dummy (scope_of program s a) x) (local-index (unit_at program (unit_of s a)) x h)
-
-    start : (own_storage (scope_of program s a) x).start ≡ start_by_block (scope_of program s a) x None
-    start = ap (start_by_block (scope_of program s a) x) (local-block (unit_at program (unit_of s a)) x h)
+    rw (local-index (unit_at program (unit_of s a)) x h, local-block (unit_at program (unit_of s a)) x h) (runs-local program s layout a x f framed h)
 
 pub storage-common : (program : Units) (s : State) (layout : Layout) (a : ℕ) (x : Name) (b : BlockName) → slice_get program (unit_of s a) ≡ Some (unit_at program (unit_of s a)) → index_among x (dummies_of (unit_at program (unit_of s a))) ≡ None
     → common_block (unit_at program (unit_of s a)) x ≡ Some b
     → RunsFrom program s layout (storage_of (scope_of program s a) x).start (storage_of (scope_of program s a) x).rest (first_in_common program (unit_at program (unit_of s a)) b x)
-storage-common program s layout a x b e none h =
-    subst (λ e. RunsAs program s layout e (first_in_common program (unit_at program (unit_of s a)) b x)) (sym own) (
-    subst (λ start. RunsFrom program s layout start (own_storage (scope_of program s a) x).rest (first_in_common program (unit_at program (unit_of s a)) b x)) (sym start) (runs-common program s layout (unit_of s a) (unit_at program (unit_of s a)) x b e h))
-  where
-    own : storage_of (scope_of program s a) x ≡ own_storage (scope_of program s a) x
-    own = ap (storage_by_dummy (scope_of program s a) x) none
-
-    start : (own_storage (scope_of program s a) x).start ≡ start_by_block (scope_of program s a) x (Some b)
-    start = ap (start_by_block (scope_of program s a) x) h
+storage-common program s layout a x b e none h = rw (none, h) (runs-common program s layout (unit_of s a) (unit_at program (unit_of s a)) x b e h)
 
 -- a dummy argument has no more elements than there are
 pub shape-fits : (bs : Bounds) (rest : ℕ) → fits bs rest ≡ true → unwrap_or (elements bs) rest ≤ rest
@@ -81,11 +41,8 @@ pub storage-dummy : (program : Units) (s : State) (layout : Layout) (a : ℕ) (x
     → RunsFrom program s layout (dummy_at (activation_of s a).dummies i).start (dummy_at (activation_of s a).dummies i).rest first
     → RunsFrom program s layout (storage_of (scope_of program s a) x).start (storage_of (scope_of program s a) x).rest first
 storage-dummy program s layout a x i first e fitting h =
-    subst (λ e. RunsAs program s layout e first) (sym own) (
-    let d = dummy_at (activation_of s a).dummies i in runs-fewer program s layout d.start d.rest first (unwrap_or (elements d.shape) d.rest) h (shape-fits d.shape d.rest fitting))
-  where
-    own : storage_of (scope_of program s a) x ≡ storage_by_dummy (scope_of program s a) x (Some i)
-    own = ap (storage_by_dummy (scope_of program s a) x) e
+    let d = dummy_at (activation_of s a).dummies i in
+    rw e (runs-fewer program s layout d.start d.rest first (unwrap_or (elements d.shape) d.rest) h (shape-fits d.shape d.rest fitting))
 
 -- ---- elements
 
@@ -98,13 +55,7 @@ err-ok k x e = absurd cc
 -- elements are counted from 1, and there are no more than the sequence has
 element-within : (e : StorageSequence) (o : Option ℕ) (n : ℕ) → element_in e o ≡ Ok n → (o ≡ Some n) × (n ≤ e.rest)
 element-within e None n h = err-ok Range n h
-element-within e (Some m) n h = by_test (nat_le m e.rest) refl h where
-  by_test : (b : Bool) → nat_le m e.rest ≡ b → (if b then Ok m else Err Range) ≡ Ok n → (Some m ≡ Some n) × (n ≤ e.rest)
-  by_test true t h =
-      let same : m ≡ n = same-ok m n h in
-      let below : m ≤ e.rest = grind (arith, nat_tests) in
-      (ap (λ k. Some k) same, omega (arith, same, below))
-  by_test false t h = err-ok Range n h
+element-within e (Some m) n h = (grind (arith, nat_tests), grind (arith, nat_tests))
 
 pub from-one : (o : Option ℕ) (n : ℕ) → sum 1 o ≡ Some n → 1 ≤ n
 from-one None n h = absurd (none-some n h)
@@ -131,10 +82,7 @@ element-address program s layout scope x subscripts first at runs h = by_element
 
 -- a whole array begins with its first element
 first-counted : (scope : Scope) (r : Reference) (n : ℕ) → first_element scope r ≡ Ok n → (1 ≤ n) × (n ≤ (storage_of scope r.0).rest + 1)
-first-counted scope r n h = by_test (is_array scope.unit r.0 && not (is_nonempty r.1)) h where
-  by_test : (b : Bool) → (if b then Ok 1 else element_of (storage_of scope r.0) r.1) ≡ Ok n → (1 ≤ n) × (n ≤ (storage_of scope r.0).rest + 1)
-  by_test true h = let same : 1 ≡ n = same-ok 1 n h in (omega (arith, same), omega (arith, same))
-  by_test false h = let counted = element-counted (storage_of scope r.0) r.1 n h in (counted.0, omega (arith, counted.1))
+first-counted scope r n h = (grind (arith, element-counted (storage_of scope r.0) r.1 n), grind (arith, element-counted (storage_of scope r.0) r.1 n))
 
 pub dummy-runs : (program : Units) (s : State) (layout : Layout) (scope : Scope) (a : ℕ) (x : Name) (r : Reference) (d : Dummy) (first : ℕ) → RunsFrom program s layout (storage_of scope r.0).start (storage_of scope r.0).rest first → dummy_for scope a x (referred r) ≡ Ok d
     → (n : ℕ) × (first_element scope r ≡ Ok n) × RunsFrom program s layout d.start d.rest (first + (n - 1))

@@ -1,17 +1,9 @@
 -- Worked rows: what the cells of a small subroutine's frame and of COMMON are for.
 use Rattle.std.specs.Prelude.{◌≡◌, ℕ, pos, false, List, [], ◌∷◌, Some, None, refl}
-use Rattle.hep_source.specs.declared.declaration.Declarator.{Declarator}
+use Rattle.hep_machine.specs.Words.{Declarator, Integer, Name, Occurrence, Form, Assign, Common, Declare, Do, End, Subroutine, Statement, Tree, constant, occurrence, Units}
 use Rattle.hep_source.specs.declared.declaration.UpperBound.TheVariants as bound
-use Rattle.hep_source.specs.declared.declaration.ValueType.TheVariants.{Integer}
-use Rattle.hep_source.specs.declared.name.Name.{Name}
-use Rattle.hep_source.specs.declared.name.Occurrence.{Occurrence}
-use Rattle.hep_source.specs.declared.statement.Form.{Form}
-use Rattle.hep_source.specs.declared.statement.Form.TheVariants.{Assign, Common, Declare, Do, End, Subroutine}
-use Rattle.hep_source.specs.declared.statement.Statement.{Statement}
 use Rattle.hep_source.specs.declared.value.Value.TheVariants as value
-use Rattle.hep_source.specs.Tree.{Tree, constant, occurrence}
-use Rattle.hep_source.specs.Units.{Units}
-use Rattle.hep_frames.specs.Rows.{header, argument, variable, iteration, bounds, frame_row, common_row, block_row, first_of_part, place_of_part, owner_in, first_in_common}
+use Rattle.hep_frames.specs.Words.{header, argument, variable, iteration, bounds, frame_row, common_row, block_row, first_of_part, place_of_part, owner_in, first_in_common}
 
 -- ---- the parts of statements
 

@@ -1,14 +1,8 @@
 -- Worked addresses: where the storage units of two activations and of COMMON are, and what the other cells of frames hold.
 use Rattle.std.specs.Prelude.{◌≡◌, ℕ, pos, false, true, nat_eq, if◌then◌else◌, [], ◌∷◌, Some, None, refl}
-use Rattle.hep_source.specs.declared.statement.Form.TheVariants.{End}
-use Rattle.hep_machine.specs.Access.{unset_cell}
-use Rattle.hep_machine.specs.Layout.{Layout, frame_of}
-use Rattle.hep_machine.specs.State.{doing, local, common, State}
+use Rattle.hep_machine.specs.Words.{End, unset_cell, Layout, frame_of, doing, local, common, State}
 use Rattle.hep_arena.specs.Gaps.{gaps}
-use Rattle.hep_frames.specs.Addresses.{address, frame_address}
-use Rattle.hep_frames.specs.Descriptors.{is_descriptor, number, wanted_of}
-use Rattle.hep_frames.specs.Rows.{argument, bounds, iteration, variable}
-use Rattle.hep_frames.specs.Tree.{Node, Nodes, children_out, is_stacked, with_end, with_ended, without_node}
+use Rattle.hep_frames.specs.Words.{address, frame_address, is_descriptor, number, wanted_of, argument, bounds, iteration, variable, Node, Nodes, children_out, is_stacked, with_end, with_ended, without_node}
 use Rattle.hep_frames.proofs.Worked.{letter, program}
 
 -- activation 1 of the main program has called S(J(2),3) of the worked rows: A stands for J from its second element on, and N for

@@ -1,15 +1,7 @@
 -- Addresses: in which cell of the arena a storage unit is kept. docs/MACHINE.md, "Layout".
 use Rattle.std.specs.Prelude.{◌≡◌, ℕ, zero, suc, ◌+◌, ◌≤◌, if◌then◌else◌, List, [], ◌∷◌, length, Option, Some, None, slice_get}
-use Rattle.hep_source.specs.declared.name.Name.{Name}
-use Rattle.hep_source.specs.Names.{index_among}
-use Rattle.hep_source.specs.Units.{Units, unit_at, dummies_of}
+use Rattle.hep_machine.specs.Words.{Name, index_among, Units, unit_at, dummies_of, StandApart, Frame, Layout, frame_of, common_cells, dummy_at, activation_of, unit_of, Dummy, Location, local, common, State, is_owned}
 use Rattle.hep_machine.specs.declared.slot.Slot.{Slot}
-use Rattle.hep_machine.specs.Laws.{StandApart}
-use Rattle.hep_machine.specs.Layout.{Frame, Layout, frame_of, common_cells}
-use Rattle.hep_machine.specs.Locations.{dummy_at}
-use Rattle.hep_machine.specs.Processes.{activation_of, unit_of}
-use Rattle.hep_machine.specs.State.{Dummy, Location, local, common, State}
-use Rattle.hep_machine.specs.Views.{is_owned}
 use Rattle.hep_arena.specs.Gaps.{frame_among, gaps}
 use Rattle.hep_arena.specs.Holes.{Hole}
 use Rattle.hep_frames.specs.Rows.{FramePart, argument, variable, place_of_part, place_of_block}

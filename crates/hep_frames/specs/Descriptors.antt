@@ -2,18 +2,8 @@
 use Rattle.std.specs.Prelude.{◌≡◌, ℕ, zero, suc, ℤ, pos, Bool, true, false, not, nat_eq, if◌then◌else◌, List, [], ◌∷◌, Option, Some, None, slice_get}
 use Rattle.std.specs.List.{find, flat_map}
 use Rattle.std.specs.Option.{option_map}
-use Rattle.hep_source.specs.declared.name.Name.{Name}
-use Rattle.hep_source.specs.declared.value.Value.TheVariants.{Int}
-use Rattle.hep_source.specs.Names.{index_among}
-use Rattle.hep_source.specs.Units.{Units, unit_at, dummies_of}
+use Rattle.hep_machine.specs.Words.{Name, Int, index_among, Units, unit_at, dummies_of, unset_cell, Layout, dummy_at, activation_of, unit_of, Bounds, natural, Dummy, Level, Loop, Process, State, is_owned}
 use Rattle.hep_machine.specs.declared.slot.Slot.{Slot}
-use Rattle.hep_machine.specs.Access.{unset_cell}
-use Rattle.hep_machine.specs.Layout.{Layout}
-use Rattle.hep_machine.specs.Locations.{dummy_at}
-use Rattle.hep_machine.specs.Processes.{activation_of, unit_of}
-use Rattle.hep_machine.specs.Shapes.{Bounds, natural}
-use Rattle.hep_machine.specs.State.{Dummy, Level, Loop, Process, State}
-use Rattle.hep_machine.specs.Views.{is_owned}
 use Rattle.hep_frames.specs.Addresses.{address, frame_address}
 use Rattle.hep_frames.specs.Rows.{FramePart, header, argument, variable, iteration, bounds}
 

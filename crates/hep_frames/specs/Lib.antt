@@ -5,3 +5,4 @@ pub mod Descriptors
 pub mod Tree
 pub mod Stacks
 pub mod References
+pub mod Words

@@ -1,7 +1,6 @@
 -- Which activations a dummy argument's storage units may be of: X3.9-1978, 15.9.3.
 use Rattle.std.specs.Prelude.{◌≡◌, ℕ, ◌≤◌, Bool, true, Some}
-use Rattle.hep_machine.specs.Processes.{parent_of}
-use Rattle.hep_machine.specs.State.{Location, local, common, State}
+use Rattle.hep_machine.specs.Words.{parent_of, Location, local, common, State}
 
 -- an activation, or its parent, the parent's parent and so on: it is among all numbers of which these are, if with each
 -- activation its parent is among them

@@ -1,14 +1,7 @@
 -- What the cells of a frame and of COMMON are for: docs/MACHINE.md, "Variables and frames" and "Layout".
 use Rattle.std.specs.Prelude.{ℕ, suc, ◌+◌, ◌-◌, ◌*◌, Bool, true, false, nat_eq, nat_lt, if◌then◌else◌, List, [], ◌∷◌, ◌++◌, map, Option, Some, None}
 use Rattle.std.specs.Option.{option_map}
-use Rattle.hep_source.specs.declared.name.Name.{Name}
-use Rattle.hep_source.specs.declared.statement.Statement.{Statement}
-use Rattle.hep_source.specs.Names.{same_name}
-use Rattle.hep_source.specs.Units.{Units, dummies_of}
-use Rattle.hep_machine.specs.Constants.{cells_of, adjustable_dimensions}
-use Rattle.hep_machine.specs.Declarations.{BlockName, same_block, names_in_block, blocks_of}
-use Rattle.hep_machine.specs.Layout.{block_cells}
-use Rattle.hep_machine.specs.Variables.{is_do, locals_of}
+use Rattle.hep_machine.specs.Words.{Name, Statement, same_name, Units, dummies_of, cells_of, adjustable_dimensions, BlockName, same_block, names_in_block, blocks_of, block_cells, is_do, locals_of}
 
 -- ---- rows
 

@@ -1,8 +1,7 @@
 -- Activations on stacks: docs/MACHINE.md, "Activations and processes".
 use Rattle.std.specs.Prelude.{ℕ, ◌+◌, nat_eq, if◌then◌else◌, List, [], ◌∷◌}
 use Rattle.std.specs.List.{flat_map}
-use Rattle.hep_machine.specs.Layout.{activations_on}
-use Rattle.hep_machine.specs.State.{Process}
+use Rattle.hep_machine.specs.Words.{activations_on, Process}
 
 -- how often a number stands in a list
 abbrev pub times : ℕ → List ℕ → ℕ

@@ -2,9 +2,7 @@
 use Rattle.std.specs.Prelude.{◌≡◌, ◌⊎◌, ℕ, zero, suc, ◌+◌, ◌-◌, ◌≤◌, Bool, true, false, not, ◌&&◌, nat_eq, if◌then◌else◌, length, Option, Some, None}
 use Rattle.std.specs.List.{flat_map}
 use Rattle.std.specs.Option.{option_map}
-use Rattle.hep_machine.specs.Layout.{Layout, activations_on}
-use Rattle.hep_machine.specs.Processes.{activation_of, is_number_among, parent_of}
-use Rattle.hep_machine.specs.State.{State}
+use Rattle.hep_machine.specs.Words.{Layout, activations_on, activation_of, is_number_among, parent_of, State}
 use Rattle.hep_arena.specs.Gaps.{frame_among}
 
 -- ---- nodes

@@ -2,36 +2,11 @@
 //! which the storage units of a state are kept.
 ghost use Rattle.std.specs.Prelude.{◌≡◌, ◌⊎◌, ◌↔◌, ◌<◌, ◌≤◌, ◌+◌, ◌*◌, ◌∷◌, ◌++◌, [], ℕ, nat_eq, nat_lt, pos, if◌then◌else◌, Bool, true, false, List, Option, Some, None, is_some, Ok, ◌-◌, length, take, slice_get, slice_set};
 ghost use Rattle.std.specs.List.{filter};
-ghost use Rattle.hep_source.specs.declared.name.Name.{Name};
-ghost use Rattle.hep_source.specs.declared.statement.Statement.{Statement};
-ghost use Rattle.hep_source.specs.declared.value.Value.{Value};
-ghost use Rattle.hep_source.specs.Names.{same_name, is_among, index_among};
-ghost use Rattle.hep_source.specs.Units.{Units, dummies_of, main_unit, unit_at};
-ghost use Rattle.hep_machine.specs.Constants.{adjustable_dimensions, cells_of, cells_of_all, cells_before};
-ghost use Rattle.hep_machine.specs.Declarations.{BlockName, common_block, same_block, names_in_block};
+ghost use Rattle.hep_machine.specs.Words.{Name, Statement, Value, same_name, is_among, index_among, Units, dummies_of, main_unit, unit_at, adjustable_dimensions, cells_of, cells_of_all, cells_before, BlockName, common_block, same_block, names_in_block, unset_cell, dummy_for, first_element, Reference, referred, Scope, dummy_at, element_of, location_of_name, storage_of, Frame, Layout, activations_on, block_cells, common_cells, frame_of, is_held, layout_of, lowest_gap, opening_layout, used_cells, with_frame, run, Activation, Dummy, Level, Location, Loop, Process, State, local, activation_of, is_number_among, living, parent_of, unit_of, with_loop, with_numbered, fits, natural, scope_of, with_cell, adjustable_dimensions_of_all, do_statements, frame_cells, is_do, locals_of, is_owned};
 ghost use Rattle.hep_machine.specs.declared.slot.Slot.{Slot};
-ghost use Rattle.hep_machine.specs.Access.{unset_cell};
-ghost use Rattle.hep_machine.specs.Binding.{dummy_for, first_element};
-ghost use Rattle.hep_machine.specs.Evaluation.{Reference, referred};
-ghost use Rattle.hep_machine.specs.Locations.{Scope, dummy_at, element_of, location_of_name, storage_of};
-ghost use Rattle.hep_machine.specs.Layout.{Frame, Layout, activations_on, block_cells, common_cells, frame_of, is_held, layout_of, lowest_gap, opening_layout, used_cells, with_frame};
-ghost use Rattle.hep_machine.specs.Run.{run};
-ghost use Rattle.hep_machine.specs.State.{Activation, Dummy, Level, Location, Loop, Process, State, local};
-ghost use Rattle.hep_machine.specs.Processes.{activation_of, is_number_among, living, parent_of, unit_of, with_loop, with_numbered};
-ghost use Rattle.hep_machine.specs.Shapes.{fits, natural};
-ghost use Rattle.hep_machine.specs.Step.{scope_of};
-ghost use Rattle.hep_machine.specs.Storage.{with_cell};
-ghost use Rattle.hep_machine.specs.Variables.{adjustable_dimensions_of_all, do_statements, frame_cells, is_do, locals_of};
-ghost use Rattle.hep_machine.specs.Views.{is_owned};
 ghost use Rattle.hep_arena.specs.Gaps.{frame_among, framed_cells, gaps, without};
 ghost use Rattle.hep_arena.specs.Holes.{Hole, IsOut, first_fit, free_cells, given, taken};
-ghost use Rattle.hep_frames.specs.Addresses.{AreSingle, IsLaid, IsMemory, address, frame_address, frame_from};
-ghost use Rattle.hep_frames.specs.Descriptors.{Describes, Wanted, is_descriptor, level_of, loop_among, number, slot_of_bounds, slot_of_loop, wanted_of};
-ghost use Rattle.hep_frames.specs.References.{IsMadeAt, IsOwnedAbove};
-ghost use Rattle.hep_frames.specs.Runs.{RunsFrom};
-ghost use Rattle.hep_frames.specs.Stacks.{times_on};
-ghost use Rattle.hep_frames.specs.Tree.{AreFramed, AreWantedBut, first_nodes, is_stacked, IsAtRest, IsTree, IsWanted, Node, Nodes, activation_under, also, but, new_node, with_ended, with_node, without_node};
-ghost use Rattle.hep_frames.specs.Rows.{FramePart, argument, block_row, bounds, cells_in, common_row, first_in, first_in_common, first_of_block, first_of_part, frame_row, iteration, owner_in, place_in, place_of_block, place_of_part, same_part, size_in, variable};
+ghost use Rattle.hep_frames.specs.Words.{AreSingle, IsLaid, IsMemory, address, frame_address, frame_from, Describes, Wanted, is_descriptor, level_of, loop_among, number, slot_of_bounds, slot_of_loop, wanted_of, IsMadeAt, IsOwnedAbove, RunsFrom, times_on, AreFramed, AreWantedBut, first_nodes, is_stacked, IsAtRest, IsTree, IsWanted, Node, Nodes, activation_under, also, but, new_node, with_ended, with_node, without_node, FramePart, argument, block_row, bounds, cells_in, common_row, first_in, first_in_common, first_of_block, first_of_part, frame_row, iteration, owner_in, place_in, place_of_block, place_of_part, same_part, size_in, variable};
 
 /// The rows have just the cells that there are: of a frame, of COMMON, and of a block in a unit, which
 /// has no more of them than the block.

@@ -1,17 +1,21 @@
--- Digits, and the numbers that they write.
-use Rattle.std.proofs.Common.{◌≡◌, ℕ, zero, suc, ◌+◌, ◌-◌, ◌*◌, ◌^◌, ◌<◌, ◌≤◌, true, false, cond, List, [], ◌∷◌, ◌++◌, Option, Some, None, IfSome, IfNone, length, take, drop, get_or, refl, sym, ap, ◌∙◌, arith}
+-- Digits and the numbers that they write, and the lines of histories and of choices, each with one spelling.
+use Rattle.std.proofs.Common.{◌≡◌, ℕ, zero, suc, ◌+◌, ◌-◌, ◌*◌, ◌^◌, ◌<◌, ◌≤◌, true, false, cond, List, [], ◌∷◌, ◌++◌, Option, Some, None, IfSome, IfNone, length, take, drop, get_or, refl, sym, ap, ◌∙◌, arith, append_assoc, length-append}
 use Rattle.std.specs.Char.{is_ascii_digit}
 use Rattle.std.specs.Fmt.{decimal, digits}
 use Rattle.std.specs.Int.{IsInRange}
 use Rattle.std.specs.List.{AllByRecursion, prefix_len}
 use Rattle.std.specs.Str.Parse.{digits_value}
 use Rattle.std.proofs.lemmas.Bool.Decides.{nat_tests}
-use Rattle.std.proofs.lemmas.Fmt.{digits_decimal, decimal_is_IsNumeral, decimal-digits_value, first_decimal}
+use Rattle.std.proofs.lemmas.Fmt.{digits_decimal, decimal_is_IsNumeral, decimal-digits_value, first_decimal, decimal_injective}
 use Rattle.std.proofs.lemmas.Int.Digits.{digits_value_more}
 use Rattle.std.proofs.lemmas.List.Sums.{prefix_len_passes}
 use Rattle.std.proofs.lemmas.Str.{digit_value_digit}
 use Rattle.std.proofs.lemmas.Str.Parse.{IsDigitsTest, numerals_by_value, tells_by_index, digits_value-take-le}
 use Rattle.std.proofs.Math.Seq.{take-append_seam, drop-append_seam}
+use Rattle.hep_machine.specs.declared.event.Entry.{Entry}
+use Rattle.hep_history.specs.Choices.{choice_text, IsProcess}
+use Rattle.hep_history.specs.Histories.{entry_text, IsAllowed}
+use Rattle.hep_history.specs.Lines.{AreApart}
 
 -- ---- the number of some digits, from the left
 
@@ -92,3 +96,46 @@ none_is (Some n) ds most small h = tt
 pub if_none : {A : Type 0} (r : Option A) (P : Type 0) → P → IfNone r P
 if_none None P p = p
 if_none (Some x) P p = tt
+
+-- a number with a mark after it
+abbrev pub marked : ℕ → ℕ → List ℕ → List ℕ
+marked n c more = decimal n ++ c ∷ more
+
+pub same_numbers : (m n c : ℕ) (a b : List ℕ) → m < 2 ^ 64 → n < 2 ^ 64 → c < 48 → marked m c a ≡ marked n c b → (m ≡ n) × (a ≡ b)
+same_numbers m n c a b h k lt e =
+    let count : length (decimal m) ≡ length (decimal n) =
+    sym (digits_end (decimal m) c a (decimal_digits m h) lt) ∙ ap (prefix_len is_ascii_digit) e ∙ digits_end (decimal n) c b (decimal_digits n k) lt in
+    let front : decimal m ≡ decimal n =
+    sym (take-append_seam (decimal m) (c ∷ a)) ∙ ap (take (length (decimal m))) e ∙ ap (λ (i : ℕ). take i (marked n c b)) count ∙ take-append_seam (decimal n) (c ∷ b) in
+    let rest_after : c ∷ a ≡ c ∷ b =
+    sym (drop-append_seam (decimal m) (c ∷ a)) ∙ ap (drop (length (decimal m))) e ∙ ap (λ (i : ℕ). drop i (marked n c b)) count ∙ drop-append_seam (decimal n) (c ∷ b) in
+    (decimal_injective m n h k front, cc (rest_after))
+
+-- ---- choices
+
+pub choice_is : (p : ℕ) (more : List ℕ) → choice_text p ++ more ≡ marked p 10 more
+choice_is p more = append_assoc (decimal p) (10 ∷ []) more
+
+pub choices_apart : AreApart choice_text IsProcess
+choices_apart = record {
+  filled = λ p. omega (arith, length-append (decimal p) (10 ∷ []));
+  apart = λ p q a b h k e. same_numbers p q 10 a b (omega arith) (omega arith) (omega arith) (sym (choice_is p a) ∙ e ∙ choice_is q b);
+}
+
+-- ---- entries
+
+pub entry_is : (e : Entry) (more : List ℕ) → entry_text e ++ more ≡ marked e.process 32 (marked e.steps 10 more)
+entry_is e more = simp append_assoc
+
+same_entries : (e f : Entry) → e.process ≡ f.process → e.steps ≡ f.steps → e ≡ f
+same_entries e f h k =
+    ap (λ (p : ℕ). let x : Entry = record { process = p; steps = e.steps } in x) h ∙ ap (λ (n : ℕ). let x : Entry = record { process = f.process; steps = n } in x) k
+
+pub entries_apart : AreApart entry_text IsAllowed
+entries_apart = record {
+  filled = λ e. omega (arith, length-append (decimal e.process ++ 32 ∷ [] ++ decimal e.steps) (10 ∷ []));
+  apart = λ e f a b h k eq.
+      let process = same_numbers e.process f.process 32 (marked e.steps 10 a) (marked f.steps 10 b) (omega arith) (omega arith) (omega arith) (sym (entry_is e a) ∙ eq ∙ entry_is f b) in
+      let steps = same_numbers e.steps f.steps 10 a b (omega arith) (omega arith) (omega arith) process.1 in
+      (same_entries e f process.0 steps.0, steps.1);
+}

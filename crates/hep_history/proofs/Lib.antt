@@ -1,7 +1,4 @@
-pub mod Digits
 pub mod Readings
-pub mod Spellings
+pub mod Digits
 pub mod Turns
-pub mod Entries
-pub mod Rows
 mod Worked

@@ -1,48 +1,27 @@
--- Turns of a core, one after the other.
-use Rattle.std.proofs.Common.{◌≡◌, ◌≢◌, ℕ, zero, suc, ◌+◌, ◌-◌, ◌<◌, ◌≤◌, Bool, true, false, true≢false, List, [], ◌∷◌, ◌++◌, Option, Some, None, Ok, Err, length, length-append, replicate, refl, sym, ap, ◌∙◌, subst, arith, append_assoc, add-one, inl, inr}
+-- Turns of a core, and entries made again, one after the other.
+use Rattle.std.proofs.Common.{◌≡◌, ◌≢◌, ℕ, zero, suc, ◌+◌, ◌-◌, ◌<◌, ◌≤◌, Bool, true, false, true≢false, List, [], ◌∷◌, ◌++◌, Some, None, Ok, Err, length, length-append, replicate, refl, sym, ap, ◌∙◌, subst, arith, append_assoc, add-one, inl, inr, Result, take, IsSome, if◌then◌else◌, is_some, slice_get}
 use Rattle.std.proofs.Math.Bool.{beq}
-use Rattle.std.proofs.lemmas.List.{length-replicate, replicate-append-replicate}
-use Rattle.std.specs.Prelude.{IsSome, if◌then◌else◌, is_some}
+use Rattle.std.proofs.lemmas.List.{length-replicate, replicate-append-replicate, take_more}
+use Rattle.std.proofs.lemmas.Option.{cond_some, get_or_from_slice_get, same_Some, slice_get_within}
 use Rattle.std.specs.Option.{unwrap_or}
 use Rattle.hep_machine.specs.declared.event.Entry.{Entry}
-use Rattle.hep_machine.specs.Layout.{is_held, layout_of}
-use Rattle.hep_machine.specs.Opening.{opening}
-use Rattle.hep_machine.specs.Processes.{living}
-use Rattle.hep_machine.specs.Run.{run, run_from, state_after_turn, AreSteps, schedule_of, state_after}
-use Rattle.hep_machine.specs.State.{State}
-use Rattle.hep_machine.specs.Step.{StepResult, stepped, waiting, absent, step_result_of, step_result_of_top, state_made, step, wanted_of, is_waiting}
-use Rattle.hep_source.specs.Units.{Units}
-use Rattle.hep_machine.specs.Views.{view_of}
-use Rattle.hep_state.specs.Turns.{HasNoGap}
+use Rattle.hep_machine.specs.Words.{is_held, layout_of, opening, living, run, run_from, state_after_turn, AreSteps, schedule_of, state_after, State, absent, step_result_of, step_result_of_top, state_made, step, wanted_of, is_waiting, Units, view_of}
+use Rattle.hep_state.specs.Words.{HasNoGap}
 use Rattle.hep_state.proofs.Runs.{laid-before}
 use Rattle.hep_scheduler.specs.declared.fault.ChooseFault.TheVariants as refused
 use Rattle.hep_scheduler.specs.declared.stop.Stop.{Stop}
 use Rattle.hep_scheduler.specs.declared.stop.Stop.TheVariants.{Halted}
 use Rattle.hep_scheduler.specs.declared.stop.Turn.{Turn as CoreTurn}
 use Rattle.hep_scheduler.specs.Value.{CoreValue, state_of, core_after_choice, stop_after, HasNoStop, IsTurn, IsChoice}
-use Rattle.hep_history.specs.Progress.{IsStanding, longer, HasTurn, turn_entry, TurnMade}
-use Rattle.hep_history.specs.Replays.{HaveGaps, most_entries, standing}
+use Rattle.hep_history.specs.Progress.{IsStanding, longer, HasTurn, turn_entry, TurnMade, StepsMade, EntryMade}
+use Rattle.hep_history.specs.Replays.{HaveGaps, most_entries, standing, ArePossible, IsPossible, IsThere, replayed, single_entries, single_steps}
 use Rattle.hep_listed.proofs.Living.{waits-idle}
 use Rattle.hep_machine.proofs.Replays.{run_after}
+use Rattle.std.proofs.lemmas.Bool.{cases_lt}
+use Rattle.hep_history.specs.declared.fault.ReplayFault.{ReplayFault}
+use Rattle.hep_history.proofs.Readings.{lines_more}
 
 -- ---- what a process does next
-
--- what made a step waits for nothing
-stepped_goes_on : (t : StepResult) (halted : Bool) (s : State) → (if halted then None else state_made t) ≡ Some s → is_some (wanted_of t) ≡ true → ⊥
-stepped_goes_on t true s e w = absurd (cc (e))
-stepped_goes_on (stepped s') false s e w = absurd (cc (w))
-stepped_goes_on (waiting x) false s e w = absurd (cc (e))
-stepped_goes_on absent false s e w = absurd (cc (w))
-
-pub step_or_wait : (program : Units) (p : ℕ) (s s' : State) → step program p s ≡ Some s' → is_waiting program s p ≡ true → ⊥
-step_or_wait program p s s' e w = stepped_goes_on (step_result_of program p s) s.halted s' e w
-
--- what waits makes no step
-waits_still : (t : StepResult) (halted : Bool) → is_some (wanted_of t) ≡ true → (if halted then None else state_made t) ≡ None
-waits_still t true w = refl
-waits_still (stepped s) false w = absurd (cc (w))
-waits_still (waiting x) false w = refl
-waits_still absent false w = refl
 
 -- a halted machine makes no step
 pub halted_stays : (program : Units) (p : ℕ) (s : State) → s.halted ≡ true → step program p s ≡ None
@@ -82,15 +61,12 @@ state_waited program es p = state_after_statement program es (turn_entry p true 
 
 -- ---- gaps
 
-none_is_not_some : {A : Type 0} (o : Option A) → o ≡ None → IsSome o → ⊥
-none_is_not_some o none some = true≢false (sym (subst IsSome none some))
-
 -- where a turn makes a frame that has no gap, not each frame has one after it
 no_gaps : (program : Units) (cells : ℕ) (es : List Entry) (p : ℕ) → HasNoGap program cells (schedule_of es) p → HaveGaps program cells (es ++ turn_entry p false ∷ []) → ⊥
 unfolding schedule_of
 no_gaps program cells es p gap gaps =
-    none_is_not_some (layout_of program cells is_held (schedule_of es ++ p ∷ [])) gap.full (
-    subst (λ ps. IsSome (layout_of program cells is_held ps)) (schedule_of-append es (turn_entry p false ∷ [])) gaps)
+    let some = subst (λ ps. IsSome (layout_of program cells is_held ps)) (schedule_of-append es (turn_entry p false ∷ [])) gaps in
+    true≢false (sym some ∙ ap is_some gap.full)
 
 -- what made a step for which there is no gap isn't waiting
 no_gap_waits : (program : Units) (cells : ℕ) (es : List Entry) (p : ℕ) → HasNoGap program cells (schedule_of es) p → is_waiting program (state_after program es) p ≡ true → ⊥
@@ -108,9 +84,6 @@ gaps_before program cells es fs gaps =
     laid-before program cells (schedule_of es) (schedule_of fs) (subst (λ ps. IsSome (layout_of program cells is_held ps)) (schedule_of-append es fs) gaps)
 
 -- ---- one choice
-
-some_is_not_none : (s : State) (o : Option State) → o ≡ Some s → o ≡ None → ⊥
-some_is_not_none s o e n = cc
 
 -- a core with this history and state
 with_state : Units → ℕ → ℕ → List Entry → State → CoreValue
@@ -130,10 +103,10 @@ turned : (old new : CoreValue) (p n : ℕ) (blocked waits : Bool) → IsStanding
 turned old new p zero true true h going room t =
     (omega (arith, limit_is old h), (going.1, t.0), t.1 ∙ grown_is old p 0 (state_of old) (limit_is old h) (state_waited old.program old.history p))
 turned old new p zero true false h going room t = λ within has gaps. has (waits-idle old.program p (state_of old) t.0)
-turned old new p (suc zero) false true h going room t = λ within has gaps. step_or_wait old.program p (state_of old) t.0 t.1 has.1
+turned old new p (suc zero) false true h going room t = λ within has gaps. cc (t.1, waits-idle old.program p (state_of old) has.1)
 turned old new p (suc zero) false false h going room t = (
   omega (arith, limit_is old h),
-  (λ none. some_is_not_none t.0 (step old.program p (state_of old)) t.1 none),
+  (λ none. cc (t.1, none)),
   t.2 ∙ grown_is old p 1 t.0 (limit_is old h) (state_stepped old.program old.history p t.0 t.1),
 )
 turned old new p zero false waits h going room t = absurd t
@@ -151,11 +124,7 @@ pub nobody_turns : (old new : CoreValue) (p : ℕ) (waits : Bool) → IsChoice o
 nobody_turns old new p waits c = λ room has gaps. no_turn old.program (state_of old) p waits c.1 has
 
 is_halted : (s : State) (stop : Stop) → stop_after s ≡ Some stop → s.halted ≡ true
-is_halted s stop e = halted_by s.halted stop e
-  where
-    halted_by : (b : Bool) (stop : Stop) → (if b then Some Halted else None) ≡ Some stop → b ≡ true
-    halted_by true stop e = refl
-    halted_by false stop e = absurd (cc (e))
+is_halted s stop e = (cond_some s.halted Halted stop e).0
 
 halted_turn : (program : Units) (s : State) (p : ℕ) (waits : Bool) → s.halted ≡ true → HasTurn program s p waits → ⊥
 halted_turn program s p true halted has = absurd (cc (halted, has.0))
@@ -231,3 +200,86 @@ steps_end old mid new p i n lt made t room steps gaps =
     (subst (λ (s : State). step old.program p s ≢ None) (sym (state_ones old.program old.history p i)) (steps_at old.program (state_of old) p i n lt steps))
     (gaps_before old.program old.cells ((old.history ++ replicate i (one p)) ++ one p ∷ []) (replicate (n - (i + 1)) (one p)) (
     subst (HaveGaps old.program old.cells) (ones_apart old.history (one p) i n lt) gaps))
+
+-- ---- one entry
+
+pub entry_waited : (old new : CoreValue) (p n : ℕ) (r : Result Bool ReplayFault) → n ≡ 0 → TurnMade old p true r new → EntryMade old (record { process = p; steps = n }) r new
+entry_waited old new p (suc n) r z t = absurd (omega arith)
+entry_waited old new p zero (Ok true) z t = (omega (arith, t.0), t.1, t.2)
+entry_waited old new p zero (Ok false) z t = λ room there gaps. t (omega arith) there gaps
+entry_waited old new p zero (Err fault) z t = t
+
+pub entry_stepped : (old new : CoreValue) (p n : ℕ) (r : Result Bool ReplayFault) → n ≢ 0 → StepsMade old p n r new → EntryMade old (record { process = p; steps = n }) r new
+entry_stepped old new p zero r z t = absurd (z refl)
+entry_stepped old new p (suc n) (Ok true) z t = (omega (arith, t.0, length-replicate (suc n) (let x : Entry = record { process = p; steps = 1 } in x)), t.1, t.2)
+entry_stepped old new p (suc n) (Ok false) z t = λ room there gaps. t (omega (arith, room, length-replicate (suc n) (let x : Entry = record { process = p; steps = 1 } in x))) there gaps
+entry_stepped old new p (suc n) (Err fault) z t = t
+
+-- ---- the same turns
+
+expand_single : (p n : ℕ) → schedule_of (single_steps p n) ≡ replicate n p
+unfolding schedule_of
+expand_single p zero = refl
+expand_single p (suc n) = expand_ones p (suc n)
+
+pub expand_singles : (es : List Entry) → schedule_of (single_entries es) ≡ schedule_of es
+unfolding schedule_of
+expand_singles [] = refl
+expand_singles (e ∷ es) =
+    schedule_of-append (single_steps e.process e.steps) (single_entries es)
+    ∙ ap (λ ps. ps ++ schedule_of (single_entries es)) (expand_single e.process e.steps)
+    ∙ ap (λ ps. replicate e.steps e.process ++ ps) (expand_singles es)
+
+pub state_singles : (program : Units) (es : List Entry) → state_after program (single_entries es) ≡ state_after program es
+unfolding state_after run
+state_singles program es = ap (run_from program (opening program)) (expand_singles es)
+
+-- with one entry more
+singles_more : (es : List Entry) (e : Entry) → single_entries (es ++ e ∷ []) ≡ single_entries es ++ single_steps e.process e.steps
+singles_more es e = lines_more (λ (x : Entry). single_steps x.process x.steps) es e
+
+turns_more : (es : List Entry) (e : Entry) → schedule_of (single_entries es ++ single_steps e.process e.steps) ≡ schedule_of (es ++ e ∷ [])
+turns_more es e = ap schedule_of (sym (singles_more es e)) ∙ expand_singles (es ++ e ∷ [])
+
+-- the same turns make the same frames
+same_gaps : (program : Units) (cells : ℕ) (es fs : List Entry) → schedule_of es ≡ schedule_of fs → HaveGaps program cells es → HaveGaps program cells fs
+same_gaps program cells es fs same gaps = subst (λ ps. IsSome (layout_of program cells is_held ps)) same gaps
+
+-- ---- entries in order
+
+-- the entries so far, with one more
+pub entry_next : (program : Units) (cells : ℕ) (entries : List Entry) (i : ℕ) (e : Entry) (new : CoreValue) → slice_get entries i ≡ Some e
+    → EntryMade (replayed program cells (take i entries)) e (Ok true) new → HaveGaps new.program new.cells new.history
+    → (new ≡ replayed program cells (take (i + 1) entries)) × (length (single_entries (take (i + 1) entries)) ≤ most_entries) × IsPossible program cells (take i entries) e
+entry_next program cells entries i e new at made gaps =
+    let within : i < length entries = slice_get_within entries i e at in
+    let front : take (i + 1) entries ≡ take i entries ++ e ∷ [] =
+    take_more entries i e within ∙ ap (λ (x : Entry). take i entries ++ x ∷ []) (get_or_from_slice_get entries i e e at) in
+    let singles : single_entries (take (i + 1) entries) ≡ single_entries (take i entries) ++ single_steps e.process e.steps =
+    ap (λ (es : List Entry). single_entries es) front ∙ singles_more (take i entries) e in (
+      made.2 ∙ ap (λ (es : List Entry). standing program cells es) (sym singles),
+      omega (arith, made.0, ap (λ (es : List Entry). length es) singles, length-append (single_entries (take i entries)) (single_steps e.process e.steps)),
+      (
+        made.0,
+        subst (λ s. IsThere program s e.process e.steps) (state_singles program (take i entries)) made.1,
+        same_gaps program cells (single_entries (take i entries) ++ single_steps e.process e.steps) (take i entries ++ e ∷ []) (turns_more (take i entries) e) (
+            subst (λ (x : CoreValue). HaveGaps x.program x.cells x.history) made.2 gaps),
+      ),
+    )
+
+-- the entry that isn't made isn't possible
+pub entry_refused : (program : Units) (cells : ℕ) (entries : List Entry) (i : ℕ) (e : Entry) (new : CoreValue)
+    → EntryMade (replayed program cells (take i entries)) e (Ok false) new → IsPossible program cells (take i entries) e → ⊥
+entry_refused program cells entries i e new made possible =
+    made possible.0
+    (subst (λ s. IsThere program s e.process e.steps) (sym (state_singles program (take i entries))) possible.1)
+    (same_gaps program cells (take i entries ++ e ∷ []) (single_entries (take i entries) ++ single_steps e.process e.steps) (sym (turns_more (take i entries) e)) possible.2)
+
+pub possible_more : (program : Units) (cells : ℕ) (entries : List Entry) (i : ℕ) (e : Entry) → slice_get entries i ≡ Some e → ArePossible program cells entries i → IsPossible program cells (take i entries) e → ArePossible program cells entries (i + 1)
+possible_more program cells entries i e at so_far here j f lt found = elim (cases_lt j i) [ inl below ↦ so_far j f below found | inr above ↦ last above ]
+  where
+    last : i ≤ j → IsPossible program cells (take j entries) f
+    last above =
+        let same : j ≡ i = omega arith in
+        let is : e ≡ f = same_Some e f (sym at ∙ ap (slice_get entries) (sym same) ∙ found) in
+        subst (λ (k : ℕ). IsPossible program cells (take k entries) f) (sym same) (subst (λ (x : Entry). IsPossible program cells (take i entries) x) is here)

@@ -1,10 +1,7 @@
 -- How far a history was made again: docs/ARCHITECTURE.md, "Forms".
 use Rattle.std.specs.Prelude.{◌≡◌, ◌≢◌, ℕ, ◌+◌, ◌<◌, ◌≤◌, Bool, true, false, List, [], ◌∷◌, ◌++◌, length, replicate, Result, Ok, Err, None}
 use Rattle.hep_machine.specs.declared.event.Entry.{Entry}
-use Rattle.hep_machine.specs.Run.{AreSteps}
-use Rattle.hep_machine.specs.State.{State}
-use Rattle.hep_machine.specs.Step.{step, is_waiting}
-use Rattle.hep_source.specs.Units.{Units}
+use Rattle.hep_machine.specs.Words.{AreSteps, State, step, is_waiting, Units}
 use Rattle.hep_scheduler.specs.Value.{CoreValue, state_of}
 use Rattle.hep_history.specs.declared.fault.ReplayFault.{ReplayFault}
 use Rattle.hep_history.specs.declared.fault.ReplayFault.TheVariants.{NoMemory}

@@ -2,12 +2,7 @@
 use Rattle.std.specs.Prelude.{◌≡◌, ℕ, zero, suc, ◌+◌, ◌^◌, ◌<◌, ◌≤◌, true, false, List, [], ◌∷◌, ◌++◌, length, replicate, take, slice_get, Some, None, IsSome}
 use Rattle.std.specs.List.{flat_map}
 use Rattle.hep_machine.specs.declared.event.Entry.{Entry}
-use Rattle.hep_machine.specs.Layout.{is_held, layout_of, opening_layout}
-use Rattle.hep_machine.specs.Run.{AreSteps, schedule_of, state_after}
-use Rattle.hep_machine.specs.State.{State}
-use Rattle.hep_machine.specs.Step.{is_waiting}
-use Rattle.hep_source.specs.Units.{Units}
-use Rattle.hep_machine.specs.Views.{view_of}
+use Rattle.hep_machine.specs.Words.{is_held, layout_of, opening_layout, AreSteps, schedule_of, state_after, State, is_waiting, Units, view_of}
 use Rattle.hep_scheduler.specs.declared.fault.NewFault.{NewFault}
 use Rattle.hep_scheduler.specs.declared.fault.NewFault.TheVariants as new
 use Rattle.hep_scheduler.specs.Value.{CoreValue, stop_after}

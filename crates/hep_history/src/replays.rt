@@ -1,7 +1,6 @@
 //! Histories made again, choice by choice.
 ghost use Rattle.std.specs.Prelude.{◌≡◌, ◌≤◌, length, IfOk, IfErr, OnOk, IsSome};
-ghost use Rattle.hep_machine.specs.Layout.{opening_layout};
-ghost use Rattle.hep_machine.specs.Run.{schedule_of};
+ghost use Rattle.hep_machine.specs.Words.{opening_layout, schedule_of};
 ghost use Rattle.hep_history.specs.Replays.{most_entries, replayed, ArePossible, IsUnmade};
 ghost use Rattle.hep_history.specs.Progress.{IsStanding, TurnMade, StepsMade, EntryMade};
 

@@ -1,12 +1,9 @@
 -- The common blocks tell whose the cells of COMMON are.
-use Rattle.std.proofs.Common.{◌≡◌, ℕ, ◌+◌, true, List, [], ◌∷◌, map, Some, refl, ap, ap₂, sym, ◌∙◌, subst, arith}
-use Rattle.std.specs.Prelude.{if◌then◌else◌}
+use Rattle.std.proofs.Common.{◌≡◌, ℕ, ◌+◌, true, List, [], ◌∷◌, map, Some, refl, ap, ap₂, sym, ◌∙◌, subst, arith, if◌then◌else◌}
 use Rattle.std.specs.List.Sorted.{IsNonDecreasingBy}
-use Rattle.hep_source.specs.Units.{Units}
-use Rattle.hep_machine.specs.Declarations.{BlockName, blocks_of, same_block}
-use Rattle.hep_machine.specs.Layout.{block_cells}
+use Rattle.hep_machine.specs.Words.{Units, BlockName, blocks_of, same_block, block_cells}
 use Rattle.hep_machine.proofs.Locations.{equal_blocks, block-self}
-use Rattle.hep_frames.specs.Rows.{Row, common_row, first_in, owner_in}
+use Rattle.hep_frames.specs.Words.{Row, common_row, first_in, owner_in}
 use Rattle.hep_frames.proofs.Rows.{has_key}
 use Rattle.hep_image.specs.declared.owners.BlockStart.{BlockStart}
 use Rattle.hep_image.specs.Owners.{IsBlockTold, block_start, block_starts, last_before}

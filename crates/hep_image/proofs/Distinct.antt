@@ -1,15 +1,8 @@
 -- Lists in which nothing stands twice: the names of a unit, and the blocks of a program.
-use Rattle.std.proofs.Common.{◌≡◌, ℕ, zero, suc, Bool, true, false, ◌||◌, cond, List, [], ◌∷◌, ◌++◌, Some, None, refl, ap, sym, ◌∙◌, subst, arith}
-use Rattle.std.specs.Prelude.{if◌then◌else◌, slice_get}
+use Rattle.std.proofs.Common.{◌≡◌, ℕ, zero, suc, Bool, true, false, ◌||◌, cond, List, [], ◌∷◌, ◌++◌, Some, None, refl, ap, sym, ◌∙◌, subst, arith, if◌then◌else◌, slice_get}
 use Rattle.std.specs.List.{filter, flat_map}
-use Rattle.hep_source.specs.declared.declaration.CommonBlock.{CommonBlock}
-use Rattle.hep_source.specs.declared.name.Name.{Name}
-use Rattle.hep_source.specs.declared.statement.Statement.{Statement}
-use Rattle.hep_source.specs.Names.{is_among, same_name, with_name, with_names}
-use Rattle.hep_source.specs.Units.{Units, names_of_occurrences}
+use Rattle.hep_machine.specs.Words.{CommonBlock, Name, Statement, is_among, same_name, with_name, with_names, Units, names_of_occurrences, BlockName, block_of, blocks_of, blocks_of_unit, is_block_among, same_block, with_blocks, is_local, locals_of, names_of, occurrences_of}
 use Rattle.hep_source.proofs.NameTests.{equal_names, same_name-turned}
-use Rattle.hep_machine.specs.Declarations.{BlockName, block_of, blocks_of, blocks_of_unit, is_block_among, same_block, with_blocks}
-use Rattle.hep_machine.specs.Variables.{is_local, locals_of, names_of, occurrences_of}
 use Rattle.hep_image.specs.Owners.{AreGivenOnce}
 
 -- ---- by any test of two things that can be turned round

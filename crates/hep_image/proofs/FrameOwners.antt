@@ -1,16 +1,9 @@
 -- The variables of a frame tell whose its cells are.
-use Rattle.std.proofs.Common.{◌≡◌, ℕ, ◌+◌, ◌-◌, Bool, true, false, List, [], ◌∷◌, ◌++◌, map, Some, None, refl, ap, ap₂, sym, ◌∙◌, subst, arith, append_assoc, true≢false}
-use Rattle.std.specs.Prelude.{if◌then◌else◌, nat_le}
+use Rattle.std.proofs.Common.{◌≡◌, ℕ, ◌+◌, ◌-◌, Bool, true, false, List, [], ◌∷◌, ◌++◌, map, Some, None, refl, ap, ap₂, sym, ◌∙◌, subst, arith, append_assoc, true≢false, if◌then◌else◌, nat_le, eq-eqb}
 use Rattle.std.specs.Option.{option_or}
-use Rattle.std.proofs.lemmas.Bool.{eq-eqb}
-use Rattle.hep_source.specs.declared.name.Name.{Name}
-use Rattle.hep_source.specs.declared.statement.Statement.{Statement}
-use Rattle.hep_source.specs.Names.{is_among, same_name}
-use Rattle.hep_source.specs.Units.{dummies_of}
+use Rattle.hep_machine.specs.Words.{Name, Statement, is_among, same_name, dummies_of, no_name, locals_of}
 use Rattle.hep_source.proofs.NameTests.{same_name-self}
-use Rattle.hep_machine.specs.Defaults.{no_name}
-use Rattle.hep_machine.specs.Variables.{locals_of}
-use Rattle.hep_frames.specs.Rows.{FramePart, Row, header, argument, variable, iteration, bounds, arguments_row, bounds_row, cells_in, first_in, frame_row, iterations_row, owner_in, same_part, variables_row}
+use Rattle.hep_frames.specs.Words.{FramePart, Row, header, argument, variable, iteration, bounds, arguments_row, bounds_row, cells_in, first_in, frame_row, iterations_row, owner_in, same_part, variables_row}
 use Rattle.hep_frames.proofs.FrameRows.{equal_parts, none-arguments, none-iterations, none-variables}
 use Rattle.hep_frames.proofs.Rows.{first-behind, first-within, has_key}
 use Rattle.hep_image.specs.declared.owners.FrameVariable.{FrameVariable}

@@ -1,9 +1,8 @@
 -- Where the main program stands.
-use Rattle.std.proofs.Common.{◌≡◌, ◌<◌, ℕ, suc, Bool, true, false, List, [], ◌∷◌, length, Option, Some, None, refl, arith}
-use Rattle.std.specs.Prelude.{if◌then◌else◌}
+use Rattle.std.proofs.Common.{◌≡◌, ◌<◌, ℕ, suc, Bool, true, false, List, [], ◌∷◌, length, Option, Some, None, refl, arith, if◌then◌else◌}
 use Rattle.std.specs.Option.{option_map}
 use Rattle.std.proofs.lemmas.Option.{none-some, same_Some}
-use Rattle.hep_source.specs.Names.{index_where}
+use Rattle.hep_machine.specs.Words.{index_where}
 
 pub index-inside : {A : Type 0} (test : A → Bool) (xs : List A) (i : ℕ) → index_where test xs ≡ Some i → i < length xs
 index-inside test [] i e = absurd (none-some i e)

@@ -1,10 +1,8 @@
 -- Names among lists of names, and where they stand.
-use Rattle.std.proofs.Common.{◌≡◌, ℕ, suc, Bool, true, false, List, [], ◌∷◌, ◌++◌, Some, refl, sym, ap, ◌∙◌}
-use Rattle.std.specs.Prelude.{if◌then◌else◌, slice_get}
+use Rattle.std.proofs.Common.{◌≡◌, ℕ, suc, Bool, true, false, List, [], ◌∷◌, ◌++◌, Some, refl, sym, ap, ◌∙◌, if◌then◌else◌, slice_get}
 use Rattle.std.specs.List.{filter}
 use Rattle.std.specs.Option.{option_map}
-use Rattle.hep_source.specs.declared.name.Name.{Name}
-use Rattle.hep_source.specs.Names.{index_among, is_among, same_name, with_name, with_names}
+use Rattle.hep_machine.specs.Words.{Name, index_among, is_among, same_name, with_name, with_names}
 use Rattle.hep_source.proofs.NameTests.{equal_names}
 
 module _ (x : Name) where

@@ -1,19 +1,11 @@
 -- The numbers of names tell them.
-use Rattle.std.proofs.Common.{◌≡◌, ℕ, zero, suc, ◌+◌, ◌<◌, ◌≤◌, ◌^◌, Bool, true, false, ◌||◌, List, [], ◌∷◌, ◌++◌, map, length, get_or, take, Some, refl, ap, sym, ◌∙◌, arith, append_assoc}
-use Rattle.std.specs.Prelude.{if◌then◌else◌, slice_get}
+use Rattle.std.proofs.Common.{◌≡◌, ℕ, zero, suc, ◌+◌, ◌<◌, ◌≤◌, ◌^◌, Bool, true, false, ◌||◌, List, [], ◌∷◌, ◌++◌, map, length, get_or, take, Some, refl, ap, sym, ◌∙◌, arith, append_assoc, if◌then◌else◌, slice_get}
 use Rattle.std.specs.List.{flat_map}
 use Rattle.std.specs.Option.{option_map, unwrap_or}
 use Rattle.std.proofs.lemmas.List.{length-append, length-map, map-append}
 use Rattle.std.proofs.lemmas.Option.{slice_get-get_or, slice_get-map, slice_get_within}
-use Rattle.hep_source.specs.declared.name.Name.{Name}
-use Rattle.hep_source.specs.declared.name.Occurrence.{Occurrence}
-use Rattle.hep_source.specs.declared.statement.Form.{Form}
+use Rattle.hep_machine.specs.Words.{Name, Occurrence, Form, Statement, index_where, is_among, spelling, Units, dummies_by_header, dummies_of, names_of_occurrences, unit_at, unit_name, BlockName, blocks_of, is_block_among, same_block, is_local, locals_of, names_of, occurrences_in, occurrences_in_form, occurrences_in_statement, occurrences_of}
 use Rattle.hep_source.specs.declared.statement.Form.TheVariants as form
-use Rattle.hep_source.specs.declared.statement.Statement.{Statement}
-use Rattle.hep_source.specs.Names.{index_where, is_among, spelling}
-use Rattle.hep_source.specs.Units.{Units, dummies_by_header, dummies_of, names_of_occurrences, unit_at, unit_name}
-use Rattle.hep_machine.specs.Declarations.{BlockName, blocks_of, is_block_among, same_block}
-use Rattle.hep_machine.specs.Variables.{is_local, locals_of, names_of, occurrences_in, occurrences_in_form, occurrences_in_statement, occurrences_of}
 use Rattle.hep_machine.proofs.Locations.{equal_blocks}
 use Rattle.hep_image.specs.declared.names.ProgramNames.{ProgramNames}
 use Rattle.hep_image.specs.Names.{AreNames, block_index, block_number, block_spelling, first_block, first_variable, names_in_order, spellings_of, variable_index, variable_number}

@@ -1,12 +1,7 @@
 -- Where the frame of the main program is at the opening.
-use Rattle.std.proofs.Common.{◌≡◌, ℕ, ◌+◌, Bool, true, false, [], ◌∷◌, Some, None, refl}
-use Rattle.std.specs.Prelude.{if◌then◌else◌, nat_le}
+use Rattle.std.proofs.Common.{◌≡◌, ℕ, ◌+◌, Bool, true, false, [], ◌∷◌, Some, None, refl, if◌then◌else◌, nat_le}
 use Rattle.std.specs.Option.{option_map}
-use Rattle.hep_source.specs.Units.{Units, main_unit, unit_at}
-use Rattle.hep_machine.specs.Layout.{Frame, common_cells, frame_of, opening_layout}
-use Rattle.hep_machine.specs.Opening.{opening}
-use Rattle.hep_machine.specs.Run.{run, run_from}
-use Rattle.hep_machine.specs.Variables.{frame_cells}
+use Rattle.hep_machine.specs.Words.{Units, main_unit, unit_at, Frame, common_cells, frame_of, opening_layout, opening, run, run_from, frame_cells}
 use Rattle.hep_image.specs.Data.{first_frames}
 
 abbrev frame_at : Units → ℕ → Frame

@@ -1,11 +1,10 @@
 -- From a cell its owner: the last one that begins there or before, in a row.
-use Rattle.std.proofs.Common.{◌≡◌, ℕ, zero, suc, ◌+◌, ◌-◌, ◌<◌, ◌≤◌, Bool, true, false, List, [], ◌∷◌, ◌++◌, map, length, get_or, Some, None, refl, ap, sym, ◌∙◌, subst, arith, true≢false}
-use Rattle.std.specs.Prelude.{if◌then◌else◌, nat_le, nat_lt}
+use Rattle.std.proofs.Common.{◌≡◌, ℕ, zero, suc, ◌+◌, ◌-◌, ◌<◌, ◌≤◌, Bool, true, false, List, [], ◌∷◌, ◌++◌, map, length, get_or, Some, None, refl, ap, sym, ◌∙◌, subst, arith, true≢false, if◌then◌else◌, nat_le, nat_lt}
 use Rattle.std.specs.List.Sorted.{IsNonDecreasingBy}
 use Rattle.std.specs.Option.{option_or}
 use Rattle.std.proofs.lemmas.Bool.Decides.{nat_tests}
 use Rattle.std.proofs.lemmas.Option.{none-some, same_Some}
-use Rattle.hep_frames.specs.Rows.{Row, cells_in, first_in, owner_in}
+use Rattle.hep_frames.specs.Words.{Row, cells_in, first_in, owner_in}
 use Rattle.hep_frames.proofs.Rows.{has_key}
 use Rattle.hep_image.specs.Owners.{last_before}
 use Rattle.hep_image.proofs.Lookups.{none-begun}

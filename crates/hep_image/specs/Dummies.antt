@@ -1,14 +1,9 @@
 -- What an image has of the dummy arguments of a unit: X3.9-1978, 5.5.1 and 15.9.3.
 use Rattle.std.specs.Prelude.{ℕ, nat_eq, if◌then◌else◌, List, map, Option, Some, None}
 use Rattle.std.specs.Option.{unwrap_or}
-use Rattle.hep_source.specs.declared.name.Name.{Name}
-use Rattle.hep_source.specs.declared.statement.Statement.{Statement}
-use Rattle.hep_source.specs.Units.{Units, dummies_of}
-use Rattle.hep_machine.specs.Constants.{constant_shape, adjustable_dimensions}
-use Rattle.hep_machine.specs.Declarations.{BlockName, common_block, is_array}
-use Rattle.hep_machine.specs.Defaults.{no_shape}
+use Rattle.hep_machine.specs.Words.{Name, Statement, Units, dummies_of, constant_shape, adjustable_dimensions, BlockName, common_block, is_array, no_shape}
 use Rattle.hep_bounds.specs.Sources.{adjustable_code}
-use Rattle.hep_frames.specs.Rows.{first_in_common}
+use Rattle.hep_frames.specs.Words.{first_in_common}
 use Rattle.hep_image.specs.declared.dummy.DummyArgument.{DummyArgument}
 use Rattle.hep_image.specs.declared.dummy.DummyArgument.TheVariants.{Scalar, Array, Adjustable}
 

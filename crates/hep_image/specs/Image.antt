@@ -1,13 +1,8 @@
 -- What an image has of a program: docs/ARCHITECTURE.md, "Forms".
 use Rattle.std.specs.Prelude.{◌≡◌, ℕ, ◌≤◌, List, map, length, slice_get, Some}
-use Rattle.hep_source.specs.Units.{Units, main_among, unit_at}
-use Rattle.hep_machine.specs.Layout.{common_cells}
-use Rattle.hep_machine.specs.Variables.{frame_cells}
-use Rattle.hep_check.specs.Conditions.{IsAccepted}
-use Rattle.hep_code.specs.Depths.{deepest}
-use Rattle.hep_code.specs.Limits.{most_operands}
-use Rattle.hep_code.specs.Stacks.{addressed_unit, entry_index}
-use Rattle.hep_code.specs.UnitCode.{code_of}
+use Rattle.hep_machine.specs.Words.{Units, main_among, unit_at, common_cells, frame_cells}
+use Rattle.hep_check.specs.Words.{IsAccepted}
+use Rattle.hep_code.specs.Words.{deepest, most_operands, addressed_unit, entry_index, code_of}
 use Rattle.hep_image.specs.Data.{AreInitial, AreOfUnits}
 use Rattle.hep_image.specs.Dummies.{dummy_arguments}
 use Rattle.hep_image.specs.Names.{AreNames}

@@ -2,12 +2,7 @@
 use Rattle.std.specs.Prelude.{◌≡◌, ℕ, ◌+◌, ◌<◌, ◌^◌, List, [], ◌++◌, map, length, slice_get, take, Some, None}
 use Rattle.std.specs.List.{flat_map}
 use Rattle.std.specs.Option.{unwrap_or}
-use Rattle.hep_source.specs.declared.name.Name.{Name}
-use Rattle.hep_source.specs.declared.statement.Statement.{Statement}
-use Rattle.hep_source.specs.Names.{index_among, index_where, spelling}
-use Rattle.hep_source.specs.Units.{Units, unit_at, unit_name}
-use Rattle.hep_machine.specs.Declarations.{BlockName, blocks_of, same_block}
-use Rattle.hep_machine.specs.Variables.{names_of}
+use Rattle.hep_machine.specs.Words.{Name, Statement, index_among, index_where, spelling, Units, unit_at, unit_name, BlockName, blocks_of, same_block, names_of}
 use Rattle.hep_image.specs.declared.names.ProgramNames.{ProgramNames}
 
 -- blank COMMON has no name (X3.9-1978, 8.3)

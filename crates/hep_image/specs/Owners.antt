@@ -2,13 +2,8 @@
 use Rattle.std.specs.Prelude.{◌≡◌, ℕ, ◌+◌, ◌<◌, true, length, nat_le, if◌then◌else◌, List, [], ◌∷◌, ◌++◌, map, Option, Some, None, slice_get}
 use Rattle.std.specs.List.Sorted.{IsNonDecreasingBy}
 use Rattle.std.specs.Option.{option_or}
-use Rattle.hep_source.specs.declared.name.Name.{Name}
-use Rattle.hep_source.specs.declared.statement.Statement.{Statement}
-use Rattle.hep_source.specs.Names.{is_among}
-use Rattle.hep_source.specs.Units.{Units, dummies_of}
-use Rattle.hep_machine.specs.Declarations.{BlockName, blocks_of, is_array, is_block_among}
-use Rattle.hep_machine.specs.Variables.{locals_of, names_of}
-use Rattle.hep_frames.specs.Rows.{argument, variable, first_of_block, first_of_part}
+use Rattle.hep_machine.specs.Words.{Name, Statement, is_among, Units, dummies_of, BlockName, blocks_of, is_array, is_block_among, locals_of, names_of}
+use Rattle.hep_frames.specs.Words.{argument, variable, first_of_block, first_of_part}
 use Rattle.hep_image.specs.Names.{block_index, variable_index}
 use Rattle.hep_image.specs.declared.owners.BlockStart.{BlockStart}
 use Rattle.hep_image.specs.declared.owners.FrameVariable.{FrameVariable}

@@ -2,18 +2,11 @@
 use Rattle.std.specs.Prelude.{ℕ, Bool, true, false, nat_eq, if◌then◌else◌, List, Option, Some, None}
 use Rattle.std.specs.List.{filter}
 use Rattle.std.specs.Option.{unwrap_or}
-use Rattle.hep_source.specs.declared.name.Name.{Name}
-use Rattle.hep_source.specs.declared.statement.Statement.{Statement}
-use Rattle.hep_source.specs.Names.{index_among, is_among}
-use Rattle.hep_source.specs.Units.{Units, unit_at, statement_at, dummies_of}
-use Rattle.hep_machine.specs.Constants.{constant_shape, adjustable_dimensions}
-use Rattle.hep_machine.specs.Declarations.{BlockName, common_block, is_array}
-use Rattle.hep_machine.specs.Defaults.{no_shape}
-use Rattle.hep_machine.specs.Variables.{names_of, locals_of, is_do}
+use Rattle.hep_machine.specs.Words.{Name, Statement, index_among, is_among, Units, unit_at, statement_at, dummies_of, constant_shape, adjustable_dimensions, BlockName, common_block, is_array, no_shape, names_of, locals_of, is_do}
 use Rattle.hep_code.specs.declared.variable.Variable.{Variable}
 use Rattle.hep_code.specs.declared.variable.Variable.TheVariants as variables
-use Rattle.hep_code.specs.Stacks.{Addresses}
-use Rattle.hep_frames.specs.Rows.{argument, variable, iteration, bounds, first_of_part, first_in_common}
+use Rattle.hep_code.specs.Words.{Addresses}
+use Rattle.hep_frames.specs.Words.{argument, variable, iteration, bounds, first_of_part, first_in_common}
 use Rattle.hep_image.specs.declared.array.Array.{Array}
 use Rattle.hep_image.specs.declared.array.Extents.{Extents}
 use Rattle.hep_image.specs.declared.array.Extents.TheVariants.{Constant, Adjustable}

@@ -3,17 +3,8 @@ use Rattle.std.proofs.Common.{◌≡◌, ℕ, suc, ℤ, Bool, true, false, not, 
 use Rattle.std.proofs.lemmas.Bool.Decides.{nat_tests}
 use Rattle.std.specs.Bool.{◌==◌}
 use Rattle.std.specs.Option.{option_map, is_none}
-use Rattle.hep_source.specs.Tree.{Tree, trees_of}
-use Rattle.hep_source.specs.declared.declaration.Target.{Target}
-use Rattle.hep_source.specs.declared.name.Name.{Name}
-use Rattle.hep_source.specs.declared.statement.Statement.{Statement}
-use Rattle.hep_source.specs.declared.value.Value.{Value}
-use Rattle.hep_machine.specs.Arithmetic.{integers_of}
-use Rattle.hep_machine.specs.Constants.{Constants, Values, both, value_among, value_of, values_of, constant_value, constant_shape, shape_by}
-use Rattle.hep_machine.specs.Data.{Stretch, all_elements, element_with}
-use Rattle.hep_machine.specs.Declarations.{is_array, is_nonempty}
-use Rattle.hep_machine.specs.Shapes.{Bounds, elements, element_number}
-use Rattle.hep_check.specs.Data.{is_outside}
+use Rattle.hep_machine.specs.Words.{Tree, trees_of, Target, Name, Statement, Value, integers_of, Constants, Values, both, value_among, value_of, values_of, constant_value, constant_shape, shape_by, Stretch, all_elements, element_with, is_array, is_nonempty, Bounds, elements, element_number}
+use Rattle.hep_check.specs.Words.{is_outside}
 use Rattle.hep_initial.specs.Given.{IsNamed}
 use Rattle.hep_initial.specs.Shapes.{IsShaped, IsWhole, IsElementBy, IsElement, IsArray, Names}
 use Rattle.hep_initial.specs.declared.given.Stretch.TheVariants.{One, All}
@@ -77,20 +68,8 @@ scalar-named unit known t alone n h k e = names-by unit known t n (by alone k e)
     vs = values_of unit (value_among known) (trees_of t.subscripts)
 
     by : (b : Bool) → is_nonempty t.subscripts ≡ not b → n ≡ (if b then Elements (All x 1) else Open) → NamesBy unit x (is_nonempty t.subscripts) (is_array unit x) (constant_shape unit x) vs n
-    by true g f =
-        subst (λ m. NamesBy unit x (is_nonempty t.subscripts) (is_array unit x) (constant_shape unit x) vs m) (sym f) (
-          ap (λ b. outside_by b (is_array unit x) (constant_shape unit x) vs) g,
-          (
-            record { name = x; first = 1; count = 1 },
-            ap (λ b. named_by x b (constant_shape unit x) vs) g ∙ ap (all_elements x) (scalar-shape unit x h),
-            (refl, refl, refl, ([], scalar-shape unit x h, refl)),
-          ),
-        )
-    by false g f =
-        subst (λ m. NamesBy unit x (is_nonempty t.subscripts) (is_array unit x) (constant_shape unit x) vs m) (sym f) (
-          and_right (is_nonempty t.subscripts) (is_array unit x && is_outside (constant_shape unit x) vs) (ap (λ b. b && is_outside (constant_shape unit x) vs) h),
-          ap (λ b. named_by x b (constant_shape unit x) vs) g ∙ (ap (λ s. element_with x s vs) (scalar-shape unit x h) ∙ listed-scalar unit (value_among known) x t.subscripts g),
-        )
+    by true g f = rw (f, g, h) (refl, (record { name = x; first = 1; count = 1 }, refl, (refl, refl, refl, ([], refl, refl))))
+    by false g f = rw (f, g, h) (refl, listed-scalar unit (value_among known) x t.subscripts g)
 
 -- ---- arrays
 
@@ -130,19 +109,14 @@ module _ (unit : List Statement) (x : Name) where
   element-by-named bs ws (Elements (All y m)) h w = absurd w
 
   open-named : (bs : Bounds) (n : Named) → n ≡ Open → NamesBy unit x true true (Some bs) None n
-  open-named bs n e = subst (λ m. NamesBy unit x true true (Some bs) None m) (sym e) (refl, refl)
+  open-named bs n e = rw e (refl, refl)
 
   element-named : (bs : Bounds) (vs : Option (List Value)) (n : Named) → constant_shape unit x ≡ Some bs → IsElement x bs (option_map integers_of vs) n → NamesBy unit x true true (Some bs) vs n
   element-named bs None n h w = open-named bs n w
   element-named bs (Some ws) n h w = element-by-named bs ws n h w
 
   none-named : (listed array : Bool) (vs : Option (List Value)) (n : Named) → n ≡ Open → NamesBy unit x listed array None vs n
-  none-named listed array vs n e = subst (λ m. NamesBy unit x listed array None vs m) (sym e) (by listed array)
-    where
-      by : (b c : Bool) → (outside_by b c None vs ≡ false) × (named_by x b None vs ≡ None)
-      by true true = (refl, refl)
-      by true false = (refl, refl)
-      by false c = (refl, refl)
+  none-named listed array vs n e = rw e (grind arith, grind arith)
 
   shaped-named : (shape : Option ArrayShape) (o : Option Bounds) (alone listed : Bool) (ss : Option (List ℤ)) (vs : Option (List Value)) (n : Named) → constant_shape unit x ≡ o → IsShaped shape o
       → listed ≡ not alone → ss ≡ option_map integers_of vs → IsArray x shape alone ss n → NamesBy unit x listed true o vs n
@@ -165,12 +139,9 @@ array-named unit known t shape alone ss n h s l e w =
     (subst (λ o. NamesBy unit x (is_nonempty t.subscripts) (is_array unit x) o vs n) (sym (array-shape unit x h))
     (subst (λ b. NamesBy unit x (is_nonempty t.subscripts) b (shape_by unit (constant_value unit) x) vs n) (sym h) here))
 
-more-than-none : (n : ℕ) → not (suc n == 0) ≡ true
-more-than-none n = grind (arith, nat_tests)
-
 not-none : {A : Type 0} (zs : List A) → not (length zs == 0) ≡ is_nonempty zs
 not-none [] = refl
-not-none (z ∷ zs) = more-than-none (length zs)
+not-none (z ∷ zs) = grind (arith, nat_tests)
 
 pub nonempty-not : {A : Type 0} (xs ys : List A) (b : Bool) → ys ≡ xs → b ≡ (length ys == 0) → is_nonempty xs ≡ not b
-nonempty-not xs ys b e f = sym (ap not (f ∙ ap (λ zs. length zs == 0) e) ∙ not-none xs)
+nonempty-not xs ys b e f = rw (f, e) (sym (not-none xs))

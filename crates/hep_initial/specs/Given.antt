@@ -4,13 +4,8 @@ use Rattle.std.specs.List.{list_any}
 use Rattle.std.specs.Cmp.Lexicographic.{pointwise}
 use Rattle.std.specs.Ordering.{int_eq}
 use Rattle.indexmap.specs.IndexSet.{contains}
-use Rattle.hep_source.specs.declared.name.Name.{Name}
-use Rattle.hep_source.specs.declared.statement.Statement.{Statement}
-use Rattle.hep_machine.specs.Constants.{constant_shape}
-use Rattle.hep_machine.specs.Data.{Stretch}
-use Rattle.hep_machine.specs.Shapes.{Bounds, elements, element_number}
-use Rattle.hep_check.specs.Data.{share_element, is_given_twice}
-use Rattle.hep_source.specs.Names.{name_eq}
+use Rattle.hep_machine.specs.Words.{Name, Statement, constant_shape, Stretch, Bounds, elements, element_number, name_eq}
+use Rattle.hep_check.specs.Words.{share_element, is_given_twice}
 use Rattle.hep_symbols.specs.Tables.{either}
 use Rattle.hep_initial.specs.declared.given.Element.{Element}
 use Rattle.hep_initial.specs.declared.given.Given.{Given}

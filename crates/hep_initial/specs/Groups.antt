@@ -1,18 +1,8 @@
 -- Groups of DATA, as one pass goes over them: X3.9-1978, 9.2.
 use Rattle.std.specs.Prelude.{◌≡◌, ℕ, Bool, false, ◌||◌, List, [], ◌∷◌, ◌++◌, Option, Some, None, option_to_list}
 use Rattle.std.specs.List.{flat_map, list_any}
-use Rattle.hep_source.specs.declared.declaration.DataGroup.{DataGroup}
-use Rattle.hep_source.specs.declared.declaration.DataValue.{DataValue}
-use Rattle.hep_source.specs.declared.declaration.Target.{Target}
-use Rattle.hep_source.specs.declared.name.Name.{Name}
-use Rattle.hep_source.specs.declared.statement.Statement.{Statement}
-use Rattle.hep_source.specs.declared.value.Value.{Value}
-use Rattle.hep_machine.specs.Constants.{Constants, value_among, given_by}
-use Rattle.hep_machine.specs.Data.{Repeated, groups_in, Stretch, elements_named, values_given}
-use Rattle.hep_machine.specs.Declarations.{type_of, constants_in}
-use Rattle.hep_check.specs.Data.{is_misplaced, is_wrong_group, is_given_twice, elements_in}
-use Rattle.hep_check.specs.Reported.{least_line, line_when}
-use Rattle.hep_check.specs.Types.{type_of_value}
+use Rattle.hep_machine.specs.Words.{DataGroup, DataValue, Target, Name, Statement, Value, Constants, value_among, given_by, Repeated, groups_in, Stretch, elements_named, values_given, type_of, constants_in}
+use Rattle.hep_check.specs.Words.{is_misplaced, is_wrong_group, is_given_twice, elements_in, least_line, line_when, type_of_value}
 use Rattle.hep_initial.specs.Given.{IsGiven, given_after}
 use Rattle.hep_initial.specs.declared.given.Given.{Given}
 use Rattle.hep_runs.specs.declared.runs.Position.{Position}

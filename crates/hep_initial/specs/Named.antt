@@ -1,8 +1,6 @@
 -- Lists of what names in DATA stand for: X3.9-1978, 9.2.
 use Rattle.std.specs.Prelude.{◌&&◌, is_some, Bool, true, false, List, [], ◌∷◌, Option, Some, None}
-use Rattle.hep_source.specs.declared.declaration.Target.{Target}
-use Rattle.hep_source.specs.declared.statement.Statement.{Statement}
-use Rattle.hep_machine.specs.Constants.{Constants}
+use Rattle.hep_machine.specs.Words.{Target, Statement, Constants}
 use Rattle.hep_initial.specs.Groups.{position_of_name}
 use Rattle.hep_initial.specs.Shapes.{Names}
 use Rattle.hep_runs.specs.Spread.{repeat_before}

@@ -4,7 +4,7 @@ ghost use Rattle.std.specs.List.{list_any};
 ghost use Rattle.indexmap.specs.IndexMap.{get};
 ghost use Rattle.hep_source.specs.declared.declaration.DataValue.{DataValue as PureValue};
 ghost use Rattle.hep_source.specs.declared.declaration.Target.{Target as PureTarget};
-ghost use Rattle.hep_source.specs.Names.{name_eq};
+ghost use Rattle.hep_machine.specs.Words.{name_eq};
 ghost use Rattle.hep_initial.specs.Shapes.{IsTable};
 ghost use Rattle.hep_machine.specs.Declarations as declarations;
 ghost use Rattle.hep_check.specs.Data as conditions;

@@ -2,13 +2,10 @@
 ghost use Rattle.std.specs.Prelude.{◌≡◌, true, Some, IfOk, OnOk, is_some, length, if◌then◌else◌};
 ghost use Rattle.std.specs.Option.{option_map};
 ghost use Rattle.indexmap.specs.IndexMap.{get};
-ghost use Rattle.hep_source.specs.Tree.{trees_of};
-ghost use Rattle.hep_machine.specs.Arithmetic.{integers_of};
+ghost use Rattle.hep_machine.specs.Words.{trees_of, integers_of, element_number, is_within, name_eq};
 ghost use Rattle.hep_machine.specs.Arithmetic as arithmetic;
 ghost use Rattle.hep_machine.specs.Constants as values;
 ghost use Rattle.hep_machine.specs.Declarations as declarations;
-ghost use Rattle.hep_machine.specs.Shapes.{element_number, is_within};
-ghost use Rattle.hep_source.specs.Names.{name_eq};
 ghost use Rattle.hep_initial.specs.Shapes as shapes;
 
 use crate::given::{Element, Stretch};

@@ -2,11 +2,10 @@
 ghost use Rattle.std.specs.Prelude.{◌≡◌, ◌&&◌, ◌||◌, [], not, IfOk, OnOk};
 ghost use Rattle.std.specs.List.{list_any};
 ghost use Rattle.indexmap.specs.IndexMap.{get};
-ghost use Rattle.hep_source.specs.Names.{name_eq};
+ghost use Rattle.hep_machine.specs.Words.{name_eq, is_nonempty};
 ghost use Rattle.hep_source.specs.Units as units;
-ghost use Rattle.hep_machine.specs.Declarations.{is_nonempty};
 ghost use Rattle.hep_check.specs.Data as conditions;
-ghost use Rattle.hep_check.specs.Violations.{first_of};
+ghost use Rattle.hep_check.specs.Words.{first_of};
 ghost use Rattle.hep_initial.specs.Given.{Gives};
 ghost use Rattle.hep_initial.specs.Groups as passes;
 ghost use Rattle.hep_initial.specs.Shapes.{IsTable};

@@ -1,15 +1,9 @@
 -- Which processes live: those that wait do, and have no step; and what a step changes in it.
-use Rattle.std.proofs.Common.{◌≡◌, ◌⊎◌, inl, inr, ℕ, zero, suc, ◌+◌, ◌<◌, ◌≤◌, ◌&&◌, ◌||◌, Bool, true, false, true≢false, List, [], ◌∷◌, length, Option, Some, None, refl, sym, ap, ◌∙◌, arith}
-use Rattle.std.specs.Prelude.{◌≢◌, if◌then◌else◌, is_some, not, nat_eq, nat_lt}
+use Rattle.std.proofs.Common.{◌≡◌, ◌⊎◌, inl, inr, ℕ, zero, suc, ◌+◌, ◌<◌, ◌≤◌, ◌&&◌, ◌||◌, Bool, true, false, true≢false, List, [], ◌∷◌, length, Option, Some, None, refl, sym, ap, ◌∙◌, arith, ◌≢◌, if◌then◌else◌, is_some, not, nat_eq, nat_lt, length-append, length-set}
 use Rattle.std.proofs.Math.Bool.{and-false, and-true, or-false}
 use Rattle.std.proofs.lemmas.Bool.{cases_eq, cases_lt, le-ltb, lt-ltb, ne_eqb, eq-eqb}
-use Rattle.std.proofs.lemmas.List.{length-append, length-set}
 use Rattle.std.proofs.lemmas.Option.{slice_get_past}
-use Rattle.hep_source.specs.Units.{Units}
-use Rattle.hep_machine.specs.Layout.{activations_on}
-use Rattle.hep_machine.specs.Processes.{living, numbered, top_of, with_numbered}
-use Rattle.hep_machine.specs.State.{Level, Process, State}
-use Rattle.hep_machine.specs.Step.{StepResult, absent, stepped, waiting, Top, is_waiting, state_made, step, step_result_of, step_result_of_top, wanted_of}
+use Rattle.hep_machine.specs.Words.{Units, activations_on, living, numbered, top_of, with_numbered, Level, Process, State, StepResult, absent, stepped, waiting, Top, is_waiting, state_made, step, step_result_of, step_result_of_top, wanted_of}
 use Rattle.hep_machine.proofs.Changes.{Change, HasStack, calls, creates, faults, leaves, moves, step_changes, stops, top_in}
 use Rattle.hep_machine.proofs.Others.{others_stay, processes_after, last-numbered}
 

@@ -1,12 +1,9 @@
 -- Which numbers are among those that pass a test, among the living processes, and among numbers that rise.
-use Rattle.std.proofs.Common.{◌≡◌, ◌≢◌, inl, inr, ℕ, zero, suc, ◌+◌, ◌<◌, ◌≤◌, ◌&&◌, Bool, true, false, true≢false, List, [], ◌∷◌, length, refl, sym, ap, ◌∙◌, subst, arith}
-use Rattle.std.specs.Prelude.{is_some, not, nat_eq, slice_get}
+use Rattle.std.proofs.Common.{◌≡◌, ◌≢◌, inl, inr, ℕ, zero, suc, ◌+◌, ◌<◌, ◌≤◌, ◌&&◌, Bool, true, false, true≢false, List, [], ◌∷◌, length, refl, sym, ap, ◌∙◌, subst, arith, is_some, not, nat_eq, slice_get}
 use Rattle.std.specs.List.{filter}
 use Rattle.std.proofs.Math.Bool.{and-false}
 use Rattle.std.proofs.lemmas.Bool.{cases_Bool, cases_eq, cases_lt, ne_eqb, eq-eqb}
-use Rattle.hep_machine.specs.Processes.{is_number_among, living, top_of}
-use Rattle.hep_machine.specs.Schedules.{Progress, living_from, ready_in, without}
-use Rattle.hep_machine.specs.State.{Process, State}
+use Rattle.hep_machine.specs.Words.{is_number_among, living, top_of, Progress, living_from, ready_in, without, Process, State}
 use Rattle.hep_ready.specs.Numbers.{AreRising}
 use Rattle.hep_machine.proofs.Held.{among-head}
 

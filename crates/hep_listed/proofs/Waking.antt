@@ -1,20 +1,15 @@
 -- Who goes on waiting, and who is woken, when another process steps.
-use Rattle.std.proofs.Common.{◌≡◌, ◌≢◌, inl, inr, ℕ, Bool, true, false, List, [], ◌∷◌, ◌++◌, Option, Some, None, refl, sym, ap, ◌∙◌}
-use Rattle.std.specs.Prelude.{◌&&◌, if◌then◌else◌, is_some, not}
+use Rattle.std.proofs.Common.{◌≡◌, ◌≢◌, inl, inr, ℕ, Bool, true, false, List, [], ◌∷◌, ◌++◌, Option, Some, None, refl, sym, ap, ◌∙◌, ◌&&◌, if◌then◌else◌, is_some, not}
 use Rattle.std.proofs.lemmas.Bool.{cases_eq, ne_eqb, eq-eqb}
 use Rattle.std.proofs.lemmas.Option.{none-some, same_Some}
 use mathlib.Core.Bool.{beq}
-use Rattle.hep_source.specs.Units.{Units}
-use Rattle.hep_machine.specs.Layout.{Layout, is_held, layout_of}
-use Rattle.hep_machine.specs.Run.{run}
-use Rattle.hep_machine.specs.State.{Location, State}
-use Rattle.hep_machine.specs.Step.{is_waiting}
+use Rattle.hep_machine.specs.Words.{Units, Layout, is_held, layout_of, run, Location, State, step, is_waiting}
 use Rattle.hep_blocked.specs.declared.want.Want.{Want}
 use Rattle.hep_blocked.specs.Waiting.{waiting_at, want_eq}
-use Rattle.hep_frames.specs.Addresses.{address}
+use Rattle.hep_frames.specs.Words.{address}
 use Rattle.hep_needs.specs.Awaiting.{NeedsCell}
-use Rattle.hep_needs.specs.Needs.{need_of, touched_by}
-use Rattle.hep_needs.proofs.Awaiting.{IsUnmet, waits-by-state}
+use Rattle.hep_needs.specs.Needs.{touched_by}
+use Rattle.hep_needs.proofs.Awaiting.{need-after, waits-by-state}
 use Rattle.hep_listed.specs.Listing.{HasEmptied, IsTold, awake_by, awake_where, is_woken, wants_emptied}
 
 -- ---- what is still waited for
@@ -90,8 +85,8 @@ IsElsewhere program choices p layout cell =
 module _ (program : Units) (cells : ℕ) (choices : List ℕ) (p q : ℕ) (layout : Layout) (v : Want)
     (needs : NeedsCell program cells choices q v.cell v.full)
     (placed : layout_of program cells is_held choices ≡ Some layout)
-    (needed : need_of program q (run program (choices ++ p ∷ [])) ≡ Some needs.wanted)
-    (unmet : IsUnmet program q (run program (choices ++ p ∷ [])))
+    (there : step program p (run program choices) ≢ None)
+    (other : p ≢ q)
     (waits : is_waiting program (run program choices) q ≡ true) where
   abbrev s : State
   s = run program choices
@@ -106,7 +101,7 @@ module _ (program : Units) (cells : ℕ) (choices : List ℕ) (p q : ℕ) (layou
   kept = needs.kept layout placed
 
   waits-after : is_waiting program t q ≡ not (beq (t.store at).full needs.wanted.full)
-  waits-after = waits-by-state program q t needs.wanted unmet needed
+  waits-after = waits-by-state program q t needs.wanted (need-after program choices p q needs.wanted there other needs.needed)
 
   -- where the step makes the storage unit so it waits no more, and else it goes on waiting
   pub goes-on : (changed : Option Want) → IsTold program choices p layout changed
@@ -130,9 +125,9 @@ module _ (program : Units) (cells : ℕ) (choices : List ℕ) (p q : ℕ) (layou
     ]
 
   -- where it empties the cell, q waits no more for it to be empty, and else it goes on waiting
-  pub goes-on-emptying : (emptied : ℕ → Bool) → HasEmptied program choices p layout emptied → IsUnmet program q s
+  pub goes-on-emptying : (emptied : ℕ → Bool) → HasEmptied program choices p layout emptied
       → is_waiting program t q ≡ not (is_emptied emptied v)
-  goes-on-emptying emptied has was_unmet = by_cell (emptied v.cell) refl where
+  goes-on-emptying emptied has = by_cell (emptied v.cell) refl where
     still : (full : Bool) → true ≡ not (not full && false)
     still true = refl
     still false = refl
@@ -146,4 +141,4 @@ module _ (program : Units) (cells : ℕ) (choices : List ℕ) (p q : ℕ) (layou
     by_cell false e =
         waits-after
         ∙ (ap (λ b. not (beq b needs.wanted.full)) (has.others at v.cell kept e)
-        ∙ (sym (waits-by-state program q s needs.wanted was_unmet needs.needed) ∙ (waits ∙ still v.full)))
+        ∙ (sym (waits-by-state program q s needs.wanted needs.needed) ∙ (waits ∙ still v.full)))

@@ -1,16 +1,10 @@
 -- Which processes are listed as waiting and which are ready, as a core keeps them: docs/MACHINE.md, "Which process comes next".
 use Rattle.std.specs.Prelude.{◌≡◌, ℕ, ◌&&◌, ◌||◌, Bool, true, false, not, nat_eq, nat_lt, if◌then◌else◌, List, [], ◌∷◌, ◌++◌, length, Option, Some, None, is_some}
 use Rattle.std.specs.Option.{unwrap_or}
-use Rattle.hep_source.specs.Units.{Units}
-use Rattle.hep_machine.specs.Layout.{Layout}
-use Rattle.hep_machine.specs.Processes.{is_number_among, living}
-use Rattle.hep_machine.specs.Run.{run}
-use Rattle.hep_machine.specs.Schedules.{Progress, ready_in}
-use Rattle.hep_machine.specs.State.{Location}
-use Rattle.hep_machine.specs.Step.{is_waiting}
+use Rattle.hep_machine.specs.Words.{Units, Layout, is_number_among, living, run, Progress, ready_in, Location, is_waiting}
 use Rattle.hep_blocked.specs.declared.want.Want.{Want}
 use Rattle.hep_blocked.specs.Waiting.{awake, waiting_at, waits_for}
-use Rattle.hep_frames.specs.Addresses.{address}
+use Rattle.hep_frames.specs.Words.{address}
 use Rattle.hep_needs.specs.Awaiting.{NeedsCell}
 use Rattle.hep_needs.specs.Needs.{touched_by}
 

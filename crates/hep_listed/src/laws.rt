@@ -1,19 +1,12 @@
 //! Laws of lists of processes: what is kept of who waits and who is ready stays what the definitions say.
 ghost use Rattle.std.specs.Prelude.{◌≡◌, ◌≢◌, ◌++◌, ◌∷◌, ℕ, Bool, false, List, [], Option, Some, None};
-ghost use Rattle.hep_source.specs.Units.{Units};
-ghost use Rattle.hep_machine.specs.Laws.{is_purge};
-ghost use Rattle.hep_machine.specs.Layout.{Layout, is_held, layout_of};
-ghost use Rattle.hep_machine.specs.Opening.{opening};
-ghost use Rattle.hep_machine.specs.Run.{run};
-ghost use Rattle.hep_machine.specs.Schedules.{Progress, living_from, progress_after_entry, progress_after_step, ready_in};
-ghost use Rattle.hep_machine.specs.Step.{step};
+ghost use Rattle.hep_machine.specs.Words.{Units, is_purge, Layout, is_held, layout_of, opening, run, Progress, living_from, progress_after_entry, progress_after_step, ready_in, step};
 ghost use Rattle.hep_blocked.specs.declared.want.Want.{Want};
 ghost use Rattle.hep_blocked.specs.Waiting.{waiting_at};
 ghost use Rattle.hep_ready.specs.Numbers.{AreRising};
 ghost use Rattle.hep_listed.specs.Listing.{AreListed, GoesAlong, GoesAlongEmptying, HasEmptied, IsBlocked, IsReadyNoMore, IsTold, WaitsNow};
 
-use hep_machine::laws::parents_are_older;
-use hep_needs::laws::{needs_stay, others_need_the_same, waits_are_unmet_needs};
+use hep_needs::laws::others_need_the_same;
 
 /// At the opening nobody is listed, and process 1 is ready.
 pub fn openings_list_nobody()
@@ -39,9 +32,6 @@ pub fn lists_go_along_with_steps()
         → AreListed program cells (choices ++ p ∷ [])
         (progress_after_step program x p (run program (choices ++ p ∷ []))) waiting_after ready_after }
 {
-    parents_are_older();
-    waits_are_unmet_needs();
-    needs_stay();
     others_need_the_same();
 }
 
@@ -55,9 +45,6 @@ pub fn lists_go_along_with_purges()
         → AreListed program cells (choices ++ p ∷ [])
         (progress_after_step program x p (run program (choices ++ p ∷ []))) waiting_after ready_after }
 {
-    parents_are_older();
-    waits_are_unmet_needs();
-    needs_stay();
     others_need_the_same();
 }
 

@@ -1,10 +1,7 @@
 -- The starts that are kept for common blocks are their first cells.
 use Rattle.std.proofs.Common.{◌≡◌, ◌≤◌, true, ◌||◌, List, [], ◌∷◌, map, refl, ap, ◌∙◌}
 use Rattle.std.specs.Option.{unwrap_or}
-use Rattle.hep_source.specs.Names.{index_where}
-use Rattle.hep_source.specs.Units.{Units}
-use Rattle.hep_machine.specs.Declarations.{BlockName, blocks_of, is_block_among, same_block}
-use Rattle.hep_machine.specs.Layout.{common_cells}
+use Rattle.hep_machine.specs.Words.{index_where, Units, BlockName, blocks_of, is_block_among, same_block, common_cells}
 use Rattle.hep_image.specs.declared.owners.BlockStart.{BlockStart}
 use Rattle.hep_image.specs.Image.{most_cells}
 use Rattle.hep_image.specs.Owners.{block_start, block_starts}

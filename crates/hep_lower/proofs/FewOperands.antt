@@ -1,46 +1,28 @@
--- In the code of a statement there are at most so many operands as the statement has names and constants.
-use Rattle.std.proofs.Common.{◌≡◌, ◌⊎◌, inl, inr, ℕ, suc, ◌+◌, ◌-◌, ◌<◌, ◌≤◌, Bool, true, false, List, [], ◌∷◌, ◌++◌, map, take, length, Option, Some, None, refl, ap, sym, ◌∙◌, subst, arith, append_assoc, nat_lt, if◌then◌else◌}
+-- In the code of an expression there is at most one instruction for each of its parts, and in that of a statement there are at most so many
+-- operands as the statement has names and constants.
+use Rattle.std.proofs.Common.{◌≡◌, ◌⊎◌, inl, inr, ℕ, suc, ◌+◌, ◌-◌, ◌<◌, ◌≤◌, Bool, true, false, List, [], ◌∷◌, ◌++◌, map, take, length, Option, Some, None, refl, ap, sym, ◌∙◌, subst, arith, append_assoc, length-append, nat_lt, if◌then◌else◌}
 use Rattle.std.specs.List.{flat_map, sum_by}
 use Rattle.std.proofs.lemmas.Bool.Decides.{nat_tests}
 use Rattle.std.proofs.lemmas.List.Sums.{sum_by-cons}
 use Rattle.std.proofs.lemmas.Option.{same_Some, none-some}
-use Rattle.hep_source.specs.Tree.{Tree, Trees, constant, occurrence, with_list, parenthesized, signed, negated, binary, no_trees, trees, trees_of}
-use Rattle.hep_source.specs.declared.declaration.Target.{Target}
-use Rattle.hep_source.specs.declared.name.Name.{Name}
-use Rattle.hep_source.specs.declared.statement.DoControl.{DoControl}
-use Rattle.hep_source.specs.declared.statement.Form.{Form}
+use Rattle.hep_machine.specs.Words.{Tree, Trees, constant, occurrence, with_list, parenthesized, signed, negated, binary, no_trees, trees, trees_of, Target, Name, DoControl, Form, PrintItem, Statement, Value, Units, no_value, increment_of, Meaning, element, pure, state, unknown}
 use Rattle.hep_source.specs.declared.statement.Form.TheVariants as form
-use Rattle.hep_source.specs.declared.statement.PrintItem.{PrintItem}
 use Rattle.hep_source.specs.declared.statement.PrintItem.TheVariants as item
-use Rattle.hep_source.specs.declared.statement.Statement.{Statement}
-use Rattle.hep_source.specs.declared.value.Value.{Value}
-use Rattle.hep_source.specs.Units.{Units}
-use Rattle.hep_machine.specs.Defaults.{no_value}
-use Rattle.hep_machine.specs.Evaluation.{increment_of}
-use Rattle.hep_machine.specs.Functions.{Meaning, element, pure, state, unknown}
 use Rattle.hep_code.specs.declared.instruction.Evaluation.{Evaluation}
 use Rattle.hep_code.specs.declared.instruction.Evaluation.TheVariants.{Load, Sign, Not, Combine, Apply, Test}
 use Rattle.hep_code.specs.declared.instruction.Instruction.{Instruction}
-use Rattle.hep_code.specs.declared.instruction.Instruction.TheVariants.{Push, Step}
+use Rattle.hep_code.specs.declared.instruction.Instruction.TheVariants.{Push, Step, To, Pass, Show}
 use Rattle.hep_code.specs.declared.instruction.Operation.{Operation}
 use Rattle.hep_code.specs.declared.instruction.Operation.TheVariants.{Store, Choose, BySign, Condition, Branch, EnterLoop, Call, Create, Purge, Print}
-use Rattle.hep_code.specs.Actions.{arity}
-use Rattle.hep_code.specs.Depths.{operands_passed, operands_shown, operands_of_entry, operands_of_entries, operands_by, operands_before, operands_ahead, line_ahead, line_too_deep}
-use Rattle.hep_code.specs.ExpressionCode.{count, evaluating, name_code, asked, asked_listed, asked_listed_code, listed_code, tree_code, trees_code, asked_code, actual_name_code, actual_listed_code, actual_code, actuals_code, argument_of, argument_of_name, argument_of_listed, target_code, item_code, printed_of, control_code}
-use Rattle.hep_code.specs.Limits.{most_operands}
-use Rattle.hep_code.specs.Stacks.{addressed_unit}
-use Rattle.hep_code.specs.StatementCode.{operands_code, operation_code, conditions_code, loop_end_code, statement_code, statements_code}
-use Rattle.hep_code.specs.Tables.{NameTable, Table}
-use Rattle.hep_code.specs.UnitCode.{AddressedUnit, code_of, table_of}
+use Rattle.hep_code.specs.Words.{arity, operands_passed, operands_shown, operands_of_entry, operands_of_entries, operands_by, operands_before, operands_ahead, line_ahead, line_too_deep, count, evaluating, name_code, asked, asked_listed, asked_listed_code, listed_code, tree_code, trees_code, asked_code, actual_name_code, actual_listed_code, actual_code, actuals_code, argument_of, argument_of_name, argument_of_listed, argument_of_target, target_code, item_code, printed_of, control_code, most_operands, addressed_unit, operands_code, operation_code, conditions_code, loop_end_code, statement_code, statements_code, NameTable, Table, AddressedUnit, code_of, table_of}
 use Rattle.hep_image.specs.Places.{addresses_of}
 use Rattle.hep_lower.specs.Parts.{HasLongStatement, IsOfLongStatement, in_tree, in_trees, in_list, in_optional, in_target, in_control, in_item, in_form, names_and_constants}
 use Rattle.hep_lower.specs.Refusals.{IsFirstDeep}
-use Rattle.hep_lower.proofs.FewInstructions.{list_is, leading, passing, purging, showing}
 
 -- ---- code that gives values
 
 -- in front of each of these instructions, with those behind them, there are at most m operands, and this line is ahead
-abbrev AreWithin : ℕ → ℕ → List Instruction → List Instruction → Type 0
+abbrev pub AreWithin : ℕ → ℕ → List Instruction → List Instruction → Type 0
 AreWithin line m behind [] = Unit {0}
 AreWithin line m behind (i ∷ is) =
     (operands_ahead (i ∷ (is ++ behind)) ≤ m) × (line_ahead (i ∷ (is ++ behind)) ≡ line) × AreWithin line m behind is
@@ -57,34 +39,37 @@ joined line m behind (i ∷ is) js h k =
     let rest = joined line m behind is js h.2 k in
     (omega (arith, h.0, ap (λ all. operands_ahead (i ∷ all)) e), ap (λ all. line_ahead (i ∷ all)) e ∙ h.1, rest)
 
--- code of a statement with this line that gives so many values, and has so many names and constants
-record Gives (line : ℕ) (code : List Instruction) (values words : ℕ) : Type 0 where
-  few : values ≤ words
-  ahead : (behind : List Instruction) → line_ahead behind ≡ line → operands_ahead (code ++ behind) ≡ operands_ahead behind - values
-  lined : (behind : List Instruction) → line_ahead behind ≡ line → line_ahead (code ++ behind) ≡ line
-  within : (behind : List Instruction) → line_ahead behind ≡ line → AreWithin line ((operands_ahead behind - values) + words) behind code
+-- code of a statement with this line that gives so many values, has so many names and constants, and at most so many instructions
+pub record Gives (line : ℕ) (code : List Instruction) (values words parts : ℕ) : Type 0 where
+  pub few : values ≤ words
+  pub short : length code ≤ parts
+  pub ahead : (behind : List Instruction) → line_ahead behind ≡ line → operands_ahead (code ++ behind) ≡ operands_ahead behind - values
+  pub lined : (behind : List Instruction) → line_ahead behind ≡ line → line_ahead (code ++ behind) ≡ line
+  pub within : (behind : List Instruction) → line_ahead behind ≡ line → AreWithin line ((operands_ahead behind - values) + words) behind code
 
-nothing : {line words : ℕ} → Gives line [] 0 words
-nothing = record { few = omega arith; ahead = λ behind h. omega arith; lined = λ behind h. h; within = λ behind h. tt }
+nothing : {line words parts : ℕ} → Gives line [] 0 words parts
+nothing = record { few = omega arith; short = omega arith; ahead = λ behind h. omega arith; lined = λ behind h. h; within = λ behind h. tt }
 
-pushed : {line : ℕ} (v : Value) → Gives line (Push v ∷ []) 1 1
+pushed : {line : ℕ} (v : Value) → Gives line (Push v ∷ []) 1 1 1
 pushed v =
-    record { few = omega arith; ahead = λ behind h. refl; lined = λ behind h. h; within = λ behind h. (omega arith, h, tt) }
+    record { few = omega arith; short = omega arith; ahead = λ behind h. refl; lined = λ behind h. h; within = λ behind h. (omega arith, h, tt) }
 
-more : {line v m n : ℕ} {c : List Instruction} → m ≤ n → Gives line c v m → Gives line c v n
-more {line = line} {v = v} {m = m} {n = n} {c = c} le g =
+more : {line v m n p q : ℕ} {c : List Instruction} → m ≤ n → p ≤ q → Gives line c v m p → Gives line c v n q
+more {line = line} {v = v} {m = m} {n = n} {c = c} le less g =
     record {
       few = omega (arith, le, g.few);
+      short = omega (arith, less, g.short);
       ahead = g.ahead;
       lined = g.lined;
       within = λ behind h.
           let k = operands_ahead behind - v in raised line (k + m) (k + n) behind c (omega (arith, le)) (g.within behind h);
     }
 
-both : {line v w x y : ℕ} {c d : List Instruction} → Gives line c v w → Gives line d x y → Gives line (c ++ d) (v + x) (w + y)
+both : {line v w p x y q : ℕ} {c d : List Instruction} → Gives line c v w p → Gives line d x y q → Gives line (c ++ d) (v + x) (w + y) (p + q)
 both {line = line} {v = v} {w = w} {x = x} {y = y} {c = c} {d = d} g h =
     record {
       few = omega (arith, g.few, h.few);
+      short = omega (arith, length-append c d, g.short, h.short);
       ahead = λ behind is.
           let e = ap operands_ahead (append_assoc c d behind) in
           omega (arith, e, g.ahead (d ++ behind) (h.lined behind is), h.ahead behind is);
@@ -99,12 +84,13 @@ both {line = line} {v = v} {w = w} {x = x} {y = y} {c = c} {d = d} g h =
     }
 
 -- what is done with all of them gives one value
-evaluated : {line v w n : ℕ} {c : List Instruction} (e : Evaluation) → arity e ≡ v → w ≤ n → 1 ≤ n → Gives line c v w
-    → Gives line (c ++ evaluating line e) 1 n
+evaluated : {line v w n p : ℕ} {c : List Instruction} (e : Evaluation) → arity e ≡ v → w ≤ n → 1 ≤ n → Gives line c v w p
+    → Gives line (c ++ evaluating line e) 1 n (1 + p)
 evaluated {line = line} {v = v} {w = w} {n = n} {c = c} e same le some g =
     let last = evaluating line e in
     record {
       few = some;
+      short = omega (arith, length-append c last, g.short);
       ahead = λ behind is. omega (arith, ap operands_ahead (append_assoc c last behind), g.ahead (last ++ behind) refl, same);
       lined = λ behind is. ap line_ahead (append_assoc c last behind) ∙ g.lined (last ++ behind) refl;
       within = λ behind is.
@@ -114,16 +100,35 @@ evaluated {line = line} {v = v} {w = w} {n = n} {c = c} e same le some g =
           joined line m behind c last (raised line _ m all c less (g.within all refl)) (omega (arith, same, g.few, le), refl, tt);
     }
 
-each_gives : {A : Type 0} {line : ℕ} (f : A → List Instruction) (v w : A → ℕ) → ((x : A) → Gives line (f x) (v x) (w x))
-    → (xs : List A) → Gives line (flat_map f xs) (sum_by v xs) (sum_by w xs)
-each_gives f v w h [] = nothing
-each_gives {line = line} f v w h (x ∷ xs) =
-    let code = f x ++ flat_map f xs in
-    let words = sum_by w (x ∷ xs) in
-    subst (λ n. Gives line code n words) (sym (sum_by-cons v x xs))
-    (subst (λ n. Gives line code (v x + sum_by v xs) n) (sym (sum_by-cons w x xs)) (both (h x) (each_gives f v w h xs)))
+each_gives : {A : Type 0} {line : ℕ} (f : A → List Instruction) (v w p : A → ℕ) → ((x : A) → Gives line (f x) (v x) (w x) (p x))
+    → (xs : List A) → Gives line (flat_map f xs) (sum_by v xs) (sum_by w xs) (sum_by p xs)
+each_gives f v w p h [] = nothing
+each_gives {line = line} f v w p h (x ∷ xs) =
+    rw (sum_by-cons v x xs, sum_by-cons w x xs, sum_by-cons p x xs) (both (h x) (each_gives f v w p h xs))
+
+-- ---- lists
+
+module _ (operator : ℕ) where
+  pub some_part : (t : Tree) → 1 ≤ in_tree operator t
+  some_part (constant v) = omega arith
+  some_part (occurrence p) = omega arith
+  some_part (with_list p ts) = omega arith
+  some_part (parenthesized t) = some_part t
+  some_part (signed s t) = omega (arith, some_part t)
+  some_part (negated t) = omega (arith, some_part t)
+  some_part (binary o a b) = omega (arith, some_part a)
+
+  list_is : (ts : List Tree) → in_trees operator (trees_of ts) ≡ in_list operator ts
+  list_is [] = refl
+  list_is (t ∷ ts) = omega (arith, list_is ts, sum_by-cons (in_tree operator) t ts)
 
 -- ---- expressions
+
+abbrev pub subscripts_of : Target → ℕ
+subscripts_of t = count (trees_of t.subscripts)
+
+abbrev pub shown : PrintItem → ℕ
+shown i = operands_shown (printed_of i)
 
 module _ (names : NameTable) (line : ℕ) where
   abbrev code : Tree → List Instruction
@@ -133,32 +138,32 @@ module _ (names : NameTable) (line : ℕ) where
   codes ts = trees_code names line ts
 
   abbrev TreesGive : Trees → Type 0
-  TreesGive ts = Gives line (codes ts) (count ts) (in_trees 0 ts)
+  TreesGive ts = Gives line (codes ts) (count ts) (in_trees 0 ts) (in_trees 1 ts)
 
   abbrev AskedGives : Trees → Type 0
-  AskedGives ts = Gives line (asked_code names line ts) (asked names ts).1 (in_trees 0 ts)
+  AskedGives ts = Gives line (asked_code names line ts) (asked names ts).1 (in_trees 0 ts) (in_trees 1 ts)
 
-  name_gives : (o : Option Value) (x : Name) → Gives line (name_code names line o x) 1 1
-  name_gives None x = evaluated (Load (names.variables x) 0) refl (omega arith) (omega arith) (nothing {words = 0})
+  name_gives : (o : Option Value) (x : Name) → Gives line (name_code names line o x) 1 1 1
+  name_gives None x = evaluated (Load (names.variables x) 0) refl (omega arith) (omega arith) (nothing {words = 0} {parts = 0})
   name_gives (Some v) x = pushed v
 
-  asked_listed_gives : (m : Meaning) (x : Name) (ts : Trees) (n : ℕ) → in_trees 0 ts ≤ n → TreesGive ts
-      → Gives line (asked_listed_code m (codes ts)) (asked_listed m x (count ts)).1 n
-  asked_listed_gives element x ts n le g = more le g
-  asked_listed_gives (pure f) x ts n le g = nothing
-  asked_listed_gives (state f) x ts n le g = nothing
-  asked_listed_gives unknown x ts n le g = nothing
+  asked_listed_gives : (m : Meaning) (x : Name) (ts : Trees) (n k : ℕ) → in_trees 0 ts ≤ n → in_trees 1 ts ≤ k → TreesGive ts
+      → Gives line (asked_listed_code m (codes ts)) (asked_listed m x (count ts)).1 n k
+  asked_listed_gives element x ts n k le less g = more le less g
+  asked_listed_gives (pure f) x ts n k le less g = nothing
+  asked_listed_gives (state f) x ts n k le less g = nothing
+  asked_listed_gives unknown x ts n k le less g = nothing
 
   listed_gives : (m : Meaning) (x : Name) (ts : Trees) → TreesGive ts → AskedGives ts
-      → Gives line (listed_code names m line x ts (codes ts) (asked_code names line ts)) 1 (1 + in_trees 0 ts)
+      → Gives line (listed_code names m line x ts (codes ts) (asked_code names line ts)) 1 (1 + in_trees 0 ts) (1 + in_trees 1 ts)
   listed_gives element x ts g h = evaluated (Load (names.variables x) (count ts)) refl (omega arith) (omega arith) g
   listed_gives (pure f) x ts g h = evaluated (Apply f (count ts)) refl (omega arith) (omega arith) g
   listed_gives (state f) x ts g h =
       evaluated (Test f (names.variables (asked names ts).0) (asked names ts).1) refl (omega arith) (omega arith) h
-  listed_gives unknown x ts g h = more (omega arith) (pushed no_value)
+  listed_gives unknown x ts g h = more (omega arith) (omega arith) (pushed no_value)
 
   mutual
-    tree_gives : (t : Tree) → Gives line (code t) 1 (in_tree 0 t)
+    pub tree_gives : (t : Tree) → Gives line (code t) 1 (in_tree 0 t) (in_tree 1 t)
     tree_gives (constant v) = pushed v
     tree_gives (occurrence p) = name_gives (names.constants p.name) p.name
     tree_gives (with_list p ts) = listed_gives (names.meanings p.name) p.name ts (trees_give ts) (asked_gives ts)
@@ -172,11 +177,11 @@ module _ (names : NameTable) (line : ℕ) where
     trees_give no_trees = nothing
     trees_give (trees t ts) =
         let e : 1 + count ts ≡ suc (count ts) = omega arith in
-        subst (λ n. Gives line (code t ++ codes ts) n (in_trees 0 (trees t ts))) e (both (tree_gives t) (trees_give ts))
+        subst (λ n. Gives line (code t ++ codes ts) n (in_trees 0 (trees t ts)) (in_trees 1 (trees t ts))) e (both (tree_gives t) (trees_give ts))
 
     asked_gives : (ts : Trees) → AskedGives ts
     asked_gives (trees (with_list p us) no_trees) =
-        asked_listed_gives (names.meanings p.name) p.name us (in_trees 0 (trees (with_list p us) no_trees)) (omega arith) (trees_give us)
+        asked_listed_gives (names.meanings p.name) p.name us (in_trees 0 (trees (with_list p us) no_trees)) (in_trees 1 (trees (with_list p us) no_trees)) (omega arith) (omega arith) (trees_give us)
     asked_gives (trees (with_list p us) (trees t ts)) = nothing
     asked_gives (trees (occurrence p) no_trees) = nothing
     asked_gives (trees (occurrence p) (trees t ts)) = nothing
@@ -184,21 +189,21 @@ module _ (names : NameTable) (line : ℕ) where
 
   -- ---- actual arguments, targets and items
 
-  abbrev passed : Tree → ℕ
+  abbrev pub passed : Tree → ℕ
   passed t = operands_passed (argument_of names t)
 
-  actual_name_gives : (o : Option Value) (x : Name) → Gives line (actual_name_code o) (operands_passed (argument_of_name names o x)) 1
+  actual_name_gives : (o : Option Value) (x : Name) → Gives line (actual_name_code o) (operands_passed (argument_of_name names o x)) 1 1
   actual_name_gives None x = nothing
   actual_name_gives (Some v) x = pushed v
 
-  actual_listed_gives : (m : Meaning) (x : Name) (ts : Trees) (value : List Instruction) → Gives line value 1 (1 + in_trees 0 ts)
-      → Gives line (actual_listed_code m (codes ts) value) (operands_passed (argument_of_listed names m x (count ts))) (1 + in_trees 0 ts)
-  actual_listed_gives element x ts value g = more (omega arith) (trees_give ts)
+  actual_listed_gives : (m : Meaning) (x : Name) (ts : Trees) (value : List Instruction) → Gives line value 1 (1 + in_trees 0 ts) (1 + in_trees 1 ts)
+      → Gives line (actual_listed_code m (codes ts) value) (operands_passed (argument_of_listed names m x (count ts))) (1 + in_trees 0 ts) (1 + in_trees 1 ts)
+  actual_listed_gives element x ts value g = more (omega arith) (omega arith) (trees_give ts)
   actual_listed_gives (pure f) x ts value g = g
   actual_listed_gives (state f) x ts value g = g
   actual_listed_gives unknown x ts value g = g
 
-  actual_gives : (t : Tree) → Gives line (actual_code names line t) (passed t) (in_tree 0 t)
+  actual_gives : (t : Tree) → Gives line (actual_code names line t) (passed t) (in_tree 0 t) (in_tree 1 t)
   actual_gives (occurrence p) = actual_name_gives (names.constants p.name) p.name
   actual_gives (with_list p ts) =
       let t = with_list p ts in actual_listed_gives (names.meanings p.name) p.name ts (code t) (tree_gives t)
@@ -208,24 +213,30 @@ module _ (names : NameTable) (line : ℕ) where
   actual_gives (negated t) = tree_gives (negated t)
   actual_gives (binary o a b) = tree_gives (binary o a b)
 
-  actuals_give : (ts : List Tree) → Gives line (actuals_code names line ts) (sum_by passed ts) (1 + in_list 0 ts)
-  actuals_give ts = more (omega arith) (each_gives (actual_code names line) passed (in_tree 0) actual_gives ts)
+  pub actuals_give : (ts : List Tree) → Gives line (actuals_code names line ts) (sum_by passed ts) (1 + in_list 0 ts) (in_list 1 ts)
+  actuals_give ts = more (omega arith) (omega arith) (each_gives (actual_code names line) passed (in_tree 0) (in_tree 1) actual_gives ts)
 
-  target_gives : (t : Target) → Gives line (target_code names line t) (count (trees_of t.subscripts)) (in_target 0 t)
-  target_gives t = more (omega (arith, list_is 0 t.subscripts)) (trees_give (trees_of t.subscripts))
+  pub target_gives : (t : Target) → Gives line (target_code names line t) (count (trees_of t.subscripts)) (in_target 0 t) (in_target 1 t)
+  target_gives t = more (omega (arith, list_is 0 t.subscripts)) (omega (arith, list_is 1 t.subscripts)) (trees_give (trees_of t.subscripts))
 
-  item_gives : (i : PrintItem) → Gives line (item_code names line i) (operands_shown (printed_of i)) (in_item 0 i)
+  item_gives : (i : PrintItem) → Gives line (item_code names line i) (operands_shown (printed_of i)) (in_item 0 i) (in_item 1 i)
   item_gives (item.Expression t) = tree_gives t
   item_gives (item.Characters cs) = nothing
 
   -- where a DO has no increment, its variable counts for the 1
-  increment_gives : (o : Option Tree) → Gives line (code (increment_of o)) 1 (1 + in_optional 0 o)
+  increment_gives : (o : Option Tree) → Gives line (code (increment_of o)) 1 (1 + in_optional 0 o) (1 + in_optional 1 o)
   increment_gives None = pushed _
-  increment_gives (Some t) = more (omega arith) (tree_gives t)
+  increment_gives (Some t) = more (omega arith) (omega arith) (tree_gives t)
 
-  control_gives : (c : DoControl) → Gives line (control_code names line c) 3 (in_control 0 c)
+  pub control_gives : (c : DoControl) → Gives line (control_code names line c) 3 (in_control 0 c) (in_control 1 c)
   control_gives c =
-      more (omega arith) (both (tree_gives c.initial) (both (tree_gives c.limit) (increment_gives c.increment)))
+      more (omega arith) (omega arith) (both (tree_gives c.initial) (both (tree_gives c.limit) (increment_gives c.increment)))
+
+  pub targets_give : (xs : List Target) → Gives line (flat_map (target_code names line) xs) (sum_by subscripts_of xs) (sum_by (in_target 0) xs) (sum_by (in_target 1) xs)
+  targets_give xs = each_gives (target_code names line) subscripts_of (in_target 0) (in_target 1) target_gives xs
+
+  pub items_give : (is : List PrintItem) → Gives line (flat_map (item_code names line) is) (sum_by shown is) (sum_by (in_item 0) is) (sum_by (in_item 1) is)
+  items_give is = each_gives (item_code names line) shown (in_item 0) (in_item 1) item_gives is
 
 -- ---- the first line that is too deep
 
@@ -261,7 +272,7 @@ module _ (line : ℕ) where
       told_by (nat_lt most_operands n) m n (line_ahead (i ∷ all)) (line_too_deep all) (line_too_deep behind) refl h.0 h.1 rest
 
   -- operands, and an operation that takes all of them
-  performed : {v w : ℕ} {c : List Instruction} (o : Operation) (behind : List Instruction) → Gives line c v w
+  performed : {v w p : ℕ} {c : List Instruction} (o : Operation) (behind : List Instruction) → Gives line c v w p
       → operands_by o (operands_ahead behind) behind ≡ v → IsTold line w (line_too_deep (c ++ Step line o ∷ behind)) (line_too_deep behind)
   performed {v = v} {w = w} {c = c} o behind g same =
       let all = Step line o ∷ behind in
@@ -270,6 +281,18 @@ module _ (line : ℕ) where
       (within_told w (Step line o ∷ []) behind (omega (arith, same, g.few), refl, tt))
 
 -- ---- entries
+
+abbrev pub leading : Table → ℕ → Instruction
+leading table l = To (table.labels l)
+
+abbrev pub passing : NameTable → Tree → Instruction
+passing names t = Pass (argument_of names t)
+
+abbrev pub purging : NameTable → Target → Instruction
+purging names t = Pass (argument_of_target names t)
+
+abbrev pub showing : PrintItem → Instruction
+showing i = Show (printed_of i)
 
 abbrev AreEntries : {A : Type 0} → (A → Instruction) → Type 0
 AreEntries {A = A} entry = (x : A) (n : ℕ) (is : List Instruction) → operands_before (entry x) n is ≡ 0
@@ -290,16 +313,10 @@ entries_take entry (x ∷ xs) behind =
 
 -- ---- statements
 
-abbrev subscripts_of : Target → ℕ
-subscripts_of t = count (trees_of t.subscripts)
-
-abbrev shown : PrintItem → ℕ
-shown i = operands_shown (printed_of i)
-
 module _ (table : Table) where
   -- operands, an operation that takes all of them, and entries
-  listed_told : {A : Type 0} {v w : ℕ} {c : List Instruction} (line : ℕ) (o : Operation) (entry : A → Instruction) → AreEntries entry
-      → (xs : List A) (behind : List Instruction) → Gives line c v w
+  listed_told : {A : Type 0} {v w p : ℕ} {c : List Instruction} (line : ℕ) (o : Operation) (entry : A → Instruction) → AreEntries entry
+      → (xs : List A) (behind : List Instruction) → Gives line c v w p
       → operands_by o (operands_ahead (map entry xs ++ behind)) (map entry xs ++ behind) ≡ v
       → IsTold line w (line_too_deep (c ++ Step line o ∷ (map entry xs ++ behind))) (line_too_deep behind)
   listed_told {w = w} {c = c} line o entry h xs behind g same =
@@ -316,7 +333,7 @@ module _ (table : Table) where
   form_told line k (form.Assign x t) behind =
       let g = both (tree_gives table.names line t) (target_gives table.names line x) in
       let o = Store (table.names.variables x.occurrence.name) (subscripts_of x) (table.flows k).next in
-      performed line o behind (more (omega arith) g) refl
+      performed line o behind (more {q = in_form 1 (form.Assign x t)} (omega arith) (omega arith) g) refl
   form_told line k (form.ComputedGoTo labels t) behind =
       let o = Choose (length labels) (table.flows k).next in
       listed_told line o (leading table) (λ l n is. refl) labels behind (tree_gives table.names line t) refl
@@ -342,12 +359,10 @@ module _ (table : Table) where
   form_told line k (form.Purge targets) behind =
       let o = Purge (length targets) (table.flows k).next in
       let entry = purging table.names in
-      let g = each_gives (target_code table.names line) subscripts_of (in_target 0) (target_gives table.names line) targets in
-      listed_told line o entry (λ t n is. refl) targets behind g (entries_take entry targets behind)
+      listed_told line o entry (λ t n is. refl) targets behind (targets_give table.names line targets) (entries_take entry targets behind)
   form_told line k (form.Print items) behind =
       let o = Print (length items) (table.flows k).next in
-      let g = each_gives (item_code table.names line) shown (in_item 0) (item_gives table.names line) items in
-      listed_told line o showing (λ i n is. refl) items behind g (entries_take showing items behind)
+      listed_told line o showing (λ i n is. refl) items behind (items_give table.names line items) (entries_take showing items behind)
   form_told line k _ behind = inl refl
 
   conditions_told : (line k : ℕ) (ts : List Tree) (f : Form) (behind : List Instruction)

@@ -1,4 +1,3 @@
-pub mod Additions
 pub mod Counts
 pub mod Placing
 pub mod Told

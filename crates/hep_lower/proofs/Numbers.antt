@@ -1,11 +1,9 @@
 -- The names of a program are put in order, and where those of each kind begin is noted.
-use Rattle.std.proofs.Common.{◌≡◌, ℕ, zero, suc, ◌+◌, ◌<◌, ◌^◌, List, [], ◌∷◌, ◌++◌, map, length, take, Some, refl, ap, sym, ◌∙◌, arith, append_assoc}
-use Rattle.std.specs.Prelude.{slice_get}
+use Rattle.std.proofs.Common.{◌≡◌, ℕ, zero, suc, ◌+◌, ◌<◌, ◌^◌, List, [], ◌∷◌, ◌++◌, map, length, take, Some, refl, ap, sym, ◌∙◌, arith, append_assoc, slice_get}
 use Rattle.std.specs.List.{flat_map}
 use Rattle.std.proofs.lemmas.List.{length-append, length-map}
 use Rattle.std.proofs.lemmas.Option.{same_Some}
-use Rattle.hep_source.specs.Units.{Units, unit_name}
-use Rattle.hep_machine.specs.Declarations.{blocks_of}
+use Rattle.hep_machine.specs.Words.{Units, unit_name, blocks_of}
 use Rattle.hep_image.specs.declared.names.ProgramNames.{ProgramNames}
 use Rattle.hep_image.specs.Names.{AreNames, block_spelling, spellings_of}
 use Rattle.hep_lower.specs.Numbers.{numbers_from}

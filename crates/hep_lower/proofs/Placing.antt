@@ -1,19 +1,10 @@
 -- The code of a unit, where its variables and DOs were found.
-use Rattle.std.proofs.Common.{◌≡◌, ◌∙◌, ℕ, ◌<◌, List, [], Option, Some, None, get_or, length, refl, sym, ap, subst, arith}
-use Rattle.std.specs.Prelude.{◌≤◌, Result, Ok, Err, IfOk}
+use Rattle.std.proofs.Common.{◌≡◌, ◌∙◌, ℕ, ◌<◌, List, [], Option, Some, None, get_or, length, refl, sym, ap, subst, arith, ◌≤◌, Result, Ok, Err, IfOk}
 use Rattle.std.proofs.lemmas.Option.{slice_get_read}
 use Rattle.indexmap.specs.IndexMap.{get}
 use Rattle.std.specs.Option.{unwrap_or}
-use Rattle.hep_source.specs.declared.name.Name.{Name}
-use Rattle.hep_source.specs.declared.statement.Statement.{Statement}
-use Rattle.hep_source.specs.Names.{name_eq}
-use Rattle.hep_source.specs.Units.{Units, main_unit, unit_at}
-use Rattle.hep_machine.specs.Layout.{common_cells}
-use Rattle.hep_machine.specs.Variables.{frame_cells}
-use Rattle.hep_machine.specs.Step.{unit_called}
-use Rattle.hep_code.specs.Limits.{most_instructions}
-use Rattle.hep_code.specs.Stacks.{addressed_unit}
-use Rattle.hep_code.specs.UnitCode.{code_of}
+use Rattle.hep_machine.specs.Words.{Name, Statement, name_eq, Units, main_unit, unit_at, common_cells, frame_cells, unit_called}
+use Rattle.hep_code.specs.Words.{most_instructions, addressed_unit, code_of}
 use Rattle.hep_image.specs.declared.array.Array.{Array}
 use Rattle.hep_image.specs.Image.{most_cells}
 use Rattle.hep_image.specs.Places.{addresses_of, loop_cells, variable_of}

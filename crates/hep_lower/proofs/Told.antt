@@ -1,19 +1,14 @@
 -- What is told of a program that has no image, and what is known of one that has.
-use Rattle.std.proofs.Common.{◌≡◌, ◌≢◌, inl, inr, ℕ, ◌<◌, ◌≤◌, ◌^◌, List, [], Some, None, length, refl, sym, ◌∙◌, subst}
-use Rattle.std.specs.Prelude.{Result, Ok, Err, IfErr}
+use Rattle.std.proofs.Common.{◌⊎◌, ◌≡◌, ◌≢◌, inl, inr, ℕ, ◌<◌, ◌≤◌, ◌^◌, List, [], Some, None, length, refl, sym, ◌∙◌, subst, Result, Ok, Err, IfErr}
 use Rattle.std.specs.Option.{option_eq}
 use Rattle.std.specs.Result.{IsErr, IsErrAnd}
 use Rattle.std.proofs.lemmas.Option.{none-some}
 use Rattle.hep_base.specs.declared.refusal.Refusal.{Refusal as LowerFault}
 use Rattle.hep_base.specs.declared.refusal.Refusal.TheVariants.{NoMemory, Refused}
 use Rattle.indexmap.specs.IndexMap.{get}
-use Rattle.hep_source.specs.Names.{name_eq}
-use Rattle.hep_source.specs.Units.{Units, main_among, unit_at}
-use Rattle.hep_machine.specs.Declarations.{BlockName, blocks_of}
-use Rattle.hep_machine.specs.Layout.{block_cells, common_cells}
-use Rattle.hep_machine.specs.Variables.{frame_cells}
-use Rattle.hep_check.specs.Conditions.{IsAccepted}
-use Rattle.hep_code.specs.Limits.{most_instructions}
+use Rattle.hep_machine.specs.Words.{name_eq, Units, main_among, unit_at, BlockName, blocks_of, block_cells, common_cells, frame_cells}
+use Rattle.hep_check.specs.Words.{IsAccepted}
+use Rattle.hep_code.specs.Words.{most_instructions}
 use Rattle.hep_image.specs.declared.data.DataRow.{DataRow}
 use Rattle.hep_image.specs.declared.names.ProgramNames.{ProgramNames}
 use Rattle.hep_image.specs.declared.owners.BlockStart.{BlockStart}
@@ -39,11 +34,8 @@ blocks-are source program c same keys lengths bounded =
     subst (λ (p : Units). AreBlocks p c) same (record { blocks_are = keys; lengths_are = lengths; bounded = bounded })
 
 module _ (program : Units) (main : main_among program ≢ None) where
-  pub told-cells : (fault : LowerFault) → fault ≡ Refused 401 0 [] → AreCellsBeyond program → Refuses program fault
-  told-cells fault is beyond = subst (Refuses program) (sym is) (inr (inl (refl, refl, main, inl beyond)), refl)
-
-  pub told-many : (fault : LowerFault) → fault ≡ Refused 401 0 [] → IsCodeBeyond program → Refuses program fault
-  told-many fault is beyond = subst (Refuses program) (sym is) (inr (inl (refl, refl, main, inr beyond)), refl)
+  pub told-beyond : (fault : LowerFault) → fault ≡ Refused 401 0 [] → AreCellsBeyond program ⊎ IsCodeBeyond program → Refuses program fault
+  told-beyond fault is beyond = subst (Refuses program) (sym is) (inr (inl (refl, refl, main, beyond)), refl)
 
   pub told-code : {A : Type 0} (r : Result A LowerFault) (fault : LowerFault) → IsErr r × IsErrAnd r (λ e. e ≡ fault) → RefusesCode program fault → IfErr r (Refuses program)
   told-code (Ok x) fault h code = tt

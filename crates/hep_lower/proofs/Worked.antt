@@ -1,22 +1,12 @@
 -- Worked counts: how many names, constants, labels, operators and statements small programs have.
 use Rattle.std.specs.Prelude.{◌≡◌, ℕ, pos, false, codes, List, [], ◌∷◌, Option, Some, None, refl}
 use Rattle.hep_source.specs.declared.declaration.DataConstant.TheVariants as data_constant
-use Rattle.hep_source.specs.declared.declaration.DataValue.{DataValue}
-use Rattle.hep_source.specs.declared.declaration.Declarator.{Declarator}
+use Rattle.hep_machine.specs.Words.{DataValue, Declarator, Integer, Occurrence, Multiply, Arithmetic, Minus, Form, Statement, Int, Tree, constant, occurrence, with_list, parenthesized, signed, binary, no_trees, trees}
 use Rattle.hep_source.specs.declared.declaration.Repeat.TheVariants as repeat
 use Rattle.hep_source.specs.declared.declaration.UpperBound.TheVariants as bound
-use Rattle.hep_source.specs.declared.declaration.ValueType.TheVariants.{Integer}
-use Rattle.hep_source.specs.declared.name.Occurrence.{Occurrence}
-use Rattle.hep_source.specs.declared.operator.ArithmeticOperator.TheVariants.{Multiply}
-use Rattle.hep_source.specs.declared.operator.Operator.TheVariants.{Arithmetic}
-use Rattle.hep_source.specs.declared.operator.Sign.TheVariants.{Minus}
-use Rattle.hep_source.specs.declared.statement.Form.{Form}
 use Rattle.hep_source.specs.declared.statement.Form.TheVariants as form
 use Rattle.hep_source.specs.declared.statement.PrintItem.TheVariants as item
-use Rattle.hep_source.specs.declared.statement.Statement.{Statement}
-use Rattle.hep_source.specs.declared.value.Value.TheVariants.{Int}
-use Rattle.hep_source.specs.Tree.{Tree, constant, occurrence, with_list, parenthesized, signed, binary, no_trees, trees}
-use Rattle.hep_code.specs.UnitCode.{code_of}
+use Rattle.hep_code.specs.Words.{code_of}
 use Rattle.hep_lower.specs.Parts.{names_and_constants, parts_of}
 use Rattle.hep_lower.specs.Refusals.{instructions_in}
 

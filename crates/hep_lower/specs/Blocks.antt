@@ -1,7 +1,6 @@
 -- Where a common block begins, by the starts that are kept.
 use Rattle.std.specs.Option.{unwrap_or}
-use Rattle.hep_source.specs.Names.{index_where}
-use Rattle.hep_machine.specs.Declarations.{BlockName, same_block}
+use Rattle.hep_machine.specs.Words.{index_where, BlockName, same_block}
 use Rattle.hep_image.specs.declared.owners.BlockStart.{BlockStart}
 use Rattle.hep_common.specs.Starts.{start_in}
 use Rattle.hep_common.specs.declared.common.CommonBlocks.{CommonBlocks}

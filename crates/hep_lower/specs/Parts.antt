@@ -1,25 +1,11 @@
 -- How many names, constants, labels, operators and statements a program has: X3.9-1978, 2.2 and 2.3, and docs/LANGUAGE.md, 12.
 use Rattle.std.specs.Prelude.{◌≡◌, ◌≢◌, ◌<◌, ◌+◌, ℕ, List, [], length, slice_get, Option, Some, None}
 use Rattle.std.specs.List.{sum_by}
-use Rattle.hep_source.specs.Tree.{Tree, Trees, constant, occurrence, with_list, parenthesized, signed, negated, binary, no_trees, trees}
-use Rattle.hep_source.specs.declared.declaration.CommonBlock.{CommonBlock}
-use Rattle.hep_source.specs.declared.declaration.DataGroup.{DataGroup}
-use Rattle.hep_source.specs.declared.declaration.DataValue.{DataValue}
-use Rattle.hep_source.specs.declared.declaration.Declarator.{Declarator}
-use Rattle.hep_source.specs.declared.declaration.Dimension.{Dimension}
-use Rattle.hep_source.specs.declared.declaration.NamedConstant.{NamedConstant}
-use Rattle.hep_source.specs.declared.declaration.Target.{Target}
-use Rattle.hep_source.specs.declared.declaration.UpperBound.{UpperBound}
+use Rattle.hep_machine.specs.Words.{Tree, Trees, constant, occurrence, with_list, parenthesized, signed, negated, binary, no_trees, trees, CommonBlock, DataGroup, DataValue, Declarator, Dimension, NamedConstant, Target, UpperBound, DoControl, Form, PrintItem, Statement, Units, unit_at}
 use Rattle.hep_source.specs.declared.declaration.UpperBound.TheVariants as bound
-use Rattle.hep_source.specs.declared.statement.DoControl.{DoControl}
-use Rattle.hep_source.specs.declared.statement.Form.{Form}
 use Rattle.hep_source.specs.declared.statement.Form.TheVariants as form
-use Rattle.hep_source.specs.declared.statement.PrintItem.{PrintItem}
 use Rattle.hep_source.specs.declared.statement.PrintItem.TheVariants as item
-use Rattle.hep_source.specs.declared.statement.Statement.{Statement}
-use Rattle.hep_source.specs.Units.{Units, unit_at}
-use Rattle.hep_code.specs.Depths.{line_too_deep}
-use Rattle.hep_code.specs.Limits.{most_operands}
+use Rattle.hep_code.specs.Words.{line_too_deep, most_operands}
 use Rattle.hep_placed.specs.Placed.{code_in}
 
 -- what may be left out counts 1 where it is there

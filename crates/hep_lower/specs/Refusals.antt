@@ -2,11 +2,8 @@
 use Rattle.std.specs.Prelude.{◌≡◌, ◌≢◌, ◌⊎◌, ℕ, zero, suc, ◌+◌, ◌<◌, ◌≤◌, [], length, Option, Some, None}
 use Rattle.hep_base.specs.declared.refusal.Refusal.{Refusal as LowerFault}
 use Rattle.hep_base.specs.declared.refusal.Refusal.TheVariants.{NoMemory, Refused}
-use Rattle.hep_source.specs.Units.{Units, main_among, unit_at}
-use Rattle.hep_machine.specs.Layout.{common_cells}
-use Rattle.hep_machine.specs.Variables.{frame_cells}
-use Rattle.hep_code.specs.Depths.{line_too_deep}
-use Rattle.hep_code.specs.Limits.{most_instructions}
+use Rattle.hep_machine.specs.Words.{Units, main_among, unit_at, common_cells, frame_cells}
+use Rattle.hep_code.specs.Words.{line_too_deep, most_instructions}
 use Rattle.hep_image.specs.Image.{most_cells}
 use Rattle.hep_placed.specs.Placed.{code_in}
 use Rattle.hep_emit.specs.declared.fault.EmitFault.{EmitFault}

@@ -1,8 +1,7 @@
 -- What is known of the units of a program that were lowered so far.
 use Rattle.std.specs.Prelude.{◌≡◌, ℕ, ◌≤◌, List, None, Some, length, slice_get}
-use Rattle.hep_source.specs.Units.{Units}
-use Rattle.hep_code.specs.Depths.{line_too_deep}
-use Rattle.hep_code.specs.Limits.{most_instructions}
+use Rattle.hep_machine.specs.Words.{Units}
+use Rattle.hep_code.specs.Words.{line_too_deep, most_instructions}
 use Rattle.hep_image.specs.declared.data.DataRow.{DataRow}
 use Rattle.hep_image.specs.declared.unit.UnitCode.{UnitCode}
 use Rattle.hep_image.specs.Data.{AreInitial, AreOfUnits}

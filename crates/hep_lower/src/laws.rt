@@ -1,6 +1,6 @@
 //! Laws of the limits.
 ghost use Rattle.std.specs.Prelude.{◌<◌, ◌≤◌, ◌*◌, ℕ, Some, length};
-ghost use Rattle.hep_source.specs.Units.{Units};
+ghost use Rattle.hep_machine.specs.Words.{Units};
 ghost use Rattle.hep_lower.specs.Parts.{HaveStatements, IsOfLongStatement, parts_of};
 ghost use Rattle.hep_lower.specs.Refusals.{IsCodeBeyond, IsFirstDeep, instructions_in};
 

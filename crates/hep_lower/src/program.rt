@@ -1,10 +1,8 @@
 //! Checked programs become images.
 ghost use Rattle.std.specs.Prelude.{◌≡◌, ◌≤◌, ◌<◌, ℕ, Some, None, IfOk, IfErr, OnOk, IsTrue, true, false, length};
-ghost use Rattle.hep_source.specs.Units.{main_among, unit_at};
-ghost use Rattle.hep_machine.specs.Layout.{common_cells};
-ghost use Rattle.hep_machine.specs.Variables.{frame_cells};
+ghost use Rattle.hep_machine.specs.Words.{main_among, unit_at, common_cells, frame_cells};
 ghost use Rattle.hep_common.specs.Starts.{AreBlocks, AreStarts};
-ghost use Rattle.hep_code.specs.Limits.{most_instructions};
+ghost use Rattle.hep_code.specs.Words.{most_instructions};
 ghost use Rattle.hep_image.specs.Image.{most_cells};
 ghost use Rattle.hep_lower.specs.Refusals.{AreCellsBeyond, IsLowered, Refuses};
 ghost use Rattle.hep_lower.specs.Units.{AreRows, AreTables, AreUnits};

@@ -1,9 +1,8 @@
 //! The names of a program, in the order in which an image has them.
 ghost use Rattle.std.specs.Prelude.{◌≡◌, ◌<◌, ◌^◌, ◌++◌, map, length, IfOk, OnOk};
 ghost use Rattle.std.specs.List.{flat_map};
-ghost use Rattle.hep_source.specs.Names.{spelling};
+ghost use Rattle.hep_machine.specs.Words.{spelling, blocks_of};
 ghost use Rattle.hep_source.specs.Units as units;
-ghost use Rattle.hep_machine.specs.Declarations.{blocks_of};
 ghost use Rattle.hep_image.specs.Names as words;
 ghost use Rattle.hep_lower.specs.Numbers.{numbers_from};
 

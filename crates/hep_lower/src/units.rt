@@ -1,10 +1,8 @@
 //! The units of a program, lowered one after the other.
 ghost use Rattle.std.specs.Prelude.{◌≡◌, ◌<◌, ◌≤◌, ◌+◌, ℕ, length, IfOk, IfErr, OnOk};
-ghost use Rattle.hep_source.specs.Units.{Units, main_unit, unit_at};
-ghost use Rattle.hep_machine.specs.Layout.{common_cells};
-ghost use Rattle.hep_machine.specs.Variables.{frame_cells};
-ghost use Rattle.hep_check.specs.Conditions.{IsAccepted};
-ghost use Rattle.hep_code.specs.Limits.{most_instructions};
+ghost use Rattle.hep_machine.specs.Words.{Units, main_unit, unit_at, common_cells, frame_cells};
+ghost use Rattle.hep_check.specs.Words.{IsAccepted};
+ghost use Rattle.hep_code.specs.Words.{most_instructions};
 ghost use Rattle.hep_image.specs.Image.{most_cells};
 ghost use Rattle.hep_common.specs.Starts.{AreStarts};
 ghost use Rattle.hep_lower.specs.Refusals.{RefusesCode, fault_by};

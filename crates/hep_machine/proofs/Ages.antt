@@ -1,19 +1,8 @@
 -- The parent of an activation is older, and each activation on a stack was made.
-use Rattle.std.proofs.Common.{◌≡◌, ℕ, zero, suc, ◌+◌, ◌-◌, ◌<◌, ◌≤◌, Bool, true, false, List, [], ◌∷◌, ◌++◌, length, Option, Some, None, refl, sym, ap, ◌∙◌, subst, arith}
-use Rattle.std.specs.Prelude.{◌||◌, slice_get, slice_set, nat_eq}
+use Rattle.std.proofs.Common.{◌≡◌, ℕ, zero, suc, ◌+◌, ◌-◌, ◌<◌, ◌≤◌, Bool, true, false, List, [], ◌∷◌, ◌++◌, length, Option, Some, None, refl, sym, ap, ◌∙◌, subst, arith, ◌||◌, slice_get, slice_set, nat_eq, eqb-true, length-append}
 use Rattle.std.specs.Option.{unwrap_or}
-use Rattle.std.proofs.lemmas.Bool.{eqb-true}
-use Rattle.std.proofs.lemmas.List.{length-append}
 use Rattle.std.proofs.lemmas.Option.{none-some, same_Some, slice_get_within}
-use Rattle.hep_machine.specs.Laws.{IsOnStack}
-use Rattle.hep_machine.specs.Layout.{activations_on}
-use Rattle.hep_machine.specs.Opening.{opening}
-use Rattle.hep_machine.specs.Run.{state_after_turn, run_from, run}
-use Rattle.hep_machine.specs.State.{Activation, Level, Process, State}
-use Rattle.hep_machine.specs.Step.{Top, next_activation}
-use Rattle.hep_source.specs.Units.{Units}
-use Rattle.hep_machine.specs.Processes.{top_of, numbered, with_numbered, parent_of, is_number_among}
-use Rattle.hep_machine.specs.Defaults.{no_activation}
+use Rattle.hep_machine.specs.Words.{IsOnStack, activations_on, opening, state_after_turn, run_from, run, Activation, Level, Process, State, Top, next_activation, Units, top_of, numbered, with_numbered, parent_of, is_number_among, no_activation}
 use Rattle.hep_machine.proofs.Changes.{stack, HasStack, HasSame, Change, moves, leaves, faults, calls, creates, stops, top_in, step_changes}
 use Rattle.hep_machine.proofs.Others.{each_turn}
 

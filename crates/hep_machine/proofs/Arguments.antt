@@ -1,8 +1,6 @@
 -- Functions of integers that are given another number of arguments than they take (X3.9-1978, 15.10).
 use Rattle.std.proofs.Common.{◌≡◌, pos, List, [], ◌∷◌, length, Ok, refl}
-use Rattle.hep_source.specs.declared.function.PureFunction.TheVariants.{AbsoluteValue, Remainder, TransferOfSign, PositiveDifference}
-use Rattle.hep_source.specs.declared.value.Value.{Value}
-use Rattle.hep_machine.specs.Arithmetic.{function_result, integers_of}
+use Rattle.hep_machine.specs.Words.{AbsoluteValue, Remainder, TransferOfSign, PositiveDifference, Value, function_result, integers_of}
 
 pub other_than_one : (vs : List Value) → (length vs ≡ 1 → ⊥) → function_result AbsoluteValue (integers_of vs) ≡ Ok (pos 0)
 other_than_one [] h = refl

@@ -1,26 +1,10 @@
 -- Which storage units a step leaves as full as they were.
-use Rattle.std.proofs.Common.{◌≡◌, ℕ, Bool, true, false, List, [], ◌∷◌, Option, Some, None, Result, Ok, Err, refl, sym, ap, ◌∙◌}
-use Rattle.std.specs.Prelude.{ℤ, ◌+ℤ◌}
+use Rattle.std.proofs.Common.{◌≡◌, ℕ, Bool, true, false, List, [], ◌∷◌, Option, Some, None, Result, Ok, Err, refl, sym, ap, ◌∙◌, ℤ, ◌+ℤ◌}
 use Rattle.hep_machine.specs.declared.event.Kind.{Kind}
-use Rattle.hep_source.specs.declared.function.StateFunction.{StateFunction}
-use Rattle.hep_source.specs.declared.function.StateFunction.TheVariants.{IsFull, IsEmpty, ValueOf, SetEmpty, WaitFull}
-use Rattle.hep_source.specs.declared.name.Name.{Name}
-use Rattle.hep_source.specs.declared.statement.Statement.{Statement}
-use Rattle.hep_source.specs.declared.value.Value.{Value}
-use Rattle.hep_source.specs.declared.value.Value.TheVariants.{Int}
+use Rattle.hep_machine.specs.Words.{StateFunction, IsFull, IsEmpty, ValueOf, SetEmpty, WaitFull, Name, Statement, Value, Int, Outcome, reading_asynchronous, setting_empty, waiting_full, integer_of, integer_or_overflow, signed_value, negated_value, combined_value, function_value, Binding, binding_for, binding_with_shapes, with_store, with_shapes, with_actual, with_actuals, dummies_for, level_after_statement, variable_of, Redex, signing, negating, combining, applying, testing, Actual, evaluated, referred, Action, assigning, jumping, choosing, branching, testing_condition, entering_block, entering_loop, ending_loop, calling, creating, purging, printing, continuing, leaving, stopping, Next, wants, does, KeepsStatesBut, purges, top_purges, is_purge, Scope, location_of_name, Dummy, Level, Loop, State, Location, local, common, Cell, Store, Answer, fails, by_result, answer_at, answer_of_read, answer_of_read_at, answer_of_test, answer_of_test_at, answer_of, Top, unit_on_top, scope_of, result_after_answer, written, result_after_write, result_after_store, result_after_assignment, iterations, result_after_do, result_after_increment, result_after_loop_variable, result_after_loop_end, next_activation, result_after_call, result_after_create, unit_called, binding_of, result_after_action, result_after_next, step, same_location, with_cell, with_value, Units, unit_at, dummies_of, loop_at}
 use Rattle.hep_machine.specs.Access as access
-use Rattle.hep_machine.specs.Access.{Outcome, reading_asynchronous, setting_empty, waiting_full}
-use Rattle.hep_machine.specs.Arithmetic.{integer_of, integer_or_overflow, signed_value, negated_value, combined_value, function_value}
-use Rattle.hep_machine.specs.Binding.{Binding, binding_for, binding_with_shapes, with_store, with_shapes, with_actual, with_actuals, dummies_for}
-use Rattle.hep_machine.specs.Control.{level_after_statement, variable_of}
-use Rattle.hep_machine.specs.Evaluation.{Redex, reading, signing, negating, combining, applying, testing, Actual, evaluated, referred, Action, assigning, jumping, choosing, branching, testing_condition, entering_block, entering_loop, ending_loop, calling, creating, purging, printing, continuing, leaving, stopping, Next, wants, does}
-use Rattle.hep_machine.specs.Laws.{KeepsStatesBut, purges, top_purges, is_purge}
-use Rattle.hep_machine.specs.Locations.{Scope, location_of_name}
-use Rattle.hep_machine.specs.State.{Dummy, Level, Loop, State, Location, local, common, Cell, Store}
-use Rattle.hep_machine.specs.Step.{Answer, gives, waits, fails, by_result, answer_at, answer_of_read, answer_of_read_at, answer_of_test, answer_of_test_at, answer_of, Top, unit_on_top, scope_of, result_after_answer, written, result_after_write, result_after_store, result_after_assignment, iterations, result_after_do, result_after_increment, result_after_loop_variable, result_after_loop_end, next_activation, result_after_call, result_after_create, unit_called, binding_of, result_after_action, result_after_next, step}
-use Rattle.hep_machine.specs.Storage.{same_location, with_cell, with_value}
-use Rattle.hep_source.specs.Units.{Units, unit_at, dummies_of}
-use Rattle.hep_machine.specs.Processes.{loop_at}
+use Rattle.hep_machine.specs.Evaluation.{reading}
+use Rattle.hep_machine.specs.Step.{gives, waits}
 use Rattle.hep_machine.proofs.Locations.{equal_locations}
 use Rattle.hep_machine.proofs.Changes.{Makes, by_step, next_on, top_in}
 

@@ -1,21 +1,10 @@
 -- An array of a constant shape has constant bounds, so none of them is adjustable, and they are a shape.
-use Rattle.std.proofs.Common.{◌≡◌, Bool, true, false, List, [], ◌∷◌, length, Option, Some, None, refl, sym, ap, ◌∙◌}
-use Rattle.std.specs.Prelude.{◌&&◌, if◌then◌else◌, ℤ}
+use Rattle.std.proofs.Common.{◌≡◌, Bool, true, false, List, [], ◌∷◌, length, Option, Some, None, refl, sym, ap, ◌∙◌, ◌&&◌, if◌then◌else◌, ℤ}
 use Rattle.std.specs.List.{list_all}
 use Rattle.std.proofs.lemmas.Bool.{and_from}
 use Rattle.std.proofs.lemmas.Option.{same_Some, none-some}
-use Rattle.hep_source.specs.declared.declaration.Dimension.{Dimension}
-use Rattle.hep_source.specs.declared.declaration.UpperBound.{UpperBound}
-use Rattle.hep_source.specs.declared.declaration.UpperBound.TheVariants.{Expression, Open}
-use Rattle.hep_source.specs.declared.name.Name.{Name}
-use Rattle.hep_source.specs.declared.statement.Statement.{Statement}
-use Rattle.hep_source.specs.declared.value.Value.{Value}
-use Rattle.hep_source.specs.Tree.{Tree}
+use Rattle.hep_machine.specs.Words.{Dimension, UpperBound, Expression, Open, Name, Statement, Value, Tree, integer_of, adjustable_dimensions, bound_before, bound_of, bounds_of, constant_shape, constant_value, if_shape, is_constant_dimension, is_constant_lower, is_constant_upper, lower_value, upper_value, value_of, dimensions_of, is_array, Bounds, is_shape}
 use Rattle.hep_source.proofs.Tests.{there-mapped}
-use Rattle.hep_machine.specs.Arithmetic.{integer_of}
-use Rattle.hep_machine.specs.Constants.{adjustable_dimensions, bound_before, bound_of, bounds_of, constant_shape, constant_value, if_shape, is_constant_dimension, is_constant_lower, is_constant_upper, lower_value, upper_value, value_of}
-use Rattle.hep_machine.specs.Declarations.{dimensions_of, is_array}
-use Rattle.hep_machine.specs.Shapes.{Bounds, is_shape}
 
 module _ (unit : List Statement) where
   lower-constant : (t : Option Tree) (l : ℤ) → lower_value unit (constant_value unit) t ≡ Some l → is_constant_lower unit t ≡ true

@@ -1,16 +1,10 @@
 -- Frames lie apart after any turns.
-use Rattle.std.proofs.Common.{◌≡◌, ◌⊎◌, inl, inr, ℕ, ◌+◌, ◌<◌, ◌≤◌, Bool, true, false, List, [], ◌∷◌, length, Option, Some, None, refl, subst, arith}
-use Rattle.std.specs.Prelude.{if◌then◌else◌, nat_le, nat_lt}
+use Rattle.std.proofs.Common.{◌≡◌, ◌⊎◌, inl, inr, ℕ, ◌+◌, ◌<◌, ◌≤◌, Bool, true, false, List, [], ◌∷◌, length, Option, Some, None, refl, subst, arith, if◌then◌else◌, nat_le, nat_lt}
 use Rattle.std.specs.List.{filter}
 use Rattle.std.specs.Option.{option_map}
 use Rattle.std.proofs.lemmas.Bool.Decides.{nat_tests}
 use Rattle.std.proofs.lemmas.Option.{same_Some, none-some}
-use Rattle.hep_machine.specs.Laws.{StandApart}
-use Rattle.hep_machine.specs.Layout.{Frame, Layout, Placing, lowest_gap, with_frame, layout_with_activation, frame_of, with_new, remaining_layout, opening_layout, layout_after_turn, placing_turn, placing_from, layout_of, common_cells}
-use Rattle.hep_machine.specs.Opening.{opening}
-use Rattle.hep_machine.specs.Run.{state_after_turn}
-use Rattle.hep_machine.specs.State.{State}
-use Rattle.hep_source.specs.Units.{Units}
+use Rattle.hep_machine.specs.Words.{StandApart, Frame, Layout, Placing, lowest_gap, with_frame, layout_with_activation, frame_of, with_new, remaining_layout, opening_layout, layout_after_turn, placing_turn, placing_from, layout_of, common_cells, opening, state_after_turn, State, Units}
 
 -- ---- choices
 

@@ -1,18 +1,12 @@
 -- Which activations are held.
-use Rattle.std.proofs.Common.{◌≡◌, ◌⊎◌, inl, inr, ℕ, zero, suc, ◌<◌, ◌≤◌, Bool, true, false, List, [], ◌∷◌, ◌++◌, length, Option, Some, None, refl, sym, ap, ◌∙◌, subst, arith}
-use Rattle.std.specs.Prelude.{◌||◌, ◌↔◌, if◌then◌else◌, slice_get, nat_eq}
+use Rattle.std.proofs.Common.{◌≡◌, ◌⊎◌, inl, inr, ℕ, zero, suc, ◌<◌, ◌≤◌, Bool, true, false, List, [], ◌∷◌, ◌++◌, length, Option, Some, None, refl, sym, ap, ◌∙◌, subst, arith, ◌||◌, ◌↔◌, if◌then◌else◌, slice_get, nat_eq}
 use Rattle.std.specs.Option.{option_map_or}
 use Rattle.std.specs.List.{flat_map}
 use Rattle.std.proofs.lemmas.Bool.{eq-eqb, false≢true, or_left, or_right, or_cases}
 use Rattle.std.proofs.lemmas.Bool.Decides.{eqb_tells}
 use Rattle.std.proofs.lemmas.List.Folds.{list_any-append}
 use Rattle.std.proofs.lemmas.Option.{none-some, same_Some}
-use Rattle.hep_machine.specs.Laws.{IsOnStack, HasHeldChild}
-use Rattle.hep_machine.specs.Layout.{activations_on, is_held, with_ancestry, with_ancestries}
-use Rattle.hep_machine.specs.Run.{run}
-use Rattle.hep_machine.specs.State.{Process, State}
-use Rattle.hep_source.specs.Units.{Units}
-use Rattle.hep_machine.specs.Processes.{numbered, parent_of, is_number_among}
+use Rattle.hep_machine.specs.Words.{IsOnStack, HasHeldChild, activations_on, is_held, with_ancestry, with_ancestries, run, Process, State, Units, numbered, parent_of, is_number_among}
 use Rattle.hep_machine.proofs.Ages.{IsAged, aged, older_parent, on_stack_made}
 
 -- ---- numbers among others

@@ -1,13 +1,8 @@
 -- Names, blocks and locations that are the same are equal; and which blocks are among others.
-use Rattle.std.proofs.Common.{◌≡◌, Bool, true, false, List, [], ◌∷◌, ◌++◌, Some, None, refl, ap}
-use Rattle.std.specs.Prelude.{◌&&◌, ◌||◌, if◌then◌else◌, nat_eq}
+use Rattle.std.proofs.Common.{◌≡◌, Bool, true, false, List, [], ◌∷◌, ◌++◌, Some, None, refl, ap, ◌&&◌, ◌||◌, if◌then◌else◌, nat_eq}
 use Rattle.std.proofs.lemmas.Bool.{eqb-true, and_parts}
-use Rattle.hep_source.specs.declared.declaration.CommonBlock.{CommonBlock}
+use Rattle.hep_machine.specs.Words.{CommonBlock, BlockName, block_of, is_block_among, same_block, with_blocks, same_name, same_location, Location, local, common}
 use Rattle.hep_source.proofs.NameTests.{equal_names, same_name-self}
-use Rattle.hep_machine.specs.Declarations.{BlockName, block_of, is_block_among, same_block, with_blocks}
-use Rattle.hep_source.specs.Names.{same_name}
-use Rattle.hep_machine.specs.Storage.{same_location}
-use Rattle.hep_machine.specs.State.{Location, local, common}
 
 pub equal_blocks : (m n : BlockName) → same_block m n ≡ true → m ≡ n
 equal_blocks None None e = refl

@@ -1,15 +1,8 @@
 -- What a step of one process leaves to the others, and how the numbers rise.
-use Rattle.std.proofs.Common.{◌≡◌, ◌⊎◌, inl, inr, ℕ, zero, suc, ◌+◌, ◌-◌, ◌<◌, ◌≤◌, List, [], ◌∷◌, ◌++◌, length, Option, Some, None, refl, sym, ap, ◌∙◌, subst, arith}
-use Rattle.std.specs.Prelude.{◌≢◌, false, if◌then◌else◌, slice_get, slice_set}
+use Rattle.std.proofs.Common.{◌≡◌, ◌⊎◌, inl, inr, ℕ, zero, suc, ◌+◌, ◌-◌, ◌<◌, ◌≤◌, List, [], ◌∷◌, ◌++◌, length, Option, Some, None, refl, sym, ap, ◌∙◌, subst, arith, ◌≢◌, false, if◌then◌else◌, slice_get, slice_set, length-set, length-append}
 use Rattle.std.specs.Option.{unwrap_or}
 use Rattle.std.proofs.lemmas.Bool.Decides.{eqb_tells}
-use Rattle.std.proofs.lemmas.List.{length-set, length-append}
-use Rattle.hep_machine.specs.Laws.{IsSameOrOneMore}
-use Rattle.hep_machine.specs.Run.{state_after_turn}
-use Rattle.hep_machine.specs.State.{Process, State}
-use Rattle.hep_machine.specs.Step.{Top, state_made, step, step_result_of, stepped}
-use Rattle.hep_source.specs.Units.{Units}
-use Rattle.hep_machine.specs.Processes.{top_of, living, numbered, with_numbered}
+use Rattle.hep_machine.specs.Words.{IsSameOrOneMore, state_after_turn, Process, State, Top, state_made, step, step_result_of, stepped, Units, top_of, living, numbered, with_numbered}
 use Rattle.hep_machine.proofs.Changes.{Change, moves, leaves, faults, calls, creates, stops, HasStack, HasStepped, top_in, step_changes}
 
 -- ---- lists with one element changed

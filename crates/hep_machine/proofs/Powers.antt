@@ -1,11 +1,10 @@
 -- Powers: of 0, 1 and -1, and of every other base past the exponent 63.
-use Rattle.std.proofs.Common.{◌≡◌, ◌≢◌, ℕ, zero, suc, ◌^◌, ◌%◌, ◌==◌, ◌<◌, ◌≤◌, true, false, cond, ℤ, pos, negsuc, neg_ℤ, ◌<ℤ◌, nat_lt, refl, arith}
-use Rattle.std.specs.Prelude.{Ok, Err}
+use Rattle.std.proofs.Common.{◌≡◌, ◌≢◌, ℕ, zero, suc, ◌^◌, ◌%◌, ◌==◌, ◌<◌, ◌≤◌, true, false, cond, ℤ, pos, negsuc, neg_ℤ, ◌<ℤ◌, nat_lt, refl, arith, Ok, Err}
 use Rattle.std.proofs.Math.Nat.{pow-le-pow_left, pow-le-pow_right}
 use Rattle.std.proofs.lemmas.Grind.{pow_more}
 use Rattle.std.proofs.lemmas.Int.{ints}
 use Rattle.std.specs.Int.{int_pow}
-use Rattle.hep_machine.specs.Arithmetic.{integer_or_overflow, reciprocal_of}
+use Rattle.hep_machine.specs.Words.{integer_or_overflow, reciprocal_of}
 use Rattle.hep_machine.specs.declared.event.Kind.TheVariants.{Overflow}
 
 pub one_power : (n : ℕ) → 1 ^ n ≡ 1

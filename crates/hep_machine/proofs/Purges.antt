@@ -1,15 +1,7 @@
 -- A PURGE fills no storage unit.
-use Rattle.std.proofs.Common.{◌≡◌, ℕ, zero, suc, Bool, true, false, List, [], ◌∷◌, Some, Result, Ok, Err, sym, ap, ◌∙◌}
-use Rattle.std.specs.Prelude.{if◌then◌else◌, not, ◌&&◌}
+use Rattle.std.proofs.Common.{◌≡◌, ℕ, zero, suc, Bool, true, false, List, [], ◌∷◌, Some, Result, Ok, Err, sym, ap, ◌∙◌, if◌then◌else◌, not, ◌&&◌}
 use Rattle.hep_machine.specs.declared.event.Kind.{Kind}
-use Rattle.hep_machine.specs.Declarations.{is_array, is_nonempty}
-use Rattle.hep_machine.specs.Evaluation.{Reference, Action, purging, Next, wants, does}
-use Rattle.hep_machine.specs.Laws.{FillsNone, purges, top_purges, is_purge}
-use Rattle.hep_machine.specs.Locations.{Scope, storage_of, location_of_name}
-use Rattle.hep_machine.specs.State.{State, Location, Store}
-use Rattle.hep_machine.specs.Step.{Top, scope_of, store_after_purge_at, store_after_purge_of, store_after_both, store_after_purge, result_after_purge, result_after_action, result_after_next, step}
-use Rattle.hep_machine.specs.Storage.{same_location, further, with_empty, emptied_from}
-use Rattle.hep_source.specs.Units.{Units}
+use Rattle.hep_machine.specs.Words.{is_array, is_nonempty, Reference, Action, purging, Next, wants, does, FillsNone, purges, top_purges, is_purge, Scope, storage_of, location_of_name, State, Location, Store, Top, scope_of, store_after_purge_at, store_after_purge_of, store_after_both, store_after_purge, result_after_purge, result_after_action, result_after_next, step, same_location, further, with_empty, emptied_from, Units}
 use Rattle.hep_machine.proofs.Changes.{Makes, by_step, next_on, top_in}
 
 -- ---- stores

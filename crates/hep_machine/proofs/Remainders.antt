@@ -5,7 +5,7 @@ use Rattle.std.proofs.lemmas.Bool.Decides.{nat_tests}
 use Rattle.std.proofs.lemmas.Int.{ints, quot-rem, rem_below}
 use mir.Val.{SFits}
 use mir.Syntax.{w64}
-use Rattle.hep_machine.specs.Arithmetic.{is_integer, integer_or_overflow, remainder_of}
+use Rattle.hep_machine.specs.Words.{is_integer, integer_or_overflow, remainder_of}
 
 size-of-fits : (r : ℤ) → SFits w64 r → unsigned_abs r ≤ 2 ^ 63
 size-of-fits (pos n) f = let h = f.sfits in omega arith

@@ -1,12 +1,7 @@
 -- Of a legal history each step is there.
 use Rattle.std.proofs.Common.{◌≡◌, inl, inr, ℕ, List, [], ◌∷◌, ◌++◌, refl, sym, ◌∙◌, subst, replicate}
 use Rattle.hep_machine.specs.declared.event.Entry.{Entry}
-use Rattle.hep_machine.specs.Histories.{IsEntry, AreEntries, IsLegal}
-use Rattle.hep_machine.specs.Laws.{state_replayed}
-use Rattle.hep_machine.specs.Opening.{opening}
-use Rattle.hep_machine.specs.Run.{state_after_turn, run_from, AreSteps, run, schedule_of_entry, schedule_of, state_after}
-use Rattle.hep_machine.specs.State.{State}
-use Rattle.hep_source.specs.Units.{Units}
+use Rattle.hep_machine.specs.Words.{IsEntry, AreEntries, IsLegal, state_replayed, opening, state_after_turn, run_from, AreSteps, run, schedule_of_entry, schedule_of, state_after, State, Units}
 
 -- steps before others
 steps_before : (program : Units) (s : State) (ps qs : List ℕ) → AreSteps program s ps → AreSteps program (run_from program s ps) qs → AreSteps program s (ps ++ qs)

@@ -2,26 +2,12 @@
 use Rattle.std.specs.Prelude.{◌≡◌, ℕ, ◌^◌, ◌-◌, pos, negsuc, true, false, List, [], ◌∷◌, None, refl, replicate}
 use Rattle.hep_machine.specs.declared.event.Kind.TheVariants.{Overflow, Divide, Undefined}
 use Rattle.hep_machine.specs.declared.event.Fault.{Fault}
-use Rattle.hep_source.specs.declared.name.Name.{Name}
-use Rattle.hep_source.specs.declared.name.Occurrence.{Occurrence}
+use Rattle.hep_machine.specs.Words.{Name, Occurrence, Arithmetic, Target, Expression, Characters, Form, Assign, Print, End, Statement, Tree, constant, occurrence, parenthesized, signed, binary, Units, State, Process, step, step_result_of, run, run_from, opening, used_cells, is_made}
 use Rattle.hep_source.specs.declared.operator.Sign.TheVariants as sign
 use Rattle.hep_source.specs.declared.operator.ArithmeticOperator.TheVariants as operator
-use Rattle.hep_source.specs.declared.operator.Operator.TheVariants.{Arithmetic}
-use Rattle.hep_source.specs.declared.declaration.Target.{Target}
 use Rattle.hep_machine.specs.declared.record.Item.{Item}
 use Rattle.hep_machine.specs.declared.record.Item.TheVariants.{Int, Truth, Text}
 use Rattle.hep_source.specs.declared.value.Value.TheVariants as value
-use Rattle.hep_source.specs.declared.statement.PrintItem.TheVariants.{Expression, Characters}
-use Rattle.hep_source.specs.declared.statement.Form.{Form}
-use Rattle.hep_source.specs.declared.statement.Form.TheVariants.{Assign, Print, End}
-use Rattle.hep_source.specs.declared.statement.Statement.{Statement}
-use Rattle.hep_source.specs.Tree.{Tree, constant, occurrence, parenthesized, signed, binary}
-use Rattle.hep_source.specs.Units.{Units}
-use Rattle.hep_machine.specs.State.{State, Process}
-use Rattle.hep_machine.specs.Step.{step, step_result_of}
-use Rattle.hep_machine.specs.Run.{run, run_from}
-use Rattle.hep_machine.specs.Opening.{opening}
-use Rattle.hep_machine.specs.Layout.{used_cells, is_made}
 
 -- ---- small programs
 

@@ -22,3 +22,4 @@ pub mod Views
 pub mod Schedules
 pub mod Laws
 pub mod Defaults
+pub mod Words

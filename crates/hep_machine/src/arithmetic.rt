@@ -1,7 +1,7 @@
 //! Integer arithmetic: exact whole numbers, then one test that the result fits.
 ghost use Rattle.std.specs.Prelude.{◌≡◌, ◌<◌};
 ghost use Rattle.std.specs.Int.{int_pow};
-ghost use Rattle.hep_machine.specs.Arithmetic.{integer_or_overflow, result_of, signed_result, power_of, reciprocal_of};
+ghost use Rattle.hep_machine.specs.Words.{integer_or_overflow, result_of, signed_result, power_of, reciprocal_of};
 
 use crate::event::Kind;
 use hep_source::{ArithmeticOperator, Sign};

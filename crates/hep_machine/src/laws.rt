@@ -1,15 +1,7 @@
 //! Laws of the source machine: what holds of every program, state and history, whatever is run.
 ghost use Rattle.std.specs.Prelude.{◌≡◌, ◌≢◌, ◌⊎◌, ◌↔◌, ◌<◌, ◌≤◌, ◌+◌, ℕ, Bool, true, false, List, length, Some, None};
 ghost use Rattle.hep_machine.specs.declared.event.Entry.{Entry};
-ghost use Rattle.hep_machine.specs.Histories.{IsLegal};
-ghost use Rattle.hep_machine.specs.Laws.{FillsNone, HasHeldChild, IsOnStack, IsSameOrOneMore, KeepsStatesBut, StandApart, is_purge, state_replayed};
-ghost use Rattle.hep_machine.specs.Layout.{is_held, Layout, layout_of, common_cells};
-ghost use Rattle.hep_machine.specs.Opening.{opening};
-ghost use Rattle.hep_machine.specs.Run.{AreSteps, state_after_turn, run, schedule_of, state_after};
-ghost use Rattle.hep_machine.specs.State.{State, Location};
-ghost use Rattle.hep_machine.specs.Step.{step};
-ghost use Rattle.hep_source.specs.Units.{Units};
-ghost use Rattle.hep_machine.specs.Processes.{living, numbered, parent_of};
+ghost use Rattle.hep_machine.specs.Words.{IsLegal, FillsNone, HasHeldChild, IsOnStack, IsSameOrOneMore, KeepsStatesBut, StandApart, is_purge, state_replayed, is_held, Layout, layout_of, common_cells, opening, AreSteps, state_after_turn, run, schedule_of, state_after, State, Location, step, Units, living, numbered, parent_of};
 
 /// A step of a process leaves the other processes as they are.
 pub fn other_processes_stay()

@@ -1,19 +1,17 @@
 -- Who needs what is kept in a cell, and when it waits.
-use Rattle.std.proofs.Common.{◌≡◌, ◌≢◌, ℕ, ◌≤◌, Bool, true, false, List, [], ◌∷◌, ◌++◌, length, Option, Some, None, refl, sym, ap, ◌∙◌}
-use Rattle.std.specs.Prelude.{if◌then◌else◌, is_some, not}
+use Rattle.std.proofs.Common.{◌≡◌, ◌≢◌, ℕ, Bool, true, false, List, [], ◌∷◌, ◌++◌, Option, Some, None, refl, sym, ap, ◌∙◌, if◌then◌else◌, is_some, not}
 use Rattle.std.specs.Option.{unwrap_or}
 use Rattle.std.proofs.lemmas.Option.{none-some}
 use mathlib.Core.Bool.{beq}
-use Rattle.hep_source.specs.Units.{Units}
-use Rattle.hep_machine.specs.Laws.{IsOnStack}
-use Rattle.hep_machine.specs.Processes.{living}
-use Rattle.hep_machine.specs.Run.{run}
-use Rattle.hep_machine.specs.State.{Level, Process, State, Store}
-use Rattle.hep_machine.specs.Step.{Wanted, is_waiting, step, wanted_by}
+use Rattle.hep_machine.specs.Words.{Units, living, run, Level, Process, State, Store, Wanted, is_waiting, step}
+use Rattle.hep_machine.proofs.Ages.{aged, on_stack_made}
+use Rattle.hep_machine.proofs.Others.{activations_after, others_stay}
 use Rattle.hep_frames.proofs.HeldFrames.{run-last}
 use Rattle.hep_frames.proofs.Stacks.{top-numbered}
 use Rattle.hep_frames.proofs.Tree.{stacked-top}
 use Rattle.hep_needs.specs.Needs.{need_of, need_of_next, on_top, unmet}
+use Rattle.hep_needs.proofs.Staying.{need-stays}
+use Rattle.hep_needs.proofs.Waiting.{waits-unmet}
 
 -- ---- waiting for a state
 
@@ -25,13 +23,8 @@ unmet-state w store = by_states w.full (store w.at).full where
   by_states false true = refl
   by_states false false = refl
 
--- by the law of waiting
-abbrev pub IsUnmet : Units → ℕ → State → Type 0
-IsUnmet program p s = wanted_by program p s ≡ unmet (need_of program p s) s.store
-
-pub waits-by-state : (program : Units) (p : ℕ) (s : State) (w : Wanted) → IsUnmet program p s → need_of program p s ≡ Some w
-    → is_waiting program s p ≡ not (beq (s.store w.at).full w.full)
-waits-by-state program p s w law needed = ap is_some (law ∙ ap (λ o. unmet o s.store) needed) ∙ unmet-state w s.store
+pub waits-by-state : (program : Units) (p : ℕ) (s : State) (w : Wanted) → need_of program p s ≡ Some w → is_waiting program s p ≡ not (beq (s.store w.at).full w.full)
+waits-by-state program p s w needed = ap is_some (waits-unmet program p s ∙ ap (λ o. unmet o s.store) needed) ∙ unmet-state w s.store
 
 -- what is waited for is what is needed
 pub unmet-needed : (o : Option Wanted) (store : Store) (w : Wanted) → unmet o store ≡ Some w → o ≡ Some w
@@ -51,21 +44,13 @@ module _ (program : Units) (ps : List ℕ) (p q : ℕ) where
     by_step None e = absurd (there e)
     by_step (Some t) e = ap (λ t. Some t) (sym (run-last program ps p ∙ ap (λ o. unwrap_or o (run program ps)) e))
 
-  -- by the law that a need stays
-  abbrev pub StaysFrom : State → State → Level × Process → Type 0
-  StaysFrom s t top =
-      step program p s ≡ Some t → p ≢ q → living s q ≡ Some top → top.0.activation ≤ length s.activations
-      → need_of program q t ≡ need_of program q s
+  pub need-after : (w : Wanted) → step program p (run program ps) ≢ None → p ≢ q → need_of program q (run program ps) ≡ Some w → need_of program q (run program (ps ++ p ∷ [])) ≡ Some w
+  need-after w there other needed = by_top (living s q) refl needed where
+    s : State
+    s = run program ps
 
-  pub need-after : (w : Wanted)
-      → ((s t : State) (top : Level × Process) → StaysFrom s t top)
-      → ((a : ℕ) → IsOnStack (run program ps) a → a ≤ length (run program ps).activations)
-      → step program p (run program ps) ≢ None → p ≢ q → need_of program q (run program ps) ≡ Some w
-      → need_of program q (run program (ps ++ p ∷ [])) ≡ Some w
-  need-after w stays made there other needed = by_top (living (run program ps) q) refl needed where
-    by_top : (o : Option (Level × Process)) → living (run program ps) q ≡ o → on_top need_of_next program (run program ps) o ≡ Some w
-        → need_of program q (run program (ps ++ p ∷ [])) ≡ Some w
+    by_top : (o : Option (Level × Process)) → living s q ≡ o → on_top need_of_next program s o ≡ Some w → need_of program q (run program (ps ++ p ∷ [])) ≡ Some w
     by_top None lives e = absurd (none-some w e)
     by_top (Some top) lives e =
-        let on = stacked-top (run program ps) q top (top-numbered (run program ps) q top lives) in
-        stays (run program ps) (run program (ps ++ p ∷ [])) top (stepped there) other lives (made top.0.activation on) ∙ needed
+        let made = on_stack_made s top.0.activation (aged program ps) (stacked-top s q top (top-numbered s q top lives)) in
+        need-stays program p q s _ top (λ r e d one h. others_stay program p r s _ e d h) (activations_after program p s) (stepped there) other lives made.1 ∙ needed

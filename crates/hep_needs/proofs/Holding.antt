@@ -1,25 +1,9 @@
 -- What is needed is of an activation that is held.
-use Rattle.std.proofs.Common.{◌≡◌, ◌⊎◌, inl, ℕ, ◌-◌, Bool, true, false, List, Option, Some, None, Result, Ok, Err, refl, ap, ◌∙◌}
-use Rattle.std.specs.Prelude.{◌↔◌}
-use Rattle.std.proofs.lemmas.Bool.{eqb-true}
+use Rattle.std.proofs.Common.{◌≡◌, ◌⊎◌, inl, ℕ, ◌-◌, Bool, true, false, List, Option, Some, None, Result, Ok, Err, refl, ap, ◌∙◌, ◌↔◌, eqb-true}
 use Rattle.std.proofs.lemmas.Option.{none-some, same_Some}
-use Rattle.hep_source.specs.declared.function.StateFunction.{StateFunction}
-use Rattle.hep_source.specs.declared.function.StateFunction.TheVariants.{IsFull, IsEmpty, ValueOf, SetEmpty, WaitFull}
-use Rattle.hep_source.specs.declared.name.Name.{Name}
-use Rattle.hep_source.specs.declared.value.Value.{Value}
-use Rattle.hep_source.specs.Names.{index_among}
-use Rattle.hep_source.specs.Units.{Units, dummies_of, unit_at}
+use Rattle.hep_machine.specs.Words.{StateFunction, IsFull, IsEmpty, ValueOf, SetEmpty, WaitFull, Name, Value, index_among, Units, dummies_of, unit_at, BlockName, common_block, assigning, Next, does, wants, testing, Reference, next_of, HasHeldChild, IsOnStack, is_held, Scope, dummy_at, element_of, location_in, location_of_name, start_by_block, storage_by_dummy, storage_of, activation_of, living, unit_of, Level, Location, Process, State, common, local, Wanted, scope_of, further, is_owned}
 use Rattle.hep_machine.specs.declared.event.Kind.{Kind}
-use Rattle.hep_machine.specs.Declarations.{BlockName, common_block}
-use Rattle.hep_machine.specs.Evaluation.{assigning, Next, does, wants, reading, testing, Reference, next_of}
-use Rattle.hep_machine.specs.Laws.{HasHeldChild, IsOnStack}
-use Rattle.hep_machine.specs.Layout.{is_held}
-use Rattle.hep_machine.specs.Locations.{Scope, dummy_at, element_of, location_in, location_of_name, start_by_block, storage_by_dummy, storage_of}
-use Rattle.hep_machine.specs.Processes.{activation_of, living, unit_of}
-use Rattle.hep_machine.specs.State.{Level, Location, Process, State, common, local}
-use Rattle.hep_machine.specs.Step.{Wanted, scope_of}
-use Rattle.hep_machine.specs.Storage.{further}
-use Rattle.hep_machine.specs.Views.{is_owned}
+use Rattle.hep_machine.specs.Evaluation.{reading}
 use Rattle.hep_frames.proofs.Stacks.{top-numbered}
 use Rattle.hep_frames.proofs.Tree.{stacked-top}
 use Rattle.hep_needs.specs.Needs.{if_so, named_location, need_of, need_of_next, need_of_test, on_top, wanted_at}

@@ -1,15 +1,8 @@
 -- A step of one process leaves what another one needs.
-use Rattle.std.proofs.Common.{◌≡◌, inl, inr, ℕ, zero, suc, ◌≤◌, ◌∷◌, length, Option, Some, sym, ap, ◌∙◌, subst, arith}
-use Rattle.std.specs.Prelude.{◌≢◌}
+use Rattle.std.proofs.Common.{◌≡◌, inl, inr, ℕ, zero, suc, ◌≤◌, ◌∷◌, length, Option, Some, sym, ap, ◌∙◌, subst, arith, ◌≢◌}
 use Rattle.std.specs.Option.{unwrap_or}
 use Rattle.std.proofs.lemmas.Option.{none-some, slice_get_within}
-use Rattle.hep_source.specs.Units.{Units, unit_at}
-use Rattle.hep_machine.specs.Evaluation.{next_of}
-use Rattle.hep_machine.specs.Laws.{IsSameOrOneMore}
-use Rattle.hep_machine.specs.Processes.{activation_of, living, numbered, top_of}
-use Rattle.hep_machine.specs.Run.{state_after_turn}
-use Rattle.hep_machine.specs.State.{Activation, Level, Process, State}
-use Rattle.hep_machine.specs.Step.{Wanted, step}
+use Rattle.hep_machine.specs.Words.{Units, unit_at, next_of, IsSameOrOneMore, activation_of, living, numbered, top_of, state_after_turn, Activation, Level, Process, State, Wanted, step}
 use Rattle.hep_frames.proofs.Memory.{activation-kept, same-activation}
 use Rattle.hep_frames.proofs.Stacks.{top-numbered}
 use Rattle.hep_needs.specs.Needs.{need_of, need_of_next, on_top}

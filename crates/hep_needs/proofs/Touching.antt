@@ -1,25 +1,10 @@
 -- A step that is no PURGE changes the state of no storage unit but the one that it touches.
-use Rattle.std.proofs.Common.{◌≡◌, ◌≢◌, ℕ, Bool, true, false, List, [], Option, Some, None, Result, Ok, Err, refl, sym, ap, ◌∙◌, subst}
-use Rattle.std.specs.Prelude.{ℤ, ◌+ℤ◌, if◌then◌else◌}
-use Rattle.hep_source.specs.declared.function.StateFunction.{StateFunction}
-use Rattle.hep_source.specs.declared.function.StateFunction.TheVariants.{IsFull, IsEmpty, ValueOf, SetEmpty, WaitFull}
-use Rattle.hep_source.specs.declared.statement.Statement.{Statement}
-use Rattle.hep_source.specs.declared.value.Value.{Value}
-use Rattle.hep_source.specs.declared.value.Value.TheVariants.{Int}
-use Rattle.hep_source.specs.Units.{Units, dummies_of, unit_at}
+use Rattle.std.proofs.Common.{◌≡◌, ◌≢◌, ℕ, Bool, true, false, List, [], Option, Some, None, Result, Ok, Err, refl, sym, ap, ◌∙◌, subst, ℤ, ◌+ℤ◌, if◌then◌else◌}
+use Rattle.hep_machine.specs.Words.{StateFunction, IsFull, IsEmpty, ValueOf, SetEmpty, WaitFull, Statement, Value, Int, Units, dummies_of, unit_at, Outcome, reading_asynchronous, setting_empty, with_stored, writing_asynchronous, combined_value, function_value, integer_of, integer_or_overflow, negated_value, signed_value, Binding, binding_for, binding_with_shapes, dummies_for, with_actuals, with_shapes, with_store, level_after_statement, variable_of, Action, assigning, branching, calling, choosing, continuing, creating, ending_loop, entering_block, entering_loop, jumping, leaving, printing, purging, stopping, testing_condition, Actual, Next, does, wants, Redex, applying, combining, negating, signing, testing, next_of, is_purge, purges, top_purges, Scope, location_of_name, loop_at, Cell, Dummy, Level, Location, Loop, State, Store, Answer, fails, Top, answer_at, answer_of, answer_of_read_at, answer_of_test_at, binding_of, by_result, iterations, next_activation, result_after_action, result_after_answer, result_after_assignment, result_after_call, result_after_create, result_after_do, result_after_increment, result_after_loop_end, result_after_loop_variable, result_after_next, result_after_write, scope_of, step, unit_called, unit_on_top, written, same_location, with_cell}
 use Rattle.hep_machine.specs.declared.event.Kind.{Kind}
 use Rattle.hep_machine.specs.Access as access
-use Rattle.hep_machine.specs.Access.{Outcome, reading_asynchronous, setting_empty, with_stored, writing_asynchronous}
-use Rattle.hep_machine.specs.Arithmetic.{combined_value, function_value, integer_of, integer_or_overflow, negated_value, signed_value}
-use Rattle.hep_machine.specs.Binding.{Binding, binding_for, binding_with_shapes, dummies_for, with_actuals, with_shapes, with_store}
-use Rattle.hep_machine.specs.Control.{level_after_statement, variable_of}
-use Rattle.hep_machine.specs.Evaluation.{Action, assigning, branching, calling, choosing, continuing, creating, ending_loop, entering_block, entering_loop, jumping, leaving, printing, purging, stopping, testing_condition, Actual, Next, does, wants, Redex, applying, combining, negating, reading, signing, testing, next_of}
-use Rattle.hep_machine.specs.Laws.{is_purge, purges, top_purges}
-use Rattle.hep_machine.specs.Locations.{Scope, location_of_name}
-use Rattle.hep_machine.specs.Processes.{loop_at}
-use Rattle.hep_machine.specs.State.{Cell, Dummy, Level, Location, Loop, State, Store}
-use Rattle.hep_machine.specs.Step.{Answer, fails, gives, waits, Top, answer_at, answer_of, answer_of_read_at, answer_of_test_at, binding_of, by_result, iterations, next_activation, result_after_action, result_after_answer, result_after_assignment, result_after_call, result_after_create, result_after_do, result_after_increment, result_after_loop_end, result_after_loop_variable, result_after_next, result_after_write, scope_of, step, unit_called, unit_on_top, written}
-use Rattle.hep_machine.specs.Storage.{same_location, with_cell}
+use Rattle.hep_machine.specs.Evaluation.{reading}
+use Rattle.hep_machine.specs.Step.{gives, waits}
 use Rattle.hep_machine.proofs.Changes.{Makes, by_step, next_on, top_in}
 use Rattle.hep_machine.proofs.Locations.{equal_locations}
 use Rattle.hep_needs.specs.Needs.{if_so, named_location, on_top, touched_by, touched_by_next, touched_by_test}

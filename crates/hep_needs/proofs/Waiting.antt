@@ -1,21 +1,10 @@
 -- A step waits just where what it needs isn't so.
-use Rattle.std.proofs.Common.{◌≡◌, ℕ, Bool, true, false, [], Option, Some, None, Result, Ok, Err, refl, ◌∙◌}
-use Rattle.std.specs.Prelude.{ℤ, ◌+ℤ◌, not, if◌then◌else◌}
-use Rattle.hep_source.specs.declared.function.StateFunction.{StateFunction}
-use Rattle.hep_source.specs.declared.function.StateFunction.TheVariants.{IsFull, IsEmpty, ValueOf, SetEmpty, WaitFull}
-use Rattle.hep_source.specs.declared.value.Value.{Value}
-use Rattle.hep_source.specs.Units.{Units, unit_at}
+use Rattle.std.proofs.Common.{◌≡◌, ℕ, Bool, true, false, [], Option, Some, None, Result, Ok, Err, refl, ◌∙◌, ℤ, ◌+ℤ◌, not, if◌then◌else◌}
+use Rattle.hep_machine.specs.Words.{StateFunction, IsFull, IsEmpty, ValueOf, SetEmpty, WaitFull, Value, Units, unit_at, Outcome, purged_cell, setting_empty, with_stored, combined_value, function_value, integer_of, integer_or_overflow, negated_value, signed_value, Binding, level_after_statement, variable_of, Action, assigning, branching, calling, choosing, continuing, creating, ending_loop, entering_block, entering_loop, jumping, leaving, printing, purging, stopping, testing_condition, Next, does, wants, Redex, applying, combining, negating, signing, testing, next_of, Scope, location_of_name, living, loop_at, unit_of, Level, Location, Loop, Process, State, Store, Answer, fails, Top, Wanted, answer_at, answer_of, answer_of_read_at, answer_of_test_at, binding_of, by_result, iterations, result_after_action, result_after_answer, result_after_assignment, result_after_call, result_after_create, result_after_do, result_after_increment, result_after_loop_end, result_after_loop_variable, result_after_next, result_after_purge, result_after_write, scope_of, step_result_of, step_result_of_top, store_after_purge, unit_called, unit_on_top, wanted_by, wanted_of, written}
 use Rattle.hep_machine.specs.declared.event.Kind.{Kind}
 use Rattle.hep_machine.specs.Access as access
-use Rattle.hep_machine.specs.Access.{Outcome, purged_cell, setting_empty, with_stored}
-use Rattle.hep_machine.specs.Arithmetic.{combined_value, function_value, integer_of, integer_or_overflow, negated_value, signed_value}
-use Rattle.hep_machine.specs.Binding.{Binding}
-use Rattle.hep_machine.specs.Control.{level_after_statement, variable_of}
-use Rattle.hep_machine.specs.Evaluation.{Action, assigning, branching, calling, choosing, continuing, creating, ending_loop, entering_block, entering_loop, jumping, leaving, printing, purging, stopping, testing_condition, Next, does, wants, Redex, applying, combining, negating, reading, signing, testing, next_of}
-use Rattle.hep_machine.specs.Locations.{Scope, location_of_name}
-use Rattle.hep_machine.specs.Processes.{living, loop_at, unit_of}
-use Rattle.hep_machine.specs.State.{Level, Location, Loop, Process, State, Store}
-use Rattle.hep_machine.specs.Step.{Answer, fails, gives, waits, Top, Wanted, answer_at, answer_of, answer_of_read_at, answer_of_test_at, binding_of, by_result, iterations, result_after_action, result_after_answer, result_after_assignment, result_after_call, result_after_create, result_after_do, result_after_increment, result_after_loop_end, result_after_loop_variable, result_after_next, result_after_purge, result_after_write, scope_of, step_result_of, step_result_of_top, store_after_purge, unit_called, unit_on_top, wanted_by, wanted_of, written}
+use Rattle.hep_machine.specs.Evaluation.{reading}
+use Rattle.hep_machine.specs.Step.{gives, waits}
 use Rattle.hep_needs.specs.Needs.{if_so, named_location, need_of, need_of_next, need_of_test, on_top, unmet, wanted_at}
 
 -- ---- accesses

@@ -1,10 +1,7 @@
 -- A process whose next step needs what is kept in a cell of the arena: docs/MACHINE.md, "Which process comes next".
 use Rattle.std.specs.Prelude.{◌≡◌, ℕ, Bool, List, Some}
-use Rattle.hep_source.specs.Units.{Units}
-use Rattle.hep_machine.specs.Layout.{Layout, is_held, layout_of}
-use Rattle.hep_machine.specs.Run.{run}
-use Rattle.hep_machine.specs.Step.{Wanted}
-use Rattle.hep_frames.specs.Addresses.{address}
+use Rattle.hep_machine.specs.Words.{Units, Layout, is_held, layout_of, run, Wanted}
+use Rattle.hep_frames.specs.Words.{address}
 use Rattle.hep_needs.specs.Needs.{need_of}
 
 -- after turns of these processes p needs the storage unit that is kept in a cell to be full, or to be empty

@@ -1,15 +1,9 @@
 -- Which storage unit the next step of a process needs full or empty, whatever is stored there, and which one it may fill or empty:
 -- docs/MACHINE.md, "Steps".
 use Rattle.std.specs.Prelude.{ℕ, Bool, true, false, not, if◌then◌else◌, Option, Some, None, Result, Ok, Err}
-use Rattle.hep_source.specs.declared.function.StateFunction.{StateFunction}
-use Rattle.hep_source.specs.declared.function.StateFunction.TheVariants.{IsFull, IsEmpty, ValueOf, SetEmpty, WaitFull}
-use Rattle.hep_source.specs.Units.{Units, unit_at}
+use Rattle.hep_machine.specs.Words.{StateFunction, IsFull, IsEmpty, ValueOf, SetEmpty, WaitFull, Units, unit_at, Next, assigning, does, next_of, testing, wants, Scope, location_of_name, living, unit_of, Level, Location, Process, State, Store, Wanted, scope_of}
 use Rattle.hep_machine.specs.declared.event.Kind.{Kind}
-use Rattle.hep_machine.specs.Evaluation.{Next, assigning, does, next_of, reading, testing, wants}
-use Rattle.hep_machine.specs.Locations.{Scope, location_of_name}
-use Rattle.hep_machine.specs.Processes.{living, unit_of}
-use Rattle.hep_machine.specs.State.{Level, Location, Process, State, Store}
-use Rattle.hep_machine.specs.Step.{Wanted, scope_of}
+use Rattle.hep_machine.specs.Evaluation.{reading}
 
 -- ---- of asynchronous names alone
 

@@ -1,23 +1,14 @@
 //! Laws of waiting: what the next step of a process needs, and what the steps of others change of it.
 ghost use Rattle.std.specs.Prelude.{◌≡◌, ◌≢◌, ◌≤◌, ◌++◌, ◌∷◌, ℕ, Bool, true, false, not, if◌then◌else◌, List, [], Some, None, length, slice_get};
 ghost use mathlib.Core.Bool.{beq};
-ghost use Rattle.hep_source.specs.Units.{Units};
+ghost use Rattle.hep_machine.specs.Words.{Units, is_purge, Layout, is_held, layout_of, living, run, Level, Location, Process, State, Wanted, is_waiting, step, wanted_by, is_owned};
 ghost use Rattle.hep_machine.specs.declared.slot.Slot.{Slot};
-ghost use Rattle.hep_machine.specs.Laws.{is_purge};
-ghost use Rattle.hep_machine.specs.Layout.{Layout, is_held, layout_of};
-ghost use Rattle.hep_machine.specs.Processes.{living};
-ghost use Rattle.hep_machine.specs.Run.{run};
-ghost use Rattle.hep_machine.specs.State.{Level, Location, Process, State};
-ghost use Rattle.hep_machine.specs.Step.{Wanted, is_waiting, step, wanted_by};
-ghost use Rattle.hep_machine.specs.Views.{is_owned};
-ghost use Rattle.hep_frames.specs.Addresses.{Holds, address};
+ghost use Rattle.hep_frames.specs.Words.{Holds, address};
 ghost use Rattle.hep_needs.specs.Awaiting.{NeedsCell};
 ghost use Rattle.hep_needs.specs.Needs.{need_of, touched_by, unmet};
 
 use hep_frames::laws::{frames_enter, layouts_have_what_is_held, references_lead_upwards};
-use hep_machine::laws::{
-    held_by_stacks_and_children, numbers_rise, other_processes_stay, parents_are_older,
-};
+use hep_machine::laws::{held_by_stacks_and_children, numbers_rise};
 
 /// A step waits just where the storage unit that it needs isn't as it needs it.
 pub fn waits_are_unmet_needs()
@@ -29,11 +20,7 @@ pub fn needs_stay()
     ensures step { (program : Units) (p q : ℕ) (s t : State) (top : Level × Process) → step program p s ≡ Some t → p ≢ q
         → living s q ≡ Some top → top.0.activation ≤ length s.activations → need_of program q t ≡ need_of program q s }
     ensures stop { (program : Units) (q : ℕ) (s : State) → wanted_by program q (record s { halted = true }) ≡ wanted_by program q s }
-{
-    other_processes_stay();
-    numbers_rise();
-    waits_are_unmet_needs();
-}
+{}
 
 /// A step that is no PURGE leaves each storage unit as full as it was, but for the one that it touches.
 pub fn other_units_keep_their_states()
@@ -68,9 +55,7 @@ pub fn waiting_is_read_from_cells()
         (p cell : ℕ) (full : Bool) (layout : Layout) (contents : List Slot) (slot : Slot) → NeedsCell program cells choices p cell full
         → layout_of program cells is_held choices ≡ Some layout → Holds program (run program choices) layout contents
         → slice_get contents cell ≡ Some slot → is_waiting program (run program choices) p ≡ not (beq slot.full full) }
-{
-    waits_are_unmet_needs();
-}
+{}
 
 /// A process that needs what is kept in a cell still needs just that once another one has stepped; and where the other one doesn't touch
 /// what is kept there, it waits as before.
@@ -85,9 +70,6 @@ pub fn others_need_the_same()
         → address program (run program choices) layout at ≢ Some cell)
         → is_waiting program (run program (choices ++ p ∷ [])) q ≡ is_waiting program (run program choices) q }
 {
-    parents_are_older();
-    waits_are_unmet_needs();
-    needs_stay();
     other_units_keep_their_states();
     needed_units_are_held();
     units_stay_in_their_cells();
@@ -96,6 +78,4 @@ pub fn others_need_the_same()
 /// A process that waits needs something, and that it waits for.
 pub fn waiting_processes_need_it()
     ensures { (program : Units) (p : ℕ) (s : State) (w : Wanted) → wanted_by program p s ≡ Some w → need_of program p s ≡ Some w }
-{
-    waits_are_unmet_needs();
-}
+{}

@@ -1,6 +1,5 @@
 -- What is read as a statement that the language leaves out is one, and the other way round.
-use Rattle.std.proofs.Common.{◌≡◌, ◌⊎◌, inl, inr, ℕ, zero, suc, ◌+◌, ◌-◌, ◌<◌, ◌≤◌, Bool, true, false, List, [], ◌∷◌, ◌++◌, length, Option, Some, None, refl, sym, ap, subst, ◌∙◌, arith}
-use Rattle.std.specs.Prelude.{◌≢◌, not, ◌&&◌, nat_eq}
+use Rattle.std.proofs.Common.{◌≡◌, ◌⊎◌, inl, inr, ℕ, zero, suc, ◌+◌, ◌-◌, ◌<◌, ◌≤◌, Bool, true, false, List, [], ◌∷◌, ◌++◌, length, Option, Some, None, refl, sym, ap, subst, ◌∙◌, arith, ◌≢◌, not, ◌&&◌, nat_eq}
 use Rattle.hep_source.specs.Tree.{Tree}
 use Rattle.hep_expression.specs.declared.unread.Unread.{Unread}
 use Rattle.hep_expression.specs.declared.unread.Unread.TheVariants as unread

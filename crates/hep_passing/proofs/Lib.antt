@@ -1,5 +1,4 @@
 pub mod References
-pub mod Actuals
 pub mod Entries
 pub mod Ready
 mod Worked

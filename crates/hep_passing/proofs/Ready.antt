@@ -1,46 +1,29 @@
 -- A caller can pass whatever actual arguments it comes to.
-use Rattle.std.proofs.Common.{◌≡◌, ◌≢◌, ℕ, ◌+◌, ◌-◌, ◌≤◌, Bool, true, false, List, [], ◌∷◌, length, Option, Some, None, Result, Ok, Err, refl, sym, ap, ◌∙◌, subst, arith}
-use Rattle.std.specs.Prelude.{if◌then◌else◌, map}
+use Rattle.std.proofs.Common.{◌≡◌, ◌≢◌, ℕ, ◌+◌, ◌-◌, ◌≤◌, Bool, true, List, [], ◌∷◌, length, Option, Some, None, Result, Ok, Err, refl, sym, ap, ◌∙◌, subst, arith, map}
 use Rattle.std.specs.Option.{unwrap_or}
-use Rattle.hep_source.specs.declared.name.Name.{Name}
-use Rattle.hep_source.specs.declared.statement.Statement.{Statement}
-use Rattle.hep_source.specs.declared.value.Value.{Value}
-use Rattle.hep_source.specs.Names.{index_among}
-use Rattle.hep_source.specs.Units.{Units, dummies_of, unit_at}
+use Rattle.hep_machine.specs.Words.{Name, Statement, Value, index_among, Units, dummies_of, unit_at, dummy_for, is_array, no_dummy, no_shape, Actual, evaluated, referred, Frame, Layout, Scope, storage_by_dummy, storage_of, storage_of_dummy, unit_of, Bounds, is_shape, Dummy, State, scope_of, frame_cells}
 use Rattle.hep_machine.specs.declared.event.Kind.{Kind}
 use Rattle.hep_machine.specs.declared.slot.Slot.{Slot}
-use Rattle.hep_machine.specs.Binding.{dummy_for}
-use Rattle.hep_machine.specs.Declarations.{is_array}
-use Rattle.hep_machine.specs.Defaults.{no_dummy, no_shape}
-use Rattle.hep_machine.specs.Evaluation.{Actual, evaluated, referred}
-use Rattle.hep_machine.specs.Layout.{Frame, Layout}
-use Rattle.hep_machine.specs.Locations.{Scope, storage_by_dummy, storage_of, storage_of_dummy}
-use Rattle.hep_machine.specs.Processes.{unit_of}
-use Rattle.hep_machine.specs.Shapes.{Bounds, is_shape}
-use Rattle.hep_machine.specs.State.{Dummy, State}
-use Rattle.hep_machine.specs.Step.{scope_of}
-use Rattle.hep_machine.specs.Variables.{frame_cells}
 use Rattle.hep_arena.specs.Holes.{Hole}
 use Rattle.hep_arena.specs.Space.{Space}
 use Rattle.hep_code.specs.declared.variable.Variable.{Variable}
 use Rattle.hep_code.specs.declared.variable.Variable.TheVariants.{Absent}
-use Rattle.hep_code.specs.declared.variable.Variable.TheVariants as variant
-use Rattle.hep_code.specs.Passing.{passed_actual}
-use Rattle.hep_frames.specs.Addresses.{IsMemory}
+use Rattle.hep_code.specs.Words.{passed_actual}
+use Rattle.hep_frames.specs.Words.{IsMemory}
 use Rattle.hep_frames.proofs.Addresses.{address-out}
 use Rattle.hep_image.specs.declared.array.Array.{Array}
 use Rattle.hep_image.specs.declared.array.Start.{Start}
 use Rattle.hep_image.specs.declared.array.Start.TheVariants as start
 use Rattle.hep_image.specs.Finding.{cells_in}
 use Rattle.hep_image.specs.Image.{most_cells}
-use Rattle.hep_image.specs.Places.{array_of, arrays_of, scalar, variable_by, variable_of}
+use Rattle.hep_image.specs.Places.{array_of, arrays_of, scalar, variable_of}
 use Rattle.hep_image.specs.Within.{LiesIn}
 use Rattle.hep_finding.specs.Within.{ArePlacedArrays}
 use Rattle.hep_finding.proofs.Activations.{dummy-shape}
 use Rattle.hep_finding.proofs.Found.{IsFound}
 use Rattle.hep_machine.proofs.ConstantShapes.{constant-shape}
-use Rattle.hep_finding.proofs.Named.{array-listed, at-index}
-use Rattle.hep_finding.proofs.Reached.{frame-reached}
+use Rattle.hep_finding.proofs.Named.{absent-or, array-listed, at-index, by-kind}
+use Rattle.hep_finding.proofs.Variables.{frame-reached}
 use Rattle.hep_finding.proofs.Within.{variable-within}
 use Rattle.hep_step.specs.declared.frame.Frame as arena
 use Rattle.hep_step.specs.Cells.{HasFrame}
@@ -94,18 +77,15 @@ module _ (program : Units) (s : State) (layout : Layout) (contents : List Slot) 
   Shaped v = HasShape (cells_in contents) f.first arrays v
 
   variable-shaped : (x : Name) (at : Start) → IsFound program s layout (cells_in contents) a f x at → Shaped (variables x)
-  unfolding variable_of
-  variable-shaped x at found = subst (λ o. Shaped (variable_by unit x o)) (sym found.starts) (by_kind (is_array unit x) refl) where
-    of_scalar : (b : Bool) (z : Start) → Shaped (scalar b z)
-    of_scalar b (start.Local c) = tt
-    of_scalar b (start.Common c) = tt
-    of_scalar b (start.Dummy c) = tt
-
-    by_kind : (b : Bool) → is_array unit x ≡ b → Shaped (if b then variant.Array x.asynchronous (unwrap_or (index_among x (arrays_of unit)) 0) else scalar x.asynchronous at)
-    by_kind true is =
-        subst (IsShaped (cells_in contents) f.first) (sym (at-index x (array_of program unit) (arrays_of unit) (array-listed x unit is))) (
-        ap is_shape (found.shaped is) ∙ shape-of x is)
-    by_kind false is = of_scalar x.asynchronous at
+  variable-shaped x at found =
+      by-kind program unit x at Shaped found.starts
+      (λ is. subst (IsShaped (cells_in contents) f.first) (sym (at-index x (array_of program unit) (arrays_of unit) (array-listed x unit is))) (ap is_shape (found.shaped is) ∙ shape-of x is))
+      (λ is. of_scalar x.asynchronous at)
+    where
+      of_scalar : (b : Bool) (z : Start) → Shaped (scalar b z)
+      of_scalar b (start.Local c) = tt
+      of_scalar b (start.Common c) = tt
+      of_scalar b (start.Dummy c) = tt
 
   -- ---- what is passed lies in the arena
 
@@ -132,16 +112,7 @@ module _ (program : Units) (s : State) (layout : Layout) (contents : List Slot) 
         }
 
     pub variable-passable : (x : Name) (vs : List Value) → Passable (variables x) vs
-    variable-passable x vs = by_variable (variables x) refl where
-      other : (v : Variable) → v ≢ Absent → variables x ≡ v → Passable v vs
-      other v there e = subst (λ v. Passable v vs) e (found-passable x vs (λ absent. there (sym e ∙ absent)))
-
-      by_variable : (v : Variable) → variables x ≡ v → Passable v vs
-      by_variable Absent e = record { inside = tt; shaped = tt; reached = tt }
-      by_variable (variant.Local b c) e = other (variant.Local b c) (λ h. absurd cc) e
-      by_variable (variant.Common b c) e = other (variant.Common b c) (λ h. absurd cc) e
-      by_variable (variant.Dummy b c) e = other (variant.Dummy b c) (λ h. absurd cc) e
-      by_variable (variant.Array b i) e = other (variant.Array b i) (λ h. absurd cc) e
+    variable-passable x vs = absent-or (variables x) (λ v. Passable v vs) (record { inside = tt; shaped = tt; reached = tt }) (found-passable x vs)
 
     pub actuals-passable : (actuals : List Actual) → ArePassable space arrays frame (map (passed_actual variables) actuals)
     actuals-passable [] = tt

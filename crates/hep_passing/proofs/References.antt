@@ -1,42 +1,28 @@
--- What a variable, an array or an element passes is what the source machine's dummy argument stands for.
-use Rattle.std.proofs.Common.{◌≡◌, ◌≢◌, ℕ, ◌+◌, ◌-◌, ◌<◌, ◌≤◌, Bool, true, false, List, [], ◌∷◌, Option, Some, None, Result, Ok, Err, refl, sym, ap, ◌∙◌, subst, arith}
-use Rattle.std.specs.Prelude.{ℤ, if◌then◌else◌, nat_le, not, ◌&&◌}
+-- What variables, arrays and elements pass, and so all actual arguments, is what the source machine's dummy arguments stand for.
+use Rattle.std.proofs.Common.{◌≡◌, ◌≢◌, ℕ, ◌+◌, ◌-◌, ◌<◌, ◌≤◌, Bool, true, false, List, [], ◌∷◌, Option, Some, None, Result, Ok, Err, refl, sym, ap, ◌∙◌, subst, arith, length, ℤ, if◌then◌else◌, nat_le, not, ◌&&◌, map}
 use Rattle.std.specs.Option.{unwrap_or}
 use Rattle.std.proofs.lemmas.Bool.Decides.{nat_tests}
-use Rattle.hep_source.specs.declared.name.Name.{Name}
-use Rattle.hep_source.specs.declared.statement.Statement.{Statement}
-use Rattle.hep_source.specs.declared.value.Value.{Value}
-use Rattle.hep_source.specs.Names.{index_among}
-use Rattle.hep_source.specs.Units.{Units, dummies_of, unit_at}
+use Rattle.hep_machine.specs.Words.{Name, Statement, Value, index_among, Units, dummies_of, unit_at, integers_of, dummy_for, first_element, from_element, dummies_for, dummy_before, is_array, is_nonempty, referred, Actual, evaluated, Frame, Layout, Scope, StorageSequence, element_in, element_of, storage_of, unit_of, Bounds, counted_element, element_number, elements, is_most, most_elements, State, Dummy, scope_of, further}
 use Rattle.hep_machine.specs.declared.event.Kind.{Kind}
 use Rattle.hep_machine.specs.declared.event.Kind.TheVariants.{Range}
 use Rattle.hep_machine.specs.declared.slot.Slot.{Slot}
-use Rattle.hep_machine.specs.Arithmetic.{integers_of}
-use Rattle.hep_machine.specs.Binding.{dummy_for, first_element, from_element}
-use Rattle.hep_machine.specs.Declarations.{is_array, is_nonempty}
-use Rattle.hep_machine.specs.Evaluation.{referred}
-use Rattle.hep_machine.specs.Layout.{Frame, Layout}
-use Rattle.hep_machine.specs.Locations.{Scope, StorageSequence, element_in, element_of, storage_of}
-use Rattle.hep_machine.specs.Processes.{unit_of}
-use Rattle.hep_machine.specs.Shapes.{Bounds, counted_element, element_number, elements, is_most, most_elements}
-use Rattle.hep_machine.specs.State.{State}
-use Rattle.hep_machine.specs.Step.{scope_of}
-use Rattle.hep_machine.specs.Storage.{further}
 use Rattle.hep_code.specs.declared.variable.Variable.TheVariants.{Absent}
-use Rattle.hep_code.specs.declared.variable.Variable.TheVariants as variables
-use Rattle.hep_frames.specs.Runs.{RunsFrom}
+use Rattle.hep_frames.specs.Words.{RunsFrom}
 use Rattle.hep_frames.proofs.Storages.{dummy-runs, element-counted}
 use Rattle.hep_image.specs.declared.array.Start.{Start}
-use Rattle.hep_image.specs.declared.array.Start.TheVariants.{Local, Common, Dummy}
+use Rattle.hep_image.specs.declared.array.Start.TheVariants as start
 use Rattle.hep_image.specs.Finding.{base_at, bounds_at, cells_in, rest_at}
-use Rattle.hep_image.specs.Places.{array_of, arrays_of, extents_of, scalar, variable_by, variable_of}
+use Rattle.hep_image.specs.Places.{array_of, arrays_of, extents_of, scalar, variable_of}
 use Rattle.hep_finding.specs.Constant.{HasConstantShape}
 use Rattle.hep_finding.proofs.Activations.{scope-sized}
 use Rattle.hep_finding.proofs.Found.{IsFound}
-use Rattle.hep_finding.proofs.Named.{array-listed, at-index}
-use Rattle.hep_finding.proofs.Reached.{any-found}
-use Rattle.hep_passing.specs.Agreement.{IsCaller, IsPassedAs, arrays_at}
-use Rattle.hep_passing.specs.Passing.{count_of, passed_at, passed_from_element, passed_of_array, passed_of_scalar}
+use Rattle.hep_finding.proofs.Named.{array-listed, at-index, by-kind}
+use Rattle.hep_finding.proofs.Variables.{any-found}
+use Rattle.hep_passing.specs.Agreement.{IsCaller, IsPassedAs, arrays_at, AreGivenAs, ArePlaced, IsGiven}
+use Rattle.hep_passing.specs.Passing.{count_of, passed_at, passed_from_element, passed_of_array, passed_of_scalar, given_by, given_for, given_units, made_before}
+use Rattle.hep_code.specs.declared.variable.Variable.{Variable}
+use Rattle.hep_code.specs.Words.{Passed, passed_actual}
+use Rattle.hep_passing.specs.declared.given.Given.{Given}
 
 -- ---- elements by their numbers
 
@@ -96,7 +82,7 @@ module _ (program : Units) (s : State) (layout : Layout) (cells : ℕ → Slot) 
   array-same : (vs : List Value) → is_array unit x ≡ true → Same (passed_of_array cells f.first (Some (array_of program unit x)) vs) vs
   array-same vs is = by_values vs where
     starts : (array_of program unit x).start ≡ at
-    starts = ap (λ o. unwrap_or o (Local 0)) found.starts
+    starts = ap (λ o. unwrap_or o (start.Local 0)) found.starts
 
     count : count_of cells f.first (array_of program unit x) ≡ e.rest
     count = ap (λ (z : Start). unwrap_or (elements (bounds_at cells f.first (extents_of unit x))) (rest_at cells f.first z)) starts ∙ found.counted is
@@ -114,16 +100,15 @@ module _ (program : Units) (s : State) (layout : Layout) (cells : ℕ → Slot) 
         ∙ (numbers-same e base (integers_of (v ∷ vs)) found.few ∙ ap (from_first base e.rest) (sym (element-first (v ∷ vs) true is)))
 
   passed-same : (vs : List Value) → Same (passed_at cells f.first (arrays_at program s a) (variable_of program unit x) vs) vs
-  unfolding variable_of
-  passed-same vs = subst (λ o. Same (passed_at cells f.first (arrays_at program s a) (variable_by unit x o) vs) vs) (sym found.starts) (by_kind (is_array unit x) refl) where
-    of_scalar : (b : Bool) (z : Start) → passed_at cells f.first (arrays_at program s a) (scalar b z) vs ≡ passed_of_scalar (base_at cells f.first z) vs
-    of_scalar b (Local c) = refl
-    of_scalar b (Common c) = refl
-    of_scalar b (Dummy c) = refl
-
-    by_kind : (b : Bool) → is_array unit x ≡ b → Same (passed_at cells f.first (arrays_at program s a) (if b then variables.Array x.asynchronous (unwrap_or (index_among x (arrays_of unit)) 0) else scalar x.asynchronous at) vs) vs
-    by_kind true is = ap (λ o. passed_of_array cells f.first o vs) (at-index x (array_of program unit) (arrays_of unit) (array-listed x unit is)) ∙ array-same vs is
-    by_kind false is = of_scalar x.asynchronous at ∙ scalar-same vs is
+  passed-same vs =
+      by-kind program unit x at (λ v. Same (passed_at cells f.first (arrays_at program s a) v vs) vs) found.starts
+      (λ is. ap (λ o. passed_of_array cells f.first o vs) (at-index x (array_of program unit) (arrays_of unit) (array-listed x unit is)) ∙ array-same vs is)
+      (λ is. of_scalar x.asynchronous at ∙ scalar-same vs is)
+    where
+      of_scalar : (b : Bool) (z : Start) → passed_at cells f.first (arrays_at program s a) (scalar b z) vs ≡ passed_of_scalar (base_at cells f.first z) vs
+      of_scalar b (start.Local c) = refl
+      of_scalar b (start.Common c) = refl
+      of_scalar b (start.Dummy c) = refl
 
   -- the first element is there
   first-there : (vs : List Value) (n : ℕ) → 1 ≤ e.rest → first_element scope (x, vs) ≡ Ok n → n ≤ e.rest
@@ -160,3 +145,43 @@ module _ (program : Units) (s : State) (layout : Layout) (contents : List Slot) 
   reference-passed x vs b y there =
       let found = caller-found x there in
       found-passed program s layout (cells_in contents) a f x found.0 found.1 vs b y (scope-sized program s a calls.closed calls.bound x).0
+
+-- ---- all actual arguments
+
+module _ (program : Units) (s : State) (layout : Layout) (b : ℕ) where
+  -- one dummy argument, or the same fault
+  abbrev IsGivenAs : Name → Actual → Result Given Kind → Result Dummy Kind → Type 0
+  IsGivenAs x y (Ok g) (Ok d) = IsGiven program s layout b x y g d
+  IsGivenAs x y (Err k) (Err l) = k ≡ l
+  IsGivenAs x y _ _ = ⊥
+
+  units-given : (x : Name) (r : Name × List Value) (units : Result (ℕ × ℕ) Kind) (d : Result Dummy Kind) → IsPassedAs program s layout units d → IsGivenAs x (referred r) (given_units units) d
+  units-given x r (Ok units) (Ok d) h = h
+  units-given x r (Err k) (Err l) h = h
+  units-given x r _ _ h = absurd h
+
+  given-before : (x : Name) (y : Actual) (xs : List Name) (ys : List Actual) (g : Result Given Kind) (d : Result Dummy Kind) (gs : Result (List Given) Kind) (ds : Result (List Dummy) Kind)
+      → IsGivenAs x y g d → AreGivenAs program s layout b xs ys gs ds → AreGivenAs program s layout b (x ∷ xs) (y ∷ ys) (made_before g gs) (dummy_before d ds)
+  given-before x y xs ys (Err k) (Err l) gs ds h hs = h
+  given-before x y xs ys (Ok g) (Ok d) (Err k) (Err l) h hs = hs
+  given-before x y xs ys (Ok g) (Ok d) (Ok gs) (Ok ds) h hs = (h, hs)
+  given-before x y xs ys (Ok g) (Ok d) _ _ h hs = absurd hs
+  given-before x y xs ys _ _ gs ds h hs = absurd h
+
+module _ (program : Units) (s : State) (layout : Layout) (contents : List Slot) (a : ℕ) (f : Frame) (calls : IsCaller program s layout contents a f) (b : ℕ) where
+  abbrev unit_variables : Name → Variable
+  unit_variables = variable_of program (unit_at program (unit_of s a))
+
+  abbrev given : List Passed → Result (List Given) Kind
+  given = given_by (cells_in contents) f.first (arrays_at program s a)
+
+  pub all-given : (xs : List Name) (actuals : List Actual) → ArePlaced unit_variables actuals → length xs ≡ length actuals → AreGivenAs program s layout b xs actuals (given (map (passed_actual unit_variables) actuals)) (dummies_for (scope_of program s a) b xs actuals)
+  all-given [] [] placed e = tt
+  all-given (x ∷ xs) (evaluated v ∷ ys) placed e =
+      given-before program s layout b x (evaluated v) xs ys (given_for (cells_in contents) f.first (arrays_at program s a) (passed_actual unit_variables (evaluated v))) (dummy_for (scope_of program s a) b x (evaluated v)) (given (map (passed_actual unit_variables) ys)) (dummies_for (scope_of program s a) b xs ys) (refl, refl) (
+      all-given xs ys placed (omega (arith, e)))
+  all-given (x ∷ xs) (referred r ∷ ys) placed e =
+      given-before program s layout b x (referred r) xs ys (given_for (cells_in contents) f.first (arrays_at program s a) (passed_actual unit_variables (referred r))) (dummy_for (scope_of program s a) b x (referred r)) (given (map (passed_actual unit_variables) ys)) (dummies_for (scope_of program s a) b xs ys)
+      (units-given program s layout b x r _ (dummy_for (scope_of program s a) b x (referred r)) (reference-passed program s layout contents a f calls r.0 r.1 b x placed.0))
+      (all-given xs ys placed.1 (omega (arith, e)))
+  all-given _ _ placed e = absurd (omega (arith, e))

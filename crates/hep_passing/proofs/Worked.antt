@@ -1,7 +1,6 @@
 -- Worked actual arguments: a frame of eleven cells behind two of COMMON, with a dummy array that has two storage units left.
 use Rattle.std.specs.Prelude.{◌≡◌, ℕ, pos, false, List, [], ◌∷◌, Result, Ok, Err, refl}
-use Rattle.hep_source.specs.declared.value.Value.{Value}
-use Rattle.hep_source.specs.declared.value.Value.TheVariants.{Int}
+use Rattle.hep_machine.specs.Words.{Value, Int}
 use Rattle.hep_machine.specs.declared.event.Kind.{Kind}
 use Rattle.hep_machine.specs.declared.event.Kind.TheVariants.{Range}
 use Rattle.hep_code.specs.declared.instruction.Argument.TheVariants.{Evaluated, Referred}
@@ -9,7 +8,7 @@ use Rattle.hep_code.specs.declared.instruction.Instruction.{Instruction}
 use Rattle.hep_code.specs.declared.instruction.Instruction.TheVariants.{Pass}
 use Rattle.hep_code.specs.declared.variable.Variable.{Variable}
 use Rattle.hep_code.specs.declared.variable.Variable.TheVariants as variables
-use Rattle.hep_code.specs.Passing.{passed_from}
+use Rattle.hep_code.specs.Words.{passed_from}
 use Rattle.hep_image.specs.Finding.{cells_in}
 use Rattle.hep_step.proofs.Worked.{array, contents}
 use Rattle.hep_passing.specs.declared.given.Given.{Given}

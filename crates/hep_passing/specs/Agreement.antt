@@ -1,18 +1,12 @@
 -- That what is given is what the source machine's dummy arguments stand for: X3.9-1978, 15.9.3, and docs/MACHINE.md, "Binding".
 use Rattle.std.specs.Prelude.{◌≡◌, ◌≢◌, ℕ, ◌≤◌, List, [], ◌∷◌, map, Some, Result, Ok, Err, slice_get}
-use Rattle.hep_source.specs.declared.name.Name.{Name}
-use Rattle.hep_source.specs.Units.{Units, unit_at}
+use Rattle.hep_machine.specs.Words.{Name, Units, unit_at, Actual, evaluated, referred, Frame, Layout, unit_of, Dummy, State, local}
 use Rattle.hep_machine.specs.declared.event.Kind.{Kind}
 use Rattle.hep_machine.specs.declared.slot.Slot.{Slot}
-use Rattle.hep_machine.specs.Evaluation.{Actual, evaluated, referred}
-use Rattle.hep_machine.specs.Layout.{Frame, Layout}
-use Rattle.hep_machine.specs.Processes.{unit_of}
-use Rattle.hep_machine.specs.State.{Dummy, State, local}
 use Rattle.hep_arena.specs.Gaps.{frame_among}
 use Rattle.hep_code.specs.declared.variable.Variable.{Variable}
 use Rattle.hep_code.specs.declared.variable.Variable.TheVariants.{Absent}
-use Rattle.hep_frames.specs.Descriptors.{Describes, wanted_of}
-use Rattle.hep_frames.specs.Runs.{RunsFrom}
+use Rattle.hep_frames.specs.Words.{Describes, wanted_of, RunsFrom}
 use Rattle.hep_image.specs.declared.array.Array.{Array}
 use Rattle.hep_image.specs.Places.{array_of, arrays_of}
 use Rattle.hep_finding.specs.Bound.{AreClosed, AreKept, IsBound}

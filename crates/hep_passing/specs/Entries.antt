@@ -1,10 +1,10 @@
 -- What the entries behind a CALL, CREATE or PURGE pass, one by one: X3.9-1978, 15.9.2 and 15.9.3.
 use Rattle.std.specs.Prelude.{List, [], ◌∷◌, take, drop, Option, Some, None}
-use Rattle.hep_source.specs.declared.value.Value.{Value}
+use Rattle.hep_machine.specs.Words.{Value}
 use Rattle.hep_code.specs.declared.instruction.Argument.TheVariants.{Evaluated, Referred}
 use Rattle.hep_code.specs.declared.instruction.Instruction.{Instruction}
 use Rattle.hep_code.specs.declared.instruction.Instruction.TheVariants.{Pass}
-use Rattle.hep_code.specs.Passing.{Passed, by_value, by_reference}
+use Rattle.hep_code.specs.Words.{Passed, by_value, by_reference}
 use Rattle.hep_passing.specs.declared.entry.Passed as code
 use Rattle.hep_passing.specs.declared.entry.Passed.TheVariants as variants
 

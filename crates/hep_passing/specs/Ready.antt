@@ -1,13 +1,12 @@
 -- What actual arguments need, so that they can be passed: docs/MACHINE.md, "Variables and frames".
 use Rattle.std.specs.Prelude.{◌≡◌, ℕ, ◌+◌, ◌≤◌, true, List, [], ◌∷◌, length, Option, Some, None, Result, Ok, Err, slice_get}
-use Rattle.hep_source.specs.declared.value.Value.{Value}
+use Rattle.hep_machine.specs.Words.{Value, is_shape}
 use Rattle.hep_machine.specs.declared.event.Kind.{Kind}
 use Rattle.hep_machine.specs.declared.slot.Slot.{Slot}
-use Rattle.hep_machine.specs.Shapes.{is_shape}
 use Rattle.hep_arena.specs.Space.{Space}
 use Rattle.hep_code.specs.declared.variable.Variable.{Variable}
 use Rattle.hep_code.specs.declared.variable.Variable.TheVariants as variables
-use Rattle.hep_code.specs.Passing.{Passed, by_value, by_reference}
+use Rattle.hep_code.specs.Words.{Passed, by_value, by_reference}
 use Rattle.hep_image.specs.declared.array.Array.{Array}
 use Rattle.hep_image.specs.Finding.{bounds_at, cells_in}
 use Rattle.hep_image.specs.Within.{LiesIn}

@@ -1,12 +1,6 @@
 -- What is given to dummy arguments that are arrays, and the shapes that these have then: X3.9-1978, 5.5, 5.5.1 and 15.9.3.3.
 use Rattle.std.specs.Prelude.{◌≡◌, ℕ, List, length, Option, Some, None, slice_get}
-use Rattle.hep_source.specs.declared.name.Name.{Name}
-use Rattle.hep_source.specs.declared.statement.Statement.{Statement}
-use Rattle.hep_source.specs.Units.{dummies_of}
-use Rattle.hep_machine.specs.Constants.{adjustable_dimensions}
-use Rattle.hep_machine.specs.Locations.{dummy_at}
-use Rattle.hep_machine.specs.Shapes.{Bounds}
-use Rattle.hep_machine.specs.State.{Dummy}
+use Rattle.hep_machine.specs.Words.{Name, Statement, dummies_of, adjustable_dimensions, dummy_at, Bounds, Dummy}
 use Rattle.hep_passing.specs.declared.given.Given.{Given}
 use Rattle.hep_passing.specs.declared.given.Given.TheVariants as giving
 

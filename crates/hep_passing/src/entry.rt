@@ -22,11 +22,7 @@ pub enum Passed<'a> {
 pub(crate) fn first_of(entries: &[Instruction], count: usize) -> &[Instruction]
     ensures { result.now ≡ take count entries.now }
 {
-    if count < entries.len() {
-        &entries[..count]
-    } else {
-        entries
-    }
+    &entries[..entries.len().min(count)]
 }
 
 // The first so many operands, and those behind them.

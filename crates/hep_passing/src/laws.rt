@@ -2,23 +2,14 @@
 //! stand for.
 ghost use Rattle.std.specs.Prelude.{◌≡◌, ◌≢◌, ℕ, ◌≤◌, List, ◌++◌, length, map};
 ghost use Rattle.std.specs.List.{flat_map};
-ghost use Rattle.hep_source.specs.declared.name.Name.{Name};
-ghost use Rattle.hep_source.specs.declared.value.Value.{Value};
-ghost use Rattle.hep_source.specs.Units.{Units, unit_at};
+ghost use Rattle.hep_machine.specs.Words.{Name, Value, Units, unit_at, dummies_for, dummy_for, Actual, referred, Frame, Layout, unit_of, State, scope_of};
 ghost use Rattle.hep_machine.specs.declared.slot.Slot.{Slot};
-ghost use Rattle.hep_machine.specs.Binding.{dummies_for, dummy_for};
-ghost use Rattle.hep_machine.specs.Evaluation.{Actual, referred};
-ghost use Rattle.hep_machine.specs.Layout.{Frame, Layout};
-ghost use Rattle.hep_machine.specs.Processes.{unit_of};
-ghost use Rattle.hep_machine.specs.State.{State};
-ghost use Rattle.hep_machine.specs.Step.{scope_of};
 ghost use Rattle.hep_arena.specs.Holes.{Hole};
 ghost use Rattle.hep_code.specs.declared.instruction.Instruction.{Instruction};
 ghost use Rattle.hep_code.specs.declared.instruction.Instruction.TheVariants.{Pass};
 ghost use Rattle.hep_code.specs.declared.variable.Variable.TheVariants.{Absent};
-ghost use Rattle.hep_code.specs.Actions.{argument_of_actual, operands_of_actual};
-ghost use Rattle.hep_code.specs.Passing.{passed_actual, passed_from};
-ghost use Rattle.hep_frames.specs.Addresses.{IsMemory};
+ghost use Rattle.hep_code.specs.Words.{argument_of_actual, operands_of_actual, passed_actual, passed_from};
+ghost use Rattle.hep_frames.specs.Words.{IsMemory};
 ghost use Rattle.hep_image.specs.Finding.{cells_in};
 ghost use Rattle.hep_image.specs.Image.{most_cells};
 ghost use Rattle.hep_image.specs.Places.{variable_of};

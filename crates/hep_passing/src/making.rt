@@ -1,6 +1,6 @@
 //! What is made of what the entries behind a CALL, CREATE or PURGE pass (X3.9-1978, 15.9.3).
 ghost use Rattle.std.specs.Prelude.{◌≡◌, ◌≤◌, Ok, Err, IfOk, IfErr, vec_capacity};
-ghost use Rattle.hep_code.specs.Passing.{passed_from};
+ghost use Rattle.hep_code.specs.Words.{passed_from};
 ghost use Rattle.hep_image.specs.Finding.{cells_in};
 ghost use Rattle.hep_step.specs.Cells.{HasFrame};
 ghost use Rattle.hep_passing.specs.Passing.{made_by};

@@ -1,31 +1,23 @@
 -- Arrays in the code are among the arrays of their unit.
-use Rattle.std.proofs.Common.{◌≡◌, ℕ, zero, suc, Bool, true, false, List, [], ◌∷◌, Option, Some, None, refl, sym, ap, ◌∙◌, subst, true≢false, cond}
-use Rattle.std.specs.Prelude.{slice_get, if◌then◌else◌}
+use Rattle.std.proofs.Common.{◌≡◌, ℕ, zero, suc, Bool, true, false, List, [], ◌∷◌, Option, Some, None, refl, sym, ap, ◌∙◌, subst, true≢false, cond, slice_get, if◌then◌else◌}
 use Rattle.std.specs.List.{filter}
 use Rattle.std.specs.Option.{option_map, unwrap_or}
 use Rattle.std.proofs.lemmas.Option.{none-some, same_Some}
 use Rattle.hep_source.proofs.NameTests.{equal_names, same_name-self}
-use Rattle.hep_source.specs.declared.name.Name.{Name}
-use Rattle.hep_source.specs.declared.name.Occurrence.{Occurrence}
-use Rattle.hep_source.specs.declared.statement.Statement.{Statement}
-use Rattle.hep_source.specs.Names.{index_among, same_name}
-use Rattle.hep_source.specs.Units.{Units, unit_at}
-use Rattle.hep_machine.specs.Declarations.{is_array}
-use Rattle.hep_machine.specs.Variables.{names_of, occurrences_of}
+use Rattle.hep_machine.specs.Words.{Name, Occurrence, Statement, index_among, same_name, Units, unit_at, is_array, names_of, occurrences_of}
 use Rattle.hep_code.specs.declared.instruction.Instruction.{Instruction}
 use Rattle.hep_code.specs.declared.variable.Variable.{Variable}
 use Rattle.hep_code.specs.declared.variable.Variable.TheVariants as variables
 use Rattle.hep_image.specs.declared.array.Start.{Start}
 use Rattle.hep_image.specs.declared.array.Start.TheVariants.{Local, Common, Dummy}
 use Rattle.hep_image.specs.Places.{array_of, arrays_of, scalar, start_of, variable_by, variable_of}
-use Rattle.hep_accepted.proofs.Members.{Has, has_filter, has_more, image_at}
+use Rattle.hep_accepted.proofs.Members.{Has, has_filter, has_more, image_at, name_of_unit}
 use Rattle.hep_placed.specs.Instructions.{variables_in}
 use Rattle.hep_placed.specs.Placed.{IsArrayAt, code_in}
 use Rattle.hep_placed.proofs.Coded.{AllMeet}
 use Rattle.hep_placed.proofs.Facts.{Facts, array_no_constant}
 use Rattle.hep_placed.proofs.Placed.{all_right, of_instruction, wishing, unit_of_program}
 use Rattle.hep_placed.proofs.Starts.{begins}
-use Rattle.hep_accepted.proofs.Named.{name_of_unit}
 
 -- a name that is there is found
 index_there : (x : Name) (xs : List Name) → Has xs x → (i : ℕ) × (index_among x xs ≡ Some i) × (slice_get xs i ≡ Some x)

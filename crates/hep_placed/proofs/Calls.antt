@@ -1,15 +1,9 @@
 -- Calls in the code are of subroutines with as many dummy arguments as they pass.
-use Rattle.std.proofs.Common.{◌≡◌, ◌<◌, ℕ, true, false, List, [], Option, Some, None, refl, sym, ap, ◌∙◌, subst, true≢false, length}
-use Rattle.std.specs.Prelude.{slice_get}
+use Rattle.std.proofs.Common.{◌≡◌, ◌<◌, ℕ, true, false, List, [], Option, Some, None, refl, sym, ap, ◌∙◌, subst, true≢false, length, slice_get}
 use Rattle.std.specs.Option.{unwrap_or}
 use Rattle.std.proofs.lemmas.Option.{slice_get_within}
-use Rattle.hep_source.specs.declared.name.Name.{Name}
-use Rattle.hep_source.specs.declared.statement.Statement.{Statement}
-use Rattle.hep_source.specs.Units.{Units, dummies_of, is_main, is_named, subroutine_name, unit_at}
-use Rattle.hep_source.specs.Defaults.{no_unit}
-use Rattle.hep_machine.specs.Step.{unit_called}
-use Rattle.hep_check.specs.Conditions.{IsAccepted}
-use Rattle.hep_check.specs.Statements.{Calling}
+use Rattle.hep_machine.specs.Words.{Name, Statement, Units, dummies_of, is_main, is_named, subroutine_name, unit_at, no_unit, unit_called}
+use Rattle.hep_check.specs.Words.{IsAccepted, Calling}
 use Rattle.hep_code.specs.declared.instruction.Instruction.TheVariants.{Step}
 use Rattle.hep_code.specs.declared.instruction.Operation.TheVariants.{Call, Create}
 use Rattle.hep_accepted.specs.Agreement.{CallsSubroutine}

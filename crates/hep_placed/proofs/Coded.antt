@@ -1,28 +1,11 @@
 -- What holds of each instruction of a statement's code, from what holds of the statement.
-use Rattle.std.proofs.Common.{◌≡◌, ◌⊎◌, inl, inr, ℕ, zero, suc, Bool, true, false, List, [], ◌∷◌, ◌++◌, map, length, Option, Some, None, refl, sym, subst, true≢false}
-use Rattle.std.specs.Prelude.{if◌then◌else◌, pos, option_to_list}
+use Rattle.std.proofs.Common.{◌≡◌, ◌⊎◌, inl, inr, ℕ, zero, suc, Bool, true, false, List, [], ◌∷◌, ◌++◌, map, length, Option, Some, None, refl, sym, subst, true≢false, if◌then◌else◌, pos, option_to_list}
 use Rattle.std.specs.List.{flat_map}
 use Rattle.std.proofs.lemmas.Option.{none-some}
-use Rattle.hep_source.specs.Tree.{Tree, Trees, constant, occurrence, with_list, parenthesized, signed, negated, binary, no_trees, trees, trees_of}
-use Rattle.hep_source.specs.declared.declaration.Target.{Target}
-use Rattle.hep_source.specs.declared.function.StateFunction.{StateFunction}
-use Rattle.hep_source.specs.declared.name.Name.{Name}
-use Rattle.hep_source.specs.declared.name.Occurrence.{Occurrence}
-use Rattle.hep_source.specs.declared.statement.DoControl.{DoControl}
-use Rattle.hep_source.specs.declared.statement.PrintItem.{PrintItem}
+use Rattle.hep_machine.specs.Words.{Tree, Trees, constant, occurrence, with_list, parenthesized, signed, negated, binary, no_trees, trees, trees_of, Target, StateFunction, Name, Occurrence, DoControl, PrintItem, Form, Statement, Value, constant_value, is_array, is_constant_name, type_of, increment_of, Meaning, element, pure, state, unknown, listed_meaning, array_occurrence, occurrences_in, occurrences_in_all, no_value, Int}
 use Rattle.hep_source.specs.declared.statement.PrintItem.TheVariants as item
-use Rattle.hep_source.specs.declared.statement.Form.{Form}
 use Rattle.hep_source.specs.declared.statement.Form.TheVariants as form
-use Rattle.hep_source.specs.declared.statement.Statement.{Statement}
-use Rattle.hep_source.specs.declared.value.Value.{Value}
-use Rattle.hep_machine.specs.Constants.{constant_value}
-use Rattle.hep_machine.specs.Declarations.{is_array, is_constant_name, type_of}
-use Rattle.hep_machine.specs.Evaluation.{increment_of}
-use Rattle.hep_machine.specs.Functions.{Meaning, element, pure, state, unknown, listed_meaning}
-use Rattle.hep_machine.specs.Variables.{array_occurrence, occurrences_in, occurrences_in_all}
-use Rattle.hep_check.specs.Arguments.{actual_class, given_with_list, is_asynchronous_scalar, value, variable, whole_array}
-use Rattle.hep_check.specs.Statements.{Calling, NameWithList, calls_in, names_with_lists_in, names_with_lists_in_all, targets_assigned, targets_purged, trees_in_form, trees_in_item, trees_in_statement}
-use Rattle.hep_check.specs.Types.{type_of_tree}
+use Rattle.hep_check.specs.Words.{actual_class, given_with_list, is_asynchronous_scalar, value, variable, whole_array, Calling, NameWithList, calls_in, names_with_lists_in, names_with_lists_in_all, targets_assigned, targets_purged, trees_in_form, trees_in_item, trees_in_statement, type_of_tree}
 use Rattle.hep_accepted.specs.Agreement.{IsOneAsynchronousScalar}
 use Rattle.hep_accepted.proofs.Members.{Has, flat_has, has_behind, has_either, has_first_or, has_front, has_one, map_at, has_more, has_flat}
 use Rattle.hep_code.specs.declared.instruction.Argument.{Argument}
@@ -33,11 +16,7 @@ use Rattle.hep_code.specs.declared.instruction.Instruction.TheVariants.{Push, St
 use Rattle.hep_code.specs.declared.instruction.Operation.{Operation}
 use Rattle.hep_code.specs.declared.instruction.Operation.TheVariants.{Evaluate, Store, Condition, EnterLoop, EndLoop, Call, Create, Purge, Return}
 use Rattle.hep_code.specs.declared.variable.Variable.{Variable}
-use Rattle.hep_code.specs.ExpressionCode.{actual_code, actual_listed_code, actual_name_code, argument_of, argument_of_target, asked, asked_code, asked_listed_code, count, item_code, listed_code, name_code, printed_of, target_code, tree_code, trees_code, asked_listed}
-use Rattle.hep_code.specs.StatementCode.{conditions_code, form_code, loop_end_code, operands_code, operation_code, statement_code, statements_code}
-use Rattle.hep_machine.specs.Defaults.{no_value}
-use Rattle.hep_source.specs.declared.value.Value.TheVariants.{Int}
-use Rattle.hep_code.specs.UnitCode.{AddressedUnit, names_of, table_of, code_of}
+use Rattle.hep_code.specs.Words.{actual_code, actual_listed_code, actual_name_code, argument_of, argument_of_target, asked, asked_code, asked_listed_code, count, item_code, listed_code, name_code, printed_of, target_code, tree_code, trees_code, asked_listed, conditions_code, form_code, loop_end_code, operands_code, operation_code, statement_code, statements_code, AddressedUnit, names_of, table_of, code_of}
 use Rattle.hep_accepted.proofs.Executed.{in_form}
 use Rattle.hep_accepted.proofs.Operands.{is_element}
 

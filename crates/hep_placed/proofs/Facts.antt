@@ -1,28 +1,14 @@
 -- What acceptance says of a unit, as it is wanted of its code.
-use Rattle.std.proofs.Common.{◌≡◌, ◌<◌, ℕ, Bool, true, false, List, [], ◌∷◌, Some, None, refl, sym, ap, ◌∙◌, true≢false}
-use Rattle.std.specs.Prelude.{slice_get, length, not, ◌&&◌}
+use Rattle.std.proofs.Common.{◌≡◌, ◌<◌, ℕ, Bool, true, false, List, [], ◌∷◌, Some, None, refl, sym, ap, ◌∙◌, true≢false, slice_get, length, not, ◌&&◌}
 use Rattle.std.proofs.lemmas.Bool.{false_from_ne_true}
 use Rattle.std.proofs.lemmas.Option.{none-some}
-use Rattle.hep_source.specs.Tree.{Tree}
-use Rattle.hep_source.specs.declared.declaration.NamedConstant.{NamedConstant}
-use Rattle.hep_source.specs.declared.declaration.Target.{Target}
-use Rattle.hep_source.specs.declared.function.StateFunction.{StateFunction}
-use Rattle.hep_source.specs.declared.name.Name.{Name}
-use Rattle.hep_source.specs.declared.statement.DoControl.{DoControl}
+use Rattle.hep_machine.specs.Words.{Tree, NamedConstant, Target, StateFunction, Name, DoControl, Statement, Units, unit_at, constant_value, is_array, is_constant_name, is_nonempty, named_constants, names_of_constants, listed_meaning, state}
 use Rattle.hep_source.specs.declared.statement.Form.TheVariants as form
-use Rattle.hep_source.specs.declared.statement.Statement.{Statement}
-use Rattle.hep_source.specs.Units.{Units, unit_at}
-use Rattle.hep_machine.specs.Constants.{constant_value}
-use Rattle.hep_machine.specs.Declarations.{is_array, is_constant_name, is_nonempty, named_constants, names_of_constants}
-use Rattle.hep_machine.specs.Functions.{listed_meaning, state}
-use Rattle.hep_check.specs.Conditions.{IsAccepted}
-use Rattle.hep_check.specs.Nesting.{is_not_held}
-use Rattle.hep_check.specs.Statements.{NameWithList, names_with_lists, targets_assigned, targets_purged}
-use Rattle.hep_check.specs.Types.{is_plain_integer_scalar}
+use Rattle.hep_check.specs.Words.{IsAccepted, is_not_held, NameWithList, names_with_lists, targets_assigned, targets_purged, is_plain_integer_scalar}
 use Rattle.hep_accepted.specs.Agreement.{IsOneAsynchronousScalar}
 use Rattle.hep_accepted.specs.Typing.{HasValue}
 use Rattle.hep_accepted.proofs.Agreed.{purged_no_constant, tested_are_asynchronous}
-use Rattle.hep_accepted.proofs.Given.{constants_have_values}
+use Rattle.hep_accepted.proofs.Shaped.{constants_have_values}
 use Rattle.hep_accepted.proofs.Meant.{assigned_known, constant_is_scalar, constant_not_assigned, purged_known}
 use Rattle.hep_accepted.proofs.Members.{Has, among_has, map_at}
 use Rattle.hep_accepted.proofs.Nested.{held_is_allowed, loop_variable}

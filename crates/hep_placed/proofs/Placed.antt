@@ -1,20 +1,8 @@
 -- What holds of each name of a unit that is no constant holds of each variable in its code; so these have storage units.
-use Rattle.std.proofs.Common.{◌≡◌, ℕ, zero, Bool, true, false, List, [], ◌∷◌, Option, Some, None, refl, subst}
-use Rattle.std.specs.Prelude.{slice_get, if◌then◌else◌}
+use Rattle.std.proofs.Common.{◌≡◌, ℕ, zero, Bool, true, false, List, [], ◌∷◌, Option, Some, None, refl, subst, slice_get, if◌then◌else◌}
 use Rattle.std.proofs.lemmas.Option.{none-some}
-use Rattle.hep_source.specs.Tree.{Tree, constant, occurrence, with_list, parenthesized, signed, negated, binary}
-use Rattle.hep_source.specs.declared.declaration.Target.{Target}
-use Rattle.hep_source.specs.declared.function.StateFunction.{StateFunction}
-use Rattle.hep_source.specs.declared.name.Name.{Name}
-use Rattle.hep_source.specs.declared.name.Occurrence.{Occurrence}
-use Rattle.hep_source.specs.declared.statement.Statement.{Statement}
-use Rattle.hep_source.specs.declared.value.Value.{Value}
-use Rattle.hep_source.specs.Units.{Units, unit_at}
-use Rattle.hep_machine.specs.Constants.{constant_value}
-use Rattle.hep_machine.specs.Declarations.{is_array, is_constant_name}
-use Rattle.hep_machine.specs.Functions.{Meaning, element, pure, state, unknown, listed_meaning}
-use Rattle.hep_machine.specs.Variables.{occurrences_in, occurrences_in_all, occurrences_of}
-use Rattle.hep_check.specs.Statements.{targets_purged}
+use Rattle.hep_machine.specs.Words.{Tree, constant, occurrence, with_list, parenthesized, signed, negated, binary, Target, StateFunction, Name, Occurrence, Statement, Value, Units, unit_at, constant_value, is_array, is_constant_name, Meaning, element, pure, state, unknown, listed_meaning, occurrences_in, occurrences_in_all, occurrences_of}
+use Rattle.hep_check.specs.Words.{targets_purged}
 use Rattle.hep_code.specs.declared.instruction.Argument.{Argument}
 use Rattle.hep_code.specs.declared.instruction.Argument.TheVariants.{Evaluated, Referred}
 use Rattle.hep_code.specs.declared.instruction.Evaluation.{Evaluation}
@@ -25,21 +13,17 @@ use Rattle.hep_code.specs.declared.instruction.Operation.{Operation}
 use Rattle.hep_code.specs.declared.instruction.Operation.TheVariants.{Evaluate, Store, EnterLoop, EndLoop}
 use Rattle.hep_code.specs.declared.variable.Variable.{Variable}
 use Rattle.hep_code.specs.declared.variable.Variable.TheVariants as variables
-use Rattle.hep_code.specs.Replies.{is_asynchronous}
-use Rattle.hep_code.specs.ExpressionCode.{argument_of, argument_of_listed, argument_of_name, count}
-use Rattle.hep_code.specs.Stacks.{addressed_unit}
-use Rattle.hep_code.specs.UnitCode.{AddressedUnit, code_of, names_of}
+use Rattle.hep_code.specs.Words.{is_asynchronous, argument_of, argument_of_listed, argument_of_name, count, addressed_unit, AddressedUnit, code_of, names_of}
 use Rattle.hep_image.specs.declared.array.Start.{Start}
 use Rattle.hep_image.specs.declared.array.Start.TheVariants as start
 use Rattle.hep_image.specs.Places.{addresses_of, scalar, start_of, variable_by, variable_of}
-use Rattle.hep_accepted.proofs.Members.{Has, has_one}
+use Rattle.hep_accepted.proofs.Members.{Has, has_one, name_of_unit}
 use Rattle.hep_placed.specs.Instructions.{variables_in, variables_in_argument, variables_in_evaluation, variables_in_operation}
 use Rattle.hep_placed.specs.Placed.{ArePlaced, IsPlaced, code_in}
 use Rattle.hep_placed.proofs.Coded.{AllMeet, Meets, MeetsEvaluation, MeetsOperation, Wish, array_named, code_meets}
 use Rattle.hep_placed.proofs.Facts.{Facts, without_value}
 use Rattle.hep_placed.proofs.Rights.{AllNamed, actual_in_unit, purged_in_unit, resolved, right}
 use Rattle.hep_placed.proofs.Starts.{begins, begun_placed}
-use Rattle.hep_accepted.proofs.Named.{name_of_unit}
 use Rattle.hep_accepted.proofs.Operands.{is_element}
 
 -- ---- what is wanted, as variables in lists

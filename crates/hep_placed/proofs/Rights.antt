@@ -2,20 +2,12 @@
 use Rattle.std.proofs.Common.{◌≡◌, zero, true, false, List, length, refl, sym, subst}
 use Rattle.std.specs.List.{flat_map}
 use Rattle.std.proofs.lemmas.Option.{none-some}
-use Rattle.hep_source.specs.Tree.{Tree}
-use Rattle.hep_source.specs.declared.declaration.Target.{Target}
-use Rattle.hep_source.specs.declared.name.Name.{Name}
-use Rattle.hep_source.specs.declared.name.Occurrence.{Occurrence}
-use Rattle.hep_source.specs.declared.statement.Form.{Form}
+use Rattle.hep_machine.specs.Words.{Tree, Target, Name, Occurrence, Form, Statement, is_constant_name, occurrences_in, occurrences_in_form, occurrences_in_statement, occurrences_in_target, occurrences_of}
 use Rattle.hep_source.specs.declared.statement.Form.TheVariants as form
-use Rattle.hep_source.specs.declared.statement.Statement.{Statement}
-use Rattle.hep_machine.specs.Declarations.{is_constant_name}
-use Rattle.hep_machine.specs.Variables.{occurrences_in, occurrences_in_form, occurrences_in_statement, occurrences_in_target, occurrences_of}
-use Rattle.hep_check.specs.Statements.{Calling, calls_in, names_with_lists_in, targets_assigned, targets_purged, trees_in_form, trees_in_statement}
+use Rattle.hep_check.specs.Words.{Calling, calls_in, names_with_lists_in, targets_assigned, targets_purged, trees_in_form, trees_in_statement}
 use Rattle.hep_accepted.proofs.Formed.{occurrence_in_statement}
 use Rattle.hep_accepted.proofs.Members.{Has, has_behind, has_flat, has_front, has_one}
-use Rattle.hep_code.specs.ExpressionCode.{argument_of, argument_of_target}
-use Rattle.hep_code.specs.UnitCode.{AddressedUnit, names_of}
+use Rattle.hep_code.specs.Words.{argument_of, argument_of_target, AddressedUnit, names_of}
 use Rattle.hep_placed.proofs.Coded.{IsResolved, IsRight, Wish}
 use Rattle.hep_placed.proofs.Facts.{Facts, array_no_constant, loop_no_constant, without_value}
 use Rattle.hep_accepted.proofs.Executed.{target_occurs, in_form}

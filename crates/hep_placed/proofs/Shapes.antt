@@ -1,31 +1,13 @@
 -- Arrays of accepted programs whose bounds are constant have shapes.
-use Rattle.std.proofs.Common.{◌≡◌, ◌⊎◌, ℤ, inl, inr, ℕ, zero, suc, Bool, true, false, List, [], ◌∷◌, Option, Some, None, refl, sym, ap, ◌∙◌, subst, true≢false, arith}
-use Rattle.std.specs.Prelude.{slice_get, length, if◌then◌else◌, is_none, is_some, not, ◌&&◌, ◌||◌, option_to_list, take, drop}
+use Rattle.std.proofs.Common.{◌≡◌, ◌⊎◌, ℤ, inl, inr, ℕ, zero, suc, Bool, true, false, List, [], ◌∷◌, Option, Some, None, refl, sym, ap, ◌∙◌, subst, true≢false, arith, slice_get, length, if◌then◌else◌, is_none, is_some, not, ◌&&◌, ◌||◌, option_to_list, take, drop}
 use Rattle.std.specs.List.{flat_map, list_all, list_any}
 use Rattle.std.specs.Option.{option_map}
 use Rattle.std.proofs.lemmas.Bool.{and_parts}
 use Rattle.std.proofs.lemmas.Option.{none-some}
-use Rattle.hep_source.specs.Tree.{Tree}
-use Rattle.hep_source.specs.declared.declaration.Declarator.{Declarator}
-use Rattle.hep_source.specs.declared.declaration.Dimension.{Dimension}
-use Rattle.hep_source.specs.declared.declaration.UpperBound.{UpperBound}
+use Rattle.hep_machine.specs.Words.{Tree, Declarator, Dimension, UpperBound, Integer, Name, Occurrence, Statement, Value, Units, integer_of, Values, adjustable_dimensions, bound_before, bound_of, bounds_of, constant_shape, constant_value, is_constant, is_constant_dimension, is_constant_lower, is_constant_upper, upper_value, value_among, value_of, declarators_in, dimensions_of, is_array, is_common, is_dummy, is_nonempty, Bounds, is_shape, occurrences_in}
 use Rattle.hep_source.specs.declared.declaration.UpperBound.TheVariants as bound
-use Rattle.hep_source.specs.declared.declaration.ValueType.TheVariants.{Integer}
-use Rattle.hep_source.specs.declared.name.Name.{Name}
-use Rattle.hep_source.specs.declared.name.Occurrence.{Occurrence}
-use Rattle.hep_source.specs.declared.statement.Statement.{Statement}
-use Rattle.hep_source.specs.declared.value.Value.{Value}
-use Rattle.hep_source.specs.Units.{Units}
 use Rattle.hep_machine.specs.declared.shape.Bound.{Bound}
-use Rattle.hep_machine.specs.Arithmetic.{integer_of}
-use Rattle.hep_machine.specs.Constants.{Values, adjustable_dimensions, bound_before, bound_of, bounds_of, constant_shape, constant_value, is_constant, is_constant_dimension, is_constant_lower, is_constant_upper, upper_value, value_among, value_of}
-use Rattle.hep_machine.specs.Declarations.{declarators_in, dimensions_of, is_array, is_common, is_dummy, is_nonempty}
-use Rattle.hep_machine.specs.Shapes.{Bounds, is_shape}
-use Rattle.hep_machine.specs.Variables.{occurrences_in}
-use Rattle.hep_check.specs.Conditions.{IsAccepted}
-use Rattle.hep_check.specs.Constants.{Parameters, are_bounds_open, has_bounds, has_value, is_adjustable, is_adjusted, is_adjusting, is_bound, is_dimension, is_open, is_shape_if_known, is_upper_bound}
-use Rattle.hep_check.specs.Statements.{names_with_lists_in, trees_in_declarator, trees_in_dimension, trees_in_upper}
-use Rattle.hep_check.specs.Types.{is_plain_integer_scalar, is_typed_as}
+use Rattle.hep_check.specs.Words.{IsAccepted, Parameters, are_bounds_open, has_bounds, has_value, is_adjustable, is_adjusted, is_adjusting, is_bound, is_dimension, is_open, is_shape_if_known, is_upper_bound, names_with_lists_in, trees_in_declarator, trees_in_dimension, trees_in_upper, is_plain_integer_scalar, is_typed_as}
 use Rattle.hep_accepted.proofs.Formed.{parameters_at, typed_statement}
 use Rattle.hep_accepted.proofs.Meant.{array_declarator}
 use Rattle.hep_accepted.proofs.Members.{Has, all_has, flat_has, has_behind, has_either, has_flat, has_front, has_more, has_one}

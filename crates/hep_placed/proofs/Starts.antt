@@ -1,21 +1,14 @@
 -- Names that have storage units.
-use Rattle.std.proofs.Common.{◌≡◌, ℕ, suc, Bool, true, false, List, [], ◌∷◌, Option, Some, None, refl, sym, ap, subst}
-use Rattle.std.specs.Prelude.{if◌then◌else◌, is_some, not, ◌&&◌}
+use Rattle.std.proofs.Common.{◌≡◌, ℕ, suc, Bool, true, false, List, [], ◌∷◌, Option, Some, None, refl, sym, ap, subst, if◌then◌else◌, is_some, not, ◌&&◌}
 use Rattle.std.specs.Option.{option_map, unwrap_or}
 use Rattle.std.proofs.lemmas.Option.{none-some}
-use Rattle.hep_source.specs.declared.name.Name.{Name}
-use Rattle.hep_source.specs.declared.statement.Statement.{Statement}
-use Rattle.hep_source.specs.Names.{index_among, is_among, same_name}
-use Rattle.hep_source.specs.Units.{Units, dummies_of}
-use Rattle.hep_machine.specs.Declarations.{BlockName, common_block, is_array, is_common, is_constant_name, is_dummy}
-use Rattle.hep_machine.specs.Variables.{is_local, locals_of, names_of}
+use Rattle.hep_machine.specs.Words.{Name, Statement, index_among, is_among, same_name, Units, dummies_of, BlockName, common_block, is_array, is_common, is_constant_name, is_dummy, is_local, locals_of, names_of}
 use Rattle.hep_code.specs.declared.variable.Variable.TheVariants as variables
 use Rattle.hep_image.specs.declared.array.Start.{Start}
 use Rattle.hep_image.specs.declared.array.Start.TheVariants.{Local, Common, Dummy}
 use Rattle.hep_image.specs.Places.{arrays_of, scalar, start_by, start_of, variable_by, variable_of}
-use Rattle.hep_accepted.proofs.Members.{Has, has_filter}
+use Rattle.hep_accepted.proofs.Members.{Has, has_filter, has_among}
 use Rattle.hep_placed.specs.Placed.{IsPlaced}
-use Rattle.hep_accepted.proofs.Named.{has_among}
 
 -- ---- names among others
 

@@ -1,20 +1,8 @@
 -- Expressions that have values: which names have some in them.
-use Rattle.std.proofs.Common.{◌≡◌, ◌⊎◌, inl, inr, Bool, true, false, List, [], ◌∷◌, ◌++◌, Option, Some, None, refl, sym, ap, ◌∙◌, subst, true≢false}
-use Rattle.std.specs.Prelude.{if◌then◌else◌, is_some}
+use Rattle.std.proofs.Common.{◌≡◌, ◌⊎◌, inl, inr, Bool, true, false, List, [], ◌∷◌, ◌++◌, Option, Some, None, refl, sym, ap, ◌∙◌, subst, true≢false, if◌then◌else◌, is_some}
 use Rattle.std.proofs.lemmas.Option.{none-some}
 use Rattle.hep_source.proofs.NameTests.{same_name-turned}
-use Rattle.hep_source.specs.Tree.{Tree, Trees, constant, occurrence, with_list, parenthesized, signed, negated, binary, no_trees, trees}
-use Rattle.hep_source.specs.declared.declaration.NamedConstant.{NamedConstant}
-use Rattle.hep_source.specs.declared.name.Name.{Name}
-use Rattle.hep_source.specs.declared.name.Occurrence.{Occurrence}
-use Rattle.hep_source.specs.declared.statement.Statement.{Statement}
-use Rattle.hep_source.specs.declared.value.Value.{Value}
-use Rattle.hep_source.specs.Names.{is_among, same_name}
-use Rattle.hep_machine.specs.Arithmetic.{combined_value, negated_value, signed_value}
-use Rattle.hep_machine.specs.Constants.{Constants, Values, both, by_meaning, constant_value, given_by, value_among, value_of, values_of, with_constant, with_one, with_two}
-use Rattle.hep_machine.specs.Declarations.{is_array, is_constant_name, named_constants, names_of_constants}
-use Rattle.hep_machine.specs.Functions.{Meaning, element, function_named, pure, state, unknown, listed_meaning}
-use Rattle.hep_machine.specs.Variables.{array_occurrence, occurrences_in, occurrences_in_all}
+use Rattle.hep_machine.specs.Words.{Tree, Trees, constant, occurrence, with_list, parenthesized, signed, negated, binary, no_trees, trees, NamedConstant, Name, Occurrence, Statement, Value, is_among, same_name, combined_value, negated_value, signed_value, Constants, Values, both, by_meaning, constant_value, given_by, value_among, value_of, values_of, with_constant, with_one, with_two, is_array, is_constant_name, named_constants, names_of_constants, Meaning, element, function_named, pure, state, unknown, listed_meaning, array_occurrence, occurrences_in, occurrences_in_all}
 use Rattle.hep_accepted.proofs.Members.{Has, has_either, has_one}
 
 -- ---- the names in an expression that has a value have values

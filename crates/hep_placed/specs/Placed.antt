@@ -1,14 +1,10 @@
 -- The code of the units of a program, and where its variables are: docs/MACHINE.md, "Variables and frames".
 use Rattle.std.specs.Prelude.{◌≡◌, ◌≢◌, ◌<◌, ℕ, Bool, true, false, List, map, length, Some, slice_get}
-use Rattle.hep_source.specs.declared.name.Name.{Name}
-use Rattle.hep_source.specs.declared.statement.Statement.{Statement}
-use Rattle.hep_source.specs.Units.{Units, dummies_of, is_main, subroutine_name, unit_at}
-use Rattle.hep_machine.specs.Declarations.{is_array}
+use Rattle.hep_machine.specs.Words.{Name, Statement, Units, dummies_of, is_main, subroutine_name, unit_at, is_array}
 use Rattle.hep_code.specs.declared.instruction.Instruction.{Instruction}
 use Rattle.hep_code.specs.declared.variable.Variable.{Variable}
 use Rattle.hep_code.specs.declared.variable.Variable.TheVariants.{Absent}
-use Rattle.hep_code.specs.Stacks.{addressed_unit}
-use Rattle.hep_code.specs.UnitCode.{code_of}
+use Rattle.hep_code.specs.Words.{addressed_unit, code_of}
 use Rattle.hep_image.specs.declared.array.Start.{Start}
 use Rattle.hep_image.specs.Places.{addresses_of, array_of, arrays_of, start_of}
 

@@ -1,13 +1,7 @@
 //! Laws of the code of accepted programs: where the variables in it are, and what it calls.
 ghost use Rattle.std.specs.Prelude.{◌≡◌, ◌<◌, ℕ, Bool, true, List, Some, slice_get, length};
-ghost use Rattle.hep_source.specs.declared.function.StateFunction.{StateFunction};
-ghost use Rattle.hep_source.specs.declared.name.Name.{Name};
-ghost use Rattle.hep_source.specs.declared.statement.Statement.{Statement};
-ghost use Rattle.hep_source.specs.Units.{Units, unit_at};
-ghost use Rattle.hep_machine.specs.Constants.{adjustable_dimensions, constant_shape};
-ghost use Rattle.hep_machine.specs.Declarations.{is_array};
-ghost use Rattle.hep_machine.specs.Shapes.{Bounds, is_shape};
-ghost use Rattle.hep_check.specs.Conditions.{IsAccepted};
+ghost use Rattle.hep_machine.specs.Words.{StateFunction, Name, Statement, Units, unit_at, adjustable_dimensions, constant_shape, is_array, Bounds, is_shape};
+ghost use Rattle.hep_check.specs.Words.{IsAccepted};
 ghost use Rattle.hep_code.specs.declared.instruction.Evaluation.TheVariants.{Test};
 ghost use Rattle.hep_code.specs.declared.instruction.Instruction.{Instruction};
 ghost use Rattle.hep_code.specs.declared.instruction.Instruction.TheVariants.{Step};
@@ -15,7 +9,7 @@ ghost use Rattle.hep_code.specs.declared.instruction.Operation.{Operation};
 ghost use Rattle.hep_code.specs.declared.instruction.Operation.TheVariants.{Call, Create, Evaluate};
 ghost use Rattle.hep_code.specs.declared.variable.Variable.{Variable};
 ghost use Rattle.hep_code.specs.declared.variable.Variable.TheVariants.{Array};
-ghost use Rattle.hep_code.specs.Replies.{is_asynchronous};
+ghost use Rattle.hep_code.specs.Words.{is_asynchronous};
 ghost use Rattle.hep_image.specs.declared.array.Start.{Start};
 ghost use Rattle.hep_image.specs.Places.{arrays_of, start_of, variable_of};
 ghost use Rattle.hep_placed.specs.Instructions.{variables_in, variables_in_operation};

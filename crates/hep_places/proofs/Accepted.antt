@@ -1,12 +1,7 @@
 -- What the laws of accepted programs say of the arrays of a unit.
 use Rattle.std.proofs.Common.{◌≡◌, ◌<◌, Bool, true, false, List, None, refl, sym, ◌∙◌}
 use Rattle.std.proofs.lemmas.Option.{none-some}
-use Rattle.hep_source.specs.declared.name.Name.{Name}
-use Rattle.hep_source.specs.declared.statement.Statement.{Statement}
-use Rattle.hep_source.specs.Names.{index_among, is_among}
-use Rattle.hep_source.specs.Units.{dummies_of}
-use Rattle.hep_machine.specs.Constants.{cells_of}
-use Rattle.hep_machine.specs.Declarations.{is_dummy}
+use Rattle.hep_machine.specs.Words.{Name, Statement, index_among, is_among, dummies_of, cells_of, is_dummy}
 use Rattle.hep_accepted.specs.Typing.{HasShape}
 use Rattle.hep_places.proofs.Few.{some-cells}
 use Rattle.hep_places.proofs.Right.{index-there}

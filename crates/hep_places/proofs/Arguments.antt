@@ -1,19 +1,8 @@
 -- What is found of dummy arguments is what must be known of them where their unit is called.
-use Rattle.std.proofs.Common.{◌≡◌, ℕ, ◌≤◌, Bool, true, false, List, map, Option, Some, None, refl, ap, ◌∙◌, if◌then◌else◌}
-use Rattle.std.specs.Prelude.{nat_eq, slice_get}
+use Rattle.std.proofs.Common.{◌≡◌, ℕ, ◌≤◌, Bool, true, false, List, map, Option, Some, None, refl, ap, ◌∙◌, if◌then◌else◌, nat_eq, slice_get, eqb-true}
 use Rattle.std.specs.Option.{unwrap_or}
-use Rattle.std.proofs.lemmas.Bool.{eqb-true}
 use Rattle.std.proofs.lemmas.Option.{none-some}
-use Rattle.hep_source.specs.declared.name.Name.{Name}
-use Rattle.hep_source.specs.declared.statement.Statement.{Statement}
-use Rattle.hep_source.specs.Names.{index_among}
-use Rattle.hep_source.specs.Units.{Units, dummies_of}
-use Rattle.hep_machine.specs.Constants.{adjustable_dimensions, constant_shape, constant_value}
-use Rattle.hep_machine.specs.Declarations.{BlockName, common_block, dimensions_of, is_array, is_common}
-use Rattle.hep_machine.specs.Defaults.{no_shape}
-use Rattle.hep_machine.specs.Layout.{common_cells}
-use Rattle.hep_machine.specs.Shapes.{Bounds}
-use Rattle.hep_machine.specs.Variables.{frame_cells}
+use Rattle.hep_machine.specs.Words.{Name, Statement, index_among, Units, dummies_of, adjustable_dimensions, constant_shape, constant_value, BlockName, common_block, dimensions_of, is_array, is_common, no_shape, common_cells, Bounds, frame_cells}
 use Rattle.hep_bounds.specs.BoundCode.{Sources}
 use Rattle.hep_bounds.specs.DimensionCode.{code_of_dimensions}
 use Rattle.hep_bounds.specs.Sources.{source_by, source_of}

@@ -1,22 +1,13 @@
 -- Where the storage units of names begin, and the rows of a frame, by what passes over them find.
-use Rattle.std.proofs.Common.{◌≡◌, ℕ, zero, suc, ◌+◌, ◌*◌, ◌≤◌, Bool, true, false, List, [], ◌∷◌, map, length, take, Option, Some, None, refl, ap, sym, ◌∙◌, subst, arith, if◌then◌else◌}
-use Rattle.std.specs.Prelude.{slice_get}
+use Rattle.std.proofs.Common.{◌≡◌, ℕ, zero, suc, ◌+◌, ◌*◌, ◌≤◌, Bool, true, false, List, [], ◌∷◌, map, length, take, Option, Some, None, refl, ap, sym, ◌∙◌, subst, arith, if◌then◌else◌, slice_get}
 use Rattle.std.specs.Option.{option_map, unwrap_or}
 use Rattle.std.specs.List.{filter}
 use Rattle.std.proofs.lemmas.Option.{same_Some, none-some}
-use Rattle.hep_source.specs.declared.name.Name.{Name}
-use Rattle.hep_source.specs.declared.statement.Statement.{Statement}
-use Rattle.hep_source.specs.Defaults.{no_statement}
-use Rattle.hep_source.specs.Names.{index_among, is_among, same_name}
-use Rattle.hep_source.specs.Units.{Units, dummies_of}
-use Rattle.hep_machine.specs.Constants.{adjustable_dimensions, cells_of, cells_of_all, cells_before}
-use Rattle.hep_machine.specs.Declarations.{BlockName, common_block, same_block}
-use Rattle.hep_machine.specs.Layout.{common_cells}
-use Rattle.hep_machine.specs.Variables.{adjustable_dimensions_of_all, do_statements, frame_cells, is_do, locals_of}
+use Rattle.hep_machine.specs.Words.{Name, Statement, no_statement, index_among, is_among, same_name, Units, dummies_of, adjustable_dimensions, cells_of, cells_of_all, cells_before, BlockName, common_block, same_block, common_cells, adjustable_dimensions_of_all, do_statements, frame_cells, is_do, locals_of}
 use Rattle.hep_image.specs.declared.array.Start.TheVariants.{Common, Dummy}
 use Rattle.hep_image.specs.Places.{loop_cells, start_of}
 use Rattle.hep_image.specs.Places as image
-use Rattle.hep_frames.specs.Rows.{FramePart, Row, argument, block_row, bounds, cells_in, common_row, first_in, first_in_common, first_of_block, first_of_part, frame_row, iteration, same_part, size_in, variable}
+use Rattle.hep_frames.specs.Words.{FramePart, Row, argument, block_row, bounds, cells_in, common_row, first_in, first_in_common, first_of_block, first_of_part, frame_row, iteration, same_part, size_in, variable}
 use Rattle.hep_frames.proofs.CommonRows.{block_row-below, common_row-cells}
 use Rattle.hep_frames.proofs.FrameRows.{argument-first, bounds-first, frame_row-cells, iteration-first, variable-first, first-size}
 use Rattle.hep_frames.proofs.Rows.{has_key}

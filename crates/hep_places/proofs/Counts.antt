@@ -1,7 +1,7 @@
 -- How many expressions a list has.
 use Rattle.std.proofs.Common.{◌≡◌, suc, List, [], ◌∷◌, length, refl, ap}
-use Rattle.hep_source.specs.Tree.{Tree, trees_of}
-use Rattle.hep_code.specs.ExpressionCode.{count}
+use Rattle.hep_machine.specs.Words.{Tree, trees_of}
+use Rattle.hep_code.specs.Words.{count}
 
 pub count_length : (ts : List Tree) → count (trees_of ts) ≡ length ts
 count_length [] = refl

@@ -1,13 +1,7 @@
 -- The bounds of an array, and which of them are fixed at each call.
-use Rattle.std.proofs.Common.{◌≡◌, ℕ, Bool, true, false, List, [], ◌∷◌, Option, Some, None, length, refl, ap, sym, ◌∙◌, arith, true≢false, if◌then◌else◌}
-use Rattle.std.specs.Prelude.{nat_eq}
+use Rattle.std.proofs.Common.{◌≡◌, ℕ, Bool, true, false, List, [], ◌∷◌, Option, Some, None, length, refl, ap, sym, ◌∙◌, arith, true≢false, if◌then◌else◌, nat_eq}
 use Rattle.std.proofs.lemmas.Bool.Decides.{nat_tests}
-use Rattle.hep_source.specs.declared.declaration.Dimension.{Dimension}
-use Rattle.hep_source.specs.declared.name.Name.{Name}
-use Rattle.hep_source.specs.declared.statement.Statement.{Statement}
-use Rattle.hep_machine.specs.Constants.{Constants, adjustable_dimensions, bounds_of, constant_shape, constant_value, if_shape, value_among}
-use Rattle.hep_machine.specs.Declarations.{dimensions_of, is_array, is_nonempty}
-use Rattle.hep_machine.specs.Shapes.{Bounds}
+use Rattle.hep_machine.specs.Words.{Dimension, Name, Statement, Constants, adjustable_dimensions, bounds_of, constant_shape, constant_value, if_shape, value_among, dimensions_of, is_array, is_nonempty, Bounds}
 use Rattle.hep_values.proofs.CellCounts.{adjustable}
 use Rattle.hep_places.specs.Found.{shape_found}
 

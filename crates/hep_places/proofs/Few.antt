@@ -1,36 +1,24 @@
 -- Arrays have cells of their own, so there are no more of them than cells.
-use Rattle.std.proofs.Common.{◌≡◌, ◌⊎◌, inl, inr, ℕ, zero, suc, ◌+◌, ◌*◌, ◌<◌, ◌≤◌, Bool, true, false, List, [], ◌∷◌, ◌++◌, length, Option, Some, None, refl, ap, sym, ◌∙◌, subst, arith, true≢false}
-use Rattle.std.specs.Prelude.{IfSome, slice_get, nat_le, ◌&&◌}
+use Rattle.std.proofs.Common.{◌≡◌, ◌⊎◌, inl, inr, ℕ, zero, suc, ◌+◌, ◌*◌, ◌<◌, ◌≤◌, Bool, true, false, List, [], ◌∷◌, ◌++◌, length, Option, Some, None, refl, ap, sym, ◌∙◌, subst, arith, true≢false, IfSome, slice_get, nat_le, ◌&&◌, length-append}
 use Rattle.std.specs.Option.{unwrap_or}
 use Rattle.std.proofs.Math.Nat.{mul-le-mul}
 use Rattle.std.proofs.lemmas.Bool.{and_parts}
-use Rattle.std.proofs.lemmas.List.{length-append}
 use Rattle.std.proofs.lemmas.Option.{same_Some, none-some}
 use Rattle.hep_source.proofs.NameTests.{equal_names, same_name-self, same_name-turned}
-use Rattle.hep_source.specs.declared.name.Name.{Name}
-use Rattle.hep_source.specs.declared.statement.Statement.{Statement}
-use Rattle.hep_source.specs.Names.{index_among, is_among, same_name}
-use Rattle.hep_source.specs.Units.{Units, dummies_of}
-use Rattle.hep_machine.specs.Constants.{cells_of, cells_of_shape, constant_shape}
-use Rattle.hep_machine.specs.Declarations.{BlockName, common_block, is_array, names_in_block, same_block}
-use Rattle.hep_machine.specs.Defaults.{no_name}
-use Rattle.hep_machine.specs.Layout.{common_cells}
-use Rattle.hep_machine.specs.Shapes.{Bounds, are_dimensions, elements, extent, is_between, is_most, is_shape, product}
-use Rattle.hep_machine.specs.Variables.{frame_cells, locals_of, names_of}
+use Rattle.hep_machine.specs.Words.{Name, Statement, index_among, is_among, same_name, Units, dummies_of, cells_of, cells_of_shape, constant_shape, BlockName, common_block, is_array, names_in_block, same_block, no_name, common_cells, Bounds, are_dimensions, elements, extent, is_between, is_most, is_shape, product, frame_cells, locals_of, names_of}
 use Rattle.hep_machine.proofs.Locations.{equal_blocks}
 use Rattle.hep_shape.proofs.Extents.{between_extent}
-use Rattle.hep_accepted.proofs.Members.{Has, has_behind, has_first_or, has_front, has_more}
+use Rattle.hep_accepted.proofs.Members.{Has, has_behind, has_first_or, has_front, has_more, has_among}
 use Rattle.hep_image.specs.declared.array.Start.{Start}
 use Rattle.hep_image.specs.Places.{arrays_of, start_by, start_of}
 use Rattle.hep_image.proofs.Distinct.{AreDistinct, fewer_distinct, names_distinct}
-use Rattle.hep_frames.specs.Rows.{FramePart, argument, block_row, common_row, first_in, first_in_common, first_of_block, first_of_part, frame_row, owner_in, same_part, size_in, variable}
+use Rattle.hep_frames.specs.Words.{FramePart, argument, block_row, common_row, first_in, first_in_common, first_of_block, first_of_part, frame_row, owner_in, same_part, size_in, variable}
 use Rattle.hep_frames.proofs.CommonRows.{block_row-below, common_row-cells, name-size}
 use Rattle.hep_frames.proofs.FrameRows.{argument-first, equal_parts, frame_row-cells, variable-first}
 use Rattle.hep_frames.proofs.Rows.{owned-by, place-at}
 use Rattle.hep_frames.proofs.Runs.{common-size}
 use Rattle.hep_places.proofs.Begins.{key-among}
 use Rattle.hep_places.proofs.InBlocks.{key-in-block}
-use Rattle.hep_accepted.proofs.Named.{has_among}
 
 -- ---- names that are each there once are no more than others of which they are some
 

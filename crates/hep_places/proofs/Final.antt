@@ -1,16 +1,9 @@
 -- All that is found of a unit is where its things are.
-use Rattle.std.proofs.Common.{◌≡◌, ℕ, ◌≤◌, List, map, length, Option, Some, ap, sym, ◌∙◌, subst}
-use Rattle.std.specs.Prelude.{slice_get}
+use Rattle.std.proofs.Common.{◌≡◌, ℕ, ◌≤◌, List, map, length, Option, Some, ap, sym, ◌∙◌, subst, slice_get}
 use Rattle.std.specs.List.{filter}
 use Rattle.std.specs.Option.{unwrap_or}
 use Rattle.indexmap.specs.IndexMap.{get}
-use Rattle.hep_source.specs.declared.name.Name.{Name}
-use Rattle.hep_source.specs.declared.statement.Statement.{Statement}
-use Rattle.hep_source.specs.Names.{name_eq}
-use Rattle.hep_source.specs.Units.{Units, dummies_of}
-use Rattle.hep_machine.specs.Constants.{constant_value}
-use Rattle.hep_machine.specs.Layout.{common_cells}
-use Rattle.hep_machine.specs.Variables.{frame_cells, locals_of, names_of}
+use Rattle.hep_machine.specs.Words.{Name, Statement, name_eq, Units, dummies_of, constant_value, common_cells, frame_cells, locals_of, names_of}
 use Rattle.hep_code.specs.declared.variable.Variable.TheVariants.{Absent}
 use Rattle.hep_image.specs.declared.array.Start.{Start}
 use Rattle.hep_image.specs.Owners.{AreGivenOnce, AreInOrder, frame_variables}

@@ -1,8 +1,7 @@
 -- Names of actual arguments, as loops gather them.
 use Rattle.std.proofs.Common.{◌≡◌, Bool, true, false, List, [], ◌∷◌, ◌++◌, refl, ap, sym, ◌∙◌, if◌then◌else◌}
 use Rattle.std.specs.List.{flat_map}
-use Rattle.hep_source.specs.declared.name.Name.{Name}
-use Rattle.hep_source.specs.Names.{is_among, same_name}
+use Rattle.hep_machine.specs.Words.{Name, is_among, same_name}
 use Rattle.hep_symbols.specs.Tables.{either}
 
 among-append : (x : Name) (xs ys : List Name) → is_among x (xs ++ ys) ≡ either (is_among x xs) (is_among x ys)

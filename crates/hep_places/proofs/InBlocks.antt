@@ -1,19 +1,11 @@
 -- Where names begin in common blocks, by one pass over all names in COMMON: X3.9-1978, 8.3.3.
-use Rattle.std.proofs.Common.{◌≡◌, ℕ, zero, suc, ◌+◌, Bool, true, false, List, [], ◌∷◌, ◌++◌, map, Option, Some, None, refl, ap, sym, ◌∙◌, subst, arith, if◌then◌else◌}
-use Rattle.std.specs.Prelude.{slice_get}
+use Rattle.std.proofs.Common.{◌≡◌, ℕ, zero, suc, ◌+◌, Bool, true, false, List, [], ◌∷◌, ◌++◌, map, Option, Some, None, refl, ap, sym, ◌∙◌, subst, arith, if◌then◌else◌, slice_get}
 use Rattle.std.specs.List.{flat_map}
 use Rattle.std.specs.Option.{option_map}
 use Rattle.std.proofs.lemmas.Option.{same_Some, none-some}
-use Rattle.hep_source.specs.declared.declaration.CommonBlock.{CommonBlock}
-use Rattle.hep_source.specs.declared.declaration.Declarator.{Declarator}
-use Rattle.hep_source.specs.declared.name.Name.{Name}
-use Rattle.hep_source.specs.declared.statement.Statement.{Statement}
-use Rattle.hep_source.specs.Names.{is_among, same_name}
-use Rattle.hep_source.specs.Units.{Units}
-use Rattle.hep_machine.specs.Constants.{cells_of}
-use Rattle.hep_machine.specs.Declarations.{BlockName, block_holding, block_of, blocks_of, blocks_of_unit, common_block, entries_under, is_block_among, names_declared, same_block, with_blocks}
+use Rattle.hep_machine.specs.Words.{CommonBlock, Declarator, Name, Statement, is_among, same_name, Units, cells_of, BlockName, block_holding, block_of, blocks_of, blocks_of_unit, common_block, entries_under, is_block_among, names_declared, same_block, with_blocks}
 use Rattle.hep_accepted.proofs.Members.{Has, has_flat, has_more}
-use Rattle.hep_frames.specs.Rows.{Row, block_row, first_in}
+use Rattle.hep_frames.specs.Words.{Row, block_row, first_in}
 use Rattle.hep_frames.proofs.Rows.{has_key}
 use Rattle.hep_common.specs.Starts.{narrowed}
 use Rattle.hep_places.specs.declared.blocks.Entry.{Entry}

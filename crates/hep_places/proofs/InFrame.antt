@@ -1,14 +1,9 @@
 -- What is found of the variables of a frame is what it has.
 use Rattle.std.proofs.Common.{◌≡◌, ◌+◌, ◌*◌, ◌≤◌, true, List, ◌++◌, Some, ap, ap₂, ◌∙◌}
 use Rattle.std.specs.Option.{unwrap_or}
-use Rattle.hep_source.specs.declared.name.Name.{Name}
-use Rattle.hep_source.specs.declared.statement.Statement.{Statement}
-use Rattle.hep_source.specs.Names.{is_among}
-use Rattle.hep_source.specs.Units.{dummies_of}
-use Rattle.hep_machine.specs.Declarations.{is_array}
-use Rattle.hep_machine.specs.Variables.{frame_cells, locals_of}
-use Rattle.hep_accepted.proofs.Members.{Has}
-use Rattle.hep_frames.specs.Rows.{first_of_part, variable}
+use Rattle.hep_machine.specs.Words.{Name, Statement, is_among, dummies_of, is_array, frame_cells, locals_of}
+use Rattle.hep_accepted.proofs.Members.{Has, has_among}
+use Rattle.hep_frames.specs.Words.{first_of_part, variable}
 use Rattle.hep_image.specs.Names.{variable_index}
 use Rattle.hep_image.specs.declared.owners.FrameVariable.{FrameVariable}
 use Rattle.hep_image.specs.Owners.{argument_at, frame_variables, variable_at}
@@ -16,7 +11,6 @@ use Rattle.hep_common.specs.Starts.{narrowed}
 use Rattle.hep_places.specs.Found.{Table}
 use Rattle.hep_places.specs.Owners.{argument_found, local_found, variables_found}
 use Rattle.hep_places.proofs.Begins.{argument-at}
-use Rattle.hep_accepted.proofs.Named.{has_among}
 use Rattle.hep_places.proofs.Right.{index-there, map-same}
 
 module _ (unit : List Statement) (small : frame_cells unit ≤ 16777216) (locals : Table) (at : (x : Name) → is_among x (locals_of unit) ≡ true → locals x ≡ Some (first_of_part unit (variable x))) where

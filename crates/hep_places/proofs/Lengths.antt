@@ -1,8 +1,7 @@
 -- Lengths of common blocks, of which one is lengthened.
 use Rattle.std.proofs.Common.{◌≡◌, ℕ, ◌+◌, ◌≤◌, Bool, true, false, Option, Some, None, refl, ap, sym, ◌∙◌, cond, if◌then◌else◌}
 use Rattle.std.specs.Option.{option_eq, unwrap_or}
-use Rattle.hep_source.specs.Names.{name_eq}
-use Rattle.hep_machine.specs.Declarations.{BlockName, same_block}
+use Rattle.hep_machine.specs.Words.{name_eq, BlockName, same_block}
 use Rattle.hep_values.proofs.BlockNames.{changed}
 use Rattle.hep_common.specs.Starts.{narrowed}
 use Rattle.hep_places.proofs.Narrowed.{narrowed-small}

@@ -1,15 +1,11 @@
 -- What tables have of names that stand one behind the other, name by name.
 use Rattle.std.proofs.Common.{◌≡◌, ℕ, ◌+◌, Bool, true, false, List, [], ◌∷◌, Option, Some, None, refl, ap, sym, ◌∙◌, arith, if◌then◌else◌}
 use Rattle.std.specs.Option.{option_or}
-use Rattle.hep_source.specs.declared.name.Name.{Name}
-use Rattle.hep_source.specs.declared.statement.Statement.{Statement}
-use Rattle.hep_source.specs.Names.{same_name}
+use Rattle.hep_machine.specs.Words.{Name, Statement, same_name, cells_of, BlockName}
 use Rattle.hep_code.specs.declared.variable.Variable.{Variable}
-use Rattle.hep_frames.specs.Rows.{Row, cells_in, first_in}
+use Rattle.hep_frames.specs.Words.{Row, cells_in, first_in}
 use Rattle.hep_frames.proofs.Rows.{has_key}
 use Rattle.hep_image.specs.declared.array.Start.{Start}
-use Rattle.hep_machine.specs.Constants.{cells_of}
-use Rattle.hep_machine.specs.Declarations.{BlockName}
 use Rattle.hep_symbols.specs.Tables.{by_name}
 use Rattle.hep_common.specs.Starts.{narrowed}
 use Rattle.hep_places.specs.declared.blocks.Entry.{Entry}

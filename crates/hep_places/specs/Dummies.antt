@@ -2,14 +2,7 @@
 use Rattle.std.specs.Prelude.{ℕ, ◌+◌, nat_eq, if◌then◌else◌, List, Option, Some, None}
 use Rattle.std.specs.Option.{unwrap_or}
 use Rattle.indexmap.specs.IndexMap.{get}
-use Rattle.hep_source.specs.declared.declaration.Dimension.{Dimension}
-use Rattle.hep_source.specs.declared.name.Name.{Name}
-use Rattle.hep_source.specs.declared.statement.Statement.{Statement}
-use Rattle.hep_source.specs.Names.{name_eq, index_among}
-use Rattle.hep_source.specs.Units.{dummies_of}
-use Rattle.hep_machine.specs.Constants.{Values, adjustable_dimensions, constant_shape, value_among}
-use Rattle.hep_machine.specs.Declarations.{BlockName, common_block, dimensions_of, is_array, is_common}
-use Rattle.hep_machine.specs.Shapes.{Bounds}
+use Rattle.hep_machine.specs.Words.{Dimension, Name, Statement, name_eq, index_among, dummies_of, Values, adjustable_dimensions, constant_shape, value_among, BlockName, common_block, dimensions_of, is_array, is_common, Bounds}
 use Rattle.hep_bounds.specs.BoundCode.{Sources}
 use Rattle.hep_bounds.specs.DimensionCode.{code_of_dimensions}
 use Rattle.hep_bounds.specs.Sources.{source_by}

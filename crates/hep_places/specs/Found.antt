@@ -3,17 +3,7 @@ use Rattle.std.specs.Prelude.{◌≡◌, length, ℕ, ◌+◌, ◌*◌, nat_eq, 
 use Rattle.std.specs.List.{flat_map}
 use Rattle.std.specs.Option.{option_eq, unwrap_or}
 use Rattle.indexmap.specs.IndexMap.{IndexMap, get}
-use Rattle.hep_source.specs.declared.declaration.CommonBlock.{CommonBlock}
-use Rattle.hep_source.specs.declared.declaration.Declarator.{Declarator}
-use Rattle.hep_source.specs.declared.name.Name.{Name}
-use Rattle.hep_source.specs.declared.statement.Form.{Form}
-use Rattle.hep_source.specs.declared.statement.Statement.{Statement}
-use Rattle.hep_source.specs.Names.{same_name, name_eq, index_among}
-use Rattle.hep_source.specs.Units.{dummies_of}
-use Rattle.hep_machine.specs.Constants.{adjustable_dimensions, cells_of, constant_shape}
-use Rattle.hep_machine.specs.Declarations.{BlockName, block_of, blocks_of_unit, common_block, is_array, same_block}
-use Rattle.hep_machine.specs.Shapes.{Bounds}
-use Rattle.hep_machine.specs.Variables.{is_do, locals_of}
+use Rattle.hep_machine.specs.Words.{CommonBlock, Declarator, Name, Form, Statement, same_name, name_eq, index_among, dummies_of, adjustable_dimensions, cells_of, constant_shape, BlockName, block_of, blocks_of_unit, common_block, is_array, same_block, Bounds, is_do, locals_of}
 use Rattle.hep_code.specs.declared.variable.Variable.{Variable}
 use Rattle.hep_code.specs.declared.variable.Variable.TheVariants as variables
 use Rattle.hep_image.specs.declared.array.Array.{Array}
@@ -22,7 +12,7 @@ use Rattle.hep_image.specs.declared.array.Extents.TheVariants.{Constant, Adjusta
 use Rattle.hep_image.specs.declared.array.Start.{Start}
 use Rattle.hep_image.specs.declared.array.Start.TheVariants.{Local, Common, Dummy}
 use Rattle.hep_image.specs.Places.{scalar}
-use Rattle.hep_frames.specs.Rows.{Row}
+use Rattle.hep_frames.specs.Words.{Row}
 use Rattle.hep_common.specs.Starts.{narrowed, start_in}
 use Rattle.hep_common.specs.declared.starts.CommonStarts.{CommonStarts}
 use Rattle.hep_places.specs.declared.blocks.Entry.{Entry}

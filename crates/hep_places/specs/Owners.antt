@@ -1,11 +1,7 @@
 -- What is found of the variables of a unit's frame: docs/MACHINE.md, "Variables and frames".
 use Rattle.std.specs.Prelude.{◌+◌, ◌*◌, List, ◌++◌, map}
 use Rattle.std.specs.Option.{unwrap_or}
-use Rattle.hep_source.specs.declared.name.Name.{Name}
-use Rattle.hep_source.specs.declared.statement.Statement.{Statement}
-use Rattle.hep_source.specs.Names.{index_among}
-use Rattle.hep_source.specs.Units.{dummies_of}
-use Rattle.hep_machine.specs.Declarations.{is_array}
+use Rattle.hep_machine.specs.Words.{Name, Statement, index_among, dummies_of, is_array}
 use Rattle.hep_image.specs.Names.{variable_index}
 use Rattle.hep_image.specs.declared.owners.FrameVariable.{FrameVariable}
 use Rattle.hep_common.specs.Starts.{narrowed}

@@ -1,9 +1,6 @@
 -- Where the variables of a unit, its arrays and its DOs are: docs/MACHINE.md, "Variables and frames" and "Layout".
 use Rattle.std.specs.Prelude.{◌≡◌, ℕ, List, map}
-use Rattle.hep_source.specs.declared.name.Name.{Name}
-use Rattle.hep_source.specs.declared.statement.Statement.{Statement}
-use Rattle.hep_source.specs.Units.{Units}
-use Rattle.hep_machine.specs.Variables.{frame_cells}
+use Rattle.hep_machine.specs.Words.{Name, Statement, Units, frame_cells}
 use Rattle.hep_image.specs.Dummies.{dummy_arguments}
 use Rattle.hep_image.specs.Owners.{AreInOrder, frame_variables}
 use Rattle.hep_image.specs.Places.{array_of, arrays_of, loop_cells, variable_of}

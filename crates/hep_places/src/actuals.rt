@@ -3,7 +3,7 @@ ghost use Rattle.std.specs.Prelude.{◌≡◌, ◌||◌, false, IfOk, OnOk};
 ghost use Rattle.std.specs.List.{flat_map};
 ghost use Rattle.indexmap.specs.IndexSet.{contains};
 ghost use Rattle.hep_source.specs.declared.name.Name.{Name as PureName};
-ghost use Rattle.hep_source.specs.Names.{is_among, name_eq};
+ghost use Rattle.hep_machine.specs.Words.{is_among, name_eq};
 ghost use Rattle.hep_symbols.specs.Tables.{either};
 ghost use Rattle.hep_image.specs.Private as private;
 

@@ -3,8 +3,7 @@ ghost use Rattle.std.specs.Prelude.{◌≡◌, true, map, length, None, IfOk};
 ghost use Rattle.std.specs.List.{filter};
 ghost use Rattle.std.specs.Option.{option_map};
 ghost use Rattle.indexmap.specs.IndexMap.{get};
-ghost use Rattle.hep_source.specs.Names.{name_eq};
-ghost use Rattle.hep_machine.specs.Constants.{adjustable_dimensions, value_among, constant_value};
+ghost use Rattle.hep_machine.specs.Words.{name_eq, adjustable_dimensions, value_among, constant_value};
 ghost use Rattle.hep_machine.specs.Declarations as declarations;
 ghost use Rattle.hep_places.specs.Found as found;
 

@@ -3,10 +3,8 @@ ghost use Rattle.std.specs.Prelude.{◌≡◌, ◌++◌, None, map, IfOk, OnOk};
 ghost use Rattle.std.specs.Option.{option_or};
 ghost use Rattle.indexmap.specs.IndexMap.{get};
 ghost use Rattle.hep_source.specs.declared.name.Name.{Name as PureName};
-ghost use Rattle.hep_source.specs.Names.{name_eq};
-ghost use Rattle.hep_machine.specs.Constants.{value_among, constant_value};
+ghost use Rattle.hep_machine.specs.Words.{name_eq, value_among, constant_value, BlockName};
 ghost use Rattle.hep_machine.specs.Declarations as declarations;
-ghost use Rattle.hep_machine.specs.Declarations.{BlockName};
 ghost use Rattle.hep_symbols.specs.Tables.{by_name};
 ghost use Rattle.hep_places.specs.Found as found;
 

@@ -1,9 +1,9 @@
 //! The code of bounds (X3.9-1978, 5.5.1).
 ghost use Rattle.std.specs.Prelude.{◌≡◌, ◌++◌, ◌∷◌, [], OnOk};
-ghost use Rattle.hep_source.specs.Tree.{trees_of};
+ghost use Rattle.hep_machine.specs.Words.{trees_of};
 ghost use Rattle.hep_bounds.specs.BoundCode as codes;
 ghost use Rattle.hep_bounds.specs.DimensionCode.{code_of_lower, code_of_dimensions};
-ghost use Rattle.hep_code.specs.ExpressionCode.{count};
+ghost use Rattle.hep_code.specs.Words.{count};
 ghost use Rattle.hep_symbols.specs.Meanings.{meaning};
 ghost use Rattle.hep_places.specs.Dummies.{source_in};
 

@@ -1,8 +1,6 @@
 //! The dummy arguments of a unit (X3.9-1978, 5.5.1 and 15.9.3).
 ghost use Rattle.std.specs.Prelude.{◌≡◌, true, map, IfOk};
-ghost use Rattle.hep_source.specs.Units.{dummies_of};
-ghost use Rattle.hep_machine.specs.Constants.{value_among, constant_value};
-ghost use Rattle.hep_machine.specs.Declarations.{is_array};
+ghost use Rattle.hep_machine.specs.Words.{dummies_of, value_among, constant_value, is_array};
 ghost use Rattle.hep_places.specs.Dummies as dummies;
 
 use crate::arrays::shape_of;

@@ -1,9 +1,7 @@
 //! Laws of the arrays of accepted programs.
 ghost use Rattle.std.specs.Prelude.{ℕ, length, ◌<◌, ◌≤◌};
-ghost use Rattle.hep_source.specs.Units.{Units, unit_at};
-ghost use Rattle.hep_machine.specs.Layout.{common_cells};
-ghost use Rattle.hep_machine.specs.Variables.{frame_cells};
-ghost use Rattle.hep_check.specs.Conditions.{IsAccepted};
+ghost use Rattle.hep_machine.specs.Words.{Units, unit_at, common_cells, frame_cells};
+ghost use Rattle.hep_check.specs.Words.{IsAccepted};
 ghost use Rattle.hep_image.specs.Places.{arrays_of};
 
 use hep_accepted::values::arrays_have_shapes;

@@ -3,10 +3,8 @@ ghost use Rattle.std.specs.Prelude.{◌≡◌, ℕ, ◌+◌, ◌*◌, List, map,
 ghost use Rattle.std.specs.Option.{option_or};
 ghost use Rattle.indexmap.specs.IndexMap.{get};
 ghost use Rattle.hep_source.specs.declared.name.Name.{Name as PureName};
-ghost use Rattle.hep_source.specs.Names.{name_eq};
-ghost use Rattle.hep_source.specs.declared.statement.Statement.{Statement};
+ghost use Rattle.hep_machine.specs.Words.{name_eq, Statement, value_among, constant_value};
 ghost use Rattle.hep_machine.specs.Constants as values;
-ghost use Rattle.hep_machine.specs.Constants.{value_among, constant_value};
 ghost use Rattle.hep_common.specs.Starts.{narrowed};
 ghost use Rattle.hep_places.specs.Found as found;
 

@@ -1,8 +1,7 @@
 //! The variables with cells in a unit's frame (docs/MACHINE.md, "Variables and frames").
 ghost use Rattle.std.specs.Prelude.{◌≡◌, IfOk};
 ghost use Rattle.indexmap.specs.IndexMap.{get};
-ghost use Rattle.hep_source.specs.Names.{name_eq};
-ghost use Rattle.hep_source.specs.Units.{names_of_occurrences};
+ghost use Rattle.hep_machine.specs.Words.{name_eq, names_of_occurrences};
 ghost use Rattle.hep_image.specs.Names.{variable_index};
 ghost use Rattle.hep_places.specs.Owners as owners;
 

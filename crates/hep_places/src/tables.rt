@@ -3,10 +3,7 @@ ghost use Rattle.std.specs.Prelude.{◌≡◌, ◌+◌, ◌*◌, IfOk};
 ghost use Rattle.std.specs.Prelude.{length};
 ghost use Rattle.indexmap.specs.IndexMap.{get};
 ghost use Rattle.hep_source.specs.declared.name.Name.{Name as PureName};
-ghost use Rattle.hep_source.specs.Names.{name_eq};
-ghost use Rattle.hep_source.specs.Units.{dummies_of};
-ghost use Rattle.hep_machine.specs.Constants.{value_among, constant_value};
-ghost use Rattle.hep_machine.specs.Variables.{locals_of};
+ghost use Rattle.hep_machine.specs.Words.{name_eq, dummies_of, value_among, constant_value, locals_of};
 ghost use Rattle.hep_common.specs.Starts.{narrowed};
 ghost use Rattle.hep_places.specs.Found as found;
 

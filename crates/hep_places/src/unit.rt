@@ -1,9 +1,8 @@
 //! Where all of a unit is.
 ghost use Rattle.std.specs.Prelude.{◌≡◌, ◌≤◌, ◌<◌, ℕ, length, IfOk};
-ghost use Rattle.hep_source.specs.Units.{Units, unit_at};
-ghost use Rattle.hep_machine.specs.Layout.{common_cells};
+ghost use Rattle.hep_machine.specs.Words.{Units, unit_at, common_cells};
 ghost use Rattle.hep_machine.specs.Variables as variables;
-ghost use Rattle.hep_check.specs.Conditions.{IsAccepted};
+ghost use Rattle.hep_check.specs.Words.{IsAccepted};
 ghost use Rattle.hep_common.specs.Starts.{AreStarts};
 ghost use Rattle.hep_places.specs.Unit.{ArePlaces};
 

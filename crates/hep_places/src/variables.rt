@@ -5,7 +5,7 @@ ghost use Rattle.std.specs.Option.{option_or, unwrap_or};
 ghost use Rattle.indexmap.specs.IndexMap.{get};
 ghost use Rattle.indexmap.specs.IndexSet.{contains};
 ghost use Rattle.hep_source.specs.declared.name.Name.{Name as PureName};
-ghost use Rattle.hep_source.specs.Names.{is_among, name_eq};
+ghost use Rattle.hep_machine.specs.Words.{is_among, name_eq};
 ghost use Rattle.hep_symbols.specs.Tables.{by_name};
 ghost use Rattle.hep_image.specs.Places as places;
 ghost use Rattle.hep_image.specs.Private as private;

@@ -1,20 +1,13 @@
 -- An activation begins: the main program's, and any other one.
-use Rattle.std.proofs.Common.{◌≡◌, ℕ, Bool, true, false, List, length, Option, Some, None, refl, sym, ap, ◌∙◌, subst, arith}
-use Rattle.std.specs.Prelude.{if◌then◌else◌, nat_eq, slice_get, is_some, IsSome}
-use Rattle.std.proofs.lemmas.Bool.{eqb-true, eq-eqb}
+use Rattle.std.proofs.Common.{◌≡◌, ℕ, Bool, true, false, List, length, Option, Some, None, refl, sym, ap, ◌∙◌, subst, arith, if◌then◌else◌, nat_eq, slice_get, is_some, IsSome, eqb-true, eq-eqb}
 use Rattle.std.proofs.lemmas.Option.{same_Some, none-some}
-use Rattle.hep_source.specs.Units.{Units}
+use Rattle.hep_machine.specs.Words.{Units, unset_cell, Frame, Layout, common_cells, frame_of, lowest_gap, with_frame, Activation, State}
 use Rattle.hep_machine.specs.declared.slot.Slot.{Slot}
-use Rattle.hep_machine.specs.Access.{unset_cell}
-use Rattle.hep_machine.specs.Layout.{Frame, Layout, common_cells, frame_of, lowest_gap, with_frame}
-use Rattle.hep_machine.specs.State.{Activation, State}
 use Rattle.hep_arena.specs.Gaps.{frame_among}
 use Rattle.hep_arena.specs.Holes.{IsOut, first_fit}
 use Rattle.hep_arena.specs.Space.{Space}
-use Rattle.hep_frames.specs.Addresses.{IsLaid, IsMemory, frame_from}
-use Rattle.hep_frames.specs.Descriptors.{Describes, Wanted}
-use Rattle.hep_frames.specs.Rows.{FramePart}
-use Rattle.hep_frames.specs.Tree.{also, AreFramed, IsTree, Node as TreeNode, Nodes, new_node, with_node}
+use Rattle.hep_frames.specs.Words.{IsLaid, IsMemory, frame_from, Describes, Wanted, FramePart, also, AreFramed, IsTree, Nodes, new_node, with_node}
+use Rattle.hep_frames.specs.Tree.{Node as TreeNode}
 use Rattle.hep_frames.proofs.Addresses.{framed}
 use Rattle.hep_frames.proofs.Descriptors.{described-entered}
 use Rattle.hep_frames.proofs.Frames.{among-with_frame}

@@ -1,13 +1,8 @@
 -- How many children a node can have.
-use Rattle.std.proofs.Common.{ℕ, zero, suc, ◌+◌, ◌<◌, ◌≤◌, ◌^◌, Bool, true, false, length, arith}
-use Rattle.std.specs.Prelude.{if◌then◌else◌, ◌&&◌}
-use Rattle.hep_source.specs.Units.{Units}
-use Rattle.hep_machine.specs.Layout.{Layout}
-use Rattle.hep_machine.specs.Processes.{parent_of}
-use Rattle.hep_machine.specs.State.{State}
+use Rattle.std.proofs.Common.{ℕ, zero, suc, ◌+◌, ◌<◌, ◌≤◌, ◌^◌, Bool, true, false, length, arith, if◌then◌else◌, ◌&&◌}
+use Rattle.hep_machine.specs.Words.{Units, Layout, parent_of, State}
 use Rattle.hep_arena.specs.Space.{Space}
-use Rattle.hep_frames.specs.Descriptors.{Wanted}
-use Rattle.hep_frames.specs.Tree.{count_up_to, is_just, Nodes}
+use Rattle.hep_frames.specs.Words.{Wanted, count_up_to, is_just, Nodes}
 use Rattle.hep_proc.specs.Keeping.{Keeps}
 use Rattle.hep_proc.specs.Nodes.{CanCount}
 

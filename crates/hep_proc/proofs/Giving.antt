@@ -1,24 +1,14 @@
 -- An activation ends: what a step of the walk upwards makes of the frames.
-use Rattle.std.proofs.Common.{◌≡◌, ◌⊎◌, ℕ, ◌+◌, ◌<◌, ◌≤◌, Bool, true, false, [], ◌∷◌, length, Option, Some, None, refl, sym, ap, ◌∙◌, subst}
-use Rattle.std.specs.Prelude.{if◌then◌else◌, nat_eq, slice_get, is_some}
+use Rattle.std.proofs.Common.{◌≡◌, ◌⊎◌, ℕ, ◌+◌, ◌<◌, ◌≤◌, Bool, true, false, [], ◌∷◌, length, Option, Some, None, refl, sym, ap, ◌∙◌, subst, if◌then◌else◌, nat_eq, slice_get, is_some}
 use Rattle.std.specs.Option.{option_map}
 use Rattle.std.proofs.lemmas.Bool.{eqb-false, eq-eqb, ne_eqb}
 use Rattle.std.proofs.lemmas.Option.{same_Some, none-some}
-use Rattle.hep_source.specs.Units.{Units, unit_at}
-use Rattle.hep_machine.specs.Layout.{Frame, Layout, common_cells}
-use Rattle.hep_machine.specs.Locations.{dummy_at}
-use Rattle.hep_machine.specs.Processes.{activation_of, parent_of, unit_of}
-use Rattle.hep_machine.specs.State.{Location, State, local, common}
-use Rattle.hep_machine.specs.Views.{is_owned}
+use Rattle.hep_machine.specs.Words.{Units, unit_at, Frame, Layout, common_cells, dummy_at, activation_of, parent_of, unit_of, Location, State, local, common, is_owned}
 use Rattle.hep_arena.specs.Gaps.{frame_among, gaps, without}
 use Rattle.hep_arena.specs.Holes.{IsOut, given}
 use Rattle.hep_arena.specs.Space.{Space}
 use Rattle.hep_arena.proofs.Arenas.{out-given}
-use Rattle.hep_frames.specs.Addresses.{AreSingle, IsMemory, cell_in}
-use Rattle.hep_frames.specs.Descriptors.{Describes, Wanted, wanted_of}
-use Rattle.hep_frames.specs.References.{IsOwnedAbove}
-use Rattle.hep_frames.specs.Rows.{FramePart, place_of_part}
-use Rattle.hep_frames.specs.Tree.{activation_under, AreFramed, AreWantedBut, but, is_just, IsTree, Node, Nodes, with_end, with_ended, with_one_less, without_node}
+use Rattle.hep_frames.specs.Words.{AreSingle, IsMemory, cell_in, Describes, Wanted, wanted_of, IsOwnedAbove, FramePart, place_of_part, activation_under, AreFramed, AreWantedBut, but, is_just, IsTree, Node, Nodes, with_end, with_ended, with_one_less, without_node}
 use Rattle.hep_frames.proofs.Descriptors.{described-left}
 use Rattle.hep_frames.proofs.Frames.{among, among-without}
 use Rattle.hep_frames.proofs.Memory.{frame-is-out, memory-left}

@@ -1,22 +1,14 @@
 -- The main program's activation begins.
-use Rattle.std.proofs.Common.{◌≡◌, ◌⊎◌, inl, inr, ℕ, Bool, true, false, List, [], ◌∷◌, ◌++◌, length, Some, None, refl, sym, ap, ◌∙◌, subst, arith}
-use Rattle.std.specs.Prelude.{if◌then◌else◌, nat_eq, nat_lt, slice_get, is_some}
+use Rattle.std.proofs.Common.{◌≡◌, ◌⊎◌, inl, inr, ℕ, Bool, true, false, List, [], ◌∷◌, ◌++◌, length, Some, None, refl, sym, ap, ◌∙◌, subst, arith, if◌then◌else◌, nat_eq, nat_lt, slice_get, is_some}
 use Rattle.std.specs.Option.{option_map}
 use Rattle.std.proofs.lemmas.Option.{same_Some, none-some}
-use Rattle.hep_source.specs.Units.{Units, main_unit}
+use Rattle.hep_machine.specs.Words.{Units, main_unit, unset_cell, Frame, common_cells, frame_of, layout_with_activation, lowest_gap, opening_layout, with_frame, opening, run, Activation, Location, Process, State}
 use Rattle.hep_machine.specs.declared.slot.Slot.{Slot}
-use Rattle.hep_machine.specs.Access.{unset_cell}
-use Rattle.hep_machine.specs.Layout.{Frame, common_cells, frame_of, layout_with_activation, lowest_gap, opening_layout, with_frame}
-use Rattle.hep_machine.specs.Opening.{opening}
-use Rattle.hep_machine.specs.Run.{run}
-use Rattle.hep_machine.specs.State.{Activation, Location, Process, State}
 use Rattle.hep_arena.specs.Gaps.{frame_among}
 use Rattle.hep_arena.specs.Holes.{IsOut, first_fit}
 use Rattle.hep_arena.specs.Space.{Space}
-use Rattle.hep_frames.specs.Addresses.{IsLaid, IsMemory, address, frame_from}
-use Rattle.hep_frames.specs.Descriptors.{Describes, Wanted}
-use Rattle.hep_frames.specs.Rows.{FramePart}
-use Rattle.hep_frames.specs.Tree.{AreFramed, first_nodes, is_stacked, IsAtRest, IsTree, Node as TreeNode, Nodes}
+use Rattle.hep_frames.specs.Words.{IsLaid, IsMemory, address, frame_from, Describes, Wanted, FramePart, AreFramed, first_nodes, is_stacked, IsAtRest, IsTree, Nodes}
+use Rattle.hep_frames.specs.Tree.{Node as TreeNode}
 use Rattle.hep_frames.proofs.Addresses.{IsCommon, IsLocal, framed, in-common, located}
 use Rattle.hep_frames.proofs.Beginning.{rest-first}
 use Rattle.hep_frames.proofs.Descriptors.{described-entered}

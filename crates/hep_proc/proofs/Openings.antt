@@ -1,19 +1,9 @@
 -- What is wanted of the main program's cells at the opening.
 use Rattle.std.proofs.Common.{◌≡◌, ℕ, List, [], Option, Some, refl, sym, ap, ◌∙◌}
 use Rattle.std.proofs.lemmas.Option.{same_Some, none-some}
-use Rattle.hep_source.specs.declared.name.Name.{Name}
-use Rattle.hep_source.specs.Names.{index_among}
-use Rattle.hep_source.specs.Units.{Units, dummies_of, main_unit, unit_at}
+use Rattle.hep_machine.specs.Words.{Name, index_among, Units, dummies_of, main_unit, unit_at, unset_cell, Layout, opening, activation_of, unit_of, run, run_from, Activation, Dummy, Process, State, entry_level}
 use Rattle.hep_machine.specs.declared.slot.Slot.{Slot}
-use Rattle.hep_machine.specs.Access.{unset_cell}
-use Rattle.hep_machine.specs.Layout.{Layout}
-use Rattle.hep_machine.specs.Opening.{opening}
-use Rattle.hep_machine.specs.Processes.{activation_of, unit_of}
-use Rattle.hep_machine.specs.Run.{run, run_from}
-use Rattle.hep_machine.specs.State.{Activation, Dummy, Process, State}
-use Rattle.hep_machine.specs.Step.{entry_level}
-use Rattle.hep_frames.specs.Descriptors.{level_of, slot_by_dummy, slot_of_bounds, slot_of_dummy, slot_on_level, wanted_of}
-use Rattle.hep_frames.specs.Rows.{FramePart, argument, bounds, header, iteration, variable}
+use Rattle.hep_frames.specs.Words.{level_of, slot_by_dummy, slot_of_bounds, slot_of_dummy, slot_on_level, wanted_of, FramePart, argument, bounds, header, iteration, variable}
 use Rattle.hep_proc.specs.Keeping.{IsOpening}
 
 opening-unit : (program : Units) → unit_of (run program []) 1 ≡ main_unit program

@@ -1,12 +1,8 @@
 -- Several activations end, one after the other.
-use Rattle.std.proofs.Common.{◌≡◌, ℕ, suc, ◌+◌, ◌<◌, Bool, true, false, List, [], ◌∷◌, length, drop, get_or, Some, refl, sym, ap, ◌∙◌, subst, arith, drop-cons}
-use Rattle.std.specs.Prelude.{if◌then◌else◌}
-use Rattle.hep_source.specs.Units.{Units}
-use Rattle.hep_machine.specs.Layout.{Layout}
-use Rattle.hep_machine.specs.State.{State}
+use Rattle.std.proofs.Common.{◌≡◌, ℕ, suc, ◌+◌, ◌<◌, Bool, true, false, List, [], ◌∷◌, length, drop, get_or, Some, refl, sym, ap, ◌∙◌, subst, arith, drop-cons, if◌then◌else◌}
+use Rattle.hep_machine.specs.Words.{Units, Layout, State}
 use Rattle.hep_arena.specs.Space.{Space}
-use Rattle.hep_frames.specs.Descriptors.{wanted_of}
-use Rattle.hep_frames.specs.Tree.{but, Node, Nodes}
+use Rattle.hep_frames.specs.Words.{wanted_of, but, Node, Nodes}
 use Rattle.hep_proc.specs.Keeping.{all_but, CanLeave, frames_of, HasLeft, Keeps}
 use Rattle.hep_proc.proofs.Giving.{all-kept}
 

@@ -1,11 +1,11 @@
 -- What the calls of a slab make of the nodes that it shows.
-use Rattle.std.proofs.Common.{◌≡◌, ℕ, Bool, true, false, Option, Some, None, refl, sym, ap, ◌∙◌}
-use Rattle.std.specs.Prelude.{if◌then◌else◌, nat_eq, IsSome}
+use Rattle.std.proofs.Common.{◌≡◌, ℕ, Bool, true, false, Option, Some, None, refl, sym, ap, ◌∙◌, if◌then◌else◌, nat_eq, IsSome}
 use Rattle.std.specs.Option.{option_map}
 use Rattle.std.proofs.lemmas.Bool.{eqb-true, eqb-false}
 use Rattle.std.proofs.lemmas.Option.{same_Some, none-some}
 use Rattle.slab.specs.Slab.{Slab, get, Updates}
-use Rattle.hep_frames.specs.Tree.{first_nodes, is_just, Node as TreeNode, Nodes, with_node, with_one_less, with_one_more, without_node}
+use Rattle.hep_frames.specs.Tree.{Node as TreeNode}
+use Rattle.hep_frames.specs.Words.{first_nodes, is_just, Nodes, with_node, with_one_less, with_one_more, without_node}
 use Rattle.hep_proc.specs.declared.nodes.Node.{Node}
 use Rattle.hep_proc.specs.Nodes.{HasChildren, IsCountedAbove, nodes_of, shown, with_fewer, with_more}
 use Rattle.hep_source.proofs.Tests.{numbers-turned}

@@ -1,21 +1,13 @@
 -- The frames of a state where another state has the same ones, where a cell is written, and after a run.
-use Rattle.std.proofs.Common.{◌≡◌, ℕ, ◌≤◌, Bool, true, List, [], length, arith, Some, None, refl, sym, ap, ◌∙◌, subst}
-use Rattle.std.specs.Prelude.{slice_get, slice_set, is_some}
+use Rattle.std.proofs.Common.{◌≡◌, ℕ, ◌≤◌, Bool, true, List, [], length, arith, Some, None, refl, sym, ap, ◌∙◌, subst, slice_get, slice_set, is_some}
 use Rattle.std.specs.List.{filter}
 use Rattle.std.proofs.lemmas.Option.{same_Some}
-use Rattle.hep_source.specs.Units.{Units}
+use Rattle.hep_machine.specs.Words.{Units, Frame, Layout, common_cells, is_held, layout_with_activation, lowest_gap, opening_layout, remaining_layout, frame_of, run, Location, State, with_cell}
 use Rattle.hep_machine.specs.declared.slot.Slot.{Slot}
-use Rattle.hep_machine.specs.Layout.{Frame, Layout, common_cells, is_held, layout_with_activation, lowest_gap, opening_layout, remaining_layout, frame_of}
-use Rattle.hep_machine.specs.Run.{run}
-use Rattle.hep_machine.specs.State.{Location, State}
-use Rattle.hep_machine.specs.Storage.{with_cell}
 use Rattle.hep_arena.specs.Holes.{first_fit}
 use Rattle.hep_arena.specs.Space.{Space}
 use Rattle.hep_arena.proofs.Gaps.{fit-gaps}
-use Rattle.hep_frames.specs.Addresses.{IsMemory, address, frame_address}
-use Rattle.hep_frames.specs.Descriptors.{Describes, Wanted, is_descriptor, wanted_of}
-use Rattle.hep_frames.specs.Rows.{FramePart}
-use Rattle.hep_frames.specs.Tree.{AreWantedBut, is_stacked, IsTree, Nodes}
+use Rattle.hep_frames.specs.Words.{IsMemory, address, frame_address, Describes, Wanted, is_descriptor, wanted_of, FramePart, AreWantedBut, is_stacked, IsTree, Nodes}
 use Rattle.hep_frames.proofs.Beginning.{tree-same, wanted-same}
 use Rattle.hep_frames.proofs.Descriptors.{described-same, described-set, described-written, memory-described}
 use Rattle.hep_frames.proofs.Memory.{memory-fits, memory-same, memory-written}

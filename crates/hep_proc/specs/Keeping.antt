@@ -1,23 +1,12 @@
 -- What the frames of a state are, in the arena and in the tree: docs/MACHINE.md, "Layout" and "Variables and frames".
 use Rattle.std.specs.Prelude.{◌≡◌, ℕ, ◌+◌, ◌<◌, ◌≤◌, Bool, true, nat_eq, if◌then◌else◌, List, [], ◌∷◌, ◌++◌, length, Some, None, is_some, slice_get}
 use Rattle.std.specs.List.{filter}
-use Rattle.hep_source.specs.declared.name.Name.{Name}
-use Rattle.hep_source.specs.Units.{Units}
+use Rattle.hep_machine.specs.Words.{Name, Units, unset_cell, Frame, Layout, dummy_at, activation_of, run, Activation, Location, State, local}
 use Rattle.hep_machine.specs.declared.slot.Slot.{Slot}
-use Rattle.hep_machine.specs.Access.{unset_cell}
-use Rattle.hep_machine.specs.Layout.{Frame, Layout}
-use Rattle.hep_machine.specs.Locations.{dummy_at}
-use Rattle.hep_machine.specs.Processes.{activation_of}
-use Rattle.hep_machine.specs.Run.{run}
-use Rattle.hep_machine.specs.State.{Activation, Location, State, local}
 use Rattle.hep_arena.specs.Gaps.{frame_among, gaps}
 use Rattle.hep_arena.specs.Holes.{IsOut, taken}
 use Rattle.hep_arena.specs.Space.{Space}
-use Rattle.hep_frames.specs.Addresses.{IsMemory}
-use Rattle.hep_frames.specs.Descriptors.{Describes, Wanted, wanted_of}
-use Rattle.hep_frames.specs.Rows.{FramePart}
-use Rattle.hep_frames.specs.References.{IsOwnedAbove}
-use Rattle.hep_frames.specs.Tree.{AreFramed, AreWantedBut, but, is_stacked, IsTree, Node, Nodes}
+use Rattle.hep_frames.specs.Words.{IsMemory, Describes, Wanted, wanted_of, FramePart, IsOwnedAbove, AreFramed, AreWantedBut, but, is_stacked, IsTree, Node, Nodes}
 
 -- ---- the frames of a state
 

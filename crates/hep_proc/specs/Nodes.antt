@@ -2,7 +2,8 @@
 use Rattle.std.specs.Prelude.{◌≡◌, ℕ, ◌≤◌, ◌+◌, ◌<◌, ◌^◌, false, nat_eq, if◌then◌else◌, Some}
 use Rattle.std.specs.Option.{option_map}
 use Rattle.slab.specs.Slab.{Slab, get}
-use Rattle.hep_frames.specs.Tree.{Node as TreeNode, Nodes, with_one_less, with_one_more}
+use Rattle.hep_frames.specs.Tree.{Node as TreeNode}
+use Rattle.hep_frames.specs.Words.{Nodes, with_one_less, with_one_more}
 use Rattle.hep_proc.specs.declared.nodes.Node.{Node}
 
 abbrev pub shown : Node → TreeNode

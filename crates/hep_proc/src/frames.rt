@@ -2,19 +2,12 @@
 ghost use Rattle.std.specs.Prelude.{◌≡◌, ◌+◌, ◌<◌, ◌≤◌, ◌++◌, ◌∷◌, [], ℕ, nat_eq, Bool, List, Some, None, IfOk, IsOk, IsSome, OnOk, length, slice_get, slice_set, true, false};
 ghost use Rattle.std.specs.Option.{is_some};
 ghost use Rattle.slab.specs.Slab.{ContainsKey, HasRoomFor, slab_len};
-ghost use Rattle.hep_source.specs.Units.{Units, main_unit};
-ghost use Rattle.hep_machine.specs.Access.{unset_cell};
+ghost use Rattle.hep_machine.specs.Words.{Units, main_unit, unset_cell, Layout, common_cells, frame_of, lowest_gap, opening_layout, with_frame, run, Activation, Location, State, with_cell};
 ghost use Rattle.hep_machine.specs.declared.slot.Slot.{Slot};
-ghost use Rattle.hep_machine.specs.Layout.{Layout, common_cells, frame_of, lowest_gap, opening_layout, with_frame};
-ghost use Rattle.hep_machine.specs.Run.{run};
-ghost use Rattle.hep_machine.specs.State.{Activation, Location, State};
-ghost use Rattle.hep_machine.specs.Storage.{with_cell};
 ghost use Rattle.hep_arena.specs.Gaps.{framed_cells};
 ghost use Rattle.hep_arena.specs.Holes.{IsOut, first_fit, free_cells, given};
-ghost use Rattle.hep_frames.specs.Addresses.{address, frame_address, frame_from};
-ghost use Rattle.hep_frames.specs.Descriptors.{Wanted, is_descriptor, wanted_of};
-ghost use Rattle.hep_frames.specs.Rows.{FramePart};
-ghost use Rattle.hep_frames.specs.Tree.{Node as TreeNode, also, but, first_nodes, is_stacked, new_node, with_node, without_node};
+ghost use Rattle.hep_frames.specs.Words.{address, frame_address, frame_from, Wanted, is_descriptor, wanted_of, FramePart, also, but, first_nodes, is_stacked, new_node, with_node, without_node};
+ghost use Rattle.hep_frames.specs.Tree.{Node as TreeNode};
 ghost use Rattle.hep_proc.specs.Nodes.{CanCount, IsCountedAbove, nodes_of};
 ghost use Rattle.hep_proc.specs.Keeping.{AreOfSomeState, CanAllLeave, CanLeave, HasLeft, IsBegun, IsEnded, IsOpening, IsTaken, IsUnused, Keeps, LeadUpwards, all_but, with_unset};
 

@@ -1,17 +1,11 @@
 //! Laws of the frames of states.
 ghost use Rattle.std.specs.Prelude.{◌≡◌, ◌+◌, ◌<◌, ◌^◌, [], ℕ, Bool, List, Some, length};
-ghost use Rattle.hep_source.specs.Units.{Units, dummies_of, main_unit, unit_at};
-ghost use Rattle.hep_machine.specs.Access.{unset_cell};
+ghost use Rattle.hep_machine.specs.Words.{Units, dummies_of, main_unit, unit_at, unset_cell, Layout, common_cells, is_held, remaining_layout, run, State};
 ghost use Rattle.hep_machine.specs.declared.slot.Slot.{Slot};
-ghost use Rattle.hep_machine.specs.Layout.{Layout, common_cells, is_held, remaining_layout};
-ghost use Rattle.hep_machine.specs.Run.{run};
-ghost use Rattle.hep_machine.specs.State.{State};
 ghost use Rattle.hep_arena.specs.Gaps.{framed_cells};
 ghost use Rattle.hep_arena.specs.Holes.{free_cells};
 ghost use Rattle.hep_arena.specs.Space.{Space};
-ghost use Rattle.hep_frames.specs.Descriptors.{Wanted, wanted_of};
-ghost use Rattle.hep_frames.specs.Rows.{FramePart};
-ghost use Rattle.hep_frames.specs.Tree.{Nodes, is_stacked};
+ghost use Rattle.hep_frames.specs.Words.{Wanted, wanted_of, FramePart, Nodes, is_stacked};
 ghost use Rattle.hep_proc.specs.Nodes.{CanCount};
 ghost use Rattle.hep_proc.specs.Keeping.{IsOpening, Keeps, frames_of};
 

@@ -1,7 +1,7 @@
 //! The nodes of frames that are out.
 ghost use Rattle.std.specs.Prelude.{◌≡◌, ℕ};
 ghost use Rattle.slab.specs.Slab.{slab_len};
-ghost use Rattle.hep_frames.specs.Tree.{with_ended};
+ghost use Rattle.hep_frames.specs.Words.{with_ended};
 ghost use Rattle.hep_proc.specs.Nodes.{CanCount, HasChildren, nodes_of, with_fewer, with_more};
 
 use hep_arena::Block;

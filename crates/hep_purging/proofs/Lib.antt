@@ -1,6 +1,5 @@
 pub mod Cells
 pub mod Reached
-pub mod Emptied
 pub mod Targets
 pub mod Purges
 mod Worked

@@ -1,35 +1,24 @@
 -- A PURGE that stands ahead: what it names, that this can be found, and that it does what the source machine does.
-use Rattle.std.proofs.Common.{◌≡◌, ◌≢◌, ℕ, suc, ◌+◌, ◌-◌, List, [], ◌∷◌, ◌++◌, drop, length, map, Some, Result, Ok, Err, refl, sym, ap, ◌∙◌, subst, arith}
+use Rattle.std.proofs.Common.{◌≡◌, ℕ, suc, ◌+◌, ◌-◌, List, [], ◌∷◌, ◌++◌, drop, length, map, Some, Result, Ok, Err, refl, sym, ap, ◌∙◌, subst, arith}
 use Rattle.std.specs.List.{flat_map}
-use Rattle.hep_source.specs.declared.name.Name.{Name}
-use Rattle.hep_source.specs.declared.value.Value.{Value}
-use Rattle.hep_source.specs.Units.{Units}
+use Rattle.hep_machine.specs.Words.{Name, Value, Units, dummy_for, level_after_statement, Next, Reference, does, next_of, purging, referred, Frame, Layout, Dummy, Top, result_after_purge, scope_of, state_with_store, store_after_purge, unit_on_top}
 use Rattle.hep_machine.specs.declared.event.Kind.{Kind}
 use Rattle.hep_machine.specs.declared.slot.Slot.{Slot}
-use Rattle.hep_machine.specs.Binding.{dummy_for}
-use Rattle.hep_machine.specs.Control.{level_after_statement}
-use Rattle.hep_machine.specs.Evaluation.{Next, Reference, does, next_of, purging, referred, wants}
-use Rattle.hep_machine.specs.Layout.{Frame, Layout}
-use Rattle.hep_machine.specs.State.{Dummy}
-use Rattle.hep_machine.specs.Step.{Top, result_after_purge, scope_of, state_with_store, store_after_purge, unit_on_top}
 use Rattle.hep_arena.specs.Holes.{Hole, IsOut}
 use Rattle.hep_arena.specs.Space.{Space}
 use Rattle.hep_code.specs.declared.instruction.Instruction.{Instruction}
 use Rattle.hep_code.specs.declared.instruction.Instruction.TheVariants.{Pass, Step}
 use Rattle.hep_code.specs.declared.instruction.Operation.TheVariants.{Purge}
 use Rattle.hep_code.specs.declared.variable.Variable.{Variable}
-use Rattle.hep_code.specs.declared.variable.Variable.TheVariants.{Absent}
-use Rattle.hep_code.specs.declared.variable.Variable.TheVariants as variable
-use Rattle.hep_code.specs.Actions.{referred_argument}
-use Rattle.hep_code.specs.Ahead.{IsNext}
-use Rattle.hep_code.specs.Passing.{passed_from, passed_reference}
+use Rattle.hep_code.specs.Words.{referred_argument, IsNext, passed_from, passed_reference}
 use Rattle.hep_code.proofs.Leads.{operation_leads}
 use Rattle.hep_code.proofs.Moves.{after_statement_keeps}
-use Rattle.hep_code.proofs.Passing.{references_passed}
-use Rattle.hep_frames.specs.Descriptors.{wanted_of}
+use Rattle.hep_code.proofs.Entries.{references_passed}
+use Rattle.hep_frames.specs.Words.{wanted_of}
 use Rattle.hep_frames.proofs.Addresses.{address-out}
 use Rattle.hep_frames.proofs.Memory.{memory-same}
 use Rattle.hep_finding.specs.Within.{ArePlacedArrays}
+use Rattle.hep_finding.proofs.Named.{absent-or}
 use Rattle.hep_image.specs.declared.array.Array.{Array}
 use Rattle.hep_image.specs.Finding.{cells_in}
 use Rattle.hep_image.specs.Places.{variable_of}
@@ -40,8 +29,7 @@ use Rattle.hep_passing.proofs.Ready.{variable-passable}
 use Rattle.hep_passing.proofs.References.{reference-passed}
 use Rattle.hep_step.specs.Ready.{frame_in_arena}
 use Rattle.hep_step.specs.Simulation.{IsRunning, Simulates, addressed_on_top, arrays_on_top, code_on_top, counts_in}
-use Rattle.hep_step.proofs.Accesses.{reached}
-use Rattle.hep_step.proofs.Running.{action_made, fault_is, is_at, next_is}
+use Rattle.hep_step.proofs.Running.{reached, action_made, fault_is, is_at, next_is}
 use Rattle.hep_purging.specs.declared.range.Range.{Range}
 use Rattle.hep_purging.specs.Placed.{AreEntriesPlaced}
 use Rattle.hep_purging.specs.Purged.{effect_of_purge, effect_of_ranges, purged}
@@ -70,7 +58,6 @@ module _ (program : Units) (t : Top) (layout : Layout) (f : Frame) (contents : L
     pub entries : behind ≡ map (λ r. Pass (referred_argument variables r)) targets ++ more
 
   purge_by : (n : Next) → next_of (unit_on_top program t) t.level.work ≡ n → IsNext (addressed_on_top program t) t.level.statement t.level.work operands index n (Purge count next) behind → IsPurgeAhead
-  purge_by (wants r) is h = absurd (cc h.operation)
   purge_by (does (purging targets)) is h =
       record {
         targets = targets;
@@ -80,7 +67,7 @@ module _ (program : Units) (t : Top) (layout : Layout) (f : Frame) (contents : L
         more = h.more;
         entries = h.entries;
       }
-  purge_by (does _) is h = absurd (cc h.operation)
+  purge_by _ is h = absurd (cc h.operation)
 
   pub purge_ahead : IsPurgeAhead
   purge_ahead = purge_by (next_of (unit_on_top program t) t.level.work) refl (next_is program t layout f contents holes operands index running line (Purge count next) behind ahead)
@@ -116,19 +103,10 @@ module _ (program : Units) (t : Top) (layout : Layout) (f : Frame) (contents : L
         subst (IsOut p) (sym running.memory.holes_are) (address-out program t.state (length contents) layout _ p running.memory.laid kept).1
 
     variable-out : (x : Name) (vs : List Value) → AreUnitsOut holes (passed_at (cells_in contents) f.first arrays (variables x) vs)
-    variable-out x vs = by_variable (variables x) refl where
-      other : (v : Variable) → v ≢ Absent → variables x ≡ v → AreUnitsOut holes (passed_at (cells_in contents) f.first arrays v vs)
-      other v there e =
-          subst (λ v. AreUnitsOut holes (passed_at (cells_in contents) f.first arrays v vs)) e (
-          units-out (passed_at (cells_in contents) f.first arrays (variables x) vs) (dummy_for (scope_of program t.state t.level.activation) 0 x (referred (x, vs))) (
-          reference-passed program t.state layout contents t.level.activation f calls x vs 0 x (λ absent. there (sym e ∙ absent))))
-
-      by_variable : (v : Variable) → variables x ≡ v → AreUnitsOut holes (passed_at (cells_in contents) f.first arrays v vs)
-      by_variable Absent e = tt
-      by_variable (variable.Local b c) e = other (variable.Local b c) (λ h. absurd cc) e
-      by_variable (variable.Common b c) e = other (variable.Common b c) (λ h. absurd cc) e
-      by_variable (variable.Dummy b c) e = other (variable.Dummy b c) (λ h. absurd cc) e
-      by_variable (variable.Array b i) e = other (variable.Array b i) (λ h. absurd cc) e
+    variable-out x vs =
+        absent-or (variables x) (λ v. AreUnitsOut holes (passed_at (cells_in contents) f.first arrays v vs)) tt (λ there.
+        units-out (passed_at (cells_in contents) f.first arrays (variables x) vs) (dummy_for (scope_of program t.state t.level.activation) 0 x (referred (x, vs))) (
+        reference-passed program t.state layout contents t.level.activation f calls x vs 0 x there))
 
     pub targets-out : AreOut space arrays (frame_in_arena f) (passed_from count behind operands)
     targets-out = let p = purge_ahead in subst (AreOut space arrays (frame_in_arena f)) (sym (named_so p)) (each p.targets) where

@@ -1,44 +1,66 @@
 -- What the source machine empties is what is kept in the cells of the ranges, or both are at the same fault.
-use Rattle.std.proofs.Common.{◌≡◌, ◌≢◌, ℕ, ◌+◌, ◌-◌, ◌≤◌, Bool, true, false, List, [], ◌∷◌, Result, Ok, Err, refl, sym, ap, ◌∙◌, subst, arith}
-use Rattle.std.specs.Prelude.{◌&&◌, if◌then◌else◌, map, not}
+use Rattle.std.proofs.Common.{◌≡◌, ℕ, zero, suc, ◌+◌, List, length, Some, refl, sym, ap, ◌∙◌, subst, arith, ◌≢◌, ◌-◌, ◌≤◌, Bool, true, false, [], ◌∷◌, Result, Ok, Err, slice_set, ◌&&◌, if◌then◌else◌, map, not}
 use Rattle.std.specs.Option.{unwrap_or}
-use Rattle.hep_source.specs.declared.name.Name.{Name}
-use Rattle.hep_source.specs.declared.statement.Statement.{Statement}
-use Rattle.hep_source.specs.declared.value.Value.{Value}
-use Rattle.hep_source.specs.Names.{index_among}
-use Rattle.hep_source.specs.Units.{Units, unit_at}
-use Rattle.hep_machine.specs.declared.event.Kind.{Kind}
+use Rattle.hep_machine.specs.Words.{Units, unit_at, purged_cell, unset_cell, Layout, Frame, Location, State, Store, emptied_from, further, with_cell, with_empty, Name, Statement, Value, index_among, from_element, is_array, is_nonempty, Reference, Scope, StorageSequence, element_of, location_in, storage_of, unit_of, scope_of, store_after_both, store_after_purge, store_after_purge_at, store_after_purge_of}
 use Rattle.hep_machine.specs.declared.slot.Slot.{Slot}
-use Rattle.hep_machine.specs.Binding.{from_element}
-use Rattle.hep_machine.specs.Declarations.{is_array, is_nonempty}
-use Rattle.hep_machine.specs.Evaluation.{Reference}
-use Rattle.hep_machine.specs.Layout.{Frame, Layout}
-use Rattle.hep_machine.specs.Locations.{Scope, StorageSequence, element_of, location_in, storage_of}
-use Rattle.hep_machine.specs.Processes.{unit_of}
-use Rattle.hep_machine.specs.State.{Location, State, Store}
-use Rattle.hep_machine.specs.Step.{scope_of, store_after_both, store_after_purge, store_after_purge_at, store_after_purge_of}
-use Rattle.hep_machine.specs.Storage.{emptied_from, further}
 use Rattle.hep_arena.specs.Holes.{Hole}
+use Rattle.hep_frames.specs.Words.{IsLaid, IsMemory, address, Describes, Wanted, RunsFrom}
+use Rattle.hep_frames.proofs.Descriptors.{described-written}
+use Rattle.hep_frames.proofs.Memory.{address-same, memory-written}
+use Rattle.hep_frames.proofs.Runs.{runs-from, runs-fewer}
+use Rattle.hep_image.specs.Finding.{cells_in}
+use Rattle.hep_purging.specs.Purged.{purged_from, purged}
+use Rattle.hep_finding.proofs.Variables.{further-none}
+use Rattle.hep_finding.proofs.Named.{by-kind}
+use Rattle.hep_machine.specs.declared.event.Kind.{Kind}
 use Rattle.hep_code.specs.declared.variable.Variable.{Variable}
 use Rattle.hep_code.specs.declared.variable.Variable.TheVariants.{Absent}
 use Rattle.hep_code.specs.declared.variable.Variable.TheVariants as variable
-use Rattle.hep_code.specs.Passing.{passed_reference}
-use Rattle.hep_frames.specs.Descriptors.{Wanted}
-use Rattle.hep_frames.specs.Runs.{RunsFrom}
-use Rattle.hep_frames.proofs.Runs.{runs-fewer}
+use Rattle.hep_code.specs.Words.{passed_reference}
 use Rattle.hep_image.specs.declared.array.Array.{Array}
 use Rattle.hep_image.specs.declared.array.Start.{Start}
 use Rattle.hep_image.specs.declared.array.Start.TheVariants as start
-use Rattle.hep_image.specs.Finding.{cells_in}
-use Rattle.hep_image.specs.Places.{arrays_of, scalar, variable_by, variable_of}
+use Rattle.hep_image.specs.Places.{arrays_of, scalar, variable_of}
 use Rattle.hep_passing.specs.Agreement.{IsCaller, IsPassedAs, arrays_at}
 use Rattle.hep_passing.specs.Passing.{made_before, passed_at}
 use Rattle.hep_passing.proofs.References.{caller-found, reference-passed}
 use Rattle.hep_purging.specs.declared.range.Range.{Range}
-use Rattle.hep_purging.specs.Purged.{purged, purged_from}
 use Rattle.hep_purging.specs.Ranges.{is_whole, range_for, range_in, ranges_of}
-use Rattle.hep_purging.proofs.Emptied.{Keeps, run-emptied}
-use Rattle.hep_finding.proofs.Dummies.{further-none}
+
+-- ---- storage units and the cells that keep them are emptied: what is kept is that of the store, and descriptors stay
+
+module _ (program : Units) (s : State) (layout : Layout) (holes : List Hole) (wanted : Wanted) where
+  -- the arena of the state with a store
+  abbrev pub with_store : Store → State
+  with_store store = record s { store = store }
+
+  abbrev pub Keeps : Store → List Slot → Type 0
+  Keeps store contents = IsMemory program (with_store store) layout contents holes × Describes program s layout wanted contents
+
+  laid-before : (store : Store) (cells : ℕ) → IsLaid program (with_store store) cells layout → IsLaid program s cells layout
+  laid-before store cells laid = record { apart = laid.apart; single = laid.single; made = laid.made; sized = laid.sized }
+
+  -- one cell
+  cell-emptied : (at : Location) (p : ℕ) (store : Store) (contents : List Slot) → address program s layout at ≡ Some p → Keeps store contents → Keeps (with_empty store at) (slice_set contents p (purged_cell (cells_in contents p)))
+  cell-emptied at p store contents here keeps =
+      let cell = purged_cell (cells_in contents p) in
+      let before : address program (with_store store) layout at ≡ Some p = address-same program s (with_store store) layout at refl ∙ here in
+      let kept : cells_in contents p ≡ store at = ap (λ o. unwrap_or o unset_cell) (keeps.0.holds at p before) in (
+        memory-written program (with_store store) (with_store (with_empty store at)) layout contents holes at p cell keeps.0 before refl (ap (λ c. with_cell store at (purged_cell c)) (sym kept)),
+        described-written program s layout wanted contents at p cell (laid-before store (length contents) keeps.0.laid) keeps.1 here,
+      )
+
+  -- consecutive ones
+  pub run-emptied : (n : ℕ) (at : Location) (first : ℕ) (store : Store) (contents : List Slot) → RunsFrom program s layout at n first → Keeps store contents → Keeps (emptied_from n at store) (purged_from n first contents)
+  run-emptied zero at first store contents run keeps = keeps
+  run-emptied (suc n) at first store contents run keeps =
+      let begins : first + 0 ≡ first = omega arith in
+      let here : address program s layout at ≡ Some first = ap (address program s layout) (sym (further-none at)) ∙ (run 0 (omega arith) ∙ ap (λ p. Some p) begins) in
+      let next : first + 1 ≡ suc first = omega arith in
+      let rest = subst (RunsFrom program s layout (further at 1) n) next (runs-from program s layout at (suc n) first 1 n run (omega arith)) in
+      run-emptied n (further at 1) (suc first) (with_empty store at) (slice_set contents first (purged_cell (cells_in contents first))) rest (cell-emptied at first store contents here keeps)
+
+-- ---- targets
 
 -- each target's variable has storage units
 abbrev pub ArePlaced : (Name → Variable) → List Reference → Type 0
@@ -94,20 +116,20 @@ module _ (program : Units) (s : State) (layout : Layout) (contents : List Slot) 
 
   -- the code tells whole arrays as the source machine does
   whole-same : (x : Name) (vs : List Value) → variables x ≢ Absent → is_whole (variables x) vs ≡ (is_array unit x && not (is_nonempty vs))
-  unfolding variable_of
   whole-same x vs there =
       let found = caller-found program s layout contents a f calls x there in
-      subst (λ o. is_whole (variable_by unit x o) vs ≡ (is_array unit x && not (is_nonempty vs))) (sym found.1.starts) (by_kind found.0 (is_array unit x) vs)
+      by-kind program unit x found.0 (λ v. is_whole v vs ≡ (is_array unit x && not (is_nonempty vs))) found.1.starts
+      (λ is. of_array vs ∙ ap (λ b. b && not (is_nonempty vs)) (sym is))
+      (λ is. of_scalar x.asynchronous found.0 ∙ ap (λ b. b && not (is_nonempty vs)) (sym is))
     where
-      of_scalar : (b : Bool) (at : Start) (vs : List Value) → is_whole (scalar b at) vs ≡ false
-      of_scalar b (start.Local c) vs = refl
-      of_scalar b (start.Common c) vs = refl
-      of_scalar b (start.Dummy c) vs = refl
+      of_array : (vs : List Value) → is_whole (variable.Array x.asynchronous (unwrap_or (index_among x (arrays_of unit)) 0)) vs ≡ not (is_nonempty vs)
+      of_array [] = refl
+      of_array (v ∷ vs) = refl
 
-      by_kind : (at : Start) (b : Bool) (vs : List Value) → is_whole (if b then variable.Array x.asynchronous (unwrap_or (index_among x (arrays_of unit)) 0) else scalar x.asynchronous at) vs ≡ (b && not (is_nonempty vs))
-      by_kind at true [] = refl
-      by_kind at true (v ∷ vs) = refl
-      by_kind at false vs = of_scalar x.asynchronous at vs
+      of_scalar : (b : Bool) (at : Start) → is_whole (scalar b at) vs ≡ false
+      of_scalar b (start.Local c) = refl
+      of_scalar b (start.Common c) = refl
+      of_scalar b (start.Dummy c) = refl
 
   target-purged : (r : Reference) → variables r.0 ≢ Absent → IsOnePurged program s layout (range_for (cells_in contents) f.first arrays (passed_reference variables r)) (store_after_purge_of scope r)
   target-purged r there =

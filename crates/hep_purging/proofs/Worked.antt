@@ -1,15 +1,13 @@
 -- Worked PURGEs: a frame of nine cells behind two of COMMON, with a dummy array that has two storage units left.
 use Rattle.std.specs.Prelude.{◌≡◌, ℕ, pos, true, false, List, [], ◌∷◌, Some, refl}
-use Rattle.hep_source.specs.declared.value.Value.{Value}
-use Rattle.hep_source.specs.declared.value.Value.TheVariants.{Int}
+use Rattle.hep_machine.specs.Words.{Value, Int, unset_cell}
 use Rattle.hep_machine.specs.declared.event.Kind.TheVariants as kind
 use Rattle.hep_machine.specs.declared.slot.Slot.{Slot}
-use Rattle.hep_machine.specs.Access.{unset_cell}
 use Rattle.hep_code.specs.declared.instruction.Argument.TheVariants.{Referred}
 use Rattle.hep_code.specs.declared.instruction.Instruction.{Instruction}
 use Rattle.hep_code.specs.declared.instruction.Instruction.TheVariants.{Pass}
 use Rattle.hep_code.specs.declared.variable.Variable.TheVariants as variable
-use Rattle.hep_code.specs.Passing.{passed_from}
+use Rattle.hep_code.specs.Words.{passed_from}
 use Rattle.hep_image.specs.declared.array.Array.{Array}
 use Rattle.hep_image.specs.declared.array.Extents.TheVariants.{Adjustable, Constant}
 use Rattle.hep_image.specs.declared.array.Start.TheVariants.{Dummy, Local}

@@ -2,8 +2,8 @@
 use Rattle.std.specs.Prelude.{ℕ, zero, suc, ◌+◌, ◌&&◌, ◌||◌, Bool, false, nat_le, nat_lt, List, [], ◌∷◌, Result, Ok, Err, slice_set}
 use Rattle.hep_machine.specs.declared.event.Kind.{Kind}
 use Rattle.hep_machine.specs.declared.slot.Slot.{Slot}
-use Rattle.hep_machine.specs.Access.{purged_cell}
-use Rattle.hep_code.specs.Passing.{Passed}
+use Rattle.hep_machine.specs.Words.{purged_cell}
+use Rattle.hep_code.specs.Words.{Passed}
 use Rattle.hep_image.specs.declared.array.Array.{Array}
 use Rattle.hep_image.specs.Finding.{cells_in}
 use Rattle.hep_step.specs.Effects.{Effect, fails, moves}

@@ -1,11 +1,11 @@
 -- Which cells of the arena a PURGE empties: docs/LANGUAGE.md, 9, and docs/MACHINE.md, "Steps".
 use Rattle.std.specs.Prelude.{ℕ, Bool, true, false, if◌then◌else◌, List, [], Result, Ok, Err}
-use Rattle.hep_source.specs.declared.value.Value.{Value}
+use Rattle.hep_machine.specs.Words.{Value}
 use Rattle.hep_machine.specs.declared.event.Kind.{Kind}
 use Rattle.hep_machine.specs.declared.slot.Slot.{Slot}
 use Rattle.hep_code.specs.declared.variable.Variable.{Variable}
 use Rattle.hep_code.specs.declared.variable.Variable.TheVariants.{Array as ArrayAt}
-use Rattle.hep_code.specs.Passing.{Passed, by_value, by_reference}
+use Rattle.hep_code.specs.Words.{Passed, by_value, by_reference}
 use Rattle.hep_image.specs.declared.array.Array.{Array}
 use Rattle.hep_passing.specs.Passing.{made_by, passed_at}
 use Rattle.hep_purging.specs.declared.range.Range.{Range}

@@ -3,7 +3,7 @@ use Rattle.std.specs.Prelude.{ℕ, ◌+◌, ◌<◌, ◌≤◌, List, [], ◌∷
 use Rattle.hep_machine.specs.declared.event.Kind.{Kind}
 use Rattle.hep_arena.specs.Holes.{Hole, IsOut}
 use Rattle.hep_arena.specs.Space.{Space}
-use Rattle.hep_code.specs.Passing.{Passed, by_value, by_reference}
+use Rattle.hep_code.specs.Words.{Passed, by_value, by_reference}
 use Rattle.hep_image.specs.declared.array.Array.{Array}
 use Rattle.hep_image.specs.Finding.{cells_in}
 use Rattle.hep_passing.specs.Passing.{passed_at}

@@ -1,6 +1,6 @@
 //! Which cells a PURGE empties (`docs/LANGUAGE.md`, 9).
 ghost use Rattle.std.specs.Prelude.{◌≡◌, ◌≤◌, Ok, Err, IfOk, IfErr, vec_capacity};
-ghost use Rattle.hep_code.specs.Passing.{passed_from};
+ghost use Rattle.hep_code.specs.Words.{passed_from};
 ghost use Rattle.hep_image.specs.Finding.{cells_in};
 ghost use Rattle.hep_passing.specs.Ready.{ArePassable};
 ghost use Rattle.hep_step.specs.Cells.{HasFrame};

@@ -1,16 +1,12 @@
 //! Laws of PURGE: what it does to the cells of the arena is what the source machine does to the storage units.
 ghost use Rattle.std.specs.Prelude.{◌≡◌, ◌≤◌, ◌∷◌, ℕ, true, false, List, Some, drop, length, slice_get};
-ghost use Rattle.hep_source.specs.declared.value.Value.{Value};
-ghost use Rattle.hep_source.specs.Units.{Units};
+ghost use Rattle.hep_machine.specs.Words.{Value, Units, purged_cell, Frame, Layout, Top, unit_on_top};
 ghost use Rattle.hep_machine.specs.declared.slot.Slot.{Slot};
-ghost use Rattle.hep_machine.specs.Access.{purged_cell};
-ghost use Rattle.hep_machine.specs.Layout.{Frame, Layout};
-ghost use Rattle.hep_machine.specs.Step.{Top, unit_on_top};
 ghost use Rattle.hep_arena.specs.Holes.{Hole};
 ghost use Rattle.hep_code.specs.declared.instruction.Instruction.{Instruction};
 ghost use Rattle.hep_code.specs.declared.instruction.Instruction.TheVariants.{Step};
 ghost use Rattle.hep_code.specs.declared.instruction.Operation.TheVariants.{Purge};
-ghost use Rattle.hep_code.specs.Passing.{passed_from};
+ghost use Rattle.hep_code.specs.Words.{passed_from};
 ghost use Rattle.hep_image.specs.Image.{most_cells};
 ghost use Rattle.hep_finding.specs.Within.{ArePlacedArrays};
 ghost use Rattle.hep_step.specs.Cells.{HasFrame};

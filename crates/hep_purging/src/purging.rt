@@ -1,6 +1,6 @@
 //! PURGE (`docs/LANGUAGE.md`, 9).
 ghost use Rattle.std.specs.Prelude.{◌≡◌, ◌<◌, ◌≤◌, length, slice_set};
-ghost use Rattle.hep_machine.specs.Access.{purged_cell};
+ghost use Rattle.hep_machine.specs.Words.{purged_cell};
 ghost use Rattle.hep_arena.specs.Holes.{IsOut};
 ghost use Rattle.hep_image.specs.Finding.{cells_in};
 ghost use Rattle.hep_image.specs.Image.{most_cells};

@@ -1,9 +1,8 @@
 -- The numbers where marks are set: after a mark is set or taken away, which comes first above a number, and where there is none.
-use Rattle.std.proofs.Common.{◌≡◌, ℕ, zero, suc, ◌+◌, ◌*◌, ◌<◌, ◌≤◌, Bool, true, false, List, [], ◌∷◌, ◌++◌, length, length-drop, drop, replicate, set, Option, Some, None, refl, sym, ap, ◌∙◌, inl, inr, arith}
-use Rattle.std.specs.Prelude.{◌==◌, not, slice_get}
+use Rattle.std.proofs.Common.{◌≡◌, ℕ, zero, suc, ◌+◌, ◌*◌, ◌<◌, ◌≤◌, Bool, true, false, List, [], ◌∷◌, ◌++◌, length, length-drop, drop, replicate, set, Option, Some, None, refl, sym, ap, ◌∙◌, inl, inr, arith, ◌==◌, not, slice_get}
 use Rattle.std.proofs.lemmas.Bool.{cases_lt, lt-ltb, le-ltb, ne_eqb, eq-eqb}
 use Rattle.std.proofs.lemmas.List.{get_or_past}
-use Rattle.hep_machine.specs.Schedules.{first_above, without}
+use Rattle.hep_machine.specs.Words.{first_above, without}
 use Rattle.hep_ready.specs.Numbers.{AreRising, numbers_from, with_number}
 use Rattle.hep_lengths.specs.Trees.{number}
 

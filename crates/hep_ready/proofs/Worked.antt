@@ -1,6 +1,6 @@
 -- Eight numbers have room, and of them 2, 3 and 6 are ready: what comes next, and what is ready after a change.
 use Rattle.std.proofs.Common.{◌≡◌, [], ◌∷◌, Some, None, refl}
-use Rattle.hep_machine.specs.Schedules.{next_of_ready, without}
+use Rattle.hep_machine.specs.Words.{next_of_ready, without}
 use Rattle.hep_ready.specs.Numbers.{numbers_from, with_number}
 
 three_ready : numbers_from 1 (0 ∷ 1 ∷ 1 ∷ 0 ∷ 0 ∷ 1 ∷ 0 ∷ 0 ∷ []) ≡ 2 ∷ 3 ∷ 6 ∷ []

@@ -1,6 +1,6 @@
 //! The ready processes.
 ghost use Rattle.std.specs.Prelude.{◌≡◌, ◌==◌, ◌≤◌, [], None, IfErr, IsOk, OnOk, length};
-ghost use Rattle.hep_machine.specs.Schedules.{first_above, next_of_ready, without};
+ghost use Rattle.hep_machine.specs.Words.{first_above, next_of_ready, without};
 ghost use Rattle.hep_ready.specs.Numbers.{AreRising, with_number};
 
 use hep_lengths::Tree;

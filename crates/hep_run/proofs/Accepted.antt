@@ -1,8 +1,7 @@
 -- What is left of a source that is checked or listed: outcomes without a history.
-use Rattle.std.proofs.Common.{◌≡◌, ℕ, ◌≤◌, List, [], length, Option, Result, refl, sym, ap, inl, inr}
-use Rattle.std.specs.Prelude.{IfOk}
+use Rattle.std.proofs.Common.{◌≡◌, ℕ, ◌≤◌, List, [], length, Option, Result, refl, sym, ap, inl, inr, IfOk}
 use Rattle.std.specs.Io.KnownBytes.{Consumes, IsAtEnd}
-use Rattle.hep_source.specs.Units.{Units}
+use Rattle.hep_machine.specs.Words.{Units}
 use Rattle.hep_run.specs.declared.options.Run.{Run}
 use Rattle.hep_run.specs.declared.transcript.Transcript.{Transcript}
 use Rattle.hep_run.specs.Outcome.{ComesTo, Outcome}

@@ -1,9 +1,8 @@
 -- A source whose program is accepted and has no image is refused for that.
-use Rattle.std.proofs.Common.{List, ℕ, inr}
-use Rattle.std.specs.Prelude.{Result, Ok, Err, IfErr}
+use Rattle.std.proofs.Common.{List, ℕ, inr, Result, Ok, Err, IfErr}
 use Rattle.hep_base.specs.declared.refusal.Refusal.{Refusal}
 use Rattle.hep_base.specs.declared.refusal.Refusal.TheVariants.{NoMemory, Refused}
-use Rattle.hep_source.specs.Units.{Units}
+use Rattle.hep_machine.specs.Words.{Units}
 use Rattle.hep_lower.specs.Refusals.{Refuses}
 use Rattle.hep_run.specs.Refusals.{IsSourceRefusal}
 use Rattle.hep_run.specs.Sources.{IsAcceptedSource}

@@ -1,8 +1,7 @@
 -- What a writer took of pieces that are written one after the other.
-use Rattle.std.proofs.Common.{ℕ, ◌+◌, ◌≤◌, List, ◌++◌, length, take, Option, sym, subst, inl, inr}
+use Rattle.std.proofs.Common.{ℕ, ◌+◌, ◌≤◌, List, ◌++◌, length, take, Option, sym, subst, inl, inr, Result, Ok, Err, OnOk, IfErr}
 use Rattle.std.proofs.lemmas.List.{take-append-le}
 use Rattle.std.proofs.Math.Seq.{take-length, take-append-add}
-use Rattle.std.specs.Prelude.{Result, Ok, Err, OnOk, IfErr}
 use Rattle.std.specs.Io.KnownBytes.{Appends}
 use Rattle.std.proofs.KnownBytes.{Appends-trans}
 use Rattle.hep_run.specs.declared.options.Run.{Run}

@@ -1,8 +1,6 @@
 -- The outcome of a run, from the core that it left.
-use Rattle.std.proofs.Common.{◌≡◌, ℕ, List, Option, Some, None, Result, Ok, Err, refl, subst, inl, inr}
-use Rattle.std.specs.Prelude.{IfOk}
-use Rattle.hep_machine.specs.Histories.{IsLegal}
-use Rattle.hep_source.specs.Units.{Units}
+use Rattle.std.proofs.Common.{◌≡◌, ℕ, List, Option, Some, None, Result, Ok, Err, refl, subst, inl, inr, IfOk}
+use Rattle.hep_machine.specs.Words.{IsLegal, Units}
 use Rattle.hep_scheduler.specs.declared.stop.Stop.{Stop}
 use Rattle.hep_scheduler.specs.declared.stop.Stop.TheVariants.{Halted, ArenaFull, StepLimit}
 use Rattle.hep_scheduler.specs.Value as core

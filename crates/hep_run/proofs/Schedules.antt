@@ -1,8 +1,7 @@
 -- A choice makes a history longer by one entry, of the process that comes next.
-use Rattle.std.proofs.Common.{◌≡◌, ℕ, zero, suc, ◌+◌, ◌<◌, ◌≤◌, Bool, true, false, List, [], ◌∷◌, ◌++◌, length, take, Option, Some, None, refl, sym, ap, ◌∙◌, subst, arith, inl, inr, Ok, Err, length-append}
-use Rattle.std.specs.Prelude.{◌≢◌, slice_get, nat_lt, not, replicate, cond, if◌then◌else◌}
+use Rattle.std.proofs.Common.{◌≡◌, ℕ, zero, suc, ◌+◌, ◌<◌, ◌≤◌, Bool, true, false, List, [], ◌∷◌, ◌++◌, length, take, Option, Some, None, refl, sym, ap, ◌∙◌, subst, arith, inl, inr, Ok, Err, length-append, ◌≢◌, slice_get, nat_lt, not, replicate, cond, if◌then◌else◌}
 use Rattle.std.specs.List.{filter}
-use Rattle.hep_state.specs.Turns.{HasNoGap}
+use Rattle.hep_state.specs.Words.{HasNoGap}
 use Rattle.hep_scheduler.specs.declared.stop.Stop.{Stop}
 use Rattle.hep_scheduler.specs.declared.stop.Stop.TheVariants.{ArenaFull, Halted, StepLimit}
 use Rattle.hep_scheduler.specs.declared.fault.ChooseFault.{ChooseFault}
@@ -12,12 +11,7 @@ use Rattle.std.proofs.lemmas.List.{take-append-le}
 use Rattle.std.proofs.Math.Seq.{take-append_seam}
 use Rattle.std.proofs.lemmas.Option.{slice_get_within, slice_get_past}
 use Rattle.hep_machine.specs.declared.event.Entry.{Entry}
-use Rattle.hep_source.specs.Units.{Units}
-use Rattle.hep_machine.specs.State.{State, Process}
-use Rattle.hep_machine.specs.Opening.{opening}
-use Rattle.hep_machine.specs.Run.{run, run_from, schedule_of, state_after, state_after_turn}
-use Rattle.hep_machine.specs.Schedules.{Progress, progress_after_step, progress_after_steps, progress_after_entry, progress_from, progress_after, living_from, ready_in, last_process, first_above, next_ready}
-use Rattle.hep_machine.specs.Processes.{living, top_of, is_number_among}
+use Rattle.hep_machine.specs.Words.{Units, State, Process, opening, run, run_from, schedule_of, state_after, state_after_turn, Progress, progress_after_step, progress_after_steps, progress_after_entry, progress_from, progress_after, living_from, ready_in, last_process, first_above, next_ready, living, top_of, is_number_among}
 use Rattle.hep_scheduler.specs.declared.stop.Turn.{Turn}
 use Rattle.hep_scheduler.specs.Value.{CoreValue, state_of, core_after_choice, stop_after, HasNoStop, IsTurn, IsChoice}
 use Rattle.hep_run.specs.declared.options.Options.{Options}

@@ -2,13 +2,8 @@
 use Rattle.std.specs.Prelude.{◌≡◌, ◌≢◌, ◌⊎◌, ℕ, ◌+◌, ◌<◌, ◌≤◌, true, false, if◌then◌else◌, List, [], ◌∷◌, ◌++◌, length, take, slice_get, Option, Some, None}
 use Rattle.hep_machine.specs.declared.event.Entry.{Entry}
 use Rattle.hep_machine.specs.declared.event.Fault.{Fault}
-use Rattle.hep_source.specs.Units.{Units}
-use Rattle.hep_machine.specs.Layout.{opening_layout}
-use Rattle.hep_machine.specs.Schedules.{living_from, next_ready, progress_after, ready_in}
-use Rattle.hep_machine.specs.Run.{schedule_of, state_after}
-use Rattle.hep_machine.specs.Histories.{IsLegal}
-use Rattle.hep_machine.specs.Processes.{living}
-use Rattle.hep_state.specs.Turns.{HasNoGap}
+use Rattle.hep_machine.specs.Words.{Units, opening_layout, living_from, next_ready, progress_after, ready_in, schedule_of, state_after, IsLegal, living}
+use Rattle.hep_state.specs.Words.{HasNoGap}
 use Rattle.hep_scheduler.specs.declared.stop.Stop.{Stop}
 use Rattle.hep_scheduler.specs.declared.stop.Stop.TheVariants.{Halted, ArenaFull, StepLimit}
 use Rattle.hep_scheduler.specs.declared.stop.Verdict.{Verdict}

@@ -1,7 +1,6 @@
 -- How far a run has come: docs/ARCHITECTURE.md, "Forms".
 use Rattle.std.specs.Prelude.{◌≡◌, ℕ, ◌+◌, List, length, Option, Some, None, IsSome}
-use Rattle.hep_source.specs.Units.{Units}
-use Rattle.hep_machine.specs.Layout.{opening_layout}
+use Rattle.hep_machine.specs.Words.{Units, opening_layout}
 use Rattle.hep_scheduler.specs.declared.stop.Stop.{Stop}
 use Rattle.hep_scheduler.specs.declared.stop.Stop.TheVariants.{Halted, ArenaFull, StepLimit}
 use Rattle.hep_scheduler.specs.Value.{CoreValue, opening_of}

@@ -1,8 +1,7 @@
 -- What a replay comes to, from the bytes of a source and of a history to the bytes that it writes: docs/MACHINE.md, "The program".
 use Rattle.std.specs.Prelude.{◌≡◌, ◌⊎◌, ℕ, List, [], ◌++◌, codes, length, None, IsSome}
 use Rattle.hep_machine.specs.declared.event.Entry.{Entry}
-use Rattle.hep_source.specs.Units.{Units}
-use Rattle.hep_machine.specs.Layout.{opening_layout}
+use Rattle.hep_machine.specs.Words.{Units, opening_layout}
 use Rattle.hep_scheduler.specs.declared.stop.Verdict.{Verdict}
 use Rattle.hep_scheduler.specs.declared.stop.Verdict.TheVariants.{Running}
 use Rattle.hep_image.specs.Names.{names_in_order}

@@ -4,8 +4,8 @@ use Rattle.hep_base.specs.declared.refusal.Refusal.TheVariants as refusals
 use Rattle.hep_text.specs.declared.statement.Stmt.{Stmt}
 use Rattle.hep_text.specs.Reading.{statements_of, refusal}
 use Rattle.hep_parse.specs.Program.{IsProgram, IsFirstFault}
-use Rattle.hep_source.specs.Units.{Units}
-use Rattle.hep_check.specs.Conditions.{IsAccepted}
+use Rattle.hep_machine.specs.Words.{Units}
+use Rattle.hep_check.specs.Words.{IsAccepted}
 use Rattle.hep_checked.specs.Faults.{Refuses}
 use Rattle.hep_lower.specs.Refusals.{IsLowered, IsUnlowered}
 

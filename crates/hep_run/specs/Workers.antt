@@ -2,9 +2,7 @@
 use Rattle.std.specs.Prelude.{◌≡◌, ◌≢◌, ◌⊎◌, ℕ, true, Bool, nat_eq, List, [], ◌∷◌, Option, None}
 use Rattle.std.specs.List.{list_any}
 use Rattle.hep_machine.specs.declared.event.Entry.{Entry}
-use Rattle.hep_machine.specs.Histories.{IsLegal}
-use Rattle.hep_machine.specs.Layout.{opening_layout}
-use Rattle.hep_source.specs.Units.{Units}
+use Rattle.hep_machine.specs.Words.{IsLegal, opening_layout, Units}
 use Rattle.hep_scheduler.specs.declared.stop.Stop.{Stop}
 use Rattle.hep_scheduler.specs.declared.stop.Verdict.TheVariants.{Running}
 use Rattle.hep_scheduler.specs.Value.{IsStop}

@@ -1,12 +1,9 @@
 -- How far two lists in runs are the same.
-use Rattle.std.proofs.Common.{◌≡◌, ◌≤◌, ◌<◌, ℕ, zero, suc, ◌+◌, ◌-◌, min, Bool, true, false, not, ◌&&◌, ◌||◌, nat_lt, nat_eq, List, [], ◌∷◌, ◌++◌, take, drop, length, map, get_or, append-nil, append_assoc, refl, ap, sym, ◌∙◌, arith, true≢false, if◌then◌else◌, subst}
+use Rattle.std.proofs.Common.{◌≡◌, ◌≤◌, ◌<◌, ℕ, zero, suc, ◌+◌, ◌-◌, min, Bool, true, false, not, ◌&&◌, ◌||◌, nat_lt, nat_eq, List, [], ◌∷◌, ◌++◌, take, drop, length, map, get_or, append-nil, append_assoc, refl, ap, sym, ◌∙◌, arith, true≢false, if◌then◌else◌, subst, Option, Some, None}
 use Rattle.std.proofs.lemmas.Bool.Decides.{nat_tests}
 use Rattle.std.proofs.lemmas.List.{take-append-drop, take_more, drop_more, drop_all}
-use Rattle.hep_source.specs.declared.declaration.ValueType.{ValueType}
-use Rattle.hep_source.specs.declared.declaration.ValueType.TheVariants.{Integer, Logical}
-use Rattle.std.specs.Prelude.{Option, Some, None}
-use Rattle.hep_source.specs.Names.{same_logical}
-use Rattle.hep_check.specs.Types.{same_type, same_declared}
+use Rattle.hep_machine.specs.Words.{ValueType, Integer, Logical, same_logical}
+use Rattle.hep_check.specs.Words.{same_type, same_declared}
 use Rattle.hep_runs.specs.Spread.{repeat_before, agree_as_far}
 use Rattle.hep_runs.specs.Runs.{alike, positions_in, IsWithin, IsPlace, first_places, later_places, front, rest, after, heads_differ}
 use Rattle.hep_runs.specs.declared.runs.Place.{Place}

@@ -1,6 +1,6 @@
 -- Lists in runs, item by item.
 use Rattle.std.specs.Prelude.{ℕ, zero, suc, Bool, true, ◌&&◌, List, [], ◌∷◌}
-use Rattle.hep_machine.specs.Data.{Repeated}
+use Rattle.hep_machine.specs.Words.{Repeated}
 
 -- an item as often as it stands, before others
 abbrev pub repeat_before : {A : Type 0} → ℕ → A → List A → List A

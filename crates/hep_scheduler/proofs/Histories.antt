@@ -1,19 +1,15 @@
--- A history with one entry more.
-use Rattle.std.proofs.Common.{◌≡◌, ◌≢◌, inl, inr, ℕ, true, zero, suc, ◌-◌, ◌<◌, ◌≤◌, List, [], ◌∷◌, ◌++◌, length, length-append, refl, sym, ap, ◌∙◌, subst, append_assoc, append-nil, arith, Option, Some, None, replicate}
-use Rattle.std.specs.Prelude.{IsSome, slice_get}
+-- A history with one entry more, and the processes that are listed after it, by rising numbers.
+use Rattle.std.proofs.Common.{◌≡◌, ◌≢◌, inl, inr, ℕ, true, zero, suc, ◌-◌, ◌<◌, ◌≤◌, List, [], ◌∷◌, ◌++◌, length, length-append, refl, sym, ap, ◌∙◌, subst, append_assoc, append-nil, arith, Option, Some, None, replicate, ◌+◌, Bool, false, IsSome, slice_get, if◌then◌else◌}
 use Rattle.std.proofs.lemmas.Option.{none-some, same_Some}
-use Rattle.std.specs.Option.{unwrap_or}
+use Rattle.std.specs.Option.{unwrap_or, option_or}
 use Rattle.hep_machine.specs.declared.event.Entry.{Entry}
-use Rattle.hep_source.specs.Units.{Units}
-use Rattle.hep_machine.specs.Histories.{IsEntry, AreEntries, IsLegal}
-use Rattle.hep_machine.specs.Layout.{is_held, layout_of}
-use Rattle.hep_machine.specs.Opening.{opening}
-use Rattle.hep_machine.specs.Run.{run, run_from, schedule_of_entry, schedule_of, state_after, state_after_turn}
-use Rattle.hep_machine.specs.Schedules.{Progress, progress_after_entry, progress_after_step, progress_from, progress_after, last_process}
-use Rattle.hep_machine.specs.State.{State}
-use Rattle.hep_machine.specs.Step.{is_waiting, step}
+use Rattle.hep_machine.specs.Words.{Units, IsEntry, AreEntries, IsLegal, is_held, layout_of, opening, run, run_from, schedule_of_entry, schedule_of, state_after, state_after_turn, Progress, progress_after_entry, progress_after_step, progress_from, progress_after, last_process, State, Level, Process, is_waiting, step, Wanted, wanted_by, is_number_among, living}
 use Rattle.hep_frames.proofs.HeldFrames.{run-last}
 use Rattle.hep_machine.proofs.Replays.{run_after}
+use Rattle.std.proofs.lemmas.Bool.{cases_lt}
+use Rattle.hep_waiting.specs.declared.listed.Listed.{Listed}
+use Rattle.hep_waiting.specs.Listed.{listed_by, listed_with}
+use Rattle.hep_scheduler.specs.Value.{first_listed, listed_after}
 
 -- ---- the state
 
@@ -130,3 +126,39 @@ last-none (x ∷ es) h = absurd (omega (arith, past (x ∷ es) (length (x ∷ es
   past [] i e = omega arith
   past (y ∷ ys) zero e = absurd cc
   past (y ∷ ys) (suc i) e = omega (arith, past ys i e)
+
+module _ (program : Units) (history : List Entry) where
+  -- ---- which one is the first
+
+  pub none-listed : (p n : ℕ) → ((q : ℕ) → p ≤ q → listed_after program history q ≡ None) → first_listed program history p n ≡ None
+  none-listed p zero none = refl
+  none-listed p (suc n) none =
+      ap (λ o. option_or o (first_listed program history (suc p) n)) (none p (omega arith))
+      ∙ none-listed (suc p) n (λ q le. none q (omega (arith, le)))
+
+  pub listed-first : (p n q : ℕ) (l : Listed) → p ≤ q → q < p + n → ((r : ℕ) → p ≤ r → r < q → listed_after program history r ≡ None) → listed_after program history q ≡ Some l → first_listed program history p n ≡ Some l
+  listed-first p zero q l le lt before is = absurd (omega (arith, le, lt))
+  listed-first p (suc n) q l le lt before is = elim (cases_lt p q) [
+    | inl less ↦
+        ap (λ o. option_or o (first_listed program history (suc p) n)) (before p (omega arith) less)
+        ∙ listed-first (suc p) n q l (omega (arith, less)) (omega (arith, lt)) (λ r a b. before r (omega (arith, a)) b) is
+    | inr more ↦
+        let same : p ≡ q = omega (arith, le, more) in
+        ap (λ o. option_or o (first_listed program history (suc p) n)) (ap (listed_after program history) same ∙ is)
+  ]
+
+  -- ---- its number
+
+  number-of : (p : ℕ) (l : Listed) (top : Option (Level × Process)) (w : Option Wanted) → listed_with program (state_after program history) p top w ≡ Some l → l.process ≡ p
+  number-of p l (Some top) (Some w) is = sym (ap process_or is) where
+    process_or : Option Listed → ℕ
+    process_or None = p
+    process_or (Some l) = l.process
+  number-of p l (Some top) None is = absurd cc
+  number-of p l None w is = absurd cc
+
+  pub number-listed : (p : ℕ) (l : Listed) → listed_after program history p ≡ Some l → l.process ≡ p
+  number-listed p l = by-list (is_number_among p (progress_after program history).listed) where
+    by-list : (b : Bool) → (if b then listed_by program p (state_after program history) else None) ≡ Some l → l.process ≡ p
+    by-list true is = number-of p l (living (state_after program history) p) (wanted_by program p (state_after program history)) is
+    by-list false is = absurd cc

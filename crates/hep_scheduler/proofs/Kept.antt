@@ -1,40 +1,45 @@
--- What follows from what a machine keeps of the state after a history.
-use Rattle.std.proofs.Common.{◌≡◌, ◌≢◌, ℕ, true, false, ◌<◌, ◌≤◌, List, [], ◌∷◌, ◌++◌, length, length-append, arith, refl, sym, ap, ◌∙◌, subst, Option, Some, None}
-use Rattle.std.specs.Prelude.{IsSome, is_some}
-use Rattle.std.specs.Global.{Global}
+-- What follows from what a machine keeps of the state after a history, and what a turn tells of what it touched, as the laws of lists ask for it.
+use Rattle.std.proofs.Common.{◌≡◌, ◌≢◌, ℕ, true, false, true≢false, ◌<◌, ◌≤◌, List, [], ◌∷◌, ◌++◌, length, length-append, arith, refl, sym, ap, ◌∙◌, subst, Option, Some, None, ◌+◌, zero, suc, Bool, Result, Err, IsSome, is_some, ◌||◌, slice_get, Global}
 use Rattle.std.specs.declared.vec.Vec.{Vec}
-use Rattle.hep_source.specs.Units.{Units}
+use Rattle.hep_machine.specs.Words.{Units, IsLegal, is_held, layout_of, Layout, opening, run, run_from, schedule_of, state_after, progress_after, progress_after_entry, progress_after_step, State, is_waiting, step, Wanted, wanted_by, view_of, is_number_among, living}
 use Rattle.hep_machine.specs.declared.event.Entry.{Entry}
-use Rattle.hep_machine.specs.Histories.{IsLegal}
-use Rattle.hep_machine.specs.Layout.{is_held, layout_of}
-use Rattle.hep_machine.specs.Opening.{opening}
-use Rattle.hep_machine.specs.Run.{run, run_from, schedule_of, state_after}
-use Rattle.hep_machine.specs.Schedules.{progress_after, progress_after_entry, progress_after_step}
-use Rattle.hep_machine.specs.State.{State}
-use Rattle.hep_machine.specs.Step.{is_waiting, step}
-use Rattle.hep_machine.specs.Views.{view_of}
 use Rattle.hep_blocked.specs.declared.want.Want.{Want}
-use Rattle.hep_listed.specs.Listing.{AreListed}
+use Rattle.hep_listed.specs.Listing.{AreListed, GoesAlong, GoesAlongEmptying, HasEmptied, IsBlocked, IsTold, awake_by, awake_where, is_noted, is_woken, is_woken_where}
 use Rattle.hep_ready.specs.Numbers.{Numbers}
 use Rattle.hep_state.specs.declared.machine.Machine.{Machine}
-use Rattle.hep_state.specs.Rooms.{IsMachineAfter}
-use Rattle.hep_state.specs.Snapshots.{Snapshot, snapshot_of}
-use Rattle.hep_state.specs.Turns.{IsAfter}
+use Rattle.hep_state.specs.Words.{IsMachineAfter, Snapshot, snapshot_of, stack_of, IsAfter, HasWaited, HasPurged, HasTurned, IsNow, Touches, cell_wanted, HasLevels}
 use Rattle.hep_views.specs.Seen.{machine_view}
 use Rattle.hep_scheduler.specs.Invariant.{CoreInvariant}
-use Rattle.hep_scheduler.specs.Value.{IsStop}
+use Rattle.hep_scheduler.specs.Value.{IsStop, CoreValue, IsChoice}
 use Rattle.hep_scheduler.specs.declared.scheduler.Core.TheInside.{Inside}
 use Rattle.hep_scheduler.specs.declared.stop.Stop.{Stop}
 use Rattle.hep_scheduler.proofs.Histories.{legal-stepped, legal-waited, progress-last, progress-stepped, schedule-stepped, schedule-waited, state-is, state-stepped}
 use Rattle.hep_source.proofs.Tests.{some-there}
+use Rattle.std.proofs.lemmas.List.{length-map}
+use Rattle.std.specs.Result.{IsErrAnd}
+use Rattle.std.proofs.lemmas.Option.{none-some, same_Some, slice_get_within}
+use Rattle.std.proofs.lemmas.Result.{err_from_is_err_and}
+use Rattle.hep_blocked.specs.Waiting.{waiting_at}
+use Rattle.hep_frames.specs.Words.{address}
+use Rattle.hep_image.specs.Image.{most_cells}
+use Rattle.hep_listed.proofs.Living.{waits-idle}
+use Rattle.hep_purging.specs.declared.range.Range.{Range}
+use Rattle.hep_purging.specs.Purged.{have_cell}
+use Rattle.hep_purging.specs.Ready.{AreReached}
+use Rattle.hep_needs.specs.Needs.{need_of}
+use Rattle.hep_state.specs.declared.turn.Turned.{Turned}
+use Rattle.hep_state.specs.declared.turn.Turned.TheVariants.{Stepped, Purged, Waits}
+use Rattle.hep_scheduler.specs.declared.fault.ChooseFault.{ChooseFault}
+use Rattle.hep_scheduler.specs.declared.fault.ChooseFault.TheVariants.{NoMemory}
+use Rattle.hep_scheduler.specs.declared.stop.Turn.{Turn}
+use Rattle.hep_scheduler.specs.Waking.{AreInArena}
 
 -- what is seen of machines: `hep_views`
 abbrev pub AreSeen : Units → ℕ → Type 0
 AreSeen program cells = (choices : List ℕ) (m : Snapshot) → IsAfter program cells choices m → machine_view program m ≡ view_of program is_held (run program choices)
 
 pub some-of : {A : Type 0} (o : Option A) → is_some o ≡ true → o ≢ None
-some-of None e f = absurd cc
-some-of (Some x) e f = absurd cc
+some-of o e f = true≢false (sym e ∙ ap is_some f)
 
 pub there-is : (o : Option State) → o ≢ None → (s : State) × (o ≡ Some s)
 there-is None h = absurd (h refl)
@@ -75,10 +80,12 @@ module _ (c : Inside) (kept : CoreInvariant c) (history : Vec Entry Global) (mac
         named = subst (λ es. IsStop c.image c.cells c.limit es stop) (sym same) named;
       }
 
-  pub unturned-view : AreSeen c.image c.cells → machine_view c.image (snapshot_of machine) ≡ machine_view c.image (snapshot_of c.machine)
-  unturned-view seen =
-      view-is c.image c.cells c.history.items (snapshot_of machine) after.after seen
-      ∙ sym (view-is c.image c.cells c.history.items (snapshot_of c.machine) kept.after.after seen)
+-- what is seen of it
+pub unturned-view : (c : Inside) (kept : CoreInvariant c) (machine : Machine) → IsMachineAfter c.image c.cells (schedule_of c.history.items) machine → AreSeen c.image c.cells
+    → machine_view c.image (snapshot_of machine) ≡ machine_view c.image (snapshot_of c.machine)
+unturned-view c kept machine after seen =
+    view-is c.image c.cells c.history.items (snapshot_of machine) after.after seen
+    ∙ sym (view-is c.image c.cells c.history.items (snapshot_of c.machine) kept.after.after seen)
 
 -- ---- one step more
 
@@ -138,9 +145,6 @@ module _ (program : Units) (cells : ℕ) (h : List Entry) (p : ℕ) (h' : List E
   pub single-left : length (schedule_of h) ≤ length h → length (schedule_of h') ≤ length h'
   single-left few = omega (arith, few, ap length is, ap length schedule-left, length-append h (record { process = p; steps = 0 } ∷ []))
 
-  pub after-left : (m : Machine) → IsMachineAfter program cells (schedule_of h) m → IsMachineAfter program cells (schedule_of h') m
-  after-left m after = subst (λ ps. IsMachineAfter program cells ps m) (sym schedule-left) after
-
   pub listed-left : (waits : List (Option Want)) (ready : List ℕ) → AreListed program cells (schedule_of h) (progress_after_entry program (progress_after program h) (record { process = p; steps = 0 }) 0) waits ready
       → AreListed program cells (schedule_of h') (progress_after program h') waits ready
   listed-left waits ready listed =
@@ -150,9 +154,6 @@ module _ (program : Units) (cells : ℕ) (h : List Entry) (p : ℕ) (h' : List E
   pub legal-left : (limit : ℕ) → IsLegal program cells limit h → length h < limit → is_waiting program (run program (schedule_of h)) p ≡ true → IsLegal program cells limit h'
   legal-left limit legal lt waits =
       subst (IsLegal program cells limit) (sym is) (legal-waited program cells limit h p legal lt (ap (λ (s : State). is_waiting program s p) (state-is program h) ∙ waits))
-
-  pub view-left : (m : Machine) → IsMachineAfter program cells (schedule_of h) m → AreSeen program cells → machine_view program (snapshot_of m) ≡ view_of program is_held (state_after program h)
-  view-left m after seen = view-is program cells h (snapshot_of m) after.after seen
 
 -- ---- the opening
 
@@ -188,7 +189,7 @@ module _ (i : Inside) (k : CoreInvariant i) (p : ℕ) (lt : length i.history.ite
   pub waited-kept : (stop : Option Stop) → IsStop i.image i.cells i.limit history.items stop → CoreInvariant (record i { history = history; stop = stop; machine = m; waits = waits; ready = ready })
   waited-kept stop named =
       record {
-        after = after-left i.image i.cells i.history.items p history.items is m after;
+        after = subst (λ ps. IsMachineAfter i.image i.cells ps m) (sym (schedule-left i.image i.cells i.history.items p history.items is)) after;
         listed = listed-left i.image i.cells i.history.items p history.items is waits ready.ready listed;
         numbers = numbers;
         waiting = room;
@@ -200,3 +201,112 @@ module _ (i : Inside) (k : CoreInvariant i) (p : ℕ) (lt : length i.history.ite
   -- it has stopped no more than before
   pub named-left : IsStop i.image i.cells i.limit i.history.items None → IsStop i.image i.cells i.limit history.items None
   named-left going = ap (λ (s : State). s.halted) (state-left i.image i.cells i.history.items p history.items is) ∙ going
+
+-- a cell that is told is that of a want
+of-cell : (P : ℕ → Type 0) (changed : Option Want) (c : ℕ) → cell_wanted changed ≡ Some c → P c → (w : Want) × (changed ≡ Some w) × P w.cell
+of-cell P None c e h = absurd (none-some c e)
+of-cell P (Some w) c e h = (w, refl, subst P (same_Some c w.cell (sym e)) h)
+
+pub told-to-lists : (program : Units) (cells : ℕ) (choices : List ℕ) (p : ℕ) (layout : Layout) (changed : Option Want) → layout_of program cells is_held choices ≡ Some layout
+    → Touches program cells choices p (cell_wanted changed) → IsNow program cells choices p changed → IsTold program choices p layout changed
+told-to-lists program cells choices p layout changed laid touches now =
+    record {
+      touched = λ at touched.
+          let found = touches.told layout at laid touched in
+          of-cell (λ c. address program (run program choices) layout at ≡ Some c) changed found.0 found.1 found.2;
+      now = λ w at is there. now w layout at is laid there;
+    }
+
+pub emptied-to-lists : (program : Units) (cells : ℕ) (choices : List ℕ) (p : ℕ) (layout : Layout) (ranges : List Range) → layout_of program cells is_held choices ≡ Some layout → HasPurged program cells choices p ranges → HasEmptied program choices p layout (have_cell ranges)
+emptied-to-lists program cells choices p layout ranges laid h =
+    record { others = λ at c found outside. h.others layout at c laid found outside; now = λ at c found inside. h.emptied layout at c laid found inside }
+
+-- ---- a turn that made a step
+
+abbrev pub IsNoWait : Turned → Type 0
+IsNoWait turned = (want : Want) → turned ≡ Waits want → ⊥
+
+pub made-step : (program : Units) (cells : ℕ) (choices : List ℕ) (p : ℕ) (turned : Turned) (new : Machine) → IsNoWait turned → HasTurned program cells choices p turned new
+    → (step program p (run program choices) ≢ None) × IsMachineAfter program cells (choices ++ p ∷ []) new
+made-step program cells choices p (Stepped changed) new other h = (h.0, h.1)
+made-step program cells choices p Purged new other h = (h.0, h.1)
+made-step program cells choices p (Waits want) new other h = absurd (other want refl)
+
+each-reached : (m : Machine) (ranges : List Range) → length m.frames.arena.contents ≤ most_cells → AreReached m.frames.arena ranges → (i : ℕ) (r : Range) → slice_get ranges i ≡ Some r → r.first + r.cells ≤ most_cells
+each-reached m [] few h i r e = absurd (none-some r e)
+each-reached m (s ∷ ss) few h zero r e = subst (λ (x : Range). x.first + x.cells ≤ most_cells) (same_Some s r e) (omega (arith, few, h.0.inside))
+each-reached m (s ∷ ss) few h (suc i) r e = each-reached m ss few h.1 i r e
+
+pub in-arena : (program : Units) (cells : ℕ) (choices : List ℕ) (p : ℕ) (turned : Turned) (new : Machine) → HasTurned program cells choices p turned new → AreInArena turned new.passing.ranges.items
+in-arena program cells choices p (Stepped changed) new h = tt
+in-arena program cells choices p Purged new h = each-reached new new.passing.ranges.items (omega (arith, h.1.few, h.1.after.size)) h.3
+in-arena program cells choices p (Waits want) new h = tt
+
+-- as many processes as the state has
+pub as-many : (program : Units) (cells : ℕ) (choices : List ℕ) (m : Machine) → IsAfter program cells choices (snapshot_of m) → length m.processes.items ≡ length (run program choices).processes
+as-many program cells choices m after = sym (length-map m.processes.items stack_of) ∙ after.shows.processes
+
+-- who is ready once those who were woken and those who are noted are
+noted-so : (program : Units) (choices : List ℕ) (p : ℕ) (woken : ℕ → Bool) (ready noted left : List ℕ) (before now : ℕ)
+    → before ≡ length (run program choices).processes → now ≡ length (run program (choices ++ p ∷ [])).processes
+    → ((q : ℕ) → is_number_among q noted ≡ is_noted p (is_some (living (run program (choices ++ p ∷ [])) p)) before now ready q)
+    → ((q : ℕ) → is_number_among q left ≡ (woken q || is_number_among q noted))
+    → (q : ℕ) → is_number_among q left
+    ≡ (woken q || is_noted p (is_some (living (run program (choices ++ p ∷ [])) p)) (length (run program choices).processes) (length (run program (choices ++ p ∷ [])).processes) ready q)
+noted-so program choices p woken ready noted left before now counted many are is q =
+    is q
+    ∙ (ap (λ b. woken q || b) (are q)
+    ∙ λ i. woken q || is_noted p (is_some (living (run program (choices ++ p ∷ [])) p)) (counted i) (many i) ready q)
+
+-- the lists once those are woken that waited, and the others are noted
+pub along : (program : Units) (choices : List ℕ) (p : ℕ) (changed : Option Want) (waiting after : List (Option Want)) (ready noted left : List ℕ) (before now : ℕ)
+    → before ≡ length (run program choices).processes → now ≡ length (run program (choices ++ p ∷ [])).processes
+    → ((q : ℕ) → waiting_at after q ≡ awake_by changed (waiting_at waiting q))
+    → ((q : ℕ) → is_number_among q noted ≡ is_noted p (is_some (living (run program (choices ++ p ∷ [])) p)) before now ready q)
+    → ((q : ℕ) → is_number_among q left ≡ (is_woken changed waiting q || is_number_among q noted))
+    → GoesAlong program choices p changed waiting after ready left
+along program choices p changed waiting after ready noted left before now counted many waits are woken =
+    record {
+      waits = waits;
+      are_ready = noted-so program choices p (is_woken changed waiting) ready noted left before now counted many are woken;
+    }
+
+pub along-emptying : (program : Units) (choices : List ℕ) (p : ℕ) (emptied : ℕ → Bool) (waiting after : List (Option Want)) (ready noted left : List ℕ) (before now : ℕ)
+    → before ≡ length (run program choices).processes → now ≡ length (run program (choices ++ p ∷ [])).processes
+    → ((q : ℕ) → waiting_at after q ≡ awake_where emptied (waiting_at waiting q))
+    → ((q : ℕ) → is_number_among q noted ≡ is_noted p (is_some (living (run program (choices ++ p ∷ [])) p)) before now ready q)
+    → ((q : ℕ) → is_number_among q left ≡ (is_woken_where emptied waiting q || is_number_among q noted))
+    → GoesAlongEmptying program choices p emptied waiting after ready left
+along-emptying program choices p emptied waiting after ready noted left before now counted many waits are woken =
+    record {
+      waits = waits;
+      are_ready = noted-so program choices p (is_woken_where emptied waiting) ready noted left before now counted many are woken;
+    }
+
+-- ---- a process that waits
+
+pub waits-unstepped : (program : Units) (p : ℕ) (s : State) (w : Wanted) → wanted_by program p s ≡ Some w → step program p s ≡ None
+waits-unstepped program p s w e = waits-idle program p s (ap is_some e)
+
+-- what a turn says of it is what the laws of lists ask for
+pub blocked-now : (program : Units) (cells : ℕ) (choices : List ℕ) (p : ℕ) (want : Want) (m : Snapshot) → (h : HasWaited program cells choices p want.cell want.full m)
+    → need_of program p (run program choices) ≡ Some h.wanted → IsBlocked program cells choices p want
+blocked-now program cells choices p want m h needed = (
+  record {
+    wanted = h.wanted;
+    needed = needed;
+    state = h.state;
+    kept = λ layout laid. subst (λ (fs : Layout). address program (run program choices) fs h.wanted.at ≡ Some want.cell) (same_Some _ _ (sym h.after.laid ∙ laid)) h.found;
+  },
+  ap is_some h.waits,
+)
+
+-- a process with levels is one of those that were made
+pub within : (m : Snapshot) (p : ℕ) → HasLevels m p → p ≤ length m.processes
+within m zero h = absurd (none-some _ h.3)
+within m (suc k) h = omega (arith, slice_get_within m.processes k _ h.3)
+
+-- ---- refused memory
+
+pub no-memory : (P : CoreValue) (p : ℕ) (r : Result Turn ChooseFault) (Q : CoreValue) → IsErrAnd r (λ e. e ≡ NoMemory) → IsChoice P p (Err NoMemory) Q → IsChoice P p r Q
+no-memory P p r Q h given = let told = err_from_is_err_and r h in subst (λ x. IsChoice P p x Q) (sym (told.1 ∙ ap Err told.2)) given

@@ -1,4 +1,2 @@
-pub mod Following
 pub mod Histories
 pub mod Kept
-pub mod Turning

@@ -1,11 +1,8 @@
 -- What a core keeps, and what is seen of it: docs/ARCHITECTURE.md, "Forms".
 use Rattle.std.specs.Prelude.{◌≤◌, length}
-use Rattle.hep_machine.specs.Histories.{IsLegal}
-use Rattle.hep_machine.specs.Run.{schedule_of}
-use Rattle.hep_machine.specs.Schedules.{progress_after}
+use Rattle.hep_machine.specs.Words.{IsLegal, schedule_of, progress_after}
 use Rattle.hep_listed.specs.Listing.{AreListed}
-use Rattle.hep_state.specs.Rooms.{IsMachineAfter}
-use Rattle.hep_state.specs.Snapshots.{snapshot_of}
+use Rattle.hep_state.specs.Words.{IsMachineAfter, snapshot_of}
 use Rattle.hep_views.specs.Seen.{machine_view}
 use Rattle.hep_scheduler.specs.Value.{CoreValue, IsStop}
 use Rattle.hep_scheduler.specs.declared.scheduler.Core.TheInside.{Inside}

@@ -2,18 +2,10 @@
 use Rattle.std.specs.Prelude.{◌≡◌, ◌≢◌, ◌⊎◌, ℕ, zero, suc, ◌+◌, ◌-◌, ◌<◌, Bool, true, false, if◌then◌else◌, List, [], ◌∷◌, ◌++◌, Option, Some, None, IsSome, Result, Ok, Err, length}
 use Rattle.std.specs.Option.{option_or}
 use Rattle.hep_machine.specs.declared.event.Entry.{Entry}
-use Rattle.hep_source.specs.Units.{Units}
+use Rattle.hep_machine.specs.Words.{Units, BlockName, State, common, step, is_waiting, schedule_of, state_after, is_held, opening_layout, living_from, next_ready, progress_after, ready_in, View, view_of, is_number_among, living}
 use Rattle.hep_machine.specs.declared.slot.Slot.{Slot}
-use Rattle.hep_machine.specs.Declarations.{BlockName}
-use Rattle.hep_machine.specs.State.{State, common}
-use Rattle.hep_frames.specs.Rows.{place_of_block}
-use Rattle.hep_machine.specs.Step.{step, is_waiting}
-use Rattle.hep_machine.specs.Run.{schedule_of, state_after}
-use Rattle.hep_machine.specs.Layout.{is_held, opening_layout}
-use Rattle.hep_machine.specs.Schedules.{living_from, next_ready, progress_after, ready_in}
-use Rattle.hep_machine.specs.Views.{View, view_of}
-use Rattle.hep_machine.specs.Processes.{is_number_among, living}
-use Rattle.hep_state.specs.Turns.{HasNoGap}
+use Rattle.hep_frames.specs.Words.{place_of_block}
+use Rattle.hep_state.specs.Words.{HasNoGap}
 use Rattle.hep_waiting.specs.declared.listed.Listed.{Listed}
 use Rattle.hep_waiting.specs.Listed.{listed_by}
 use Rattle.hep_scheduler.specs.declared.stop.Stop.{Stop}

@@ -1,16 +1,13 @@
 //! Who is ready and who waits, around a turn.
 ghost use Rattle.std.specs.Prelude.{◌≡◌, ◌≤◌, ◌+◌, ◌||◌, ℕ, List, OnErr, OnOk, Some, is_some, length, max, slice_get};
-ghost use Rattle.hep_source.specs.Units.{Units};
-ghost use Rattle.hep_machine.specs.Processes.{is_number_among, living};
-ghost use Rattle.hep_machine.specs.Run.{run};
+ghost use Rattle.hep_machine.specs.Words.{Units, is_number_among, living, run};
 ghost use Rattle.hep_blocked.specs.Waiting.{waiting_at};
 ghost use Rattle.hep_image.specs.Image.{most_cells};
 ghost use Rattle.hep_listed.specs.Listing.{IsReadyNoMore, WaitsNow, awake_by, awake_where, is_noted, is_woken, is_woken_where};
 ghost use Rattle.hep_purging.specs.declared.range.Range.{Range as PureRange};
 ghost use Rattle.hep_purging.specs.Purged.{has_cell, have_cell};
 ghost use Rattle.hep_scheduler.specs.Waking.{AreInArena, awake_after, is_woken_after};
-ghost use Rattle.hep_state.specs.Snapshots.{snapshot_of};
-ghost use Rattle.hep_state.specs.Turns.{IsAfter};
+ghost use Rattle.hep_state.specs.Words.{snapshot_of, IsAfter};
 
 use hep_blocked::{Waits, Want};
 use hep_purging::Range;

@@ -1,10 +1,6 @@
 //! The core: a run of an image, one choice at a time, with its history.
 ghost use Rattle.std.specs.Prelude.{◌≡◌, ◌≤◌, ◌<◌, ◌++◌, ◌∷◌, [], None, Some, IsSome, IfNone, IfSome, IfOk, OnOk, IfErr, is_some, length, nat_lt, vec_len, vec_capacity};
-ghost use Rattle.hep_machine.specs.Histories.{IsLegal};
-ghost use Rattle.hep_machine.specs.Layout.{common_cells, is_held, opening_layout, used_cells};
-ghost use Rattle.hep_machine.specs.Processes.{living};
-ghost use Rattle.hep_machine.specs.Schedules.{first_above, last_process};
-ghost use Rattle.hep_machine.specs.Views.{view_of};
+ghost use Rattle.hep_machine.specs.Words.{IsLegal, common_cells, is_held, opening_layout, used_cells, living, first_above, last_process, view_of};
 ghost use Rattle.hep_scheduler.specs.Value.{state_of, opening_of, IsNewFault, IsChoice, HasNoStop, IsStop, IsStoppedWhereFull};
 ghost use Rattle.hep_scheduler.specs.Value.{IsAtPosition, next_listed_of, verdict_of, next_ready_of, ready_of};
 

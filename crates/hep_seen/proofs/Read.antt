@@ -1,32 +1,14 @@
 -- What is read from the arena is what is stored.
-use Rattle.std.proofs.Common.{◌≡◌, ℕ, zero, suc, ◌+◌, ◌<◌, Bool, true, false, List, [], ◌∷◌, ◌++◌, length, Option, Some, None, refl, sym, ap, ◌∙◌, subst, arith}
-use Rattle.std.specs.Prelude.{if◌then◌else◌, is_none, is_some, map, pos, slice_get}
+use Rattle.std.proofs.Common.{◌≡◌, ℕ, zero, suc, ◌+◌, ◌<◌, Bool, true, false, List, [], ◌∷◌, ◌++◌, length, Option, Some, None, refl, sym, ap, ◌∙◌, subst, arith, if◌then◌else◌, is_none, is_some, map, pos, slice_get}
 use Rattle.std.specs.List.{flat_map}
 use Rattle.std.specs.Option.{unwrap_or}
 use Rattle.std.proofs.lemmas.Option.{same_Some, none-some}
-use Rattle.hep_source.specs.declared.name.Name.{Name}
-use Rattle.hep_source.specs.declared.statement.Statement.{Statement}
-use Rattle.hep_source.specs.Names.{index_among, is_among, same_name}
-use Rattle.hep_source.specs.Units.{Units, dummies_of, unit_at}
+use Rattle.hep_machine.specs.Words.{Name, Statement, index_among, is_among, same_name, Units, dummies_of, unit_at, unset_cell, cells_of, no_activation, BlockName, blocks_of, same_block, Frame, Layout, block_cells, dummy_at, activation_of, unit_of, Activation, Dummy, Location, State, common, local, further, locals_of, CellView, cell_view, cells_at, cells_from, cells_of_activation, cells_of_block, cells_of_dummy, cells_of_local, is_owned}
 use Rattle.hep_source.proofs.NameTests.{same_name-self}
 use Rattle.hep_machine.specs.declared.slot.Slot.{Slot}
-use Rattle.hep_machine.specs.Access.{unset_cell}
-use Rattle.hep_machine.specs.Constants.{cells_of}
-use Rattle.hep_machine.specs.Defaults.{no_activation}
-use Rattle.hep_machine.specs.Declarations.{BlockName, blocks_of, same_block}
-use Rattle.hep_machine.specs.Layout.{Frame, Layout, block_cells}
-use Rattle.hep_machine.specs.Locations.{dummy_at}
-use Rattle.hep_machine.specs.Processes.{activation_of, unit_of}
-use Rattle.hep_machine.specs.State.{Activation, Dummy, Location, State, common, local}
-use Rattle.hep_machine.specs.Storage.{further}
-use Rattle.hep_machine.specs.Variables.{locals_of}
-use Rattle.hep_machine.specs.Views.{CellView, cell_view, cells_at, cells_from, cells_of_activation, cells_of_block, cells_of_dummy, cells_of_local, is_owned}
 use Rattle.hep_machine.proofs.Locations.{equal_blocks}
 use Rattle.hep_arena.specs.Gaps.{frame_among}
-use Rattle.hep_frames.specs.Addresses.{Holds, address}
-use Rattle.hep_frames.specs.Descriptors.{Describes, number, wanted_of}
-use Rattle.hep_frames.specs.Rows.{argument, common_row, first_of_block, first_of_part, size_in, variable}
-use Rattle.hep_frames.specs.Runs.{RunsFrom}
+use Rattle.hep_frames.specs.Words.{Holds, address, Describes, number, wanted_of, argument, common_row, first_of_block, first_of_part, size_in, variable, RunsFrom}
 use Rattle.hep_frames.proofs.Rows.{place-at}
 use Rattle.hep_frames.proofs.Runs.{runs-local, runs-value}
 use Rattle.hep_frames.proofs.Telling.{tells-rest, tells-value}

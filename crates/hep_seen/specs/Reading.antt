@@ -1,22 +1,11 @@
 -- What is seen of storage, as it is read from the arena: docs/MACHINE.md, "What is compared" and "Layout".
 use Rattle.std.specs.Prelude.{◌≡◌, ℕ, zero, suc, ◌+◌, if◌then◌else◌, is_none, List, [], ◌∷◌, ◌++◌, length, Option, Some, None, slice_get}
 use Rattle.std.specs.List.{flat_map}
-use Rattle.hep_source.specs.declared.name.Name.{Name}
-use Rattle.hep_source.specs.declared.statement.Statement.{Statement}
-use Rattle.hep_source.specs.Names.{index_among}
-use Rattle.hep_source.specs.Units.{Units, dummies_of, unit_at}
+use Rattle.hep_machine.specs.Words.{Name, Statement, index_among, Units, dummies_of, unit_at, cells_of, BlockName, blocks_of, Frame, Layout, block_cells, activation_of, unit_of, Activation, Location, State, common, local, further, locals_of, CellView}
 use Rattle.hep_machine.specs.declared.slot.Slot.{Slot}
-use Rattle.hep_machine.specs.Constants.{cells_of}
-use Rattle.hep_machine.specs.Declarations.{BlockName, blocks_of}
-use Rattle.hep_machine.specs.Layout.{Frame, Layout, block_cells}
-use Rattle.hep_machine.specs.Processes.{activation_of, unit_of}
-use Rattle.hep_machine.specs.State.{Activation, Location, State, common, local}
-use Rattle.hep_machine.specs.Storage.{further}
-use Rattle.hep_machine.specs.Variables.{locals_of}
-use Rattle.hep_machine.specs.Views.{CellView}
 use Rattle.hep_arena.specs.Gaps.{frame_among}
 use Rattle.hep_finding.specs.Bound.{IsBound}
-use Rattle.hep_frames.specs.Rows.{argument, first_of_block, first_of_part, variable}
+use Rattle.hep_frames.specs.Words.{argument, first_of_block, first_of_part, variable}
 use Rattle.hep_image.specs.Finding.{cells_in}
 
 -- so many cells of the arena from one on, as those of storage units from a location on

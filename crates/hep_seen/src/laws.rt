@@ -1,14 +1,9 @@
 //! Laws of what is seen: what is read from the arena is what the source machine has stored.
 ghost use Rattle.std.specs.Prelude.{◌≡◌, ℕ, Bool, true, List, Some};
-ghost use Rattle.hep_source.specs.Units.{Units, unit_at};
-ghost use Rattle.hep_machine.specs.Layout.{Frame, Layout, is_held};
-ghost use Rattle.hep_machine.specs.Processes.{activation_of, unit_of};
-ghost use Rattle.hep_machine.specs.State.{State};
-ghost use Rattle.hep_machine.specs.Views.{cells_of_activation, view_of};
+ghost use Rattle.hep_machine.specs.Words.{Units, unit_at, Frame, Layout, is_held, activation_of, unit_of, State, cells_of_activation, view_of};
 ghost use Rattle.hep_arena.specs.Gaps.{frame_among};
 ghost use Rattle.hep_arena.specs.Space.{Space};
-ghost use Rattle.hep_frames.specs.Descriptors.{wanted_of};
-ghost use Rattle.hep_frames.specs.Tree.{Nodes};
+ghost use Rattle.hep_frames.specs.Words.{wanted_of, Nodes};
 ghost use Rattle.hep_proc.specs.Keeping.{Keeps};
 ghost use Rattle.hep_seen.specs.Reading.{HasDummies, common_read, frame_read, frames_read};
 

@@ -3,7 +3,7 @@ use Rattle.std.proofs.Common.{◌≡◌, ℕ, zero, suc, ◌+◌, ◌*◌, ◌^�
 use Rattle.std.specs.Option.{unwrap_or}
 use Rattle.std.proofs.lemmas.List.{at_drop_more}
 use Rattle.hep_machine.specs.declared.shape.Bound.{Bound}
-use Rattle.hep_machine.specs.Shapes.{Bounds, natural, extent, is_within, is_most, sum, before_element}
+use Rattle.hep_machine.specs.Words.{Bounds, natural, extent, is_within, is_most, sum, before_element}
 use Rattle.hep_shape.proofs.Extents.{by_test, some_extent}
 
 -- a number of an element, where it is one that is counted

@@ -1,13 +1,12 @@
 -- Numbers of elements of an array: one dimension more, and where there are more than an array may have.
-use Rattle.std.proofs.Common.{◌≡◌, ℕ, ◌+◌, ◌*◌, ◌^◌, ◌<◌, ◌≤◌, ℤ, true, false, ◌||◌, nat_le, [], ◌∷◌, length, get_or, drop, Option, Some, None, refl, ap, sym, ◌∙◌, arith}
-use Rattle.std.specs.Prelude.{IfSome}
+use Rattle.std.proofs.Common.{◌≡◌, ℕ, ◌+◌, ◌*◌, ◌^◌, ◌<◌, ◌≤◌, ℤ, true, false, ◌||◌, nat_le, [], ◌∷◌, length, get_or, drop, Option, Some, None, refl, ap, sym, ◌∙◌, arith, IfSome}
 use Rattle.std.specs.List.{list_any}
 use Rattle.std.specs.Option.{is_none}
 use Rattle.std.proofs.Math.Nat.{mul_assoc}
 use Rattle.std.proofs.lemmas.Bool.{and_parts}
 use Rattle.std.proofs.lemmas.List.{at_drop_more}
 use Rattle.hep_machine.specs.declared.shape.Bound.{Bound}
-use Rattle.hep_machine.specs.Shapes.{Bounds, size_between, extent, product, elements, is_between, are_dimensions}
+use Rattle.hep_machine.specs.Words.{Bounds, size_between, extent, product, elements, is_between, are_dimensions}
 use Rattle.hep_shape.proofs.Columns.{counted}
 use Rattle.hep_shape.proofs.Extents.{between_extent}
 

@@ -1,11 +1,10 @@
 -- Sizes of dimensions: none is 0.
-use Rattle.std.proofs.Common.{◌≡◌, ℕ, ◌*◌, ◌^◌, ◌<◌, ◌≤◌, ℤ, pos, negsuc, ◌+ℤ◌, ◌-ℤ◌, ◌≤ℤ◌, Bool, true, false, Option, Some, None, refl, arith}
-use Rattle.std.specs.Prelude.{int_le, IfSome}
+use Rattle.std.proofs.Common.{◌≡◌, ℕ, ◌*◌, ◌^◌, ◌<◌, ◌≤◌, ℤ, pos, negsuc, ◌+ℤ◌, ◌-ℤ◌, ◌≤ℤ◌, Bool, true, false, Option, Some, None, refl, arith, int_le, IfSome}
 use Rattle.std.specs.Option.{unwrap_or}
 use Rattle.std.proofs.Math.Nat.{mul-le-mul}
 use Rattle.std.proofs.lemmas.Int.{ints}
 use Rattle.hep_machine.specs.declared.shape.Bound.{Bound}
-use Rattle.hep_machine.specs.Shapes.{Bounds, natural, size_between, extent, is_below, is_within, is_between}
+use Rattle.hep_machine.specs.Words.{Bounds, natural, size_between, extent, is_below, is_within, is_between}
 
 -- what follows whichever way a test goes
 pub by_test : {P : Type 0} (t : Bool) → (t ≡ true → P) → (t ≡ false → P) → P

@@ -1,11 +1,10 @@
 -- The number of an element is one of the numbers of an array's elements, where its last bound is not open.
-use Rattle.std.proofs.Common.{◌≡◌, ℕ, ◌+◌, ◌*◌, ◌<◌, ◌≤◌, ℤ, pos, negsuc, ◌+ℤ◌, ◌-ℤ◌, ◌≤ℤ◌, true, List, [], ◌∷◌, Option, Some, None, arith}
-use Rattle.std.specs.Prelude.{int_le, IfSome}
+use Rattle.std.proofs.Common.{◌≡◌, ℕ, ◌+◌, ◌*◌, ◌<◌, ◌≤◌, ℤ, pos, negsuc, ◌+ℤ◌, ◌-ℤ◌, ◌≤ℤ◌, true, List, [], ◌∷◌, Option, Some, None, arith, int_le, IfSome}
 use Rattle.std.specs.Option.{unwrap_or}
 use Rattle.std.proofs.Math.Nat.{mul-le-mul_right, mul_assoc, mul_comm, add-mul}
 use Rattle.std.proofs.lemmas.Int.{ints}
 use Rattle.hep_machine.specs.declared.shape.Bound.{Bound}
-use Rattle.hep_machine.specs.Shapes.{Bounds, natural, size_between, extent, is_below, is_within, sum, product, elements, before_element, element_number}
+use Rattle.hep_machine.specs.Words.{Bounds, natural, size_between, extent, is_below, is_within, sum, product, elements, before_element, element_number}
 use Rattle.hep_shape.proofs.Columns.{before_within, before_outside}
 use Rattle.hep_shape.proofs.Extents.{by_test, le_of_test}
 

@@ -1,7 +1,7 @@
 -- Worked shapes: what the definitions give for small arrays, and at their limits.
 use Rattle.std.specs.Prelude.{◌≡◌, ℕ, ℤ, pos, negsuc, true, false, [], ◌∷◌, Some, None, refl}
 use Rattle.hep_machine.specs.declared.shape.Bound.{Bound}
-use Rattle.hep_machine.specs.Shapes.{Bounds, is_shape, elements, element_number, counted_element, fits}
+use Rattle.hep_machine.specs.Words.{Bounds, is_shape, elements, element_number, counted_element, fits}
 
 between : ℤ → ℤ → Bound
 between l u = record { lower = l; upper = Some u }

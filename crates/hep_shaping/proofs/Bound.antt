@@ -1,30 +1,17 @@
 -- Where each array among dummy arguments fits what is given to it, they have their shapes, and else there is SHAPE: X3.9-1978, 5.5.1
 -- and 15.9.3.3.
-use Rattle.std.proofs.Common.{◌≡◌, ◌≢◌, ℕ, zero, suc, ◌+◌, ◌<◌, Bool, true, false, if◌then◌else◌, List, [], ◌∷◌, Option, Some, None, Result, Ok, Err, refl, ap, sym, ◌∙◌, subst, arith}
-use Rattle.std.specs.Prelude.{◌&&◌, ◌||◌, length, map, nat_eq, slice_get}
+use Rattle.std.proofs.Common.{◌≡◌, ◌≢◌, ℕ, zero, suc, ◌+◌, ◌<◌, Bool, true, false, if◌then◌else◌, List, [], ◌∷◌, Option, Some, None, Result, Ok, Err, refl, ap, sym, ◌∙◌, subst, arith, ◌&&◌, ◌||◌, length, map, nat_eq, slice_get}
 use Rattle.std.specs.List.{list_all}
 use Rattle.std.specs.Option.{option_or, unwrap_or}
 use Rattle.std.proofs.lemmas.Bool.{and_parts}
 use Rattle.std.proofs.lemmas.List.{length-map}
 use Rattle.std.proofs.lemmas.Option.{none-some, same_Some}
-use Rattle.hep_source.specs.declared.declaration.Dimension.{Dimension}
-use Rattle.hep_source.specs.declared.name.Name.{Name}
-use Rattle.hep_source.specs.declared.statement.Statement.{Statement}
-use Rattle.hep_source.specs.Units.{Units, dummies_of}
+use Rattle.hep_machine.specs.Words.{Dimension, Name, Statement, Units, dummies_of, Binding, binding_for, binding_with_shapes, bound_values, dummies_for, dummy_before, dummy_with_shape, with_actuals, with_shape, with_shapes, with_store, adjustable_dimensions, bounds_of, cells_of, constant_shape, constant_value, if_shape, is_constant_dimension, shape_by, dimensions_of, is_array, is_common, is_dummy, is_nonempty, no_shape, Actual, evaluated, referred, Layout, Scope, dummy_at, storage_of, Bounds, fits, is_shape, Dummy, State, Store}
 use Rattle.hep_machine.specs.declared.event.Kind.{Kind}
 use Rattle.hep_machine.specs.declared.event.Kind.TheVariants.{Shape}
 use Rattle.hep_machine.specs.declared.slot.Slot.{Slot}
-use Rattle.hep_machine.specs.Binding.{Binding, binding_for, binding_with_shapes, bound_values, dummies_for, dummy_before, dummy_with_shape, with_actuals, with_shape, with_shapes, with_store}
-use Rattle.hep_machine.specs.Constants.{adjustable_dimensions, bounds_of, cells_of, constant_shape, constant_value, if_shape, is_constant_dimension, shape_by}
-use Rattle.hep_machine.specs.Declarations.{dimensions_of, is_array, is_common, is_dummy, is_nonempty}
-use Rattle.hep_machine.specs.Defaults.{no_shape}
-use Rattle.hep_machine.specs.Evaluation.{Actual, evaluated, referred}
-use Rattle.hep_machine.specs.Layout.{Layout}
-use Rattle.hep_machine.specs.Locations.{Scope, dummy_at, storage_of}
-use Rattle.hep_machine.specs.Shapes.{Bounds, fits, is_shape}
-use Rattle.hep_machine.specs.State.{Dummy, State, Store}
 use Rattle.hep_arena.specs.Gaps.{frame_among}
-use Rattle.hep_frames.specs.Addresses.{Holds}
+use Rattle.hep_frames.specs.Words.{Holds}
 use Rattle.hep_image.specs.declared.dummy.DummyArgument.{DummyArgument}
 use Rattle.hep_image.specs.declared.dummy.DummyArgument.TheVariants.{Scalar, Array, Adjustable}
 use Rattle.hep_image.specs.Dummies.{common_cell, dummy_arguments, dummy_of}

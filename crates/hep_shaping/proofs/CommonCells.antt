@@ -1,21 +1,10 @@
 -- A name in COMMON has a cell at least, and the first one is where its sequence begins: X3.9-1978, 5.1.1, 8.3 and 18.2.
-use Rattle.std.proofs.Common.{◌≡◌, ℕ, ◌+◌, ◌<◌, ◌≤◌, Bool, true, false, if◌then◌else◌, List, [], ◌∷◌, Option, Some, None, refl, sym, ap, ◌∙◌, arith}
-use Rattle.std.specs.Prelude.{is_some, slice_get}
+use Rattle.std.proofs.Common.{◌≡◌, ℕ, ◌+◌, ◌<◌, ◌≤◌, Bool, true, false, if◌then◌else◌, List, [], ◌∷◌, Option, Some, None, refl, sym, ap, ◌∙◌, arith, is_some, slice_get}
 use Rattle.std.specs.Option.{unwrap_or}
-use Rattle.hep_source.specs.declared.name.Name.{Name}
-use Rattle.hep_source.specs.declared.statement.Statement.{Statement}
-use Rattle.hep_source.specs.Units.{Units}
-use Rattle.hep_machine.specs.Constants.{cells_before, cells_of, cells_of_shape, constant_value, shape_by}
-use Rattle.hep_machine.specs.Declarations.{BlockName, common_block, is_array, is_common, is_constant_name, is_dummy, names_in_block}
-use Rattle.hep_machine.specs.Layout.{Layout}
-use Rattle.hep_machine.specs.Locations.{Scope, own_storage, start_by_block}
-use Rattle.hep_machine.specs.Shapes.{elements}
-use Rattle.hep_machine.specs.State.{Dummy, State, common}
-use Rattle.hep_machine.specs.Variables.{is_local}
+use Rattle.hep_machine.specs.Words.{Name, Statement, Units, cells_before, cells_of, cells_of_shape, constant_value, shape_by, BlockName, common_block, is_array, is_common, is_constant_name, is_dummy, names_in_block, Layout, Scope, own_storage, start_by_block, elements, Dummy, State, common, is_local}
 use Rattle.hep_accepted.specs.Meanings.{IsOneThing, how_many}
 use Rattle.hep_accepted.specs.Typing.{HasShape}
-use Rattle.hep_frames.specs.Addresses.{address}
-use Rattle.hep_frames.specs.Rows.{first_in_common}
+use Rattle.hep_frames.specs.Words.{address, first_in_common}
 use Rattle.hep_frames.proofs.Runs.{runs-common}
 use Rattle.hep_image.specs.Dummies.{common_cell, common_cell_by}
 use Rattle.hep_finding.proofs.Extents.{shape-some}

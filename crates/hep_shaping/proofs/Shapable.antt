@@ -1,22 +1,12 @@
 -- Where a unit is called, the bounds of its arrays can be read, and there is room for their values: X3.9-1978, 5.5.1.
-use Rattle.std.proofs.Common.{◌≡◌, ℕ, ◌<◌, ◌≤◌, Bool, true, false, if◌then◌else◌, List, [], ◌∷◌, Some, arith}
-use Rattle.std.specs.Prelude.{map, nat_eq, slice_get}
+use Rattle.std.proofs.Common.{◌≡◌, ℕ, ◌<◌, ◌≤◌, Bool, true, false, if◌then◌else◌, List, [], ◌∷◌, Some, arith, map, nat_eq, slice_get}
 use Rattle.std.specs.Option.{unwrap_or}
 use Rattle.std.proofs.Math.Nat.{le-max_left, le-max_right}
-use Rattle.hep_source.specs.declared.name.Name.{Name}
-use Rattle.hep_source.specs.declared.statement.Statement.{Statement}
-use Rattle.hep_source.specs.Units.{Units, dummies_of}
+use Rattle.hep_machine.specs.Words.{Name, Statement, Units, dummies_of, adjustable_dimensions, cells_of, constant_shape, is_array, is_common, no_shape, Actual, Layout, Scope, Dummy, State}
 use Rattle.hep_machine.specs.declared.slot.Slot.{Slot}
-use Rattle.hep_machine.specs.Constants.{adjustable_dimensions, cells_of, constant_shape}
-use Rattle.hep_machine.specs.Declarations.{is_array, is_common}
-use Rattle.hep_machine.specs.Defaults.{no_shape}
-use Rattle.hep_machine.specs.Evaluation.{Actual}
-use Rattle.hep_machine.specs.Layout.{Layout}
-use Rattle.hep_machine.specs.Locations.{Scope}
-use Rattle.hep_machine.specs.State.{Dummy, State}
 use Rattle.hep_arena.specs.Holes.{Hole}
 use Rattle.hep_arena.specs.Space.{Space}
-use Rattle.hep_frames.specs.Addresses.{IsMemory}
+use Rattle.hep_frames.specs.Words.{IsMemory}
 use Rattle.hep_image.specs.declared.dummy.DummyArgument.{DummyArgument}
 use Rattle.hep_image.specs.declared.dummy.DummyArgument.TheVariants.{Scalar, Array, Adjustable}
 use Rattle.hep_image.specs.Dummies.{common_cell, dummy_arguments, dummy_of}

@@ -1,28 +1,14 @@
 -- What is stored in dummy arguments and in COMMON when a unit is called, before it has a frame, and that it can be read: X3.9-1978, 8.3 and 15.9.3.
-use Rattle.std.proofs.Common.{◌≡◌, ℕ, zero, suc, ◌+◌, ◌<◌, Bool, true, false, if◌then◌else◌, List, [], ◌∷◌, length, Option, Some, None, refl, ap, sym, ◌∙◌, subst, arith}
-use Rattle.std.specs.Prelude.{slice_get}
+use Rattle.std.proofs.Common.{◌≡◌, ℕ, zero, suc, ◌+◌, ◌<◌, Bool, true, false, if◌then◌else◌, List, [], ◌∷◌, length, Option, Some, None, refl, ap, sym, ◌∙◌, subst, arith, slice_get}
 use Rattle.std.specs.Option.{option_map, unwrap_or}
-use Rattle.hep_source.specs.declared.name.Name.{Name}
+use Rattle.hep_machine.specs.Words.{Name, index_among, same_name, Units, dummies_of, unit_at, unset_cell, with_actual, with_actuals, constant_value, dimensions_of, is_common, Actual, evaluated, referred, Layout, Scope, dummy_at, own_storage, activation_of, unit_of, Dummy, Location, local, common, State, Store, same_location, with_value}
 use Rattle.hep_source.specs.declared.value.Value.{Value as Constant}
-use Rattle.hep_source.specs.Names.{index_among, same_name}
-use Rattle.hep_source.specs.Units.{Units, dummies_of, unit_at}
 use Rattle.hep_machine.specs.declared.slot.Slot.{Slot}
-use Rattle.hep_machine.specs.Access.{unset_cell}
-use Rattle.hep_machine.specs.Binding.{with_actual, with_actuals}
-use Rattle.hep_machine.specs.Constants.{constant_value}
-use Rattle.hep_machine.specs.Declarations.{dimensions_of, is_common}
-use Rattle.hep_machine.specs.Evaluation.{Actual, evaluated, referred}
-use Rattle.hep_machine.specs.Layout.{Layout}
-use Rattle.hep_machine.specs.Locations.{Scope, dummy_at, own_storage}
-use Rattle.hep_machine.specs.Processes.{activation_of, unit_of}
-use Rattle.hep_machine.specs.State.{Dummy, Location, local, common, State, Store}
-use Rattle.hep_machine.specs.Storage.{same_location, with_value}
 use Rattle.hep_machine.proofs.Locations.{equal_locations}
 use Rattle.hep_arena.specs.Gaps.{frame_among}
 use Rattle.hep_arena.specs.Holes.{Hole, IsOut}
 use Rattle.hep_arena.specs.Space.{Space}
-use Rattle.hep_frames.specs.Addresses.{address, address_of_kept, cell_in, kept_in, Holds, IsMemory}
-use Rattle.hep_frames.specs.Rows.{FramePart, place_of_part}
+use Rattle.hep_frames.specs.Words.{address, address_of_kept, cell_in, kept_in, Holds, IsMemory, FramePart, place_of_part}
 use Rattle.hep_frames.proofs.Addresses.{address-out}
 use Rattle.hep_frames.proofs.Memory.{location-self}
 use Rattle.hep_passing.specs.declared.given.Given.{Given}
@@ -31,7 +17,7 @@ use Rattle.hep_passing.specs.Agreement.{AreGiven, AreUnitsOf, IsGiven}
 use Rattle.hep_shaping.specs.Given.{AreReadable, IsCell, IsFirstCell, IsReadable, stored_by, stored_for, stored_in}
 use Rattle.hep_bounds.specs.Sources.{AreStored, IsNamedOnce, adjustable_code, source_by, source_of}
 use Rattle.hep_shaping.proofs.Readable.{dimensions_readable}
-use Rattle.hep_finding.proofs.Dummies.{further-none}
+use Rattle.hep_finding.proofs.Variables.{further-none}
 
 -- ---- names and locations
 

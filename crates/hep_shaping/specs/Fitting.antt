@@ -2,7 +2,7 @@
 -- 5.5, 5.5.1 and 15.9.3.3.
 use Rattle.std.specs.Prelude.{ℕ, suc, max, ◌≤◌, ◌&&◌, Bool, true, false, List, [], ◌∷◌, length, map, Option, Some, None, slice_get}
 use Rattle.hep_machine.specs.declared.slot.Slot.{Slot}
-use Rattle.hep_machine.specs.Shapes.{Bounds, fits}
+use Rattle.hep_machine.specs.Words.{Bounds, fits}
 use Rattle.hep_arena.specs.Space.{Space}
 use Rattle.hep_image.specs.declared.dummy.DummyArgument.{DummyArgument}
 use Rattle.hep_image.specs.declared.dummy.DummyArgument.TheVariants.{Scalar, Array, Adjustable}

@@ -1,8 +1,7 @@
 -- What is stored in the dummy arguments of a unit that is called, by what is given to them: X3.9-1978, 5.5.1 and 15.9.3.
 use Rattle.std.specs.Prelude.{ℕ, ◌<◌, List, [], ◌∷◌, length, slice_get, Option, Some, None}
-use Rattle.hep_source.specs.declared.value.Value.{Value}
+use Rattle.hep_machine.specs.Words.{Value, Bounds}
 use Rattle.hep_machine.specs.declared.slot.Slot.{Slot}
-use Rattle.hep_machine.specs.Shapes.{Bounds}
 use Rattle.hep_arena.specs.Holes.{IsOut}
 use Rattle.hep_arena.specs.Space.{Space}
 use Rattle.hep_image.specs.Finding.{cells_in}

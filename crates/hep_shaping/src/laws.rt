@@ -1,23 +1,13 @@
 //! Laws of what the code of bounds reads at a CALL.
 ghost use Rattle.std.specs.Prelude.{◌≡◌, ℕ, ◌<◌, ◌≤◌, true, false, List, Some, None, Ok, Err, length};
-ghost use Rattle.hep_source.specs.declared.declaration.Dimension.{Dimension};
-ghost use Rattle.hep_source.specs.declared.name.Name.{Name};
-ghost use Rattle.hep_source.specs.declared.statement.Statement.{Statement};
-ghost use Rattle.hep_source.specs.Tree.{Tree};
-ghost use Rattle.hep_source.specs.Units.{Units, dummies_of, unit_at};
-ghost use Rattle.hep_machine.specs.Binding.{Binding, binding_for, dummies_for, with_actuals};
-ghost use Rattle.hep_machine.specs.Declarations.{is_common};
+ghost use Rattle.hep_machine.specs.Words.{Dimension, Name, Statement, Tree, Units, dummies_of, unit_at, Binding, binding_for, dummies_for, with_actuals, is_common, Actual, Layout, Scope, own_storage, Dummy, State};
 ghost use Rattle.hep_machine.specs.declared.event.Kind.TheVariants.{Shape};
 ghost use Rattle.hep_machine.specs.declared.slot.Slot.{Slot};
-ghost use Rattle.hep_machine.specs.Evaluation.{Actual};
-ghost use Rattle.hep_machine.specs.Layout.{Layout};
-ghost use Rattle.hep_machine.specs.Locations.{Scope, own_storage};
-ghost use Rattle.hep_machine.specs.State.{Dummy, State};
-ghost use Rattle.hep_check.specs.Conditions.{IsAccepted};
+ghost use Rattle.hep_check.specs.Words.{IsAccepted};
 ghost use Rattle.hep_arena.specs.Gaps.{frame_among};
 ghost use Rattle.hep_arena.specs.Holes.{Hole};
 ghost use Rattle.hep_arena.specs.Space.{Space};
-ghost use Rattle.hep_frames.specs.Addresses.{Holds, IsMemory, address};
+ghost use Rattle.hep_frames.specs.Words.{Holds, IsMemory, address};
 ghost use Rattle.hep_image.specs.Dummies.{dummy_arguments};
 ghost use Rattle.hep_passing.specs.Agreement.{AreGiven};
 ghost use Rattle.hep_passing.specs.declared.given.Given.{Given};

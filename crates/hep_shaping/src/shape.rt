@@ -1,7 +1,7 @@
 //! The shape of an adjustable array.
 ghost use Rattle.std.specs.Prelude.{◌≡◌, ◌≤◌, [], length, vec_capacity, Some};
 ghost use Rattle.std.specs.Option.{option_map};
-ghost use Rattle.hep_machine.specs.Constants.{if_shape};
+ghost use Rattle.hep_machine.specs.Words.{if_shape};
 ghost use Rattle.hep_bounds.specs.DimensionCode as definitions;
 ghost use Rattle.hep_shaping.specs.Given.{AreReadable, shape_by_code};
 

@@ -1,43 +1,34 @@
--- What a core keeps before the first step shows the opening.
-use Rattle.std.proofs.Common.{◌≡◌, ℕ, zero, suc, ◌+◌, ◌<◌, Bool, true, false, List, [], ◌∷◌, length, Option, Some, None, refl, sym, ap, ◌∙◌, subst, arith}
-use Rattle.std.specs.Prelude.{if◌then◌else◌, nat_eq, nat_le, slice_get}
-use Rattle.std.specs.Option.{option_map}
+-- What a core keeps before the first step shows the opening, once rows of DATA have given values to its cells.
+use Rattle.std.proofs.Common.{◌≡◌, ℕ, zero, suc, ◌+◌, ◌<◌, Bool, true, false, List, [], ◌∷◌, length, Option, Some, None, refl, sym, ap, ◌∙◌, subst, arith, ◌⊎◌, inl, inr, ◌-◌, ◌≤◌, ◌&&◌, ◌||◌, get_or, drop, reverse, if◌then◌else◌, nat_eq, nat_le, slice_get, nat_lt}
+use Rattle.std.specs.Option.{option_map, IsSome, is_some}
 use Rattle.std.proofs.lemmas.Option.{same_Some, none-some}
-use Rattle.hep_source.specs.declared.value.Value.{Value}
-use Rattle.hep_source.specs.Units.{Units, executable_from, main_unit, unit_at}
+use Rattle.hep_machine.specs.Words.{Value, Units, executable_from, main_unit, unit_at, Frame, Layout, common_cells, is_held, layout_of, lowest_gap, opening_layout, placing_from, cell_given, opening, activation_of, numbered, unit_of, run, run_from, Location, Process, State, entry_level, frame_cells}
 use Rattle.hep_machine.specs.declared.slot.Slot.{Slot}
-use Rattle.hep_machine.specs.Layout.{Frame, Layout, common_cells, is_held, layout_of, lowest_gap, opening_layout, placing_from}
-use Rattle.hep_machine.specs.Opening.{cell_given, opening}
-use Rattle.hep_machine.specs.Processes.{activation_of, numbered, unit_of}
-use Rattle.hep_machine.specs.Run.{run, run_from}
-use Rattle.hep_machine.specs.State.{Location, Process, State}
-use Rattle.hep_machine.specs.Step.{entry_level}
-use Rattle.hep_machine.specs.Variables.{frame_cells}
-use Rattle.hep_code.specs.Stacks.{entry_index}
+use Rattle.hep_code.specs.Words.{entry_index}
 use Rattle.hep_code.proofs.Moves.{StandsAt, entry_stands}
 use Rattle.hep_arena.specs.Gaps.{gaps}
-use Rattle.hep_frames.specs.Addresses.{Holds, IsLaid, IsMemory, address}
-use Rattle.hep_frames.specs.Descriptors.{Describes, wanted_of}
-use Rattle.hep_frames.specs.Tree.{is_stacked}
+use Rattle.hep_frames.specs.Words.{Holds, IsLaid, IsMemory, address, Describes, wanted_of, is_stacked, Node, Nodes, first_nodes}
 use Rattle.hep_frames.proofs.Beginning.{tree-same, wanted-same}
-use Rattle.hep_frames.proofs.Descriptors.{descriptor-apart, described-same}
-use Rattle.hep_frames.proofs.Descriptors.{wanted-same as wanted-alike}
+use Rattle.hep_frames.proofs.Descriptors.{descriptor-apart, described-same, wanted-same as wanted-alike}
 use Rattle.hep_frames.proofs.HeldFrames.{opening-is}
 use Rattle.hep_frames.proofs.Memory.{address-same, laid-same}
 use Rattle.hep_frames.proofs.Tree.{rest-held}
 use Rattle.hep_image.specs.declared.data.DataRow.{DataRow}
 use Rattle.hep_image.specs.Data.{AreOfUnits, AreInitial, first_frames, value_in_rows}
-use Rattle.hep_proc.specs.Keeping.{IsOpening, Keeps}
+use Rattle.hep_proc.specs.Keeping.{IsOpening, Keeps, IsUnused}
 use Rattle.hep_step.specs.Simulation.{unit_addressed}
 use Rattle.hep_arena.specs.Space.{Space}
-use Rattle.hep_frames.specs.Tree.{Node, Nodes}
-use Rattle.hep_state.specs.Openings.{IsEntered, IsGiven, snapshot_opened, unset_opening}
-use Rattle.hep_state.specs.Showing.{IsStack}
-use Rattle.hep_state.specs.Snapshots.{Stack}
-use Rattle.hep_state.specs.Turns.{IsAfter}
-use Rattle.hep_state.proofs.Kept.{none-kept}
-use Rattle.hep_state.proofs.Levels.{are-on}
-use Rattle.hep_state.proofs.Standing.{AreStanding, stack-again}
+use Rattle.hep_state.specs.Words.{IsEntered, IsGiven, snapshot_opened, unset_opening, IsStack, Stack, IsAfter, AreOut}
+use Rattle.hep_state.proofs.Leaving.{none-kept}
+use Rattle.hep_state.proofs.Standing.{are-on, AreStanding, stack-again}
+use Rattle.std.proofs.lemmas.Bool.{cases_Bool, eq-eqb, false≢true}
+use Rattle.std.proofs.lemmas.Bool.Decides.{nat_tests}
+use Rattle.std.proofs.lemmas.List.{drop_more, get_or-reverse, length-reverse}
+use Rattle.hep_arena.specs.Holes.{IsOut, first_fit}
+use Rattle.hep_arena.proofs.Gaps.{fit-gaps}
+use Rattle.hep_frames.proofs.Addresses.{address-out}
+use Rattle.hep_state.proofs.Processes.{numbered-only}
+use Rattle.hep_state.proofs.Unchanged.{carry}
 
 -- ---- the opening
 
@@ -159,17 +150,9 @@ module _ (program : Units) (cells key entry : ℕ) (rows : List DataRow) (before
     stacks : (n : ℕ) (k : Stack) (q : Process) → numbered (record { levels = record { key = key; unit = main_unit program; index = entry } ∷ []; operands = [] } ∷ []) n ≡ Some k → numbered t.processes n ≡ Some q
         → IsStack program t after.contents nodes k q
     stacks n k q kept there =
-        stack-again program t nodes after.contents h.layout keeps-held.described keeps-held.framed k q (by_number n kept (sym (ap (λ (qs : List Process). numbered qs n) ((opened program).processes)) ∙ there)) (are-on program [] n q there)
-      where
-        by_number : (n : ℕ) → numbered (record { levels = record { key = key; unit = main_unit program; index = entry } ∷ []; operands = [] } ∷ []) n ≡ Some k → numbered ((entry_level (unit_at program (main_unit program)) 1 ∷ []) ∷ []) n ≡ Some q
-            → AreStanding program t nodes k.operands k.levels q
-        by_number zero kept there = absurd (none-some k kept)
-        by_number (suc zero) kept there =
-            let first : Stack = record { levels = record { key = key; unit = main_unit program; index = entry } ∷ []; operands = [] } in
-            let one : first ≡ k = same_Some first k kept in
-            let process : entry_level (unit_at program (main_unit program)) 1 ∷ [] ≡ q = same_Some (entry_level (unit_at program (main_unit program)) 1 ∷ []) q there in
-            subst (λ (x : Stack). AreStanding program t nodes x.operands x.levels q) one (subst (λ (z : Process). AreStanding program t nodes [] (record { key = key; unit = main_unit program; index = entry } ∷ []) z) process standing)
-        by_number (suc (suc i)) kept there = absurd (none-some k kept)
+        let one = numbered-only _ k n kept in
+        let process = numbered-only _ q n (sym (ap (λ (qs : List Process). numbered qs n) ((opened program).processes)) ∙ there) in
+        stack-again program t nodes after.contents h.layout keeps-held.described keeps-held.framed k q (carry (λ i. AreStanding program t nodes (one i).operands (one i).levels (process i)) standing) (are-on program [] n q there)
 
     pub opened-shown : IsAfter program cells [] (snapshot_opened program key entry after nodes)
     opened-shown =
@@ -207,3 +190,141 @@ is-entered program cells key layout arena nodes node laid size keeps there first
       there = there;
       first = first;
     }
+
+-- ---- a row
+
+in-row : (first count p : ℕ) → first ≤ p → p < first + count → nat_le first p && nat_lt p (first + count) ≡ true
+in-row first count p low high = grind (arith, nat_tests)
+
+-- as many cells as a row has are the arena's, from its first one on
+pub row-inside : (first count : ℕ) (v : Value) (arena : Space) → AreOut (record { first = first; count = count; value = v } ∷ []) arena → (count ≡ 0) ⊎ (first + count ≤ length arena.contents)
+row-inside first zero v arena out = inl refl
+row-inside first (suc n) v arena out =
+    let inside = (out (first + n) v (ap (λ b. if b then Some v else None) (in-row first (suc n) (first + n) (omega arith) (omega arith)))).0 in
+    inr (omega (arith, inside))
+
+pub cell-out : (row : DataRow) (arena : Space) (p : ℕ) → AreOut (row ∷ []) arena → row.first ≤ p → p < row.first + row.count → (p < length arena.contents) × IsOut p arena.holes
+cell-out row arena p out low high = out p row.value (ap (λ b. if b then Some row.value else None) (in-row row.first row.count p low high))
+
+-- ---- values, one after the other
+
+pub nothing-given : (arena : Space) → IsGiven [] arena arena
+nothing-given arena = record { holes_are = refl; size = refl; given = λ p. by_cell (slice_get arena.contents p) } where
+  by_cell : (o : Option Slot) → o ≡ option_map (cell_given None) o
+  by_cell None = refl
+  by_cell (Some slot) = refl
+
+-- what rows give, and then what a row gives in front of them
+pub given-before : (row : DataRow) (rows : List DataRow) (a b c : Space) → IsGiven rows a b → IsGiven (row ∷ []) b c → IsGiven (row ∷ rows) a c
+given-before row rows a b c rest first =
+    record {
+      holes_are = first.holes_are ∙ rest.holes_are;
+      size = first.size ∙ rest.size;
+      given = λ p.
+          first.given p ∙ ap (option_map (cell_given (value_in_rows (row ∷ []) p))) (rest.given p)
+          ∙ by_test (nat_le row.first p && nat_lt p (row.first + row.count)) (value_in_rows rows p) (slice_get a.contents p);
+    }
+  where
+    by_test : (t : Bool) (w : Option Value) (o : Option Slot) → option_map (cell_given (if t then Some row.value else None)) (option_map (cell_given w) o) ≡ option_map (cell_given (if t then Some row.value else w)) o
+    by_test t w None = refl
+    by_test true None (Some slot) = refl
+    by_test true (Some v) (Some slot) = refl
+    by_test false w (Some slot) = refl
+
+-- the same values
+pub given-same : (rows others : List DataRow) (a b : Space) → ((p : ℕ) → value_in_rows rows p ≡ value_in_rows others p) → IsGiven rows a b → IsGiven others a b
+given-same rows others a b same h =
+    record {
+      holes_are = h.holes_are;
+      size = h.size;
+      given = λ p. h.given p ∙ ap (λ o. option_map (cell_given o) (slice_get a.contents p)) (same p);
+    }
+
+module _ (first n at count : ℕ) (v : Value) (behind : at ≡ first + n) (more : count ≡ n + 1) where
+  one-more : (p : ℕ) → nat_le first p && nat_lt p (first + count) ≡ (nat_le at p && nat_lt p (at + 1)) || (nat_le first p && nat_lt p (first + n))
+  one-more p = grind (arith, nat_tests)
+
+  by_tests : (s t : Bool) → (if s then Some v else (if t then Some v else None)) ≡ (if s || t then Some v else None)
+  by_tests true t = refl
+  by_tests false t = refl
+
+  -- a cell more of a row
+  pub given-next : (a b c : Space) → IsGiven (record { first = first; count = n; value = v } ∷ []) a b → IsGiven (record { first = at; count = 1; value = v } ∷ []) b c → IsGiven (record { first = first; count = count; value = v } ∷ []) a c
+  given-next a b c h g =
+      given-same (record { first = at; count = 1; value = v } ∷ record { first = first; count = n; value = v } ∷ []) (record { first = first; count = count; value = v } ∷ []) a c
+      (λ p. by_tests (nat_le at p && nat_lt p (at + 1)) (nat_le first p && nat_lt p (first + n)) ∙ ap (λ (t : Bool). if t then Some v else None) (sym (one-more p)))
+      (given-before (record { first = at; count = 1; value = v }) (record { first = first; count = n; value = v } ∷ []) a b c h g)
+
+-- a row without cells
+pub given-empty : (first count : ℕ) (v : Value) (arena : Space) → count ≡ 0 → IsGiven (record { first = first; count = count; value = v } ∷ []) arena arena
+given-empty first count v arena none =
+    given-same [] (record { first = first; count = count; value = v } ∷ []) arena arena (λ p. let past : nat_le first p && nat_lt p (first + count) ≡ false = grind (arith, nat_tests) in rw past) (nothing-given arena)
+
+-- ---- rows from the last one on
+
+-- where the one after k others stands
+pub record IsFromLast (rows : List DataRow) (row : DataRow) (k i : ℕ) : Type 0 where
+  pub next : i + 1 ≡ length rows - k
+  pub inside : i < length rows
+  pub is : row ≡ get_or rows i row
+
+pub from-last : (rows : List DataRow) (row : DataRow) (k i : ℕ) → i ≡ length rows - (k + 1) → (k < length (reverse rows)) × (row ≡ get_or (reverse rows) k row) → IsFromLast rows row k i
+from-last rows row k i at turn =
+    let below : k < length rows = subst (λ n. k < n) (length-reverse rows) turn.0 in
+    let here : length rows - 1 - k ≡ i = omega arith in
+    record { next = omega arith; inside = omega arith; is = turn.1 ∙ (get_or-reverse rows k row below ∙ ap (λ j. get_or rows j row) here) }
+
+-- a row and those behind it
+pub given-turn : (rows : List DataRow) (row : DataRow) (i k : ℕ) (a b c : Space) → i + 1 ≡ k → i < length rows → row ≡ get_or rows i row → IsGiven (drop k rows) a b → IsGiven (row ∷ []) b c → IsGiven (drop i rows) a c
+given-turn rows row i k a b c next inside is rest first =
+    subst (λ rs. IsGiven rs a c) (sym (drop_more rows i row inside ∙ (λ j. sym is j ∷ drop (next j) rows))) (given-before row (drop k rows) a b c rest first)
+
+-- ---- what rows give is out
+
+pub out-given : (rows given : List DataRow) (a b : Space) → IsGiven given a b → AreOut rows a → AreOut rows b
+out-given rows given a b h out p v e = (omega (arith, h.size, (out p v e).0), subst (IsOut p) (sym h.holes_are) (out p v e).1)
+
+-- a cell of a row among rows has a value
+among : (rows : List DataRow) (row : DataRow) (i p : ℕ) (v : Value) → i < length rows → row ≡ get_or rows i row → value_in_rows (row ∷ []) p ≡ Some v → (w : Value) × (value_in_rows rows p ≡ Some w)
+among [] row i p v inside is e = absurd (omega arith)
+among (r ∷ rs) row zero p v inside is e =
+    let own = ap (λ (x : DataRow). value_in_rows (x ∷ []) p) (sym is) ∙ e in
+    elim (cases_Bool (nat_le r.first p && nat_lt p (r.first + r.count))) [ inl in_it ↦ (r.value, rw in_it) | inr out ↦ absurd (none-some v (rw out at own)) ]
+among (r ∷ rs) row (suc i) p v inside is e =
+    let rest = among rs row i p v (omega arith) is e in
+    elim (cases_Bool (nat_le r.first p && nat_lt p (r.first + r.count))) [ inl in_it ↦ (r.value, rw in_it) | inr out ↦ (rest.0, rw out rest.1) ]
+
+pub row-out : (rows : List DataRow) (row : DataRow) (i : ℕ) (arena : Space) → i < length rows → row ≡ get_or rows i row → AreOut rows arena → AreOut (row ∷ []) arena
+row-out rows row i arena inside is out p v e =
+    let some = among rows row i p v inside is e in
+    out p some.0 some.1
+
+-- those of the opening are in COMMON and in the main program's frame
+pub entered-out : (program : Units) (cells key : ℕ) (arena : Space) (nodes : Nodes) (rows : List DataRow) → IsEntered program cells key arena nodes → AreOfUnits program rows → AreOut rows arena
+entered-out program cells key arena nodes rows h units p v e =
+    let unit = units p v e in
+    let memory = h.keeps.memory in
+    let same = opening-address program cells h.layout h.laid unit.0 in
+    let out = address-out program (unset_opening program) (length arena.contents) h.layout unit.0 p memory.laid (same ∙ unit.1) in
+    (out.0, subst (IsOut p) (sym memory.holes_are) out.1)
+
+-- ---- the main program's frame enters
+
+-- the lowest gap is just behind COMMON
+pub first-fit : (program : Units) (arena : Space) (nodes : Nodes) → IsUnused (common_cells program) arena nodes
+    → ((cells : ℕ) → opening_layout program cells ≡ (if nat_le (common_cells program + frame_cells (unit_at program (main_unit program))) cells then Some (first_frames program) else None))
+    → IsSome (opening_layout program (length arena.contents)) → first_fit (frame_cells (unit_at program (main_unit program))) arena.holes ≡ Some (common_cells program)
+first-fit program arena nodes unused by_numbers fits =
+    let n = frame_cells (unit_at program (main_unit program)) in
+    let common = common_cells program in
+    ap (first_fit n) unused.holes_are ∙ (fit-gaps (length arena.contents) n common [] (omega arith) ∙ by_test (nat_le (common + n) (length arena.contents)) (ap is_some (sym (by_numbers (length arena.contents))) ∙ fits))
+  where
+    by_test : (t : Bool) → is_some (if t then Some (first_frames program) else None) ≡ true → (if t then Some (common_cells program) else None) ≡ Some (common_cells program)
+    by_test true h = refl
+    by_test false h = absurd (false≢true h)
+
+abbrev pub first_node : ℕ → ℕ → ℕ → Node
+first_node unit first cells = record { activation = 1; unit = unit; first = first; cells = cells; parent = None; children = 0; finished = false }
+
+pub node-there : (key unit first cells : ℕ) → first_nodes key unit first cells key ≡ Some (first_node unit first cells)
+node-there key unit first cells = rw (eq-eqb key key refl)

@@ -1,23 +1,53 @@
--- A process of a machine has another stack: what the machine shows then, and that there is still room for operands.
-use Rattle.std.proofs.Common.{◌≡◌, ℕ, zero, suc, ◌-◌, ◌<◌, ◌≤◌, true, false, not, nat_eq, List, [], ◌∷◌, ◌++◌, length, map, get_or, reverse, Some, None, refl, sym, ap, ◌∙◌, subst, arith}
-use Rattle.std.specs.Prelude.{slice_get, slice_set, vec_capacity}
+-- A process of a machine: its stack, what the machine shows once it has another one, and that there is still room for operands.
+use Rattle.std.proofs.Common.{◌≡◌, ℕ, zero, suc, ◌-◌, ◌<◌, ◌≤◌, true, false, not, nat_eq, List, [], ◌∷◌, ◌++◌, length, map, get_or, reverse, Some, None, refl, sym, ap, ◌∙◌, subst, arith, slice_get, slice_set, vec_capacity, vec_len}
 use Rattle.std.proofs.lemmas.Bool.Decides.{nat_tests}
-use Rattle.std.proofs.lemmas.List.{length-map, map-set, reverse-append}
+use Rattle.std.proofs.lemmas.List.{length-map, map-set, reverse-append, set-get_or, length-append, reverse-reverse}
 use Rattle.std.proofs.lemmas.Option.{same_Some, none-some, slice_get-get_or, slice_get-map, slice_get_past, slice_get_within}
 use Rattle.std.specs.Option.{option_map}
-use Rattle.hep_source.specs.declared.value.Value.{Value}
-use Rattle.hep_source.specs.Units.{Units}
-use Rattle.hep_machine.specs.Processes.{numbered, with_numbered}
-use Rattle.hep_code.specs.Depths.{deepest}
+use Rattle.hep_machine.specs.Words.{Value, Units, numbered, with_numbered}
+use Rattle.hep_code.specs.Words.{deepest}
 use Rattle.hep_step.specs.Simulation.{unit_code}
 use Rattle.hep_state.specs.declared.machine.Level.{Level}
 use Rattle.hep_state.specs.declared.machine.Process.{Process}
-use Rattle.hep_state.specs.Rooms.{HasRoom}
-use Rattle.hep_state.specs.Snapshots.{Stack, stack_of}
-use Rattle.hep_state.specs.Taking.{stack_with}
-use Rattle.hep_state.proofs.Settled.{has-levels}
-use Rattle.hep_state.proofs.Stacked.{last-there, levels-are}
+use Rattle.hep_state.specs.Words.{HasRoom, Stack, stack_of, stack_with}
+use Rattle.hep_state.proofs.Tops.{has-levels}
 use Rattle.hep_source.proofs.Tests.{at-front}
+use Rattle.std.proofs.Math.Seq.{get_or-append_seam, set-append_seam}
+
+-- ---- the levels of a process, the top one last, as the stack that they are
+
+module _ (q : Process) (l : Level) (ls : List Level) (operands : List Value) (is : stack_of q ≡ stack_with l ls operands) where
+  abbrev front : List Level
+  front = reverse ls
+
+  pub levels-are : q.levels.items ≡ front ++ l ∷ []
+  levels-are = sym (reverse-reverse q.levels.items) ∙ (ap (λ (k : Stack). reverse k.levels) is ∙ reverse-append (l ∷ []) ls)
+
+  pub operands-are : q.operands.items ≡ operands
+  operands-are = ap (λ (k : Stack). k.operands) is
+
+  pub last-index : vec_len q.levels - 1 ≡ length front
+  last-index = omega (arith, q.levels.ok.0, ap length levels-are, length-append front (l ∷ []))
+
+  pub some-levels : 0 < vec_len q.levels
+  some-levels = omega (arith, q.levels.ok.0, ap length levels-are, length-append front (l ∷ []))
+
+  -- the top level
+  pub last-is : (d : Level) → get_or q.levels.items (vec_len q.levels - 1) d ≡ l
+  last-is d = ap (λ n. get_or q.levels.items n d) last-index ∙ (ap (λ xs. get_or xs (length front) d) levels-are ∙ get_or-append_seam front l [] d)
+
+  -- another one in its place
+  pub last-set : (m : Level) → reverse (slice_set q.levels.items (vec_len q.levels - 1) m) ≡ m ∷ ls
+  last-set m =
+      ap (λ n. reverse (slice_set q.levels.items n m)) last-index
+      ∙ (ap (λ xs. reverse (slice_set xs (length front) m)) levels-are
+      ∙ (ap reverse (set-append_seam front l [] m) ∙ (reverse-append front (m ∷ []) ∙ ap (λ ms. m ∷ ms) (reverse-reverse ls))))
+
+  pub last-there : slice_get q.levels.items (length front) ≡ Some l
+  last-there = ap (λ xs. slice_get xs (length front)) levels-are ∙ at_seam front where
+    at_seam : (xs : List Level) → slice_get (xs ++ l ∷ []) (length xs) ≡ Some l
+    at_seam [] = refl
+    at_seam (x ∷ xs) = at_seam xs
 
 -- ---- numbered processes
 
@@ -37,8 +67,8 @@ inside-at qs p k kept =
     let it = numbered-one (map stack_of qs) p k kept in
     (it.0, omega (arith, slice_get_within (map stack_of qs) (p - 1) k it.1, length-map {A = Process} qs stack_of))
 
-pub process-at : (qs : List Process) (p : ℕ) (k : Stack) (q : Process) → numbered (map stack_of qs) p ≡ Some k → q ≡ get_or qs (p - 1) q → IsAt qs p k q
-process-at qs p k q kept is =
+pub process-at : (qs : List Process) (p : ℕ) {k : Stack} {q : Process} → numbered (map stack_of qs) p ≡ Some k → q ≡ get_or qs (p - 1) q → IsAt qs p k q
+process-at qs p {k} {q} kept is =
     let inside = inside-at qs p k kept in
     let there : slice_get qs (p - 1) ≡ Some q = slice_get-get_or qs (p - 1) q inside.1 ∙ ap (λ z. Some z) (sym is) in
     record {
@@ -48,9 +78,13 @@ process-at qs p k q kept is =
       stack = same_Some (stack_of q) k (sym (slice_get-map stack_of qs (p - 1) ∙ ap (option_map stack_of) there) ∙ (numbered-one (map stack_of qs) p k kept).1);
     }
 
+-- its levels, where it has some
+pub some-levels-at : {qs : List Process} {p : ℕ} {l : Level} {ls : List Level} {operands : List Value} {q : Process} → IsAt qs p (stack_with l ls operands) q → 0 < vec_len q.levels
+some-levels-at {qs} {p} {l} {ls} {operands} {q} it = some-levels q l ls operands it.stack
+
 -- where other processes are the same as these
-pub process-still : (old new : List Process) (p : ℕ) (k : Stack) (q : Process) → new ≡ old → numbered (map stack_of old) p ≡ Some k → q ≡ get_or new (p - 1) q → IsAt new p k q
-process-still old new p k q same kept is = process-at new p k q (ap (λ qs. numbered (map stack_of qs) p) same ∙ kept) is
+pub process-still : (old new : List Process) (p : ℕ) {k : Stack} {q : Process} → new ≡ old → numbered (map stack_of old) p ≡ Some k → q ≡ get_or new (p - 1) q → IsAt new p k q
+process-still old new p {k} {q} same kept is = process-at new p (ap (λ qs. numbered (map stack_of qs) p) same ∙ kept) is
 
 pub stacks-set : (qs : List Process) (p : ℕ) (r : Process) (k : Stack) → stack_of r ≡ k → map stack_of (slice_set qs (p - 1) r) ≡ with_numbered (map stack_of qs) p k
 stacks-set qs p r k is = map-set stack_of qs (p - 1) r ∙ ap (λ z. with_numbered (map stack_of qs) p z) is
@@ -132,9 +166,35 @@ room-more program q r l new next ls was left before after more enough room i m e
     all-more (λ (k : Level). deepest (unit_code program k.unit) ≤ vec_capacity r.operands) (reverse ls ++ later ∷ []) new (λ j k f. let here = moved-enough program q l next ls was before room j k f in omega (arith, here, more)) enough i m
     (subst (λ (xs : List Level). slice_get xs i ≡ Some m) levels e)
 
+-- the only element
+pub the-only : {A : Type 0} (x y : A) (i : ℕ) → slice_get (x ∷ []) i ≡ Some y → x ≡ y
+the-only x y zero e = same_Some x y e
+the-only x y (suc i) e = absurd (none-some y e)
+
+pub numbered-only : {A : Type 0} (x y : A) (p : ℕ) → numbered (x ∷ []) p ≡ Some y → x ≡ y
+numbered-only x y zero e = absurd (none-some y e)
+numbered-only x y (suc i) e = the-only x y i e
+
 -- one that has one level has room for the unit of that
 pub room-alone : (program : Units) (q : Process) (level : Level) → q.levels.items ≡ level ∷ [] → deepest (unit_code program level.unit) ≤ vec_capacity q.operands → HasRoom program q
-room-alone program q level alone enough i l e = by_index i (ap (λ (ls : List Level). slice_get ls i) (sym alone) ∙ e) where
-  by_index : (j : ℕ) → slice_get (level ∷ []) j ≡ Some l → deepest (unit_code program l.unit) ≤ vec_capacity q.operands
-  by_index zero f = subst (λ (x : Level). deepest (unit_code program x.unit) ≤ vec_capacity q.operands) (same_Some level l f) enough
-  by_index (suc j) f = absurd (none-some l f)
+room-alone program q level alone enough i l e =
+    subst (λ (x : Level). deepest (unit_code program x.unit) ≤ vec_capacity q.operands) (the-only level l i (ap (λ (ls : List Level). slice_get ls i) (sym alone) ∙ e)) enough
+
+-- ---- a process gets room for more levels and operands, and is the same but for that
+
+-- what was put in a place is there
+pub set-there : {A : Type 0} (xs : List A) (i : ℕ) (x y : A) → slice_get (slice_set xs i x) i ≡ Some y → x ≡ y
+set-there [] i x y e = absurd (none-some y e)
+set-there (z ∷ zs) zero x y e = same_Some x y e
+set-there (z ∷ zs) (suc i) x y e = set-there zs i x y e
+
+-- its stack is the same
+pub stacks-same : (qs : List Process) (j : ℕ) (q r : Process) → q ≡ get_or qs j q → r.levels.items ≡ q.levels.items → r.operands.items ≡ q.operands.items → map stack_of (slice_set qs j r) ≡ map stack_of qs
+stacks-same qs j q r is levels operands =
+    let same : stack_of r ≡ stack_of q = λ i. record { levels = reverse (levels i); operands = operands i } in
+    map-set stack_of qs j r ∙ (ap (slice_set (map stack_of qs) j) same ∙ (sym (map-set stack_of qs j q) ∙ ap (map stack_of) (ap (slice_set qs j) is ∙ set-get_or qs j q)))
+
+pub room-reserved : (program : Units) (q r : Process) → r.levels.items ≡ q.levels.items → vec_capacity q.operands ≤ vec_capacity r.operands → HasRoom program q → HasRoom program r
+room-reserved program q r levels more room i l e =
+    let here = room i l (subst (λ (ls : List Level). slice_get ls i ≡ Some l) levels e) in
+    omega (arith, here, more)

@@ -1,25 +1,18 @@
 -- A PURGE ahead of a process: what it empties, and that its step was made.
-use Rattle.std.proofs.Common.{◌≡◌, ℕ, suc, ◌+◌, ◌<◌, true, false, List, [], ◌∷◌, ◌++◌, length, Option, Some, None, refl, sym, ap, ◌∙◌, subst, true≢false, arith}
-use Rattle.std.specs.Prelude.{Result, Ok, Err, slice_get}
+use Rattle.std.proofs.Common.{◌≡◌, ℕ, suc, ◌+◌, ◌<◌, true, false, List, [], ◌∷◌, length, Option, Some, None, refl, sym, ap, ◌∙◌, subst, true≢false, arith, Result, Ok, Err, slice_get}
 use Rattle.std.specs.Option.{unwrap_or}
 use Rattle.std.proofs.lemmas.Option.{none-some, same_Some, slice_get-get_or, slice_get_within}
-use Rattle.hep_source.specs.declared.value.Value.{Value}
-use Rattle.hep_source.specs.Units.{Units}
+use Rattle.hep_machine.specs.Words.{Value, Units, purged_cell, unset_cell, Layout, is_held, layout_of, unit_of, run, Location, Process, State, state_with_store}
 use Rattle.hep_machine.specs.declared.event.Kind.{Kind}
 use Rattle.hep_machine.specs.declared.slot.Slot.{Slot}
-use Rattle.hep_machine.specs.Access.{purged_cell, unset_cell}
-use Rattle.hep_machine.specs.Layout.{Layout, is_held, layout_of}
-use Rattle.hep_machine.specs.Processes.{unit_of}
-use Rattle.hep_machine.specs.Run.{run}
-use Rattle.hep_machine.specs.State.{Level as SourceLevel, Location, Process, State}
-use Rattle.hep_machine.specs.Step.{state_with_store}
+use Rattle.hep_machine.specs.State.{Level as SourceLevel}
 use Rattle.hep_arena.specs.Holes.{IsOut}
 use Rattle.hep_arena.specs.Space.{Space}
 use Rattle.hep_code.specs.declared.instruction.Argument.TheVariants.{Referred}
 use Rattle.hep_code.specs.declared.instruction.Instruction.{Instruction}
 use Rattle.hep_code.specs.declared.instruction.Instruction.TheVariants.{Pass}
-use Rattle.hep_code.specs.Passing.{passed_from}
-use Rattle.hep_frames.specs.Addresses.{address}
+use Rattle.hep_code.specs.Words.{passed_from}
+use Rattle.hep_frames.specs.Words.{address}
 use Rattle.hep_frames.proofs.Memory.{address-same}
 use Rattle.hep_image.specs.declared.array.Array.{Array}
 use Rattle.hep_image.specs.Finding.{cells_in}
@@ -34,20 +27,11 @@ use Rattle.hep_step.specs.Effects.{Effect, fails, moves}
 use Rattle.hep_step.specs.Simulation.{Simulates, arrays_on_top, unit_arrays}
 use Rattle.hep_state.specs.declared.upcoming.PurgeAhead.{PurgeAhead}
 use Rattle.hep_state.specs.declared.machine.Level.{Level}
-use Rattle.hep_state.specs.CallsAhead.{IsAtPurge, ranges_ahead}
-use Rattle.hep_state.specs.Known.{AreRunning}
-use Rattle.hep_state.specs.Outcomes.{HasPurged}
-use Rattle.hep_state.specs.Showing.{node_under}
-use Rattle.hep_state.specs.Snapshots.{Snapshot}
-use Rattle.hep_state.specs.Taking.{IsEnding}
-use Rattle.hep_state.specs.Tops.{IsTurning, frame_under, snapshot_moved, top_after}
-use Rattle.hep_state.specs.Turns.{HasGaps, HasStepped}
+use Rattle.hep_state.specs.Words.{IsAtPurge, ranges_ahead, AreRunning, HasPurged, node_under, Snapshot, IsEnding, IsTurning, frame_under, snapshot_moved, top_after, HasGaps, HasStepped}
 use Rattle.hep_state.proofs.Callers.{caller-unit}
-use Rattle.hep_state.proofs.Moved.{moved-shown}
-use Rattle.hep_state.proofs.Runs.{turned}
+use Rattle.hep_state.proofs.Moved.{moved-shown, next-is}
 use Rattle.hep_state.proofs.Taken.{inside}
 use Rattle.hep_state.proofs.Tops.{dropped-behind}
-use Rattle.hep_machine.proofs.Others.{step-is}
 
 -- ---- cells
 
@@ -79,7 +63,7 @@ reached-alike a b (r ∷ rs) size holes h =
 
 -- ---- its step
 
-module _ (program : Units) (cells : ℕ) (choices : List ℕ) (p : ℕ) (m : Snapshot) (l : Level) (ls : List Level) (vs : List Value) (top : SourceLevel × Process) (turning : IsTurning program cells choices m p l ls vs top) where
+module _ {program : Units} {cells : ℕ} {choices : List ℕ} {p : ℕ} {m : Snapshot} {l : Level} {ls : List Level} {vs : List Value} {top : SourceLevel × Process} (turning : IsTurning program cells choices m p l ls vs top) where
   abbrev old : State
   old = run program choices
 
@@ -92,16 +76,13 @@ module _ (program : Units) (cells : ℕ) (choices : List ℕ) (p : ℕ) (m : Sna
   -- a fault empties nothing
   pub nothing-purged : (line : ℕ) (kind : Kind) → Does (fails line kind) → HasPurged program cells choices p []
   nothing-purged line kind sim =
-      let next = turned program choices p _ (step-is program p old _ turning.running sim.0) in
+      let next = next-is turning _ sim.0 in
       record { emptied = λ layout at c laid found e. absurd (true≢false (sym e)); others = λ layout at c laid found e. ap (λ (s : State). (s.store at).full) next }
 
   -- the cells of ranges are emptied
   module _ (within : Within) (elsewhere : Elsewhere) (same : SameLength) (ranges : List Range) (index : ℕ) (sim : Does (moves (purged ranges m.arena.contents) [] index)) where
     abbrev after : State
     after = state_with_store (top_after program choices p top) sim.0 sim.1
-
-    next : run program (choices ++ p ∷ []) ≡ after
-    next = turned program choices p after (step-is program p old after turning.running sim.2)
 
     holds-after : (at : Location) (c : ℕ) → address program old turning.after.layout at ≡ Some c → cells_in (purged ranges m.arena.contents) c ≡ after.store at
     holds-after at c found = ap (λ (z : Option Slot). unwrap_or z unset_cell) (sim.3.memory.holds at c (address-same program old after turning.after.layout at refl ∙ found))
@@ -114,23 +95,23 @@ module _ (program : Units) (cells : ℕ) (choices : List ℕ) (p : ℕ) (m : Sna
         record {
           emptied = λ layout at c laid found e.
               let here = subst (λ (fs : Layout). address program old fs at ≡ Some c) (sym (same-layout layout laid)) found in
-              ap (λ (s : State). (s.store at).full) next ∙ (ap (λ (slot : Slot). slot.full) (sym (holds-after at c here)) ∙ cell-emptied within same ranges m.arena.contents c e);
+              ap (λ (s : State). (s.store at).full) (next-is turning after sim.2) ∙ (ap (λ (slot : Slot). slot.full) (sym (holds-after at c here)) ∙ cell-emptied within same ranges m.arena.contents c e);
           others = λ layout at c laid found e.
               let here = subst (λ (fs : Layout). address program old fs at ≡ Some c) (sym (same-layout layout laid)) found in
-              ap (λ (s : State). (s.store at).full) next
+              ap (λ (s : State). (s.store at).full) (next-is turning after sim.2)
               ∙ (ap (λ (slot : Slot). slot.full) (sym (holds-after at c here))
               ∙ (ap (λ (z : Option Slot). (unwrap_or z unset_cell).full) (elsewhere ranges m.arena.contents c e)
               ∙ ap (λ (slot : Slot). slot.full) (holds-before at c here)));
         }
 
     pub ranges-stepped : HasStepped program cells choices p (snapshot_moved m p l ls (purged ranges m.arena.contents) [] index)
-    ranges-stepped = moved-shown program cells choices m p l ls vs top turning (purged ranges m.arena.contents) [] index (same ranges m.arena.contents) sim
+    ranges-stepped = moved-shown turning (purged ranges m.arena.contents) [] index (same ranges m.arena.contents) sim
 
 -- ---- the PURGE that is ahead
 
-module _ (program : Units) (known : AreRunning program) (cells : ℕ) (choices : List ℕ) (p : ℕ) (m : Snapshot) (purge : PurgeAhead) (at : IsAtPurge program cells choices p m purge) where
+module _ {program : Units} (known : AreRunning program) {cells : ℕ} {choices : List ℕ} {p : ℕ} {m : Snapshot} (purge : PurgeAhead) (at : IsAtPurge program cells choices p m purge) where
   abbrev unit-here : unit_of (run program choices) at.top.0.activation ≡ at.l.unit
-  unit-here = caller-unit program known cells choices p m purge.line _ at
+  unit-here = caller-unit known at
 
   -- what is so of the arrays of its unit
   pub of-arrays : (P : List Array → Type 0) → P (arrays_on_top program (top_after program choices p at.top)) → P (unit_arrays program at.l.unit)
@@ -140,7 +121,7 @@ module _ (program : Units) (known : AreRunning program) (cells : ℕ) (choices :
   pub entries-placed : ((i : ℕ) (x : Instruction) → at.l.unit < length program → slice_get (code_in program at.l.unit) i ≡ Some x → ArePlaced (variables_in x)) → AreEntriesPlaced purge.count at.behind
   entries-placed placed i n x less is =
       let there = dropped-behind (code_in program at.l.unit) at.l.index i _ at.behind (Pass (Referred x n)) at.ahead is in
-      placed (suc (at.l.index + i)) (Pass (Referred x n)) (inside program cells choices m p at.l at.ls at.operands at.top at.turning) there 0 x refl
+      placed (suc (at.l.index + i)) (Pass (Referred x n)) (inside at.turning) there 0 x refl
 
   abbrev Doing : Effect → Type 0
   Doing effect = Simulates program (top_after program choices p at.top) at.turning.after.layout (frame_under m.nodes at.l.key) m.arena.holes m.arena.contents effect

@@ -1,30 +1,52 @@
 -- Where the levels of a process stand in the code, whatever the cells of their DOs hold.
-use Rattle.std.proofs.Common.{◌≡◌, ℕ, ◌+◌, ◌<◌, ◌≤◌, true, List, [], ◌∷◌, ◌++◌, length, map, Some, None, refl, sym, ap, ◌∙◌, subst, arith}
+use Rattle.std.proofs.Common.{◌≡◌, ℕ, ◌+◌, ◌<◌, ◌≤◌, true, List, [], ◌∷◌, ◌++◌, length, map, Some, None, refl, sym, ap, ◌∙◌, subst, arith, inl, inr, length-append, nat_eq}
 use Rattle.std.specs.Option.{unwrap_or}
-use Rattle.std.proofs.lemmas.List.{length-append}
-use Rattle.hep_source.specs.declared.value.Value.{Value}
-use Rattle.hep_source.specs.Units.{Units, unit_at}
+use Rattle.hep_machine.specs.Words.{Value, Units, unit_at, level_after_statement, Frame, Layout, activations_on, unit_of, is_number_among, numbered, Activation, Process, State, stack_after_return, run}
 use Rattle.hep_machine.specs.declared.slot.Slot.{Slot}
-use Rattle.hep_machine.specs.Control.{level_after_statement}
-use Rattle.hep_machine.specs.Layout.{Frame, Layout}
-use Rattle.hep_machine.specs.Processes.{unit_of}
-use Rattle.hep_machine.specs.State.{Activation, Level as SourceLevel, Process, State}
-use Rattle.hep_machine.specs.Step.{stack_after_return}
+use Rattle.hep_machine.specs.State.{Level as SourceLevel}
 use Rattle.hep_arena.specs.Gaps.{frame_among}
-use Rattle.hep_code.specs.Stacks.{AreBelow, AreLevels, IsOf}
-use Rattle.hep_code.specs.Standing.{HoldsLoops, Stands}
-use Rattle.hep_code.specs.UnitCode.{table_of}
+use Rattle.hep_code.specs.Words.{AreBelow, AreLevels, IsOf, HoldsLoops, Stands, table_of}
 use Rattle.hep_code.proofs.Moves.{StandsAt, after_statement_keeps, after_statement_stands}
-use Rattle.hep_frames.specs.Descriptors.{Describes, level_of, wanted_of}
-use Rattle.hep_frames.specs.Tree.{AreFramed, is_stacked, Node, Nodes}
+use Rattle.hep_frames.specs.Words.{Describes, level_of, wanted_of, AreFramed, is_stacked, Node, Nodes, times}
 use Rattle.hep_frames.proofs.Memory.{activation-kept}
 use Rattle.hep_finding.proofs.Counted.{counted}
 use Rattle.hep_image.specs.Places.{addresses_of}
 use Rattle.hep_step.specs.Simulation.{counts_in, unit_addressed}
 use Rattle.hep_state.specs.declared.machine.Level.{Level}
-use Rattle.hep_state.specs.Showing.{AreThere, IsStack, IsThere, code_level, code_levels, node_under}
-use Rattle.hep_state.specs.Snapshots.{Stack}
-use Rattle.hep_state.proofs.Levels.{AreOn}
+use Rattle.hep_state.specs.Words.{AreThere, IsStack, IsThere, code_level, code_levels, node_under, Stack}
+use Rattle.std.proofs.lemmas.Bool.{cases_Bool, eq-eqb}
+use Rattle.hep_frames.proofs.Stacks.{once}
+use Rattle.hep_frames.proofs.Tree.{on-stacked}
+use Rattle.hep_entering.proofs.Found.{IsAmong, all_levels, among-numbered, found, times-all}
+
+-- ---- on stacks, where each is found by its activation
+
+-- each level is that of its activation, which is on a stack
+abbrev pub AreOn : State → Process → Type 0
+AreOn s [] = Unit {0}
+AreOn s (level ∷ levels) = (level_of s level.activation ≡ Some level) × (is_stacked s level.activation ≡ true) × AreOn s levels
+
+among-number : (level : SourceLevel) (q : Process) → IsAmong level q → is_number_among level.activation (activations_on q) ≡ true
+among-number level [] h = absurd h
+among-number level (l ∷ ls) (inl here) = rw (eq-eqb level.activation l.activation (sym (ap (λ (z : SourceLevel). z.activation) here)))
+among-number level (l ∷ ls) (inr more) =
+    elim (cases_Bool (nat_eq level.activation l.activation)) [ inl own ↦ rw own | inr other ↦ rw other (among-number level ls more) ]
+
+module _ (program : Units) (choices : List ℕ) (p : ℕ) (q : Process) (there : numbered (run program choices).processes p ≡ Some q) where
+  each-on : (ls : Process) → ((level : SourceLevel) → IsAmong level ls → IsAmong level q) → AreOn (run program choices) ls
+  each-on [] within = tt
+  each-on (level ∷ levels) within =
+      let s = run program choices in
+      let a = level.activation in
+      let here = within level (inl refl) in
+      let few : times a (activations_on (all_levels s.processes)) ≤ 1 = omega (arith, times-all a s.processes, (once program choices a).0) in (
+        found a (all_levels s.processes) level few (among-numbered level s.processes p q there here) refl,
+        on-stacked s a (p, q, there, among-number level q here),
+        each-on levels (λ l h. within l (inr h)),
+      )
+
+  pub are-on : AreOn (run program choices) q
+  are-on = each-on q (λ level h. h)
 
 -- ---- levels
 
@@ -190,13 +212,12 @@ module _ (program : Units) (s : State) (nodes : Nodes) where
   caller-stands [] [] h = tt
   caller-stands (l ∷ ls) (level ∷ levels) h =
       let addressed = unit_addressed program l.unit in
-      let after = level_after_statement addressed.unit level in
       let here = h.0.here in
       let same = (after_statement_keeps addressed level).1 in
       subst (λ u. AreStanding program s nodes [] (l ∷ ls) (level_after_statement (unit_at program u) level ∷ levels)) (sym here.unit) (
         record {
           here = subst (IsHere program s nodes l) (sym same) here;
-          stands = subst (StandsAt addressed after) (sym h.0.index) (after_statement_stands addressed level);
+          stands = subst (StandsAt addressed (level_after_statement addressed.unit level)) (sym h.0.index) (after_statement_stands addressed level);
         },
         h.1,
       )

@@ -1,38 +1,24 @@
--- The top activation of a process whose turn it is runs as the laws of steps ask.
-use Rattle.std.proofs.Common.{◌≡◌, ◌≢◌, inl, ℕ, zero, suc, ◌+◌, ◌<◌, ◌≤◌, true, List, [], ◌∷◌, drop, length, Some, None, refl, sym, ap, ◌∙◌, subst, arith}
-use Rattle.std.specs.Prelude.{◌||◌, slice_get}
-use Rattle.std.proofs.lemmas.Bool.{eq-eqb}
-use Rattle.std.proofs.lemmas.Option.{same_Some, none-some}
-use Rattle.hep_source.specs.declared.name.Name.{Name}
-use Rattle.hep_source.specs.declared.value.Value.{Value}
-use Rattle.hep_source.specs.Names.{index_among}
-use Rattle.hep_machine.specs.Declarations.{is_array}
-use Rattle.hep_source.specs.Units.{Units, dummies_of, unit_at}
+-- The top activation of a process whose turn it is runs as the laws of steps ask; which processes have turns.
+use Rattle.std.proofs.Common.{◌≡◌, ◌≢◌, inl, ℕ, zero, suc, ◌+◌, ◌<◌, ◌≤◌, true, List, [], ◌∷◌, drop, length, Some, None, refl, sym, ap, ◌∙◌, subst, arith, inr, false, Option, ◌||◌, slice_get, Bool, is_some, eq-eqb, length-set}
+use Rattle.std.proofs.lemmas.Option.{same_Some, none-some, slice_get_cases, slice_get_within}
+use Rattle.hep_machine.specs.Words.{Name, Value, index_among, is_array, Units, dummies_of, unit_at, Layout, activations_on, is_number_among, numbered, unit_of, with_numbered, living, top_of, run, Activation, Process, State, Work, Top, scope_of, state_with_level, unit_on_top}
 use Rattle.hep_machine.specs.declared.slot.Slot.{Slot}
-use Rattle.hep_machine.specs.Layout.{Layout, activations_on}
-use Rattle.hep_machine.specs.Processes.{is_number_among, numbered, unit_of, with_numbered}
-use Rattle.hep_machine.specs.Run.{run}
-use Rattle.hep_machine.specs.State.{Activation, Level as SourceLevel, Process, State}
-use Rattle.hep_machine.specs.Step.{Top, scope_of, state_with_level, unit_on_top}
+use Rattle.hep_machine.specs.State.{Level as SourceLevel}
 use Rattle.hep_arena.specs.Gaps.{frame_among}
 use Rattle.hep_code.specs.declared.instruction.Instruction.TheVariants.{Step}
 use Rattle.hep_code.specs.declared.instruction.Evaluation.TheVariants.{Load, Test}
 use Rattle.hep_code.specs.declared.instruction.Operation.{Operation}
 use Rattle.hep_code.specs.declared.instruction.Operation.TheVariants.{Evaluate, Store, EnterLoop, EndLoop}
 use Rattle.hep_code.specs.declared.variable.Variable.TheVariants.{Absent}
-use Rattle.hep_code.specs.Replies.{IsAddressed}
-use Rattle.hep_code.specs.Standing.{HoldsLoops, Stands}
-use Rattle.hep_frames.specs.Addresses.{address}
-use Rattle.hep_frames.specs.Descriptors.{Describes, level_of, wanted_of}
-use Rattle.hep_frames.specs.Stacks.{times}
-use Rattle.hep_frames.specs.Tree.{is_stacked}
+use Rattle.hep_code.specs.Words.{IsAddressed, HoldsLoops, Stands}
+use Rattle.hep_frames.specs.Words.{address, Describes, level_of, wanted_of, times, is_stacked}
 use Rattle.hep_frames.proofs.Stacks.{level-found, levels-stay, once, times_on-numbered}
 use Rattle.hep_frames.proofs.Tree.{on-stacked}
 use Rattle.hep_finding.specs.Bound.{AreClosed, IsBound}
 use Rattle.hep_finding.specs.Constant.{HasConstantShape}
 use Rattle.hep_finding.proofs.Counted.{counted, loop-at}
 use Rattle.hep_finding.proofs.Named.{array-listed}
-use Rattle.hep_finding.proofs.Reached.{any-addressed}
+use Rattle.hep_finding.proofs.Variables.{any-addressed}
 use Rattle.hep_finding.proofs.Within.{few-dimensions}
 use Rattle.hep_finding.specs.Within.{ArePlacedArrays}
 use Rattle.hep_image.specs.Places.{arrays_of, start_of, variable_of}
@@ -42,13 +28,13 @@ use Rattle.hep_placed.specs.Instructions.{variables_in_operation}
 use Rattle.hep_placed.specs.Placed.{ArePlaced, code_in}
 use Rattle.hep_step.specs.Simulation.{IsRunning, counts_in, found_in, unit_addressed, unit_code, variable_in}
 use Rattle.hep_state.specs.declared.machine.Level.{Level}
-use Rattle.hep_state.specs.Snapshots.{Snapshot}
-use Rattle.hep_state.specs.Tops.{IsTurning, frame_under, top_after}
-use Rattle.hep_state.proofs.Ended.{top-activation, top-node}
+use Rattle.hep_state.specs.Words.{Snapshot, Stack, IsTurning, frame_under, top_after, with_stack, Shows, IsAbsent, IsAfter}
+use Rattle.hep_state.proofs.Moved.{top-activation, top-node, standing-before, there, unit-is}
 use Rattle.hep_entering.proofs.Found.{all_levels, among-numbered, found, times-all}
-use Rattle.hep_state.proofs.Moved.{standing-before, there}
 use Rattle.hep_image.proofs.Distinct.{index_of}
-use Rattle.hep_entering.proofs.Rest.{set-numbered}
+use Rattle.hep_entering.proofs.Calls.{set-numbered}
+use Rattle.hep_state.proofs.Standing.{are-on, AreStanding, made-same, stack-again, stack-standing, top-stands}
+use Rattle.hep_state.proofs.Runs.{set-same, standing-changed}
 
 -- what is known of each unit of an accepted program that has a main program, and of the activations in its runs
 pub record IsKnown (program : Units) : Type 0 where
@@ -93,7 +79,7 @@ own-shaped program closed u inside x none array = let shape = closed u (unit_at 
 
 -- ---- the top activation
 
-module _ (program : Units) (known : IsKnown program) (cells : ℕ) (choices : List ℕ) (m : Snapshot) (p : ℕ) (l : Level) (ls : List Level) (vs : List Value) (top : SourceLevel × Process) (h : IsTurning program cells choices m p l ls vs top) where
+module _ {program : Units} (known : IsKnown program) {cells : ℕ} {choices : List ℕ} {m : Snapshot} {p : ℕ} {l : Level} {ls : List Level} {vs : List Value} {top : SourceLevel × Process} (h : IsTurning program cells choices m p l ls vs top) where
   abbrev old : State
   old = run program choices
 
@@ -106,14 +92,11 @@ module _ (program : Units) (known : IsKnown program) (cells : ℕ) (choices : Li
   abbrev number : ℕ
   number = unit_of old top.0.activation
 
-  unit-is : number ≡ l.unit
-  unit-is = (standing-before program cells choices m p l ls vs top h).0.here.unit
-
   inside : number < length program
-  inside = subst (λ u. u < length program) (sym unit-is) (standing-before program cells choices m p l ls vs top h).0.here.inside
+  inside = subst (λ u. u < length program) (sym (unit-is h)) (standing-before h).0.here.inside
 
   framed : frame_among top.0.activation layout ≡ Some (frame_under m.nodes l.key)
-  framed = ap (λ a. frame_among a layout) (sym (top-activation program cells choices m p l ls vs top h)) ∙ h.after.shows.keeps.framed l.key _ (top-node program cells choices m p l ls vs top h)
+  framed = ap (λ a. frame_among a layout) (sym (top-activation h)) ∙ h.after.shows.keeps.framed l.key _ (top-node h)
 
   -- another level of the activation is found by it
   itself : (after : SourceLevel) → after.activation ≡ top.0.activation → level_of (state_with_level t after) top.0.activation ≡ Some after
@@ -125,7 +108,7 @@ module _ (program : Units) (known : IsKnown program) (cells : ℕ) (choices : Li
     qs = with_numbered old.processes p (after ∷ top.1)
 
     there_is : numbered old.processes p ≡ Some (top.0 ∷ top.1)
-    there_is = there program cells choices m p l ls vs top h
+    there_is = there h
 
     few : times a (activations_on (all_levels qs)) ≤ 1
     few =
@@ -133,12 +116,12 @@ module _ (program : Units) (known : IsKnown program) (cells : ℕ) (choices : Li
         omega (arith, times-all a qs, times_on-numbered a old.processes p (top.0 ∷ top.1) (after ∷ top.1) there_is, alike, (once program choices a).0)
 
   bound : IsBound program old top.0.activation
-  bound = let here = (standing-before program cells choices m p l ls vs top h).0.here in known.bound choices top.0.activation here.made.0 here.made.1
+  bound = let here = (standing-before h).0.here in known.bound choices top.0.activation here.made.0 here.made.1
 
   on-top : is_stacked old top.0.activation ≡ true
   on-top =
       let a = top.0.activation in
-      on-stacked old a (p, top.0 ∷ top.1, there program cells choices m p l ls vs top h, ap (λ b. b || is_number_among a (activations_on top.1)) (eq-eqb a a refl))
+      on-stacked old a (p, top.0 ∷ top.1, there h, ap (λ b. b || is_number_among a (activations_on top.1)) (eq-eqb a a refl))
 
   addressed : (x : Name) (ss : List Value) → variable_of program (unit_on_top program t) x ≢ Absent
       → IsAddressed (address program old layout) (scope_of program old top.0.activation) (found_in program number m.arena.contents (frame_under m.nodes l.key).first) (variable_of program (unit_on_top program t)) x ss
@@ -156,7 +139,6 @@ module _ (program : Units) (known : IsKnown program) (cells : ℕ) (choices : Li
   pub top-runs : IsRunning program t layout (frame_under m.nodes l.key) m.arena.contents m.arena.holes vs l.index
   top-runs =
       let k = h.after.shows.keeps in
-      let s0 = standing-before program cells choices m p l ls vs top h in
       record {
         running = h.running;
         lives = h.lives;
@@ -166,7 +148,7 @@ module _ (program : Units) (known : IsKnown program) (cells : ℕ) (choices : Li
         memory = k.memory;
         described = k.described;
         framed = framed;
-        stands = subst (λ u. Stands (unit_addressed program u) top.0.statement top.0.work vs l.index) (sym unit-is) s0.0.stands;
+        stands = subst (λ u. Stands (unit_addressed program u) top.0.statement top.0.work vs l.index) (sym (unit-is h)) (standing-before h).0.stands;
         placed = λ i line o behind ahead. none_absent line o (known.placed number i line o inside (dropped-first (unit_code program number) i (Step line o) behind ahead));
         addressed = addressed;
         looped = λ d i is less. loop-at program old layout top.0.activation d i (frame_under m.nodes l.key) framed is less;
@@ -175,7 +157,7 @@ module _ (program : Units) (known : IsKnown program) (cells : ℕ) (choices : Li
 
   pub arrays-placed : ArePlacedArrays program (unit_at program l.unit)
   arrays-placed =
-      subst (λ u. ArePlacedArrays program (unit_at program u)) unit-is (λ x array.
+      subst (λ u. ArePlacedArrays program (unit_at program u)) (unit-is h) (λ x array.
       let listed = index_of x (arrays_of (unit_at program number)) (array-listed x (unit_at program number) array) in
       let begun = known.begun number listed.0 x inside listed.1 in
       record {
@@ -183,3 +165,103 @@ module _ (program : Units) (known : IsKnown program) (cells : ℕ) (choices : Li
         dimensions = few-dimensions program old top.0.activation x bound array (own-shaped program known.closed number inside x);
         own = own-shaped program known.closed number inside x;
       })
+
+-- ---- the values that stand ahead are put behind the operands
+
+module _ {program : Units} {cells : ℕ} {choices : List ℕ} {m : Snapshot} {p : ℕ} {l : Level} {ls : List Level} {vs : List Value} {top : SourceLevel × Process} (h : IsTurning program cells choices m p l ls vs top) where
+  pub settled : (operands : List Value) (index : ℕ)
+      → ((k : ℕ) (work : Work) → Stands (unit_addressed program l.unit) k work vs l.index → Stands (unit_addressed program l.unit) k work operands index)
+      → IsTurning program cells choices (with_stack m p (record l { index = index } ∷ ls) operands) p (record l { index = index }) ls operands top
+  settled operands index stands =
+      let old = run program choices in
+      let s = h.after.shows in
+      let layout = h.after.layout in
+      let k : Stack = record { levels = record l { index = index } ∷ ls; operands = operands } in
+      let before : Stack = record { levels = l ∷ ls; operands = vs } in
+      let new = with_stack m p (record l { index = index } ∷ ls) operands in
+      let q : Process = top.0 ∷ top.1 in
+      let there_is = there h in
+      let s0 = standing-before h in
+      let moved = top-stands program old m.nodes vs operands l ls top.0 top.0 top.1 index s0 refl (stands top.0.statement top.0.work s0.0.stands) in
+      let shown : Shows program old layout new =
+      record {
+        keeps = s.keeps;
+        kept = s.kept;
+        processes = length-set m.processes _ k ∙ s.processes;
+        stacks = λ i j r here on-it.
+            let on = are-on program choices i r on-it in
+            stack-again program old m.nodes m.arena.contents layout s.keeps.described s.keeps.framed j r (
+            standing-changed program old old layout m m.nodes s p before k q q h.kept there_is (made-same old old refl) (λ key x e on. (x, e, refl)) (λ on. moved) i j r here (sym (ap (λ qs. numbered qs i) (set-same old.processes p q there_is)) ∙ on-it) on) on;
+        activations = s.activations;
+        records = s.records;
+        faults = s.faults;
+        halted = s.halted;
+      } in
+      record {
+        after = record { layout = layout; laid = h.after.laid; size = h.after.size; shows = shown };
+        running = h.running;
+        kept = set-numbered m.processes p before k h.kept;
+        lives = h.lives;
+      }
+
+-- ---- which processes live
+
+-- where lists are as long
+pub there-too : {A B : Type 0} (xs : List A) (ys : List B) (j : ℕ) (x : A) → length xs ≡ length ys → slice_get xs j ≡ Some x → (y : B) × (slice_get ys j ≡ Some y)
+there-too xs ys j x same e = elim (slice_get_cases ys j).1 [ inl there ↦ (there.0, there.2) | inr past ↦ absurd (omega (arith, slice_get_within xs j x e, past.0, same)) ]
+
+numbered-there : {A B : Type 0} (xs : List A) (ys : List B) (p : ℕ) (x : A) → length xs ≡ length ys → numbered xs p ≡ Some x → (y : B) × (numbered ys p ≡ Some y)
+numbered-there xs ys zero x e there = absurd (none-some x there)
+numbered-there xs ys (suc i) x e there = there-too xs ys i x e there
+
+-- a process has levels
+abbrev pub has-levels : List Level → Bool
+has-levels [] = false
+has-levels (l ∷ ls) = true
+
+module _ {program : Units} {cells : ℕ} {choices : List ℕ} {m : Snapshot} (p : ℕ) (h : IsAfter program cells choices m) where
+  standing-of : (k : Stack) (q : Process) → numbered m.processes p ≡ Some k → numbered (run program choices).processes p ≡ Some q → AreStanding program (run program choices) m.nodes k.operands k.levels q
+  standing-of k q kept there = stack-standing program (run program choices) m.nodes m.arena.contents k q (h.shows.stacks p k q kept there)
+
+  pub turning : (l : Level) (ls : List Level) (vs : List Value) → m.halted ≡ false → numbered m.processes p ≡ Some (record { levels = l ∷ ls; operands = vs }) → (top : SourceLevel × Process) × IsTurning program cells choices m p l ls vs top
+  turning l ls vs running kept =
+      let k : Stack = record { levels = l ∷ ls; operands = vs } in
+      let q = numbered-there m.processes (run program choices).processes p k h.shows.processes kept in
+      by_process q.0 q.1 (standing-of k q.0 kept q.1)
+    where
+      by_process : (q : Process) → numbered (run program choices).processes p ≡ Some q → AreStanding program (run program choices) m.nodes vs (l ∷ ls) q → (top : SourceLevel × Process) × IsTurning program cells choices m p l ls vs top
+      by_process [] on-it standing = absurd standing
+      by_process (level ∷ levels) on-it standing = ((level, levels), record { after = h; running = sym h.shows.halted ∙ running; kept = kept; lives = ap top_of on-it })
+
+  pub absent-halted : m.halted ≡ true → IsAbsent program cells choices p m
+  absent-halted e = record { none = inl (sym h.shows.halted ∙ e); after = h }
+
+  pub absent-ended : (vs : List Value) → numbered m.processes p ≡ Some (record { levels = []; operands = vs }) → IsAbsent program cells choices p m
+  absent-ended vs kept =
+      let k : Stack = record { levels = []; operands = vs } in
+      let q = numbered-there m.processes (run program choices).processes p k h.shows.processes kept in
+      record { none = inr (by_process q.0 q.1 (standing-of k q.0 kept q.1)); after = h }
+    where
+      by_process : (q : Process) → numbered (run program choices).processes p ≡ Some q → AreStanding program (run program choices) m.nodes vs [] q → living (run program choices) p ≡ None
+      by_process [] on-it standing = ap top_of on-it
+      by_process (level ∷ levels) on-it standing = absurd standing
+
+  pub none-lives : numbered m.processes p ≡ None → living (run program choices) p ≡ None
+  none-lives none = by_process (numbered (run program choices).processes p) refl where
+    by_process : (o : Option Process) → numbered (run program choices).processes p ≡ o → living (run program choices) p ≡ None
+    by_process None e = ap top_of e
+    by_process (Some q) e = let k = numbered-there (run program choices).processes m.processes p q (sym h.shows.processes) e in absurd (none-some k.0 (sym none ∙ k.1))
+
+  pub absent-none : numbered m.processes p ≡ None → IsAbsent program cells choices p m
+  absent-none none = record { none = inr (none-lives none); after = h }
+
+  -- it lives just where it has levels
+  pub lives-by : (k : Stack) → numbered m.processes p ≡ Some k → is_some (living (run program choices) p) ≡ has-levels k.levels
+  lives-by k kept =
+      let q = numbered-there m.processes (run program choices).processes p k h.shows.processes kept in
+      by_levels k.levels q.0 q.1 (standing-of k q.0 kept q.1)
+    where
+      by_levels : (ls : List Level) (q : Process) → numbered (run program choices).processes p ≡ Some q → AreStanding program (run program choices) m.nodes k.operands ls q → is_some (living (run program choices) p) ≡ has-levels ls
+      by_levels [] [] on-it standing = ap (λ o. is_some (top_of o)) on-it
+      by_levels (l ∷ ls) (level ∷ levels) on-it standing = ap (λ o. is_some (top_of o)) on-it
+      by_levels _ _ on-it standing = absurd standing

@@ -1,21 +1,21 @@
 -- A machine that keeps what it kept: where only room was made, or what a CALL gives was written.
-use Rattle.std.proofs.Common.{◌≡◌, ℕ, ◌+◌, List, Result, Ok, Err, Option, Some, None, sym, ap, ◌∙◌, subst}
-use Rattle.std.specs.Prelude.{true, IfErr, IfOk, IsSome, MatchOption, OnErr, is_some, slice_get, slice_set}
+use Rattle.std.proofs.Common.{◌≡◌, ℕ, ◌+◌, List, Result, Ok, Err, Option, sym, ap, ◌∙◌, subst, IfErr, OnErr, slice_get, slice_set}
 use Rattle.std.specs.Result.{IsErr, IsErrAnd}
 use Rattle.std.proofs.lemmas.Result.{err_from_is_err_and}
-use Rattle.hep_source.specs.Units.{Units}
+use Rattle.hep_machine.specs.Words.{Units}
 use Rattle.hep_blocked.specs.declared.want.Want.{Want}
 use Rattle.hep_state.specs.declared.machine.Machine.{Machine}
 use Rattle.hep_state.specs.declared.machine.Process.{Process}
 use Rattle.hep_state.specs.declared.turn.TurnFault.{TurnFault}
 use Rattle.hep_state.specs.declared.turn.TurnFault.TheVariants.{NoMemory}
-use Rattle.hep_state.specs.Outcomes.{IsInState, IsNow, IsTold, cell_wanted}
-use Rattle.hep_state.specs.Rooms.{HasRoom, HasRoomToPass, HaveRoom, IsMachineAfter}
-use Rattle.hep_state.specs.Snapshots.{Snapshot, snapshot_of}
-use Rattle.hep_state.specs.Turns.{IsAfter}
+use Rattle.hep_state.specs.Words.{IsInState, IsNow, IsTold, cell_wanted, HasRoom, HasRoomToPass, HaveRoom, IsMachineAfter, Snapshot, snapshot_of, IsAfter}
 use Rattle.hep_state.proofs.Processes.{all-set}
 
 -- ---- answers
+
+-- what holds of some values holds of those that they are equal to
+pub carry : {S T : Type 0} → S ≡ T → S → T
+carry same h = subst (λ (U : Type 0). U) same h
 
 -- memory was refused
 pub without-memory : {A : Type 0} (P : TurnFault → Type 0) (r : Result A TurnFault) → IsErrAnd r (λ e. e ≡ NoMemory) → P NoMemory → IfErr r P
@@ -24,26 +24,6 @@ without-memory P r h given = let told = err_from_is_err_and r h in subst (λ x. 
 pub on-err : {A E P : Type 0} (r : Result A E) → IsErr r → P → OnErr r P
 on-err (Err e) h given = given
 on-err (Ok x) h given = absurd cc
-
-pub err-says : {A E : Type 0} (P : A → Type 0) (r : Result A E) → IsErr r → IfOk r P
-err-says P (Err e) h = tt
-err-says P (Ok x) h = absurd cc
-
-pub if-ok : {A E : Type 0} {P Q : A → Type 0} (r : Result A E) → IfOk r P → ((x : A) → P x → Q x) → IfOk r Q
-if-ok (Ok x) h f = f x h
-if-ok (Err e) h f = h
-
-pub err-then : {A E P Q : Type 0} (r : Result A E) → OnErr r P → (P → Q) → OnErr r Q
-err-then (Ok x) h f = h
-err-then (Err e) h f = f h
-
-pub option-then : {A M N : Type 0} {P Q : A → Type 0} (o : Option A) → MatchOption o M P → (M → N) → ((x : A) → P x → Q x) → MatchOption o N Q
-option-then None h f g = f h
-option-then (Some x) h f g = g x h
-
-pub some-of : {A : Type 0} (o : Option A) → is_some o ≡ true → IsSome o
-some-of None e = absurd cc
-some-of (Some x) e = cc
 
 -- ---- machines
 

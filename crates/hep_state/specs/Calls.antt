@@ -1,21 +1,11 @@
 -- What a core keeps after a CALL or CREATE: docs/MACHINE.md, "Steps" and "Layout".
 use Rattle.std.specs.Prelude.{◌≡◌, ℕ, ◌+◌, ◌<◌, List, [], ◌∷◌, ◌++◌, Bool, true, false, length, Option, Some, None}
-use Rattle.hep_source.specs.declared.value.Value.{Value}
-use Rattle.hep_source.specs.Units.{Units, unit_at}
-use Rattle.hep_machine.specs.Binding.{Binding}
-use Rattle.hep_machine.specs.Evaluation.{Actual}
-use Rattle.hep_machine.specs.Layout.{Layout, common_cells, frame_of, is_held, lowest_gap}
-use Rattle.hep_machine.specs.Processes.{with_numbered}
-use Rattle.hep_machine.specs.Run.{run}
-use Rattle.hep_machine.specs.State.{Level as SourceLevel, Process, State}
-use Rattle.hep_machine.specs.Step.{scope_of, step}
-use Rattle.hep_machine.specs.Shapes.{Bounds}
-use Rattle.hep_machine.specs.Variables.{frame_cells}
+use Rattle.hep_machine.specs.Words.{Value, Units, unit_at, Binding, Actual, Layout, common_cells, frame_of, is_held, lowest_gap, with_numbered, run, Process, State, scope_of, step, Bounds, frame_cells}
+use Rattle.hep_machine.specs.State.{Level as SourceLevel}
 use Rattle.hep_arena.specs.Space.{Space}
-use Rattle.hep_code.specs.Stacks.{entry_index}
-use Rattle.hep_code.specs.UnitCode.{table_of}
+use Rattle.hep_code.specs.Words.{entry_index, table_of}
 use Rattle.hep_finding.specs.Bound.{AreKept}
-use Rattle.hep_frames.specs.Tree.{Nodes, new_node, with_node}
+use Rattle.hep_frames.specs.Words.{Nodes, new_node, with_node}
 use Rattle.hep_passing.specs.declared.given.Given.{Given}
 use Rattle.hep_passing.specs.Shapes.{AreShapesOf}
 use Rattle.hep_step.specs.Simulation.{unit_addressed}

@@ -1,16 +1,13 @@
 -- A CALL, CREATE or PURGE that stands ahead of a process: X3.9-1978, 15.6.2, and docs/MACHINE.md, "Steps".
 use Rattle.std.specs.Prelude.{◌≡◌, ℕ, List, ◌∷◌, drop, Some, Result}
-use Rattle.hep_source.specs.declared.value.Value.{Value}
-use Rattle.hep_source.specs.Units.{Units}
+use Rattle.hep_machine.specs.Words.{Value, Units, numbered}
 use Rattle.hep_machine.specs.declared.event.Kind.{Kind}
-use Rattle.hep_machine.specs.Processes.{numbered}
 use Rattle.hep_machine.specs.State.{Level as SourceLevel, Process as SourceProcess}
 use Rattle.hep_code.specs.declared.instruction.Instruction.{Instruction}
 use Rattle.hep_code.specs.declared.instruction.Instruction.TheVariants.{Step}
 use Rattle.hep_code.specs.declared.instruction.Operation.{Operation}
 use Rattle.hep_code.specs.declared.instruction.Operation.TheVariants.{Call, Create, Purge}
-use Rattle.hep_code.specs.Ahead.{IsPastPushes}
-use Rattle.hep_code.specs.Passing.{passed_from}
+use Rattle.hep_code.specs.Words.{IsPastPushes, passed_from}
 use Rattle.hep_image.specs.Finding.{cells_in}
 use Rattle.hep_passing.specs.declared.given.Given.{Given}
 use Rattle.hep_passing.specs.Passing.{given_by}

@@ -1,6 +1,6 @@
 -- Where rows of DATA can give values before the first step: docs/MACHINE.md, "The opening and runs".
 use Rattle.std.specs.Prelude.{◌≡◌, ℕ, ◌<◌, List, length, Some}
-use Rattle.hep_source.specs.declared.value.Value.{Value}
+use Rattle.hep_machine.specs.Words.{Value}
 use Rattle.hep_arena.specs.Holes.{IsOut}
 use Rattle.hep_arena.specs.Space.{Space}
 use Rattle.hep_image.specs.declared.data.DataRow.{DataRow}

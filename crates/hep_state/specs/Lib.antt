@@ -11,3 +11,4 @@ pub mod CallsAhead
 pub mod Unturned
 pub mod Outcomes
 pub mod Known
+pub mod Words

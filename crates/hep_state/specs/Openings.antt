@@ -1,15 +1,9 @@
 -- What a core keeps before the first step: docs/MACHINE.md, "The opening and runs".
 use Rattle.std.specs.Prelude.{◌≡◌, ℕ, false, List, [], ◌∷◌, length, nat_eq, slice_get, Some}
 use Rattle.std.specs.Option.{option_map}
-use Rattle.hep_source.specs.Units.{Units, main_unit}
-use Rattle.hep_machine.specs.Access.{unset_cell}
-use Rattle.hep_machine.specs.Layout.{Layout, opening_layout}
-use Rattle.hep_machine.specs.Opening.{cell_given}
-use Rattle.hep_machine.specs.Run.{run}
-use Rattle.hep_machine.specs.State.{State}
+use Rattle.hep_machine.specs.Words.{Units, main_unit, unset_cell, Layout, opening_layout, cell_given, run, State}
 use Rattle.hep_arena.specs.Space.{Space}
-use Rattle.hep_frames.specs.Descriptors.{wanted_of}
-use Rattle.hep_frames.specs.Tree.{Node, Nodes, is_stacked}
+use Rattle.hep_frames.specs.Words.{wanted_of, Node, Nodes, is_stacked}
 use Rattle.hep_image.specs.declared.data.DataRow.{DataRow}
 use Rattle.hep_image.specs.Data.{value_in_rows}
 use Rattle.hep_proc.specs.Keeping.{Keeps}

@@ -1,13 +1,8 @@
 -- What a turn came to, and what others who wait must know of it: docs/MACHINE.md, "Which process comes next".
 use Rattle.std.specs.Prelude.{◌≡◌, ◌≢◌, ℕ, true, false, List, [], ◌∷◌, ◌++◌, Option, Some, None}
-use Rattle.hep_source.specs.Units.{Units}
-use Rattle.hep_machine.specs.Laws.{is_purge}
-use Rattle.hep_machine.specs.Layout.{Layout, is_held, layout_of}
-use Rattle.hep_machine.specs.Run.{run}
-use Rattle.hep_machine.specs.State.{Location}
-use Rattle.hep_machine.specs.Step.{step}
+use Rattle.hep_machine.specs.Words.{Units, is_purge, Layout, is_held, layout_of, run, Location, step}
 use Rattle.hep_blocked.specs.declared.want.Want.{Want}
-use Rattle.hep_frames.specs.Addresses.{address}
+use Rattle.hep_frames.specs.Words.{address}
 use Rattle.hep_image.specs.Finding.{cells_in}
 use Rattle.hep_needs.specs.Needs.{touched_by}
 use Rattle.hep_purging.specs.declared.range.Range.{Range}

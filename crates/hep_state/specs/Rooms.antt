@@ -1,9 +1,9 @@
 -- Room for operands in what a core keeps: docs/ARCHITECTURE.md, "Forms".
 use Rattle.std.specs.Prelude.{◌≡◌, ◌-◌, ◌<◌, ◌≤◌, ℕ, List, length, Some, slice_get, vec_capacity}
-use Rattle.hep_source.specs.Units.{Units, dummies_of, unit_at}
+use Rattle.hep_machine.specs.Words.{Units, dummies_of, unit_at}
 use Rattle.hep_code.specs.declared.instruction.Instruction.TheVariants.{Step}
 use Rattle.hep_code.specs.declared.instruction.Operation.TheVariants.{Purge}
-use Rattle.hep_code.specs.Depths.{deepest}
+use Rattle.hep_code.specs.Words.{deepest}
 use Rattle.hep_image.specs.Dummies.{dummy_arguments}
 use Rattle.hep_image.specs.Image.{most_cells}
 use Rattle.hep_shaping.specs.Fitting.{longest_code}

@@ -1,15 +1,10 @@
 -- That a core keeps a state of the source machine: docs/MACHINE.md, "Activations and processes" and "Layout".
 use Rattle.std.specs.Prelude.{◌≡◌, ◌<◌, ℕ, true, List, [], ◌∷◌, length, map, Some, None}
 use Rattle.std.specs.Option.{unwrap_or}
-use Rattle.hep_source.specs.declared.value.Value.{Value}
-use Rattle.hep_source.specs.Units.{Units, unit_at}
+use Rattle.hep_machine.specs.Words.{Value, Units, unit_at, Layout, is_held, numbered, Process, State}
 use Rattle.hep_machine.specs.declared.slot.Slot.{Slot}
-use Rattle.hep_machine.specs.Layout.{Layout, is_held}
-use Rattle.hep_machine.specs.Processes.{numbered}
-use Rattle.hep_machine.specs.State.{Process, State}
-use Rattle.hep_code.specs.Stacks.{AreLevels, CodeLevel}
-use Rattle.hep_frames.specs.Descriptors.{wanted_of}
-use Rattle.hep_frames.specs.Tree.{is_stacked, Node, Nodes}
+use Rattle.hep_code.specs.Words.{AreLevels, CodeLevel}
+use Rattle.hep_frames.specs.Words.{wanted_of, is_stacked, Node, Nodes}
 use Rattle.hep_image.specs.Places.{addresses_of}
 use Rattle.hep_finding.specs.Bound.{AreKept}
 use Rattle.hep_proc.specs.Keeping.{Keeps}

@@ -1,10 +1,10 @@
 -- What a core keeps of a state, without where it lies in memory: docs/ARCHITECTURE.md, "Forms".
 use Rattle.std.specs.Prelude.{ℕ, Bool, List, map, reverse}
-use Rattle.hep_source.specs.declared.value.Value.{Value}
+use Rattle.hep_machine.specs.Words.{Value}
 use Rattle.hep_machine.specs.declared.event.Fault.{Fault}
 use Rattle.hep_machine.specs.declared.record.Item.{Item}
 use Rattle.hep_arena.specs.Space.{Space}
-use Rattle.hep_frames.specs.Tree.{Nodes}
+use Rattle.hep_frames.specs.Words.{Nodes}
 use Rattle.hep_proc.specs.Nodes.{nodes_of}
 use Rattle.hep_state.specs.declared.machine.Level.{Level}
 use Rattle.hep_state.specs.declared.machine.Machine.{Machine}

@@ -1,14 +1,11 @@
 -- One turn of a process in what a core keeps, in its parts: docs/MACHINE.md, "Steps".
 use Rattle.std.specs.Prelude.{◌≡◌, ◌<◌, ◌+◌, ℕ, List, [], ◌∷◌, ◌++◌, drop, length, Some, OnErr, IfOk, Result}
-use Rattle.hep_source.specs.declared.value.Value.{Value}
-use Rattle.hep_source.specs.Units.{Units}
-use Rattle.hep_machine.specs.Processes.{numbered}
-use Rattle.hep_machine.specs.State.{Level as SourceLevel, Process as SourceProcess, Work}
+use Rattle.hep_machine.specs.Words.{Value, Units, numbered, Work}
+use Rattle.hep_machine.specs.State.{Level as SourceLevel, Process as SourceProcess}
 use Rattle.hep_arena.specs.Space.{Space}
 use Rattle.hep_code.specs.declared.instruction.Instruction.{Instruction}
-use Rattle.hep_code.specs.Ahead.{IsPastPushes}
-use Rattle.hep_code.specs.Standing.{Stands}
-use Rattle.hep_frames.specs.Tree.{Nodes}
+use Rattle.hep_code.specs.Words.{IsPastPushes, Stands}
+use Rattle.hep_frames.specs.Words.{Nodes}
 use Rattle.hep_cells.specs.Outcomes.{is_full_state}
 use Rattle.hep_image.specs.declared.array.Array.{Array}
 use Rattle.hep_image.specs.declared.unit.UnitCode.{UnitCode}

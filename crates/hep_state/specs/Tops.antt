@@ -1,18 +1,13 @@
 -- A process whose turn it is, and what a turn changes in what a core keeps: docs/MACHINE.md, "Steps".
 use Rattle.std.specs.Prelude.{◌≡◌, ℕ, false, true, List, [], ◌∷◌, ◌++◌, map, Some}
-use Rattle.hep_source.specs.declared.value.Value.{Value}
-use Rattle.hep_source.specs.Units.{Units}
+use Rattle.hep_machine.specs.Words.{Value, Units, Frame, living, numbered, with_numbered, with_process, run, Process, State, Top, fault_of, stack_after_return}
 use Rattle.hep_machine.specs.declared.event.Fault.{Fault}
 use Rattle.hep_machine.specs.declared.event.Kind.{Kind}
 use Rattle.hep_machine.specs.declared.record.Item.{Item}
 use Rattle.hep_machine.specs.declared.slot.Slot.{Slot}
-use Rattle.hep_machine.specs.Layout.{Frame}
-use Rattle.hep_machine.specs.Processes.{living, numbered, with_numbered, with_process}
-use Rattle.hep_machine.specs.Run.{run}
-use Rattle.hep_machine.specs.State.{Level as SourceLevel, Process, State}
-use Rattle.hep_machine.specs.Step.{Top, fault_of, stack_after_return}
+use Rattle.hep_machine.specs.State.{Level as SourceLevel}
 use Rattle.hep_arena.specs.Space.{Space}
-use Rattle.hep_frames.specs.Tree.{Nodes}
+use Rattle.hep_frames.specs.Words.{Nodes}
 use Rattle.hep_state.specs.declared.machine.Level.{Level}
 use Rattle.hep_state.specs.Showing.{node_under}
 use Rattle.hep_state.specs.Snapshots.{Snapshot}

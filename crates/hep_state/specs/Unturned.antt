@@ -1,6 +1,6 @@
 -- Why a turn was not taken: docs/MACHINE.md, "Layout".
 use Rattle.std.specs.Prelude.{ℕ, List}
-use Rattle.hep_source.specs.Units.{Units}
+use Rattle.hep_machine.specs.Words.{Units}
 use Rattle.hep_state.specs.declared.turn.TurnFault.{TurnFault}
 use Rattle.hep_state.specs.declared.turn.TurnFault.TheVariants.{ArenaFull, NoMemory}
 use Rattle.hep_state.specs.Turns.{HasGaps, HasNoGap}

@@ -1,15 +1,13 @@
 //! What stands ahead of a process: values are put behind the operands, and an operation is performed.
 ghost use Rattle.std.specs.Prelude.{◌≡◌, ◌≤◌, ◌<◌, ◌+◌, ℕ, IfOk, IfSome, List, drop, length, vec_len, vec_capacity};
 ghost use Rattle.hep_source.specs.declared.value.Value.{Value as OperandValue};
-ghost use Rattle.hep_source.specs.Units.{Units};
+ghost use Rattle.hep_machine.specs.Words.{Units};
 ghost use Rattle.hep_arena.specs.Holes.{IsOut};
-ghost use Rattle.hep_code.specs.Ahead.{values_ahead};
+ghost use Rattle.hep_code.specs.Words.{values_ahead};
 ghost use Rattle.hep_proc.specs.Nodes.{nodes_of};
 ghost use Rattle.hep_step.specs.Simulation.{unit_arrays, unit_code};
 ghost use Rattle.hep_state.specs.declared.machine.Level.{Level as ALevel};
-ghost use Rattle.hep_state.specs.Showing.{IsThere, node_under};
-ghost use Rattle.hep_state.specs.Snapshots.{stack_of};
-ghost use Rattle.hep_state.specs.Taking.{CanAdvance, IsAdvanced, IsBehind, IsPlace, IsSettled, stack_with};
+ghost use Rattle.hep_state.specs.Words.{IsThere, node_under, stack_of, CanAdvance, IsAdvanced, IsBehind, IsPlace, IsSettled, stack_with};
 ghost use Rattle.hep_touched.specs.Touched.{touched_at};
 
 use crate::machine::{Level, Process};

@@ -2,18 +2,14 @@
 ghost use Rattle.std.specs.Prelude.{◌≡◌, ◌<◌, ◌≤◌, ◌+◌, ◌-◌, ◌^◌, ◌++◌, ◌∷◌, ℕ, Bool, true, false, List, [], Some, IsSome, length, slice_get, vec_len, vec_capacity};
 ghost use Rattle.slab.specs.Slab.{HasRoomFor};
 ghost use Rattle.hep_source.specs.declared.value.Value.{Value as OperandValue};
-ghost use Rattle.hep_source.specs.Units.{Units};
+ghost use Rattle.hep_machine.specs.Words.{Units};
 ghost use Rattle.hep_arena.specs.Holes.{first_fit};
 ghost use Rattle.hep_state.specs.declared.machine.Level.{Level as ALevel};
 ghost use Rattle.hep_state.specs.declared.machine.Process.{Process as AProcess};
-ghost use Rattle.hep_state.specs.Snapshots.{snapshot_of, stack_of};
-ghost use Rattle.hep_state.specs.Taking.{stack_with};
-ghost use Rattle.hep_state.specs.Turns.{HasStepped};
-ghost use Rattle.hep_code.specs.Depths.{deepest};
+ghost use Rattle.hep_state.specs.Words.{snapshot_of, stack_of, stack_with, HasStepped, HasEntered, Makes, state_made, HasRoomAt, HaveRoom};
+ghost use Rattle.hep_code.specs.Words.{deepest};
 ghost use Rattle.hep_proc.specs.Nodes.{nodes_of};
 ghost use Rattle.hep_step.specs.Simulation.{unit_code};
-ghost use Rattle.hep_state.specs.Calls.{HasEntered, Makes, state_made};
-ghost use Rattle.hep_state.specs.Rooms.{HasRoomAt, HaveRoom};
 
 use crate::machine::{Level, Machine, Process, append};
 use hep_entering::{begin, shape_all};

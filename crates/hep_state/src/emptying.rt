@@ -1,20 +1,14 @@
 //! A PURGE: the cells that its targets name are found, and then all of them are emptied (docs/LANGUAGE.md, 9).
 ghost use Rattle.std.specs.Prelude.{◌≡◌, ◌<◌, ◌≤◌, ℕ, List, [], Some, Ok, IfErr, OnOk, length, vec_len, vec_capacity};
 ghost use Rattle.hep_source.specs.declared.value.Value.{Value as OperandValue};
-ghost use Rattle.hep_source.specs.Units.{Units};
+ghost use Rattle.hep_machine.specs.Words.{Units, numbered};
 ghost use Rattle.hep_image.specs.Image.{most_cells};
-ghost use Rattle.hep_machine.specs.Processes.{numbered};
 ghost use Rattle.hep_purging.specs.Purged.{purged};
 ghost use Rattle.hep_purging.specs.Ready.{AreReached};
 ghost use Rattle.hep_step.specs.Effects.{fails};
 ghost use Rattle.hep_state.specs.declared.machine.Level.{Level as ALevel};
 ghost use Rattle.hep_state.specs.declared.turn.Turned.TheVariants.{Purged};
-ghost use Rattle.hep_state.specs.CallsAhead.{IsAtPurge, ranges_ahead};
-ghost use Rattle.hep_state.specs.Outcomes.{HasTurned};
-ghost use Rattle.hep_state.specs.Rooms.{HaveRoom, IsMachineAfter};
-ghost use Rattle.hep_state.specs.Snapshots.{snapshot_of};
-ghost use Rattle.hep_state.specs.Taking.{HasLevels, IsEnding, stack_with};
-ghost use Rattle.hep_state.specs.Tops.{snapshot_moved};
+ghost use Rattle.hep_state.specs.Words.{IsAtPurge, ranges_ahead, HasTurned, HaveRoom, IsMachineAfter, snapshot_of, HasLevels, IsEnding, stack_with, snapshot_moved};
 
 use crate::calling::go_on;
 use crate::laws;

@@ -1,20 +1,13 @@
 //! What a turn comes to once its operation was performed: a record, a fault, the end of an activation, or a stop.
 ghost use Rattle.std.specs.Prelude.{◌≡◌, ◌<◌, ◌++◌, ◌∷◌, ℕ, Bool, List, [], MatchOption, Some, length, reverse, vec_len, vec_capacity};
 ghost use Rattle.hep_source.specs.declared.value.Value.{Value as OperandValue};
-ghost use Rattle.hep_source.specs.Units.{Units};
-ghost use Rattle.hep_machine.specs.Layout.{Layout};
-ghost use Rattle.hep_machine.specs.State.{State};
-ghost use Rattle.hep_frames.specs.Descriptors.{wanted_of};
-ghost use Rattle.hep_frames.specs.Tree.{is_stacked};
+ghost use Rattle.hep_machine.specs.Words.{Units, Layout, State};
+ghost use Rattle.hep_frames.specs.Words.{wanted_of, is_stacked};
 ghost use Rattle.hep_proc.specs.Keeping.{CanAllLeave, CanLeave, HasLeft, IsEnded, Keeps, LeadUpwards, all_but};
 ghost use Rattle.hep_proc.specs.Nodes.{nodes_of};
 ghost use Rattle.hep_step.specs.Effects.{fails, returns};
 ghost use Rattle.hep_state.specs.declared.machine.Level.{Level as ALevel};
-ghost use Rattle.hep_state.specs.Rooms.{HaveRoom};
-ghost use Rattle.hep_state.specs.Snapshots.{snapshot_of, stack_of};
-ghost use Rattle.hep_state.specs.Taking.{IsEnding, IsLeft, stack_with};
-ghost use Rattle.hep_state.specs.Tops.{keys_of};
-ghost use Rattle.hep_state.specs.Turns.{HasStepped, HasWaited};
+ghost use Rattle.hep_state.specs.Words.{HaveRoom, snapshot_of, stack_of, IsEnding, IsLeft, stack_with, keys_of, HasStepped, HasWaited};
 
 use crate::machine::{Level, Machine, Process, append};
 use hep_blocked::Want;

@@ -1,24 +1,16 @@
 //! Laws of what a core keeps: what a turn changes in it is what the source machine's step changes in the state.
 ghost use Rattle.std.specs.Prelude.{◌≡◌, ◌<◌, ◌≤◌, ◌+◌, ◌∷◌, ℕ, Bool, true, false, List, Option, Some, None, Ok, Err, IsSome, [], drop, is_some, length, nat_eq};
-ghost use Rattle.hep_source.specs.declared.value.Value.{Value};
-ghost use Rattle.hep_source.specs.Units.{Units, dummies_of, main_among, main_unit, unit_at};
+ghost use Rattle.hep_machine.specs.Words.{Value, Units, dummies_of, main_among, main_unit, unit_at, Binding, Layout, activations_on, is_held, opening_layout, numbered, run, Work, Bounds};
 ghost use Rattle.hep_machine.specs.declared.event.Kind.{Kind};
 ghost use Rattle.hep_machine.specs.declared.record.Item.{Item};
 ghost use Rattle.hep_machine.specs.declared.slot.Slot.{Slot};
-ghost use Rattle.hep_machine.specs.Binding.{Binding};
-ghost use Rattle.hep_machine.specs.Layout.{Layout, activations_on, is_held, opening_layout};
-ghost use Rattle.hep_machine.specs.Processes.{numbered};
-ghost use Rattle.hep_machine.specs.Run.{run};
-ghost use Rattle.hep_machine.specs.State.{Level as SourceLevel, Process as SourceProcess, Work};
+ghost use Rattle.hep_machine.specs.State.{Level as SourceLevel, Process as SourceProcess};
 ghost use Rattle.hep_machine.specs.declared.event.Kind.TheVariants.{Shape};
-ghost use Rattle.hep_machine.specs.Shapes.{Bounds};
-ghost use Rattle.hep_check.specs.Conditions.{IsAccepted};
+ghost use Rattle.hep_check.specs.Words.{IsAccepted};
 ghost use Rattle.hep_arena.specs.Space.{Space};
 ghost use Rattle.hep_code.specs.declared.instruction.Instruction.{Instruction};
-ghost use Rattle.hep_code.specs.Stacks.{entry_index};
-ghost use Rattle.hep_code.specs.Standing.{Stands};
-ghost use Rattle.hep_frames.specs.Descriptors.{wanted_of};
-ghost use Rattle.hep_frames.specs.Tree.{Node, Nodes, but, is_stacked};
+ghost use Rattle.hep_code.specs.Words.{entry_index, Stands, passed_from};
+ghost use Rattle.hep_frames.specs.Words.{wanted_of, Node, Nodes, but, is_stacked};
 ghost use Rattle.hep_finding.specs.Within.{ArePlacedArrays};
 ghost use Rattle.hep_image.specs.declared.data.DataRow.{DataRow};
 ghost use Rattle.hep_image.specs.Data.{AreInitial, AreOfUnits, first_frames};
@@ -26,7 +18,6 @@ ghost use Rattle.hep_proc.specs.Keeping.{AreOfSomeState, CanAllLeave, CanLeave, 
 ghost use Rattle.hep_arena.specs.Holes.{first_fit};
 ghost use Rattle.hep_code.specs.declared.instruction.Instruction.TheVariants.{Step};
 ghost use Rattle.hep_code.specs.declared.instruction.Operation.{Operation};
-ghost use Rattle.hep_code.specs.Passing.{passed_from};
 ghost use Rattle.hep_image.specs.Dummies.{dummy_arguments};
 ghost use Rattle.hep_image.specs.Image.{most_cells};
 ghost use Rattle.hep_passing.specs.declared.given.Given.{Given};
@@ -42,18 +33,9 @@ ghost use Rattle.hep_step.specs.Effects.{fails, moves, prints, returns, stops, w
 ghost use Rattle.hep_step.specs.Simulation.{IsRunning, Simulates, is_left_out, unit_addressed, unit_arrays, unit_code};
 ghost use Rattle.hep_state.specs.declared.machine.Level.{Level};
 ghost use Rattle.hep_entering.specs.Calling.{state_called, state_created};
-ghost use Rattle.hep_state.specs.Calls.{HasEntered, IsAfterCall, IsMaking, IsUnit, snapshot_called, snapshot_created, state_made};
-ghost use Rattle.hep_state.specs.Known.{IsKnown};
-ghost use Rattle.hep_state.specs.Openings.{IsEntered, IsGiven, snapshot_opened, unset_opening};
-ghost use Rattle.hep_state.specs.Showing.{node_under};
-ghost use Rattle.hep_state.specs.Snapshots.{Snapshot};
-ghost use Rattle.hep_state.specs.Taking.{IsEnding};
-ghost use Rattle.hep_state.specs.Tops.{IsTurning, frame_under, keys_of, snapshot_failed, snapshot_moved, snapshot_printed, snapshot_returned, snapshot_stopped, state_failed, state_returned, top_after, with_stack};
+ghost use Rattle.hep_state.specs.Words.{HasEntered, IsAfterCall, IsMaking, IsUnit, snapshot_called, snapshot_created, state_made, IsKnown, IsEntered, IsGiven, snapshot_opened, unset_opening, node_under, Snapshot, IsEnding, IsTurning, frame_under, keys_of, snapshot_failed, snapshot_moved, snapshot_printed, snapshot_returned, snapshot_stopped, state_failed, state_returned, top_after, with_stack, IsAtCall, IsAtPurge, IsWithoutCall, given_of, ranges_ahead, HasPurged, Touches, HasGaps, HasNoGap, HasStepped, HasWaited, IsAbsent, IsAfter};
 ghost use Rattle.hep_state.specs.declared.upcoming.CallAhead.{CallAhead};
 ghost use Rattle.hep_state.specs.declared.upcoming.PurgeAhead.{PurgeAhead};
-ghost use Rattle.hep_state.specs.CallsAhead.{IsAtCall, IsAtPurge, IsWithoutCall, given_of, ranges_ahead};
-ghost use Rattle.hep_state.specs.Outcomes.{HasPurged, Touches};
-ghost use Rattle.hep_state.specs.Turns.{HasGaps, HasNoGap, HasStepped, HasWaited, IsAbsent, IsAfter};
 
 /// A process that has levels lives, and it is its turn where the processes weren't stopped; one that has none, or that isn't
 /// there, doesn't live.

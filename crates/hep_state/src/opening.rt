@@ -3,8 +3,7 @@
 ghost use Rattle.std.specs.Prelude.{◌≡◌, ◌+◌, ◌<◌, ◌≤◌, ◌∷◌, ℕ, [], false, Some, IfOk, IsSome, length, slice_get, vec_capacity};
 ghost use Rattle.std.specs.Option.{is_some};
 ghost use Rattle.slab.specs.Slab.{HasRoomFor};
-ghost use Rattle.hep_source.specs.Units.{dummies_of, main_unit, unit_at};
-ghost use Rattle.hep_machine.specs.Layout.{common_cells, opening_layout};
+ghost use Rattle.hep_machine.specs.Words.{dummies_of, main_unit, unit_at, common_cells, opening_layout};
 ghost use Rattle.hep_arena.specs.Holes.{IsOut};
 ghost use Rattle.hep_code.specs.declared.instruction.Instruction.TheVariants.{Step};
 ghost use Rattle.hep_code.specs.declared.instruction.Operation.TheVariants.{Purge};
@@ -14,9 +13,7 @@ ghost use Rattle.hep_proc.specs.Keeping.{IsUnused};
 ghost use Rattle.hep_proc.specs.Nodes.{nodes_of};
 ghost use Rattle.hep_shaping.specs.Fitting as shaping;
 ghost use Rattle.hep_step.specs.Simulation.{unit_code};
-ghost use Rattle.hep_state.specs.Givings.{AreOut};
-ghost use Rattle.hep_state.specs.Openings.{IsEntered, IsGiven};
-ghost use Rattle.hep_state.specs.Rooms.{HasRoomToPass, IsMachineAfter};
+ghost use Rattle.hep_state.specs.Words.{AreOut, IsEntered, IsGiven, HasRoomToPass, IsMachineAfter};
 
 use crate::laws;
 use crate::machine::{Level, Machine, Passing, Process};

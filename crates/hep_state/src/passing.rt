@@ -1,11 +1,7 @@
 //! What the actual arguments of a CALL or CREATE give (X3.9-1978, 15.6.2 and 15.9.3).
 ghost use Rattle.std.specs.Prelude.{◌≡◌, ℕ, List, IfErr, OnOk};
 ghost use Rattle.hep_step.specs.Effects.{fails};
-ghost use Rattle.hep_state.specs.Calls.{IsMaking, state_made};
-ghost use Rattle.hep_state.specs.CallsAhead.{IsAtCall};
-ghost use Rattle.hep_state.specs.Rooms.{HaveRoom, IsMachineAfter};
-ghost use Rattle.hep_state.specs.Snapshots.{snapshot_of};
-ghost use Rattle.hep_state.specs.Taking.{IsEnding};
+ghost use Rattle.hep_state.specs.Words.{IsMaking, state_made, IsAtCall, HaveRoom, IsMachineAfter, snapshot_of, IsEnding};
 
 use crate::laws;
 use crate::machine::{Machine, Passing};

@@ -2,19 +2,11 @@
 ghost use Rattle.std.specs.Prelude.{◌≡◌, ◌≢◌, ◌<◌, ◌≤◌, ◌+◌, ◌^◌, ◌++◌, ◌∷◌, ◌-◌, ℕ, true, false, List, [], None, Some, IfOk, IfErr, IfSome, OnErr, OnOk, length, slice_get, vec_len, vec_capacity};
 ghost use Rattle.std.specs.Option.{is_some};
 ghost use Rattle.slab.specs.Slab.{HasRoomFor};
-ghost use Rattle.hep_source.specs.Units.{Units};
-ghost use Rattle.hep_machine.specs.Processes.{living};
-ghost use Rattle.hep_machine.specs.Run.{run};
+ghost use Rattle.hep_machine.specs.Words.{Units, living, run};
 ghost use Rattle.hep_arena.specs.Holes.{IsOut};
 ghost use Rattle.hep_image.specs.Image.{most_cells};
 ghost use Rattle.hep_state.specs.declared.machine.Process.{Process as AProcess};
-ghost use Rattle.hep_state.specs.CallsAhead.{IsAtCall, IsWithoutCall};
-ghost use Rattle.hep_state.specs.Rooms.{HaveRoom, IsMachineAfter};
-ghost use Rattle.hep_state.specs.Snapshots.{snapshot_of};
-ghost use Rattle.hep_state.specs.Taking.{HasLevels, IsLeft, IsSeenSame};
-ghost use Rattle.hep_state.specs.Outcomes.{HasTurned, IsInState, IsTold, Touches, cell_wanted};
-ghost use Rattle.hep_state.specs.Turns.{IsAfter};
-ghost use Rattle.hep_state.specs.Unturned.{IsUnturned};
+ghost use Rattle.hep_state.specs.Words.{IsAtCall, IsWithoutCall, HaveRoom, IsMachineAfter, snapshot_of, HasLevels, IsLeft, IsSeenSame, HasTurned, IsInState, IsTold, Touches, cell_wanted, IsAfter, IsUnturned};
 
 use crate::advancing::{Advanced, advance};
 use crate::calling::Called;

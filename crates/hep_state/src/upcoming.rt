@@ -2,10 +2,7 @@
 ghost use Rattle.std.specs.Prelude.{◌≡◌, ◌∷◌, ℕ, List, false, drop};
 ghost use Rattle.hep_code.specs.declared.instruction.Instruction.{Instruction as AnInstruction};
 ghost use Rattle.hep_code.specs.declared.instruction.Instruction.TheVariants.{Step};
-ghost use Rattle.hep_state.specs.CallsAhead.{IsAhead, IsInFront};
-ghost use Rattle.hep_state.specs.Rooms.{IsMachineAfter};
-ghost use Rattle.hep_state.specs.Snapshots.{snapshot_of};
-ghost use Rattle.hep_state.specs.Taking.{HasLevels, IsSeenSame};
+ghost use Rattle.hep_state.specs.Words.{IsAhead, IsInFront, IsMachineAfter, snapshot_of, HasLevels, IsSeenSame};
 
 use crate::machine::{Level, Machine};
 use hep_code::{Instruction, Operation};

@@ -1,7 +1,6 @@
 -- What is read as declarators is so by the grammar, and the other way round: type statements and
 -- DIMENSION.
-use Rattle.std.proofs.Common.{◌≡◌, ◌≢◌, inl, inr, ℕ, ◌≤◌, true, false, List, [], ◌∷◌, length, Option, Some, None, refl, sym, ap, subst, arith}
-use Rattle.std.specs.Prelude.{nat_le, not}
+use Rattle.std.proofs.Common.{◌≡◌, ◌≢◌, inl, inr, ℕ, ◌≤◌, true, false, List, [], ◌∷◌, length, Option, Some, None, refl, sym, ap, subst, arith, nat_le, not}
 use Rattle.std.specs.List.{list_all}
 use Rattle.hep_source.specs.Tree.{Tree}
 use Rattle.hep_source.specs.declared.declaration.ValueType.{ValueType}

@@ -1,7 +1,5 @@
 -- What has the form of an executable statement by the grammar is read as it.
-use Rattle.std.proofs.Common.{◌≡◌, inl, inr, ℕ, ◌≤◌, Bool, true, false, List, [], ◌∷◌, ◌++◌, length, Option, Some, None, refl, sym, ap, ◌∙◌, append-nil}
-use Rattle.std.specs.Prelude.{codes, nat_eq, ◌||◌}
-use Rattle.std.proofs.lemmas.Bool.{eqb-true}
+use Rattle.std.proofs.Common.{◌≡◌, inl, inr, ℕ, ◌≤◌, Bool, true, false, List, [], ◌∷◌, ◌++◌, length, Option, Some, None, refl, sym, ap, ◌∙◌, append-nil, codes, nat_eq, ◌||◌, eqb-true}
 use Rattle.hep_source.specs.Tree.{Tree}
 use Rattle.hep_source.specs.declared.name.Occurrence.{Occurrence}
 use Rattle.hep_source.specs.declared.declaration.Target.{Target}

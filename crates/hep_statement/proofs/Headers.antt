@@ -1,7 +1,6 @@
 -- What is read as a header, as IMPLICIT or as PARAMETER is so by the grammar, and the other way
 -- round.
-use Rattle.std.proofs.Common.{◌≡◌, inl, inr, ℕ, ◌≤◌, true, false, List, [], ◌∷◌, ◌++◌, length, Some, None, refl, ap, subst, ◌∙◌, arith}
-use Rattle.std.specs.Prelude.{nat_le, if◌then◌else◌}
+use Rattle.std.proofs.Common.{◌≡◌, inl, inr, ℕ, ◌≤◌, true, false, List, [], ◌∷◌, ◌++◌, length, Some, None, refl, ap, subst, ◌∙◌, arith, nat_le, if◌then◌else◌, leb-true, le-leb}
 use Rattle.hep_source.specs.declared.name.Occurrence.{Occurrence}
 use Rattle.hep_source.specs.declared.declaration.ValueType.{ValueType}
 use Rattle.hep_source.specs.declared.declaration.ValueType.TheVariants.{Integer, Logical}
@@ -25,7 +24,6 @@ use Rattle.hep_statement.specs.ReadingDeclaration.{program_header, dummy_at, sub
 use Rattle.hep_statement.proofs.Lists.{whole_is, IsSound, Shortens, IsComplete, enclosed_shortens, listed_sound, enclosed_sound, arguments_sound, listed_complete, enclosed_complete, arguments_complete}
 use Rattle.hep_statement.proofs.Targets.{begins_name, place_begins}
 use Rattle.std.proofs.lemmas.Option.{same_Some, none-some}
-use Rattle.std.proofs.lemmas.Bool.{leb-true, le-leb}
 
 -- what holds of what a reader made holds of what it answered
 pub carried : {A : Type 0} (P : A → Type 0) (a x : A) → Some a ≡ Some x → P a → P x

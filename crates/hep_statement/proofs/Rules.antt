@@ -1,6 +1,5 @@
 -- The search for `=` in a text.
-use Rattle.std.proofs.Common.{◌≡◌, ℕ, suc, ◌+◌, ◌≤◌, ◌<◌, Bool, true, false, List, ◌∷◌, length, drop, get_or, sym, ap, ◌∙◌, arith, drop-cons}
-use Rattle.std.specs.Prelude.{nat_eq, ◌&&◌, not, if◌then◌else◌}
+use Rattle.std.proofs.Common.{◌≡◌, ℕ, suc, ◌+◌, ◌≤◌, ◌<◌, Bool, true, false, List, ◌∷◌, length, drop, get_or, sym, ap, ◌∙◌, arith, drop-cons, nat_eq, ◌&&◌, not, if◌then◌else◌}
 use Rattle.hep_statement.specs.declared.rule.Scan.{Scan}
 use Rattle.hep_statement.specs.Statement.{after_character, scanned}
 

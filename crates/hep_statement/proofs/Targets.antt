@@ -1,8 +1,6 @@
 -- What is read as an expression in a row, or as a target, is so by the grammar, and the other way
 -- round.
-use Rattle.std.proofs.Common.{◌≡◌, ℕ, ◌≤◌, Bool, true, false, List, [], ◌∷◌, ◌++◌, length, None, refl, subst, arith}
-use Rattle.std.specs.Prelude.{◌||◌, nat_eq, codes, Option, Some}
-use Rattle.std.proofs.lemmas.Bool.{eqb-true}
+use Rattle.std.proofs.Common.{◌≡◌, ℕ, ◌≤◌, Bool, true, false, List, [], ◌∷◌, ◌++◌, length, None, refl, subst, arith, ◌||◌, nat_eq, codes, Option, Some, eqb-true}
 use Rattle.hep_source.specs.Tree.{Tree, constant, occurrence, with_list, parenthesized, signed, negated, binary}
 use Rattle.hep_source.specs.declared.value.Value.TheVariants.{Int, Truth}
 use Rattle.hep_source.specs.declared.operator.Sign.TheVariants.{Plus, Minus}

@@ -1,6 +1,5 @@
 -- Worked rows: which forms some texts have.
-use Rattle.std.specs.Prelude.{ℕ, Bool, true, false, codes, List, [], ◌∷◌, Some, None}
-use Rattle.std.proofs.Common.{refl, sym, ◌∙◌}
+use Rattle.std.proofs.Common.{refl, sym, ◌∙◌, ℕ, Bool, true, false, codes, List, [], ◌∷◌, Some, None}
 use Prim.Native.String.{String}
 use Rattle.hep_source.specs.Tree.{Tree, with_list, no_trees, trees}
 use Rattle.hep_source.specs.declared.declaration.Target.{Target}

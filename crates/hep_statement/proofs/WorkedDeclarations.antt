@@ -1,7 +1,6 @@
 -- Worked rows: what the grammar gives for some headers, specification statements and DATA, each
 -- from the text after its word.
-use Rattle.std.specs.Prelude.{◌≡◌, ℕ, true, false, pos, negsuc, codes, map, List, [], ◌∷◌, length, Option, Some, None, refl}
-use Rattle.std.proofs.Common.{◌≤◌, sym, subst, ◌∙◌, arith}
+use Rattle.std.proofs.Common.{◌≤◌, sym, subst, ◌∙◌, arith, ◌≡◌, ℕ, true, false, pos, negsuc, codes, map, List, [], ◌∷◌, length, Option, Some, None, refl}
 use Prim.Native.String.{String}
 use Rattle.hep_source.specs.Tree.{Tree, signed, binary}
 use Rattle.hep_source.specs.declared.name.Occurrence.{Occurrence}

@@ -1,12 +1,9 @@
 -- Iteration counts of DOs: X3.9-1978, 11.10.3.
-use Rattle.std.proofs.Common.{◌≡◌, ◌≢◌, ℕ, zero, suc, ◌<◌, ◌/◌, ◌^◌, ℤ, pos, negsuc, ◌+ℤ◌, ◌-ℤ◌, ◌≤ℤ◌, FitsSigned, refl, arith}
-use Rattle.std.specs.Prelude.{int_div, nat_abs, neg_ℤ}
+use Rattle.std.proofs.Common.{◌≡◌, ◌≢◌, ℕ, zero, suc, ◌<◌, ◌/◌, ◌^◌, ℤ, pos, negsuc, ◌+ℤ◌, ◌-ℤ◌, ◌≤ℤ◌, FitsSigned, refl, arith, int_div, nat_abs, neg_ℤ}
 use Rattle.std.specs.Int.{w128}
 use Rattle.std.proofs.lemmas.Int.{ints}
 use Rattle.std.proofs.Math.Nat.{div-le_self}
-use Rattle.hep_machine.specs.Arithmetic.{integer_or_overflow}
-use Rattle.hep_machine.specs.Shapes.{natural}
-use Rattle.hep_machine.specs.Step.{iterations}
+use Rattle.hep_machine.specs.Words.{integer_or_overflow, natural, iterations}
 
 pub iterations_are : (m n d : ℤ) → d ≢ pos 0 → iterations m n d ≡ integer_or_overflow (pos (natural (int_div ((n -ℤ m) +ℤ d) d)))
 iterations_are m n (pos zero) h = absurd (h refl)

@@ -1,47 +1,37 @@
 -- An activation that runs can do the operation ahead.
-use Rattle.std.proofs.Common.{◌≡◌, ◌≢◌, ℕ, ◌+◌, ◌≤◌, true, List, [], ◌∷◌, ◌++◌, drop, length, Some, Result, Ok, Err, refl, ap, sym, ◌∙◌, subst, arith}
+use Rattle.std.proofs.Common.{◌≡◌, ◌≢◌, ℕ, ◌+◌, ◌≤◌, true, List, [], ◌∷◌, ◌++◌, drop, length, Some, Result, Ok, Err, refl, ap, sym, ◌∙◌, subst, arith, length-append}
 use Rattle.std.specs.Option.{ForSome}
 use Rattle.std.proofs.Math.Seq.{drop-append_seam}
-use Rattle.std.proofs.lemmas.List.{length-append}
-use Rattle.hep_source.specs.declared.name.Name.{Name}
-use Rattle.hep_source.specs.declared.value.Value.{Value}
-use Rattle.hep_source.specs.Units.{Units, statement_at}
+use Rattle.hep_machine.specs.Words.{Name, Value, Units, statement_at, no_value, Next, Redex, does, ending_loop, entering_loop, next_of, testing, wants, plug_work, Frame, Layout, Top, scope_of, unit_on_top, frame_cells, is_do}
 use Rattle.hep_machine.specs.declared.event.Kind.{Kind}
 use Rattle.hep_machine.specs.declared.slot.Slot.{Slot}
 use Rattle.hep_machine.specs.Control.{variable_of as loop_variable}
-use Rattle.hep_machine.specs.Defaults.{no_value}
-use Rattle.hep_machine.specs.Evaluation.{Next, Redex, does, ending_loop, entering_loop, next_of, reading, testing, wants, plug_work}
-use Rattle.hep_machine.specs.Layout.{Frame, Layout}
-use Rattle.hep_machine.specs.Step.{Top, scope_of, unit_on_top}
-use Rattle.hep_machine.specs.Variables.{frame_cells, is_do}
+use Rattle.hep_machine.specs.Evaluation.{reading}
 use Rattle.hep_arena.specs.Holes.{Hole}
 use Rattle.hep_arena.specs.Space.{Space}
 use Rattle.hep_code.specs.declared.instruction.Evaluation.{Evaluation}
 use Rattle.hep_code.specs.declared.instruction.Instruction.{Instruction}
-use Rattle.hep_code.specs.declared.instruction.Instruction.TheVariants.{Push, Step, To, Pass, Show}
+use Rattle.hep_code.specs.declared.instruction.Instruction.TheVariants.{Step}
 use Rattle.hep_code.specs.declared.instruction.Operation.{Operation}
 use Rattle.hep_code.specs.declared.instruction.Operation.TheVariants.{Evaluate, Store, EnterLoop, EndLoop}
 use Rattle.hep_code.specs.declared.variable.Variable.{Variable}
 use Rattle.hep_code.specs.declared.variable.Variable.TheVariants.{Absent}
-use Rattle.hep_code.specs.Actions.{arity, evaluation_of, operands_of_action, operands_of_redex}
-use Rattle.hep_code.specs.Ahead.{IsNext, IsRedex}
-use Rattle.hep_code.specs.Depths.{deepest}
-use Rattle.hep_code.proofs.Actions.{ended_is_do, entered_is_do}
+use Rattle.hep_code.specs.Words.{arity, evaluation_of, operands_of_action, operands_of_redex, IsNext, IsRedex, deepest}
+use Rattle.hep_code.proofs.Leads.{ended_is_do, entered_is_do}
 use Rattle.hep_code.proofs.Depths.{stands_within}
 use Rattle.hep_image.specs.Finding.{address_of, cells_in}
 use Rattle.hep_image.specs.Image.{most_cells}
 use Rattle.hep_image.specs.Places.{loop_cells, variable_of}
 use Rattle.hep_image.specs.Within.{LiesIn}
 use Rattle.hep_finding.specs.Within.{ArePlacedArrays}
-use Rattle.hep_finding.proofs.Reached.{frame-reached, reached}
+use Rattle.hep_finding.proofs.Variables.{frame-reached, reached}
 use Rattle.hep_finding.proofs.Within.{loop-within, variable-within}
 use Rattle.hep_step.specs.Cells.{HasFrame, IsReached}
 use Rattle.hep_step.specs.Replies.{accessed_by}
 use Rattle.hep_step.specs.Effects.{subscripts_in}
 use Rattle.hep_step.specs.Ready.{IsAheadReady, IsEvaluationReady, IsLoopReady, IsOperationReady, IsReady, IsVariableReady, frame_in_arena, last_operands}
 use Rattle.hep_step.specs.Simulation.{IsRunning, addressed_on_top, arrays_on_top, code_on_top, variable_in}
-use Rattle.hep_step.proofs.Assignments.{assigns}
-use Rattle.hep_step.proofs.Evaluations.{arity_is, in_front, no_action}
+use Rattle.hep_step.proofs.Replied.{arity_is, assigns, in_front, no_action}
 use Rattle.hep_step.proofs.Running.{next_is}
 
 module _ (program : Units) (t : Top) (layout : Layout) (f : Frame) (contents : List Slot) (holes : List Hole) (operands : List Value) (index : ℕ) (running : IsRunning program t layout f contents holes operands index) (placed : ArePlacedArrays program (unit_on_top program t)) where
@@ -142,19 +132,17 @@ module _ (program : Units) (t : Top) (layout : Layout) (f : Frame) (contents : L
     module _ (x : Variable) (cells inside outside : ℕ) where
       enter_ready : IsAhead (EnterLoop x cells inside outside) → (m : Next) → next_of (unit_on_top program t) t.level.work ≡ m → IsNext (addressed_on_top program t) t.level.statement t.level.work operands index m (EnterLoop x cells inside outside) behind
           → IsLoopReady space (arrays_on_top program t) (frame_in_arena f) x cells
-      enter_ready ahead (wants r) is h = absurd (cc h.operation)
       enter_ready ahead (does (entering_loop y m n i)) is h =
           loop_ready (EnterLoop x cells inside outside) y t.level.statement cells x ahead refl (cc h.operation) (cc h.operation) (
           entered_is_do (unit_on_top program t) t.level.statement t.level.work y m n i running.stands.fits is)
-      enter_ready ahead (does _) is h = absurd (cc h.operation)
+      enter_ready ahead _ is h = absurd (cc h.operation)
 
       end_ready : IsAhead (EndLoop x cells inside outside) → (m : Next) → next_of (unit_on_top program t) t.level.work ≡ m → IsNext (addressed_on_top program t) t.level.statement t.level.work operands index m (EndLoop x cells inside outside) behind
           → IsLoopReady space (arrays_on_top program t) (frame_in_arena f) x cells
-      end_ready ahead (wants r) is h = absurd (cc h.operation)
       end_ready ahead (does (ending_loop d)) is h =
           loop_ready (EndLoop x cells inside outside) (loop_variable (unit_on_top program t) d) d cells x ahead refl (cc h.operation) (cc h.operation) (
           ended_is_do (unit_on_top program t) t.level.statement t.level.work d running.stands.fits is)
-      end_ready ahead (does _) is h = absurd (cc h.operation)
+      end_ready ahead _ is h = absurd (cc h.operation)
 
   -- ---- all of them
 
@@ -171,12 +159,8 @@ module _ (program : Units) (t : Top) (layout : Layout) (f : Frame) (contents : L
     operation_ready _ line behind ahead = tt
 
     ahead_ready : (is : List Instruction) → drop index (code_on_top program t) ≡ is → IsAheadReady space (arrays_on_top program t) (frame_in_arena f) capacity operands is
-    ahead_ready [] e = tt
     ahead_ready (Step line o ∷ behind) e = operation_ready o line behind e
-    ahead_ready (Push _ ∷ behind) e = tt
-    ahead_ready (To _ ∷ behind) e = tt
-    ahead_ready (Pass _ ∷ behind) e = tt
-    ahead_ready (Show _ ∷ behind) e = tt
+    ahead_ready _ e = tt
 
     pub is_ready : length contents ≤ most_cells → IsReady (code_on_top program t) (arrays_on_top program t) space (frame_in_arena f) operands capacity index
     is_ready few = record { framed = framed few; ahead = ahead_ready (drop index (code_on_top program t)) refl }

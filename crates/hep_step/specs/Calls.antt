@@ -1,17 +1,12 @@
 -- What a CALL or CREATE that stands ahead makes an activation of: X3.9-1978, 15.6.2, and docs/MACHINE.md, "Steps".
 use Rattle.std.specs.Prelude.{◌≡◌, ℕ, Bool, true, false, List, ◌++◌, length, map}
 use Rattle.std.specs.List.{flat_map}
-use Rattle.hep_source.specs.declared.name.Name.{Name}
-use Rattle.hep_source.specs.declared.value.Value.{Value}
-use Rattle.hep_source.specs.Units.{Units}
-use Rattle.hep_machine.specs.Evaluation.{Action, Actual, calling, creating, does, next_of}
-use Rattle.hep_machine.specs.Step.{Top, unit_called, unit_on_top}
+use Rattle.hep_machine.specs.Words.{Name, Value, Units, Action, Actual, calling, creating, does, next_of, Top, unit_called, unit_on_top}
 use Rattle.hep_code.specs.declared.instruction.Instruction.{Instruction}
 use Rattle.hep_code.specs.declared.instruction.Instruction.TheVariants.{Pass}
 use Rattle.hep_code.specs.declared.instruction.Operation.{Operation}
 use Rattle.hep_code.specs.declared.instruction.Operation.TheVariants.{Call, Create}
-use Rattle.hep_code.specs.Actions.{argument_of_actual, operands_of_actual}
-use Rattle.hep_code.specs.UnitCode.{table_of}
+use Rattle.hep_code.specs.Words.{argument_of_actual, operands_of_actual, table_of}
 use Rattle.hep_image.specs.Places.{variable_of}
 use Rattle.hep_step.specs.Simulation.{addressed_on_top}
 

@@ -1,9 +1,8 @@
 -- The items of a PRINT, entry by entry: X3.9-1978, 12.8.2.
 use Rattle.std.specs.Prelude.{List, [], ◌∷◌, Option, Some, None}
-use Rattle.hep_source.specs.declared.value.Value.{Value}
+use Rattle.hep_machine.specs.Words.{Value, item_of}
 use Rattle.hep_machine.specs.declared.record.Item.{Item}
 use Rattle.hep_machine.specs.declared.record.Item.TheVariants.{Text}
-use Rattle.hep_machine.specs.Evaluation.{item_of}
 use Rattle.hep_code.specs.declared.instruction.Instruction.{Instruction}
 use Rattle.hep_code.specs.declared.instruction.Instruction.TheVariants.{Show}
 use Rattle.hep_code.specs.declared.instruction.Printed.TheVariants.{Operand, Characters}

@@ -1,8 +1,7 @@
 //! Where the storage unit of a variable or an element is (X3.9-1978, 2.13 and 5.4).
 ghost use Rattle.std.specs.Prelude.{◌≡◌, ◌<◌, ◌≤◌, length, Some, IfSome, MatchOption};
 ghost use Rattle.std.specs.Option.{is_none};
-ghost use Rattle.hep_machine.specs.Arithmetic.{integers_of};
-ghost use Rattle.hep_machine.specs.Shapes.{counted_element, elements};
+ghost use Rattle.hep_machine.specs.Words.{integers_of, counted_element, elements};
 ghost use Rattle.hep_image.specs.Finding as finding;
 ghost use Rattle.hep_image.specs.Finding.{address_of, base_at, bounds_at, cells_in};
 ghost use Rattle.hep_image.specs.Within.{AreExtentsIn, IsStartIn, LiesIn};
@@ -119,6 +118,7 @@ pub fn number_in(arena: &Arena, frame: Frame, extents: &Extents, subscripts: &[V
 }
 
 // The number of the element with these subscripts among such dimensions.
+#[tactic(auto, using(crate::proofs::Elements::too_many_subscripts))]
 fn number_among(bounds: &[Bound], subscripts: &[Value]) -> Option<u32>
     requires { length bounds.now ≤ 7 }
     ensures number { result ≡ counted_element bounds.now (integers_of subscripts.now) }

@@ -1,19 +1,15 @@
 //! Laws of steps: what an operation does to the arena and to the operands is what the source machine does.
 ghost use Rattle.std.specs.Prelude.{◌≡◌, ◌≤◌, ◌∷◌, ℕ, Bool, List, Err, drop, length};
-ghost use Rattle.hep_source.specs.declared.value.Value.{Value};
-ghost use Rattle.hep_source.specs.Units.{Units};
+ghost use Rattle.hep_machine.specs.Words.{Value, Units, Frame, Layout, Top, binding_of, unit_on_top};
 ghost use Rattle.hep_machine.specs.declared.event.Kind.{Kind};
 ghost use Rattle.hep_machine.specs.declared.slot.Slot.{Slot};
-ghost use Rattle.hep_machine.specs.Layout.{Frame, Layout};
-ghost use Rattle.hep_machine.specs.Step.{Top, binding_of, unit_on_top};
 ghost use Rattle.hep_arena.specs.Holes.{Hole};
 ghost use Rattle.hep_code.specs.declared.instruction.Evaluation.{Evaluation};
 ghost use Rattle.hep_code.specs.declared.instruction.Instruction.{Instruction};
 ghost use Rattle.hep_code.specs.declared.instruction.Instruction.TheVariants.{Step};
 ghost use Rattle.hep_code.specs.declared.instruction.Operation.TheVariants.{Evaluate, Store, Jump, Choose, BySign, Condition, Branch, EnterLoop, EndLoop, Print, Return, Stop};
 ghost use Rattle.hep_code.specs.declared.variable.Variable.{Variable};
-ghost use Rattle.hep_code.specs.Ahead.{IsPastPushes};
-ghost use Rattle.hep_code.specs.Depths.{deepest};
+ghost use Rattle.hep_code.specs.Words.{IsPastPushes, deepest};
 ghost use Rattle.hep_image.specs.Image.{most_cells};
 ghost use Rattle.hep_finding.specs.Within.{ArePlacedArrays};
 ghost use Rattle.hep_step.specs.Calls.{IsCallAhead, making};

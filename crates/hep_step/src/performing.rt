@@ -90,28 +90,24 @@ pub fn perform(
         Operation::EnterLoop {
             variable,
             cells,
-            inside,
-            behind,
+            ..
         } => {
             let entered = Loop {
                 variable,
                 cells,
-                inside,
-                behind,
+                operation,
             };
             Ok(enter_loop(storage, arena, line, entered, operands, index))
         }
         Operation::EndLoop {
             variable,
             cells,
-            inside,
-            behind,
+            ..
         } => {
             let ended = Loop {
                 variable,
                 cells,
-                inside,
-                behind,
+                operation,
             };
             Ok(end_loop(storage, arena, line, ended, operands, index))
         }

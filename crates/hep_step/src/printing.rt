@@ -1,7 +1,7 @@
 //! PRINT (X3.9-1978, 12.8).
 ghost use Rattle.std.specs.Prelude.{◌≡◌, ◌≤◌, [], IfOk, OnOk, OnErr, option_map, take, vec_capacity};
 ghost use Rattle.hep_machine.specs.Evaluation as evaluation;
-ghost use Rattle.hep_code.specs.Passing.{items_from};
+ghost use Rattle.hep_code.specs.Words.{items_from};
 ghost use Rattle.hep_step.specs.declared.effect.Effect.TheVariants.{Printed as PrintedEffect};
 ghost use Rattle.hep_step.specs.Items.{item_ahead as item_read, items_in};
 
@@ -46,12 +46,7 @@ fn item_ahead<'a>(
 fn first_of(entries: &[Instruction], count: u32) -> &[Instruction]
     ensures { result.now ≡ take count entries.now }
 {
-    let count = count as usize;
-    if count < entries.len() {
-        &entries[..count]
-    } else {
-        entries
-    }
+    &entries[..entries.len().min(count as usize)]
 }
 
 // The items that these entries tell of.

@@ -1,7 +1,7 @@
 //! Operations that give values, and that store them (X3.9-1978, sections 6 and 10).
 ghost use Rattle.std.specs.Prelude.{◌≡◌, ◌+◌, ◌<◌, ◌≤◌, ◌^◌, ◌++◌, ◌∷◌, [], length, take, vec_len, vec_capacity};
 ghost use Rattle.hep_code.specs.declared.instruction.Operation.TheVariants.{Store};
-ghost use Rattle.hep_code.specs.Moves.{first_operand};
+ghost use Rattle.hep_code.specs.Words.{first_operand};
 ghost use Rattle.hep_step.specs.Cells.{HasFrame};
 ghost use Rattle.hep_step.specs.Effects.{effect_of, effect_of_evaluation, subscripts_in};
 ghost use Rattle.hep_step.specs.Performed.{IsPerformed, snapshot};

@@ -1,29 +1,22 @@
 -- Pairs of units that have a block otherwise, against what the units before have in common.
-use Rattle.std.proofs.Common.{◌≡◌, ℕ, ◌+◌, Bool, true, false, not, ◌&&◌, ◌||◌, nat_eq, Option, Some, None, is_some, List, [], ◌∷◌, map, length, refl, ap, sym, ◌∙◌, arith, if◌then◌else◌}
+use Rattle.std.proofs.Common.{◌≡◌, ℕ, ◌+◌, Bool, false, not, ◌&&◌, ◌||◌, nat_eq, Option, Some, None, is_some, List, [], ◌∷◌, map, length, refl, ap, sym, ◌∙◌, arith}
 use Rattle.std.specs.List.{flat_map}
 use Rattle.std.proofs.lemmas.Bool.Decides.{nat_tests}
-use Rattle.hep_source.specs.declared.statement.Statement.{Statement}
-use Rattle.hep_source.specs.Units.{Units}
-use Rattle.hep_machine.specs.Data.{Repeated}
-use Rattle.hep_machine.specs.Declarations.{BlockName, blocks_of}
+use Rattle.hep_machine.specs.Words.{Statement, Units, Repeated, BlockName, blocks_of}
 use Rattle.hep_check.specs.Common as conditions
-use Rattle.hep_check.specs.Known.{Known as Items, count_of_items, holds_at_each_place}
-use Rattle.hep_check.specs.Reported.{least_line, line_when, least_line_of, reported}
-use Rattle.hep_check.specs.Violations.{first_of}
-use Rattle.hep_check.proofs.Lines.{least_line-or, least_line_of-same, least_line_of-both, least_line_of-turned, reported-append, reported-of, reported-when, least_line_of-nones}
-use Rattle.hep_storage.specs.Agreement.{Summed, nothing_summed, with_list, with_block, with_count, with_length, is_other_count, is_other_length, place_count, differs_from, line_after, least_after, least_of_blocks}
+use Rattle.hep_check.specs.Known.{Known as Items}
+use Rattle.hep_check.specs.Words.{count_of_items, holds_at_each_place, least_line, line_when, least_line_of, reported, first_of}
+use Rattle.hep_check.proofs.Lines.{least_line-or, least_line_of-same, least_line_of-both, least_line_of-turned, reported-append, reported-of, reported-when, least_line_of-nones, least_line-assoc, least_line-comm}
+use Rattle.hep_storage.specs.Agreement.{Summed, nothing_summed, with_list, with_block, with_length, is_other_length, place_count, differs_from, line_after, least_after, least_of_blocks}
 use Rattle.hep_storage.specs.Blocks.{KnownPlaces, Block, run_of, known_places, block_in}
 use Rattle.hep_runs.specs.Runs.{alike, positions_in}
 use Rattle.hep_storage.specs.Shared.{departs}
 use Rattle.hep_runs.specs.Spread.{repeat_before, spread, agree_as_far}
 use Rattle.hep_storage.specs.declared.summary.Lengths.{Lengths}
-use Rattle.hep_storage.specs.declared.summary.Lengths.TheVariants as lengths
 use Rattle.hep_runs.specs.declared.runs.Position.{Position}
-use Rattle.hep_storage.proofs.Pairs.{each_pair, each_later, pairs-from-start}
 use Rattle.hep_runs.proofs.Meetings.{length-repeat, map-repeat}
 use Rattle.hep_runs.proofs.Places.{at_each_place}
 use Rattle.hep_storage.proofs.Sharing.{one-more}
-use Rattle.hep_source.proofs.Tests.{or-false, or-true}
 
 -- ---- two lists of a block
 
@@ -46,10 +39,7 @@ agree-map (p ∷ ps) (q ∷ qs) = ap (λ b. conditions.same_position p q && b) (
 
 -- places that both lists have
 agree-places : (ps qs : List (Repeated conditions.Position)) → holds_at_each_place conditions.same_position ps qs ≡ agree_as_far alike (positions_in (map run_of ps)) (positions_in (map run_of qs))
-agree-places ps qs =
-    at_each_place conditions.same_position ps qs
-    ∙ (sym (agree-map (spread ps) (spread qs))
-    ∙ (ap (λ rs. agree_as_far alike rs (map position_of (spread qs))) (sym (positions-spread ps)) ∙ ap (agree_as_far alike (positions_in (map run_of ps))) (sym (positions-spread qs))))
+agree-places ps qs = rw (positions-spread ps, positions-spread qs) (at_each_place conditions.same_position ps qs ∙ sym (agree-map (spread ps) (spread qs)))
 
 count-places : (rs : List (Repeated conditions.Position)) → count_of_items rs ≡ length (positions_in (map run_of rs))
 count-places [] = refl
@@ -57,61 +47,46 @@ count-places (r ∷ rs) = ap (λ n. r.count + n) (count-places rs) ∙ sym (leng
 
 -- two lists are not the same where they differ
 contents-differ : (b : BlockName) (ps qs : Items conditions.Position) → not (conditions.same_contents b ps qs) ≡ differs b (known_places ps) (known_places qs)
-contents-differ None ps qs = ap not (agree-places ps.items qs.items) ∙ sym (or-false (not (agree_as_far alike (positions_in (map run_of ps.items)) (positions_in (map run_of qs.items)))))
-contents-differ (Some x) ps qs =
-    rw (agree-places ps.items qs.items, count-places ps.items, count-places qs.items)
-    (by ps.whole qs.whole (nat_eq (length (positions_in (map run_of ps.items))) (length (positions_in (map run_of qs.items)))) (agree_as_far alike (positions_in (map run_of ps.items)) (positions_in (map run_of qs.items))))
-  where
-    by : (w v e a : Bool) → not ((not (w && v) || e) && a) ≡ (not a || (true && (w && (v && not e))))
-    by true true true true = refl
-    by true true true false = refl
-    by true true false true = refl
-    by true true false false = refl
-    by true false e true = refl
-    by true false e false = refl
-    by false v e true = refl
-    by false v e false = refl
+contents-differ None ps qs = rw (agree-places ps.items qs.items) (grind arith)
+contents-differ (Some x) ps qs = rw (agree-places ps.items qs.items, count-places ps.items, count-places qs.items) (grind arith)
 
 -- ---- a list against several
 
 -- one list of another length, or one of those before
 length-more : (k l : KnownPlaces) (s : Lengths)
     → ((k.is_whole && (l.is_whole && not (nat_eq (place_count k) (place_count l)))) || is_other_length l s) ≡ is_other_length l (with_length k s)
-length-more k l s = by k.is_whole l.is_whole (place_count k) (place_count l) s
-  where
-    several : (m n o : ℕ) (e f g : Bool) → nat_eq m n ≡ e → nat_eq n o ≡ f → nat_eq m o ≡ g → (not f || not g) ≡ is_other_count o (if e then lengths.One m else lengths.Several)
-    several m n o true true true d f g = sym (ap not g)
-    several m n o true true false d f g = absurd (grind (arith, nat_tests, d, f, g))
-    several m n o true false true d f g = absurd (grind (arith, nat_tests, d, f, g))
-    several m n o true false false d f g = sym (ap not g)
-    several m n o false true true d f g = absurd (grind (arith, nat_tests, d, f, g))
-    several m n o false true false d f g = refl
-    several m n o false false g d f h = refl
-
-    none : (v : Bool) → ((v && false) || false) ≡ false
-    none true = refl
-    none false = refl
-
-    by : (v w : Bool) (n o : ℕ) (s : Lengths) → ((v && (w && not (nat_eq n o))) || (w && is_other_count o s)) ≡ (w && is_other_count o (if v then with_count n s else s))
-    by v false n o s = none v
-    by true true n o lengths.Open = or-false (not (nat_eq n o))
-    by true true n o (lengths.One m) = several m n o (nat_eq m n) (nat_eq n o) (nat_eq m o) refl refl refl
-    by true true n o lengths.Several = or-true (not (nat_eq n o))
-    by false true n o s = refl
+length-more k l s = grind (arith, nat_tests)
 
 differs-more : (b : BlockName) (k l : KnownPlaces) (s : Summed) → (differs b k l || differs_from b s l) ≡ differs_from b (with_list k s) l
 differs-more b k l s =
-    grouped (not (agree_as_far alike k.positions l.positions)) (is_some b)
-    (k.is_whole && (l.is_whole && not (nat_eq (place_count k) (place_count l)))) (departs s.is_cut s.positions l.positions) (is_other_length l s.lengths)
-    ∙ (ap (λ d. d || (is_some b && ((k.is_whole && (l.is_whole && not (nat_eq (place_count k) (place_count l)))) || is_other_length l s.lengths))) (one-more s.is_cut s.positions k.positions l.positions)
-    ∙ ap (λ d. departs (with_list k s).is_cut (with_list k s).positions l.positions || (is_some b && d)) (length-more k l s.lengths))
-  where
-    grouped : (a n l d m : Bool) → ((a || (n && l)) || (d || (n && m))) ≡ ((a || d) || (n && (l || m)))
-    grouped true n l d m = refl
-    grouped false true true true m = refl
-    grouped false true true false m = refl
-    grouped false true false d m = refl
-    grouped false false l d m = refl
+    rw (sym (one-more s.is_cut s.positions k.positions l.positions), sym (length-more k l s.lengths))
+    (grind arith)
+
+-- ---- each unit with each one after it, or with each one before it
+
+module _ {U : Type 0} (line : U → U → Option ℕ) where
+  abbrev each_pair : List U → Option ℕ
+  each_pair [] = None
+  each_pair (u ∷ us) = least_line (least_line_of (line u) us) (each_pair us)
+
+  abbrev each_later : List U → List U → Option ℕ
+  each_later before [] = None
+  each_later before (w ∷ ws) = least_line (least_line_of (λ u. line u w) before) (each_later (w ∷ before) ws)
+
+  regrouped : (a b l d : Option ℕ) → least_line a (least_line (least_line l b) d) ≡ least_line (least_line a b) (least_line l d)
+  regrouped a b l d =
+      ap (λ m. least_line a (least_line m d)) (least_line-comm l b)
+      ∙ (ap (least_line a) (least_line-assoc b l d) ∙ sym (least_line-assoc a b (least_line l d)))
+
+  pairs-later : (before us : List U) → each_later before us ≡ least_line (least_line_of (λ u. least_line_of (line u) us) before) (each_pair us)
+  pairs-later before [] = sym (ap (λ l. least_line l None) (least_line_of-nones before))
+  pairs-later before (w ∷ ws) =
+      ap (least_line (least_line_of (λ u. line u w) before)) (pairs-later (w ∷ before) ws)
+      ∙ (regrouped (least_line_of (λ u. line u w) before) (least_line_of (λ u. least_line_of (line u) ws) before) (least_line_of (line w) ws) (each_pair ws)
+      ∙ ap (λ l. least_line l (each_pair (w ∷ ws))) (sym (least_line_of-both (λ u. line u w) (λ u. least_line_of (line u) ws) before)))
+
+  pairs-from-start : (us : List U) → each_later [] us ≡ each_pair us
+  pairs-from-start us = pairs-later [] us
 
 -- ---- units
 
@@ -140,15 +115,11 @@ block_differs-line b unit later = by (conditions.last_line b unit) (conditions.l
         ∙ ap (λ d. reported 305 (line_when d line)) (contents-differ b (conditions.positions_of_block unit b) (conditions.positions_of_block later b)))
 
 nothing-differs : (b : BlockName) (k : KnownPlaces) → differs_from b nothing_summed k ≡ false
-nothing-differs b k = by k.positions (is_some b) k.is_whole
+nothing-differs b k = by k.positions
   where
-    by : (qs : List Position) (n w : Bool) → (departs false [] qs || (n && (w && false))) ≡ false
-    by [] true true = refl
-    by [] true false = refl
-    by [] false w = refl
-    by (q ∷ qs) true true = refl
-    by (q ∷ qs) true false = refl
-    by (q ∷ qs) false w = refl
+    by : (qs : List Position) → (departs false [] qs || (is_some b && (k.is_whole && false))) ≡ false
+    by [] = grind arith
+    by (q ∷ qs) = grind arith
 
 no-pair : (b : BlockName) (c : Option Block) → pair_of_blocks b c None ≡ None
 no-pair b None = refl
@@ -164,7 +135,7 @@ against b later before = by (block_in later b) before
 
     by : (d : Option Block) (us : Units) → least_line_of (λ unit. pair_of_blocks b (block_in unit b) d) us ≡ line_after b (summed_over b us) d
     by None [] = refl
-    by None (u ∷ us) = ap (λ l. least_line l (least_line_of (λ unit. pair_of_blocks b (block_in unit b) None) us)) (no-pair b (block_in u b)) ∙ by None us
+    by None (u ∷ us) = rw (no-pair b (block_in u b)) (by None us)
     by (Some d) [] = sym (ap (λ t. line_when t d.line) (nothing-differs b d.list))
     by (Some d) (u ∷ us) = ap (least_line (pair_of_blocks b (block_in u b) (Some d))) (by (Some d) us) ∙ more d (block_in u b) (summed_over b us)
 

@@ -1,9 +1,6 @@
-pub mod Pairs
 pub mod Sharing
 pub mod Differing
 pub mod Tables
 pub mod Turns
 pub mod Listings
 pub mod BlockTables
-pub mod BlocksNamed
-pub mod Joins

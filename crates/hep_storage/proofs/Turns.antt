@@ -1,39 +1,73 @@
--- Turns of the loops over units and over the blocks of a unit.
-use Rattle.std.proofs.Common.{◌≡◌, ◌<◌, ◌≤◌, ◌+◌, ℕ, Bool, true, false, ◌||◌, Option, Some, None, is_some, List, [], ◌∷◌, drop, length, get_or, refl, ap, sym, subst, ◌∙◌, true≢false, if◌then◌else◌}
+-- The blocks of a unit are among those of its program; and the loops over units and over the blocks of a unit.
+use Rattle.std.proofs.Common.{◌≡◌, ◌<◌, ◌≤◌, ◌+◌, ℕ, Bool, true, false, Option, Some, None, is_some, List, [], ◌∷◌, drop, length, get_or, refl, ap, sym, subst, ◌∙◌, if◌then◌else◌, arith, ◌++◌}
 use Rattle.std.proofs.lemmas.List.{drop_more, drop_all}
-use Rattle.hep_source.specs.declared.statement.Statement.{Statement}
-use Rattle.hep_source.specs.Units.{Units}
-use Rattle.hep_machine.specs.Declarations.{BlockName, same_block, is_block_among, blocks_of}
-use Rattle.hep_check.specs.Reported.{least_line, least_line_of}
-use Rattle.hep_check.proofs.Lines.{least_line-none, least_line-assoc, least_line-comm, least_line_of-same, least_line_of-both, least_line_of-nones}
+use Rattle.std.proofs.lemmas.Bool.Decides.{nat_tests}
+use Rattle.std.specs.List.{list_any, flat_map}
+use Rattle.std.proofs.lemmas.List.Folds.{list_any-append, list_any_at}
+use Rattle.hep_machine.specs.Words.{Statement, Units, BlockName, same_block, is_block_among, blocks_of, block_of, blocks_in, blocks_of_unit, with_blocks, CommonBlock}
+use Rattle.hep_check.specs.Words.{least_line, least_line_of}
+use Rattle.hep_check.proofs.Lines.{least_line-none, least_line-assoc, least_line-comm, least_line_of-both, least_line_of-nones}
 use Rattle.hep_storage.specs.Agreement.{Summed, with_block, line_after, least_after, least_of_blocks, least_of_left, AreAmong}
-use Rattle.hep_storage.specs.Blocks.{Block, block_in}
-use Rattle.hep_storage.proofs.BlocksNamed.{unit-among}
-use Rattle.hep_storage.proofs.Pairs.{absorbed, least_line-self}
-use Rattle.hep_machine.proofs.Locations.{equal_blocks, block-self}
+use Rattle.hep_storage.specs.Blocks.{Block, block_in, known_places}
+use Rattle.hep_machine.proofs.Locations.{equal_blocks, block-self, block-stays}
+use Rattle.hep_source.proofs.Tests.{any-flat, some-mapped}
+use Rattle.hep_check.specs.Common as conditions
 
--- ---- one unit more
+-- ---- the blocks of a unit are among those of its program
 
-pub unit-turn : (bs : List BlockName) (s t : BlockName → Summed) (items units : Units) (i : ℕ) (d u : List Statement) (best line after : Option ℕ)
-    → items ≡ units → i < length items → u ≡ get_or items i d → ((b : BlockName) → t b ≡ with_block (block_in u b) (s b)) → line ≡ least_of_left bs s (block_in u) → after ≡ least_line best line
-    → least_line after (least_of_blocks bs t (drop (i + 1) units)) ≡ least_line best (least_of_blocks bs s (drop i units))
-unit-turn bs s t items units i d u best line after same lt is h e a =
-    let rest = drop (i + 1) units in
-    let more : i < length units = subst (λ us. i < length us) same lt in
-    let all : drop i units ≡ u ∷ rest = drop_more units i d more ∙ ap (λ v. v ∷ rest) (sym (is ∙ ap (λ us. get_or us i d) same)) in
-    ap (λ l. least_line l (least_of_blocks bs t rest)) a
-    ∙ (least_line-assoc best line (least_of_blocks bs t rest)
-    ∙ ap (least_line best)
-    (ap (λ l. least_line l (least_of_blocks bs t rest)) e
-    ∙ (ap (least_line (least_of_left bs s (block_in u))) (least_line_of-same (λ b. least_after b (t b) rest) (λ b. least_after b (with_block (block_in u b) (s b)) rest) (λ b. ap (λ x. least_after b x rest) (h b)) bs)
-    ∙ (sym (least_line_of-both (λ b. line_after b (s b) (block_in u b)) (λ b. least_after b (with_block (block_in u b) (s b)) rest) bs)
-    ∙ ap (least_of_blocks bs s) (sym all)))))
+abbrev named : BlockName → List CommonBlock → Bool
+named b cs = list_any (λ (c : CommonBlock). same_block (block_of c) b) cs
+
+some-line : (b : BlockName) (unit : List Statement) → is_some (conditions.last_line b unit) ≡ true → named b (blocks_of_unit unit) ≡ true
+some-line b [] h = absurd cc
+some-line b (s ∷ ss) h =
+    let parts = list_any-append (λ (c : CommonBlock). same_block (block_of c) b) (blocks_in s.form) (blocks_of_unit ss) in
+    grind (arith, parts, some-line b ss)
+
+-- ---- the blocks of a list, each once
+
+this-among : (b : BlockName) (bs : List BlockName) → is_block_among b (if is_block_among b bs then bs else bs ++ b ∷ []) ≡ true
+this-among b bs = grind (arith, list_any-append (same_block b) bs (b ∷ []), block-self b)
+
+named-among : (b : BlockName) (bs : List BlockName) (cs : List CommonBlock) → named b cs ≡ true → is_block_among b (with_blocks bs cs) ≡ true
+named-among b bs [] h = absurd cc
+named-among b bs (c ∷ cs) h =
+    let more = if is_block_among (block_of c) bs then bs else bs ++ block_of c ∷ [] in
+    grind (arith, block-stays b more cs, this-among (block_of c) bs, equal_blocks (block_of c) b, named-among b more cs)
+
+-- ---- a unit of a program
+
+unit-among : (program : Units) (i : ℕ) (d : List Statement) → i < length program → (b : BlockName) → is_some (block_in (get_or program i d) b) ≡ true → is_block_among b (blocks_of program) ≡ true
+unit-among program i d lt b h =
+    let unit = get_or program i d in
+    let there = sym (some-mapped (λ (line : ℕ). record { list = known_places (conditions.positions_of_block unit b); line = line }) (conditions.last_line b unit)) ∙ h in
+    named-among b [] (flat_map blocks_of_unit program)
+    (any-flat (λ (c : CommonBlock). same_block (block_of c) b) blocks_of_unit program
+    ∙ list_any_at (λ u. named b (blocks_of_unit u)) program i d lt (some-line b unit there))
+
+-- ---- the least line of blocks
+
+least_line-self : (a : Option ℕ) → least_line a a ≡ a
+least_line-self None = refl
+least_line-self (Some k) = grind (arith, nat_tests)
+
+least_line-turned : (a b c : Option ℕ) → least_line a (least_line b c) ≡ least_line b (least_line a c)
+least_line-turned a b c = sym (least_line-assoc a b c) ∙ (ap (λ l. least_line l c) (least_line-comm a b) ∙ least_line-assoc b a c)
+
+module _ (line : BlockName → Option ℕ) where
+  absorbed : (b : BlockName) (bs : List BlockName) → is_block_among b bs ≡ true → least_line (line b) (least_line_of line bs) ≡ least_line_of line bs
+  absorbed b [] h = absurd cc
+  absorbed b (c ∷ cs) h =
+      let behind = least_line_of line cs in
+      grind (arith, equal_blocks b c, least_line-self (line c), least_line-assoc (line c) (line c) behind, least_line-turned (line b) (line c) behind, absorbed b cs)
+
+-- ---- the loop over units
 
 -- no unit is left
 pub units-end : (bs : List BlockName) (s : BlockName → Summed) (units : Units) (i : ℕ) (best total : Option ℕ) → length units ≤ i
     → least_line best (least_of_blocks bs s (drop i units)) ≡ total → best ≡ total
 units-end bs s units i best total k h =
-    sym (least_line-none best) ∙ (ap (least_line best) (sym (least_line_of-nones bs)) ∙ (ap (λ us. least_line best (least_of_blocks bs s us)) (sym (drop_all i units k)) ∙ h))
+    sym (least_line-none best) ∙ (rw (drop_all i units k, least_line_of-nones bs) at h)
 
 -- the blocks of a unit that a table has
 pub blocks-turn : (s t : BlockName → Summed) (items units : Units) (i : ℕ) (d u : List Statement) (found : BlockName → Option Block) (best line after : Option ℕ)
@@ -42,76 +76,51 @@ pub blocks-turn : (s t : BlockName → Summed) (items units : Units) (i : ℕ) (
     → least_line after (least_of_blocks (blocks_of units) t (drop (i + 1) units)) ≡ least_line best (least_of_blocks (blocks_of units) s (drop i units))
 blocks-turn s t items units i d u found best line after same lt is f h e a =
     let bs = blocks_of units in
+    let rest = drop (i + 1) units in
+    let more : i < length units = subst (λ us. i < length us) same lt in
     let at : u ≡ get_or units i d = is ∙ ap (λ us. get_or us i d) same in
-    unit-turn bs s t items units i d u best line after same lt is
-    (λ b. h b ∙ ap (λ o. with_block o (s b)) (f b))
-    (e bs (λ b k. unit-among units i d (subst (λ us. i < length us) same lt) b (ap (λ v. is_some (block_in v b)) (sym at) ∙ (ap is_some (sym (f b)) ∙ k)))
-    ∙ least_line_of-same (λ b. line_after b (s b) (found b)) (λ b. line_after b (s b) (block_in u b)) (λ b. ap (line_after b (s b)) (f b)) bs)
-    a
+    let all : drop i units ≡ u ∷ rest = drop_more units i d more ∙ ap (λ v. v ∷ rest) (sym at) in
+    let read : found ≡ block_in u = λ k b. f b k in
+    let next : t ≡ (λ b. with_block (found b) (s b)) = λ k b. h b k in
+    let there = e bs (λ b k. unit-among units i d more b (ap (λ v. is_some (block_in v b)) (sym at) ∙ (ap is_some (sym (f b)) ∙ k))) in
+    let here = λ (b : BlockName). line_after b (s b) (block_in u b) in
+    let later = λ (b : BlockName). least_after b (with_block (block_in u b) (s b)) rest in
+    rw (all, a, there, next, read) (least_line-assoc best (least_line_of here bs) (least_line_of later bs) ∙ ap (least_line best) (sym (least_line_of-both here later bs)))
 
 -- ---- one block less
 
 module _ (k : BlockName) (f g : BlockName → Option ℕ) (other : (b : BlockName) → g b ≡ (if same_block k b then None else f b)) where
   without : (bs : List BlockName) → least_line (f k) (least_line_of g bs) ≡ least_line (f k) (least_line_of f bs)
   without [] = refl
-  without (b ∷ bs) = by (same_block k b) refl (without bs)
-    where
-      swapped : (a c l : Option ℕ) → least_line a (least_line c l) ≡ least_line c (least_line a l)
-      swapped a c l = sym (least_line-assoc a c l) ∙ (ap (λ m. least_line m l) (least_line-comm a c) ∙ least_line-assoc c a l)
-
-      by : (t : Bool) → same_block k b ≡ t → least_line (f k) (least_line_of g bs) ≡ least_line (f k) (least_line_of f bs) → least_line (f k) (least_line (g b) (least_line_of g bs)) ≡ least_line (f k) (least_line (f b) (least_line_of f bs))
-      by true e h =
-          ap (λ l. least_line (f k) (least_line l (least_line_of g bs))) (other b ∙ ap (λ t. if t then None else f b) e)
-          ∙ (h
-          ∙ (ap (λ l. least_line l (least_line_of f bs)) (sym (least_line-self (f k)))
-          ∙ (least_line-assoc (f k) (f k) (least_line_of f bs) ∙ ap (λ c. least_line (f k) (least_line (f c) (least_line_of f bs))) (equal_blocks k b e))))
-      by false e h =
-          ap (λ l. least_line (f k) (least_line l (least_line_of g bs))) (other b ∙ ap (λ t. if t then None else f b) e)
-          ∙ (swapped (f k) (f b) (least_line_of g bs)
-          ∙ (ap (least_line (f b)) h ∙ swapped (f b) (f k) (least_line_of f bs)))
+  without (b ∷ bs) =
+      let fs = least_line_of f bs in
+      let gs = least_line_of g bs in
+      let again = ap (λ l. least_line l fs) (least_line-self (f k)) in
+      grind (arith, other b, without bs, equal_blocks k b, least_line-assoc (f k) (f k) fs, again, least_line-turned (f k) (f b) gs, least_line-turned (f k) (f b) fs)
 
   taken : (bs : List BlockName) → is_block_among k bs ≡ true → least_line (f k) (least_line_of g bs) ≡ least_line_of f bs
   taken bs h = without bs ∙ absorbed f k bs h
 
-module _ (k : BlockName) (o : Option Block) (s t : BlockName → Summed) (left fewer : BlockName → Option Block) (is : left k ≡ o)
-    (less : (b : BlockName) → fewer b ≡ (if same_block k b then None else left b))
-    (more : (b : BlockName) → t b ≡ (if same_block k b then with_block o (s k) else s b)) where
-  pub block-joined : (b : BlockName) → with_block (fewer b) (t b) ≡ with_block (left b) (s b)
-  block-joined b = by (same_block k b) refl
+module _ (k : BlockName) (s t : BlockName → Summed) (left fewer : BlockName → Option Block) (less : (b : BlockName) → fewer b ≡ (if same_block k b then None else left b))
+    (more : (b : BlockName) → t b ≡ (if same_block k b then with_block (left k) (s k) else s b)) where
+  block-joined : (b : BlockName) → with_block (fewer b) (t b) ≡ with_block (left b) (s b)
+  block-joined b = rw (less b, more b) (by (same_block k b) refl)
     where
-      by : (e : Bool) → same_block k b ≡ e → with_block (fewer b) (t b) ≡ with_block (left b) (s b)
-      by true e =
-          ap (λ o. with_block o (t b)) (less b ∙ ap (λ x. if x then None else left b) e)
-          ∙ (more b
-          ∙ (ap (λ x. if x then with_block o (s k) else s b) e
-          ∙ (ap (λ o. with_block o (s k)) (sym is) ∙ ap (λ d. with_block (left d) (s d)) (equal_blocks k b e))))
-      by false e =
-          ap (λ o. with_block o (t b)) (less b ∙ ap (λ x. if x then None else left b) e)
-          ∙ ap (with_block (left b)) (more b ∙ ap (λ x. if x then with_block o (s k) else s b) e)
+      by : (e : Bool) → same_block k b ≡ e → with_block (if e then None else left b) (if e then with_block (left k) (s k) else s b) ≡ with_block (left b) (s b)
+      by true e = ap (λ d. with_block (left d) (s d)) (equal_blocks k b e)
+      by false e = refl
 
-  pub block-among : (bs : List BlockName) → ((b : BlockName) → is_some (left b) ≡ true → is_block_among b bs ≡ true)
-      → (b : BlockName) → is_some (fewer b) ≡ true → is_block_among b bs ≡ true
-  block-among bs h b e = by (same_block k b) refl
-    where
-      by : (x : Bool) → same_block k b ≡ x → is_block_among b bs ≡ true
-      by true g = absurd (true≢false (sym e ∙ ap is_some (less b ∙ ap (λ x. if x then None else left b) g)))
-      by false g = h b (ap is_some (sym (less b ∙ ap (λ x. if x then None else left b) g)) ∙ e)
+  block-among : (bs : List BlockName) → AreAmong bs left → AreAmong bs fewer
+  block-among bs h b e = grind (arith, less b, h b)
 
   fewer-line : (b : BlockName) → line_after b (t b) (fewer b) ≡ (if same_block k b then None else line_after b (s b) (left b))
-  fewer-line b = by (same_block k b) refl
-    where
-      by : (e : Bool) → same_block k b ≡ e → line_after b (t b) (fewer b) ≡ (if e then None else line_after b (s b) (left b))
-      by true e = ap (line_after b (t b)) (less b ∙ ap (λ x. if x then None else left b) e)
-      by false e =
-          ap (line_after b (t b)) (less b ∙ ap (λ x. if x then None else left b) e)
-          ∙ ap (λ x. line_after b x (left b)) (more b ∙ ap (λ x. if x then with_block o (s k) else s b) e)
+  fewer-line b = grind (arith, less b, more b)
 
-  pub block-turn : (bs : List BlockName) (best line : Option ℕ) → ((b : BlockName) → is_some (left b) ≡ true → is_block_among b bs ≡ true) → line ≡ line_after k (s k) o
+  block-turn : (bs : List BlockName) (best line : Option ℕ) → AreAmong bs left → line ≡ line_after k (s k) (left k)
       → least_line (least_line best line) (least_of_left bs t fewer) ≡ least_line best (least_of_left bs s left)
   block-turn bs best line h e =
       least_line-assoc best line (least_of_left bs t fewer)
-      ∙ ap (least_line best)
-      (ap (λ l. least_line l (least_of_left bs t fewer)) (e ∙ ap (line_after k (s k)) (sym is)) ∙ there (left k) refl)
+      ∙ ap (least_line best) (ap (λ l. least_line l (least_of_left bs t fewer)) e ∙ there (left k) refl)
     where
       there : (l : Option Block) → left k ≡ l → least_line (line_after k (s k) (left k)) (least_of_left bs t fewer) ≡ least_of_left bs s left
       there None n =
@@ -120,8 +129,8 @@ module _ (k : BlockName) (o : Option Block) (s t : BlockName → Summed) (left f
       there (Some c) n = taken k (λ b. line_after b (s b) (left b)) (λ b. line_after b (t b) (fewer b)) fewer-line bs (h k (ap is_some n))
 
 -- no block is left
-pub none-left : (bs : List BlockName) (s : BlockName → Summed) (left : BlockName → Option Block) → ((b : BlockName) → left b ≡ None) → least_of_left bs s left ≡ None
-none-left bs s left h = least_line_of-same (λ b. line_after b (s b) (left b)) (λ b. None) (λ b. ap (line_after b (s b)) (h b)) bs ∙ least_line_of-nones bs
+none-left : (bs : List BlockName) (s : BlockName → Summed) (left : BlockName → Option Block) → ((b : BlockName) → left b ≡ None) → least_of_left bs s left ≡ None
+none-left bs s left h = (λ i. least_of_left bs s (λ b. h b i)) ∙ least_line_of-nones bs
 
 -- ---- the loop over the blocks of a unit
 
@@ -131,50 +140,38 @@ pub record Turned (s t : BlockName → Summed) (all left : BlockName → Option 
   pub among : (bs : List BlockName) → AreAmong bs all → AreAmong bs left
   pub line : (bs : List BlockName) → AreAmong bs all → least_line least (least_of_left bs t left) ≡ least_of_left bs s all
 
-pub turned-start : (s : BlockName → Summed) (all : BlockName → Option Block) → Turned s s all all None
-turned-start s all = record { joined = λ b. refl; among = λ bs h. h; line = λ bs h. refl }
+pub turned-start : {s : BlockName → Summed} {all : BlockName → Option Block} → Turned s s all all None
+turned-start = record { joined = λ b. refl; among = λ bs h. h; line = λ bs h. refl }
 
-pub turned-next : (s t next : BlockName → Summed) (all left fewer : BlockName → Option Block) (least line after : Option ℕ) (k : BlockName)
+pub turned-next : {s t next : BlockName → Summed} {all left fewer : BlockName → Option Block} {least line after : Option ℕ} (k : BlockName)
     → Turned s t all left least → ((b : BlockName) → fewer b ≡ (if same_block k b then None else left b))
     → ((b : BlockName) → next b ≡ (if same_block k b then with_block (left k) (t k) else t b)) → line ≡ line_after k (t k) (left k) → after ≡ least_line least line
     → Turned s next all fewer after
-turned-next s t next all left fewer least line after k h less more e a =
+turned-next {t = t} {next = next} {left = left} {fewer = fewer} {least = least} {line = line} k h less more e a =
     record {
-      joined = λ b. block-joined k (left k) t next left fewer refl less more b ∙ h.joined b;
-      among = λ bs m. block-among k (left k) t next left fewer refl less more bs (h.among bs m);
+      joined = λ b. block-joined k t next left fewer less more b ∙ h.joined b;
+      among = λ bs m. block-among k t next left fewer less more bs (h.among bs m);
       line = λ bs m.
           ap (λ l. least_line l (least_of_left bs next fewer)) a
-          ∙ (block-turn k (left k) t next left fewer refl less more bs least line (h.among bs m) e ∙ h.line bs m);
+          ∙ (block-turn k t next left fewer less more bs least line (h.among bs m) e ∙ h.line bs m);
     }
 
-pub turned-end : (s t : BlockName → Summed) (all left : BlockName → Option Block) (least : Option ℕ) → Turned s t all left least → ((b : BlockName) → left b ≡ None)
+pub turned-end : {s t : BlockName → Summed} {all left : BlockName → Option Block} {least : Option ℕ} → Turned s t all left least → ((b : BlockName) → left b ≡ None)
     → ((b : BlockName) → t b ≡ with_block (all b) (s b)) × ((bs : List BlockName) → AreAmong bs all → least ≡ least_of_left bs s all)
-turned-end s t all left least h none = (
+turned-end {t = t} {left = left} {least = least} h none = (
   λ b. ap (λ o. with_block o (t b)) (sym (none b)) ∙ h.joined b,
   λ bs m. sym (least_line-none least) ∙ (ap (least_line least) (sym (none-left bs t left none)) ∙ h.line bs m),
 )
 
 -- of a loop over names, those that are left have all blocks that are left
 pub among-next : (k : BlockName) (ks : List BlockName) (left fewer : BlockName → Option Block) → ((b : BlockName) → fewer b ≡ (if same_block k b then None else left b)) → AreAmong (k ∷ ks) left → AreAmong ks fewer
-among-next k ks left fewer less h b e = by (same_block k b) refl
-  where
-    other : same_block k b ≡ false → (t : Bool) → same_block b k ≡ t → (t || is_block_among b ks) ≡ true → is_block_among b ks ≡ true
-    other n true s m = absurd (true≢false (sym (block-self b) ∙ (ap (λ x. same_block x b) (equal_blocks b k s) ∙ n)))
-    other n false s m = m
-
-    by : (t : Bool) → same_block k b ≡ t → is_block_among b ks ≡ true
-    by true n = absurd (true≢false (sym e ∙ ap is_some (less b ∙ ap (λ x. if x then None else left b) n)))
-    by false n = other n (same_block b k) refl (h b (ap is_some (sym (less b ∙ ap (λ x. if x then None else left b) n)) ∙ e))
+among-next k ks left fewer less h b e = grind (arith, less b, h b, equal_blocks b k, block-self k)
 
 none-among : (left : BlockName → Option Block) → AreAmong [] left → (b : BlockName) → left b ≡ None
-none-among left h b = by (left b) refl
-  where
-    by : (o : Option Block) → left b ≡ o → left b ≡ None
-    by None n = n
-    by (Some c) n = absurd (true≢false (sym (h b (ap is_some n))))
+none-among left h b = grind (arith, h b)
 
 pub all-settled : (ks : List BlockName) (i : ℕ) (left : BlockName → Option Block) → length ks ≤ i → AreAmong (drop i ks) left → (b : BlockName) → left b ≡ None
 all-settled ks i left k h = none-among left (subst (λ js. AreAmong js left) (drop_all i ks k) h)
 
 pub left-same : (bs : List BlockName) (s t : BlockName → Summed) (left : BlockName → Option Block) → ((b : BlockName) → s b ≡ t b) → least_of_left bs s left ≡ least_of_left bs t left
-left-same bs s t left h = least_line_of-same (λ b. line_after b (s b) (left b)) (λ b. line_after b (t b) (left b)) (λ b. ap (λ x. line_after b x (left b)) (h b)) bs
+left-same bs s t left h = λ i. least_of_left bs (λ b. h b i) left

@@ -2,12 +2,7 @@
 use Rattle.std.specs.Prelude.{◌≡◌, ℕ, Bool, true, false, if◌then◌else◌, List, [], ◌++◌, map, Option, Some, None}
 use Rattle.std.specs.Option.{option_map, option_map_or}
 use Rattle.std.specs.List.{list_any}
-use Rattle.hep_source.specs.declared.declaration.CommonBlock.{CommonBlock}
-use Rattle.hep_source.specs.declared.name.Name.{Name}
-use Rattle.hep_source.specs.declared.statement.Statement.{Statement}
-use Rattle.hep_source.specs.Names.{is_among, same_name}
-use Rattle.hep_machine.specs.Data.{Repeated}
-use Rattle.hep_machine.specs.Declarations.{BlockName, same_block, block_of, common_block, entries_under, names_declared}
+use Rattle.hep_machine.specs.Words.{CommonBlock, Name, Statement, is_among, same_name, Repeated, BlockName, same_block, block_of, common_block, entries_under, names_declared}
 use Rattle.hep_check.specs.Common as conditions
 use Rattle.hep_check.specs.Known.{Known as Items}
 use Rattle.hep_storage.specs.declared.contents.Contents.{Contents}

@@ -2,11 +2,7 @@
 use Rattle.std.specs.Prelude.{◌≡◌, ℕ, Bool, if◌then◌else◌, List, ◌++◌, Option, Some, None}
 use Rattle.std.specs.Option.{option_eq, option_map}
 use Rattle.indexmap.specs.IndexMap.{IndexMap, get}
-use Rattle.hep_source.specs.declared.declaration.CommonBlock.{CommonBlock}
-use Rattle.hep_source.specs.declared.name.Name.{Name}
-use Rattle.hep_source.specs.declared.statement.Statement.{Statement}
-use Rattle.hep_source.specs.Names.{name_eq}
-use Rattle.hep_machine.specs.Declarations.{BlockName}
+use Rattle.hep_machine.specs.Words.{CommonBlock, Name, Statement, name_eq, BlockName}
 use Rattle.hep_storage.specs.Agreement.{Summed, nothing_summed, summed, AreAmong}
 use Rattle.hep_storage.specs.Blocks.{Block, block, Has, names_under, later_line}
 use Rattle.hep_storage.specs.declared.contents.Contents.{Contents}

@@ -1,8 +1,8 @@
 //! Condition 305: units have a common block otherwise (X3.9-1978, 8.3.3 to 8.3.5).
 ghost use Rattle.std.specs.Prelude.{◌≡◌, List, None, IfOk};
-ghost use Rattle.hep_machine.specs.Declarations.{BlockName, blocks_of};
+ghost use Rattle.hep_machine.specs.Words.{BlockName, blocks_of};
 ghost use Rattle.hep_check.specs.Common as conditions;
-ghost use Rattle.hep_check.specs.Violations.{first_of};
+ghost use Rattle.hep_check.specs.Words.{first_of};
 ghost use Rattle.hep_storage.specs.Agreement as agreement;
 ghost use Rattle.hep_storage.specs.Table.{block_at, summed_in, entry_at};
 

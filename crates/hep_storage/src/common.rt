@@ -1,6 +1,6 @@
 //! What the lists of a common block in several units have in common (X3.9-1978, 8.3).
 ghost use Rattle.std.specs.Prelude.{◌≡◌, false, []};
-ghost use Rattle.hep_machine.specs.Declarations.{is_nonempty};
+ghost use Rattle.hep_machine.specs.Words.{is_nonempty};
 ghost use Rattle.hep_runs.specs.Runs.{positions_in, IsPlace, front, rest};
 ghost use Rattle.hep_storage.specs.Shared.{departs, in_common, Compares};
 

@@ -2,10 +2,8 @@
 ghost use Rattle.std.specs.Prelude.{◌≡◌, ◌+◌, ◌++◌, ◌∷◌, [], List, Bool, true, false, not, ◌&&◌, ◌||◌, Option, Some, None, if◌then◌else◌, IfOk, OnOk, IfSome};
 ghost use Rattle.std.specs.Option.{option_eq, option_map, option_map_or, option_and_then};
 ghost use Rattle.indexmap.specs.IndexSet.{contains};
-ghost use Rattle.hep_source.specs.Names.{name_eq, same_name};
+ghost use Rattle.hep_machine.specs.Words.{name_eq, same_name, BlockName, same_block, names_declared, elements};
 ghost use Rattle.hep_source.specs.declared.name.Name.{Name as PureName};
-ghost use Rattle.hep_machine.specs.Declarations.{BlockName, same_block, names_declared};
-ghost use Rattle.hep_machine.specs.Shapes.{elements};
 ghost use Rattle.hep_storage.specs.Blocks as blocks;
 ghost use Rattle.hep_runs.specs.Runs.{positions_in};
 ghost use Rattle.hep_types.specs.Known.{known};

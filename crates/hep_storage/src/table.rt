@@ -3,7 +3,7 @@ ghost use Rattle.std.specs.Prelude.{◌≡◌, ℕ, List, [], true, false, None,
 ghost use Rattle.std.specs.Option.{option_map};
 ghost use Rattle.hep_source.specs.declared.name.Name.{Name as PureName};
 ghost use Rattle.hep_source.specs.declared.statement.Statement.{Statement as PureStatement};
-ghost use Rattle.hep_machine.specs.Declarations.{BlockName, same_block};
+ghost use Rattle.hep_machine.specs.Words.{BlockName, same_block};
 ghost use Rattle.hep_storage.specs.Agreement.{summed, nothing_summed, with_block, line_after};
 ghost use Rattle.hep_storage.specs.Blocks.{HasContents, Holds, block};
 ghost use Rattle.hep_storage.specs.Table.{contents_in, summed_in, block_at, entry_at};

@@ -1,10 +1,7 @@
 -- Declarators that give no dimensions are of no consequence for arrays.
 use Rattle.std.proofs.Common.{◌≡◌, Bool, true, false, ◌&&◌, if◌then◌else◌, Option, Some, List, [], ◌∷◌, refl, ap, sym, ◌∙◌}
 use Rattle.std.specs.List.{list_all}
-use Rattle.hep_source.specs.declared.declaration.Declarator.{Declarator}
-use Rattle.hep_source.specs.declared.name.Name.{Name}
-use Rattle.hep_source.specs.Names.{same_name}
-use Rattle.hep_machine.specs.Declarations.{declarator_among, is_nonempty}
+use Rattle.hep_machine.specs.Words.{Declarator, Name, same_name, declarator_among, is_nonempty}
 use Rattle.hep_symbols.specs.Tables.{arrays_among}
 
 pub among_arrays : (x : Name) (ds : List Declarator) → declarator_among x (arrays_among ds) ≡ declarator_among x ds

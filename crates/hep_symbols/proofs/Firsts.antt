@@ -2,8 +2,7 @@
 use Rattle.std.proofs.Common.{◌≡◌, ◌+◌, Option, List, ◌∷◌, ◌++◌, append_assoc, ap, sym, ◌∙◌}
 use Rattle.std.specs.List.{flat_map}
 use Rattle.hep_check.specs.declared.violation.Violation.{Violation}
-use Rattle.hep_check.specs.Violations.{Violations, first_of}
-use Rattle.hep_check.specs.Reported.{first_of_two}
+use Rattle.hep_check.specs.Words.{Violations, first_of, first_of_two}
 use Rattle.hep_check.proofs.First.{first_of-next, first_of-append}
 
 -- an iteration of a loop over elements, of which this one is next

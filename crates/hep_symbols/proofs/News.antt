@@ -1,12 +1,7 @@
 -- Names that are new, one after the other.
 use Rattle.std.proofs.Common.{◌≡◌, Bool, true, false, not, ◌&&◌, ◌||◌, Option, Some, None, is_some, if◌then◌else◌, List, [], ◌∷◌, ◌++◌, refl, ap, sym, ◌∙◌}
 use Rattle.std.specs.Option.{option_or}
-use Rattle.hep_source.specs.declared.declaration.Declarator.{Declarator}
-use Rattle.hep_source.specs.declared.name.Name.{Name}
-use Rattle.hep_source.specs.Names.{same_name, is_among}
-use Rattle.hep_machine.specs.Declarations.{BlockName, names_declared}
-use Rattle.hep_machine.specs.Declarations.{block_of, block_holding, entries_of_blocks}
-use Rattle.hep_source.specs.declared.declaration.CommonBlock.{CommonBlock}
+use Rattle.hep_machine.specs.Words.{Declarator, Name, same_name, is_among, BlockName, names_declared, block_of, block_holding, entries_of_blocks, CommonBlock}
 use Rattle.hep_symbols.specs.Tables.{are_new, by_name, by_declarators}
 use Rattle.hep_symbols.proofs.Notes.{or-assoc}
 use Rattle.hep_source.proofs.Tests.{and-true, or-turned}

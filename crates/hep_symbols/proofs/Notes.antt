@@ -1,14 +1,9 @@
 -- A name that a table gets where it has none of that name.
-use Rattle.std.proofs.Common.{◌≡◌, Bool, true, false, refl, ap, sym, ◌∙◌, true≢false, cond, if◌then◌else◌, Option, Some, None, is_some, List, [], ◌∷◌, length, ℕ}
+use Rattle.std.proofs.Common.{◌≡◌, Bool, true, false, refl, ap, sym, ◌∙◌, true≢false, cond, if◌then◌else◌, Option, Some, None, is_some, List, [], ◌∷◌, length, ℕ, ◌&&◌}
 use Rattle.std.specs.Option.{option_or}
-use Rattle.std.specs.Prelude.{◌&&◌}
 use Rattle.std.specs.Bool.{◌==◌}
 use Rattle.std.specs.Borrow.{Bor}
-use Rattle.hep_machine.specs.Declarations.{is_nonempty}
-use Rattle.hep_source.specs.declared.declaration.Declarator.{Declarator}
-use Rattle.hep_source.specs.declared.name.Name.{Name}
-use Rattle.hep_source.specs.Names.{same_name}
-use Rattle.hep_source.specs.Names.{name_eq}
+use Rattle.hep_machine.specs.Words.{is_nonempty, Declarator, Name, same_name, name_eq}
 use Rattle.hep_symbols.specs.Tables.{by_name, either, seen, given, by_declarator}
 use Rattle.hep_source.proofs.NameTests.{name_eq-is, equal_names, same_name-turned}
 

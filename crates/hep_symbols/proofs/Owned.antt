@@ -2,12 +2,7 @@
 use Rattle.std.proofs.Common.{◌≡◌, ℕ, suc, Bool, true, false, not, ◌&&◌, is_some, Option, Some, None, List, [], ◌∷◌, refl, ap, ◌∙◌, if◌then◌else◌}
 use Rattle.std.specs.List.{filter}
 use Rattle.std.specs.Option.{option_map}
-use Rattle.hep_source.specs.declared.name.Name.{Name}
-use Rattle.hep_source.specs.declared.statement.Statement.{Statement}
-use Rattle.hep_source.specs.Names.{same_name, is_among, index_among}
-use Rattle.hep_source.specs.Units.{dummies_of}
-use Rattle.hep_machine.specs.Declarations.{BlockName, common_block, is_constant_name}
-use Rattle.hep_machine.specs.Variables.{is_local, names_of, locals_of}
+use Rattle.hep_machine.specs.Words.{Name, Statement, same_name, is_among, index_among, dummies_of, BlockName, common_block, is_constant_name, is_local, names_of, locals_of}
 use Rattle.hep_symbols.specs.Tables.{is_local_by}
 
 some-index : (o : Option ℕ) → is_some (option_map suc o) ≡ is_some o

@@ -2,26 +2,12 @@
 use Rattle.std.proofs.Common.{◌≡◌, if◌then◌else◌, Option, Some, None, List, [], ◌∷◌, ◌++◌, append-nil, map, option_to_list, refl, ap, sym, ◌∙◌}
 use Rattle.std.specs.List.{flat_map}
 use Rattle.std.proofs.lemmas.Grind.{flat_map-append}
-use Rattle.hep_source.specs.Tree.{Tree}
-use Rattle.hep_source.specs.declared.declaration.CommonBlock.{CommonBlock}
-use Rattle.hep_source.specs.declared.declaration.DataGroup.{DataGroup}
-use Rattle.hep_source.specs.declared.declaration.DataValue.{DataValue}
-use Rattle.hep_source.specs.declared.declaration.Declarator.{Declarator}
-use Rattle.hep_source.specs.declared.declaration.Dimension.{Dimension}
-use Rattle.hep_source.specs.declared.declaration.NamedConstant.{NamedConstant}
-use Rattle.hep_source.specs.declared.declaration.Target.{Target}
-use Rattle.hep_source.specs.declared.declaration.UpperBound.{UpperBound}
+use Rattle.hep_machine.specs.Words.{Tree, CommonBlock, DataGroup, DataValue, Declarator, Dimension, NamedConstant, Target, UpperBound, Occurrence, Form, Subroutine, Declare, Common, Parameter, Data, Assign, ComputedGoTo, ArithmeticIf, IfThen, ElseIf, Do, Call, Create, Purge, Print, PrintItem, Statement, groups_in, declarators_in, constants_in, entries_of_blocks, is_nonempty}
 use Rattle.hep_source.specs.declared.declaration.UpperBound.TheVariants as bound
-use Rattle.hep_source.specs.declared.name.Occurrence.{Occurrence}
-use Rattle.hep_source.specs.declared.statement.Form.{Form}
-use Rattle.hep_source.specs.declared.statement.Form.TheVariants.{Subroutine, Declare, Dimension as Dimensions, Common, Parameter, Data, Assign, ComputedGoTo, ArithmeticIf, IfThen, ElseIf, Do, Call, Create, Purge, Print}
-use Rattle.hep_source.specs.declared.statement.PrintItem.{PrintItem}
+use Rattle.hep_source.specs.declared.statement.Form.TheVariants.{Dimension as Dimensions}
 use Rattle.hep_source.specs.declared.statement.PrintItem.TheVariants as item
-use Rattle.hep_source.specs.declared.statement.Statement.{Statement}
-use Rattle.hep_machine.specs.Data.{groups_in}
-use Rattle.hep_machine.specs.Declarations.{declarators_in, constants_in, entries_of_blocks, is_nonempty}
 use Rattle.hep_machine.specs.Variables as variables
-use Rattle.hep_check.specs.Statements.{trees_in_upper, trees_in_dimension, trees_in_declarator, trees_in_item, trees_in_form, trees_in_statement}
+use Rattle.hep_check.specs.Words.{trees_in_upper, trees_in_dimension, trees_in_declarator, trees_in_item, trees_in_form, trees_in_statement}
 use Rattle.hep_symbols.specs.Parts.{Part, parts_in_expression, parts_in_expressions, parts_in_name, parts_in_names, parts_in_dimension, parts_in_declarator, parts_in_block, parts_in_constant, parts_in_target, parts_in_value, parts_in_group, parts_in_item, parts_in_form, parts_of, tree_in, occurrences_in_part, name_before}
 
 -- ---- rows of rows

@@ -1,22 +1,13 @@
 -- Conditions of names, as one pass over a unit finds their violations.
-use Rattle.std.proofs.Common.{◌≡◌, ◌<◌, ◌≤◌, get_or, arith, ℕ, zero, suc, Bool, true, false, Option, Some, None, List, [], ◌∷◌, ◌++◌, length, append-nil, refl, ap, sym, ◌∙◌, if◌then◌else◌}
-use Rattle.std.specs.Prelude.{slice_get, MatchOption, IfSome}
+use Rattle.std.proofs.Common.{◌≡◌, ◌<◌, ◌≤◌, get_or, arith, ℕ, zero, suc, Bool, true, false, Option, Some, None, List, [], ◌∷◌, ◌++◌, length, append-nil, refl, ap, sym, ◌∙◌, if◌then◌else◌, slice_get, MatchOption, IfSome}
 use Rattle.std.specs.Bool.{◌==◌}
 use Rattle.std.specs.Borrow.{Bor}
 use Rattle.std.proofs.lemmas.Bool.Decides.{nat_tests}
 use Rattle.std.specs.Option.{option_map, unwrap_or, option_copied}
 use Rattle.std.specs.List.{flat_map}
-use Rattle.hep_source.specs.Names.{index_where, same_letters, letters_of}
-use Rattle.hep_source.specs.Tree.{Tree, trees_of}
-use Rattle.hep_source.specs.Units.{Units, unit_at, dummies_of, names_of_occurrences}
-use Rattle.hep_source.specs.declared.name.Occurrence.{Occurrence}
+use Rattle.hep_machine.specs.Words.{index_where, same_letters, letters_of, Tree, trees_of, Units, unit_at, dummies_of, names_of_occurrences, Occurrence, DataGroup, Form, Data, Assign, Purge, Statement}
 use Rattle.std.proofs.lemmas.List.{length-map}
-use Rattle.hep_source.specs.declared.declaration.DataGroup.{DataGroup}
-use Rattle.hep_source.specs.declared.statement.Form.{Form}
-use Rattle.hep_source.specs.declared.statement.Form.TheVariants.{Data, Assign, Purge}
-use Rattle.hep_source.specs.declared.statement.Statement.{Statement}
-use Rattle.hep_check.specs.Counts.{count_of, takes_actuals}
-use Rattle.hep_check.specs.Statements.{targets_assigned, targets_in_data, targets_purged, targets_of_groups}
+use Rattle.hep_check.specs.Words.{count_of, takes_actuals, targets_assigned, targets_in_data, targets_purged, targets_of_groups}
 use Rattle.std.proofs.lemmas.Grind.{flat_map-append}
 use Rattle.hep_symbols.specs.Passes.{takes_dummies, unknown_target, unknown_in_group, unknown_in_form}
 use Rattle.std.proofs.lemmas.Option.{get_or_from_slice_get}

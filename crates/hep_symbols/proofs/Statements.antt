@@ -1,18 +1,8 @@
 -- What statements say, one after the other.
-use Rattle.std.proofs.Common.{◌≡◌, ℕ, suc, ◌+◌, Bool, true, false, refl, ap, sym, ◌∙◌, if◌then◌else◌, List, [], ◌∷◌, ◌++◌, Some, arith, max, ◌≤◌}
+use Rattle.std.proofs.Common.{◌≡◌, ℕ, suc, ◌+◌, Bool, true, false, refl, ap, sym, ◌∙◌, if◌then◌else◌, List, [], ◌∷◌, ◌++◌, Some, arith, max, ◌≤◌, ◌&&◌, nat_le, nat_lt}
 use Rattle.std.specs.Option.{option_or, option_map}
 use Rattle.std.proofs.lemmas.List.Folds.{find-append}
-use Rattle.hep_source.specs.declared.declaration.CommonBlock.{CommonBlock}
-use Rattle.hep_source.specs.declared.name.Name.{Name}
-use Rattle.hep_source.specs.declared.name.Occurrence.{Occurrence}
-use Rattle.hep_source.specs.declared.statement.Form.{Form}
-use Rattle.hep_source.specs.declared.statement.Form.TheVariants.{Subroutine}
-use Rattle.hep_source.specs.declared.statement.Statement.{Statement}
-use Rattle.hep_source.specs.declared.declaration.NamedConstant.{NamedConstant}
-use Rattle.hep_source.specs.Names.{same_name, is_among, index_among}
-use Rattle.hep_source.specs.Units.{Units, is_named, subroutine_name, subroutine_called, names_of_occurrences, dummies_by_header, dummies_of}
-use Rattle.hep_machine.specs.Declarations.{block_of, blocks_in, blocks_of_unit, block_holding, common_block, names_declared, named_constants, names_of_constants, constants_in, is_constant_name, declarator_among, declarators_in, declarators_of}
-use Rattle.std.specs.Prelude.{◌&&◌, nat_le, nat_lt}
+use Rattle.hep_machine.specs.Words.{CommonBlock, Name, Occurrence, Form, Subroutine, Statement, NamedConstant, same_name, is_among, index_among, Units, is_named, subroutine_name, subroutine_called, names_of_occurrences, dummies_by_header, dummies_of, block_of, blocks_in, blocks_of_unit, block_holding, common_block, names_declared, named_constants, names_of_constants, constants_in, is_constant_name, declarator_among, declarators_in, declarators_of}
 use Rattle.std.proofs.lemmas.Bool.Decides.{nat_tests}
 use Rattle.hep_symbols.specs.Tables.{either, first_in, any_in, index_from, called_from, given, dummies_in, dummies_by_form, block_by_form, constant_by_form, declarator_by_form}
 

@@ -3,16 +3,9 @@ use Rattle.std.proofs.Common.{◌≡◌, ℕ, Bool, true, false, not, if◌then�
 use Rattle.std.specs.List.{flat_map, list_all}
 use Rattle.std.specs.Option.{is_none}
 use Rattle.std.proofs.lemmas.Bool.{and_parts}
-use Rattle.hep_source.specs.declared.name.Name.{Name}
-use Rattle.hep_source.specs.declared.name.Occurrence.{Occurrence}
-use Rattle.hep_source.specs.declared.statement.Statement.{Statement}
-use Rattle.hep_source.specs.Names.{same_name, is_among, with_name, with_names}
-use Rattle.hep_source.specs.Units.{names_of_occurrences}
+use Rattle.hep_machine.specs.Words.{Name, Occurrence, Statement, same_name, is_among, with_name, with_names, names_of_occurrences, type_of, occurrences_in_statement, occurrences_of, names_of}
 use Rattle.hep_source.proofs.NameTests.{equal_names}
-use Rattle.hep_machine.specs.Declarations.{type_of}
-use Rattle.hep_machine.specs.Variables.{occurrences_in_statement, occurrences_of, names_of}
-use Rattle.hep_check.specs.Names.{untyped_in, type_missing_violations}
-use Rattle.hep_check.specs.Violations.{when, at_occurrence}
+use Rattle.hep_check.specs.Words.{untyped_in, type_missing_violations, when, at_occurrence}
 use Rattle.hep_symbols.specs.Passes.{untyped, is_typed}
 
 -- ---- a test that all names of a list pass, each once

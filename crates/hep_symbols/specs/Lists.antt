@@ -1,6 +1,6 @@
 -- Names with lists, as contracts see them.
-use Rattle.hep_source.specs.Tree.{trees_of}
-use Rattle.hep_check.specs.Statements.{NameWithList}
+use Rattle.hep_machine.specs.Words.{trees_of}
+use Rattle.hep_check.specs.Words.{NameWithList}
 use Rattle.hep_symbols.specs.declared.lists.NameWithList.{NameWithList as Reference}
 
 -- a name with a list that lies in memory

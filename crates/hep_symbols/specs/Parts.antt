@@ -1,22 +1,9 @@
 -- The parts of a statement, in the order of its text: X3.9-1978, sections 6, 8 to 11, 12.8 and 15.
 use Rattle.std.specs.Prelude.{List, [], ◌∷◌, ◌++◌, option_to_list}
 use Rattle.std.specs.List.{flat_map}
-use Rattle.hep_source.specs.Tree.{Tree}
-use Rattle.hep_source.specs.declared.declaration.CommonBlock.{CommonBlock}
-use Rattle.hep_source.specs.declared.declaration.DataGroup.{DataGroup}
-use Rattle.hep_source.specs.declared.declaration.DataValue.{DataValue}
-use Rattle.hep_source.specs.declared.declaration.Declarator.{Declarator}
-use Rattle.hep_source.specs.declared.declaration.Dimension.{Dimension}
-use Rattle.hep_source.specs.declared.declaration.NamedConstant.{NamedConstant}
-use Rattle.hep_source.specs.declared.declaration.Target.{Target}
-use Rattle.hep_source.specs.declared.name.Occurrence.{Occurrence}
-use Rattle.hep_source.specs.declared.statement.DoControl.{DoControl}
-use Rattle.hep_source.specs.declared.statement.Form.{Form}
+use Rattle.hep_machine.specs.Words.{Tree, CommonBlock, DataGroup, DataValue, Declarator, Dimension, NamedConstant, Target, Occurrence, DoControl, Form, PrintItem, Statement, array_occurrence, occurrences_in, occurrences_in_data_value}
 use Rattle.hep_source.specs.declared.statement.Form.TheVariants as form
-use Rattle.hep_source.specs.declared.statement.PrintItem.{PrintItem}
-use Rattle.hep_source.specs.declared.statement.Statement.{Statement}
-use Rattle.hep_machine.specs.Variables.{array_occurrence, occurrences_in, occurrences_in_data_value}
-use Rattle.hep_check.specs.Statements.{trees_in_dimension, trees_in_item}
+use Rattle.hep_check.specs.Words.{trees_in_dimension, trees_in_item}
 use Rattle.hep_symbols.specs.declared.parts.Part.{Part as Reference}
 use Rattle.hep_symbols.specs.declared.parts.Part.TheVariants as reference
 

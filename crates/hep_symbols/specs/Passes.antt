@@ -2,20 +2,9 @@
 use Rattle.std.specs.Prelude.{ℕ, Bool, true, not, ◌&&◌, nat_eq, List, [], ◌++◌, length, Option, Some, None, is_none}
 use Rattle.std.specs.List.{flat_map, list_all}
 use Rattle.std.specs.Option.{option_map}
-use Rattle.hep_source.specs.Units.{Units, unit_at, subroutine_called, dummies_of}
-use Rattle.hep_source.specs.declared.declaration.DataGroup.{DataGroup}
-use Rattle.hep_source.specs.declared.declaration.Target.{Target}
-use Rattle.hep_source.specs.declared.name.Name.{Name}
-use Rattle.hep_source.specs.declared.name.Occurrence.{Occurrence}
-use Rattle.hep_source.specs.declared.statement.Form.{Form}
+use Rattle.hep_machine.specs.Words.{Units, unit_at, subroutine_called, dummies_of, DataGroup, Target, Name, Occurrence, Form, Statement, type_of, is_array, is_nonempty, listed_meaning}
 use Rattle.hep_source.specs.declared.statement.Form.TheVariants as form
-use Rattle.hep_source.specs.declared.statement.Statement.{Statement}
-use Rattle.hep_machine.specs.Declarations.{type_of, is_array, is_nonempty}
-use Rattle.hep_machine.specs.Functions.{listed_meaning}
-use Rattle.hep_check.specs.Counts.{is_counted, is_call_counted}
-use Rattle.hep_check.specs.Names.{is_unknown, unknown_subroutines, unknown_references, unknown_targets}
-use Rattle.hep_check.specs.Statements.{NameWithList, names_with_lists, calls_in}
-use Rattle.hep_check.specs.Violations.{Violations, when, at_occurrence}
+use Rattle.hep_check.specs.Words.{is_counted, is_call_counted, is_unknown, unknown_subroutines, unknown_references, unknown_targets, NameWithList, names_with_lists, calls_in, Violations, when, at_occurrence}
 
 -- ---- 301
 

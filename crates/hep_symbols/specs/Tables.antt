@@ -3,17 +3,7 @@ use Rattle.std.specs.Prelude.{◌≡◌, ◌<◌, get_or, ℕ, ◌+◌, Bool, tr
 use Rattle.std.specs.Borrow.{Bor}
 use Rattle.std.specs.List.{filter, flat_map}
 use Rattle.std.specs.Option.{option_or}
-use Rattle.hep_source.specs.declared.declaration.Declarator.{Declarator}
-use Rattle.hep_source.specs.declared.name.Name.{Name}
-use Rattle.hep_source.specs.declared.name.Occurrence.{Occurrence}
-use Rattle.hep_source.specs.declared.statement.Form.{Form}
-use Rattle.hep_source.specs.declared.statement.Form.TheVariants.{Subroutine}
-use Rattle.hep_source.specs.declared.statement.Statement.{Statement}
-use Rattle.hep_source.specs.Names.{same_name, is_among, index_among}
-use Rattle.hep_source.specs.Units.{Units, dummies_of, is_named, subroutine_name}
-use Rattle.hep_source.specs.declared.declaration.ValueType.{ValueType}
-use Rattle.hep_machine.specs.Variables.{names_of, locals_of}
-use Rattle.hep_machine.specs.Declarations.{declared_type, implicit_type, common_block, is_constant_name, BlockName, names_declared, block_holding, blocks_in, entries_of_blocks, names_of_constants, is_nonempty, constants_in, declarator_among, declarators_in}
+use Rattle.hep_machine.specs.Words.{Declarator, Name, Occurrence, Form, Subroutine, Statement, same_name, is_among, index_among, Units, dummies_of, is_named, subroutine_name, ValueType, names_of, locals_of, declared_type, implicit_type, common_block, is_constant_name, BlockName, names_declared, block_holding, blocks_in, entries_of_blocks, names_of_constants, is_nonempty, constants_in, declarator_among, declarators_in}
 
 abbrev pub either : Bool → Bool → Bool
 either a b = if a then true else b

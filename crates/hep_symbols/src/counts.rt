@@ -4,7 +4,7 @@ ghost use Rattle.std.specs.List.{list_all};
 ghost use Rattle.hep_check.specs.Counts as conditions;
 ghost use Rattle.hep_check.specs.Statements as statements;
 ghost use Rattle.hep_check.specs.Reported as reported;
-ghost use Rattle.hep_check.specs.Violations.{first_of};
+ghost use Rattle.hep_check.specs.Words.{first_of};
 ghost use Rattle.hep_symbols.specs.Meanings.{meaning};
 ghost use Rattle.hep_symbols.specs.Lists.{listed};
 ghost use Rattle.hep_symbols.specs.Passes as passes;

@@ -1,8 +1,7 @@
 //! The names with lists in a statement.
 ghost use Rattle.std.specs.Prelude.{◌≡◌, ◌++◌, [], false, map, IfOk, OnOk};
 ghost use Rattle.std.specs.List.{flat_map};
-ghost use Rattle.hep_source.specs.Tree.{trees_of};
-ghost use Rattle.hep_machine.specs.Declarations.{entries_of_blocks};
+ghost use Rattle.hep_machine.specs.Words.{trees_of, entries_of_blocks};
 ghost use Rattle.hep_check.specs.Statements as statements;
 ghost use Rattle.hep_symbols.specs.Lists.{listed};
 

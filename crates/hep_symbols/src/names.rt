@@ -3,8 +3,7 @@ ghost use Rattle.std.specs.Prelude.{◌≡◌, IfOk, OnOk};
 ghost use Rattle.std.specs.List.{filter};
 ghost use Rattle.indexmap.specs.IndexMap.{get};
 ghost use Rattle.indexmap.specs.IndexSet.{contains};
-ghost use Rattle.hep_source.specs.Names.{name_eq, with_name, with_names};
-ghost use Rattle.hep_source.specs.Units.{names_of_occurrences};
+ghost use Rattle.hep_machine.specs.Words.{name_eq, with_name, with_names, names_of_occurrences};
 ghost use Rattle.hep_machine.specs.Variables as variables;
 ghost use Rattle.hep_symbols.specs.Tables as tables;
 

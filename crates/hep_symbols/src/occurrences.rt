@@ -1,7 +1,7 @@
 //! Where a statement names variables and constants, in the order of its text.
 ghost use Rattle.std.specs.Prelude.{◌≡◌, ◌++◌, map, IfOk, OnOk};
 ghost use Rattle.std.specs.List.{flat_map};
-ghost use Rattle.hep_source.specs.Tree.{trees_of};
+ghost use Rattle.hep_machine.specs.Words.{trees_of};
 ghost use Rattle.hep_machine.specs.Variables as variables;
 ghost use Rattle.hep_check.specs.Statements as statements;
 ghost use Rattle.hep_symbols.specs.Parts as rows;

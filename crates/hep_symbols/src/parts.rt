@@ -1,7 +1,7 @@
 //! The parts of a statement: its expressions, and what it names beside them, in the order of its text.
 ghost use Rattle.std.specs.Prelude.{◌≡◌, ◌++◌, map, option_to_list, IfOk, OnOk};
 ghost use Rattle.std.specs.List.{flat_map};
-ghost use Rattle.hep_check.specs.Statements.{targets_of_groups};
+ghost use Rattle.hep_check.specs.Words.{targets_of_groups};
 ghost use Rattle.hep_symbols.specs.Parts as rows;
 
 use hep_source::{

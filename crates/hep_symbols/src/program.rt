@@ -5,7 +5,7 @@ ghost use Rattle.indexmap.specs.IndexMap.{get};
 ghost use Rattle.hep_source.specs.Units as units;
 ghost use Rattle.hep_source.specs.declared.name.Name.{Name as PureName};
 ghost use Rattle.hep_symbols.specs.Tables as tables;
-ghost use Rattle.hep_source.specs.Names.{name_eq};
+ghost use Rattle.hep_machine.specs.Words.{name_eq};
 
 use crate::symbols::Symbols;
 use crate::table::note;

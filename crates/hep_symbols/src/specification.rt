@@ -10,7 +10,7 @@ ghost use Rattle.hep_source.specs.declared.name.Name.{Name as PureName};
 ghost use Rattle.hep_machine.specs.Declarations as declarations;
 ghost use Rattle.hep_symbols.specs.Statements.{rest_after};
 ghost use Rattle.hep_symbols.specs.Tables as tables;
-ghost use Rattle.hep_source.specs.Names.{name_eq};
+ghost use Rattle.hep_machine.specs.Words.{name_eq};
 
 use crate::declarators::{array_declarators, block_of, blocks_in};
 use crate::table::{NameSet, Table, add, note, note_first};

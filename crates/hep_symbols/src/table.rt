@@ -3,9 +3,8 @@ ghost use Rattle.std.specs.Prelude.{◌≡◌, not, is_some, IfOk, OnOk};
 ghost use Rattle.std.specs.Option.{option_or};
 ghost use Rattle.indexmap.specs.IndexMap.{get};
 ghost use Rattle.indexmap.specs.IndexSet.{contains};
-ghost use Rattle.hep_source.specs.Names.{same_name};
+ghost use Rattle.hep_machine.specs.Words.{same_name, name_eq};
 ghost use Rattle.hep_source.specs.declared.name.Name.{Name as PureName};
-ghost use Rattle.hep_source.specs.Names.{name_eq};
 ghost use Rattle.hep_symbols.specs.Tables.{by_name, either};
 
 use hep_source::Name;

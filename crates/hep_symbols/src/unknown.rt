@@ -2,7 +2,7 @@
 ghost use Rattle.std.specs.Prelude.{◌≡◌, ◌++◌, map, IfOk};
 ghost use Rattle.std.specs.List.{flat_map};
 ghost use Rattle.hep_check.specs.Names as conditions;
-ghost use Rattle.hep_check.specs.Violations.{first_of};
+ghost use Rattle.hep_check.specs.Words.{first_of};
 ghost use Rattle.hep_symbols.specs.Lists.{listed};
 ghost use Rattle.hep_symbols.specs.Passes as passes;
 

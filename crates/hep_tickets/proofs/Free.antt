@@ -3,7 +3,7 @@ use Rattle.std.proofs.Common.{◌≡◌, ℕ, ◌+◌, ◌<◌, ◌≤◌, Bool,
 use Rattle.std.specs.List.{filter}
 use Rattle.std.proofs.lemmas.Bool.{cases_Bool, cases_lt, le-ltb, lt-ltb}
 use Rattle.std.proofs.lemmas.Option.{same_Some}
-use Rattle.hep_machine.specs.Schedules.{first_above}
+use Rattle.hep_machine.specs.Words.{first_above}
 use Rattle.hep_ready.specs.Numbers.{AreRising}
 
 -- it is above, and one of them

@@ -1,11 +1,8 @@
 -- A process that isn't chosen lives on.
-use Rattle.std.proofs.Common.{◌≡◌, ◌≢◌, ℕ, zero, suc, ◌++◌, ◌∷◌, [], Bool, true, false, Option, None, Some, Result, Ok, Err, inl, inr, refl, sym, ap, ◌∙◌}
-use Rattle.std.specs.Prelude.{is_some}
+use Rattle.std.proofs.Common.{◌≡◌, ◌≢◌, ℕ, zero, suc, ◌++◌, ◌∷◌, [], Bool, true, false, Option, None, Some, Result, Ok, Err, inl, inr, refl, sym, ap, ◌∙◌, is_some}
 use Rattle.hep_listed.proofs.Living.{living-within}
 use Rattle.hep_machine.proofs.Others.{others_stay}
-use Rattle.hep_machine.specs.Processes.{living, top_of}
-use Rattle.hep_machine.specs.Run.{run, state_after}
-use Rattle.hep_machine.specs.State.{State}
+use Rattle.hep_machine.specs.Words.{living, top_of, run, state_after, State}
 use Rattle.hep_scheduler.proofs.Histories.{schedule-waited, state-is, state-stepped}
 use Rattle.hep_scheduler.specs.declared.fault.ChooseFault.{ChooseFault}
 use Rattle.hep_scheduler.specs.declared.fault.ChooseFault.TheVariants.{NoMemory, NoSuchProcess, Stopped}

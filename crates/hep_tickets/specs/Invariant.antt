@@ -1,6 +1,6 @@
 -- What a shared core keeps, and what is seen of it: docs/ARCHITECTURE.md, "Forms".
 use Rattle.std.specs.Prelude.{◌≡◌, ◌≢◌, ℕ, true, List, None}
-use Rattle.hep_machine.specs.Processes.{living}
+use Rattle.hep_machine.specs.Words.{living}
 use Rattle.hep_scheduler.specs.Value.{CoreValue, state_of}
 use Rattle.hep_tickets.specs.declared.ticket.TicketId.{TicketId}
 use Rattle.hep_tickets.specs.declared.shared.SharedCore.TheInside.{Inside}

@@ -1,8 +1,7 @@
 -- What a shared core is to its callers, and what each call makes of it: docs/MACHINE.md, "Workers".
 use Rattle.std.specs.Prelude.{◌≡◌, ◌≢◌, ◌⊎◌, ℕ, ◌+◌, ◌<◌, true, false, not, List, [], ◌∷◌, ◌++◌, Option, Some, None, Result, Ok, Err, length}
 use Rattle.std.specs.List.{filter}
-use Rattle.hep_machine.specs.Processes.{living}
-use Rattle.hep_machine.specs.Schedules.{last_process, next_of_ready}
+use Rattle.hep_machine.specs.Words.{living, last_process, next_of_ready}
 use Rattle.hep_scheduler.specs.Value.{CoreValue, HasNoStop, IsChoice, ready_of, state_of}
 use Rattle.hep_scheduler.specs.declared.fault.ChooseFault.TheVariants as choosing
 use Rattle.hep_scheduler.specs.declared.stop.Stop.TheVariants.{StepLimit}

@@ -1,6 +1,6 @@
 //! The shared core.
 ghost use Rattle.std.specs.Prelude.{◌≡◌, [], None};
-ghost use Rattle.hep_machine.specs.Schedules.{first_above};
+ghost use Rattle.hep_machine.specs.Words.{first_above};
 ghost use Rattle.hep_tickets.specs.Tickets.{has_ticket, is_out, without_process};
 ghost use Rattle.hep_tickets.specs.Shared.{IsCancelled, IsCheckedOut, IsChosen, IsCommitted, free_of, next_free_of};
 

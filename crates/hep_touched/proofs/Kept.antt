@@ -1,36 +1,26 @@
 -- The storage unit that the next step may fill or empty is kept in the cell that the operation ahead may fill or empty.
 use Rattle.std.proofs.Common.{◌≡◌, ℕ, Bool, true, false, List, ◌∷◌, drop, length, Option, Some, Result, Ok, Err, refl, ap, sym, ◌∙◌, subst}
 use Rattle.std.proofs.Math.Seq.{drop-append_seam}
-use Rattle.hep_source.specs.declared.function.StateFunction.{StateFunction}
-use Rattle.hep_source.specs.declared.function.StateFunction.TheVariants.{IsFull, IsEmpty, ValueOf, SetEmpty, WaitFull}
-use Rattle.hep_source.specs.declared.name.Name.{Name}
-use Rattle.hep_source.specs.declared.value.Value.{Value}
-use Rattle.hep_source.specs.Units.{Units, line_at}
+use Rattle.hep_machine.specs.Words.{StateFunction, IsFull, IsEmpty, ValueOf, SetEmpty, WaitFull, Name, Value, Units, line_at, Next, Redex, assigning, does, next_of, testing, wants, Frame, Layout, Scope, location_of_name, Location, Top, scope_of, unit_on_top}
 use Rattle.hep_machine.specs.declared.event.Kind.{Kind}
 use Rattle.hep_machine.specs.declared.slot.Slot.{Slot}
-use Rattle.hep_machine.specs.Evaluation.{Next, Redex, assigning, does, next_of, reading, testing, wants}
-use Rattle.hep_machine.specs.Layout.{Frame, Layout}
-use Rattle.hep_machine.specs.Locations.{Scope, location_of_name}
-use Rattle.hep_machine.specs.State.{Location}
-use Rattle.hep_machine.specs.Step.{Top, scope_of, unit_on_top}
+use Rattle.hep_machine.specs.Evaluation.{reading}
 use Rattle.hep_arena.specs.Holes.{Hole}
 use Rattle.hep_code.specs.declared.instruction.Instruction.{Instruction}
 use Rattle.hep_code.specs.declared.instruction.Instruction.TheVariants.{Step}
 use Rattle.hep_code.specs.declared.instruction.Operation.{Operation}
 use Rattle.hep_code.specs.declared.instruction.Operation.TheVariants.{Evaluate}
 use Rattle.hep_code.specs.declared.variable.Variable.{Variable}
-use Rattle.hep_code.specs.Actions.{evaluation_of, operands_of_redex}
-use Rattle.hep_code.specs.Ahead.{IsNext, IsPastPushes, IsRedex}
-use Rattle.hep_code.specs.Replies.{Addressing, IsAddressed, IsSame, is_asynchronous}
+use Rattle.hep_code.specs.Words.{evaluation_of, operands_of_redex, IsNext, IsPastPushes, IsRedex, Addressing, IsAddressed, IsSame, is_asynchronous}
 use Rattle.hep_code.proofs.Ahead.{step_is_ahead}
-use Rattle.hep_frames.specs.Addresses.{address}
+use Rattle.hep_frames.specs.Words.{address}
 use Rattle.hep_image.specs.Finding.{address_of, cells_in}
 use Rattle.hep_image.specs.Places.{variable_of}
 use Rattle.hep_needs.specs.Needs.{if_so, named_location, touched_by, touched_by_next}
 use Rattle.hep_needs.specs.Needs as needs
 use Rattle.hep_step.specs.Ready.{last_operands}
 use Rattle.hep_step.specs.Simulation.{IsRunning, addressed_on_top, arrays_on_top, code_on_top, variable_in}
-use Rattle.hep_step.proofs.Evaluations.{arity_is, in_front}
+use Rattle.hep_step.proofs.Replied.{arity_is, in_front}
 use Rattle.hep_step.proofs.Running.{next_is}
 use Rattle.hep_touched.specs.Touched.{found_cell, touched_ahead, touched_at, touched_by_evaluation, touched_by_operation, touched_by_test}
 use Rattle.hep_touched.proofs.Next.{touched_is}

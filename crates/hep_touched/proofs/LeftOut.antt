@@ -1,22 +1,14 @@
 -- CALL, CREATE and PURGE: they never wait, CALL and CREATE touch nothing, and each PURGE stands ahead.
 use Rattle.std.proofs.Common.{◌≡◌, ℕ, true, List, ◌∷◌, drop, length, None, Result, Ok, Err, refl, ap, sym, ◌∙◌}
-use Rattle.hep_source.specs.declared.value.Value.{Value}
-use Rattle.hep_source.specs.Units.{Units}
+use Rattle.hep_machine.specs.Words.{Value, Units, Binding, Next, assigning, calling, creating, does, next_of, purging, wants, is_purge, purges, Frame, Layout, Store, Top, binding_of, result_after_call, result_after_create, result_after_purge, scope_of, store_after_purge, unit_called, unit_on_top, wanted_by, wanted_of}
 use Rattle.hep_machine.specs.declared.event.Kind.{Kind}
 use Rattle.hep_machine.specs.declared.slot.Slot.{Slot}
-use Rattle.hep_machine.specs.Binding.{Binding}
-use Rattle.hep_machine.specs.Evaluation.{Next, assigning, calling, creating, does, next_of, purging, wants}
-use Rattle.hep_machine.specs.Laws.{is_purge, purges}
-use Rattle.hep_machine.specs.Layout.{Frame, Layout}
-use Rattle.hep_machine.specs.State.{Store}
-use Rattle.hep_machine.specs.Step.{Top, binding_of, result_after_call, result_after_create, result_after_purge, scope_of, store_after_purge, unit_called, unit_on_top, wanted_by, wanted_of}
 use Rattle.hep_arena.specs.Holes.{Hole}
 use Rattle.hep_code.specs.declared.instruction.Instruction.{Instruction}
 use Rattle.hep_code.specs.declared.instruction.Instruction.TheVariants.{Step}
 use Rattle.hep_code.specs.declared.instruction.Operation.{Operation}
 use Rattle.hep_code.specs.declared.instruction.Operation.TheVariants.{Purge}
-use Rattle.hep_code.specs.Ahead.{IsNext}
-use Rattle.hep_code.specs.UnitCode.{table_of}
+use Rattle.hep_code.specs.Words.{IsNext, table_of}
 use Rattle.hep_needs.specs.Needs.{touched_by, touched_by_next}
 use Rattle.hep_step.specs.Simulation.{IsRunning, addressed_on_top, code_on_top, is_left_out}
 use Rattle.hep_step.proofs.Running.{action_made, next_is}

@@ -1,12 +1,7 @@
 -- What the next step of an activation that runs touches, and whether it is a PURGE, by what comes next of its statement.
 use Rattle.std.proofs.Common.{◌≡◌, ℕ, List, ap}
-use Rattle.hep_source.specs.declared.value.Value.{Value}
-use Rattle.hep_source.specs.Units.{Units}
+use Rattle.hep_machine.specs.Words.{Value, Units, next_of, is_purge, purges, top_purges, Frame, Layout, Top, scope_of, unit_on_top}
 use Rattle.hep_machine.specs.declared.slot.Slot.{Slot}
-use Rattle.hep_machine.specs.Evaluation.{next_of}
-use Rattle.hep_machine.specs.Laws.{is_purge, purges, top_purges}
-use Rattle.hep_machine.specs.Layout.{Frame, Layout}
-use Rattle.hep_machine.specs.Step.{Top, scope_of, unit_on_top}
 use Rattle.hep_arena.specs.Holes.{Hole}
 use Rattle.hep_needs.specs.Needs.{on_top, touched_by, touched_by_next}
 use Rattle.hep_step.specs.Simulation.{IsRunning}

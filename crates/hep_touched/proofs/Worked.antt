@@ -1,8 +1,6 @@
 -- Worked cells that operations may fill or empty: a frame from cell 2 on, with I$(3) in its first three cells and N in the fourth.
 use Rattle.std.specs.Prelude.{◌≡◌, ℕ, pos, true, false, List, [], ◌∷◌, Option, Some, None, refl}
-use Rattle.hep_source.specs.declared.function.StateFunction.TheVariants.{IsFull, SetEmpty}
-use Rattle.hep_source.specs.declared.value.Value.{Value}
-use Rattle.hep_source.specs.declared.value.Value.TheVariants.{Int}
+use Rattle.hep_machine.specs.Words.{IsFull, SetEmpty, Value, Int}
 use Rattle.hep_code.specs.declared.instruction.Evaluation.TheVariants.{Load, Test}
 use Rattle.hep_code.specs.declared.instruction.Instruction.TheVariants.{Push, Step}
 use Rattle.hep_code.specs.declared.instruction.Operation.{Operation}

@@ -1,19 +1,14 @@
 //! Laws of what operations touch: it is what the source machine's step touches.
 ghost use Rattle.std.specs.Prelude.{◌≡◌, ◌∷◌, ℕ, true, List, Some, None, drop};
-ghost use Rattle.hep_source.specs.declared.value.Value.{Value};
-ghost use Rattle.hep_source.specs.Units.{Units};
+ghost use Rattle.hep_machine.specs.Words.{Value, Units, is_purge, Frame, Layout, Location, Top, wanted_by};
 ghost use Rattle.hep_machine.specs.declared.slot.Slot.{Slot};
-ghost use Rattle.hep_machine.specs.Laws.{is_purge};
-ghost use Rattle.hep_machine.specs.Layout.{Frame, Layout};
-ghost use Rattle.hep_machine.specs.State.{Location};
-ghost use Rattle.hep_machine.specs.Step.{Top, wanted_by};
 ghost use Rattle.hep_arena.specs.Holes.{Hole};
 ghost use Rattle.hep_code.specs.declared.instruction.Instruction.{Instruction};
 ghost use Rattle.hep_code.specs.declared.instruction.Instruction.TheVariants.{Step};
 ghost use Rattle.hep_code.specs.declared.instruction.Operation.{Operation};
 ghost use Rattle.hep_code.specs.declared.instruction.Operation.TheVariants.{Purge};
-ghost use Rattle.hep_code.specs.Ahead.{IsPastPushes};
-ghost use Rattle.hep_frames.specs.Addresses.{address};
+ghost use Rattle.hep_code.specs.Words.{IsPastPushes};
+ghost use Rattle.hep_frames.specs.Words.{address};
 ghost use Rattle.hep_needs.specs.Needs.{touched_by};
 ghost use Rattle.hep_step.specs.Simulation.{IsRunning, arrays_on_top, code_on_top, is_left_out};
 ghost use Rattle.hep_touched.specs.Touched.{touched_at};

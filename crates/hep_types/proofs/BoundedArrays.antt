@@ -1,9 +1,8 @@
 -- Declarators that give no dimensions have no bounds that could be wrong.
 use Rattle.std.proofs.Common.{◌≡◌, List, refl}
 use Rattle.std.specs.List.{list_all}
-use Rattle.hep_source.specs.declared.declaration.Declarator.{Declarator}
-use Rattle.hep_source.specs.declared.statement.Statement.{Statement}
-use Rattle.hep_check.specs.Constants.{Parameters, has_bounds}
+use Rattle.hep_machine.specs.Words.{Declarator, Statement}
+use Rattle.hep_check.specs.Words.{Parameters, has_bounds}
 use Rattle.hep_symbols.specs.Tables.{arrays_among}
 use Rattle.hep_symbols.proofs.ArraysAmong.{all_arrays}
 

@@ -4,16 +4,9 @@ use Rattle.std.specs.Bool.{◌==◌}
 use Rattle.std.specs.List.{list_all, list_any, flat_map}
 use Rattle.std.specs.Option.{option_map}
 use Rattle.std.proofs.lemmas.List.Folds.{list_any-append}
-use Rattle.hep_source.specs.declared.name.Name.{Name}
-use Rattle.hep_source.specs.Names.{same_name, is_among, index_among}
-use Rattle.hep_source.specs.declared.declaration.Declarator.{Declarator}
-use Rattle.hep_source.specs.declared.declaration.Dimension.{Dimension}
-use Rattle.hep_source.specs.declared.statement.Statement.{Statement}
-use Rattle.hep_machine.specs.Constants.{Constants, bounds_of, value_among}
-use Rattle.hep_machine.specs.Declarations.{is_nonempty, is_dummy}
-use Rattle.hep_check.specs.Constants.{Parameters, is_dimension, are_bounds_open, is_shape_if_known, has_bounds}
+use Rattle.hep_machine.specs.Words.{Name, same_name, is_among, index_among, Declarator, Dimension, Statement, Constants, bounds_of, value_among, is_nonempty, is_dummy, Bounds}
+use Rattle.hep_check.specs.Words.{Parameters, is_dimension, are_bounds_open, is_shape_if_known, has_bounds}
 use Rattle.hep_symbols.proofs.Notes.{not-empty}
-use Rattle.hep_machine.specs.Shapes.{Bounds}
 use Rattle.hep_source.proofs.Tests.{some-mapped}
 
 -- a name that has a position among others is one of them

@@ -1,14 +1,8 @@
 -- Shapes of names, declarator by declarator.
 use Rattle.std.proofs.Common.{◌≡◌, Bool, true, false, not, ◌&&◌, if◌then◌else◌, Option, Some, None, List, ◌∷◌, refl, ap, sym, ◌∙◌}
 use Rattle.std.specs.Option.{option_or, option_map}
-use Rattle.hep_source.specs.declared.declaration.Declarator.{Declarator}
-use Rattle.hep_source.specs.declared.name.Name.{Name}
-use Rattle.hep_source.specs.declared.statement.Statement.{Statement}
-use Rattle.hep_source.specs.Names.{same_name}
-use Rattle.hep_machine.specs.Constants.{value_among, bounds_of}
-use Rattle.hep_machine.specs.Declarations.{declarators_in, constants_in, declarator_among, is_nonempty}
-use Rattle.hep_machine.specs.Shapes.{Bounds}
-use Rattle.hep_check.specs.Constants.{Parameters, shape_by_declarator, known_shape_from, with_parameters, has_bounds, are_bounds_open}
+use Rattle.hep_machine.specs.Words.{Declarator, Name, Statement, same_name, value_among, bounds_of, declarators_in, constants_in, declarator_among, is_nonempty, Bounds}
+use Rattle.hep_check.specs.Words.{Parameters, shape_by_declarator, known_shape_from, with_parameters, has_bounds, are_bounds_open}
 use Rattle.hep_symbols.specs.Tables.{by_name, by_declarator, given}
 use Rattle.hep_source.proofs.NameTests.{same_name-turned}
 use Rattle.hep_types.specs.Shapes.{shape_or, shape_among}

@@ -1,9 +1,7 @@
 -- 302, as one pass over a unit tells it.
 use Rattle.std.proofs.Common.{◌≡◌, ℕ, Bool, not, Option, List, [], ◌∷◌, refl, ap, sym, ◌∙◌}
-use Rattle.hep_source.specs.declared.statement.Statement.{Statement}
-use Rattle.hep_check.specs.Constants.{Parameters, is_statement_typed, type_violations_from}
-use Rattle.hep_check.specs.Reported.{reported, least_line, line_when}
-use Rattle.hep_check.specs.Violations.{first_of, when, at_line}
+use Rattle.hep_machine.specs.Words.{Statement}
+use Rattle.hep_check.specs.Words.{Parameters, is_statement_typed, type_violations_from, reported, least_line, line_when, first_of, when, at_line}
 use Rattle.hep_check.proofs.Lines.{least_line-assoc, reported-append, reported-when}
 use Rattle.hep_types.specs.Passes.{parameters_after, least_untyped}
 

@@ -1,12 +1,8 @@
 -- Shapes of names, declarator by declarator.
 use Rattle.std.specs.Prelude.{List, [], Option, Some, None}
 use Rattle.std.specs.Option.{option_map}
-use Rattle.hep_source.specs.declared.declaration.Declarator.{Declarator}
-use Rattle.hep_source.specs.declared.name.Name.{Name}
-use Rattle.hep_source.specs.declared.statement.Statement.{Statement}
-use Rattle.hep_machine.specs.Declarations.{declarator_among}
-use Rattle.hep_machine.specs.Shapes.{Bounds}
-use Rattle.hep_check.specs.Constants.{Parameters}
+use Rattle.hep_machine.specs.Words.{Declarator, Name, Statement, declarator_among, Bounds}
+use Rattle.hep_check.specs.Words.{Parameters}
 use Rattle.hep_symbols.specs.Tables.{by_declarator}
 use Rattle.hep_types.specs.Bounds.{shape_given}
 

@@ -1,11 +1,8 @@
 -- Types of expressions, as one walk over a tree tells them, and DO variables.
 use Rattle.std.specs.Prelude.{Bool, true, ◌&&◌, List, map}
-use Rattle.hep_source.specs.Tree.{Tree, occurrence}
-use Rattle.hep_source.specs.declared.declaration.ValueType.{ValueType}
-use Rattle.hep_source.specs.declared.statement.Form.{Form}
+use Rattle.hep_machine.specs.Words.{Tree, occurrence, ValueType, Form, Statement}
 use Rattle.hep_source.specs.declared.statement.Form.TheVariants as form
-use Rattle.hep_source.specs.declared.statement.Statement.{Statement}
-use Rattle.hep_check.specs.Types.{KnownType, is_of, is_typed, is_plain_integer_scalar}
+use Rattle.hep_check.specs.Words.{KnownType, is_of, is_typed, is_plain_integer_scalar}
 
 -- right in itself, and of this type
 abbrev pub is_typed_by : Bool → ValueType → KnownType → Bool

@@ -6,13 +6,12 @@ ghost use Rattle.std.specs.Vec.{vec_items};
 ghost use Rattle.hep_source.specs.declared.name.Occurrence.{Occurrence as PureOccurrence};
 ghost use Rattle.hep_machine.specs.Arithmetic as arithmetic;
 ghost use Rattle.hep_machine.specs.Constants as values;
-ghost use Rattle.hep_machine.specs.Constants.{value_among};
-ghost use Rattle.hep_machine.specs.Declarations.{is_nonempty};
+ghost use Rattle.hep_machine.specs.Words.{value_among, is_nonempty};
 ghost use Rattle.hep_check.specs.Constants as conditions;
 ghost use Rattle.hep_check.specs.Statements as statements;
 ghost use Rattle.hep_types.specs.Bounds as walks;
 
-use crate::parameters::{Parameters, has_value};
+use crate::parameters::has_value;
 use crate::scope::Scope;
 use crate::types::is_typed_as;
 use crate::variables::{is_dummy, is_plain_integer_scalar};
@@ -67,7 +66,7 @@ fn is_bound(scope: &Scope, is_of_dummy: bool, expression: &Expr) -> Result<bool,
     ensures { IfOk result (λ is_bound. is_bound
         ≡ conditions.is_bound scope.now.symbols.now scope.now.parameters.now is_of_dummy expression.now) }
 {
-    let has_value = has_value(scope.alloc, scope.symbols, scope.parameters, expression)?;
+    let has_value = has_value(scope, expression)?;
     let is_adjusted = is_adjusted(scope, expression)?;
     Ok(
         is_typed_as(scope.symbols, ValueType::Integer, expression)
@@ -180,20 +179,10 @@ fn is_any_open(scope: &Scope, dimensions: &[Dimension]) -> Result<bool, AllocErr
 /// # Errors
 ///
 /// Only where memory was refused.
-pub fn are_bounds_open(
-    alloc: Global,
-    symbols: &Symbols,
-    parameters: &Parameters,
-    declarator: &Declarator,
-) -> Result<bool, AllocError>
-    ensures { IfOk result (λ are_open. are_open ≡ conditions.are_bounds_open symbols.now parameters.now declarator.now) }
+pub fn are_bounds_open(scope: &Scope, declarator: &Declarator) -> Result<bool, AllocError>
+    ensures { IfOk result (λ are_open. are_open ≡ conditions.are_bounds_open scope.now.symbols.now scope.now.parameters.now declarator.now) }
 {
-    let scope = Scope {
-        alloc,
-        symbols,
-        parameters,
-    };
-    is_any_open(&scope, declarator.dimensions.as_slice())
+    is_any_open(scope, declarator.dimensions.as_slice())
 }
 
 fn is_shape_if_known(bounds: &Option<Vec<Bound>>) -> bool
@@ -217,27 +206,22 @@ fn are_right(are_dimensions: bool, are_open: bool, is_shape: bool) -> bool
 /// # Errors
 ///
 /// Only where memory was refused.
-pub fn has_bounds(
-    alloc: Global,
-    symbols: &Symbols,
-    parameters: &Parameters,
-    declarator: &Declarator,
-) -> Result<bool, AllocError>
-    ensures { IfOk result (λ has_bounds. has_bounds ≡ conditions.has_bounds symbols.now parameters.now declarator.now) }
+pub fn has_bounds(scope: &Scope, declarator: &Declarator) -> Result<bool, AllocError>
+    ensures { IfOk result (λ has_bounds. has_bounds ≡ conditions.has_bounds scope.now.symbols.now scope.now.parameters.now declarator.now) }
 {
     let dimensions = declarator.dimensions.as_slice();
     if dimensions.is_empty() {
         return Ok(true);
     }
-    let is_of_dummy = is_dummy(symbols, &declarator.occurrence.name);
-    let scope = Scope {
-        alloc,
-        symbols,
-        parameters,
-    };
-    let are_dimensions = are_dimensions(&scope, is_of_dummy, dimensions)?;
-    let are_open = are_bounds_open(alloc, symbols, parameters, declarator)?;
-    let bounds = bounds_of(alloc, symbols, parameters.known(), dimensions)?;
+    let is_of_dummy = is_dummy(scope.symbols, &declarator.occurrence.name);
+    let are_dimensions = are_dimensions(scope, is_of_dummy, dimensions)?;
+    let are_open = are_bounds_open(scope, declarator)?;
+    let bounds = bounds_of(
+        scope.alloc,
+        scope.symbols,
+        scope.parameters.known(),
+        dimensions,
+    )?;
     Ok(are_right(are_dimensions, are_open, is_shape_if_known(&bounds)))
 }
 
@@ -247,19 +231,19 @@ pub fn has_bounds(
 /// # Errors
 ///
 /// Only where memory was refused.
-pub fn shape_given(
-    alloc: Global,
-    symbols: &Symbols,
-    parameters: &Parameters,
-    declarator: &Declarator,
-) -> Result<Option<Shape>, AllocError>
+pub fn shape_given(scope: &Scope, declarator: &Declarator) -> Result<Option<Shape>, AllocError>
     ensures { is_nonempty declarator.now.dimensions ≡ true
-        → IfOk result (λ shape. shape ≡ walks.shape_given symbols.now parameters.now declarator.now) }
+        → IfOk result (λ shape. shape ≡ walks.shape_given scope.now.symbols.now scope.now.parameters.now declarator.now) }
 {
-    let has_bounds = has_bounds(alloc, symbols, parameters, declarator)?;
-    let are_open = are_bounds_open(alloc, symbols, parameters, declarator)?;
+    let has_bounds = has_bounds(scope, declarator)?;
+    let are_open = are_bounds_open(scope, declarator)?;
     let dimensions = declarator.dimensions.as_slice();
-    match bounds_of(alloc, symbols, parameters.known(), dimensions)? {
+    match bounds_of(
+        scope.alloc,
+        scope.symbols,
+        scope.parameters.known(),
+        dimensions,
+    )? {
         Some(bounds) if has_bounds && !are_open => Ok(Shape::new(&bounds)),
         _ => Ok(None),
     }

@@ -5,7 +5,7 @@
 pub mod bounds;
 pub mod forms;
 pub mod parameters;
-mod scope;
+pub mod scope;
 pub mod shapes;
 pub mod types;
 pub mod variables;
@@ -14,6 +14,7 @@ pub mod violation;
 pub use bounds::has_bounds;
 pub use forms::is_form_typed;
 pub use parameters::{Parameters, has_value, is_constant_expression};
+pub use scope::Scope;
 pub use shapes::{KnownShape, Shapes};
 pub use types::{KnownType, is_typed, is_typed_as, type_of_tree, type_of_value};
 pub use variables::{is_dummy, is_plain_integer_scalar, loop_variables};

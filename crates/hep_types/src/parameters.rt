@@ -4,11 +4,11 @@ ghost use Rattle.std.specs.List.{list_all};
 ghost use Rattle.hep_source.specs.declared.name.Occurrence.{Occurrence as PureOccurrence};
 ghost use Rattle.hep_check.specs.Constants as conditions;
 ghost use Rattle.hep_check.specs.Statements.{NameWithList as PureReference};
-ghost use Rattle.hep_machine.specs.Constants.{value_among, with_constant};
-ghost use Rattle.hep_machine.specs.Functions.{listed_meaning};
+ghost use Rattle.hep_machine.specs.Words.{value_among, with_constant, listed_meaning};
 ghost use Rattle.hep_symbols.specs.Lists.{listed};
 ghost use Rattle.hep_values.specs.Evaluation as walks;
 
+use crate::scope::Scope;
 use crate::types::{agree, is_typed, is_typed_as, type_of_tree};
 use hep_source::{Expr, Name, NamedConstant, Occurrence, Value, ValueType};
 use hep_symbols::{Meaning, NameWithList, Symbols, lists, occurrences};
@@ -113,19 +113,14 @@ fn are_pure(symbols: &Symbols, names: &[NameWithList]) -> bool
 /// # Errors
 ///
 /// Only where memory was refused.
-pub fn is_constant_expression(
-    alloc: Global,
-    symbols: &Symbols,
-    parameters: &Parameters,
-    expression: &Expr,
-) -> Result<bool, AllocError>
-    ensures { IfOk result (λ is_constant. is_constant ≡ conditions.is_constant_expression symbols.now parameters.now expression.now) }
+pub fn is_constant_expression(scope: &Scope, expression: &Expr) -> Result<bool, AllocError>
+    ensures { IfOk result (λ is_constant. is_constant ≡ conditions.is_constant_expression scope.now.symbols.now scope.now.parameters.now expression.now) }
 {
-    let mut found = Vec::new(alloc);
-    occurrences::add_in_expression(symbols, &mut found, expression)?;
-    let mut names = Vec::new(alloc);
+    let mut found = Vec::new(scope.alloc);
+    occurrences::add_in_expression(scope.symbols, &mut found, expression)?;
+    let mut names = Vec::new(scope.alloc);
     lists::add_in(&mut names, expression)?;
-    Ok(are_given(parameters, &found) && are_pure(symbols, &names))
+    Ok(are_given(scope.parameters, &found) && are_pure(scope.symbols, &names))
 }
 
 /// A constant expression each part of which has a value, unless a violation leaves that part open.
@@ -133,16 +128,13 @@ pub fn is_constant_expression(
 /// # Errors
 ///
 /// Only where memory was refused.
-pub fn has_value(
-    alloc: Global,
-    symbols: &Symbols,
-    parameters: &Parameters,
-    expression: &Expr,
-) -> Result<bool, AllocError>
-    ensures { IfOk result (λ has_value. has_value ≡ conditions.has_value symbols.now parameters.now expression.now) }
+pub fn has_value(scope: &Scope, expression: &Expr) -> Result<bool, AllocError>
+    ensures { IfOk result (λ has_value. has_value ≡ conditions.has_value scope.now.symbols.now scope.now.parameters.now expression.now) }
 {
-    let is_constant = is_constant_expression(alloc, symbols, parameters, expression)?;
-    let evaluation = parameters.evaluate(alloc, symbols, expression)?;
+    let is_constant = is_constant_expression(scope, expression)?;
+    let evaluation = scope
+        .parameters
+        .evaluate(scope.alloc, scope.symbols, expression)?;
     Ok(is_constant && evaluation.are_parts_known)
 }
 
@@ -152,16 +144,14 @@ pub fn has_value(
 ///
 /// Only where memory was refused.
 pub fn is_constant_of(
-    alloc: Global,
-    symbols: &Symbols,
-    parameters: &Parameters,
+    scope: &Scope,
     value_type: ValueType,
     expression: &Expr,
 ) -> Result<bool, AllocError>
-    ensures { IfOk result (λ is_constant. is_constant ≡ conditions.is_constant_of symbols.now parameters.now value_type expression.now) }
+    ensures { IfOk result (λ is_constant. is_constant ≡ conditions.is_constant_of scope.now.symbols.now scope.now.parameters.now value_type expression.now) }
 {
-    let has_value = has_value(alloc, symbols, parameters, expression)?;
-    Ok(is_typed_as(symbols, value_type, expression) && has_value)
+    let has_value = has_value(scope, expression)?;
+    Ok(is_typed_as(scope.symbols, value_type, expression) && has_value)
 }
 
 /// A constant expression of the type of its name (6.1.3, 6.4.4 and 8.6).
@@ -169,20 +159,15 @@ pub fn is_constant_of(
 /// # Errors
 ///
 /// Only where memory was refused.
-pub fn is_constant_given(
-    alloc: Global,
-    symbols: &Symbols,
-    parameters: &Parameters,
-    constant: &NamedConstant,
-) -> Result<bool, AllocError>
-    ensures { IfOk result (λ is_given. is_given ≡ conditions.is_constant_given symbols.now parameters.now constant.now) }
+pub fn is_constant_given(scope: &Scope, constant: &NamedConstant) -> Result<bool, AllocError>
+    ensures { IfOk result (λ is_given. is_given ≡ conditions.is_constant_given scope.now.symbols.now scope.now.parameters.now constant.now) }
 {
-    let has_value = has_value(alloc, symbols, parameters, &constant.value)?;
-    let declared = Some(symbols.type_of(&constant.occurrence.name));
+    let has_value = has_value(scope, &constant.value)?;
+    let declared = Some(scope.symbols.type_of(&constant.occurrence.name));
     Ok(
-        is_typed(symbols, &constant.value)
+        is_typed(scope.symbols, &constant.value)
             && has_value
-            && agree(declared, type_of_tree(symbols, &constant.value)),
+            && agree(declared, type_of_tree(scope.symbols, &constant.value)),
     )
 }
 
@@ -214,7 +199,12 @@ impl Parameters {
         ensures given { IfOk result (λ is_given. is_given ≡ conditions.is_constant_given symbols.now self.old constant.now) }
         ensures taken { OnOk result (self.new ≡ conditions.with_parameter symbols.now self.old constant.now) }
     {
-        let is_given = is_constant_given(alloc, symbols, self, constant)?;
+        let scope = Scope {
+            alloc,
+            symbols: &*symbols,
+            parameters: self,
+        };
+        let is_given = is_constant_given(&scope, constant)?;
         let evaluation = self.evaluate(alloc, symbols, &constant.value)?;
         let name = constant.occurrence.name;
         if !self.is_given(&name) {

@@ -5,8 +5,11 @@ use std::alloc::Global;
 
 /// What is known of the names of a unit at a statement: its table, and the constants given before.
 #[derive(Clone, Copy)]
-pub(crate) struct Scope<'a> {
-    pub(crate) alloc: Global,
-    pub(crate) symbols: &'a Symbols<'a>,
-    pub(crate) parameters: &'a Parameters,
+pub struct Scope<'a> {
+    /// Where lists of what is found lie.
+    pub alloc: Global,
+    /// The table of the unit.
+    pub symbols: &'a Symbols<'a>,
+    /// The constants that PARAMETER gave before.
+    pub parameters: &'a Parameters,
 }

@@ -5,13 +5,14 @@ ghost use Rattle.indexmap.specs.IndexMap.{get};
 ghost use Rattle.hep_source.specs.declared.name.Name.{Name as PureName};
 ghost use Rattle.hep_check.specs.Constants as conditions;
 ghost use Rattle.hep_symbols.specs.Statements.{rest_after};
-ghost use Rattle.hep_source.specs.Names.{name_eq};
+ghost use Rattle.hep_machine.specs.Words.{name_eq};
 ghost use Rattle.hep_symbols.specs.Tables.{by_name};
 ghost use Rattle.hep_types.specs.Shapes as tables;
 ghost use Rattle.hep_types.specs.Known.{known};
 
 use crate::bounds::shape_given;
 use crate::parameters::Parameters;
+use crate::scope::Scope;
 use hep_shape::Shape;
 use hep_source::{Declarator, Name, Statement};
 use hep_symbols::declarators::array_declarators;
@@ -67,35 +68,27 @@ impl<'a> Model for Shapes<'a> {
 type Table = IndexMap<Name, Option<Shape>>;
 
 // The shape that a declarator gives its name, where it gives dimensions and is the first that does.
-fn note_shape(
-    alloc: Global,
-    symbols: &Symbols,
-    parameters: &Parameters,
-    declarator: &Declarator,
-    shapes: &mut Table,
-) -> Result<(), AllocError>
+fn note_shape(scope: &Scope, declarator: &Declarator, shapes: &mut Table) -> Result<(), AllocError>
     ensures { OnOk result ((x : PureName) → get name_eq shapes.new x
-        ≡ option_or (get name_eq shapes.old x) (tables.shape_by_declarator symbols.now parameters.now declarator.now x)) }
+        ≡ option_or (get name_eq shapes.old x) (tables.shape_by_declarator scope.now.symbols.now scope.now.parameters.now declarator.now x)) }
 {
     if !declarator.dimensions.as_slice().is_empty() {
-        let shape = shape_given(alloc, symbols, parameters, declarator)?;
+        let shape = shape_given(scope, declarator)?;
         note(shapes, declarator.occurrence.name, shape)?;
     }
     Ok(())
 }
 
 fn note_shapes(
-    alloc: Global,
-    symbols: &Symbols,
-    parameters: &Parameters,
+    scope: &Scope,
     declarators: &[&Declarator],
     shapes: &mut Table,
 ) -> Result<(), AllocError>
     ensures { OnOk result ((x : PureName) → get name_eq shapes.new x
-        ≡ option_or (get name_eq shapes.old x) (tables.shape_among symbols.now parameters.now x (rest_after declarators.now))) }
+        ≡ option_or (get name_eq shapes.old x) (tables.shape_among scope.now.symbols.now scope.now.parameters.now x (rest_after declarators.now))) }
 {
     for declarator in declarators {
-        note_shape(alloc, symbols, parameters, declarator, shapes)?;
+        note_shape(scope, declarator, shapes)?;
     }
     Ok(())
 }
@@ -107,7 +100,12 @@ fn shapes_of(alloc: Global, symbols: &Symbols) -> Result<Table, AllocError>
     let mut parameters = Parameters::new(alloc);
     for statement in symbols.statements() {
         let declarators = array_declarators(alloc, &statement.form)?;
-        note_shapes(alloc, symbols, &parameters, &declarators, &mut shapes)?;
+        let scope = Scope {
+            alloc,
+            symbols: &*symbols,
+            parameters: &parameters,
+        };
+        note_shapes(&scope, &declarators, &mut shapes)?;
         parameters.add_all(alloc, symbols, constants_in(&statement.form))?;
     }
     Ok(shapes)

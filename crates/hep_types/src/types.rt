@@ -1,6 +1,6 @@
 //! Types of expressions (X3.9-1978, 6.1.4, 6.3.3, 6.4.2 and 15.10).
 ghost use Rattle.std.specs.Prelude.{◌≡◌};
-ghost use Rattle.hep_source.specs.Tree.{trees_of};
+ghost use Rattle.hep_machine.specs.Words.{trees_of};
 ghost use Rattle.hep_check.specs.Types as types;
 ghost use Rattle.hep_symbols.specs.Meanings.{meaning};
 ghost use Rattle.hep_types.specs.Types as walks;

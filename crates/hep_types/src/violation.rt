@@ -3,7 +3,7 @@ ghost use Rattle.std.specs.Prelude.{◌≡◌, IfOk, OnOk};
 ghost use Rattle.std.specs.List.{list_all};
 ghost use Rattle.hep_check.specs.Constants as conditions;
 ghost use Rattle.hep_check.specs.Types as types;
-ghost use Rattle.hep_check.specs.Violations.{first_of};
+ghost use Rattle.hep_check.specs.Words.{first_of};
 ghost use Rattle.hep_symbols.specs.Statements.{rest_after};
 ghost use Rattle.hep_types.specs.Passes as passes;
 
@@ -31,7 +31,7 @@ fn are_bounded(scope: &Scope, declarators: &[&Declarator]) -> Result<bool, Alloc
         ≡ list_all (conditions.has_bounds scope.now.symbols.now scope.now.parameters.now) (rest_after declarators.now)) }
 {
     for declarator in declarators {
-        if !has_bounds(scope.alloc, scope.symbols, scope.parameters, declarator)? {
+        if !has_bounds(scope, declarator)? {
             return Ok(false);
         }
     }
@@ -43,13 +43,7 @@ fn are_constant(scope: &Scope, subscripts: &[Expr]) -> Result<bool, AllocError>
         ≡ list_all (conditions.is_constant_of scope.now.symbols.now scope.now.parameters.now ValueType.Integer) subscripts.now) }
 {
     for subscript in subscripts {
-        if !is_constant_of(
-            scope.alloc,
-            scope.symbols,
-            scope.parameters,
-            ValueType::Integer,
-            subscript,
-        )? {
+        if !is_constant_of(scope, ValueType::Integer, subscript)? {
             return Ok(false);
         }
     }

@@ -1,11 +1,9 @@
 -- The letters that ranges have, by their first letters.
-use Rattle.std.proofs.Common.{◌≡◌, ℕ, zero, suc, ◌+◌, ◌<◌, Bool, true, false, ◌&&◌, ◌||◌, nat_le, nat_lt, Option, Some, None, List, [], ◌∷◌, length, get_or, take, drop, refl, ◌∙◌, ap, arith}
-use Rattle.std.specs.Prelude.{slice_set, replicate}
+use Rattle.std.proofs.Common.{◌≡◌, ℕ, zero, suc, ◌+◌, ◌<◌, Bool, true, false, ◌&&◌, ◌||◌, nat_le, nat_lt, Option, Some, None, List, [], ◌∷◌, length, get_or, take, drop, refl, ◌∙◌, ap, arith, slice_set, replicate}
 use Rattle.std.specs.List.{list_any}
 use Rattle.std.proofs.lemmas.Bool.Decides.{nat_tests}
-use Rattle.hep_source.specs.declared.declaration.LetterRange.{LetterRange}
-use Rattle.hep_check.specs.Names.{overlap}
-use Rattle.hep_check.specs.Reported.{least_line, line_when}
+use Rattle.hep_machine.specs.Words.{LetterRange}
+use Rattle.hep_check.specs.Words.{overlap, least_line, line_when}
 use Rattle.hep_uses.specs.Ambiguous.{reaches, meets, later_letter, least_repeated}
 use Rattle.hep_uses.proofs.Ways.{repeated-turn}
 use Rattle.hep_source.proofs.Tests.{or-assoc, or-turned}

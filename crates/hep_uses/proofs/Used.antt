@@ -3,11 +3,8 @@ use Rattle.std.proofs.Common.{◌≡◌, ℕ, List, ◌++◌, ap, ◌∙◌}
 use Rattle.std.specs.List.{filter}
 use Rattle.std.proofs.lemmas.List.{map-append}
 use Rattle.std.proofs.lemmas.List.Elements.{filter-append}
-use Rattle.hep_source.specs.declared.declaration.Declarator.{Declarator}
-use Rattle.hep_source.specs.declared.declaration.LetterRange.{LetterRange}
-use Rattle.hep_source.specs.declared.declaration.Target.{Target}
-use Rattle.hep_machine.specs.Declarations.{names_declared, is_nonempty}
-use Rattle.hep_check.specs.Names.{names_of_targets}
+use Rattle.hep_machine.specs.Words.{Declarator, LetterRange, Target, names_declared, is_nonempty}
+use Rattle.hep_check.specs.Words.{names_of_targets}
 use Rattle.hep_uses.specs.Ambiguous.{ranges_at}
 use Rattle.hep_uses.specs.Uses.{names_bounded}
 

@@ -5,17 +5,10 @@ use Rattle.std.specs.Option.{option_map}
 use Rattle.std.proofs.lemmas.Bool.{and_parts}
 use Rattle.std.proofs.lemmas.Bool.Decides.{nat_tests}
 use Rattle.std.proofs.lemmas.List.{drop_more}
-use Rattle.hep_source.specs.declared.name.Name.{Name}
-use Rattle.hep_source.specs.declared.statement.Statement.{Statement}
-use Rattle.hep_source.specs.Names.{name_eq, same_name}
+use Rattle.hep_machine.specs.Words.{Name, Statement, name_eq, same_name, Units, CommonBlock, blocks_in, entries_of_blocks, is_nonempty, names_declared}
 use Rattle.hep_source.proofs.NameTests.{equal_names, name_eq-is, same_name-turned}
-use Rattle.hep_source.specs.Units.{Units}
-use Rattle.hep_source.specs.declared.declaration.CommonBlock.{CommonBlock}
-use Rattle.hep_machine.specs.Declarations.{blocks_in, entries_of_blocks, is_nonempty, names_declared}
 use Rattle.hep_symbols.proofs.News.{declared-append}
-use Rattle.hep_check.specs.Names.{Use, overlap, letter_ranges_of, letters_repeated, uses_by, repeated, both_ways, given_twice, used_both_ways, misused_constants, dummy_names, typed_names, bounded_names, common_names, constant_names, data_names, assigned_names, called_names, variable_names, ambiguous_in, unit_uses, block_names, ambiguous_units}
-use Rattle.hep_check.specs.Reported.{reported, least_line, line_when, least_line_of}
-use Rattle.hep_check.specs.Violations.{first_of, when, at_line, repeated_after}
+use Rattle.hep_check.specs.Words.{Use, overlap, letter_ranges_of, letters_repeated, uses_by, repeated, both_ways, given_twice, used_both_ways, misused_constants, dummy_names, typed_names, bounded_names, common_names, constant_names, data_names, assigned_names, called_names, variable_names, ambiguous_in, unit_uses, block_names, ambiguous_units, reported, least_line, line_when, least_line_of, first_of, when, at_line, repeated_after}
 use Rattle.hep_check.proofs.Lines.{reported-append, reported-of, reported-when, least_line-assoc, least_line-none, least_line_of-same, least_line_of-turned}
 use Rattle.hep_uses.specs.declared.uses.Way.{Way}
 use Rattle.hep_uses.specs.declared.uses.Way.TheVariants.{Dummy, Common, Constant, Called, Variable}

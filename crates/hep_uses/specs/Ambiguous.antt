@@ -2,13 +2,8 @@
 use Rattle.std.specs.Prelude.{ℕ, ◌+◌, max, Bool, false, ◌||◌, nat_le, List, [], ◌∷◌, map, take, Option, Some, None}
 use Rattle.std.specs.List.{flat_map, list_any}
 use Rattle.std.specs.Option.{option_map}
-use Rattle.hep_source.specs.declared.declaration.LetterRange.{LetterRange}
-use Rattle.hep_source.specs.declared.name.Name.{Name}
-use Rattle.hep_source.specs.declared.statement.Statement.{Statement}
-use Rattle.hep_source.specs.Names.{same_name}
-use Rattle.hep_source.specs.Units.{Units}
-use Rattle.hep_check.specs.Names.{Use, overlap, letter_ranges_of}
-use Rattle.hep_check.specs.Reported.{least_line, line_when, least_line_of, least_line_where}
+use Rattle.hep_machine.specs.Words.{LetterRange, Name, Statement, same_name, Units}
+use Rattle.hep_check.specs.Words.{Use, overlap, letter_ranges_of, least_line, line_when, least_line_of, least_line_where}
 use Rattle.hep_uses.specs.declared.uses.Way.{Way}
 use Rattle.hep_uses.specs.declared.uses.Way.TheVariants.{Header, Block, Dummy, Typed, Bounded, Common, Constant, Data, Assigned, Called, Variable}
 use Rattle.hep_uses.specs.Uses.{uses_of}

@@ -1,15 +1,8 @@
 -- The names that statements use, by what they use them for: X3.9-1978, 18.1 and 18.2.
 use Rattle.std.specs.Prelude.{ℕ, Bool, not, List, map}
 use Rattle.std.specs.List.{filter}
-use Rattle.hep_source.specs.declared.declaration.Declarator.{Declarator}
-use Rattle.hep_source.specs.declared.name.Name.{Name}
-use Rattle.hep_source.specs.declared.name.Occurrence.{Occurrence}
-use Rattle.hep_source.specs.declared.statement.Form.{Form}
-use Rattle.hep_source.specs.declared.statement.Statement.{Statement}
-use Rattle.hep_source.specs.Units.{names_of_occurrences}
-use Rattle.hep_machine.specs.Declarations.{is_constant_name, is_nonempty, names_declared}
-use Rattle.hep_check.specs.Names.{Use, uses_by, header_name, block_names, dummy_names, typed_names, bounded_names, common_names, constant_names, data_names, assigned_names, called_names, variable_names}
-use Rattle.hep_check.specs.Statements.{Calling, calls_in}
+use Rattle.hep_machine.specs.Words.{Declarator, Name, Occurrence, Form, Statement, names_of_occurrences, is_constant_name, is_nonempty, names_declared}
+use Rattle.hep_check.specs.Words.{Use, uses_by, header_name, block_names, dummy_names, typed_names, bounded_names, common_names, constant_names, data_names, assigned_names, called_names, variable_names, Calling, calls_in}
 use Rattle.hep_uses.specs.declared.uses.Way.{Way}
 use Rattle.hep_uses.specs.declared.uses.Way.TheVariants as ways
 

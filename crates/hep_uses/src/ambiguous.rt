@@ -1,8 +1,8 @@
 //! 309: a name stands for two things, or is given something twice (X3.9-1978, 18.1 and 18.2).
 ghost use Rattle.std.specs.Prelude.{◌≡◌, true, None, IfOk};
 ghost use Rattle.hep_check.specs.Names as conditions;
-ghost use Rattle.hep_check.specs.Violations.{first_of};
-ghost use Rattle.hep_machine.specs.Declarations.{is_nonempty};
+ghost use Rattle.hep_check.specs.Words.{first_of};
+ghost use Rattle.hep_machine.specs.Words.{is_nonempty};
 ghost use Rattle.hep_uses.specs.Ambiguous as passes;
 ghost use Rattle.hep_uses.specs.Uses as rows;
 

@@ -2,11 +2,10 @@
 ghost use Rattle.std.specs.Prelude.{◌≡◌, ◌||◌, IfOk, OnOk};
 ghost use Rattle.indexmap.specs.IndexMap.{get};
 ghost use Rattle.indexmap.specs.IndexSet.{contains};
-ghost use Rattle.hep_source.specs.Names.{same_name};
+ghost use Rattle.hep_machine.specs.Words.{same_name, name_eq};
 ghost use Rattle.hep_source.specs.declared.name.Name.{Name as PureName};
 ghost use Rattle.hep_check.specs.Reported as reported;
 ghost use Rattle.hep_uses.specs.Ambiguous as passes;
-ghost use Rattle.hep_source.specs.Names.{name_eq};
 
 use crate::uses::Use;
 use hep_check::reported::{lesser, line_when};

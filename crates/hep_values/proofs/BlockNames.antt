@@ -1,9 +1,8 @@
 -- Names of common blocks, and the tests that tables make of them.
 use Rattle.std.proofs.Common.{◌≡◌, Bool, true, false, Some, None, refl, ap, ◌∙◌, cond, if◌then◌else◌}
 use Rattle.std.specs.Option.{option_eq}
-use Rattle.hep_source.specs.Names.{name_eq}
+use Rattle.hep_machine.specs.Words.{name_eq, BlockName, same_block}
 use Rattle.hep_source.proofs.NameTests.{name_eq-is}
-use Rattle.hep_machine.specs.Declarations.{BlockName, same_block}
 
 -- ---- the test that a table of blocks makes is the definitions' test
 

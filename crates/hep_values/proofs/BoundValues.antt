@@ -1,9 +1,7 @@
 -- Values of bounds.
 use Rattle.std.proofs.Common.{◌≡◌, Option, Some, None, ◌++◌, refl}
 use Rattle.std.specs.Option.{option_map}
-use Rattle.hep_source.specs.declared.value.Value.{Value}
-use Rattle.hep_machine.specs.Arithmetic.{integer_of}
-use Rattle.hep_machine.specs.Shapes.{Bounds}
+use Rattle.hep_machine.specs.Words.{Value, integer_of, Bounds}
 
 -- bounds, and those of more dimensions after them
 abbrev pub prefixed : Bounds → Option Bounds → Option Bounds

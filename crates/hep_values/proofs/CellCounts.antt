@@ -2,17 +2,7 @@
 use Rattle.std.proofs.Common.{◌≡◌, ℕ, ℤ, Bool, true, false, ◌&&◌, Option, Some, None, List, [], ◌∷◌, length, is_some, refl, ap, sym, ◌∙◌, true≢false, if◌then◌else◌}
 use Rattle.std.specs.List.{list_all}
 use Rattle.std.specs.Option.{option_map}
-use Rattle.hep_source.specs.Tree.{Tree}
-use Rattle.hep_source.specs.declared.declaration.Dimension.{Dimension}
-use Rattle.hep_source.specs.declared.declaration.UpperBound.{UpperBound}
-use Rattle.hep_source.specs.declared.declaration.UpperBound.TheVariants.{Expression, Open}
-use Rattle.hep_source.specs.declared.name.Name.{Name}
-use Rattle.hep_source.specs.declared.statement.Statement.{Statement}
-use Rattle.hep_source.specs.declared.value.Value.{Value}
-use Rattle.hep_machine.specs.Arithmetic.{integer_of}
-use Rattle.hep_machine.specs.Constants.{Constants, value_among, constant_value, value_of, lower_value, upper_value, bound_of, bound_before, bounds_of, if_shape, cells_of_shape, cells_of, is_constant_lower, is_constant_upper, is_constant_dimension, adjustable_dimensions}
-use Rattle.hep_machine.specs.Declarations.{dimensions_of, is_array}
-use Rattle.hep_machine.specs.Shapes.{Bounds}
+use Rattle.hep_machine.specs.Words.{Tree, Dimension, UpperBound, Expression, Open, Name, Statement, Value, integer_of, Constants, value_among, constant_value, value_of, lower_value, upper_value, bound_of, bound_before, bounds_of, if_shape, cells_of_shape, cells_of, is_constant_lower, is_constant_upper, is_constant_dimension, adjustable_dimensions, dimensions_of, is_array, Bounds}
 use Rattle.hep_machine.specs.declared.shape.Bound.{Bound}
 
 pub scalar : (unit : List Statement) (x : Name) → is_array unit x ≡ false → 1 ≡ cells_of unit x

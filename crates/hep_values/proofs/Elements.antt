@@ -1,12 +1,11 @@
 -- Numbers of elements of an array: no two elements have one, and none is past the last.
-use Rattle.std.proofs.Common.{◌≡◌, ℕ, zero, suc, ◌+◌, ◌*◌, ◌<◌, ◌≤◌, ℤ, pos, negsuc, ◌+ℤ◌, ◌-ℤ◌, ◌≤ℤ◌, Bool, true, false, if◌then◌else◌, List, [], ◌∷◌, Option, Some, None, refl, ap, sym, ◌∙◌, arith, true≢false}
-use Rattle.std.specs.Prelude.{int_le}
+use Rattle.std.proofs.Common.{◌≡◌, ℕ, zero, suc, ◌+◌, ◌*◌, ◌<◌, ◌≤◌, ℤ, pos, negsuc, ◌+ℤ◌, ◌-ℤ◌, ◌≤ℤ◌, Bool, true, false, if◌then◌else◌, List, [], ◌∷◌, Option, Some, None, refl, ap, sym, ◌∙◌, arith, true≢false, int_le}
 use Rattle.std.specs.Option.{option_map, unwrap_or}
 use Rattle.std.proofs.lemmas.Bool.{and_parts}
 use Rattle.std.proofs.lemmas.Int.{ints}
 use Rattle.std.proofs.lemmas.Nat.{mul-add-lt}
 use Rattle.hep_machine.specs.declared.shape.Bound.{Bound}
-use Rattle.hep_machine.specs.Shapes.{Bounds, natural, size_between, extent, product, elements, is_below, is_within, is_between, are_dimensions, sum, before_element, element_number}
+use Rattle.hep_machine.specs.Words.{Bounds, natural, size_between, extent, product, elements, is_below, is_within, is_between, are_dimensions, sum, before_element, element_number}
 use Rattle.hep_shape.proofs.Extents.{le_of_test}
 
 pub some-equal : (m n : ℕ) → Some m ≡ Some n → m ≡ n

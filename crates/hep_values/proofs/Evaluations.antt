@@ -2,21 +2,8 @@
 use Rattle.std.proofs.Common.{◌≡◌, Bool, true, false, not, ◌&&◌, ◌||◌, Option, Some, None, List, [], ◌∷◌, ◌++◌, append_assoc, append-nil, is_some, refl, ap, sym, ◌∙◌, if◌then◌else◌}
 use Rattle.std.specs.List.{list_all, list_any}
 use Rattle.std.proofs.lemmas.List.Folds.{list_any-append, list_all-append}
-use Rattle.hep_source.specs.Tree.{Tree, Trees, binary, with_list, trees}
-use Rattle.hep_source.specs.declared.name.Name.{Name}
-use Rattle.hep_source.specs.declared.name.Occurrence.{Occurrence}
-use Rattle.hep_source.specs.declared.operator.Operator.{Operator}
-use Rattle.hep_source.specs.declared.statement.Statement.{Statement}
-use Rattle.hep_source.specs.declared.value.Value.{Value}
-use Rattle.hep_source.specs.Names.{is_among}
-use Rattle.hep_machine.specs.Arithmetic.{combined_value}
-use Rattle.hep_machine.specs.Constants.{Constants, both, by_meaning, value_of, value_among, with_two}
-use Rattle.hep_machine.specs.Declarations.{is_array}
-use Rattle.hep_machine.specs.Functions.{Meaning, element, pure, state, unknown}
-use Rattle.hep_machine.specs.Variables.{occurrences_in, occurrences_in_all, array_occurrence}
-use Rattle.hep_check.specs.Constants.{Parameters, is_open, has_value_or_is_open}
-use Rattle.hep_check.specs.Counts.{is_counted}
-use Rattle.hep_check.specs.Statements.{NameWithList, names_with_lists_in, names_with_lists_in_all, subexpressions_of, subexpressions_of_all}
+use Rattle.hep_machine.specs.Words.{Tree, Trees, binary, with_list, trees, Name, Occurrence, Operator, Statement, Value, is_among, combined_value, Constants, both, by_meaning, value_of, value_among, with_two, is_array, Meaning, element, pure, state, unknown, occurrences_in, occurrences_in_all, array_occurrence}
+use Rattle.hep_check.specs.Words.{Parameters, is_open, has_value_or_is_open, is_counted, NameWithList, names_with_lists_in, names_with_lists_in_all, subexpressions_of, subexpressions_of_all}
 use Rattle.hep_values.specs.Evaluation.{parameters, with_last, values_after, applied, is_any_open, are_parts_known, are_all_parts_known}
 
 -- ---- what is open

@@ -1,14 +1,7 @@
 -- Constants that are given values in turn.
-use Rattle.std.proofs.Common.{◌≡◌, Bool, true, false, if◌then◌else◌, List, [], ◌∷◌, ◌++◌, Option, Some, None, is_some, refl, ap, sym, ◌∙◌, true≢false}
-use Rattle.std.specs.Prelude.{Result, Ok, Err, OnOk}
+use Rattle.std.proofs.Common.{◌≡◌, Bool, true, false, if◌then◌else◌, List, [], ◌∷◌, ◌++◌, Option, Some, None, is_some, refl, ap, sym, ◌∙◌, true≢false, Result, Ok, Err, OnOk}
 use Rattle.std.specs.Option.{option_or}
-use Rattle.hep_source.specs.Names.{same_name}
-use Rattle.hep_source.specs.declared.declaration.NamedConstant.{NamedConstant}
-use Rattle.hep_source.specs.declared.name.Name.{Name}
-use Rattle.hep_source.specs.declared.statement.Statement.{Statement}
-use Rattle.hep_source.specs.declared.value.Value.{Value}
-use Rattle.hep_machine.specs.Constants.{Constants, value_among, with_constant, given_by, value_of}
-use Rattle.hep_machine.specs.Declarations.{constants_in, named_constants}
+use Rattle.hep_machine.specs.Words.{same_name, NamedConstant, Name, Statement, Value, Constants, value_among, with_constant, given_by, value_of, constants_in, named_constants}
 use Rattle.hep_source.proofs.NameTests.{equal_names}
 use Rattle.hep_check.proofs.Agreeing.{given_by-append}
 

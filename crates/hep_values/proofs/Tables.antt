@@ -3,11 +3,7 @@ use Rattle.std.proofs.Common.{◌≡◌, Bool, true, false, cond, if◌then◌el
 use Rattle.std.specs.List.{list_any}
 use Rattle.std.proofs.lemmas.List.{reverse-append}
 use Rattle.std.specs.Map.{lookup}
-use Rattle.hep_source.specs.declared.name.Name.{Name}
-use Rattle.hep_source.specs.Names.{same_name, is_among}
-use Rattle.hep_source.specs.declared.value.Value.{Value}
-use Rattle.hep_machine.specs.Constants.{Constants, value_among}
-use Rattle.hep_source.specs.Names.{name_eq}
+use Rattle.hep_machine.specs.Words.{Name, same_name, is_among, Value, Constants, value_among, name_eq}
 use Rattle.hep_source.proofs.NameTests.{name_eq-is, same_name-turned, among-is}
 use Rattle.indexmap.specs.IndexMap.{insert_entry}
 use Rattle.indexmap.proofs.MapLemmas.{insert_entry-absent, absent_from_lookup}

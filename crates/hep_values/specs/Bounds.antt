@@ -1,8 +1,6 @@
 -- Bounds of arrays, dimension by dimension: X3.9-1978, 5.1.1.
 use Rattle.std.specs.Prelude.{List, Option}
-use Rattle.hep_source.specs.declared.declaration.Dimension.{Dimension}
-use Rattle.hep_source.specs.declared.statement.Statement.{Statement}
-use Rattle.hep_machine.specs.Constants.{Values, bound_of, lower_value, upper_value}
+use Rattle.hep_machine.specs.Words.{Dimension, Statement, Values, bound_of, lower_value, upper_value}
 use Rattle.hep_machine.specs.declared.shape.Bound.{Bound}
 
 -- the bound of one dimension, where it has a value

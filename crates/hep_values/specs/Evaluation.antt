@@ -1,19 +1,8 @@
 -- Values of expressions, as one walk over a tree tells them.
 use Rattle.std.specs.Prelude.{Bool, not, ◌||◌, List, [], ◌∷◌, ◌++◌, Option, Some, None}
 use Rattle.std.specs.List.{list_all, list_any}
-use Rattle.hep_source.specs.Tree.{Tree, Trees}
-use Rattle.hep_source.specs.declared.name.Name.{Name}
-use Rattle.hep_source.specs.declared.name.Occurrence.{Occurrence}
-use Rattle.hep_source.specs.declared.statement.Statement.{Statement}
-use Rattle.hep_source.specs.declared.value.Value.{Value}
-use Rattle.hep_source.specs.Names.{is_among}
-use Rattle.hep_machine.specs.Arithmetic.{function_value}
-use Rattle.hep_machine.specs.Constants.{Constants, without_fault}
-use Rattle.hep_machine.specs.Functions.{Meaning, pure}
-use Rattle.hep_machine.specs.Variables.{occurrences_in_all}
-use Rattle.hep_check.specs.Constants.{Parameters, has_value_or_is_open}
-use Rattle.hep_check.specs.Counts.{is_counted}
-use Rattle.hep_check.specs.Statements.{subexpressions_of, subexpressions_of_all, names_with_lists_in_all}
+use Rattle.hep_machine.specs.Words.{Tree, Trees, Name, Occurrence, Statement, Value, is_among, function_value, Constants, without_fault, Meaning, pure, occurrences_in_all}
+use Rattle.hep_check.specs.Words.{Parameters, has_value_or_is_open, is_counted, subexpressions_of, subexpressions_of_all, names_with_lists_in_all}
 
 abbrev pub parameters : Constants → List Name → Parameters
 parameters known doubtful = record { known = known; doubtful = doubtful }

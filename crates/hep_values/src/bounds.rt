@@ -2,11 +2,9 @@
 ghost use Rattle.std.specs.Prelude.{◌≡◌, Some, IfOk};
 ghost use Rattle.std.specs.Option.{option_map};
 ghost use Rattle.std.specs.Vec.{vec_items};
-ghost use Rattle.hep_source.specs.Tree.{trees_of};
+ghost use Rattle.hep_machine.specs.Words.{trees_of, integers_of, value_among};
 ghost use Rattle.hep_machine.specs.Arithmetic as arithmetic;
-ghost use Rattle.hep_machine.specs.Arithmetic.{integers_of};
 ghost use Rattle.hep_machine.specs.Constants as values;
-ghost use Rattle.hep_machine.specs.Constants.{value_among};
 ghost use Rattle.hep_values.specs.Bounds as walks;
 
 use crate::constants::Constants;

@@ -2,7 +2,7 @@
 //! 5.2.3 and 5.5.1).
 ghost use Rattle.std.specs.Prelude.{◌≡◌, ◌<◌, ◌≤◌, ◌^◌, is_some, if◌then◌else◌, IfOk};
 ghost use Rattle.std.specs.Option.{option_map};
-ghost use Rattle.hep_machine.specs.Constants.{value_among, constant_value, cells_of_shape, if_shape};
+ghost use Rattle.hep_machine.specs.Words.{value_among, constant_value, cells_of_shape, if_shape};
 ghost use Rattle.hep_machine.specs.Constants as values;
 
 use crate::bounds::bounds_of;

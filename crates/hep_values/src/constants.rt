@@ -1,7 +1,6 @@
 //! Named constants (X3.9-1978, 8.6): names that were given a value, and names that are doubtful.
 ghost use Rattle.std.specs.Prelude.{◌≡◌, [], ◌∷◌, if◌then◌else◌, is_some, OnOk, Some};
-ghost use Rattle.hep_source.specs.Names.{is_among};
-ghost use Rattle.hep_machine.specs.Constants.{value_among, with_constant};
+ghost use Rattle.hep_machine.specs.Words.{is_among, value_among, with_constant};
 
 use hep_source::{Name, Value};
 use indexmap::{IndexMap, IndexSet};

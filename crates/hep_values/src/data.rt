@@ -1,6 +1,6 @@
 //! Values of DATA and how often they are given (X3.9-1978, 9.1).
 ghost use Rattle.std.specs.Prelude.{◌≡◌};
-ghost use Rattle.hep_machine.specs.Constants.{value_among};
+ghost use Rattle.hep_machine.specs.Words.{value_among};
 ghost use Rattle.hep_machine.specs.Data as machine;
 
 use crate::constants::Constants;

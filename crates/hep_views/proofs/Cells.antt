@@ -1,31 +1,17 @@
 -- From the cell in which a storage unit is kept the unit is found again.
-use Rattle.std.proofs.Common.{◌≡◌, inl, inr, ℕ, zero, suc, ◌+◌, ◌-◌, ◌<◌, ◌≤◌, Bool, true, false, true≢false, List, length, Option, Some, None, refl, sym, ap, ◌∙◌, arith}
-use Rattle.std.specs.Prelude.{◌&&◌, if◌then◌else◌, is_some, nat_eq, nat_le, nat_lt}
+use Rattle.std.proofs.Common.{◌≡◌, inl, inr, ℕ, zero, suc, ◌+◌, ◌-◌, ◌<◌, ◌≤◌, Bool, true, false, true≢false, List, length, Option, Some, None, refl, sym, ap, ◌∙◌, arith, ◌&&◌, if◌then◌else◌, is_some, nat_eq, nat_le, nat_lt}
 use Rattle.std.specs.Option.{option_or}
-use Rattle.std.proofs.lemmas.Bool.{eqb-false, eqb-true}
+use Rattle.std.proofs.lemmas.Bool.{cases_Bool, eqb-false, eqb-true}
 use Rattle.std.proofs.lemmas.Bool.Decides.{nat_tests}
-use Rattle.std.proofs.lemmas.Option.{none-some, same_Some}
-use Rattle.hep_source.specs.declared.name.Name.{Name}
-use Rattle.hep_source.specs.declared.statement.Statement.{Statement}
-use Rattle.hep_source.specs.Names.{index_among}
-use Rattle.hep_source.specs.Units.{Units, dummies_of, unit_at}
-use Rattle.hep_machine.specs.Declarations.{BlockName}
-use Rattle.hep_machine.specs.Layout.{Frame, Layout, common_cells, frame_of}
-use Rattle.hep_machine.specs.Locations.{dummy_at}
-use Rattle.hep_machine.specs.Processes.{activation_of, unit_of}
-use Rattle.hep_machine.specs.Run.{run}
-use Rattle.hep_machine.specs.State.{Dummy, Location, State, common, local}
-use Rattle.hep_machine.specs.Views.{is_owned}
+use Rattle.std.proofs.lemmas.Option.{cond_some, none-some, same_Some}
+use Rattle.hep_machine.specs.Words.{Name, Statement, index_among, Units, dummies_of, unit_at, BlockName, Frame, Layout, common_cells, frame_of, dummy_at, activation_of, unit_of, run, Dummy, Location, State, common, local, is_owned}
 use Rattle.hep_arena.specs.Gaps.{frame_among}
-use Rattle.hep_frames.specs.Addresses.{IsLaid, address, address_of_kept, cell_in, kept_in}
-use Rattle.hep_frames.specs.Rows.{FramePart, argument, frame_row, place_of_part, same_part}
-use Rattle.hep_frames.specs.Tree.{Node}
+use Rattle.hep_frames.specs.Words.{IsLaid, address, address_of_kept, cell_in, kept_in, FramePart, argument, frame_row, place_of_part, same_part, Node}
 use Rattle.hep_frames.proofs.Addresses.{IsCommon, in-common}
 use Rattle.hep_frames.proofs.FrameRows.{equal_parts, frame_row-cells}
 use Rattle.hep_frames.proofs.Frames.{among, apart-frames}
 use Rattle.hep_frames.proofs.Rows.{owned-by}
-use Rattle.hep_state.specs.Snapshots.{Snapshot}
-use Rattle.hep_state.specs.Turns.{IsAfter}
+use Rattle.hep_state.specs.Words.{Snapshot, IsAfter}
 use Rattle.hep_views.specs.Nodes.{node_of}
 use Rattle.hep_views.specs.Waited.{unit_among, unit_in_common, unit_in_frame, unit_kept_at, unit_of_block, unit_of_part, unit_under}
 use Rattle.hep_views.proofs.Nodes.{framed-at, unheld, unit-at}
@@ -46,10 +32,7 @@ common-told program s layout b (suc i) c e =
 part-told : (a : ℕ) (dummies : List Dummy) (x : Name) (i : ℕ) (k : Option ℕ) (p : FramePart × ℕ) → kept_in a dummies x i k ≡ Some p
     → unit_of_part a (Some p) ≡ Some (local a x (suc i))
 part-told a dummies x i None p e = sym (ap (unit_of_part a) e)
-part-told a dummies x zero (Some k) p e = by_owner (is_owned a (dummy_at dummies k).start) e where
-  by_owner : (b : Bool) → (if b then Some (argument x, 0) else None) ≡ Some p → unit_of_part a (Some p) ≡ Some (local a x 1)
-  by_owner true e = sym (ap (unit_of_part a) e)
-  by_owner false e = absurd (none-some p e)
+part-told a dummies x zero (Some k) p e = ap (λ q. unit_of_part a (Some q)) (sym (cond_some (is_owned a (dummy_at dummies k).start) (argument x, 0) p e).1)
 part-told a dummies x (suc i) (Some k) p e = absurd (none-some p e)
 
 -- the frame has the cell, which tells the storage unit
@@ -100,14 +83,13 @@ among-told : (program : Units) (m : Snapshot) (cell : ℕ) (at : Location) (a : 
     → (from n : ℕ) → from ≤ a → a < from + n → unit_among program m cell from n ≡ Some at
 among-told program m cell at a here others from zero low high = absurd (omega (arith, low, high))
 among-told program m cell at a here others from (suc n) low high =
-    by_number (λ below above. among-told program m cell at a here others (suc from) n below above) (nat_eq from a) refl where
-      by_number : (suc from ≤ a → a < suc from + n → unit_among program m cell (suc from) n ≡ Some at) → (b : Bool) → nat_eq from a ≡ b
-          → option_or (unit_under program cell from (node_of m from)) (unit_among program m cell (suc from) n) ≡ Some at
-      by_number rest true e =
-          ap (λ o. option_or o (unit_among program m cell (suc from) n)) (ap (λ b. unit_under program cell b (node_of m b)) (eqb-true from a e) ∙ here)
-      by_number rest false e =
+    elim (cases_Bool (nat_eq from a)) [
+      | inl e ↦ ap (λ o. option_or o (unit_among program m cell (suc from) n)) (ap (λ b. unit_under program cell b (node_of m b)) (eqb-true from a e) ∙ here)
+      | inr e ↦
           let other = eqb-false from a e in
-          ap (λ o. option_or o (unit_among program m cell (suc from) n)) (others from other) ∙ rest (omega (arith, low, other)) (omega (arith, high))
+          ap (λ o. option_or o (unit_among program m cell (suc from) n)) (others from other)
+          ∙ among-told program m cell at a here others (suc from) n (omega (arith, low, other)) (omega (arith, high))
+    ]
 
 module _ (program : Units) (cells : ℕ) (choices : List ℕ) (m : Snapshot) (after : IsAfter program cells choices m) where
   abbrev s : State

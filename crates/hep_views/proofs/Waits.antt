@@ -1,40 +1,81 @@
 -- What a process is seen to wait for is what the source machine's process waits for.
-use Rattle.std.proofs.Common.{◌≡◌, ◌⊎◌, ℕ, Bool, true, false, true≢false, List, [], ◌∷◌, drop, refl, sym, ap, ◌∙◌, subst, inl, inr, Option, Some, None}
-use Rattle.std.specs.Option.{option_map}
+use Rattle.std.proofs.Common.{◌≡◌, ℕ, zero, suc, ◌+◌, List, [], ◌∷◌, ◌++◌, drop, Some, refl, sym, ap, ◌∙◌, subst, arith, Bool, true, false, true≢false, inl, inr, Option, None, slice_get}
 use Rattle.std.proofs.lemmas.Option.{same_Some}
-use Rattle.hep_source.specs.declared.value.Value.{Value}
-use Rattle.hep_source.specs.Units.{Units}
+use Rattle.hep_machine.specs.Words.{Value, Units, Frame, Layout, numbered, unit_of, run, Location, Process, State, Work, Top, wanted_by}
 use Rattle.hep_machine.specs.declared.slot.Slot.{Slot}
-use Rattle.hep_machine.specs.Layout.{Frame, Layout}
-use Rattle.hep_machine.specs.Processes.{living, numbered, unit_of}
-use Rattle.hep_machine.specs.Run.{run}
-use Rattle.hep_machine.specs.State.{Level as SourceLevel, Location, Process, State, Work}
-use Rattle.hep_machine.specs.Step.{Top, wanted_by}
+use Rattle.hep_code.specs.declared.instruction.Instruction.{Instruction}
+use Rattle.hep_code.specs.declared.instruction.Instruction.TheVariants.{Push, Step}
+use Rattle.hep_code.specs.Words.{Stands, IsPastPushes}
+use Rattle.hep_image.specs.declared.array.Array.{Array}
+use Rattle.hep_step.specs.Effects.{effect_ahead, effect_at, Effect, effect_of, fails, moves, prints, returns, stops, left_out, waits}
+use Rattle.hep_step.specs.Simulation.{unit_addressed, unit_code, IsNotLeftOut, IsRunning, Simulates, arrays_on_top, code_on_top, is_left_out, unit_arrays}
+use Rattle.hep_state.specs.Words.{IsSettled, Shows, Snapshot, Stack, IsTurning, frame_under, top_after, with_stack, IsAbsent, IsAfter}
+use Rattle.hep_code.proofs.Ahead.{drop_one_more, pushed}
+use Rattle.hep_views.specs.Waited.{effect_behind, wanted_by_levels, wanted_by_stack, wanted_for, wanted_on, wanted_seen}
+use Rattle.std.specs.Option.{option_map}
+use Rattle.hep_machine.specs.State.{Level as SourceLevel}
 use Rattle.hep_machine.specs.Step.{wanted_of as wanted_in}
 use Rattle.hep_arena.specs.Holes.{Hole}
-use Rattle.hep_code.specs.declared.instruction.Instruction.{Instruction}
-use Rattle.hep_code.specs.declared.instruction.Instruction.TheVariants.{Pass, Push, Show, Step, To}
 use Rattle.hep_code.specs.declared.instruction.Operation.{Operation}
 use Rattle.hep_code.specs.declared.instruction.Operation.TheVariants.{Call, Create, Purge}
-use Rattle.hep_code.specs.Ahead.{IsPastPushes}
-use Rattle.hep_code.specs.Standing.{Stands}
-use Rattle.hep_frames.specs.Addresses.{address}
+use Rattle.hep_frames.specs.Words.{address}
 use Rattle.hep_frames.proofs.Stacks.{top-numbered}
-use Rattle.hep_image.specs.declared.array.Array.{Array}
-use Rattle.hep_step.specs.Effects.{Effect, effect_ahead, effect_at, effect_of, fails, moves, prints, returns, stops, left_out, waits}
-use Rattle.hep_step.specs.Simulation.{IsNotLeftOut, IsRunning, Simulates, arrays_on_top, code_on_top, is_left_out, unit_addressed, unit_arrays, unit_code}
 use Rattle.hep_state.specs.declared.machine.Level.{Level}
-use Rattle.hep_state.specs.Showing.{Shows}
-use Rattle.hep_state.specs.Snapshots.{Snapshot, Stack}
-use Rattle.hep_state.specs.Tops.{IsTurning, frame_under, top_after, with_stack}
-use Rattle.hep_state.specs.Turns.{IsAbsent, IsAfter}
 use Rattle.hep_state.proofs.Standing.{stack-standing}
-use Rattle.hep_views.specs.Waited.{wanted_by_levels, wanted_by_stack, wanted_for, wanted_on, wanted_seen}
-use Rattle.hep_views.proofs.Ahead.{Settles, settles-by}
 use Rattle.hep_views.proofs.Cells.{kept-told}
-use Rattle.hep_views.proofs.Going.{going_again, seen-halted, shown-going}
-use Rattle.hep_views.proofs.Stopped.{stop-of}
+use Rattle.hep_views.proofs.Stopped.{going_again, seen-halted, shown-going, stop-of}
 use Rattle.hep_views.proofs.Wants.{absent-waits-not, left-out-waits-not, wanted-halted}
+
+first-there : {A : Type 0} (xs : List A) (n : ℕ) (x : A) → slice_get xs n ≡ Some x → (rest : List A) × (drop n xs ≡ x ∷ rest)
+first-there [] n x e = absurd cc
+first-there (y ∷ ys) zero x e = (ys, ap (λ z. z ∷ ys) (same_Some y x e))
+first-there (y ∷ ys) (suc n) x e = first-there ys n x e
+
+-- the operands and the index once they are, and the effect then
+pub record Settles (program : Units) (u : ℕ) (ahead : List Instruction) (operands : List Value) (index : ℕ) : Type 0 where
+  pub new : List Value
+  pub after : ℕ
+  pub settles : IsSettled program u operands index new after
+  pub effect : (arrays : List Array) (first : ℕ) (contents : List Slot)
+      → effect_behind (unit_code program u) arrays first contents ahead operands index ≡ effect_at (unit_code program u) arrays first contents new after
+
+module _ (program : Units) (u : ℕ) where
+  -- no value stands ahead
+  already : (ahead : List Instruction) (operands : List Value) (index : ℕ) → drop index (unit_code program u) ≡ ahead
+      → ((v : Value) (rest : List Instruction) → ahead ≡ Push v ∷ rest → ⊥)
+      → ((arrays : List Array) (first : ℕ) (contents : List Slot)
+      → effect_behind (unit_code program u) arrays first contents ahead operands index ≡ effect_ahead (unit_code program u) arrays first ahead contents operands index)
+      → Settles program u ahead operands index
+  already ahead operands index is other same =
+      record {
+        new = operands;
+        after = index;
+        settles = record {
+          past = λ v e. let found = first-there (unit_code program u) index (Push v) e in other v found.0 (sym is ∙ found.1);
+          stands = λ k work s. s;
+        };
+        effect = λ arrays first contents. same arrays first contents ∙ ap (λ is. effect_ahead (unit_code program u) arrays first is contents operands index) (sym is);
+      }
+
+  pub settles-by : (ahead : List Instruction) (operands : List Value) (index : ℕ) → drop index (unit_code program u) ≡ ahead
+      → Settles program u ahead operands index
+  settles-by [] operands index is = already [] operands index is (λ v rest e. cc) (λ arrays first contents. refl)
+  settles-by (Push v ∷ rest) operands index is =
+      let one : index + 1 ≡ suc index = omega arith in
+      let behind = ap (λ n. drop n (unit_code program u)) (sym one) ∙ drop_one_more (unit_code program u) index (Push v) rest is in
+      let more = settles-by rest (operands ++ v ∷ []) (suc index) behind in
+      record {
+        new = more.new;
+        after = more.after;
+        settles = record {
+          past = more.settles.past;
+          stands = λ k work s.
+              more.settles.stands k work (
+              subst (Stands (unit_addressed program u) k work (operands ++ v ∷ [])) one (pushed (unit_addressed program u) k work operands index s v rest is));
+        };
+        effect = more.effect;
+      }
+  settles-by (other ∷ rest) operands index is = already (other ∷ rest) operands index is (λ v more e. cc) (λ arrays first contents. refl)
 
 -- what laws say of all runs of a program
 pub record IsKnown (program : Units) (cells : ℕ) : Type 0 where
@@ -70,11 +111,7 @@ left-out-seen code arrays first line _ behind contents operands index left = abs
 -- whether one stands in front of these instructions
 left-out-ahead : List Instruction → Bool
 left-out-ahead (Step line o ∷ behind) = is_left_out o
-left-out-ahead (Push v ∷ behind) = false
-left-out-ahead (Pass a ∷ behind) = false
-left-out-ahead (Show a ∷ behind) = false
-left-out-ahead (To a ∷ behind) = false
-left-out-ahead [] = false
+left-out-ahead _ = false
 
 none-left-out : (code : List Instruction) (index : ℕ) (is : List Instruction) → drop index code ≡ is → left-out-ahead is ≡ false
     → IsNotLeftOut code index
@@ -164,10 +201,7 @@ module _ (program : Units) (cells : ℕ) (known : IsKnown program cells) (choice
   by-ahead : (is : List Instruction) → drop j code ≡ is → IsSeen
   unfolding left-out-ahead
   by-ahead (Step line o ∷ behind) e = by-test line o behind e (is_left_out o) refl
-  by-ahead (Push v ∷ behind) e = by-operation (none-left-out code j (Push v ∷ behind) e refl)
-  by-ahead (Pass a ∷ behind) e = by-operation (none-left-out code j (Pass a ∷ behind) e refl)
-  by-ahead (Show a ∷ behind) e = by-operation (none-left-out code j (Show a ∷ behind) e refl)
-  by-ahead (To a ∷ behind) e = by-operation (none-left-out code j (To a ∷ behind) e refl)
+  by-ahead (other ∷ behind) e = by-operation (none-left-out code j (other ∷ behind) e refl)
   by-ahead [] e = by-operation (none-left-out code j [] e refl)
 
   seen-of-turning : wanted_by program p s ≡ wanted_on program m l operands
@@ -181,11 +215,10 @@ module _ (program : Units) (cells : ℕ) (known : IsKnown program cells) where
     now = run program choices
 
     of-absent : IsAbsent program cells choices p m → wanted_by program p now ≡ None
-    of-absent h = by_reason h.none where
-      by_reason : ((run program choices).halted ≡ true) ⊎ (living (run program choices) p ≡ None)
-          → wanted_by program p (run program choices) ≡ None
-      by_reason (inl halted) = absurd (true≢false (sym halted ∙ sym after.shows.halted ∙ going))
-      by_reason (inr gone) = absent-waits-not program (run program choices) p gone
+    of-absent h = elim h.none [
+      | inl halted ↦ absurd (true≢false (sym halted ∙ sym after.shows.halted ∙ going))
+      | inr gone ↦ absent-waits-not program (run program choices) p gone
+    ]
 
     by-levels : (ls : List Level) (operands : List Value) → numbered m.processes p ≡ Some (record { levels = ls; operands = operands })
         → wanted_by program p now ≡ wanted_by_levels program m ls operands

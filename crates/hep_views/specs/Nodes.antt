@@ -2,9 +2,8 @@
 use Rattle.std.specs.Prelude.{ℕ, zero, suc, Bool, false, nat_eq, if◌then◌else◌, List, [], ◌∷◌, Option, Some, None}
 use Rattle.std.specs.List.{flat_map}
 use Rattle.std.specs.Option.{option_map_or, option_or}
-use Rattle.hep_frames.specs.Tree.{Node, Nodes}
-use Rattle.hep_state.specs.Snapshots.{Snapshot, Stack}
-use Rattle.hep_state.specs.Tops.{keys_of}
+use Rattle.hep_frames.specs.Words.{Node, Nodes}
+use Rattle.hep_state.specs.Words.{Snapshot, Stack, keys_of}
 
 abbrev pub is_of : ℕ → Option Node → Bool
 is_of a None = false

@@ -1,15 +1,13 @@
 -- What is seen of a machine, read from what it keeps: docs/MACHINE.md, "What is compared".
 use Rattle.std.specs.Prelude.{ℕ, zero, suc, List, [], ◌∷◌, ◌++◌, drop, Option, Some, None}
-use Rattle.hep_source.specs.declared.value.Value.{Value}
-use Rattle.hep_source.specs.Units.{Units, unit_at}
+use Rattle.hep_machine.specs.Words.{Value, Units, unit_at, CellView, ProcessView, View}
 use Rattle.hep_machine.specs.declared.slot.Slot.{Slot}
-use Rattle.hep_machine.specs.Views.{CellView, ProcessView, View}
-use Rattle.hep_code.specs.Depths.{line_ahead}
-use Rattle.hep_frames.specs.Tree.{Node}
+use Rattle.hep_code.specs.Words.{line_ahead}
+use Rattle.hep_frames.specs.Words.{Node}
 use Rattle.hep_seen.specs.Reading.{common_read, frame_read}
 use Rattle.hep_step.specs.Simulation.{unit_code}
 use Rattle.hep_state.specs.declared.machine.Level.{Level}
-use Rattle.hep_state.specs.Snapshots.{Snapshot, Stack}
+use Rattle.hep_state.specs.Words.{Snapshot, Stack}
 use Rattle.hep_views.specs.Nodes.{node_of}
 use Rattle.hep_views.specs.Waited.{wanted_on}
 

@@ -1,25 +1,16 @@
 -- What processes wait for, read from what a machine keeps: docs/MACHINE.md, "What is compared" and "Layout".
 use Rattle.std.specs.Prelude.{ℕ, zero, suc, ◌+◌, ◌-◌, ◌&&◌, nat_le, nat_lt, if◌then◌else◌, List, [], ◌∷◌, ◌++◌, drop, Option, Some, None}
 use Rattle.std.specs.Option.{option_map, option_or}
-use Rattle.hep_source.specs.declared.statement.Statement.{Statement}
-use Rattle.hep_source.specs.declared.value.Value.{Value}
-use Rattle.hep_source.specs.Units.{Units, unit_at}
+use Rattle.hep_machine.specs.Words.{Statement, Value, Units, unit_at, BlockName, common_cells, numbered, Location, common, local, Wanted}
 use Rattle.hep_machine.specs.declared.slot.Slot.{Slot}
-use Rattle.hep_machine.specs.Declarations.{BlockName}
-use Rattle.hep_machine.specs.Layout.{common_cells}
-use Rattle.hep_machine.specs.Processes.{numbered}
-use Rattle.hep_machine.specs.State.{Location, common, local}
-use Rattle.hep_machine.specs.Step.{Wanted}
 use Rattle.hep_code.specs.declared.instruction.Instruction.{Instruction}
 use Rattle.hep_code.specs.declared.instruction.Instruction.TheVariants.{Push}
-use Rattle.hep_frames.specs.Rows.{FramePart, argument, common_row, frame_row, owner_in, variable}
-use Rattle.hep_frames.specs.Tree.{Node}
+use Rattle.hep_frames.specs.Words.{FramePart, argument, common_row, frame_row, owner_in, variable, Node}
 use Rattle.hep_image.specs.declared.array.Array.{Array}
 use Rattle.hep_step.specs.Effects.{Effect, effect_ahead, waits}
 use Rattle.hep_step.specs.Simulation.{unit_arrays, unit_code}
 use Rattle.hep_state.specs.declared.machine.Level.{Level}
-use Rattle.hep_state.specs.Showing.{node_under}
-use Rattle.hep_state.specs.Snapshots.{Snapshot, Stack}
+use Rattle.hep_state.specs.Words.{node_under, Snapshot, Stack}
 use Rattle.hep_views.specs.Nodes.{node_of}
 
 -- ---- which storage unit a cell keeps

@@ -1,19 +1,10 @@
 //! Laws of what is seen: it is what is seen of the source machine's state.
 ghost use Rattle.std.specs.Prelude.{◌≡◌, ◌≤◌, ◌<◌, ◌+◌, ◌-◌, ℕ, true, List, Some, None, is_some};
-ghost use Rattle.hep_source.specs.declared.name.Name.{Name};
-ghost use Rattle.hep_source.specs.Units.{Units, main_among, unit_at};
-ghost use Rattle.hep_machine.specs.Declarations.{BlockName};
-ghost use Rattle.hep_machine.specs.Layout.{Frame, Layout, common_cells, frame_of, is_held};
-ghost use Rattle.hep_machine.specs.Processes.{unit_of};
-ghost use Rattle.hep_machine.specs.Run.{run};
-ghost use Rattle.hep_machine.specs.State.{Location, State, common, local};
-ghost use Rattle.hep_machine.specs.Step.{wanted_by};
-ghost use Rattle.hep_machine.specs.Views.{view_of};
+ghost use Rattle.hep_machine.specs.Words.{Name, Units, main_among, unit_at, BlockName, Frame, Layout, common_cells, frame_of, is_held, unit_of, run, Location, State, common, local, wanted_by, view_of};
 ghost use Rattle.hep_arena.specs.Gaps.{frame_among};
-ghost use Rattle.hep_check.specs.Conditions.{IsAccepted};
-ghost use Rattle.hep_frames.specs.Addresses.{address};
-ghost use Rattle.hep_state.specs.Snapshots.{Snapshot};
-ghost use Rattle.hep_state.specs.Turns.{IsAfter};
+ghost use Rattle.hep_check.specs.Words.{IsAccepted};
+ghost use Rattle.hep_frames.specs.Words.{address};
+ghost use Rattle.hep_state.specs.Words.{Snapshot, IsAfter};
 ghost use Rattle.hep_views.specs.Seen.{machine_view};
 ghost use Rattle.hep_views.specs.Waited.{unit_in_common, unit_in_frame, unit_kept_at, wanted_seen};
 

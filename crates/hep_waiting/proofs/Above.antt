@@ -1,21 +1,10 @@
 -- From an activation upwards: whose parent is above it, and what a name stands for is of it or of one above it.
-use Rattle.std.proofs.Common.{◌≡◌, inl, inr, ℕ, ◌-◌, ◌||◌, true, List, Option, Some, None, refl, sym, ap, ◌∙◌, subst}
-use Rattle.std.specs.Prelude.{Result, Ok, Err, nat_eq}
+use Rattle.std.proofs.Common.{◌≡◌, inl, inr, ℕ, ◌-◌, ◌||◌, true, List, Option, Some, None, refl, sym, ap, ◌∙◌, subst, Result, Ok, Err, nat_eq}
 use Rattle.std.proofs.lemmas.Bool.{eqb-true, eq-eqb, or_left, or_right, or_cases}
 use Rattle.std.proofs.lemmas.Option.{none-some, same_Some}
-use Rattle.hep_source.specs.declared.name.Name.{Name}
-use Rattle.hep_source.specs.declared.value.Value.{Value}
-use Rattle.hep_source.specs.Names.{index_among}
-use Rattle.hep_source.specs.Units.{Units, dummies_of, unit_at}
+use Rattle.hep_machine.specs.Words.{Name, Value, index_among, Units, dummies_of, unit_at, BlockName, common_block, next_of, Scope, dummy_at, element_of, location_in, location_of_name, start_by_block, storage_by_dummy, storage_of, activation_of, living, parent_of, unit_of, Level, Location, Process, State, common, local, Wanted, scope_of, further}
 use Rattle.hep_machine.specs.declared.event.Kind.{Kind}
-use Rattle.hep_machine.specs.Declarations.{BlockName, common_block}
-use Rattle.hep_machine.specs.Evaluation.{next_of}
-use Rattle.hep_machine.specs.Locations.{Scope, dummy_at, element_of, location_in, location_of_name, start_by_block, storage_by_dummy, storage_of}
-use Rattle.hep_machine.specs.Processes.{activation_of, living, parent_of, unit_of}
-use Rattle.hep_machine.specs.State.{Level, Location, Process, State, common, local}
-use Rattle.hep_machine.specs.Step.{Wanted, scope_of}
-use Rattle.hep_machine.specs.Storage.{further}
-use Rattle.hep_frames.specs.References.{IsAbove, IsOwnedAbove}
+use Rattle.hep_frames.specs.Words.{IsAbove, IsOwnedAbove}
 use Rattle.hep_needs.specs.Needs.{need_of, need_of_next, on_top}
 use Rattle.hep_needs.proofs.Holding.{need-named}
 

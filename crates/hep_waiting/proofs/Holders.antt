@@ -1,17 +1,12 @@
 -- Upwards from an activation the node of the one is found whose frame has a cell.
-use Rattle.std.proofs.Common.{◌≡◌, inl, inr, ℕ, zero, suc, ◌+◌, ◌-◌, ◌<◌, ◌≤◌, Bool, true, false, Option, Some, None, refl, sym, ap, ◌∙◌, subst, arith}
-use Rattle.std.specs.Prelude.{IsSome, if◌then◌else◌, nat_eq}
+use Rattle.std.proofs.Common.{◌≡◌, inl, inr, ℕ, zero, suc, ◌+◌, ◌-◌, ◌<◌, ◌≤◌, Bool, true, false, Option, Some, None, refl, sym, ap, ◌∙◌, subst, arith, IsSome, if◌then◌else◌, nat_eq}
 use Rattle.std.specs.Option.{option_map, option_map_or}
 use Rattle.std.proofs.lemmas.Bool.{eqb-false, eqb-true}
 use Rattle.std.proofs.lemmas.Bool.Decides.{nat_tests}
 use Rattle.std.proofs.lemmas.Option.{none-some, same_Some}
-use Rattle.hep_machine.specs.Layout.{Frame, Layout}
-use Rattle.hep_machine.specs.Laws.{StandApart}
-use Rattle.hep_machine.specs.Processes.{parent_of}
-use Rattle.hep_machine.specs.State.{State}
+use Rattle.hep_machine.specs.Words.{Frame, Layout, StandApart, parent_of, State}
 use Rattle.hep_arena.specs.Gaps.{frame_among}
-use Rattle.hep_frames.specs.References.{IsAbove}
-use Rattle.hep_frames.specs.Tree.{AreFramed, IsTree, Node, Nodes, activation_under}
+use Rattle.hep_frames.specs.Words.{IsAbove, AreFramed, IsTree, Node, Nodes, activation_under}
 use Rattle.hep_frames.proofs.Frames.{apart-frames}
 use Rattle.hep_views.specs.Nodes.{parent_in}
 use Rattle.hep_waiting.specs.Sought.{has_among, has_cell, holder_above}

@@ -1,23 +1,12 @@
 -- The cell of a storage unit that is sought tells its place.
-use Rattle.std.proofs.Common.{◌≡◌, inl, inr, ◌⊎◌, ℕ, zero, suc, ◌+◌, ◌-◌, ◌<◌, ◌≤◌, true, List, length, Option, Some, None, refl, sym, ap, ◌∙◌, subst, arith}
-use Rattle.std.specs.Prelude.{IsSome, is_some}
+use Rattle.std.proofs.Common.{◌≡◌, inl, inr, ◌⊎◌, ℕ, zero, suc, ◌+◌, ◌-◌, ◌<◌, ◌≤◌, true, List, length, Option, Some, None, refl, sym, ap, ◌∙◌, subst, arith, IsSome, is_some}
 use Rattle.std.proofs.lemmas.Option.{none-some, same_Some, slice_get_within}
 use Rattle.slab.specs.Slab.{get}
-use Rattle.hep_source.specs.declared.name.Name.{Name}
-use Rattle.hep_source.specs.declared.statement.Statement.{Statement}
-use Rattle.hep_source.specs.Units.{Units, dummies_of, main_among, unit_at}
-use Rattle.hep_machine.specs.Declarations.{BlockName}
-use Rattle.hep_machine.specs.Layout.{Layout, common_cells, frame_of, is_held}
-use Rattle.hep_machine.specs.Processes.{parent_of, unit_of}
-use Rattle.hep_machine.specs.Run.{run}
-use Rattle.hep_machine.specs.State.{Location, State, common, local}
+use Rattle.hep_machine.specs.Words.{Name, Statement, Units, dummies_of, main_among, unit_at, BlockName, Layout, common_cells, frame_of, is_held, parent_of, unit_of, run, Location, State, common, local}
 use Rattle.hep_machine.proofs.Ages.{run_older}
-use Rattle.hep_check.specs.Conditions.{IsAccepted}
+use Rattle.hep_check.specs.Words.{IsAccepted}
 use Rattle.hep_accepted.proofs.Meant.{dummies_once}
-use Rattle.hep_frames.specs.Addresses.{IsLaid, address}
-use Rattle.hep_frames.specs.References.{IsOwnedAbove}
-use Rattle.hep_frames.specs.Rows.{FramePart, argument, common_row, frame_row, owner_in, variable}
-use Rattle.hep_frames.specs.Tree.{Node, is_stacked}
+use Rattle.hep_frames.specs.Words.{IsLaid, address, IsOwnedAbove, FramePart, argument, common_row, frame_row, owner_in, variable, Node, is_stacked}
 use Rattle.hep_frames.proofs.Frames.{among}
 use Rattle.hep_image.specs.Image.{most_cells}
 use Rattle.hep_image.specs.Owners.{AreGivenOnce, IsBlockTold, IsTold}

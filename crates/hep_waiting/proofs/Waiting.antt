@@ -1,33 +1,21 @@
 -- A process that waits: where its top activation is, in the machine and in the source, and what it waits for.
-use Rattle.std.proofs.Common.{◌≡◌, ℕ, zero, suc, ◌<◌, Bool, true, false, true≢false, List, [], ◌∷◌, ◌++◌, map, drop, length, Option, Some, None, refl, sym, ap, ◌∙◌, subst, arith, append_assoc}
-use Rattle.std.specs.Prelude.{if◌then◌else◌, is_some, not}
+use Rattle.std.proofs.Common.{◌≡◌, ℕ, zero, suc, ◌<◌, Bool, true, false, true≢false, List, [], ◌∷◌, ◌++◌, map, drop, length, Option, Some, None, refl, sym, ap, ◌∙◌, subst, arith, append_assoc, if◌then◌else◌, is_some, not}
 use Rattle.std.proofs.lemmas.Option.{none-some, same_Some}
-use Rattle.hep_source.specs.declared.value.Value.{Value}
-use Rattle.hep_source.specs.Units.{Units, line_at, unit_at}
-use Rattle.hep_machine.specs.Evaluation.{Next, wants, does, next_of}
-use Rattle.hep_machine.specs.Processes.{living, numbered, top_of, unit_of}
-use Rattle.hep_machine.specs.Run.{run}
-use Rattle.hep_machine.specs.State.{Level as SourceLevel, Process, State, Store, Work}
-use Rattle.hep_machine.specs.Step.{Wanted, wanted_by}
+use Rattle.hep_machine.specs.Words.{Value, Units, line_at, unit_at, Next, wants, does, next_of, living, numbered, top_of, unit_of, run, Process, State, Store, Work, Wanted, wanted_by}
+use Rattle.hep_machine.specs.State.{Level as SourceLevel}
 use Rattle.hep_blocked.specs.declared.want.Want.{Want}
 use Rattle.hep_code.specs.declared.instruction.Instruction.{Instruction}
 use Rattle.hep_code.specs.declared.instruction.Instruction.TheVariants.{Push}
-use Rattle.hep_code.specs.Actions.{operands_of_action, operands_of_redex}
-use Rattle.hep_code.specs.Depths.{line_ahead}
-use Rattle.hep_code.specs.Standing.{Stands, work_code}
-use Rattle.hep_code.specs.UnitCode.{AddressedUnit, code_of}
+use Rattle.hep_code.specs.Words.{operands_of_action, operands_of_redex, line_ahead, Stands, work_code, AddressedUnit, code_of}
 use Rattle.hep_code.proofs.Works.{NextIs, work_is}
-use Rattle.hep_frames.specs.References.{IsOwnedAbove}
-use Rattle.hep_frames.specs.Tree.{Node, Nodes}
+use Rattle.hep_frames.specs.Words.{IsOwnedAbove, Node, Nodes}
 use Rattle.hep_frames.proofs.References.{references}
 use Rattle.hep_needs.specs.Needs.{need_of, unmet}
 use Rattle.hep_needs.proofs.Waiting.{waits-unmet}
 use Rattle.hep_proc.specs.Nodes.{nodes_of}
 use Rattle.hep_state.specs.declared.machine.Level.{Level}
 use Rattle.hep_state.specs.declared.machine.Machine.{Machine}
-use Rattle.hep_state.specs.Rooms.{IsMachineAfter}
-use Rattle.hep_state.specs.Snapshots.{Stack, snapshot_of}
-use Rattle.hep_state.specs.Taking.{stack_with}
+use Rattle.hep_state.specs.Words.{IsMachineAfter, Stack, snapshot_of, stack_with}
 use Rattle.hep_state.proofs.Standing.{AreStanding, stack-standing}
 use Rattle.hep_step.specs.Simulation.{unit_addressed, unit_code}
 use Rattle.hep_listed.specs.Listing.{IsBlocked}

@@ -1,11 +1,6 @@
 -- A process that waits, as a person reads of it: docs/MACHINE.md, "Lines of processes that wait".
 use Rattle.std.specs.Prelude.{ℕ, if◌then◌else◌, Option, Some, None}
-use Rattle.hep_source.specs.declared.name.Name.{Name}
-use Rattle.hep_source.specs.Units.{Units, line_at, unit_at}
-use Rattle.hep_machine.specs.Declarations.{BlockName, is_array}
-use Rattle.hep_machine.specs.Processes.{living, unit_of}
-use Rattle.hep_machine.specs.State.{Level, Location, Process, State, common, local}
-use Rattle.hep_machine.specs.Step.{Wanted, wanted_by}
+use Rattle.hep_machine.specs.Words.{Name, Units, line_at, unit_at, BlockName, is_array, living, unit_of, Level, Location, Process, State, common, local, Wanted, wanted_by}
 use Rattle.hep_image.specs.Names.{block_number, variable_number}
 use Rattle.hep_waiting.specs.declared.listed.Listed.{Listed}
 use Rattle.hep_waiting.specs.declared.place.Place.{Place}

@@ -1,17 +1,12 @@
 -- Where the storage unit that is kept in a cell is looked for: in COMMON, and in the frames from an activation upwards.
 use Rattle.std.specs.Prelude.{◌≡◌, ◌+◌, ◌≤◌, ℕ, zero, suc, ◌&&◌, Bool, false, nat_le, nat_lt, if◌then◌else◌, List, Option, Some, None}
 use Rattle.std.specs.Option.{option_map_or}
-use Rattle.hep_source.specs.Units.{Units}
-use Rattle.hep_machine.specs.Run.{run}
-use Rattle.hep_machine.specs.State.{Location}
-use Rattle.hep_frames.specs.Addresses.{address}
-use Rattle.hep_frames.specs.References.{IsOwnedAbove}
-use Rattle.hep_frames.specs.Tree.{Node, Nodes}
+use Rattle.hep_machine.specs.Words.{Units, run, Location}
+use Rattle.hep_frames.specs.Words.{address, IsOwnedAbove, Node, Nodes}
 use Rattle.hep_image.specs.Image.{most_cells}
 use Rattle.hep_proc.specs.Nodes.{nodes_of}
 use Rattle.hep_state.specs.declared.machine.Machine.{Machine}
-use Rattle.hep_state.specs.Snapshots.{snapshot_of}
-use Rattle.hep_state.specs.Turns.{IsAfter}
+use Rattle.hep_state.specs.Words.{snapshot_of, IsAfter}
 use Rattle.hep_views.specs.Nodes.{parent_in}
 
 -- the frame of a node has a cell

@@ -1,22 +1,14 @@
 //! From the cell for which a process waits to the storage unit that is kept there.
 ghost use Rattle.std.specs.Prelude.{◌≡◌, ◌+◌, ◌-◌, ◌<◌, ◌≤◌, ◌&&◌, ℕ, if◌then◌else◌, nat_le, nat_lt, IsSome, List, Some, drop, length};
 ghost use Rattle.slab.specs.Slab.{ContainsKey};
-ghost use Rattle.hep_source.specs.declared.name.Name.{Name};
-ghost use Rattle.hep_source.specs.declared.value.Value.{Value};
-ghost use Rattle.hep_source.specs.Units.{unit_at};
-ghost use Rattle.hep_machine.specs.Declarations.{BlockName};
-ghost use Rattle.hep_machine.specs.Processes.{numbered};
-ghost use Rattle.hep_machine.specs.Run.{run};
-ghost use Rattle.hep_machine.specs.State.{Location};
+ghost use Rattle.hep_machine.specs.Words.{Name, Value, unit_at, BlockName, numbered, run, Location};
 ghost use Rattle.hep_code.specs.Depths as depths;
-ghost use Rattle.hep_frames.specs.Tree.{Node};
+ghost use Rattle.hep_frames.specs.Words.{Node};
 ghost use Rattle.hep_image.specs.Image.{most_cells};
 ghost use Rattle.hep_image.specs.Owners.{IsBlockTold, IsTold};
 ghost use Rattle.hep_proc.specs.Nodes.{nodes_of};
 ghost use Rattle.hep_state.specs.declared.machine.Level.{Level as ALevel};
-ghost use Rattle.hep_state.specs.Rooms.{IsMachineAfter};
-ghost use Rattle.hep_state.specs.Snapshots.{snapshot_of};
-ghost use Rattle.hep_state.specs.Taking.{HasLevels, stack_with};
+ghost use Rattle.hep_state.specs.Words.{IsMachineAfter, snapshot_of, HasLevels, stack_with};
 ghost use Rattle.hep_listed.specs.Listing.{IsBlocked};
 ghost use Rattle.hep_waiting.specs.Listed.{block_place, listed_by, place_of, variable_place};
 ghost use Rattle.hep_waiting.specs.Sought.{IsSought, has_cell as frame_has_cell, holder_above};

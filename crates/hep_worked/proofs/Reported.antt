@@ -1,12 +1,10 @@
 -- What is reported of a source.
 use Rattle.std.specs.Prelude.{◌≡◌, ℕ, List, [], Option, Some, None, Result, Ok, Err}
 use Prim.Native.String.{String}
-use Rattle.hep_source.specs.declared.name.Name.{Name}
-use Rattle.hep_source.specs.Names.{spelling}
-use Rattle.hep_source.specs.Units.{Units}
+use Rattle.hep_machine.specs.Words.{Name, spelling, Units}
 use Rattle.hep_worked.proofs.Sources.{units_of}
 use Rattle.hep_check.specs.declared.violation.Violation.{Violation}
-use Rattle.hep_check.specs.Conditions.{first_violation}
+use Rattle.hep_check.specs.Words.{first_violation}
 
 -- what is reported of a source
 pub data Reported : Type 0 where

@@ -1,20 +1,11 @@
 -- The history of a serial run is one that the machine can have, and what the run knows of its state, of its frames and of the
 -- processes that wait is what the definitions say of that history.
-use Rattle.std.proofs.Common.{◌≡◌, ℕ, zero, suc, ◌+◌, ◌≤◌, Bool, true, false, if◌then◌else◌, is_some, List, [], ◌∷◌, ◌++◌, length, replicate, reverse, Option, Some, None, Result, Ok, Err, arith, refl, ap, sym, subst, ◌∙◌}
-use mathlib.Core.Logic.{inl, inr}
+use Rattle.std.proofs.Common.{◌≡◌, ℕ, zero, suc, ◌+◌, ◌≤◌, Bool, true, false, if◌then◌else◌, is_some, List, [], ◌∷◌, ◌++◌, length, replicate, reverse, Option, Some, None, Result, Ok, Err, arith, refl, ap, sym, subst, ◌∙◌, inl, inr}
 use Rattle.std.specs.Option.{unwrap_or}
 use Rattle.std.proofs.lemmas.Grind.{reverse_onto}
 use Rattle.std.proofs.lemmas.List.{length-reverse}
 use Rattle.hep_machine.specs.declared.event.Entry.{Entry}
-use Rattle.hep_machine.specs.Histories.{IsEntry, AreEntries, IsLegal}
-use Rattle.hep_machine.specs.Laws.{state_replayed}
-use Rattle.hep_machine.specs.Layout.{Layout, Placing, is_held, layout_after_step, opening_layout, placing_turn, placing_from}
-use Rattle.hep_machine.specs.Opening.{opening}
-use Rattle.hep_machine.specs.Run.{state_after_turn, run_from, schedule_of_entry, schedule_of}
-use Rattle.hep_machine.specs.Schedules.{Progress, progress_after_step, progress_after_entry, progress_from, progress_after, ready_in, last_process, next_of_ready, next_ready}
-use Rattle.hep_machine.specs.State.{State}
-use Rattle.hep_machine.specs.Step.{StepResult, Wanted, stepped, waiting, absent, step_result_of, wanted_of, step}
-use Rattle.hep_source.specs.Units.{Units}
+use Rattle.hep_machine.specs.Words.{IsEntry, AreEntries, IsLegal, state_replayed, Layout, Placing, is_held, layout_after_step, opening_layout, placing_turn, placing_from, opening, state_after_turn, run_from, schedule_of_entry, schedule_of, Progress, progress_after_step, progress_after_entry, progress_from, progress_after, ready_in, last_process, next_of_ready, next_ready, State, StepResult, Wanted, stepped, waiting, absent, step_result_of, wanted_of, step, Units}
 use Rattle.hep_worked.proofs.SerialRuns.{Course, Ending, halted, entry, last_of, with_step, with_turn, turned, next_of, if_next, if_turned, course_from, first_course, course_in, course}
 use Rattle.hep_machine.proofs.Others.{step-is}
 

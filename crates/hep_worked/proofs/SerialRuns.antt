@@ -7,16 +7,7 @@ use Rattle.hep_machine.specs.declared.event.Kind.{Kind}
 use Rattle.hep_machine.specs.declared.record.Item.{Item}
 use Rattle.hep_machine.specs.declared.record.Item.TheVariants.{Int}
 use Rattle.hep_source.specs.declared.value.Value.TheVariants as value
-use Rattle.hep_machine.specs.Layout.{Layout, layout_after_step, opening_layout, placing_from, layout_of, used_cells, common_cells, is_made}
-use Rattle.hep_machine.specs.Opening.{opening}
-use Rattle.hep_machine.specs.Schedules.{Progress, progress_after_step, progress_after_entry, ready_in, next_of_ready, living_from}
-use Rattle.hep_machine.specs.Run.{state_after_turn, run, run_from, schedule_of, state_after}
-use Rattle.hep_machine.specs.Processes.{living}
-use Rattle.hep_machine.specs.State.{State, Level, Process, Cell, Location, local}
-use Rattle.hep_machine.specs.Step.{StepResult, stepped, waiting, absent, step_result_of}
-use Rattle.hep_source.specs.Units.{Units}
-use Rattle.hep_machine.specs.Variables.{frame_cells}
-use Rattle.hep_machine.specs.Views.{CellView, ProcessView, process_views_from, View, view_of}
+use Rattle.hep_machine.specs.Words.{Layout, layout_after_step, opening_layout, placing_from, layout_of, used_cells, common_cells, is_made, opening, Progress, progress_after_step, progress_after_entry, ready_in, next_of_ready, living_from, state_after_turn, run, run_from, schedule_of, state_after, living, State, Level, Process, Cell, Location, local, StepResult, stepped, waiting, absent, step_result_of, Units, frame_cells, CellView, ProcessView, process_views_from, View, view_of}
 use Rattle.hep_expression.specs.Characters.{named}
 use Rattle.hep_parse.specs.ReadingProgram.{Refusal}
 use Rattle.hep_worked.proofs.Sources.{units_of}

@@ -1,7 +1,7 @@
 -- From the lines of a source to its units, for worked rows.
 use Rattle.std.specs.Prelude.{ℕ, codes, List, [], ◌∷◌, ◌++◌, Result, Ok, Err}
 use Prim.Native.String.{String}
-use Rattle.hep_source.specs.Units.{Units}
+use Rattle.hep_machine.specs.Words.{Units}
 use Rattle.hep_text.specs.declared.statement.Stmt.{Stmt}
 use Rattle.hep_text.specs.Line.{kind, labelled}
 use Rattle.hep_text.specs.Reading.{columns, joined, statements_of}

@@ -2,7 +2,7 @@
 use Rattle.std.specs.Prelude.{◌≡◌, List, [], ◌∷◌, refl}
 use Prim.Native.String.{String}
 use Rattle.hep_machine.specs.declared.event.Kind.TheVariants.{Divide, Range, Undefined, Shape}
-use Rattle.hep_machine.specs.Layout.{is_made, is_held}
+use Rattle.hep_machine.specs.Words.{is_made, is_held}
 use Rattle.hep_worked.proofs.SerialRuns.{AllRun, report, runs, arena_full, int, minus, one, numbers, fault, stands, ended, faulted, ended_by}
 
 -- ---- Actual and dummy arguments

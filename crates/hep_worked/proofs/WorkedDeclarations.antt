@@ -1,10 +1,7 @@
 -- Further sources at the conditions of declarations: positions in COMMON, adjustable bounds, DATA and large counts; a run of a large
 -- array, and a long chain of activations.
 use Rattle.std.specs.Prelude.{◌≡◌, ℕ, zero, suc, true, false, List, [], ◌∷◌, ◌++◌, Option, Some, None, replicate, refl}
-use Rattle.hep_machine.specs.Layout.{is_held, is_made}
-use Rattle.hep_machine.specs.State.{Activation, Process, State, doing}
-use Rattle.hep_machine.specs.Access.{unset_cell}
-use Rattle.hep_source.specs.declared.statement.Form.TheVariants.{End}
+use Rattle.hep_machine.specs.Words.{is_held, is_made, Activation, Process, State, doing, unset_cell, End}
 use Rattle.hep_worked.proofs.Reported.{spelled, reported_of, reported_by, reported, accepts, refuses, names}
 use Rattle.hep_worked.proofs.SerialRuns.{numbers, report, ended}
 use Rattle.hep_worked.proofs.Sources.{units_of}

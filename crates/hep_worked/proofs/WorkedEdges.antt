@@ -1,7 +1,6 @@
 -- Further sources at the edges of the conditions: several violations at once, neighbours of each rule, and cells of frames.
 use Rattle.std.specs.Prelude.{◌≡◌, ℕ, codes, List, [], ◌∷◌, Result, Ok, Err, refl}
-use Rattle.hep_source.specs.Units.{Units}
-use Rattle.hep_machine.specs.Variables.{frame_cells}
+use Rattle.hep_machine.specs.Words.{Units, frame_cells}
 use Rattle.hep_worked.proofs.Sources.{units_of}
 use Rattle.hep_worked.proofs.Reported.{spelled, reported_of, reported_by, reported, accepts, refuses, names}
 

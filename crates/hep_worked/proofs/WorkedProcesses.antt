@@ -3,8 +3,7 @@ use Rattle.std.specs.Prelude.{◌≡◌, true, false, List, [], ◌∷◌, None,
 use Prim.Native.String.{String}
 use Rattle.hep_machine.specs.declared.event.Kind.TheVariants.{Divide, Range, Undefined}
 use Rattle.hep_machine.specs.declared.record.Item.TheVariants.{Truth}
-use Rattle.hep_machine.specs.Layout.{is_made, is_held}
-use Rattle.hep_machine.specs.State.{common}
+use Rattle.hep_machine.specs.Words.{is_made, is_held, common}
 use Rattle.hep_worked.proofs.SerialRuns.{AllRun, report, runs, done, all_wait, halted, arena_full, no_such_process, int, one, fault, stands, waits_for_full, waits_for_empty, asynchronous, ended, faulted, ended_by}
 
 -- ---- Asynchronous variables

@@ -3,8 +3,7 @@ use Rattle.std.specs.Prelude.{◌≡◌, true, false, codes, List, [], ◌∷◌
 use Prim.Native.String.{String}
 use Rattle.hep_machine.specs.declared.event.Kind.TheVariants.{Overflow, Range, Undefined, Shape, Step}
 use Rattle.hep_machine.specs.declared.record.Item.TheVariants.{Truth, Text}
-use Rattle.hep_machine.specs.Layout.{is_made, is_held}
-use Rattle.hep_machine.specs.State.{common}
+use Rattle.hep_machine.specs.Words.{is_made, is_held, common}
 use Rattle.hep_worked.proofs.SerialRuns.{AllRun, report, runs, history, used_along, layout_after, frames, view, all_wait, halted, arena_full, step_limit, no_such_process, int, minus, one, numbers, fault, stands, waits_for_full, asynchronous, plain, cell, unset_cell, holds, entries_of, ended, rejected, faulted, ended_by}
 
 -- ---- Reading

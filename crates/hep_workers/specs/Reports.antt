@@ -1,7 +1,6 @@
 -- What a report says, and why there is none: docs/MACHINE.md, "Workers".
 use Rattle.std.specs.Prelude.{◌≡◌, ◌≢◌, true, false, List, None}
-use Rattle.hep_machine.specs.Layout.{opening_layout}
-use Rattle.hep_source.specs.Units.{Units}
+use Rattle.hep_machine.specs.Words.{opening_layout, Units}
 use Rattle.hep_scheduler.specs.Value.{CoreValue, verdict_of}
 use Rattle.hep_scheduler.specs.declared.stop.Verdict.TheVariants.{Running}
 use Rattle.hep_workers.specs.declared.fault.CloseFault.{CloseFault}

@@ -1,42 +1,16 @@
 -- Each actual argument that is passed fits the dummy argument in its place.
-use Rattle.std.proofs.Common.{◌≡◌, inl, inr, ℕ, zero, suc, Bool, true, false, List, [], ◌∷◌, ◌++◌, length, Option, Some, None, refl, sym, ap, ◌∙◌, subst, true≢false}
-use Rattle.std.specs.Prelude.{◌&&◌, not, if◌then◌else◌, slice_get, map}
+use Rattle.std.proofs.Common.{◌≡◌, inl, inr, ℕ, zero, suc, Bool, true, false, List, [], ◌∷◌, ◌++◌, length, Option, Some, None, refl, sym, ap, ◌∙◌, subst, true≢false, ◌&&◌, not, if◌then◌else◌, slice_get, map}
 use Rattle.std.specs.List.{flat_map}
 use Rattle.std.specs.Option.{unwrap_or}
 use Rattle.std.proofs.lemmas.Bool.{and_parts, not-true}
 use Rattle.std.proofs.lemmas.Option.{none-some, same_Some, slice_get_within}
-use Rattle.hep_source.specs.Names.{same_logical, spelling}
-use Rattle.hep_source.specs.Tree.{Tree, Trees, constant, occurrence, with_list, parenthesized, signed, negated, binary, no_trees, trees}
-use Rattle.hep_source.specs.declared.declaration.DataGroup.{DataGroup}
-use Rattle.hep_source.specs.declared.declaration.NamedConstant.{NamedConstant}
-use Rattle.hep_source.specs.declared.declaration.Target.{Target}
-use Rattle.hep_source.specs.declared.declaration.ValueType.{ValueType}
-use Rattle.hep_source.specs.declared.declaration.ValueType.TheVariants.{Integer, Logical}
-use Rattle.hep_source.specs.declared.function.PureFunction.{PureFunction}
-use Rattle.hep_source.specs.declared.function.StateFunction.{StateFunction}
-use Rattle.hep_source.specs.declared.name.Name.{Name}
-use Rattle.hep_source.specs.declared.name.Occurrence.{Occurrence}
-use Rattle.hep_source.specs.declared.statement.Form.{Form}
+use Rattle.hep_machine.specs.Words.{same_logical, spelling, Tree, Trees, constant, occurrence, with_list, parenthesized, signed, negated, binary, no_trees, trees, DataGroup, NamedConstant, Target, ValueType, Integer, Logical, PureFunction, StateFunction, Name, Occurrence, Form, Statement, Value, Units, dummies_of, unit_at, constant_value, groups_in, constants_in, declarators_in, dimensions_of, is_array, is_constant_name, is_nonempty, type_of, Actual, evaluated, referred, Part, whole, first_redex, actual_of, actual_of_listed, actual_of_name, mapped_part, part_of, part_of_listed, parts_of, reference_of, then_part, Meaning, by_pure_function, element, pure, pure_functions, state, state_functions, unknown, function_named, listed_meaning, word_in, unit_called, names_of, occurrences_in, occurrences_in_all, occurrences_in_statement}
 use Rattle.hep_source.specs.declared.statement.Form.TheVariants as form
-use Rattle.hep_source.specs.declared.statement.Statement.{Statement}
-use Rattle.hep_source.specs.declared.value.Value.{Value}
-use Rattle.hep_source.specs.Units.{Units, dummies_of, unit_at}
-use Rattle.hep_machine.specs.Constants.{constant_value}
-use Rattle.hep_machine.specs.Data.{groups_in}
-use Rattle.hep_machine.specs.Declarations.{constants_in, declarators_in, dimensions_of, is_array, is_constant_name, is_nonempty, type_of}
-use Rattle.hep_machine.specs.Evaluation.{Actual, evaluated, referred, Part, whole, first_redex, actual_of, actual_of_listed, actual_of_name, mapped_part, part_of, part_of_listed, parts_of, reference_of, then_part}
-use Rattle.hep_machine.specs.Functions.{Meaning, by_pure_function, element, pure, pure_functions, state, state_functions, unknown, function_named, listed_meaning, word_in}
-use Rattle.hep_machine.specs.Step.{unit_called}
-use Rattle.hep_machine.specs.Variables.{names_of, occurrences_in, occurrences_in_all, occurrences_in_statement}
-use Rattle.hep_check.specs.Arguments.{value, variable, whole_array, actual_class, fits_array, fits_dummy, fits_scalar, given_name, given_with_list}
-use Rattle.hep_check.specs.Conditions.{IsAccepted}
-use Rattle.hep_check.specs.Counts.{count_of}
-use Rattle.hep_check.specs.Statements.{Calling, calls_in, trees_in_declarator, trees_in_form, trees_in_statement}
-use Rattle.hep_check.specs.Types.{KnownType, agree, same_declared, type_of_tree}
+use Rattle.hep_check.specs.Words.{value, variable, whole_array, actual_class, fits_array, fits_dummy, fits_scalar, given_name, given_with_list, IsAccepted, count_of, Calling, calls_in, trees_in_declarator, trees_in_form, trees_in_statement, KnownType, agree, same_declared, type_of_tree}
 use Rattle.hep_accepted.specs.Agreement.{CallsSubroutine}
 use Rattle.hep_accepted.specs.Typing.{IsListOf}
 use Rattle.hep_accepted.proofs.Formed.{occurrence_in_statement, operands_have_types}
-use Rattle.hep_accepted.proofs.Members.{Has, has_behind, has_flat}
+use Rattle.hep_accepted.proofs.Members.{Has, has_behind, has_flat, name_of_unit}
 use Rattle.hep_accepted.proofs.Valued.{ConstantsAgree}
 use Rattle.hep_image.specs.Places.{variable_of}
 use Rattle.hep_placed.specs.Placed.{IsPlaced}
@@ -47,7 +21,6 @@ use Rattle.hep_works.specs.Actuals.{FitsDummy, IsGivenTo, IsVariableOf}
 use Rattle.hep_works.specs.Filled.{AreEach, AreFilled, IsFilled, IsFilledActual, IsFilledList}
 use Rattle.hep_works.specs.Works.{IsCalledBy}
 use Rattle.hep_works.proofs.Calls.{IsActual, are-actuals, callee, calls-subroutine}
-use Rattle.hep_accepted.proofs.Named.{name_of_unit}
 
 -- ---- named constants
 
@@ -302,21 +275,13 @@ module _ (program : Units) (u k : ℕ) (unit : List Statement) (s : Statement) (
 
 -- ---- of a call
 
+abbrev actuals_of_first : List Calling → List Tree
+actuals_of_first [] = []
+actuals_of_first (d ∷ ds) = d.actuals
+
 call-trees : (f : Form) (c : Calling) → calls_in f ≡ c ∷ [] → trees_in_form f ≡ c.actuals
-call-trees (form.Call p ts) c e = same-first e where
-  actuals_in : List Calling → List Tree
-  actuals_in [] = []
-  actuals_in (d ∷ ds) = d.actuals
-
-  same-first : calls_in (form.Call p ts) ≡ c ∷ [] → ts ≡ c.actuals
-  same-first e = ap actuals_in e
-call-trees (form.Create p ts) c e = same-first e where
-  actuals_in : List Calling → List Tree
-  actuals_in [] = []
-  actuals_in (d ∷ ds) = d.actuals
-
-  same-first : calls_in (form.Create p ts) ≡ c ∷ [] → ts ≡ c.actuals
-  same-first e = ap actuals_in e
+call-trees (form.Call p ts) c e = ap actuals_of_first e
+call-trees (form.Create p ts) c e = ap actuals_of_first e
 call-trees _ c e = absurd cc
 
 -- the actual arguments are expressions of the statement

@@ -1,24 +1,10 @@
 -- What is called next is what the statement calls, and agrees with the subroutine that is called.
-use Rattle.std.proofs.Common.{◌≡◌, ◌≢◌, ℕ, suc, ◌<◌, false, List, [], ◌∷◌, length, Option, Some, None, refl, sym, ap, ◌∙◌, subst, arith}
-use Rattle.std.specs.Prelude.{slice_get}
+use Rattle.std.proofs.Common.{◌≡◌, ◌≢◌, ℕ, suc, ◌<◌, false, List, [], ◌∷◌, length, Option, Some, None, refl, sym, ap, ◌∙◌, subst, arith, slice_get}
 use Rattle.std.specs.Option.{unwrap_or}
 use Rattle.std.proofs.lemmas.Option.{none-some, same_Some, slice_get_within}
-use Rattle.hep_source.specs.Defaults.{no_statement, no_unit}
-use Rattle.hep_source.specs.Tree.{Tree}
-use Rattle.hep_source.specs.declared.name.Name.{Name}
-use Rattle.hep_source.specs.declared.name.Occurrence.{Occurrence}
-use Rattle.hep_source.specs.declared.statement.Form.{Form}
+use Rattle.hep_machine.specs.Words.{no_statement, no_unit, Tree, Name, Occurrence, Form, Statement, Value, Units, dummies_of, is_main, subroutine_name, statement_at, unit_at, Actual, Action, assigning, choosing, branching, testing_condition, entering_block, entering_loop, calling, creating, purging, printing, Next, wants, does, Part, whole, first_redex, Reference, actual_of, actuals_of, control_part, items_part, next_by, next_of, next_of_form, part_of, target_part, targets_part, then_part, unit_of, run, Work, doing, ending, unit_called}
 use Rattle.hep_source.specs.declared.statement.Form.TheVariants as form
-use Rattle.hep_source.specs.declared.statement.Statement.{Statement}
-use Rattle.hep_source.specs.declared.value.Value.{Value}
-use Rattle.hep_source.specs.Units.{Units, dummies_of, is_main, subroutine_name, statement_at, unit_at}
-use Rattle.hep_machine.specs.Evaluation.{Actual, Action, assigning, choosing, branching, testing_condition, entering_block, entering_loop, calling, creating, purging, printing, Next, wants, does, Part, whole, first_redex, Reference, actual_of, actuals_of, control_part, items_part, next_by, next_of, next_of_form, part_of, target_part, targets_part, then_part}
-use Rattle.hep_machine.specs.Processes.{unit_of}
-use Rattle.hep_machine.specs.Run.{run}
-use Rattle.hep_machine.specs.State.{Work, doing, ending}
-use Rattle.hep_machine.specs.Step.{unit_called}
-use Rattle.hep_check.specs.Conditions.{IsAccepted}
-use Rattle.hep_check.specs.Statements.{calls_in}
+use Rattle.hep_check.specs.Words.{IsAccepted, calls_in}
 use Rattle.hep_accepted.specs.Agreement.{CallsSubroutine}
 use Rattle.hep_accepted.proofs.Agreed.{calls_agree}
 use Rattle.hep_finding.specs.Bound.{CallsAgree, NextAgrees}

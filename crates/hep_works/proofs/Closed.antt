@@ -1,19 +1,10 @@
 -- The units of the activations of a run, and what is needed for their dummy arguments to be bound.
-use Rattle.std.proofs.Common.{◌≡◌, ℕ, zero, suc, ◌<◌, ◌≤◌, true, false, List, [], ◌∷◌, length, Option, Some, None, refl, sym, ap, ◌∙◌, subst, arith, true≢false}
-use Rattle.std.specs.Prelude.{get_or, is_some, slice_get}
+use Rattle.std.proofs.Common.{◌≡◌, ℕ, zero, suc, ◌<◌, ◌≤◌, true, false, List, [], ◌∷◌, length, Option, Some, None, refl, sym, ap, ◌∙◌, subst, arith, true≢false, get_or, is_some, slice_get}
 use Rattle.std.specs.Option.{unwrap_or}
 use Rattle.std.proofs.lemmas.Option.{slice_get_within, slice_get-get_or}
-use Rattle.hep_source.specs.declared.name.Name.{Name}
-use Rattle.hep_source.specs.declared.statement.Form.{Form}
+use Rattle.hep_machine.specs.Words.{Name, Form, Statement, Units, dummies_by_header, dummies_of, is_main, main_among, main_unit, subroutine_by_header, subroutine_name, unit_at, is_array, is_dummy, no_activation, numbered, unit_of, run, Activation}
 use Rattle.hep_source.specs.declared.statement.Form.TheVariants as form
-use Rattle.hep_source.specs.declared.statement.Statement.{Statement}
-use Rattle.hep_source.specs.Units.{Units, dummies_by_header, dummies_of, is_main, main_among, main_unit, subroutine_by_header, subroutine_name, unit_at}
-use Rattle.hep_machine.specs.Declarations.{is_array, is_dummy}
-use Rattle.hep_machine.specs.Defaults.{no_activation}
-use Rattle.hep_machine.specs.Processes.{numbered, unit_of}
-use Rattle.hep_machine.specs.Run.{run}
-use Rattle.hep_machine.specs.State.{Activation}
-use Rattle.hep_check.specs.Conditions.{IsAccepted}
+use Rattle.hep_check.specs.Words.{IsAccepted}
 use Rattle.hep_accepted.specs.Typing.{HasShape}
 use Rattle.hep_accepted.proofs.Parts.{found_at}
 use Rattle.hep_finding.specs.Bound.{AreClosed}

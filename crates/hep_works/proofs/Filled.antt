@@ -1,19 +1,7 @@
 -- A statement is itself with no values put in, and stays partly evaluated as one more is.
-use Rattle.std.proofs.Common.{◌≡◌, inl, inr, Bool, true, false, List, [], ◌∷◌, Option, Some, None, refl, sym, ap, ◌∙◌, subst}
-use Rattle.hep_source.specs.Tree.{Tree, Trees, constant, occurrence, with_list, parenthesized, signed, negated, binary, no_trees, trees}
-use Rattle.hep_source.specs.declared.declaration.Target.{Target}
-use Rattle.hep_source.specs.declared.statement.DoControl.{DoControl}
-use Rattle.hep_source.specs.declared.statement.Form.{Form}
+use Rattle.std.proofs.Common.{◌≡◌, inl, inr, Bool, true, false, List, [], ◌∷◌, Option, Some, None, refl, sym, ap, ◌∙◌, subst, if◌then◌else◌}
+use Rattle.hep_machine.specs.Words.{Tree, Trees, constant, occurrence, with_list, parenthesized, signed, negated, binary, no_trees, trees, Target, DoControl, Form, PrintItem, Expression, Characters, Statement, Value, constant_value, is_array, Actual, referred, Part, whole, first_redex, Reference, actual_of, actual_of_name, actual_of_listed, increment_of, item_part, mapped_part, part_of, parts_of, part_of_listed, plug, plug_actuals, plug_all, plug_control, plug_form, plug_item, plug_items, plug_list, plug_target, plug_targets, plugged, plugged_first, plugged_listed, reference_of, target_part, Meaning, element, pure, state, unknown, function_named, listed_meaning}
 use Rattle.hep_source.specs.declared.statement.Form.TheVariants as form
-use Rattle.hep_source.specs.declared.statement.PrintItem.{PrintItem}
-use Rattle.hep_source.specs.declared.statement.PrintItem.TheVariants.{Expression, Characters}
-use Rattle.hep_source.specs.declared.statement.Statement.{Statement}
-use Rattle.hep_source.specs.declared.value.Value.{Value}
-use Rattle.hep_machine.specs.Constants.{constant_value}
-use Rattle.hep_machine.specs.Declarations.{is_array}
-use Rattle.std.specs.Prelude.{if◌then◌else◌}
-use Rattle.hep_machine.specs.Evaluation.{Actual, referred, Part, whole, first_redex, Reference, actual_of, actual_of_name, actual_of_listed, increment_of, item_part, mapped_part, part_of, parts_of, part_of_listed, plug, plug_actuals, plug_all, plug_control, plug_form, plug_item, plug_items, plug_list, plug_target, plug_targets, plugged, plugged_first, plugged_listed, reference_of, target_part}
-use Rattle.hep_machine.specs.Functions.{Meaning, element, pure, state, unknown, function_named, listed_meaning}
 use Rattle.hep_works.specs.Filled.{AreEach, AreFilled, IsFilled, IsFilledActual, IsFilledControl, IsFilledForm, IsFilledItem, IsFilledList, IsFilledTarget, IsValue}
 
 -- ---- with no values

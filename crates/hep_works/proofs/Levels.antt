@@ -1,28 +1,12 @@
 -- In a run each level has what is left of its statement, and each activation a unit of which something holds that holds of the main
 -- program and of what is called.
-use Rattle.std.proofs.Common.{◌≡◌, ℕ, zero, suc, ◌+◌, ◌-◌, ◌≤◌, Bool, true, false, List, [], ◌∷◌, ◌++◌, drop, length, Option, Some, None, Result, Ok, Err, refl, sym, ap, ◌∙◌, subst, arith}
-use Rattle.std.specs.Prelude.{ℤ, ◌+ℤ◌, ◌-ℤ◌, pos, int_lt, if◌then◌else◌, nat_eq, slice_get, slice_set, ◌||◌}
+use Rattle.std.proofs.Common.{◌≡◌, ℕ, zero, suc, ◌+◌, ◌-◌, ◌≤◌, Bool, true, false, List, [], ◌∷◌, ◌++◌, drop, length, Option, Some, None, Result, Ok, Err, refl, sym, ap, ◌∙◌, subst, arith, ℤ, ◌+ℤ◌, ◌-ℤ◌, pos, int_lt, if◌then◌else◌, nat_eq, slice_get, slice_set, ◌||◌, length-append}
 use Rattle.std.specs.Option.{unwrap_or}
 use Rattle.std.proofs.lemmas.Bool.Decides.{nat_tests}
-use Rattle.std.proofs.lemmas.List.{length-append}
 use Rattle.std.proofs.lemmas.Option.{none-some, same_Some}
-use Rattle.hep_source.specs.Tree.{Tree}
-use Rattle.hep_source.specs.declared.statement.Form.{Form}
-use Rattle.hep_source.specs.declared.statement.Statement.{Statement}
-use Rattle.hep_source.specs.declared.value.Value.{Value}
-use Rattle.hep_source.specs.Units.{Units, executable_from, main_unit, statement_at, unit_at}
+use Rattle.hep_machine.specs.Words.{Tree, Form, Statement, Value, Units, executable_from, main_unit, statement_at, unit_at, integer_of, integer_or_overflow, logical_of, Binding, alternative_of, following, index_of_label, label_by_sign, label_chosen, level_after_loop, level_after_statement, level_after_condition, level_at_choice, level_at_end_of, level_at_statement, level_in_block, level_in_range, after_condition, loops_around, loops_ending_at, terminal_of, variable_of, no_activation, Action, assigning, jumping, choosing, branching, testing_condition, entering_block, entering_loop, ending_loop, calling, creating, purging, printing, continuing, leaving, stopping, Next, wants, does, next_of, plug, plug_work, Scope, location_of_name, opening, is_number_among, living, loop_at, numbered, unit_of, with_loop, with_numbered, run, run_from, Activation, Level, Location, Loop, Process, State, Store, Work, doing, ending, Answer, fails, answer_at, answer_of, binding_of, entry_level, iterations, level_after_count, next_activation, result_after_action, result_after_answer, result_after_assignment, result_after_call, result_after_create, result_after_do, result_after_increment, result_after_loop_end, result_after_loop_variable, result_after_next, result_after_purge, result_after_write, scope_of, stack_after_return, step, store_after_purge, Top, unit_called, unit_on_top, written}
 use Rattle.hep_machine.specs.declared.event.Kind.{Kind}
-use Rattle.hep_machine.specs.Arithmetic.{integer_of, integer_or_overflow, logical_of}
-use Rattle.hep_machine.specs.Binding.{Binding}
-use Rattle.hep_machine.specs.Control.{alternative_of, following, index_of_label, label_by_sign, label_chosen, level_after_loop, level_after_statement, level_after_condition, level_at_choice, level_at_end_of, level_at_statement, level_in_block, level_in_range, after_condition, loops_around, loops_ending_at, terminal_of, variable_of}
-use Rattle.hep_machine.specs.Defaults.{no_activation}
-use Rattle.hep_machine.specs.Evaluation.{Action, assigning, jumping, choosing, branching, testing_condition, entering_block, entering_loop, ending_loop, calling, creating, purging, printing, continuing, leaving, stopping, Next, wants, does, next_of, plug, plug_work}
-use Rattle.hep_machine.specs.Locations.{Scope, location_of_name}
-use Rattle.hep_machine.specs.Opening.{opening}
-use Rattle.hep_machine.specs.Processes.{is_number_among, living, loop_at, numbered, unit_of, with_loop, with_numbered}
-use Rattle.hep_machine.specs.Run.{run, run_from}
-use Rattle.hep_machine.specs.State.{Activation, Level, Location, Loop, Process, State, Store, Work, doing, ending}
-use Rattle.hep_machine.specs.Step.{Answer, gives, waits, fails, answer_at, answer_of, binding_of, entry_level, iterations, level_after_count, next_activation, result_after_action, result_after_answer, result_after_assignment, result_after_call, result_after_create, result_after_do, result_after_increment, result_after_loop_end, result_after_loop_variable, result_after_next, result_after_purge, result_after_write, scope_of, stack_after_return, step, store_after_purge, Top, unit_called, unit_on_top, written}
+use Rattle.hep_machine.specs.Step.{gives, waits}
 use Rattle.hep_machine.proofs.Changes.{Makes, by_step, next_on, top_in}
 use Rattle.hep_machine.proofs.Others.{front_numbered}
 use Rattle.hep_frames.proofs.References.{each-state}

@@ -1,16 +1,6 @@
 -- What is left of a CALL: X3.9-1978, 6.6 and 15.9.3.
-use Rattle.std.proofs.Common.{◌≡◌, ℕ, false, [], ◌∷◌, List, None, inr, refl, ap, sym, subst}
-use Rattle.std.specs.Prelude.{codes, pos}
-use Rattle.hep_source.specs.Tree.{Tree, binary, constant, occurrence}
-use Rattle.hep_source.specs.declared.name.Occurrence.{Occurrence}
-use Rattle.hep_source.specs.declared.operator.ArithmeticOperator.TheVariants.{Add}
-use Rattle.hep_source.specs.declared.operator.Operator.TheVariants.{Arithmetic}
-use Rattle.hep_source.specs.declared.statement.Form.{Form}
-use Rattle.hep_source.specs.declared.statement.Form.TheVariants.{Call, End}
-use Rattle.hep_source.specs.declared.statement.Statement.{Statement}
-use Rattle.hep_source.specs.declared.value.Value.TheVariants.{Int}
-use Rattle.hep_machine.specs.Evaluation.{calling, does, evaluated, next_of, plug_work, referred}
-use Rattle.hep_machine.specs.State.{Work, doing}
+use Rattle.std.proofs.Common.{◌≡◌, ℕ, false, [], ◌∷◌, List, None, inr, refl, ap, sym, subst, codes, pos}
+use Rattle.hep_machine.specs.Words.{Tree, binary, constant, occurrence, Occurrence, Add, Arithmetic, Form, Call, End, Statement, Int, calling, does, evaluated, next_of, plug_work, referred, Work, doing}
 use Rattle.hep_works.specs.Filled.{AreEach, IsFilledActual}
 use Rattle.hep_works.specs.Works.{ComesFrom}
 

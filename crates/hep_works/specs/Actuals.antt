@@ -1,11 +1,6 @@
 -- What an actual argument is given to: X3.9-1978, 15.9.3, and docs/LANGUAGE.md, 9.
 use Rattle.std.specs.Prelude.{◌≡◌, ◌⊎◌, ℕ, true, false, List, [], Some, length, slice_get}
-use Rattle.hep_source.specs.declared.name.Name.{Name}
-use Rattle.hep_source.specs.declared.name.Occurrence.{Occurrence}
-use Rattle.hep_source.specs.declared.statement.Statement.{Statement}
-use Rattle.hep_machine.specs.Declarations.{dimensions_of, is_array, is_constant_name, is_nonempty, type_of}
-use Rattle.hep_machine.specs.Evaluation.{Actual, evaluated, referred, Reference}
-use Rattle.hep_machine.specs.Variables.{occurrences_of}
+use Rattle.hep_machine.specs.Words.{Name, Occurrence, Statement, dimensions_of, is_array, is_constant_name, is_nonempty, type_of, Actual, evaluated, referred, Reference, occurrences_of}
 
 -- a variable of a unit: it stands there, and is no named constant
 pub record IsVariableOf (unit : List Statement) (x : Name) : Type 0 where

@@ -1,14 +1,7 @@
 -- Where what is left of a statement comes from: docs/MACHINE.md, "Steps".
 use Rattle.std.specs.Prelude.{◌≡◌, ℕ, true, List, [], ◌∷◌, drop, slice_get, Some}
-use Rattle.hep_source.specs.Tree.{Tree}
-use Rattle.hep_source.specs.Units.{statement_at}
-use Rattle.hep_source.specs.declared.name.Name.{Name}
-use Rattle.hep_source.specs.declared.statement.Statement.{Statement}
-use Rattle.hep_machine.specs.Control.{loops_ending_at}
-use Rattle.hep_machine.specs.Evaluation.{Actual, actuals_of, whole}
-use Rattle.hep_machine.specs.Processes.{is_number_among}
-use Rattle.hep_machine.specs.State.{Work, doing, ending}
-use Rattle.hep_check.specs.Statements.{Calling, calls_in}
+use Rattle.hep_machine.specs.Words.{Tree, statement_at, Name, Statement, loops_ending_at, Actual, actuals_of, whole, is_number_among, Work, doing, ending}
+use Rattle.hep_check.specs.Words.{Calling, calls_in}
 use Rattle.hep_works.specs.Filled.{AreEach, IsFilled, IsFilledActual, IsFilledForm}
 
 -- the last ones of the conditions of a logical IF: 11.5

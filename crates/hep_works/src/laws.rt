@@ -1,15 +1,8 @@
 //! Laws of runs: what is left of a statement is of that statement, and so the static conditions of a program hold of
 //! what its processes do.
 ghost use Rattle.std.specs.Prelude.{◌≡◌, ◌<◌, ◌≤◌, ℕ, true, false, List, [], Some, is_some, length, slice_get};
-ghost use Rattle.hep_source.specs.declared.name.Name.{Name};
-ghost use Rattle.hep_source.specs.declared.statement.Statement.{Statement};
-ghost use Rattle.hep_source.specs.Units.{Units, dummies_of, is_main, main_among, main_unit, subroutine_name, unit_at};
-ghost use Rattle.hep_machine.specs.Evaluation.{Actual, calling, creating, does, next_of};
-ghost use Rattle.hep_machine.specs.Processes.{living, numbered, unit_of};
-ghost use Rattle.hep_machine.specs.Run.{run};
-ghost use Rattle.hep_machine.specs.State.{Level, Process, Work};
-ghost use Rattle.hep_machine.specs.Step.{unit_called};
-ghost use Rattle.hep_check.specs.Conditions.{IsAccepted};
+ghost use Rattle.hep_machine.specs.Words.{Name, Statement, Units, dummies_of, is_main, main_among, main_unit, subroutine_name, unit_at, Actual, calling, creating, does, next_of, living, numbered, unit_of, run, Level, Process, Work, unit_called};
+ghost use Rattle.hep_check.specs.Words.{IsAccepted};
 ghost use Rattle.hep_image.specs.Places.{variable_of};
 ghost use Rattle.hep_placed.specs.Placed.{IsPlaced};
 ghost use Rattle.hep_finding.specs.Bound.{AreClosed, CallsAgree, IsBound};

@@ -1,4 +1,4 @@
-use Rattle.hep_accepted.proofs.Fitted.{elements_are_given_once}
+use Rattle.hep_accepted.proofs.Assigned.{elements_are_given_once}
 use Rattle.hep_accepted.proofs.initial.elements_are_given_once.Goals as goal
 
 pub returns : goal.returns

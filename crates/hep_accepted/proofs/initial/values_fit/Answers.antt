@@ -1,4 +1,4 @@
-use Rattle.hep_accepted.proofs.Fitted.{values_fit}
+use Rattle.hep_accepted.proofs.Assigned.{values_fit}
 use Rattle.hep_accepted.proofs.initial.values_fit.Goals as goal
 
 pub returns : goal.returns

@@ -1,4 +1,4 @@
-use Rattle.hep_accepted.proofs.Given.{constants_have_values}
+use Rattle.hep_accepted.proofs.Shaped.{constants_have_values}
 use Rattle.hep_accepted.proofs.values.constants_have_values.Goals as goal
 
 pub returns : goal.returns

@@ -1,5 +1,5 @@
 use Rattle.std.proofs.Common.{◌≡◌, ◌⊎◌, ℕ, ◌<◌, ◌≤◌, Some, slice_get}
-use Rattle.hep_machine.specs.Access.{unset_cell}
+use Rattle.hep_machine.specs.Words.{unset_cell}
 use Rattle.hep_arena.proofs.arena.clear.Given as goal
 
 abbrev pub invariant-loop-place : goal.invariant-loop-place

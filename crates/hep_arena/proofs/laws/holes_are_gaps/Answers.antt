@@ -1,7 +1,6 @@
-use Rattle.std.proofs.Common.{◌≡◌, [], ◌∷◌, true, ap, ◌∙◌, arith}
-use Rattle.std.specs.Prelude.{nat_lt}
+use Rattle.std.proofs.Common.{◌≡◌, [], ◌∷◌, true, ap, ◌∙◌, arith, nat_lt}
 use Rattle.std.proofs.lemmas.Bool.Decides.{nat_tests}
-use Rattle.hep_machine.specs.Layout.{Frame}
+use Rattle.hep_machine.specs.Words.{Frame}
 use Rattle.hep_arena.specs.Gaps.{gap_before}
 use Rattle.hep_arena.specs.Holes.{taken}
 use Rattle.hep_arena.proofs.Gaps.{fit-gaps, given-gaps, given-remaining_layout, given-without, taken-gap_before, taken-gaps}

@@ -1,5 +1,5 @@
 -- `parted` takes a vector apart: its items are a region, and the rest a lease. Assumes `Logic`.
-use Rattle.std.proofs.Common.{◌≡◌, ℕ, ◌-◌, ◌*◌, ◌^◌, ◌<◌, List, [], ◌∷◌, ◌++◌, refl, sym, ap, ◌∙◌, arith, w64, not, Bool}
+use Rattle.std.proofs.Common.{◌≡◌, ℕ, ◌-◌, ◌*◌, ◌^◌, ◌<◌, List, [], ◌∷◌, ◌++◌, refl, sym, ap, ◌∙◌, arith, w64, not, Bool, ne_eqb}
 use Rattle.std.specs.Mem.{type_size}
 use Rattle.std.specs.contracts.alloc.Global as heap
 use Rattle.std.specs.contracts.impls.GlobalAllocator.TheImpl.{ghosts}
@@ -12,7 +12,6 @@ use Rattle.core.proofs.ptr.Rows.{times_below}
 use seplogic.Ra.Ura.{Ura}
 use base.Fml.{Fml, ftrue, fsep, feq, flt}
 use base.Logic.{ent, SProp, emp, never, id⊢}
-use borrow.Author.Tests.{ne_eqb}
 use contract.Monad.{fact, fact_i}
 use contract.Running.{tables}
 use mir.Syntax.{Fn}

@@ -1,5 +1,5 @@
 -- `rejoined` makes the vector of a region and its lease again. Assumes `Logic`.
-use Rattle.std.proofs.Common.{◌≡◌, ℕ, ◌-◌, ◌*◌, ◌^◌, ◌<◌, List, [], ◌∷◌, ◌++◌, length, refl, sym, ap, ◌∙◌, arith, w64, not, Bool}
+use Rattle.std.proofs.Common.{◌≡◌, ℕ, ◌-◌, ◌*◌, ◌^◌, ◌<◌, List, [], ◌∷◌, ◌++◌, length, refl, sym, ap, ◌∙◌, arith, w64, not, Bool, ne_eqb}
 use Rattle.std.specs.Mem.{type_size}
 use Rattle.std.specs.contracts.alloc.Global as heap
 use Rattle.std.specs.contracts.impls.GlobalAllocator.TheImpl.{ghosts}
@@ -10,7 +10,6 @@ use Rattle.core.specs.Allocator.{block_with_items, array_of}
 use base.Fml.{Fml, ftrue, fsep, feq}
 use base.Fraction.{full_share}
 use base.Logic.{SProp, emp, never, id⊢}
-use borrow.Author.Tests.{ne_eqb}
 use contract.Monad.{fact, fact_i}
 use contract.Running.{tables}
 use mir.Syntax.{Fn}

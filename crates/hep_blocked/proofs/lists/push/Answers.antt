@@ -1,12 +1,13 @@
-use Rattle.std.proofs.Common.{[], ◌∷◌, sym}
+use Rattle.std.proofs.Common.{◌++◌, [], ◌∷◌, sym}
 use Rattle.indexmap.specs.IndexMap.{get}
 use Rattle.hep_blocked.specs.Waiting.{want_eq}
-use Rattle.hep_blocked.proofs.Tying.{list-kept, list-pushed, on-err}
+use Rattle.hep_blocked.proofs.Tying.{list-kept, on-err}
+use Rattle.hep_blocked.proofs.Wanting.{list-written}
 use Rattle.hep_blocked.proofs.lists.push.Goals as goal
 
 pub returns-in_ok-push-clause-added : goal.returns-in_ok-push-clause-added
 returns-in_ok-push-clause-added c =
-    list-pushed (get want_eq c.args.lists.now) (get want_eq (c.get_mut.follows.lender c.push.new.self)) c.args.want c.in-Some.list.now c.push.new.self (c.args.p ∷ [])
+    list-written (get want_eq c.args.lists.now) (get want_eq (c.get_mut.follows.lender c.push.new.self)) c.args.want (λ ps. ps ++ c.args.p ∷ []) c.in-Some.list.now c.push.new.self
     (sym c.in-Some.ensures.value) c.in_ok-push.ensures.items ((c.get_mut.follows.holds c.push.new.self).3 c.requires).0
 
 pub returns-in_err-push-clause-refused : goal.returns-in_err-push-clause-refused

@@ -1,5 +1,5 @@
 use Rattle.std.proofs.Common.{◌∙◌, ap, sym}
-use Rattle.hep_check.specs.Reported.{reported}
+use Rattle.hep_check.specs.Words.{reported}
 use Rattle.hep_check.proofs.Lines.{reported-where}
 use Rattle.hep_symbols.specs.Passes.{line_of}
 use Rattle.hep_calls.specs.Passes.{is_mismatched}

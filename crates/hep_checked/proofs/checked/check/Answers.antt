@@ -1,6 +1,6 @@
 use Rattle.std.proofs.Common.{◌≡◌, None, OnOk, subst}
 use Rattle.hep_check.proofs.First.{none_reported}
-use Rattle.hep_check.specs.Conditions.{first_violation, violations}
+use Rattle.hep_check.specs.Words.{first_violation, violations}
 use Rattle.hep_checked.proofs.checked.check.Goals as goal
 
 pub new-requires-clause-accepted : goal.new-requires-clause-accepted

@@ -1,6 +1,6 @@
 use Rattle.std.proofs.Common.{◌≤◌, ◌+◌, ◌∙◌, refl, ap, drop, length, arith}
 use Rattle.std.proofs.lemmas.List.{drop_more}
-use Rattle.hep_machine.specs.Variables.{adjustable_dimensions_of_all}
+use Rattle.hep_machine.specs.Words.{adjustable_dimensions_of_all}
 use Rattle.hep_checked.proofs.Sums.{adjustable_of, adjustable-turn, nothing-left}
 use Rattle.hep_checked.proofs.frames.adjustable_dimensions_of_dummies.Goals as goal
 

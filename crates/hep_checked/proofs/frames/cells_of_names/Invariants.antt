@@ -1,5 +1,5 @@
 use Rattle.std.proofs.Common.{◌≡◌, ◌+◌, ◌*◌, ◌≤◌, ◌^◌, drop}
-use Rattle.hep_machine.specs.Constants.{cells_of_all}
+use Rattle.hep_machine.specs.Words.{cells_of_all}
 use Rattle.hep_checked.proofs.frames.cells_of_names.Given as goal
 
 abbrev pub invariant-loop-name : goal.invariant-loop-name

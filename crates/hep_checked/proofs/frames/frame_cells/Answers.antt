@@ -1,6 +1,5 @@
 use Rattle.std.proofs.Common.{ap, ◌∙◌}
-use Rattle.hep_machine.specs.Constants.{cells_of_all}
-use Rattle.hep_machine.specs.Variables.{do_statements}
+use Rattle.hep_machine.specs.Words.{cells_of_all, do_statements}
 use Rattle.hep_checked.proofs.Sums.{frame, dummies-counted}
 use Rattle.hep_checked.proofs.frames.frame_cells.Goals as goal
 

@@ -1,7 +1,6 @@
 use Rattle.std.proofs.Common.{◌≡◌, ◌<◌, ◌+◌, ◌++◌, ◌∙◌, ap, sym, drop, length, get_or, arith}
 use Rattle.hep_symbols.proofs.Firsts.{grow}
-use Rattle.hep_source.specs.Units.{unit_name, unit_at}
-use Rattle.hep_machine.specs.Variables.{frame_cells}
+use Rattle.hep_machine.specs.Words.{unit_name, unit_at, frame_cells}
 use Rattle.hep_checked.specs.Listing.{unit_text, unit_line}
 use Rattle.hep_checked.proofs.Sums.{unit-read}
 use Rattle.hep_checked.proofs.listing.append_units.Goals as goal

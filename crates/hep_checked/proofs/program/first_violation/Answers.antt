@@ -1,8 +1,6 @@
 use Rattle.std.proofs.Common.{◌∙◌}
 use Rattle.std.specs.List.{flat_map}
-use Rattle.hep_check.specs.Common.{common_violations}
-use Rattle.hep_check.specs.Conditions.{violations_in}
-use Rattle.hep_check.specs.Names.{ambiguous_in, ambiguous_units}
+use Rattle.hep_check.specs.Words.{common_violations, violations_in, ambiguous_in, ambiguous_units}
 use Rattle.hep_checked.proofs.Gathering.{four}
 use Rattle.hep_checked.proofs.program.first_violation.Goals as goal
 

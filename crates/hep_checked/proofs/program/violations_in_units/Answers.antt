@@ -1,6 +1,5 @@
 use Rattle.std.proofs.Common.{◌+◌, drop}
-use Rattle.hep_check.specs.Conditions.{violations_in}
-use Rattle.hep_check.specs.Names.{ambiguous_in}
+use Rattle.hep_check.specs.Words.{violations_in, ambiguous_in}
 use Rattle.hep_symbols.proofs.Firsts.{turn}
 use Rattle.hep_checked.proofs.program.violations_in_units.Goals as goal
 use Rattle.hep_source.proofs.Tests.{drop_at}

@@ -1,9 +1,6 @@
 use Rattle.std.proofs.Common.{◌≡◌, drop}
 use Rattle.std.specs.List.{flat_map}
-use Rattle.hep_check.specs.Conditions.{violations_in}
-use Rattle.hep_check.specs.Names.{ambiguous_in}
-use Rattle.hep_check.specs.Violations.{first_of}
-use Rattle.hep_check.specs.Reported.{first_of_two}
+use Rattle.hep_check.specs.Words.{violations_in, ambiguous_in, first_of, first_of_two}
 use Rattle.hep_checked.proofs.program.violations_in_units.Given as goal
 
 abbrev pub invariant-loop-symbols : goal.invariant-loop-symbols

@@ -1,5 +1,5 @@
 use Rattle.std.proofs.Common.{◌≡◌, drop}
-use Rattle.hep_check.specs.Reported.{first_of_two}
+use Rattle.hep_check.specs.Words.{first_of_two}
 use Rattle.hep_checked.specs.Found.{first_found}
 use Rattle.hep_checked.proofs.unit.first_found.Given as goal
 

@@ -1,12 +1,5 @@
 use Rattle.std.proofs.Common.{ap, ◌∙◌}
-use Rattle.hep_check.specs.Arguments.{argument_violations}
-use Rattle.hep_check.specs.Constants.{type_violations}
-use Rattle.hep_check.specs.Counts.{count_violations}
-use Rattle.hep_check.specs.Data.{data_violations}
-use Rattle.hep_check.specs.Labels.{label_violations}
-use Rattle.hep_check.specs.Names.{type_missing_violations, unknown_name_violations}
-use Rattle.hep_check.specs.Nesting.{structure_violations, jump_violations}
-use Rattle.hep_check.specs.Violations.{first_of}
+use Rattle.hep_check.specs.Words.{argument_violations, type_violations, count_violations, data_violations, label_violations, type_missing_violations, unknown_name_violations, structure_violations, jump_violations, first_of}
 use Rattle.hep_checked.proofs.Gathering.{nine}
 use Rattle.hep_checked.proofs.unit.unit_violation.Goals as goal
 

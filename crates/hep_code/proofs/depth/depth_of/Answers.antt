@@ -1,6 +1,6 @@
-use Rattle.std.proofs.Common.{◌≡◌, ◌-◌, ◌+◌, ◌∷◌, ◌∙◌, None, suc, drop, length, ap, sym, arith}
+use Rattle.std.proofs.Common.{◌≡◌, ◌-◌, ◌+◌, ◌∷◌, ◌∙◌, suc, drop, length, ap, sym, arith}
 use Rattle.std.proofs.lemmas.List.{drop_all}
-use Rattle.hep_code.specs.Depths.{deepest, line_too_deep}
+use Rattle.hep_code.specs.Words.{deepest, line_too_deep}
 use Rattle.hep_code.proofs.Depths.{known_past, known_more, stands_within, few_when_none, whole}
 use Rattle.hep_code.proofs.depth.depth_of.Goals as goal
 
@@ -23,20 +23,15 @@ loop-passed-preserved c =
       few = omega (arith, c.operands_before-operands.ensures.bound, c.from_index.ensures.length, c.loop-passed-test.true);
     }
 
-pub returns-clause-operands : goal.returns-clause-operands
-returns-clause-operands c = c.loop-passed.invariant.known.most_is ∙ ap deepest (whole c.args.code.now c.loop-passed.passed c.loop-passed-test.false)
-
-pub returns-clause-line : goal.returns-clause-line
-returns-clause-line c = c.loop-passed.invariant.known.too_deep_is ∙ ap line_too_deep (whole c.args.code.now c.loop-passed.passed c.loop-passed-test.false)
-
-pub returns-clause-stands : goal.returns-clause-stands
-returns-clause-stands c = λ addressed k work operands index is s.
-    let e : c.loop-passed.depth.operands ≡ deepest c.args.code.now = c.loop-passed.invariant.known.most_is ∙ ap deepest (whole c.args.code.now c.loop-passed.passed c.loop-passed-test.false) in
-    omega (arith, e, stands_within c.args.code.now addressed k work operands index is s)
-
-pub returns-clause-few : goal.returns-clause-few
-returns-clause-few c = λ none.
-    let rest = whole c.args.code.now c.loop-passed.passed c.loop-passed-test.false in
-    let e : c.loop-passed.depth.operands ≡ deepest c.args.code.now = c.loop-passed.invariant.known.most_is ∙ ap deepest rest in
-    let f : line_too_deep c.args.code.now ≡ None = sym (c.loop-passed.invariant.known.too_deep_is ∙ ap line_too_deep rest) ∙ none in
-    omega (arith, e, few_when_none c.args.code.now f)
+pub returns : goal.returns
+returns c =
+    let code = c.args.code.now in
+    let all = whole code c.loop-passed.passed c.loop-passed-test.false in
+    let operands : c.loop-passed.depth.operands ≡ deepest code = c.loop-passed.invariant.known.most_is ∙ ap deepest all in
+    let line : c.loop-passed.depth.too_deep ≡ line_too_deep code = c.loop-passed.invariant.known.too_deep_is ∙ ap line_too_deep all in
+    record {
+      operands = operands;
+      line = line;
+      stands = λ addressed k work operands index is s. omega (arith, c.loop-passed.invariant.known.most_is ∙ ap deepest all, stands_within code addressed k work operands index is s);
+      few = λ none. let f = sym line ∙ none in omega (arith, operands, few_when_none code f);
+    }

@@ -1,5 +1,5 @@
 use Rattle.std.proofs.Common.{◌≡◌, ◌+◌, ◌*◌, ◌≤◌, drop}
-use Rattle.hep_code.specs.Depths.{operands_of_entries}
+use Rattle.hep_code.specs.Words.{operands_of_entries}
 use Rattle.hep_code.proofs.depth.operands_of_entries.Given as goal
 
 abbrev pub invariant-loop-entry : goal.invariant-loop-entry

@@ -1,4 +1,4 @@
-use Rattle.hep_code.proofs.Passing.{actuals_passed, references_passed, items_shown}
+use Rattle.hep_code.proofs.Entries.{actuals_passed, references_passed, items_shown}
 use Rattle.hep_code.proofs.laws.entries_stand_for_lists.Goals as goal
 
 pub returns : goal.returns

@@ -1,10 +1,8 @@
 use Rattle.std.proofs.Common.{◌-ℤ◌, pos, sym, subst}
 use Rattle.std.proofs.lemmas.Int.{to_z-of_z}
-use Rattle.hep_machine.specs.Processes.{loop_at}
-use Rattle.hep_machine.specs.Shapes.{natural}
-use Rattle.hep_machine.specs.State.{Loop}
-use Rattle.hep_code.specs.Leads.{LeadsCounted}
-use Rattle.hep_code.proofs.Loops.{entered_leads, ended_leads}
+use Rattle.hep_machine.specs.Words.{loop_at, natural, Loop}
+use Rattle.hep_code.specs.Words.{LeadsCounted}
+use Rattle.hep_code.proofs.Leads.{entered_leads, ended_leads}
 use Rattle.hep_code.proofs.leading.led_by_count.Goals as goal
 
 pub returns-clause-enters : goal.returns-clause-enters

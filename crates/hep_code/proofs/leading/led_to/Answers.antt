@@ -1,5 +1,5 @@
 use Rattle.std.proofs.Common.{sym, subst}
-use Rattle.hep_code.specs.Leads.{Leads}
+use Rattle.hep_code.specs.Words.{Leads}
 use Rattle.hep_code.proofs.Leads.{operation_leads}
 use Rattle.hep_code.proofs.leading.led_to.Goals as goal
 

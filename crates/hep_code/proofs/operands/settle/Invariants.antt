@@ -1,6 +1,5 @@
 use Rattle.std.proofs.Common.{◌≡◌, ◌≤◌, ◌+◌, ◌-◌, drop, length, vec_len, vec_capacity}
-use Rattle.hep_code.specs.Ahead.{values_ahead}
-use Rattle.hep_code.specs.Standing.{left_to_do}
+use Rattle.hep_code.specs.Words.{values_ahead, left_to_do}
 use Rattle.hep_code.proofs.operands.settle.Given as goal
 
 abbrev pub invariant-loop-value : goal.invariant-loop-value

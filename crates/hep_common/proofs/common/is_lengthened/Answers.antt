@@ -1,8 +1,7 @@
 use Rattle.std.proofs.Common.{◌≡◌, ◌∙◌, ap, subst, sym, IsSome, Some, refl, if◌then◌else◌}
 use Rattle.std.specs.Option.{option_eq}
 use Rattle.indexmap.specs.IndexMap.{get}
-use Rattle.hep_source.specs.Names.{name_eq}
-use Rattle.hep_machine.specs.Declarations.{same_block}
+use Rattle.hep_machine.specs.Words.{name_eq, same_block}
 use Rattle.hep_values.proofs.BlockNames.{changed}
 use Rattle.hep_common.specs.Lengths.{lengthened}
 use Rattle.hep_common.proofs.common.is_lengthened.Goals as goal

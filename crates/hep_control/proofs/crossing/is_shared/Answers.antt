@@ -1,9 +1,9 @@
 use Rattle.std.proofs.Common.{rules, ◌≡◌, cond, Some, ◌∙◌, ap}
 use Rattle.indexmap.specs.IndexMap.{get}
 use Rattle.hep_control.specs.Ranges.{do_range}
-use Rattle.hep_source.specs.Names.{name_eq}
+use Rattle.hep_machine.specs.Words.{name_eq}
 use Rattle.hep_control.specs.Crossing.{later}
-use Rattle.hep_control.proofs.Shared.{met-range}
+use Rattle.hep_control.proofs.Crossed.{met-range}
 use Rattle.hep_control.proofs.crossing.is_shared.Goals as goal
 
 pub returns-clause-met : goal.returns-clause-met

@@ -2,8 +2,8 @@ use Rattle.std.proofs.Common.{◌+◌, drop, map, arith}
 use Rattle.std.proofs.lemmas.Grind.{common_steps}
 use Rattle.indexmap.specs.IndexMap.{get}
 use Rattle.hep_control.specs.Ranges.{do_range}
-use Rattle.hep_source.specs.Names.{name_eq}
-use Rattle.hep_control.proofs.Shared.{shared-next}
+use Rattle.hep_machine.specs.Words.{name_eq}
+use Rattle.hep_control.proofs.Crossed.{shared-next}
 use Rattle.hep_control.proofs.crossing.least_shared.Goals as goal
 
 pub loop-range-preserved : goal.loop-range-preserved

@@ -1,8 +1,8 @@
 use Rattle.std.proofs.Common.{◌≡◌, None, drop, map}
 use Rattle.indexmap.specs.IndexMap.{get}
-use Rattle.hep_check.specs.Reported.{least_line}
+use Rattle.hep_check.specs.Words.{least_line}
 use Rattle.hep_control.specs.Ranges.{do_range}
-use Rattle.hep_source.specs.Names.{name_eq}
+use Rattle.hep_machine.specs.Words.{name_eq}
 use Rattle.hep_control.specs.Crossing.{least_shared}
 use Rattle.hep_control.proofs.crossing.least_shared.Given as goal
 

@@ -1,7 +1,7 @@
 use Rattle.std.proofs.Common.{◌+◌, drop, map, arith}
 use Rattle.std.proofs.lemmas.Grind.{common_steps}
 use Rattle.hep_control.specs.Jumps.{leap, leaps_at}
-use Rattle.hep_control.proofs.Lists.{indexed-next}
+use Rattle.hep_control.proofs.Sets.{indexed-next}
 use Rattle.hep_control.proofs.jumps.jumps_of.Goals as goal
 
 pub loop-index-preserved : goal.loop-index-preserved

@@ -1,7 +1,7 @@
 use Rattle.std.proofs.Common.{◌+◌, nat_eq, drop, arith}
 use Rattle.std.proofs.lemmas.Grind.{common_steps}
 use Rattle.indexmap.specs.IndexSet.{contains}
-use Rattle.hep_control.proofs.Repeated.{repeated-next}
+use Rattle.hep_control.proofs.Labelled.{repeated-next}
 use Rattle.hep_control.proofs.labels.least_repeated.Goals as goal
 
 pub loop-statement-preserved : goal.loop-statement-preserved

@@ -1,7 +1,7 @@
 use Rattle.std.proofs.Common.{◌+◌, ◌++◌, drop, map, arith, ap, ◌∙◌}
 use Rattle.std.proofs.lemmas.Grind.{common_steps}
 use Rattle.hep_control.specs.Ranges.{do_range, range_at}
-use Rattle.hep_control.proofs.Lists.{indexed-next}
+use Rattle.hep_control.proofs.Sets.{indexed-next}
 use Rattle.hep_control.proofs.ranges.ranges_of.Goals as goal
 
 pub loop-index-preserved : goal.loop-index-preserved

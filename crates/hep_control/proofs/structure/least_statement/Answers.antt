@@ -1,7 +1,7 @@
 use Rattle.std.proofs.Common.{◌≡◌, ◌+◌, Bool, true, map, drop, slice_get, arith, ap, sym, ◌∙◌}
 use Rattle.std.specs.Option.{unwrap_or}
 use Rattle.std.proofs.lemmas.Grind.{common_steps}
-use Rattle.hep_source.specs.declared.statement.Statement.{Statement}
+use Rattle.hep_machine.specs.Words.{Statement}
 use Rattle.hep_control.specs.Structure.{has_loop_variable}
 use Rattle.hep_control.proofs.Alone.{statement-next, flag-at}
 use Rattle.hep_control.proofs.structure.least_statement.Goals as goal

@@ -1,9 +1,6 @@
 use Rattle.std.proofs.Common.{◌≡◌, true, ap, ◌∙◌, sym}
 use Rattle.std.specs.Option.{option_map}
-use Rattle.hep_source.specs.Tree.{trees_of}
-use Rattle.hep_machine.specs.Arithmetic.{integers_of}
-use Rattle.hep_machine.specs.Constants.{value_among, values_of}
-use Rattle.hep_machine.specs.Declarations.{is_nonempty}
+use Rattle.hep_machine.specs.Words.{trees_of, integers_of, value_among, values_of, is_nonempty}
 use Rattle.hep_data.specs.Given as given
 use Rattle.hep_data.proofs.Naming.{by_subscripts}
 use Rattle.hep_data.proofs.cells.cells_of_array.Goals as goal

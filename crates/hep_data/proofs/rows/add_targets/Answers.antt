@@ -1,8 +1,6 @@
-use Rattle.std.proofs.Common.{List, drop, sym, subst, ◌+◌}
-use Rattle.std.specs.Prelude.{option_to_list}
+use Rattle.std.proofs.Common.{List, drop, sym, subst, ◌+◌, option_to_list}
 use Rattle.indexmap.specs.IndexMap.{get}
-use Rattle.hep_source.specs.declared.declaration.Target.{Target}
-use Rattle.hep_source.specs.Names.{name_eq}
+use Rattle.hep_machine.specs.Words.{Target, name_eq}
 use Rattle.std.proofs.lemmas.List.{drop_all}
 use Rattle.hep_data.specs.Cells.{Gives}
 use Rattle.hep_data.specs.Given.{all_cells_named, cells_named}

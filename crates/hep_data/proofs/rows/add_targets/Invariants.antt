@@ -1,8 +1,6 @@
 use Rattle.std.proofs.Common.{List, drop}
 use Rattle.indexmap.specs.IndexMap.{get}
-use Rattle.hep_source.specs.declared.value.Value.{Value}
-use Rattle.hep_source.specs.Names.{name_eq}
-use Rattle.hep_machine.specs.Data.{Repeated}
+use Rattle.hep_machine.specs.Words.{Value, name_eq, Repeated}
 use Rattle.hep_image.specs.declared.data.DataRow.{DataRow}
 use Rattle.hep_data.specs.Cells.{Gives}
 use Rattle.hep_data.specs.Given.{all_cells_named}

@@ -1,5 +1,5 @@
 use Rattle.std.proofs.Common.{◌≡◌, suc, ◌++◌, ◌+◌, ◌-◌, List, ℕ, Option, Some, None, refl, length, sym, ap, ◌∙◌, append_assoc, append-nil, arith}
-use Rattle.hep_source.specs.Units.{Units}
+use Rattle.hep_machine.specs.Words.{Units}
 use Rattle.hep_image.specs.Names.{names_in_order}
 use Rattle.hep_waiting.specs.declared.listed.Listed.{Listed}
 use Rattle.hep_scheduler.specs.Value.{state_of}

@@ -1,9 +1,9 @@
 use Rattle.std.proofs.Common.{◌≡◌, ◌∙◌, ℕ, List, length, ap, refl, sym, arith}
 use Rattle.std.proofs.lemmas.Grind.{common_steps}
-use Rattle.hep_source.specs.Tree.{trees_of}
+use Rattle.hep_machine.specs.Words.{trees_of}
 use Rattle.hep_code.specs.declared.instruction.Evaluation.TheVariants.{Load, Apply, Test}
 use Rattle.hep_code.specs.declared.instruction.Instruction.{Instruction}
-use Rattle.hep_code.specs.ExpressionCode.{count, asked, trees_code, asked_code, evaluating}
+use Rattle.hep_code.specs.Words.{count, asked, trees_code, asked_code, evaluating}
 use Rattle.hep_emit.specs.Tables.{names_in}
 use Rattle.hep_emit.proofs.Asked.{asked_count, code_asked}
 use Rattle.hep_emit.proofs.Lengths.{count_length}

@@ -1,6 +1,6 @@
 use Rattle.std.proofs.Common.{◌≡◌, ◌++◌, drop, map}
 use Rattle.hep_code.specs.declared.instruction.Instruction.TheVariants.{Show}
-use Rattle.hep_code.specs.ExpressionCode.{printed_of}
+use Rattle.hep_code.specs.Words.{printed_of}
 use Rattle.hep_emit.proofs.lists.emit_printed.Given as goal
 
 abbrev pub invariant-loop-item : goal.invariant-loop-item

@@ -1,5 +1,5 @@
 use Rattle.std.proofs.Common.{length, arith}
-use Rattle.hep_code.specs.StatementCode.{form_code}
+use Rattle.hep_code.specs.Words.{form_code}
 use Rattle.hep_emit.specs.Operations.{list_subscripts}
 use Rattle.hep_emit.specs.Tables.{names_in, table_in}
 use Rattle.hep_emit.proofs.Forms.{form_lists}

@@ -1,5 +1,5 @@
 use Rattle.std.proofs.Common.{◌≡◌, ◌++◌, drop, length}
-use Rattle.hep_code.specs.StatementCode.{statements_code}
+use Rattle.hep_code.specs.Words.{statements_code}
 use Rattle.hep_emit.specs.Starts.{starts_from, end_from}
 use Rattle.hep_emit.specs.Tables.{table_in}
 use Rattle.hep_emit.proofs.unit.emit_statements.Given as goal

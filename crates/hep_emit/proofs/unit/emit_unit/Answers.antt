@@ -1,7 +1,6 @@
 use Rattle.std.proofs.Common.{◌∙◌, ap, length, refl}
-use Rattle.hep_source.specs.Units.{executable_from}
-use Rattle.hep_code.specs.StatementCode.{instructions_before}
-use Rattle.hep_code.specs.UnitCode.{unplaced}
+use Rattle.hep_machine.specs.Words.{executable_from}
+use Rattle.hep_code.specs.Words.{instructions_before, unplaced}
 use Rattle.hep_emit.specs.declared.tables.Tables.{Tables}
 use Rattle.hep_emit.specs.Tables.{addressed_in}
 use Rattle.hep_emit.proofs.Indexes.{AreBlank, blank-long, found-start, found-code}

@@ -1,5 +1,5 @@
 use Rattle.std.proofs.Common.{◌≡◌, ◌+◌, drop}
-use Rattle.hep_source.specs.Units.{executable_from, passed_over}
+use Rattle.hep_machine.specs.Words.{executable_from, passed_over}
 use Rattle.hep_emit.proofs.unit.first_executable.Given as goal
 
 abbrev pub invariant-loop-index : goal.invariant-loop-index

@@ -1,13 +1,8 @@
 use Rattle.std.proofs.Common.{◌≡◌, Bool, ℕ, List, length, Some, refl, sym, ap, ◌∙◌, subst, arith}
-use Rattle.hep_source.specs.Units.{Units}
+use Rattle.hep_machine.specs.Words.{Units, Layout, frame_of, with_frame, run, Activation, State}
 use Rattle.hep_arena.specs.Space.{Space}
-use Rattle.hep_machine.specs.Layout.{Layout, frame_of, with_frame}
-use Rattle.hep_machine.specs.Run.{run}
-use Rattle.hep_machine.specs.State.{Activation, State}
 use Rattle.hep_arena.specs.Holes.{first_fit}
-use Rattle.hep_frames.specs.Addresses.{frame_from}
-use Rattle.hep_frames.specs.Descriptors.{wanted_of}
-use Rattle.hep_frames.specs.Tree.{Nodes, also, is_stacked, new_node, with_node}
+use Rattle.hep_frames.specs.Words.{frame_from, wanted_of, Nodes, also, is_stacked, new_node, with_node}
 use Rattle.hep_frames.proofs.Memory.{memory-fits}
 use Rattle.hep_frames.proofs.References.{unset-ahead}
 use Rattle.hep_proc.specs.Keeping.{Keeps, with_unset}
@@ -16,8 +11,7 @@ use Rattle.hep_proc.proofs.Slabs.{some-value}
 use Rattle.hep_entering.specs.Calling.{called_activation, layout_with, state_begun}
 use Rattle.hep_entering.specs.Writing.{IsBinding}
 use Rattle.hep_entering.proofs.Begun.{begins, binding, long, stored}
-use Rattle.hep_entering.proofs.Blocks.{block-inside, block-out}
-use Rattle.hep_entering.proofs.Nodes.{node-new}
+use Rattle.hep_entering.proofs.Nodes.{block-inside, block-out, node-new}
 use Rattle.hep_entering.proofs.beginning.begin.Goals as goal
 use Rattle.hep_proc.proofs.Begun.{fit-there}
 

@@ -1,12 +1,10 @@
 use Rattle.std.proofs.Common.{◌≡◌, suc, ◌+◌, ◌*◌, refl, subst, arith}
-use Rattle.hep_source.specs.Units.{unit_at}
-use Rattle.hep_machine.specs.Processes.{unit_of}
+use Rattle.hep_machine.specs.Words.{unit_at, unit_of}
 use Rattle.hep_proc.specs.Keeping.{Keeps}
 use Rattle.hep_entering.specs.Giving.{with_one_given}
 use Rattle.hep_entering.specs.Shapes.{cells_to_bounds_of}
 use Rattle.hep_entering.specs.Writing.{wanted_up_to, with_stored}
-use Rattle.hep_entering.proofs.Bound.{keeps-unset}
-use Rattle.hep_entering.proofs.Dummies.{keeps-put}
+use Rattle.hep_entering.proofs.Dummies.{keeps-unset, keeps-put}
 use Rattle.hep_entering.proofs.Shaped.{keeps-bound}
 use Rattle.hep_entering.proofs.laws.cells_are_written_in_order.Goals as goal
 

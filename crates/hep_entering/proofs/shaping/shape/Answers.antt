@@ -5,38 +5,25 @@ use Rattle.hep_entering.proofs.Shaped.{shaped-begins, shaped-ends, shaped-next}
 use Rattle.hep_entering.proofs.shaping.shape.Goals as goal
 
 pub loop-bound-init : goal.loop-bound-init
-loop-bound-init c = (omega arith, refl, refl, refl, shaped-begins c.args.at c.args.bounds.now c.args.frames.now.arena (nodes_of c.args.frames.now.nodes))
-
-pub put_bound-requires-clause-few : goal.put_bound-requires-clause-few
-put_bound-requires-clause-few c = omega (arith, c.requires.few, c.loop-bound.invariant.1)
-
-pub put_bound-requires-clause-inside : goal.put_bound-requires-clause-inside
-put_bound-requires-clause-inside c = omega (arith, c.requires.inside, c.loop-bound.invariant.0, c.loop-bound.invariant.1, c.loop-bound-test.true)
+loop-bound-init c = record { at = omega arith; cells = refl; holes = refl; nodes = refl; shaped = shaped-begins c.args.at c.args.bounds.now c.args.frames.now.arena (nodes_of c.args.frames.now.nodes) }
 
 pub put_bound-requires-clause-first : goal.put_bound-requires-clause-first
 put_bound-requires-clause-first c =
-    subst (IsOut c.loop-bound.next) (sym c.loop-bound.invariant.2) (c.requires.out c.loop-bound.next (omega (arith, c.loop-bound.invariant.0)) (omega (arith, c.loop-bound.invariant.0, c.loop-bound-test.true)))
+    subst (IsOut c.loop-bound.next) (sym c.loop-bound.invariant.holes) (c.requires.out c.loop-bound.next (omega (arith, c.loop-bound.invariant.at)) (omega (arith, c.loop-bound.invariant.at, c.loop-bound-test.true)))
 
 pub put_bound-requires-clause-second : goal.put_bound-requires-clause-second
 put_bound-requires-clause-second c =
-    subst (IsOut (c.loop-bound.next + 1)) (sym c.loop-bound.invariant.2) (c.requires.out (c.loop-bound.next + 1) (omega (arith, c.loop-bound.invariant.0)) (omega (arith, c.loop-bound.invariant.0, c.loop-bound-test.true)))
-
-pub overflow_add-next : goal.overflow_add-next
-overflow_add-next c = omega (arith, c.requires.few, c.requires.inside, c.loop-bound.invariant.0, c.loop-bound-test.true)
+    subst (IsOut (c.loop-bound.next + 1)) (sym c.loop-bound.invariant.holes) (c.requires.out (c.loop-bound.next + 1) (omega (arith, c.loop-bound.invariant.at)) (omega (arith, c.loop-bound.invariant.at, c.loop-bound-test.true)))
 
 pub loop-bound-preserved : goal.loop-bound-preserved
-loop-bound-preserved c = (
-  omega (arith, c.loop-bound.invariant.0),
-  c.put_bound.ensures.cells ∙ c.loop-bound.invariant.1,
-  c.put_bound.ensures.holes ∙ c.loop-bound.invariant.2,
-  c.put_bound.ensures.nodes ∙ c.loop-bound.invariant.3,
-  shaped-next c.args.at c.args.bounds.now c.args.frames.now.arena (nodes_of c.args.frames.now.nodes) c.loop-bound.bound-index c.loop-bound.next _ c.loop-bound.frames.arena c.put_bound.new.frames.arena (nodes_of c.loop-bound.frames.nodes) (nodes_of c.put_bound.new.frames.nodes) c.loop-bound-test.true c.loop-bound.invariant.0 c.put_bound.ensures.put c.put_bound.ensures.nodes c.loop-bound.invariant.4,
-)
-
-pub returns : goal.returns
-returns c = record {
-  shaped = shaped-ends c.args.at c.args.bounds.now c.args.frames.now.arena (nodes_of c.args.frames.now.nodes) c.loop-bound.bound-index c.loop-bound.frames.arena (nodes_of c.loop-bound.frames.nodes) (omega (arith, c.loop-bound-test.false, c.loop-bound.auto.bound-index-end)) c.loop-bound.invariant.4;
-  nodes = c.loop-bound.invariant.3;
-  holes = c.loop-bound.invariant.2;
-  cells = c.loop-bound.invariant.1;
+loop-bound-preserved c = record {
+  at = omega (arith, c.loop-bound.invariant.at);
+  cells = c.put_bound.ensures.cells ∙ c.loop-bound.invariant.cells;
+  holes = c.put_bound.ensures.holes ∙ c.loop-bound.invariant.holes;
+  nodes = c.put_bound.ensures.nodes ∙ c.loop-bound.invariant.nodes;
+  shaped = shaped-next c.args.at c.args.bounds.now c.args.frames.now.arena (nodes_of c.args.frames.now.nodes) c.loop-bound.bound-index c.loop-bound.next _ c.loop-bound.frames.arena c.put_bound.new.frames.arena (nodes_of c.loop-bound.frames.nodes) (nodes_of c.put_bound.new.frames.nodes) c.loop-bound-test.true c.loop-bound.invariant.at c.put_bound.ensures.put c.put_bound.ensures.nodes c.loop-bound.invariant.shaped;
 }
+
+pub returns-clause-shaped : goal.returns-clause-shaped
+returns-clause-shaped c =
+    shaped-ends c.args.at c.args.bounds.now c.args.frames.now.arena (nodes_of c.args.frames.now.nodes) c.loop-bound.bound-index c.loop-bound.frames.arena (nodes_of c.loop-bound.frames.nodes) (omega (arith, c.loop-bound-test.false, c.loop-bound.auto.bound-index-end)) c.loop-bound.invariant.shaped

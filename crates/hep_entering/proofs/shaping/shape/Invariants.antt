@@ -4,6 +4,10 @@ use Rattle.hep_entering.proofs.Shaped.{AreShaped}
 use Rattle.hep_entering.proofs.shaping.shape.Given as goal
 
 abbrev pub invariant-loop-bound : goal.invariant-loop-bound
-invariant-loop-bound l =
-    (l.next ≡ l.at + 2 * l.bound-index) × (length l.frames.arena.contents ≡ length l.fn.frames.arena.contents) × (l.frames.arena.holes ≡ l.fn.frames.arena.holes)
-    × (nodes_of l.frames.nodes ≡ nodes_of l.fn.frames.nodes) × AreShaped l.at l.bounds l.fn.frames.arena (nodes_of l.fn.frames.nodes) l.bound-index l.frames.arena (nodes_of l.frames.nodes)
+invariant-loop-bound l = record {
+  at : l.next ≡ l.at + 2 * l.bound-index;
+  cells : length l.frames.arena.contents ≡ length l.fn.frames.arena.contents;
+  holes : l.frames.arena.holes ≡ l.fn.frames.arena.holes;
+  nodes : nodes_of l.frames.nodes ≡ nodes_of l.fn.frames.nodes;
+  shaped : AreShaped l.at l.bounds l.fn.frames.arena (nodes_of l.fn.frames.nodes) l.bound-index l.frames.arena (nodes_of l.frames.nodes);
+}

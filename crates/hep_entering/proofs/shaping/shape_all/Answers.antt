@@ -2,7 +2,7 @@ use Rattle.std.proofs.Common.{◌≡◌, ◌+◌, ◌≤◌, length, Some, arith
 use Rattle.hep_frames.specs.Tree.{Node as TreeNode}
 use Rattle.hep_proc.specs.Nodes.{nodes_of}
 use Rattle.hep_proc.proofs.Slabs.{node-there}
-use Rattle.hep_entering.proofs.AllShaped.{begins-behind, frame-inside, frame-out}
+use Rattle.hep_entering.proofs.Shaped.{begins-behind, frame-inside, frame-out}
 use Rattle.hep_entering.proofs.shaping.shape_all.Goals.{After-cells}
 use Rattle.hep_entering.proofs.shaping.shape_all.Goals as goal
 

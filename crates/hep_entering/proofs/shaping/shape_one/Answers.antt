@@ -1,6 +1,6 @@
 use Rattle.std.proofs.Common.{◌+◌, ◌*◌, ◌<◌, ◌∙◌, length, sym, ap, subst}
 use Rattle.std.proofs.lemmas.Option.{same_Some}
-use Rattle.hep_machine.specs.Shapes.{Bounds}
+use Rattle.hep_machine.specs.Words.{Bounds}
 use Rattle.hep_entering.specs.Shapes.{IsShaping, cells_of_shape}
 use Rattle.hep_entering.proofs.shaping.shape_one.Goals as goal
 

@@ -1,6 +1,6 @@
 use Rattle.std.proofs.Common.{ap}
 use Rattle.std.specs.Option.{unwrap_or}
-use Rattle.hep_machine.specs.Access.{unset_cell}
+use Rattle.hep_machine.specs.Words.{unset_cell}
 use Rattle.hep_finding.proofs.laws.cells_are_found.Goals as goal
 
 pub returns : goal.returns

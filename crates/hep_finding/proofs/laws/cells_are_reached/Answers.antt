@@ -1,4 +1,4 @@
-use Rattle.hep_finding.proofs.Reached.{frame-reached, reached}
+use Rattle.hep_finding.proofs.Variables.{frame-reached, reached}
 use Rattle.hep_finding.proofs.laws.cells_are_reached.Goals as goal
 
 pub returns : goal.returns

@@ -1,7 +1,5 @@
 use Rattle.hep_image.specs.Finding.{cells_in}
-use Rattle.hep_finding.proofs.Dummies.{dummy-addressed}
-use Rattle.hep_finding.proofs.Own.{own-addressed}
-use Rattle.hep_finding.proofs.Reached.{any-addressed}
+use Rattle.hep_finding.proofs.Variables.{dummy-addressed, own-addressed, any-addressed}
 use Rattle.hep_finding.proofs.laws.variables_are_addressed.Goals as goal
 
 pub returns : goal.returns

@@ -1,5 +1,5 @@
 use Rattle.std.proofs.Common.{◌+◌, ap, ◌∙◌, length}
-use Rattle.hep_machine.specs.Run.{run}
+use Rattle.hep_machine.specs.Words.{run}
 use Rattle.hep_arena.specs.Holes.{free_cells}
 use Rattle.hep_frames.proofs.HeldFrames.{placed-run, used-cells}
 use Rattle.hep_frames.proofs.Memory.{memory-cells}

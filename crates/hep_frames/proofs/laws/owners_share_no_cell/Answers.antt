@@ -1,9 +1,8 @@
 use Rattle.std.proofs.Common.{◌<◌, subst}
-use Rattle.hep_source.specs.Names.{same_name}
+use Rattle.hep_machine.specs.Words.{same_name, same_block}
 use Rattle.hep_source.proofs.NameTests.{equal_names}
-use Rattle.hep_machine.specs.Declarations.{same_block}
 use Rattle.hep_machine.proofs.Locations.{equal_blocks}
-use Rattle.hep_frames.specs.Rows.{block_row, common_row, frame_row, same_part}
+use Rattle.hep_frames.specs.Words.{block_row, common_row, frame_row, same_part}
 use Rattle.hep_frames.proofs.CommonRows.{block_row-cells, common_row-cells}
 use Rattle.hep_frames.proofs.FrameRows.{equal_parts, frame_row-cells}
 use Rattle.hep_frames.proofs.Rows.{owned-by}

@@ -1,6 +1,5 @@
-use Rattle.hep_source.specs.Names.{same_name}
-use Rattle.hep_machine.specs.Declarations.{same_block}
-use Rattle.hep_frames.specs.Rows.{block_row, common_row, frame_row, same_part}
+use Rattle.hep_machine.specs.Words.{same_name, same_block}
+use Rattle.hep_frames.specs.Words.{block_row, common_row, frame_row, same_part}
 use Rattle.hep_frames.proofs.Rows.{place-is}
 use Rattle.hep_frames.proofs.laws.places_follow_first_cells.Goals as goal
 

@@ -1,4 +1,4 @@
-use Rattle.hep_history.proofs.Spellings.{choices_apart}
+use Rattle.hep_history.proofs.Digits.{choices_apart}
 use Rattle.hep_history.proofs.choices.read_choices.Goals as goal
 
 pub read_lines-requires : goal.read_lines-requires

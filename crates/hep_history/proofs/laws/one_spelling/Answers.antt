@@ -1,7 +1,7 @@
 use Rattle.hep_history.specs.Choices.{choice_text, IsProcess}
 use Rattle.hep_history.specs.Histories.{entry_text, IsAllowed}
 use Rattle.hep_history.proofs.Readings.{same_texts}
-use Rattle.hep_history.proofs.Spellings.{choices_apart, entries_apart}
+use Rattle.hep_history.proofs.Digits.{choices_apart, entries_apart}
 use Rattle.hep_history.proofs.laws.one_spelling.Goals as goal
 
 pub returns-clause-histories : goal.returns-clause-histories

@@ -1,12 +1,10 @@
-use Rattle.std.proofs.Common.{◌≡◌, ℕ, ◌<◌, Bool, Some, Ok, true, false, List, length, take, get_or, subst, arith, ap, ◌∙◌, refl}
-use Rattle.std.specs.Prelude.{slice_get}
-use Rattle.std.proofs.lemmas.List.{take_all}
+use Rattle.std.proofs.Common.{◌≡◌, ℕ, ◌<◌, Bool, Some, Ok, true, false, List, length, take, get_or, subst, arith, ap, ◌∙◌, refl, slice_get, take_all}
 use Rattle.std.proofs.lemmas.Option.{slice_get-get_or}
 use Rattle.hep_machine.specs.declared.event.Entry.{Entry}
-use Rattle.hep_machine.specs.Run.{schedule_of}
+use Rattle.hep_machine.specs.Words.{schedule_of}
 use Rattle.hep_scheduler.specs.Value.{CoreValue}
 use Rattle.hep_history.specs.Progress.{EntryMade}
-use Rattle.hep_history.proofs.Entries.{entry_next, entry_refused, expand_singles, possible_more}
+use Rattle.hep_history.proofs.Turns.{entry_next, entry_refused, expand_singles, possible_more}
 use Rattle.hep_history.proofs.replays.replay.Goals as goal
 
 -- the entry that the loop reads

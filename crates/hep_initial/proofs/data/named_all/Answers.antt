@@ -1,4 +1,4 @@
-use Rattle.hep_initial.proofs.NamedLists.{named-turn}
+use Rattle.hep_initial.proofs.Groups.{named-turn}
 use Rattle.hep_initial.proofs.data.named_all.Goals as goal
 
 pub loop-target-preserved : goal.loop-target-preserved

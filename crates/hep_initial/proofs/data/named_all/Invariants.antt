@@ -1,6 +1,6 @@
 use Rattle.std.proofs.Common.{take}
 use Rattle.indexmap.specs.IndexMap.{get}
-use Rattle.hep_source.specs.Names.{name_eq}
+use Rattle.hep_machine.specs.Words.{name_eq}
 use Rattle.hep_initial.specs.Named.{NamedAll}
 use Rattle.hep_initial.specs.Shapes.{IsTable}
 use Rattle.hep_initial.proofs.data.named_all.Given as goal

@@ -1,8 +1,8 @@
 use mir.Val.{SFits}
 use mir.Syntax.{w64}
-use Rattle.std.proofs.Common.{◌<◌, length, get_or, pos, arith, rules}
+use Rattle.std.proofs.Common.{◌<◌, length, get_or, pos, arith, rules, sym, ◌∙◌}
 use Rattle.std.proofs.lemmas.Int.{to_z-of_z}
-use Rattle.hep_initial.proofs.Subscripts.{within-turn}
+use Rattle.hep_initial.proofs.ArrayShapes.{within-turn}
 use Rattle.hep_initial.proofs.shapes.are_within.Goals as goal
 
 pub loop-index-preserved : goal.loop-index-preserved
@@ -11,4 +11,4 @@ loop-index-preserved c =
     let ss = c.args.subscripts.now in
     let mt : c.loop-index.index < length ss = omega (arith, c.requires) in
     let fits : SFits w64 (get_or ss c.loop-index.index (pos 0)) = search rules in
-    within-turn bs ss c.loop-index.index _ (pos 0) _ c.loop-index-test.true mt c.loop-index.invariant c.is_within.result (simp to_z-of_z at c.is_within.ensures) c.if-not-is_within.false
+    within-turn bs ss c.loop-index.index _ (pos 0) _ c.loop-index-test.true mt c.loop-index.invariant (sym (simp to_z-of_z at c.is_within.ensures) ∙ c.if-not-is_within.false)

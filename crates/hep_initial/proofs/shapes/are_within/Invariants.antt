@@ -1,5 +1,5 @@
 use Rattle.std.proofs.Common.{◌≡◌, drop, is_some}
-use Rattle.hep_machine.specs.Shapes.{element_number}
+use Rattle.hep_machine.specs.Words.{element_number}
 use Rattle.hep_initial.proofs.shapes.are_within.Given as goal
 
 abbrev pub invariant-loop-index : goal.invariant-loop-index

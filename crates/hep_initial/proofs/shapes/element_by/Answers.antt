@@ -1,6 +1,6 @@
 use Rattle.std.proofs.Common.{◌≡◌, false, nat_eq, length, ap, arith}
 use Rattle.std.proofs.lemmas.Bool.Decides.{nat_tests}
-use Rattle.hep_machine.specs.Shapes.{sum}
+use Rattle.hep_machine.specs.Words.{sum}
 use Rattle.hep_shape.proofs.Columns.{other_length}
 use Rattle.hep_initial.proofs.shapes.element_by.Goals as goal
 

@@ -1,8 +1,8 @@
 use Rattle.std.proofs.Common.{subst}
-use Rattle.hep_source.specs.declared.declaration.DataGroup.{DataGroup}
+use Rattle.hep_machine.specs.Words.{DataGroup}
 use Rattle.hep_initial.specs.Given.{Gives}
 use Rattle.hep_initial.specs.Groups.{elements_of_targets}
-use Rattle.hep_initial.proofs.DataTurns.{gives-turn}
+use Rattle.hep_initial.proofs.DataLines.{gives-turn}
 use Rattle.hep_initial.proofs.violation.give_groups.Goals as goal
 
 pub loop-group-preserved : goal.loop-group-preserved

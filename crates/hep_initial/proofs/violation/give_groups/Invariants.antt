@@ -1,6 +1,6 @@
 use Rattle.std.proofs.Common.{take}
 use Rattle.indexmap.specs.IndexMap.{get}
-use Rattle.hep_source.specs.Names.{name_eq}
+use Rattle.hep_machine.specs.Words.{name_eq}
 use Rattle.hep_initial.specs.Given.{Gives}
 use Rattle.hep_initial.specs.Groups.{elements_of_groups}
 use Rattle.hep_initial.specs.Shapes.{IsTable}

@@ -1,5 +1,5 @@
 use Rattle.hep_initial.specs.Groups.{elements_of_target}
-use Rattle.hep_initial.proofs.DataTurns.{gives-turn}
+use Rattle.hep_initial.proofs.DataLines.{gives-turn}
 use Rattle.hep_initial.proofs.violation.give_targets.Goals as goal
 
 pub loop-target-preserved : goal.loop-target-preserved

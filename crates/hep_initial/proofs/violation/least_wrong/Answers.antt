@@ -1,9 +1,9 @@
 use Rattle.std.proofs.Common.{◌≤◌, ◌+◌, ◌∙◌, [], ap, drop, length, arith}
-use Rattle.hep_machine.specs.Constants.{value_among, given_by}
-use Rattle.hep_check.specs.Data.{elements_in}
+use Rattle.hep_machine.specs.Words.{value_among, given_by}
+use Rattle.hep_check.specs.Words.{elements_in}
 use Rattle.hep_initial.specs.Given.{given_after}
 use Rattle.hep_initial.specs.Groups.{data_line}
-use Rattle.hep_initial.proofs.DataTurns.{data-turn, data-end}
+use Rattle.hep_initial.proofs.DataLines.{data-turn, data-end}
 use Rattle.hep_initial.proofs.violation.least_wrong.Goals as goal
 use Rattle.hep_source.proofs.Tests.{drop_at}
 

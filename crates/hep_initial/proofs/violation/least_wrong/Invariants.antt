@@ -1,8 +1,7 @@
 use Rattle.std.proofs.Common.{◌≡◌, List, [], drop}
 use Rattle.indexmap.specs.IndexMap.{get}
-use Rattle.hep_source.specs.Names.{name_eq}
-use Rattle.hep_machine.specs.Data.{Stretch}
-use Rattle.hep_check.specs.Reported.{least_line}
+use Rattle.hep_machine.specs.Words.{name_eq, Stretch}
+use Rattle.hep_check.specs.Words.{least_line}
 use Rattle.hep_initial.specs.Given.{IsGiven}
 use Rattle.hep_initial.specs.Groups.{data_line}
 use Rattle.hep_initial.specs.Shapes.{IsTable}

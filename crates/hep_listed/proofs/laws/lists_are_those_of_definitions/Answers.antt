@@ -1,9 +1,5 @@
-use Rattle.std.proofs.Common.{◌≡◌, length, Option, Some, None, refl, sym, ap, ◌∙◌, true≢false}
-use Rattle.std.specs.Prelude.{◌&&◌, is_some, not}
-use Rattle.hep_machine.specs.Processes.{is_number_among, living}
-use Rattle.hep_machine.specs.Run.{run}
-use Rattle.hep_machine.specs.Schedules.{living_from, ready_in}
-use Rattle.hep_machine.specs.State.{State}
+use Rattle.std.proofs.Common.{◌≡◌, length, Option, Some, None, refl, sym, ap, ◌∙◌, true≢false, ◌&&◌, is_some, not}
+use Rattle.hep_machine.specs.Words.{is_number_among, living, run, living_from, ready_in, State}
 use Rattle.hep_blocked.specs.declared.want.Want.{Want}
 use Rattle.hep_blocked.specs.Waiting.{waiting_at}
 use Rattle.hep_listed.proofs.Living.{waits-live}

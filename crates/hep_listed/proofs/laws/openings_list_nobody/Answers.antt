@@ -1,11 +1,6 @@
-use Rattle.std.proofs.Common.{◌≡◌, ℕ, zero, suc, [], ◌∷◌, None, refl, sym, ap, ◌∙◌}
-use Rattle.std.specs.Prelude.{is_some}
+use Rattle.std.proofs.Common.{◌≡◌, ℕ, zero, suc, [], ◌∷◌, None, refl, sym, ap, ◌∙◌, is_some}
 use Rattle.std.proofs.lemmas.Option.{none-some}
-use Rattle.hep_source.specs.Units.{Units}
-use Rattle.hep_machine.specs.Opening.{opening}
-use Rattle.hep_machine.specs.Processes.{is_number_among}
-use Rattle.hep_machine.specs.Run.{run, run_from}
-use Rattle.hep_machine.specs.Schedules.{ready_in}
+use Rattle.hep_machine.specs.Words.{Units, opening, is_number_among, run, run_from, ready_in}
 use Rattle.hep_blocked.specs.Waiting.{waiting_at}
 use Rattle.hep_listed.proofs.laws.openings_list_nobody.Goals as goal
 

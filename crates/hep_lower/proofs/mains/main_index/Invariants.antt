@@ -1,6 +1,6 @@
 use Rattle.std.proofs.Common.{◌≡◌, ◌+◌, drop}
 use Rattle.std.specs.Option.{option_map}
-use Rattle.hep_source.specs.Units.{main_among}
+use Rattle.hep_machine.specs.Words.{main_among}
 use Rattle.hep_lower.proofs.mains.main_index.Given as goal
 
 abbrev pub invariant-loop-index : goal.invariant-loop-index

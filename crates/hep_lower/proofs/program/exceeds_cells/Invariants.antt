@@ -1,6 +1,5 @@
 use Rattle.std.proofs.Common.{ℕ, ◌<◌, ◌≤◌}
-use Rattle.hep_source.specs.Units.{unit_at}
-use Rattle.hep_machine.specs.Variables.{frame_cells}
+use Rattle.hep_machine.specs.Words.{unit_at, frame_cells}
 use Rattle.hep_image.specs.Image.{most_cells}
 use Rattle.hep_lower.proofs.program.exceeds_cells.Given as goal
 

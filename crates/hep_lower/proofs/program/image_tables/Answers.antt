@@ -1,6 +1,5 @@
 use Rattle.std.proofs.Common.{◌∙◌, ap, arith, subst, sym}
-use Rattle.hep_source.specs.Units.{is_main, subroutine_name}
-use Rattle.hep_machine.specs.Declarations.{blocks_of}
+use Rattle.hep_machine.specs.Words.{is_main, subroutine_name, blocks_of}
 use Rattle.hep_image.proofs.Mains.{index-inside}
 use Rattle.hep_image.specs.Data.{AreInitial, AreOfUnits}
 use Rattle.hep_image.specs.Names.{AreNames}

@@ -1,15 +1,14 @@
-use Rattle.std.proofs.Common.{◌≡◌, ◌∙◌, ◌<◌, ap, arith, length, subst, sym}
+use Rattle.std.proofs.Common.{◌≡◌, ◌∙◌, ◌<◌, inl, inr, ap, arith, length, subst, sym}
 use Rattle.std.specs.Option.{unwrap_or}
-use Rattle.hep_source.specs.Defaults.{no_unit}
-use Rattle.hep_source.specs.Units.{Units, is_main, main_unit, subroutine_name}
+use Rattle.hep_machine.specs.Words.{no_unit, Units, is_main, main_unit, subroutine_name}
 use Rattle.hep_common.specs.Starts.{AreBlocks, AreStarts}
 use Rattle.hep_image.proofs.Mains.{index-inside}
-use Rattle.hep_code.specs.Limits.{most_instructions}
+use Rattle.hep_code.specs.Words.{most_instructions}
 use Rattle.hep_lower.specs.Refusals.{IsFirstDeep, RefusesCode}
 use Rattle.hep_lower.specs.Units.{AreUnits}
 use Rattle.hep_lower.proofs.Counts.{one-each}
 use Rattle.hep_lower.proofs.Placing.{none-there}
-use Rattle.hep_lower.proofs.Told.{blocks-are, lowered-is, some-main, told-cells, told-code, told-deep, told-many, within-limits}
+use Rattle.hep_lower.proofs.Told.{blocks-are, lowered-is, some-main, told-beyond, told-code, told-deep, within-limits}
 use Rattle.hep_lower.proofs.program.lower_program.Goals as goal
 use Rattle.hep_lower.proofs.program.lower_program.Goals.{In_ok-program, In_ok-common, In_ok-lowered}
 
@@ -61,11 +60,11 @@ pub returns-then-source-gt-MOST_INSTRUCTIONS-clause-refused : goal.returns-then-
 returns-then-source-gt-MOST_INSTRUCTIONS-clause-refused c =
     let program = c.args.checked.now in
     let many = subst (λ (p : Units). most_instructions < length p) (c.as_slice-source.ensures ∙ c.program.ensures) c.if-source-gt-MOST_INSTRUCTIONS.true in
-    told-many program (some-main program c.args.main c.requires) c.refused.result c.refused.ensures (omega (arith, many, one-each program (length program)))
+    told-beyond program (some-main program c.args.main c.requires) c.refused.result c.refused.ensures (inr (omega (arith, many, one-each program (length program))))
 
 pub returns-then-exceeds_cells-clause-refused : goal.returns-then-exceeds_cells-clause-refused
 returns-then-exceeds_cells-clause-refused c =
-    told-cells c.args.checked.now (some-main c.args.checked.now c.args.main c.requires) c.refused-then-exceeds_cells.result c.refused-then-exceeds_cells.ensures (c.exceeds_cells.ensures.beyond c.if-exceeds_cells.true)
+    told-beyond c.args.checked.now (some-main c.args.checked.now c.args.main c.requires) c.refused-then-exceeds_cells.result c.refused-then-exceeds_cells.ensures (inl (c.exceeds_cells.ensures.beyond c.if-exceeds_cells.true))
 
 pub returns-in_err-lowered-clause-refused : goal.returns-in_err-lowered-clause-refused
 returns-in_err-lowered-clause-refused c =

@@ -1,5 +1,5 @@
 use Rattle.std.proofs.Common.{◌≡◌, ◌++◌, map, drop}
-use Rattle.hep_source.specs.Names.{spelling}
+use Rattle.hep_machine.specs.Words.{spelling}
 use Rattle.hep_lower.proofs.spellings.add_spellings.Given as goal
 
 abbrev pub invariant-loop-name : goal.invariant-loop-name

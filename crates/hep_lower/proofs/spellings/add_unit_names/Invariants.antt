@@ -1,5 +1,5 @@
 use Rattle.std.proofs.Common.{◌≡◌, ◌++◌, map, drop}
-use Rattle.hep_source.specs.Units.{unit_name}
+use Rattle.hep_machine.specs.Words.{unit_name}
 use Rattle.hep_lower.proofs.spellings.add_unit_names.Given as goal
 
 abbrev pub invariant-loop-unit : goal.invariant-loop-unit

@@ -1,6 +1,6 @@
 use Rattle.std.proofs.Common.{◌++◌, ap, length, map, ◌∙◌}
 use Rattle.std.specs.List.{flat_map}
-use Rattle.hep_source.specs.Units.{unit_name}
+use Rattle.hep_machine.specs.Words.{unit_name}
 use Rattle.hep_image.specs.Names.{block_spelling, spellings_of}
 use Rattle.hep_lower.specs.Numbers.{numbers_from}
 use Rattle.hep_lower.proofs.Numbers.{names-are}

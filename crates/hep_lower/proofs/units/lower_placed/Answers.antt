@@ -1,7 +1,5 @@
 use Rattle.std.proofs.Common.{◌∙◌, ◌≤◌, length, ap, subst, sym}
-use Rattle.hep_code.specs.Depths.{deepest, line_too_deep}
-use Rattle.hep_code.specs.Limits.{most_instructions}
-use Rattle.hep_code.specs.Stacks.{entry_index}
+use Rattle.hep_code.specs.Words.{deepest, line_too_deep, most_instructions, entry_index}
 use Rattle.hep_image.specs.Image.{most_cells}
 use Rattle.hep_image.specs.Owners.{AreInOrder}
 use Rattle.hep_lower.specs.Refusals.{RefusesCode}

@@ -1,5 +1,5 @@
 use Rattle.std.proofs.Common.{◌<◌, ◌≤◌}
-use Rattle.hep_code.specs.Limits.{most_instructions}
+use Rattle.hep_code.specs.Words.{most_instructions}
 use Rattle.hep_lower.specs.Units.{AreRows, AreUnits}
 use Rattle.hep_lower.proofs.units.lower_units.Given as goal
 

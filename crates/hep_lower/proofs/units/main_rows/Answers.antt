@@ -1,5 +1,5 @@
 use Rattle.std.proofs.Common.{refl}
-use Rattle.hep_source.specs.Units.{main_unit}
+use Rattle.hep_machine.specs.Words.{main_unit}
 use Rattle.hep_lower.proofs.Placing.{both-then, main-frame}
 use Rattle.hep_lower.proofs.units.main_rows.Goals as goal
 

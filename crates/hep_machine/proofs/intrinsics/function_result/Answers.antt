@@ -1,6 +1,5 @@
 use Rattle.std.proofs.Common.{sym, ap, ◌∙◌, arith}
-use Rattle.hep_source.specs.declared.function.PureFunction.{PureFunction}
-use Rattle.hep_machine.specs.Arithmetic.{function_result, integers_of}
+use Rattle.hep_machine.specs.Words.{PureFunction, function_result, integers_of}
 use Rattle.hep_machine.proofs.Arguments.{other_than_one, other_remainder, other_transfer, other_difference}
 use Rattle.hep_machine.proofs.intrinsics.function_result.Goals as goal
 

@@ -1,5 +1,5 @@
 use Rattle.std.proofs.Common.{◌≡◌, drop}
-use Rattle.hep_machine.specs.Arithmetic.{integers_of, largest_of}
+use Rattle.hep_machine.specs.Words.{integers_of, largest_of}
 use Rattle.hep_machine.proofs.intrinsics.largest.Given as goal
 
 abbrev pub invariant-loop-argument : goal.invariant-loop-argument

@@ -1,4 +1,4 @@
-use Rattle.hep_machine.specs.Run.{run}
+use Rattle.hep_machine.specs.Words.{run}
 use Rattle.hep_machine.proofs.Ages.{aged, on_stack_made, run_older}
 use Rattle.hep_machine.proofs.laws.parents_are_older.Goals as goal
 

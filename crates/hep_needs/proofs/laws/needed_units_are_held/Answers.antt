@@ -1,4 +1,4 @@
-use Rattle.hep_machine.specs.Run.{run}
+use Rattle.hep_machine.specs.Words.{run}
 use Rattle.hep_needs.proofs.Holding.{need-held}
 use Rattle.hep_needs.proofs.laws.needed_units_are_held.Goals as goal
 

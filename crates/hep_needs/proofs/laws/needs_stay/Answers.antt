@@ -1,12 +1,11 @@
-use Rattle.std.proofs.Common.{ℕ, true, sym, ◌∙◌}
+use Rattle.std.proofs.Common.{true, ◌∙◌, sym}
+use Rattle.hep_machine.proofs.Others.{activations_after, others_stay}
 use Rattle.hep_needs.proofs.Staying.{need-stays}
+use Rattle.hep_needs.proofs.Waiting.{waits-unmet}
 use Rattle.hep_needs.proofs.laws.needs_stay.Goals as goal
 
-pub returns-clause-step : goal.returns-clause-step
-returns-clause-step c program p q s t top made =
-    let others = λ (r : ℕ). c.other_processes_stay.ensures program p r s t in
-    need-stays program p q s t top others (c.numbers_rise.ensures.activations program p s) made
-
-pub returns-clause-stop : goal.returns-clause-stop
-returns-clause-stop c program q s =
-    c.waits_are_unmet_needs.ensures program q (record s { halted = true }) ∙ sym (c.waits_are_unmet_needs.ensures program q s)
+pub returns : goal.returns
+returns c = record {
+  step = λ program p q s t top made. need-stays program p q s t top (λ r e d one h. others_stay program p r s t e d h) (activations_after program p s) made;
+  stop = λ program q s. waits-unmet program q (record s { halted = true }) ∙ sym (waits-unmet program q s);
+}

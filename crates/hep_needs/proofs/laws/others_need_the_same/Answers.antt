@@ -1,9 +1,6 @@
-use Rattle.std.proofs.Common.{◌≡◌, ℕ, true, [], ◌∷◌, ◌++◌, Some, sym, ap, ◌∙◌}
-use Rattle.std.specs.Prelude.{not}
+use Rattle.std.proofs.Common.{◌≡◌, ℕ, true, [], ◌∷◌, ◌++◌, Some, sym, ap, ◌∙◌, not}
 use mathlib.Core.Bool.{beq}
-use Rattle.hep_machine.specs.Laws.{IsOnStack}
-use Rattle.hep_machine.specs.Run.{run}
-use Rattle.hep_machine.specs.Views.{is_owned}
+use Rattle.hep_machine.specs.Words.{run, is_owned}
 use Rattle.hep_needs.specs.Needs.{touched_by}
 use Rattle.hep_needs.proofs.Awaiting.{need-after, stepped, waits-by-state}
 use Rattle.hep_needs.proofs.laws.others_need_the_same.Goals as goal
@@ -11,8 +8,7 @@ use Rattle.hep_needs.proofs.laws.others_need_the_same.Goals as goal
 pub returns-clause-cell : goal.returns-clause-cell
 returns-clause-cell c program cells choices p q cell full layout needs there other placed =
     let w = needs.wanted in
-    let older = λ (a : ℕ) (on : IsOnStack (run program choices) a). (c.parents_are_older.ensures.made program choices a on).1 in
-    let needed = need-after program choices p q w (c.needs_stay.ensures.step program p q) older there other needs.needed in
+    let needed = need-after program choices p q w there other needs.needed in
     let after = choices ++ p ∷ [] in
     record {
       wanted = w;
@@ -28,10 +24,9 @@ returns-clause-untouched c program cells choices p q cell full layout needs ther
     let s = run program choices in
     let t = run program (choices ++ p ∷ []) in
     let w = needs.wanted in
-    let older = λ (a : ℕ) (on : IsOnStack (run program choices) a). (c.parents_are_older.ensures.made program choices a on).1 in
-    let needed = need-after program choices p q w (c.needs_stay.ensures.step program p q) older there other needs.needed in
+    let needed = need-after program choices p q w there other needs.needed in
     let made = stepped program choices p q there in
     let apart = λ (touched : touched_by program p s ≡ Some w.at). untouched w.at touched (needs.kept layout placed) in
     let same = c.other_units_keep_their_states.ensures program p s t w.at made calm apart in
-    waits-by-state program q t w (c.waits_are_unmet_needs.ensures program q t) needed
-    ∙ (ap (λ b. not (beq b w.full)) same ∙ sym (waits-by-state program q s w (c.waits_are_unmet_needs.ensures program q s) needs.needed))
+    waits-by-state program q t w needed
+    ∙ (ap (λ b. not (beq b w.full)) same ∙ sym (waits-by-state program q s w needs.needed))

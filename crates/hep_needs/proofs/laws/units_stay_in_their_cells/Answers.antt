@@ -1,6 +1,5 @@
 use Rattle.std.proofs.Common.{ℕ, [], ◌∷◌, ◌++◌}
-use Rattle.hep_machine.specs.Run.{run}
-use Rattle.hep_machine.specs.State.{Activation}
+use Rattle.hep_machine.specs.Words.{run, Activation}
 use Rattle.hep_needs.proofs.Placing.{cell-stays}
 use Rattle.hep_needs.proofs.laws.units_stay_in_their_cells.Goals as goal
 

@@ -1,8 +1,7 @@
-use Rattle.std.proofs.Common.{sym, ◌∙◌}
-use Rattle.std.specs.Prelude.{not}
+use Rattle.std.proofs.Common.{sym, ◌∙◌, not}
 use Rattle.std.proofs.lemmas.Option.{same_Some}
 use mathlib.Core.Bool.{beq}
-use Rattle.hep_machine.specs.Run.{run}
+use Rattle.hep_machine.specs.Words.{run}
 use Rattle.hep_needs.proofs.Awaiting.{waits-by-state}
 use Rattle.hep_needs.proofs.laws.waiting_is_read_from_cells.Goals as goal
 
@@ -11,5 +10,5 @@ returns c program cells choices p cell full layout contents slot needs placed ho
     let s = run program choices in
     let w = needs.wanted in
     let stored = same_Some (s.store w.at) slot (sym (holds w.at cell (needs.kept layout placed)) ∙ there) in
-    waits-by-state program p s w (c.waits_are_unmet_needs.ensures program p s) needs.needed
+    waits-by-state program p s w needs.needed
     ∙ (λ i. not (beq (stored i).full (needs.state i)))

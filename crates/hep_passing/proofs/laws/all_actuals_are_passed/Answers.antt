@@ -1,14 +1,11 @@
 use Rattle.std.proofs.Common.{sym, subst}
-use Rattle.hep_source.specs.Units.{unit_at}
-use Rattle.hep_machine.specs.Binding.{dummies_for}
-use Rattle.hep_machine.specs.Processes.{unit_of}
-use Rattle.hep_machine.specs.Step.{scope_of}
-use Rattle.hep_code.proofs.Passing.{actuals_passed}
+use Rattle.hep_machine.specs.Words.{unit_at, dummies_for, unit_of, scope_of}
+use Rattle.hep_code.proofs.Entries.{actuals_passed}
 use Rattle.hep_image.specs.Finding.{cells_in}
 use Rattle.hep_image.specs.Places.{variable_of}
 use Rattle.hep_passing.specs.Agreement.{AreGivenAs, arrays_at}
 use Rattle.hep_passing.specs.Passing.{given_by}
-use Rattle.hep_passing.proofs.Actuals.{all-given}
+use Rattle.hep_passing.proofs.References.{all-given}
 use Rattle.hep_passing.proofs.laws.all_actuals_are_passed.Goals as goal
 
 pub returns-clause-actuals : goal.returns-clause-actuals

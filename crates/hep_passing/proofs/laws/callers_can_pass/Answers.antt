@@ -1,7 +1,6 @@
 use Rattle.std.proofs.Common.{sym, subst}
-use Rattle.hep_source.specs.Units.{unit_at}
-use Rattle.hep_machine.specs.Processes.{unit_of}
-use Rattle.hep_code.proofs.Passing.{actuals_passed}
+use Rattle.hep_machine.specs.Words.{unit_at, unit_of}
+use Rattle.hep_code.proofs.Entries.{actuals_passed}
 use Rattle.hep_image.specs.Places.{variable_of}
 use Rattle.hep_passing.specs.Agreement.{arrays_at}
 use Rattle.hep_passing.specs.Ready.{ArePassable}

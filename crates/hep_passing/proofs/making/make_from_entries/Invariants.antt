@@ -1,6 +1,5 @@
-use Rattle.std.proofs.Common.{◌≡◌, ◌≤◌, drop}
-use Rattle.std.specs.Prelude.{vec_capacity, vec_len}
-use Rattle.hep_code.specs.Passing.{passed_from}
+use Rattle.std.proofs.Common.{◌≡◌, ◌≤◌, drop, vec_capacity, vec_len}
+use Rattle.hep_code.specs.Words.{passed_from}
 use Rattle.hep_image.specs.Finding.{cells_in}
 use Rattle.hep_passing.specs.Entries.{passed_in}
 use Rattle.hep_passing.specs.Passing.{made_by}

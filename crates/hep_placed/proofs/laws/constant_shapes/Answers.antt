@@ -1,4 +1,4 @@
-use Rattle.hep_source.specs.Units.{unit_at}
+use Rattle.hep_machine.specs.Words.{unit_at}
 use Rattle.hep_placed.proofs.Shapes.{constant_shapes}
 use Rattle.hep_placed.proofs.laws.constant_shapes.Goals as goal
 use Rattle.hep_image.proofs.Numbers.{unit-there}

@@ -1,7 +1,6 @@
 use Rattle.std.proofs.Common.{ap, sym, ◌∙◌}
 use Rattle.indexmap.specs.IndexSet.{contains}
-use Rattle.hep_source.specs.Names.{is_among, name_eq}
-use Rattle.hep_source.specs.NodeTree.{node_tree}
+use Rattle.hep_machine.specs.Words.{is_among, name_eq, node_tree}
 use Rattle.hep_symbols.specs.Tables.{either}
 use Rattle.hep_symbols.proofs.Notes.{added}
 use Rattle.hep_image.specs.Private.{bare_name}

@@ -1,7 +1,6 @@
 use Rattle.std.proofs.Common.{◌+◌, ap, ◌∙◌, drop}
 use Rattle.indexmap.specs.IndexSet.{contains}
-use Rattle.hep_source.specs.Names.{is_among, name_eq}
-use Rattle.hep_source.specs.declared.statement.Statement.{Statement}
+use Rattle.hep_machine.specs.Words.{is_among, name_eq, Statement}
 use Rattle.hep_symbols.specs.Tables.{either}
 use Rattle.hep_image.specs.Private.{bare_actuals_in}
 use Rattle.hep_places.proofs.Gathered.{among-next}

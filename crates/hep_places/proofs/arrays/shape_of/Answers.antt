@@ -1,6 +1,6 @@
 use Rattle.std.proofs.Common.{Some, ap, ◌∙◌}
 use Rattle.std.specs.Option.{option_map}
-use Rattle.hep_machine.specs.Constants.{if_shape}
+use Rattle.hep_machine.specs.Words.{if_shape}
 use Rattle.hep_places.proofs.Extents.{constant-found, adjustable-found}
 use Rattle.hep_places.proofs.arrays.shape_of.Goals as goal
 

@@ -1,5 +1,5 @@
 use Rattle.std.proofs.Common.{◌*◌, ◌+◌}
-use Rattle.hep_source.specs.Tree.{nodes, nodes_of_all, trees_of}
+use Rattle.hep_machine.specs.Words.{nodes, nodes_of_all, trees_of}
 use Rattle.hep_places.proofs.bounds.+add_expression.Given as goal
 
 abbrev pub decreases-add_expression : goal.decreases-add_expression

@@ -1,5 +1,5 @@
 use Rattle.std.proofs.Common.{◌≡◌, ◌++◌, map, drop}
-use Rattle.hep_source.specs.Units.{names_of_occurrences}
+use Rattle.hep_machine.specs.Words.{names_of_occurrences}
 use Rattle.hep_places.specs.Dummies.{dummy_found, source_in}
 use Rattle.hep_places.proofs.dummies.dummy_arguments.Given as goal
 

@@ -1,6 +1,6 @@
 use Rattle.std.proofs.Common.{ap, ◌∙◌}
 use Rattle.std.specs.Option.{unwrap_or}
-use Rattle.hep_source.specs.Names.{index_among}
+use Rattle.hep_machine.specs.Words.{index_among}
 use Rattle.hep_common.proofs.Indexes.{name-index}
 use Rattle.hep_places.proofs.owners.index_of.Goals as goal
 

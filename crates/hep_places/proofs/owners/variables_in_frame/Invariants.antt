@@ -1,7 +1,6 @@
 use Rattle.std.proofs.Common.{◌≡◌, ◌++◌, map, drop}
 use Rattle.indexmap.specs.IndexMap.{get}
-use Rattle.hep_source.specs.Names.{name_eq}
-use Rattle.hep_source.specs.Units.{names_of_occurrences}
+use Rattle.hep_machine.specs.Words.{name_eq, names_of_occurrences}
 use Rattle.hep_places.specs.Owners.{argument_found, local_found, variables_found}
 use Rattle.hep_places.proofs.owners.variables_in_frame.Given as goal
 

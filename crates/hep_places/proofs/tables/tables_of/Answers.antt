@@ -1,11 +1,7 @@
 use Rattle.std.proofs.Common.{◌≡◌, ◌+◌, ◌*◌, ◌++◌, List, [], ◌∷◌, map, length, refl, ap, sym, ◌∙◌}
 use Rattle.std.specs.Option.{option_or}
 use Rattle.indexmap.specs.IndexMap.{get}
-use Rattle.hep_source.specs.Names.{name_eq}
-use Rattle.hep_source.specs.declared.name.Occurrence.{Occurrence}
-use Rattle.hep_source.specs.declared.statement.Statement.{Statement}
-use Rattle.hep_source.specs.Units.{dummies_of, names_of_occurrences}
-use Rattle.hep_machine.specs.Constants.{adjustable_dimensions}
+use Rattle.hep_machine.specs.Words.{name_eq, Occurrence, Statement, dummies_of, names_of_occurrences, adjustable_dimensions}
 use Rattle.hep_common.specs.Starts.{narrowed}
 use Rattle.hep_places.specs.Found.{adjustable_row, behind, behind_loops, first_bound, first_local, first_loop, loops_from, name_row, start_among}
 use Rattle.hep_places.proofs.tables.tables_of.Goals as goal

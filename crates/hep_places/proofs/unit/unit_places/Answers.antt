@@ -2,13 +2,7 @@ use Rattle.std.proofs.Common.{◌≡◌, List, map, ap, ap₂, subst, ◌∙◌}
 use Rattle.std.specs.List.{filter}
 use Rattle.std.specs.Option.{unwrap_or}
 use Rattle.indexmap.specs.IndexMap.{get}
-use Rattle.hep_source.specs.declared.name.Name.{Name}
-use Rattle.hep_source.specs.declared.statement.Statement.{Statement}
-use Rattle.hep_source.specs.Names.{name_eq}
-use Rattle.hep_source.specs.Units.{dummies_of, unit_at}
-use Rattle.hep_machine.specs.Constants.{Values}
-use Rattle.hep_machine.specs.Declarations.{is_array}
-use Rattle.hep_machine.specs.Variables.{names_of}
+use Rattle.hep_machine.specs.Words.{Name, Statement, name_eq, dummies_of, unit_at, Values, is_array, names_of}
 use Rattle.hep_image.specs.Private.{is_private}
 use Rattle.hep_places.specs.declared.unit.UnitPlaces.{UnitPlaces}
 use Rattle.hep_places.specs.Dummies.{dummy_found, source_found, source_in}

@@ -9,8 +9,8 @@ pub purge_range-requires-clause-reached : goal.purge_range-requires-clause-reach
 purge_range-requires-clause-reached c =
     let ranges = c.args.ranges.now in
     let none : Range = record { first = 0; cells = 0 } in
-    let before = (subst (AreReached c.args.arena.now) (drop_more ranges c.loop-range.range-index none c.loop-range-test.true) c.loop-range.invariant.1).0 in
+    let before = (subst (AreReached c.args.arena.now) (drop_more ranges c.loop-range.range-index none c.loop-range-test.true) c.loop-range.invariant.reached).0 in
     record {
-      inside = omega (arith, before.inside, c.loop-range.invariant.3);
-      out = λ p from to. subst (IsOut p) (sym c.loop-range.invariant.2) (before.out p from to);
+      inside = omega (arith, before.inside, c.loop-range.invariant.cells);
+      out = λ p from to. subst (IsOut p) (sym c.loop-range.invariant.holes) (before.out p from to);
     }

@@ -4,8 +4,9 @@ use Rattle.hep_purging.specs.Ready.{AreReached}
 use Rattle.hep_purging.proofs.purging.purge.Given as goal
 
 abbrev pub invariant-loop-range : goal.invariant-loop-range
-invariant-loop-range l =
-    (purged (drop l.range-index l.ranges) l.arena.contents ≡ purged l.ranges l.fn.arena.contents)
-    × AreReached l.fn.arena (drop l.range-index l.ranges)
-    × (l.arena.holes ≡ l.fn.arena.holes)
-    × (length l.arena.contents ≡ length l.fn.arena.contents)
+invariant-loop-range l = record {
+  contents : purged (drop l.range-index l.ranges) l.arena.contents ≡ purged l.ranges l.fn.arena.contents;
+  reached : AreReached l.fn.arena (drop l.range-index l.ranges);
+  holes : l.arena.holes ≡ l.fn.arena.holes;
+  cells : length l.arena.contents ≡ length l.fn.arena.contents;
+}

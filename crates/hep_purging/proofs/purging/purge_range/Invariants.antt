@@ -3,7 +3,8 @@ use Rattle.hep_purging.specs.Purged.{purged_from}
 use Rattle.hep_purging.proofs.purging.purge_range.Given as goal
 
 abbrev pub invariant-loop-cell : goal.invariant-loop-cell
-invariant-loop-cell l =
-    (purged_from (l.range.cells - l.cell) (l.range.first + l.cell) l.arena.contents ≡ purged_from l.range.cells l.range.first l.fn.arena.contents)
-    × (l.arena.holes ≡ l.fn.arena.holes)
-    × (length l.arena.contents ≡ length l.fn.arena.contents)
+invariant-loop-cell l = record {
+  contents : purged_from (l.range.cells - l.cell) (l.range.first + l.cell) l.arena.contents ≡ purged_from l.range.cells l.range.first l.fn.arena.contents;
+  holes : l.arena.holes ≡ l.fn.arena.holes;
+  cells : length l.arena.contents ≡ length l.fn.arena.contents;
+}

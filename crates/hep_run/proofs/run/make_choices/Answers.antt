@@ -1,5 +1,4 @@
-use Rattle.std.proofs.Common.{◌≡◌, ◌<◌, ℕ, List, ◌∙◌, sym, ap, length, get_or, Some, None, arith}
-use Rattle.std.specs.Prelude.{slice_get}
+use Rattle.std.proofs.Common.{◌≡◌, ◌<◌, ℕ, List, ◌∙◌, sym, ap, length, get_or, Some, None, arith, slice_get}
 use Rattle.std.proofs.lemmas.Option.{slice_get-get_or}
 use Rattle.hep_scheduler.specs.declared.fault.ChooseFault.TheVariants.{NoSuchProcess, Stopped}
 use Rattle.hep_scheduler.specs.Value.{CoreValue, HasNoStop}

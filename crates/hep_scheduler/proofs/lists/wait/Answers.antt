@@ -1,6 +1,5 @@
-use Rattle.std.proofs.Common.{ap, ◌∙◌}
-use Rattle.std.specs.Prelude.{nat_eq, not}
-use Rattle.hep_machine.specs.Processes.{is_number_among}
+use Rattle.std.proofs.Common.{ap, ◌∙◌, nat_eq, not}
+use Rattle.hep_machine.specs.Words.{is_number_among}
 use Rattle.hep_listed.proofs.Members.{among-filter}
 use Rattle.hep_scheduler.proofs.lists.wait.Goals as goal
 

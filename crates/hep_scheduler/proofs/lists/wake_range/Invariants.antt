@@ -1,5 +1,5 @@
 use Rattle.std.proofs.Common.{◌≡◌, ◌+◌, ◌-◌, ◌||◌, ℕ, length}
-use Rattle.hep_machine.specs.Processes.{is_number_among}
+use Rattle.hep_machine.specs.Words.{is_number_among}
 use Rattle.hep_blocked.specs.Waiting.{waiting_at}
 use Rattle.hep_listed.specs.Listing.{awake_where, is_woken_where}
 use Rattle.hep_purging.specs.Purged.{has_cell}

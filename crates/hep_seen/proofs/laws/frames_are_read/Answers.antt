@@ -1,5 +1,5 @@
 use Rattle.std.proofs.Common.{refl}
-use Rattle.hep_machine.specs.Layout.{is_held}
+use Rattle.hep_machine.specs.Words.{is_held}
 use Rattle.hep_seen.proofs.Read.{frame-is-read, frames-are-read}
 use Rattle.hep_seen.proofs.laws.frames_are_read.Goals as goal
 

@@ -1,5 +1,5 @@
 use Rattle.std.proofs.Common.{◌≡◌, drop}
-use Rattle.hep_machine.specs.Shapes.{are_dimensions}
+use Rattle.hep_machine.specs.Words.{are_dimensions}
 use Rattle.hep_shape.proofs.shape.are_dimensions.Given as goal
 
 abbrev pub invariant-loop-index : goal.invariant-loop-index

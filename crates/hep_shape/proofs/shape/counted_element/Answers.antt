@@ -6,7 +6,7 @@ use Rattle.std.proofs.lemmas.Int.{to_z-of_z}
 use Rattle.std.proofs.lemmas.List.{length_push}
 use Rattle.std.proofs.lemmas.Option.{cond_some}
 use Rattle.std.proofs.lemmas.Slice.Zip.{zip_turn}
-use Rattle.hep_machine.specs.Shapes.{extent, natural, is_within}
+use Rattle.hep_machine.specs.Words.{extent, natural, is_within}
 use Rattle.hep_shape.proofs.Columns.{next_number}
 use Rattle.hep_shape.proofs.Extents.{wide_extent}
 use Rattle.hep_shape.proofs.shape.counted_element.Goals as goal

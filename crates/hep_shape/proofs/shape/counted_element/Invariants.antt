@@ -1,5 +1,5 @@
 use Rattle.std.proofs.Common.{◌≡◌, ◌^◌, ◌≤◌, length, drop}
-use Rattle.hep_machine.specs.Shapes.{before_element, counted_element, sum}
+use Rattle.hep_machine.specs.Words.{before_element, counted_element, sum}
 use Rattle.hep_shape.proofs.Columns.{counted}
 use Rattle.hep_shape.proofs.shape.counted_element.Given as goal
 

@@ -1,5 +1,5 @@
 use Rattle.std.proofs.Common.{sym, ap}
-use Rattle.hep_machine.specs.Shapes.{sum}
+use Rattle.hep_machine.specs.Words.{sum}
 use Rattle.hep_shape.proofs.Columns.{counted, other_length}
 use Rattle.hep_shape.proofs.shape.element_among.Goals as goal
 

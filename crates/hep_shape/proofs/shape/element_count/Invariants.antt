@@ -1,5 +1,5 @@
 use Rattle.std.proofs.Common.{◌≡◌, true, Some, ◌^◌, ◌≤◌, drop}
-use Rattle.hep_machine.specs.Shapes.{are_dimensions, elements, product}
+use Rattle.hep_machine.specs.Words.{are_dimensions, elements, product}
 use Rattle.hep_shape.proofs.shape.element_count.Given as goal
 
 abbrev pub invariant-loop-bound : goal.invariant-loop-bound

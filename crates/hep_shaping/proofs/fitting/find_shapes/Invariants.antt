@@ -1,5 +1,4 @@
-use Rattle.std.proofs.Common.{◌≡◌, ◌≤◌, ◌++◌, drop, map}
-use Rattle.std.specs.Prelude.{vec_capacity, vec_len}
+use Rattle.std.proofs.Common.{◌≡◌, ◌≤◌, ◌++◌, drop, map, vec_capacity, vec_len}
 use Rattle.hep_shaping.specs.Fitting.{AreShapable, are_fitting, are_fitting_from, shape_of_dummy, shapes_of}
 use Rattle.hep_shaping.proofs.fitting.find_shapes.Given as goal
 

@@ -1,5 +1,4 @@
-use Rattle.std.proofs.Common.{◌≡◌, drop}
-use Rattle.std.specs.Prelude.{max}
+use Rattle.std.proofs.Common.{◌≡◌, drop, max}
 use Rattle.hep_shaping.specs.Fitting.{longest_code}
 use Rattle.hep_shaping.proofs.fitting.longest_code.Given as goal
 

@@ -1,4 +1,4 @@
-use Rattle.hep_source.specs.Units.{unit_at}
+use Rattle.hep_machine.specs.Words.{unit_at}
 use Rattle.hep_shaping.proofs.Bound.{fit_bound, unfit_faults}
 use Rattle.hep_shaping.proofs.CommonCells.{common_some}
 use Rattle.hep_shaping.proofs.laws.shapes_decide_bindings.Goals as goal

@@ -1,5 +1,4 @@
-use Rattle.std.proofs.Common.{◌≡◌, ◌≤◌, [], drop}
-use Rattle.std.specs.Prelude.{vec_capacity, vec_len}
+use Rattle.std.proofs.Common.{◌≡◌, ◌≤◌, [], drop, vec_capacity, vec_len}
 use Rattle.hep_bounds.specs.BoundCode.{after_code}
 use Rattle.hep_shaping.specs.Given.{AreReadable, stored_for, stored_in}
 use Rattle.hep_shaping.proofs.value.run.Given as goal

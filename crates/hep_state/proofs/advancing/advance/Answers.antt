@@ -1,6 +1,6 @@
-use Rattle.std.proofs.Common.{◌≡◌, ℕ, List, sym, ap, ◌∙◌, subst}
-use Rattle.std.specs.Prelude.{vec_capacity}
-use Rattle.hep_source.specs.declared.value.Value.{Value}
+use Rattle.std.proofs.Common.{◌≡◌, ℕ, List, sym, ap, ◌∙◌, subst, vec_capacity}
+use Rattle.std.proofs.lemmas.Result.{IfOk-from_err}
+use Rattle.hep_machine.specs.Words.{Value}
 use Rattle.hep_code.specs.declared.instruction.Instruction.{Instruction}
 use Rattle.hep_image.specs.declared.array.Array.{Array}
 use Rattle.hep_proc.specs.Nodes.{nodes_of}
@@ -11,12 +11,9 @@ use Rattle.hep_step.specs.Ready.{IsReady}
 use Rattle.hep_step.specs.Simulation.{unit_arrays, unit_code}
 use Rattle.hep_touched.specs.Touched.{touched_at}
 use Rattle.hep_state.specs.declared.machine.Level.{Level}
-use Rattle.hep_state.specs.Showing.{node_under}
-use Rattle.hep_state.specs.Snapshots.{stack_of}
-use Rattle.hep_state.specs.Taking.{stack_with}
-use Rattle.hep_state.proofs.Advanced.{carry}
-use Rattle.hep_state.proofs.Stacked.{operands-are, some-levels}
-use Rattle.hep_state.proofs.Unchanged.{err-says, on-err}
+use Rattle.hep_state.specs.Words.{node_under, stack_of, stack_with}
+use Rattle.hep_state.proofs.Unchanged.{carry, on-err}
+use Rattle.hep_state.proofs.Processes.{operands-are, some-levels}
 use Rattle.hep_state.proofs.advancing.advance.Goals.{After-deref, After-stand_at}
 use Rattle.hep_state.proofs.advancing.advance.Goals as goal
 
@@ -80,14 +77,13 @@ returns-clause-advanced c l ls operands is =
 pub returns-in_err-performed-clause-advanced : goal.returns-in_err-performed-clause-advanced
 returns-in_err-performed-clause-advanced c l ls operands is =
     let at = (goal.at.returns-in_err-performed-clause-advanced c).After-stand_at in
-    let before = c.args.frames.now.arena in
     record {
       next = c.perform-performed.new.index;
       left = c.perform-performed.new.operands.items;
       stack = stood at l ls operands is;
-      performed = err-says _ c.from_residual.result c.from_residual.ensures.0;
+      performed = IfOk-from_err c.from_residual.result _ c.from_residual.ensures.0;
       refused = on-err c.from_residual.result c.from_residual.ensures.0 (
-          of-level at l ls operands is (λ code arrays first ws index. left at ≡ snapshot before.contents ws index) c.in_err-performed.ensures.refused);
+          of-level at l ls operands is (λ code arrays first ws index. left at ≡ snapshot c.args.frames.now.arena.contents ws index) c.in_err-performed.ensures.refused);
     }
 
 pub returns-clause-touched : goal.returns-clause-touched

@@ -1,9 +1,8 @@
 use Rattle.std.proofs.Common.{arith, ◌≡◌, List, [], ◌∷◌, reverse, ap, ◌∙◌}
 use Rattle.std.proofs.lemmas.List.{reverse-append}
-use Rattle.hep_source.specs.declared.value.Value.{Value}
+use Rattle.hep_machine.specs.Words.{Value}
 use Rattle.hep_state.specs.declared.machine.Level.{Level}
-use Rattle.hep_state.specs.Snapshots.{Stack, stack_of}
-use Rattle.hep_state.specs.Taking.{stack_with}
+use Rattle.hep_state.specs.Words.{Stack, stack_of, stack_with}
 use Rattle.hep_state.proofs.calling.put_above.Goals as goal
 
 stack-is : (c : goal.After-append) (l : Level) (ls : List Level) (operands : List Value) → stack_of c.args.process.now ≡ stack_with l ls operands

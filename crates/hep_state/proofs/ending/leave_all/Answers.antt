@@ -1,14 +1,13 @@
 use Rattle.std.proofs.Common.{◌≡◌, List, [], ◌∷◌, ◌++◌, length, reverse, refl, sym, ap, ◌∙◌, subst, arith}
 use Rattle.std.proofs.lemmas.List.{reverse-append}
-use Rattle.hep_frames.specs.Descriptors.{wanted_of}
-use Rattle.hep_frames.specs.Tree.{is_stacked}
+use Rattle.hep_frames.specs.Words.{wanted_of, is_stacked}
 use Rattle.hep_proc.specs.Keeping.{all_but, frames_of}
 use Rattle.hep_proc.specs.Nodes.{nodes_of}
 use Rattle.hep_proc.proofs.Several.{AreLeaving, leaving-begins, leaving-ends, leaving-goes_on, leaving-next}
 use Rattle.hep_proc.proofs.Slabs.{some-value}
 use Rattle.hep_proc.proofs.Stays.{ended-left}
 use Rattle.hep_state.specs.declared.machine.Level.{Level}
-use Rattle.hep_state.specs.Tops.{keys_of}
+use Rattle.hep_state.specs.Words.{keys_of}
 use Rattle.hep_state.proofs.ending.leave_all.Goals as goal
 
 -- the key of the level that was taken off, and those of the levels that are left

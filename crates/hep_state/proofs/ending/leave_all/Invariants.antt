@@ -1,12 +1,10 @@
 use Rattle.std.proofs.Common.{◌≡◌, ℕ, Bool, List, length, reverse, vec_len}
-use Rattle.hep_source.specs.Units.{Units}
-use Rattle.hep_machine.specs.Layout.{Layout}
-use Rattle.hep_machine.specs.State.{State}
-use Rattle.hep_frames.specs.Descriptors.{wanted_of}
+use Rattle.hep_machine.specs.Words.{Units, Layout, State}
+use Rattle.hep_frames.specs.Words.{wanted_of}
 use Rattle.hep_proc.specs.Nodes.{nodes_of}
 use Rattle.hep_proc.specs.Keeping.{CanLeave, Keeps, LeadUpwards}
 use Rattle.hep_proc.proofs.Several.{AreLeaving}
-use Rattle.hep_state.specs.Tops.{keys_of}
+use Rattle.hep_state.specs.Words.{keys_of}
 use Rattle.hep_state.proofs.ending.leave_all.Given as goal
 
 abbrev pub invariant-loop-level : goal.invariant-loop-level

@@ -1,22 +1,14 @@
-use Rattle.std.proofs.Common.{◌≡◌, ℕ, Bool, List, Some, false, true}
-use Rattle.std.specs.Prelude.{is_some}
-use Rattle.hep_source.specs.declared.name.Name.{Name}
-use Rattle.hep_source.specs.Units.{Units, main_among, unit_at}
-use Rattle.hep_machine.specs.Evaluation.{Actual, does, next_of}
-use Rattle.hep_machine.specs.State.{Level as SourceLevel, Process}
+use Rattle.std.proofs.Common.{◌≡◌, ℕ, Bool, List, Some, false, true, is_some}
+use Rattle.hep_machine.specs.Words.{Name, Units, main_among, unit_at, Actual, does, next_of, Process, run, Binding, unit_of, next_activation, scope_of, step, unit_called}
+use Rattle.hep_machine.specs.State.{Level as SourceLevel}
 use Rattle.hep_step.specs.Calls.{made_by}
 use Rattle.hep_machine.specs.declared.event.Kind.TheVariants.{Shape}
-use Rattle.hep_machine.specs.Run.{run}
-use Rattle.hep_machine.specs.Binding.{Binding}
-use Rattle.hep_machine.specs.Processes.{unit_of}
-use Rattle.hep_machine.specs.Step.{next_activation, scope_of, step, unit_called}
 use Rattle.hep_entering.specs.Calling.{IsPassing}
-use Rattle.hep_state.specs.Calls.{state_made}
-use Rattle.hep_check.specs.Conditions.{IsAccepted}
+use Rattle.hep_state.specs.Words.{state_made}
+use Rattle.hep_check.specs.Words.{IsAccepted}
 use Rattle.hep_image.specs.Dummies.{dummy_arguments}
 use Rattle.hep_shaping.specs.Fitting.{shapes_of}
-use Rattle.hep_state.proofs.Bindings.{IsKnownToBind, actuals, called-so, dummies-given, fault-ends, frameless, range-bound}
-use Rattle.hep_state.proofs.Callers.{called-inside}
+use Rattle.hep_state.proofs.Callers.{IsKnownToBind, actuals, called-so, dummies-given, fault-ends, frameless, range-bound, called-inside}
 use Rattle.hep_image.proofs.Numbers.{unit-there}
 use Rattle.hep_state.proofs.laws.calls_give_what_is_bound.Goals as goal
 
@@ -41,30 +33,30 @@ pub returns-clause-shapable : goal.returns-clause-shapable
 returns-clause-shapable c program cells choices m p call given room accepted main at gives few =
     let all = all-known c program accepted main in
     let s = run program choices in
-    let dummies = dummies-given program all cells choices p m call at given gives in
-    c.calls_are_shapable.ensures program s at.turning.after.layout m.arena.contents m.arena.holes call.unit (next_activation s) room (actuals program all cells choices p m call at) given dummies.0 accepted (called-inside program all.known cells choices p m call at)
+    let dummies = dummies-given all call at given gives in
+    c.calls_are_shapable.ensures program s at.turning.after.layout m.arena.contents m.arena.holes call.unit (next_activation s) room (actuals all call at) given dummies.0 accepted (called-inside all.known call at)
     at.turning.after.shows.keeps.memory dummies.2 few
 
 pub returns-clause-making : goal.returns-clause-making
 returns-clause-making c program cells choices m p call given accepted main at gives fit =
     let all = all-known c program accepted main in
     let s = run program choices in
-    let dummies = dummies-given program all cells choices p m call at given gives in
+    let dummies = dummies-given all call at given gives in
     let bound =
-    c.shapes_decide_bindings.ensures.fit program s at.turning.after.layout m.arena.contents call.unit (next_activation s) (scope_of program s at.top.0.activation) (actuals program all cells choices p m call at) given dummies.0 accepted (called-inside program all.known cells choices p m call at)
-    (frameless program all cells choices p m call at) at.turning.after.shows.keeps.memory.holds dummies.2 dummies.1 fit in
-    called-so program all cells choices p m call at given (shapes_of m.arena.contents given (dummy_arguments program (unit_at program call.unit))) bound.0 gives bound.1 bound.2
+    c.shapes_decide_bindings.ensures.fit program s at.turning.after.layout m.arena.contents call.unit (next_activation s) (scope_of program s at.top.0.activation) (actuals all call at) given dummies.0 accepted (called-inside all.known call at)
+    (frameless all call at) at.turning.after.shows.keeps.memory.holds dummies.2 dummies.1 fit in
+    called-so all call at given (shapes_of m.arena.contents given (dummy_arguments program (unit_at program call.unit))) bound.0 gives bound.1 bound.2
 
 pub returns-clause-range : goal.returns-clause-range
 returns-clause-range c program cells choices m p call kind accepted main at gives =
     let all = all-known c program accepted main in
-    fault-ends program all cells choices p m call at kind (range-bound program all cells choices p m call at kind gives)
+    fault-ends all call at kind (range-bound all call at kind gives)
 
 pub returns-clause-shape : goal.returns-clause-shape
 returns-clause-shape c program cells choices m p call given accepted main at gives unfit =
     let all = all-known c program accepted main in
     let s = run program choices in
-    let dummies = dummies-given program all cells choices p m call at given gives in
-    fault-ends program all cells choices p m call at Shape (
-    c.shapes_decide_bindings.ensures.unfit program s at.turning.after.layout m.arena.contents call.unit (next_activation s) (scope_of program s at.top.0.activation) (actuals program all cells choices p m call at) given dummies.0 accepted (called-inside program all.known cells choices p m call at)
-    (frameless program all cells choices p m call at) at.turning.after.shows.keeps.memory.holds dummies.2 dummies.1 unfit)
+    let dummies = dummies-given all call at given gives in
+    fault-ends all call at Shape (
+    c.shapes_decide_bindings.ensures.unfit program s at.turning.after.layout m.arena.contents call.unit (next_activation s) (scope_of program s at.top.0.activation) (actuals all call at) given dummies.0 accepted (called-inside all.known call at)
+    (frameless all call at) at.turning.after.shows.keeps.memory.holds dummies.2 dummies.1 unfit)

@@ -3,7 +3,7 @@ use Rattle.std.proofs.lemmas.Option.{none-some}
 use Rattle.hep_code.specs.declared.instruction.Operation.TheVariants.{Purge}
 use Rattle.hep_step.specs.Calls.{making}
 use Rattle.hep_step.specs.Simulation.{is_left_out, unit_code}
-use Rattle.hep_state.specs.Tops.{frame_under, top_after}
+use Rattle.hep_state.specs.Words.{frame_under, top_after}
 use Rattle.hep_state.proofs.Moved.{unit-is}
 use Rattle.hep_state.proofs.laws.calls_touch_nothing.Goals as goal
 use Rattle.std.proofs.lemmas.Bool.{false_from_ne_true}
@@ -22,8 +22,7 @@ returns c program cells choices m p call accepted main at =
     let t = top_after program choices p at.top in
     let f = frame_under m.nodes at.l.key in
     let runs = c.tops_are_running.ensures.running program cells choices m p at.l at.ls at.operands at.top accepted main at.turning in
-    let unit = unit-is program cells choices m p at.l at.ls at.operands at.top at.turning in
-    let ahead = ap (λ u. drop at.l.index (unit_code program u)) unit ∙ at.ahead in
+    let ahead = ap (λ u. drop at.l.index (unit_code program u)) (unit-is at.turning) ∙ at.ahead in
     let o = making call.creates call.unit call.count call.next in
     let purge = c.purges_stand_ahead.ensures program t at.turning.after.layout f m.arena.contents m.arena.holes at.operands at.l.index call.line o at.behind runs ahead in
     let untouched = c.calls_and_purges_never_wait.ensures.touches program t at.turning.after.layout f m.arena.contents m.arena.holes at.operands at.l.index call.line o at.behind runs ahead (making-left-out call.creates call.unit call.count call.next) in

@@ -1,8 +1,5 @@
 use Rattle.std.proofs.Common.{◌≡◌, ℕ, Bool, List, false, true}
-use Rattle.hep_source.specs.declared.name.Name.{Name}
-use Rattle.hep_source.specs.declared.statement.Statement.{Statement}
-use Rattle.hep_machine.specs.Evaluation.{Actual, does, next_of}
-use Rattle.hep_machine.specs.State.{Work}
+use Rattle.hep_machine.specs.Words.{Name, Statement, Actual, does, next_of, Work}
 use Rattle.hep_step.specs.Calls.{made_by}
 use Rattle.hep_works.specs.Works.{ComesFrom, IsCalledBy}
 use Rattle.hep_state.proofs.laws.programs_are_known.Goals as goal

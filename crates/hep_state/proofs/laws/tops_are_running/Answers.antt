@@ -1,7 +1,6 @@
-use Rattle.std.proofs.Common.{◌≡◌, true}
-use Rattle.std.specs.Prelude.{is_some}
-use Rattle.hep_source.specs.Units.{Units, main_among}
-use Rattle.hep_check.specs.Conditions.{IsAccepted}
+use Rattle.std.proofs.Common.{◌≡◌, true, is_some}
+use Rattle.hep_machine.specs.Words.{Units, main_among}
+use Rattle.hep_check.specs.Words.{IsAccepted}
 use Rattle.hep_state.proofs.Tops.{IsKnown, arrays-placed, top-runs}
 use Rattle.hep_state.proofs.laws.tops_are_running.Goals as goal
 
@@ -16,7 +15,7 @@ known c program accepted main =
     }
 
 pub returns-clause-running : goal.returns-clause-running
-returns-clause-running c program cells choices m p l ls operands top accepted main turning = top-runs program (known c program accepted main) cells choices m p l ls operands top turning
+returns-clause-running c program cells choices m p l ls operands top accepted main turning = top-runs (known c program accepted main) turning
 
 pub returns-clause-arrays : goal.returns-clause-arrays
-returns-clause-arrays c program cells choices m p l ls operands top accepted main turning = arrays-placed program (known c program accepted main) cells choices m p l ls operands top turning
+returns-clause-arrays c program cells choices m p l ls operands top accepted main turning = arrays-placed (known c program accepted main) turning

@@ -1,14 +1,14 @@
-use Rattle.hep_state.proofs.Settled.{absent-ended, absent-halted, absent-none, turning}
+use Rattle.hep_state.proofs.Tops.{absent-ended, absent-halted, absent-none, turning}
 use Rattle.hep_state.proofs.laws.turns_are_taken.Goals as goal
 
 pub returns-clause-turning : goal.returns-clause-turning
-returns-clause-turning c program cells choices m p l ls operands after running kept = turning program cells choices m p after l ls operands running kept
+returns-clause-turning c program cells choices m p l ls operands after running kept = turning p after l ls operands running kept
 
 pub returns-clause-halted : goal.returns-clause-halted
-returns-clause-halted c program cells choices m p after halted = absent-halted program cells choices m p after halted
+returns-clause-halted c program cells choices m p after halted = absent-halted p after halted
 
 pub returns-clause-ended : goal.returns-clause-ended
-returns-clause-ended c program cells choices m p operands after kept = absent-ended program cells choices m p after operands kept
+returns-clause-ended c program cells choices m p operands after kept = absent-ended p after operands kept
 
 pub returns-clause-none : goal.returns-clause-none
-returns-clause-none c program cells choices m p after none = absent-none program cells choices m p after none
+returns-clause-none c program cells choices m p after none = absent-none p after none

@@ -1,17 +1,12 @@
-use Rattle.std.proofs.Common.{◌≡◌, [], length, Some, refl, sym, ap, ◌∙◌, subst}
-use Rattle.std.specs.Prelude.{is_some}
+use Rattle.std.proofs.Common.{◌≡◌, [], length, Some, refl, sym, ap, ◌∙◌, subst, is_some}
 use Rattle.std.specs.Option.{unwrap_or}
-use Rattle.hep_source.specs.Defaults.{no_unit}
-use Rattle.hep_source.specs.Units.{dummies_of, main_unit, unit_at}
-use Rattle.hep_machine.specs.Layout.{common_cells, frame_of}
-use Rattle.hep_machine.specs.Variables.{frame_cells}
+use Rattle.hep_machine.specs.Words.{no_unit, dummies_of, main_unit, unit_at, common_cells, frame_of, frame_cells}
 use Rattle.hep_arena.specs.Holes.{first_fit}
-use Rattle.hep_frames.specs.Descriptors.{wanted_of}
-use Rattle.hep_frames.specs.Tree.{Nodes}
+use Rattle.hep_frames.specs.Words.{wanted_of, Nodes}
 use Rattle.hep_image.specs.Data.{first_frames}
 use Rattle.hep_proc.specs.Nodes.{nodes_of}
-use Rattle.hep_state.specs.Openings.{unset_opening}
-use Rattle.hep_state.proofs.Givings.{first-fit, first_node, node-there}
+use Rattle.hep_state.specs.Words.{unset_opening}
+use Rattle.hep_state.proofs.Opened.{first-fit, first_node, node-there}
 use Rattle.hep_state.proofs.opening.enter_main.Goals as goal
 
 pub returns : goal.returns
@@ -20,12 +15,11 @@ returns c =
     let s = unset_opening program in
     let old = c.args.frames.now in
     let new = c.open.new.self in
-    let main = c.main_program.ensures in
     let cells = c.main_program.result.now.cells in
     let common = common_cells program in
     let starts = c.openings_are_shown.ensures.opening program in
     let found : main_unit program ≡ c.main.result = ap (λ o. unwrap_or o no_unit) c.main.ensures.main in
-    let own : cells ≡ frame_cells (unit_at program (main_unit program)) = main.cells in
+    let own : cells ≡ frame_cells (unit_at program (main_unit program)) = c.main_program.ensures.cells in
     let size : cells ≡ frame_of program s 1 = own ∙ sym (c.openings_fit_by_numbers.ensures.frame program) in
     let plain : dummies_of (unit_at program (main_unit program)) ≡ [] = c.programs_are_closed.ensures.main program (ap is_some c.main.ensures.main) in
     let opened = c.open.ensures.opened program s (wanted_of program s (first_frames program)) c.requires.unused starts (sym found) size (

@@ -1,6 +1,6 @@
 use Rattle.std.proofs.Common.{◌≡◌, ◌-◌, ◌∷◌, []}
 use Rattle.hep_proc.specs.Nodes.{nodes_of}
-use Rattle.hep_state.specs.Openings.{IsGiven}
+use Rattle.hep_state.specs.Words.{IsGiven}
 use Rattle.hep_state.proofs.opening.give_row.Given as goal
 
 abbrev pub invariant-loop-at : goal.invariant-loop-at

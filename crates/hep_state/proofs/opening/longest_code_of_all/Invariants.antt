@@ -1,5 +1,5 @@
 use Rattle.std.proofs.Common.{◌≤◌, ◌<◌, ℕ}
-use Rattle.hep_source.specs.Units.{unit_at}
+use Rattle.hep_machine.specs.Words.{unit_at}
 use Rattle.hep_image.specs.Dummies.{dummy_arguments}
 use Rattle.hep_shaping.specs.Fitting.{longest_code}
 use Rattle.hep_state.proofs.opening.longest_code_of_all.Given as goal

@@ -1,5 +1,5 @@
 use Rattle.std.proofs.Common.{◌≤◌, ◌<◌, ℕ, length}
-use Rattle.hep_source.specs.Units.{dummies_of, unit_at}
+use Rattle.hep_machine.specs.Words.{dummies_of, unit_at}
 use Rattle.hep_state.proofs.opening.most_dummies.Given as goal
 
 abbrev pub invariant-loop-unit : goal.invariant-loop-unit

@@ -1,5 +1,5 @@
 use Rattle.std.proofs.Common.{◌≡◌, map, take}
-use Rattle.hep_machine.specs.Arithmetic.{integer_of}
+use Rattle.hep_machine.specs.Words.{integer_of}
 use Rattle.hep_step.proofs.finding.integers.Given as goal
 
 abbrev pub invariant-loop-value : goal.invariant-loop-value

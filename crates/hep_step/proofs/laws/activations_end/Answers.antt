@@ -1,5 +1,7 @@
-use Rattle.hep_step.proofs.Operations.{return_simulated}
+use Rattle.std.proofs.Common.{refl}
+use Rattle.hep_code.specs.declared.instruction.Operation.TheVariants.{Return}
+use Rattle.hep_step.proofs.Operations.{simulated}
 use Rattle.hep_step.proofs.laws.activations_end.Goals as goal
 
 pub returns : goal.returns
-returns c = return_simulated
+returns c = simulated Return refl

@@ -1,5 +1,7 @@
-use Rattle.hep_step.proofs.Operations.{stop_simulated}
+use Rattle.std.proofs.Common.{refl}
+use Rattle.hep_code.specs.declared.instruction.Operation.TheVariants.{Stop}
+use Rattle.hep_step.proofs.Operations.{simulated}
 use Rattle.hep_step.proofs.laws.runs_stop.Goals as goal
 
 pub returns : goal.returns
-returns c = stop_simulated
+returns c = simulated Stop refl

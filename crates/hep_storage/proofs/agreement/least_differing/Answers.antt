@@ -1,7 +1,6 @@
 use Rattle.std.proofs.Common.{◌≤◌, ◌∙◌, ap, length, arith}
 use Rattle.std.specs.List.{list_any}
-use Rattle.hep_source.specs.Names.{name_eq}
-use Rattle.hep_machine.specs.Declarations.{blocks_of}
+use Rattle.hep_machine.specs.Words.{name_eq, blocks_of}
 use Rattle.hep_storage.specs.Agreement.{with_block}
 use Rattle.hep_storage.specs.Table.{block_at, summed_in, entry_at}
 use Rattle.hep_storage.proofs.Turns.{blocks-turn, left-same, units-end}

@@ -1,8 +1,7 @@
 use Rattle.std.proofs.Common.{ap, sym, subst, ◌∙◌, cond, Some}
 use Rattle.std.specs.Option.{option_eq}
 use Rattle.indexmap.specs.IndexSet.{contains}
-use Rattle.hep_source.specs.Names.{name_eq}
-use Rattle.hep_machine.specs.Declarations.{BlockName}
+use Rattle.hep_machine.specs.Words.{name_eq, BlockName}
 use Rattle.hep_storage.specs.Agreement.{summed}
 use Rattle.hep_storage.specs.Blocks.{HasContents, Holds}
 use Rattle.hep_storage.specs.Table.{contents_in, summed_in, AreRead, entry_at}

@@ -1,8 +1,7 @@
 use Rattle.std.proofs.Common.{◌≤◌, ap, length, take, arith}
 use Rattle.indexmap.specs.IndexSet.{contains}
-use Rattle.hep_source.specs.Names.{name_eq}
-use Rattle.hep_machine.specs.Declarations.{names_in_block}
-use Rattle.hep_check.specs.Common.{last_line}
+use Rattle.hep_machine.specs.Words.{name_eq, names_in_block}
+use Rattle.hep_check.specs.Words.{last_line}
 use Rattle.hep_storage.proofs.BlockTables.{statement-turn, unit-whole}
 use Rattle.hep_storage.proofs.Tables.{none-has, none-named, read-start, read-next}
 use Rattle.hep_storage.specs.Table.{entry_at}
@@ -12,7 +11,7 @@ pub loop-statement-init : goal.loop-statement-init
 loop-statement-init c =
     record {
       has = λ b. none-has c.args.symbols.now (contains name_eq c.args.noted.now) b (entry_at c.args.table.now b) (c.requires.none b) c.requires.unread;
-      read = read-start (entry_at c.args.table.now) c.args.named.now.items;
+      read = read-start;
     }
 
 pub loop-statement-preserved : goal.loop-statement-preserved
@@ -23,9 +22,7 @@ loop-statement-preserved c =
       has = λ b.
           statement-turn unit (contains name_eq c.note_blocks.new.noted) b c.statements-statement-items.result.now unit i _ c.statement-item.result c.blocks_in-lists.result.now _ c.statements-statement-items.ensures c.loop-statement-test.true c.statement-item.is c.blocks_in-lists.ensures
           (c.in_ok-note_blocks.ensures.has b (names_in_block (take i unit) b) (last_line b (take i unit)) (c.loop-statement.invariant.has b));
-      read =
-          read-next (entry_at c.args.table.now) (entry_at c.loop-statement.table) (entry_at c.note_blocks.new.table)
-          c.args.named.now.items c.loop-statement.named.items c.note_blocks.new.named.items c.loop-statement.invariant.read c.in_ok-note_blocks.ensures.read;
+      read = read-next c.loop-statement.invariant.read c.in_ok-note_blocks.ensures.read;
     }
 
 pub returns-clause-blocks : goal.returns-clause-blocks

@@ -1,5 +1,5 @@
 use Rattle.std.proofs.Common.{◌≡◌, ◌+◌, ◌∙◌, sym, arith}
-use Rattle.hep_storage.proofs.Joins.{joined-places}
+use Rattle.hep_storage.proofs.Listings.{joined-places}
 use Rattle.hep_storage.proofs.contents.joined.Goals as goal
 
 pub returns-in-Some : goal.returns-in-Some

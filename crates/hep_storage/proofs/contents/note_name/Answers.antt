@@ -1,6 +1,6 @@
 use Rattle.std.proofs.Common.{ap, sym, true, ◌∙◌, if◌then◌else◌}
 use Rattle.indexmap.specs.IndexSet.{contains}
-use Rattle.hep_source.specs.Names.{name_eq, same_name}
+use Rattle.hep_machine.specs.Words.{name_eq, same_name}
 use Rattle.hep_storage.proofs.Listings.{name-added}
 use Rattle.hep_storage.proofs.contents.note_name.Goals as goal
 

@@ -1,4 +1,4 @@
-use Rattle.hep_storage.proofs.Joins.{pushed}
+use Rattle.hep_storage.proofs.Listings.{pushed}
 use Rattle.hep_storage.proofs.contents.push.Goals as goal
 
 pub returns : goal.returns

@@ -1,4 +1,4 @@
-use Rattle.hep_storage.proofs.Joins.{last-put}
+use Rattle.hep_storage.proofs.Listings.{last-put}
 use Rattle.hep_storage.proofs.contents.push_run.Goals as goal
 
 pub returns-in_ok-push_both-in-Some : goal.returns-in_ok-push_both-in-Some

@@ -1,5 +1,5 @@
 use Rattle.std.proofs.Common.{ap, sym, rules}
-use Rattle.hep_machine.specs.Declarations.{BlockName}
+use Rattle.hep_machine.specs.Words.{BlockName}
 use Rattle.hep_storage.proofs.Tables.{settled-added, settled-left, missing-added, missing-left}
 use Rattle.hep_storage.specs.Table.{entry_at}
 use Rattle.hep_storage.proofs.table.settle.Goals as goal

@@ -1,6 +1,6 @@
 use Rattle.std.proofs.Common.{◌≡◌, drop, map}
 use Rattle.std.specs.List.{list_all}
-use Rattle.hep_check.specs.Counts.{is_counted}
+use Rattle.hep_check.specs.Words.{is_counted}
 use Rattle.hep_symbols.specs.Lists.{listed}
 use Rattle.hep_symbols.proofs.counts.are_counted.Given as goal
 

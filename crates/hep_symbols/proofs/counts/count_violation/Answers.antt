@@ -1,5 +1,5 @@
 use Rattle.std.proofs.Common.{◌∙◌, ap, sym}
-use Rattle.hep_check.specs.Reported.{reported}
+use Rattle.hep_check.specs.Words.{reported}
 use Rattle.hep_check.proofs.Lines.{reported-where}
 use Rattle.hep_symbols.specs.Passes.{is_miscounted, line_of}
 use Rattle.hep_symbols.proofs.counts.count_violation.Goals as goal

@@ -1,5 +1,5 @@
 use Rattle.std.proofs.Common.{◌≡◌, drop}
-use Rattle.hep_check.specs.Reported.{least_line, least_line_where}
+use Rattle.hep_check.specs.Words.{least_line, least_line_where}
 use Rattle.hep_symbols.specs.Passes.{is_miscounted, line_of}
 use Rattle.hep_symbols.proofs.counts.least_miscounted.Given as goal
 

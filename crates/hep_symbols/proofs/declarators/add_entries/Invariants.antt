@@ -1,5 +1,5 @@
 use Rattle.std.proofs.Common.{◌≡◌, ◌++◌, drop}
-use Rattle.hep_machine.specs.Declarations.{entries_of_blocks}
+use Rattle.hep_machine.specs.Words.{entries_of_blocks}
 use Rattle.hep_symbols.specs.Statements.{rest_after}
 use Rattle.hep_symbols.specs.Tables.{arrays_among}
 use Rattle.hep_symbols.proofs.declarators.add_entries.Given as goal

@@ -1,6 +1,6 @@
 use Rattle.std.proofs.Common.{◌≡◌, drop}
 use Rattle.std.specs.List.{flat_map}
-use Rattle.hep_check.specs.Statements.{trees_in_declarator}
+use Rattle.hep_check.specs.Words.{trees_in_declarator}
 use Rattle.hep_symbols.proofs.lists.have_bounds.Given as goal
 
 abbrev pub invariant-loop-entry : goal.invariant-loop-entry

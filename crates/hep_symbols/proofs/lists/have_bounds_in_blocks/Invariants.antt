@@ -1,7 +1,7 @@
 use Rattle.std.proofs.Common.{◌≡◌, drop}
 use Rattle.std.specs.List.{flat_map}
-use Rattle.hep_machine.specs.Declarations.{entries_of_blocks}
-use Rattle.hep_check.specs.Statements.{trees_in_declarator}
+use Rattle.hep_machine.specs.Words.{entries_of_blocks}
+use Rattle.hep_check.specs.Words.{trees_in_declarator}
 use Rattle.hep_symbols.proofs.lists.have_bounds_in_blocks.Given as goal
 
 abbrev pub invariant-loop-block : goal.invariant-loop-block

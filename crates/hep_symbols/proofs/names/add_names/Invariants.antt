@@ -1,6 +1,5 @@
 use Rattle.std.proofs.Common.{◌≡◌, drop}
-use Rattle.hep_source.specs.Names.{with_names}
-use Rattle.hep_source.specs.Units.{names_of_occurrences}
+use Rattle.hep_machine.specs.Words.{with_names, names_of_occurrences}
 use Rattle.hep_symbols.proofs.names.add_names.Given as goal
 
 abbrev pub invariant-loop-occurrence : goal.invariant-loop-occurrence

@@ -1,4 +1,4 @@
-use Rattle.hep_source.specs.Tree.{nodes, nodes_of_all, trees_of}
+use Rattle.hep_machine.specs.Words.{nodes, nodes_of_all, trees_of}
 use Rattle.hep_symbols.proofs.occurrences.+add_in.Given as goal
 
 abbrev pub decreases-add_in : goal.decreases-add_in

@@ -1,6 +1,6 @@
 use Rattle.std.proofs.Common.{◌≡◌, ◌++◌, drop, map}
 use Rattle.std.specs.List.{flat_map}
-use Rattle.hep_check.specs.Statements.{targets_of_groups}
+use Rattle.hep_check.specs.Words.{targets_of_groups}
 use Rattle.hep_symbols.specs.Parts.{part, parts_in_target}
 use Rattle.hep_symbols.proofs.parts.parts_of_targets.Given as goal
 

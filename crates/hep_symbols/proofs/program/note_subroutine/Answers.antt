@@ -1,8 +1,7 @@
 use Rattle.std.proofs.Common.{◌∙◌, ap, sym}
 use Rattle.std.specs.Option.{option_or}
 use Rattle.indexmap.specs.IndexMap.{get}
-use Rattle.hep_source.specs.Units.{is_named}
-use Rattle.hep_source.specs.Names.{name_eq}
+use Rattle.hep_machine.specs.Words.{is_named, name_eq}
 use Rattle.hep_symbols.specs.Tables.{given}
 use Rattle.hep_symbols.proofs.Notes.{called-noted}
 use Rattle.hep_symbols.proofs.program.note_subroutine.Goals as goal

@@ -1,9 +1,7 @@
 use Rattle.std.proofs.Common.{◌≡◌, drop}
 use Rattle.indexmap.specs.IndexSet.{contains}
-use Rattle.hep_source.specs.declared.name.Name.{Name}
-use Rattle.hep_source.specs.Names.{is_among}
+use Rattle.hep_machine.specs.Words.{Name, is_among, name_eq}
 use Rattle.hep_machine.specs.Declarations as declarations
-use Rattle.hep_source.specs.Names.{name_eq}
 use Rattle.hep_symbols.specs.Tables.{either}
 use Rattle.hep_symbols.proofs.specification.add_constants.Given as goal
 

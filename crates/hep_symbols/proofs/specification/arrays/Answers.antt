@@ -1,8 +1,7 @@
 use Rattle.std.proofs.Common.{◌≡◌, ◌+◌, ◌∙◌, ap, sym, drop}
 use Rattle.std.specs.Option.{option_or}
 use Rattle.indexmap.specs.IndexMap.{get}
-use Rattle.hep_source.specs.Names.{name_eq}
-use Rattle.hep_machine.specs.Declarations.{declarator_among, declarators_in}
+use Rattle.hep_machine.specs.Words.{name_eq, declarator_among, declarators_in}
 use Rattle.hep_symbols.specs.Statements.{rest_after}
 use Rattle.hep_symbols.specs.Tables.{seen, first_in, declarator_by_form}
 use Rattle.hep_symbols.proofs.ArraysAmong.{among_arrays}

@@ -2,8 +2,7 @@ use Rattle.std.proofs.Common.{◌≤◌, ◌+◌, ◌&&◌, ◌||◌, is_some, r
 use Rattle.std.proofs.lemmas.List.{drop_all}
 use Rattle.std.specs.Option.{option_or}
 use Rattle.indexmap.specs.IndexMap.{get}
-use Rattle.hep_source.specs.Names.{is_among, name_eq}
-use Rattle.hep_machine.specs.Declarations.{block_holding, blocks_in, entries_of_blocks, names_declared}
+use Rattle.hep_machine.specs.Words.{is_among, name_eq, block_holding, blocks_in, entries_of_blocks, names_declared}
 use Rattle.hep_symbols.specs.Tables as tables
 use Rattle.hep_symbols.proofs.News.{new-turn, seen-held}
 use Rattle.hep_symbols.proofs.Notes.{or-assoc, or-none}

@@ -1,7 +1,6 @@
 use Rattle.std.proofs.Common.{◌≡◌, drop}
 use Rattle.indexmap.specs.IndexSet.{contains}
-use Rattle.hep_source.specs.declared.name.Name.{Name}
-use Rattle.hep_source.specs.Names.{name_eq}
+use Rattle.hep_machine.specs.Words.{Name, name_eq}
 use Rattle.hep_symbols.specs.Tables.{either, any_in, constant_by_form}
 use Rattle.hep_symbols.proofs.specification.constant_names.Given as goal
 

@@ -1,5 +1,5 @@
 use Rattle.std.proofs.Common.{◌≡◌, ℕ, drop}
-use Rattle.hep_machine.specs.Declarations.{implicit_type}
+use Rattle.hep_machine.specs.Words.{implicit_type}
 use Rattle.hep_symbols.proofs.specification.has_implicit.Given as goal
 
 abbrev pub invariant-loop-statement : goal.invariant-loop-statement

@@ -1,7 +1,7 @@
 use Rattle.std.proofs.Common.{◌∙◌, sym, ap, length}
 use Rattle.std.specs.Bool.{◌==◌}
 use Rattle.indexmap.specs.IndexMap.{get}
-use Rattle.hep_source.specs.Names.{name_eq}
+use Rattle.hep_machine.specs.Words.{name_eq}
 use Rattle.hep_symbols.proofs.Notes.{array-noted, not-empty}
 use Rattle.hep_symbols.proofs.specification.note_array.Goals as goal
 

@@ -1,9 +1,7 @@
 use Rattle.std.proofs.Common.{◌≡◌, drop}
 use Rattle.std.specs.Option.{option_or}
 use Rattle.indexmap.specs.IndexMap.{get}
-use Rattle.hep_source.specs.declared.name.Name.{Name}
-use Rattle.hep_machine.specs.Declarations.{declarator_among}
-use Rattle.hep_source.specs.Names.{name_eq}
+use Rattle.hep_machine.specs.Words.{Name, declarator_among, name_eq}
 use Rattle.hep_symbols.specs.Statements.{rest_after}
 use Rattle.hep_symbols.specs.Tables.{seen}
 use Rattle.hep_symbols.proofs.specification.note_arrays.Given as goal

@@ -1,7 +1,6 @@
 use Rattle.std.proofs.Common.{[], ◌∷◌, ◌+◌, ◌&&◌, is_some, refl, ◌∙◌, ap, sym, drop}
 use Rattle.indexmap.specs.IndexMap.{get}
-use Rattle.hep_source.specs.Names.{name_eq}
-use Rattle.hep_machine.specs.Declarations.{names_declared}
+use Rattle.hep_machine.specs.Words.{name_eq, names_declared}
 use Rattle.hep_symbols.specs.Tables.{are_new}
 use Rattle.hep_symbols.proofs.News.{declared-turn, new-turn, one-new, seen-one}
 use Rattle.hep_symbols.proofs.specification.note_block.Goals as goal

@@ -1,7 +1,6 @@
 use Rattle.std.proofs.Common.{◌+◌, ◌&&◌, ◌||◌, is_some, refl, ◌∙◌, ap, sym, drop}
 use Rattle.indexmap.specs.IndexMap.{get}
-use Rattle.hep_source.specs.Names.{is_among, name_eq}
-use Rattle.hep_machine.specs.Declarations.{entries_of_blocks, names_declared}
+use Rattle.hep_machine.specs.Words.{is_among, name_eq, entries_of_blocks, names_declared}
 use Rattle.hep_symbols.specs.Tables.{are_new}
 use Rattle.hep_symbols.proofs.News.{declared-append, holding-turn, new-turn, seen-declared}
 use Rattle.hep_symbols.proofs.specification.note_blocks.Goals as goal

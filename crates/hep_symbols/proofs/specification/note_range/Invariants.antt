@@ -1,5 +1,4 @@
-use Rattle.std.proofs.Common.{◌≡◌, ◌<◌, ◌≤◌, ◌+◌, max, ℕ, get_or, None}
-use Rattle.std.specs.Prelude.{◌&&◌, nat_le, nat_lt}
+use Rattle.std.proofs.Common.{◌≡◌, ◌<◌, ◌≤◌, ◌+◌, max, ℕ, get_or, None, ◌&&◌, nat_le, nat_lt}
 use Rattle.std.specs.Option.{option_or}
 use Rattle.hep_symbols.specs.Tables.{given}
 use Rattle.hep_symbols.proofs.specification.note_range.Given as goal

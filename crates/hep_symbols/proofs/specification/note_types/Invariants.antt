@@ -1,9 +1,8 @@
 use Rattle.std.proofs.Common.{◌≡◌, drop}
 use Rattle.std.specs.Option.{option_or}
 use Rattle.indexmap.specs.IndexMap.{get}
-use Rattle.hep_source.specs.declared.name.Name.{Name}
+use Rattle.hep_machine.specs.Words.{Name, name_eq}
 use Rattle.hep_symbols.specs.Tables as tables
-use Rattle.hep_source.specs.Names.{name_eq}
 use Rattle.hep_symbols.proofs.specification.note_types.Given as goal
 
 abbrev pub invariant-loop-declarator : goal.invariant-loop-declarator

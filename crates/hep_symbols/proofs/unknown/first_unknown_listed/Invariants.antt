@@ -1,7 +1,6 @@
 use Rattle.std.proofs.Common.{◌≡◌, drop, map}
 use Rattle.std.specs.List.{flat_map}
-use Rattle.hep_check.specs.Violations.{first_of}
-use Rattle.hep_check.specs.Reported.{first_of_two}
+use Rattle.hep_check.specs.Words.{first_of, first_of_two}
 use Rattle.hep_symbols.specs.Lists.{listed}
 use Rattle.hep_symbols.specs.Passes as passes
 use Rattle.hep_symbols.proofs.unknown.first_unknown_listed.Given as goal

@@ -1,7 +1,5 @@
 use Rattle.std.proofs.Common.{◌∙◌, ap}
-use Rattle.hep_check.specs.Names.{unknown_subroutines, unknown_references, unknown_targets}
-use Rattle.hep_check.specs.Reported.{first_of_two}
-use Rattle.hep_check.specs.Violations.{first_of}
+use Rattle.hep_check.specs.Words.{unknown_subroutines, unknown_references, unknown_targets, first_of_two, first_of}
 use Rattle.hep_symbols.proofs.Firsts.{three}
 use Rattle.hep_symbols.proofs.Passes.{unknown-targets}
 use Rattle.hep_symbols.proofs.unknown.unknown_in.Goals as goal

@@ -1,6 +1,6 @@
 use Rattle.std.proofs.Common.{◌+◌, ◌∙◌, ap, drop}
 use Rattle.std.specs.List.{flat_map}
-use Rattle.hep_check.specs.Violations.{first_of}
+use Rattle.hep_check.specs.Words.{first_of}
 use Rattle.hep_symbols.specs.Passes.{unknown_target, unknown_in_group}
 use Rattle.hep_symbols.proofs.Firsts.{turn}
 use Rattle.hep_symbols.proofs.unknown.unknown_in_groups.Goals as goal

@@ -1,7 +1,6 @@
 use Rattle.std.proofs.Common.{◌≡◌, drop}
 use Rattle.std.specs.List.{flat_map}
-use Rattle.hep_check.specs.Violations.{first_of}
-use Rattle.hep_check.specs.Reported.{first_of_two}
+use Rattle.hep_check.specs.Words.{first_of, first_of_two}
 use Rattle.hep_symbols.specs.Passes.{untyped}
 use Rattle.hep_symbols.proofs.untyped.first_untyped.Given as goal
 

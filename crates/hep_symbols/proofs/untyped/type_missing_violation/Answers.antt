@@ -1,7 +1,6 @@
 use Rattle.std.proofs.Common.{◌+◌, ◌∙◌, ap, sym, drop}
 use Rattle.std.specs.List.{list_all}
-use Rattle.hep_check.specs.Names.{untyped_in}
-use Rattle.hep_check.specs.Violations.{first_of}
+use Rattle.hep_check.specs.Words.{untyped_in, first_of}
 use Rattle.hep_symbols.specs.Passes.{is_typed}
 use Rattle.hep_symbols.proofs.Typed.{typed-unit}
 use Rattle.hep_symbols.proofs.Firsts.{turn}

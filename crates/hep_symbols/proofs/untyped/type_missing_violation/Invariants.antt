@@ -1,8 +1,6 @@
 use Rattle.std.proofs.Common.{◌≡◌, drop}
 use Rattle.std.specs.List.{flat_map}
-use Rattle.hep_check.specs.Names.{untyped_in}
-use Rattle.hep_check.specs.Violations.{first_of}
-use Rattle.hep_check.specs.Reported.{first_of_two}
+use Rattle.hep_check.specs.Words.{untyped_in, first_of, first_of_two}
 use Rattle.hep_symbols.proofs.untyped.type_missing_violation.Given as goal
 
 abbrev pub invariant-loop-statement : goal.invariant-loop-statement

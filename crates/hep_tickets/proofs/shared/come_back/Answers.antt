@@ -1,5 +1,4 @@
-use Rattle.std.proofs.Common.{rules}
-use Rattle.std.specs.Prelude.{nat_eq, not}
+use Rattle.std.proofs.Common.{rules, nat_eq, not}
 use Rattle.std.proofs.lemmas.Fn.{filter_same}
 use Rattle.hep_tickets.proofs.shared.come_back.Goals as goal
 

@@ -1,7 +1,6 @@
 use Rattle.std.proofs.Common.{◌∙◌, ap}
 use Rattle.std.specs.List.{list_any}
-use Rattle.hep_check.specs.Constants.{is_open}
-use Rattle.hep_check.specs.Statements.{trees_in_dimension}
+use Rattle.hep_check.specs.Words.{is_open, trees_in_dimension}
 use Rattle.hep_types.specs.Bounds.{is_dimension_open}
 use Rattle.hep_types.proofs.Dimensions.{any-within}
 use Rattle.hep_types.proofs.Results.{ok-also}
@@ -12,6 +11,6 @@ returns c =
     ok-also c.is_any_open.result
     (λ b e.
     e
-    ∙ (ap (list_any (is_dimension_open c.args.symbols.now c.args.parameters.now)) c.as_slice.ensures
-    ∙ any-within (is_open c.args.symbols.now c.args.parameters.now) trees_in_dimension c.args.declarator.now.dimensions))
+    ∙ (ap (list_any (is_dimension_open c.args.scope.now.symbols.now c.args.scope.now.parameters.now)) c.as_slice.ensures
+    ∙ any-within (is_open c.args.scope.now.symbols.now c.args.scope.now.parameters.now) trees_in_dimension c.args.declarator.now.dimensions))
     c.is_any_open.ensures

@@ -2,9 +2,8 @@ use Rattle.std.proofs.Common.{◌∙◌, sym, rules, tests}
 use Rattle.std.proofs.lemmas.Iterator.{YieldsList-from_slice}
 use Rattle.std.proofs.lemmas.Iterator.Search.{all_from_yields_List}
 use Rattle.std.proofs.lemmas.List.Folds.{list_all-map}
-use Rattle.hep_machine.specs.Functions.{listed_meaning}
-use Rattle.hep_check.specs.Constants.{is_pure}
-use Rattle.hep_check.specs.Statements.{NameWithList}
+use Rattle.hep_machine.specs.Words.{listed_meaning}
+use Rattle.hep_check.specs.Words.{is_pure, NameWithList}
 use Rattle.hep_symbols.specs.Lists.{listed}
 use Rattle.hep_types.proofs.parameters.are_pure.Goals as goal
 

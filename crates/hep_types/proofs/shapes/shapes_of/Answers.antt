@@ -1,10 +1,9 @@
 use Rattle.std.proofs.Common.{◌≡◌, ◌+◌, ◌∙◌, refl, ap, drop}
 use Rattle.std.specs.Option.{option_or, option_map}
 use Rattle.indexmap.specs.IndexMap.{get}
-use Rattle.hep_check.specs.Constants.{with_parameters}
+use Rattle.hep_check.specs.Words.{with_parameters}
 use Rattle.hep_symbols.specs.Statements.{rest_after}
-use Rattle.hep_source.specs.Names.{name_eq}
-use Rattle.hep_machine.specs.Declarations.{declarator_among, declarators_in}
+use Rattle.hep_machine.specs.Words.{name_eq, declarator_among, declarators_in}
 use Rattle.hep_symbols.proofs.ArraysAmong.{among_arrays}
 use Rattle.hep_types.specs.Bounds.{shape_given}
 use Rattle.hep_types.proofs.KnownShapes.{next-shape}

@@ -1,5 +1,5 @@
 use Rattle.std.proofs.Common.{◌+◌, ◌*◌}
-use Rattle.hep_source.specs.Tree.{nodes, nodes_of_all, trees_of}
+use Rattle.hep_machine.specs.Words.{nodes, nodes_of_all, trees_of}
 use Rattle.hep_types.proofs.types.+typing.Given as goal
 
 abbrev pub decreases-typing : goal.decreases-typing

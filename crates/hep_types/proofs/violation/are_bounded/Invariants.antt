@@ -1,6 +1,6 @@
 use Rattle.std.proofs.Common.{◌≡◌, drop}
 use Rattle.std.specs.List.{list_all}
-use Rattle.hep_check.specs.Constants.{has_bounds}
+use Rattle.hep_check.specs.Words.{has_bounds}
 use Rattle.hep_symbols.specs.Statements.{rest_after}
 use Rattle.hep_types.proofs.violation.are_bounded.Given as goal
 

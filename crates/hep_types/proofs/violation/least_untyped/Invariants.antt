@@ -1,6 +1,5 @@
 use Rattle.std.proofs.Common.{◌≡◌, drop}
-use Rattle.hep_check.specs.Constants.{no_parameters}
-use Rattle.hep_check.specs.Reported.{least_line}
+use Rattle.hep_check.specs.Words.{no_parameters, least_line}
 use Rattle.hep_types.specs.Passes.{least_untyped}
 use Rattle.hep_types.proofs.violation.least_untyped.Given as goal
 

@@ -1,6 +1,5 @@
 use Rattle.std.proofs.Common.{◌∙◌, ap, sym}
-use Rattle.hep_check.specs.Constants.{no_parameters}
-use Rattle.hep_check.specs.Reported.{reported}
+use Rattle.hep_check.specs.Words.{no_parameters, reported}
 use Rattle.hep_types.proofs.Passes.{reported-untyped}
 use Rattle.hep_types.proofs.violation.type_violation.Goals as goal
 

@@ -1,10 +1,8 @@
 use Rattle.std.proofs.Common.{◌≡◌, ◌∙◌, ap, sym}
 use Rattle.indexmap.specs.IndexMap.{get}
-use Rattle.hep_source.specs.declared.name.Name.{Name}
-use Rattle.hep_source.specs.Names.{name_eq}
+use Rattle.hep_machine.specs.Words.{Name, name_eq, is_nonempty}
 use Rattle.hep_uses.specs.declared.uses.Way.TheVariants.{Constant}
 use Rattle.hep_uses.specs.Ambiguous.{least_named, least_met, least_of_two_ways}
-use Rattle.hep_machine.specs.Declarations.{is_nonempty}
 use Rattle.hep_uses.specs.Uses.{uses_of}
 use Rattle.hep_uses.proofs.Ways.{least-turn, least_met-same, misused-none, no-items}
 use Rattle.hep_uses.proofs.ambiguous.least_misused.Goals as goal

@@ -1,5 +1,5 @@
 use Rattle.std.proofs.Common.{◌∙◌, ap, sym}
-use Rattle.hep_machine.specs.Declarations.{is_nonempty}
+use Rattle.hep_machine.specs.Words.{is_nonempty}
 use Rattle.hep_uses.specs.Uses.{uses_of}
 use Rattle.hep_uses.proofs.Ways.{both-none, no-items}
 use Rattle.hep_uses.proofs.ambiguous.least_of_two_ways.Goals as goal

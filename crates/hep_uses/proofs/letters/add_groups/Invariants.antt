@@ -1,6 +1,6 @@
 use Rattle.std.proofs.Common.{◌≡◌, ◌++◌, drop}
 use Rattle.std.specs.List.{flat_map}
-use Rattle.hep_source.specs.declared.declaration.ImplicitGroup.{ImplicitGroup}
+use Rattle.hep_machine.specs.Words.{ImplicitGroup}
 use Rattle.hep_uses.specs.Ambiguous.{ranges_at}
 use Rattle.hep_uses.proofs.letters.add_groups.Given as goal
 

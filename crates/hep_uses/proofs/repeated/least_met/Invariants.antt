@@ -1,8 +1,8 @@
 use Rattle.std.proofs.Common.{◌≡◌, drop}
 use Rattle.indexmap.specs.IndexMap.{get}
-use Rattle.hep_check.specs.Reported.{least_line}
+use Rattle.hep_check.specs.Words.{least_line}
 use Rattle.hep_uses.specs.Ambiguous as passes
-use Rattle.hep_source.specs.Names.{name_eq}
+use Rattle.hep_machine.specs.Words.{name_eq}
 use Rattle.hep_uses.proofs.repeated.least_met.Given as goal
 
 abbrev pub invariant-loop-name : goal.invariant-loop-name

@@ -1,5 +1,5 @@
 use Rattle.indexmap.specs.IndexSet.{contains}
-use Rattle.hep_source.specs.Names.{name_eq, same_name}
+use Rattle.hep_machine.specs.Words.{name_eq, same_name}
 use Rattle.hep_uses.proofs.Ways.{repeated-turn}
 use Rattle.hep_uses.proofs.repeated.least_repeated.Goals as goal
 

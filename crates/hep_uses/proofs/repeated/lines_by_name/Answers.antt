@@ -1,5 +1,5 @@
 use Rattle.indexmap.specs.IndexMap.{get}
-use Rattle.hep_source.specs.Names.{name_eq}
+use Rattle.hep_machine.specs.Words.{name_eq}
 use Rattle.hep_uses.proofs.Ways.{named-turn}
 use Rattle.hep_uses.proofs.repeated.lines_by_name.Goals as goal
 

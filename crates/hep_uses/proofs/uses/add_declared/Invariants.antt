@@ -1,5 +1,5 @@
 use Rattle.std.proofs.Common.{◌≡◌, ◌++◌, drop}
-use Rattle.hep_machine.specs.Declarations.{names_declared}
+use Rattle.hep_machine.specs.Words.{names_declared}
 use Rattle.hep_uses.proofs.uses.add_declared.Given as goal
 
 abbrev pub invariant-loop-declarator : goal.invariant-loop-declarator

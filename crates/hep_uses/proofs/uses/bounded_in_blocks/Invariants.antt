@@ -1,5 +1,5 @@
 use Rattle.std.proofs.Common.{◌≡◌, ◌++◌, drop}
-use Rattle.hep_machine.specs.Declarations.{entries_of_blocks}
+use Rattle.hep_machine.specs.Words.{entries_of_blocks}
 use Rattle.hep_uses.specs.Uses.{names_bounded}
 use Rattle.hep_uses.proofs.uses.bounded_in_blocks.Given as goal
 

@@ -1,7 +1,6 @@
 use Rattle.std.proofs.Common.{◌≡◌, ◌++◌, drop}
 use Rattle.std.specs.List.{flat_map}
-use Rattle.hep_source.specs.declared.declaration.CommonBlock.{CommonBlock}
-use Rattle.hep_machine.specs.Declarations.{names_declared}
+use Rattle.hep_machine.specs.Words.{CommonBlock, names_declared}
 use Rattle.hep_uses.proofs.uses.entries.Given as goal
 
 abbrev pub invariant-loop-block : goal.invariant-loop-block

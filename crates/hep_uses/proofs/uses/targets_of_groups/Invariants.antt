@@ -1,6 +1,5 @@
 use Rattle.std.proofs.Common.{◌≡◌, ◌++◌, drop}
-use Rattle.hep_check.specs.Names.{names_of_targets}
-use Rattle.hep_check.specs.Statements.{targets_of_groups}
+use Rattle.hep_check.specs.Words.{names_of_targets, targets_of_groups}
 use Rattle.hep_uses.proofs.uses.targets_of_groups.Given as goal
 
 abbrev pub invariant-loop-group : goal.invariant-loop-group

@@ -1,5 +1,5 @@
 use Rattle.std.proofs.Common.{◌≡◌, drop}
-use Rattle.hep_machine.specs.Constants.{bounds_of, value_among}
+use Rattle.hep_machine.specs.Words.{bounds_of, value_among}
 use Rattle.hep_values.proofs.BoundValues.{prefixed}
 use Rattle.hep_values.proofs.bounds.bounds_of.Given as goal
 

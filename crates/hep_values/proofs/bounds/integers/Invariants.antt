@@ -1,8 +1,6 @@
 use Rattle.std.proofs.Common.{◌≡◌, ◌++◌, drop}
 use Rattle.std.specs.Option.{option_map}
-use Rattle.hep_source.specs.Tree.{trees_of}
-use Rattle.hep_machine.specs.Arithmetic.{integers_of}
-use Rattle.hep_machine.specs.Constants.{value_among, values_of}
+use Rattle.hep_machine.specs.Words.{trees_of, integers_of, value_among, values_of}
 use Rattle.hep_values.proofs.bounds.integers.Given as goal
 
 abbrev pub invariant-loop-expression : goal.invariant-loop-expression

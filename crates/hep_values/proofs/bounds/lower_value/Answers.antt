@@ -1,7 +1,6 @@
 use Rattle.std.proofs.Common.{◌∙◌, ap, sym}
 use Rattle.std.specs.Option.{option_map}
-use Rattle.hep_machine.specs.Arithmetic.{integer_of}
-use Rattle.hep_machine.specs.Constants.{lower_value, value_among}
+use Rattle.hep_machine.specs.Words.{integer_of, lower_value, value_among}
 use Rattle.hep_values.proofs.bounds.lower_value.Goals as goal
 
 pub returns-in_ok-value-in-Some : goal.returns-in_ok-value-in-Some

@@ -1,8 +1,6 @@
 use Rattle.std.proofs.Common.{◌∙◌, ap, sym, Some}
 use Rattle.std.specs.Option.{option_map}
-use Rattle.hep_source.specs.declared.value.Value.{Value}
-use Rattle.hep_machine.specs.Arithmetic.{integer_of}
-use Rattle.hep_machine.specs.Constants.{upper_value, value_among}
+use Rattle.hep_machine.specs.Words.{Value, integer_of, upper_value, value_among}
 use Rattle.hep_values.proofs.BoundValues.{closed-value}
 use Rattle.hep_values.proofs.bounds.upper_value.Goals as goal
 

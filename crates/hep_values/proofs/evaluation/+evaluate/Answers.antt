@@ -1,6 +1,5 @@
 use Rattle.std.proofs.Common.{◌≡◌, ◌∙◌, ap}
-use Rattle.hep_source.specs.NodeTree.{node_tree}
-use Rattle.hep_source.specs.Tree.{binary}
+use Rattle.hep_machine.specs.Words.{node_tree, binary}
 use Rattle.hep_values.specs.declared.evaluation.Evaluation.{Evaluation}
 use Rattle.hep_values.specs.Evaluation.{parameters, are_parts_known}
 use Rattle.hep_values.proofs.Evaluations.{two-known}

@@ -1,4 +1,4 @@
-use Rattle.hep_source.specs.Tree.{nodes, nodes_of_all, trees_of}
+use Rattle.hep_machine.specs.Words.{nodes, nodes_of_all, trees_of}
 use Rattle.hep_values.proofs.evaluation.+evaluate.Given as goal
 
 abbrev pub decreases-evaluate : goal.decreases-evaluate

@@ -1,7 +1,6 @@
 use Rattle.std.proofs.Common.{◌≤◌, ◌+◌, ◌∙◌, [], ap, sym, drop, length, arith}
 use Rattle.std.proofs.lemmas.List.{drop_all}
-use Rattle.hep_machine.specs.Constants.{value_among, given_by}
-use Rattle.hep_machine.specs.Declarations.{named_constants}
+use Rattle.hep_machine.specs.Words.{value_among, given_by, named_constants}
 use Rattle.hep_values.proofs.GivenInTurn.{constants-turn}
 use Rattle.hep_values.proofs.given.constants.Goals as goal
 use Rattle.hep_source.proofs.Tests.{drop_at}

@@ -1,6 +1,5 @@
 use Rattle.std.proofs.Common.{◌≡◌, [], drop}
-use Rattle.hep_machine.specs.Constants.{value_among, given_by}
-use Rattle.hep_machine.specs.Declarations.{named_constants}
+use Rattle.hep_machine.specs.Words.{value_among, given_by, named_constants}
 use Rattle.hep_values.proofs.given.constants.Given as goal
 
 abbrev pub invariant-loop-statement : goal.invariant-loop-statement

@@ -1,5 +1,5 @@
 use Rattle.std.proofs.Common.{◌≡◌, drop}
-use Rattle.hep_machine.specs.Constants.{value_among, given_by}
+use Rattle.hep_machine.specs.Words.{value_among, given_by}
 use Rattle.hep_values.proofs.given.give.Given as goal
 
 abbrev pub invariant-loop-constant : goal.invariant-loop-constant

@@ -1,5 +1,5 @@
 use Rattle.std.proofs.Common.{◌∙◌, sym}
-use Rattle.hep_machine.specs.Constants.{value_among, value_of}
+use Rattle.hep_machine.specs.Words.{value_among, value_of}
 use Rattle.hep_values.proofs.GivenInTurn.{added-here}
 use Rattle.hep_values.proofs.GivenInTurn.{on-so}
 use Rattle.hep_values.proofs.given.give_one.Goals as goal

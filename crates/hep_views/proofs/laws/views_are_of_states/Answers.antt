@@ -1,5 +1,4 @@
-use Rattle.hep_views.proofs.Dummies.{has-dummies}
-use Rattle.hep_views.proofs.Views.{view-of-many}
+use Rattle.hep_views.proofs.Views.{has-dummies, view-of-many}
 use Rattle.hep_views.proofs.laws.views_are_of_states.Goals as goal
 
 pub returns : goal.returns

@@ -1,5 +1,5 @@
 use Rattle.std.proofs.Common.{◌≡◌, ◌-◌, drop, length}
-use Rattle.hep_code.specs.Depths.{line_ahead}
+use Rattle.hep_code.specs.Words.{line_ahead}
 use Rattle.hep_waiting.proofs.finding.line_from.Given as goal
 
 abbrev pub invariant-loop-instruction : goal.invariant-loop-instruction

@@ -1,5 +1,5 @@
 use Rattle.std.proofs.Common.{◌≡◌, ◌<◌, drop, length, sym, ap, ◌∙◌, subst}
-use Rattle.hep_code.specs.Depths.{line_ahead}
+use Rattle.hep_code.specs.Words.{line_ahead}
 use Rattle.hep_state.specs.declared.machine.Level.{Level}
 use Rattle.hep_waiting.specs.Sought.{IsSought}
 use Rattle.hep_waiting.proofs.Waiting.{blocked-waits, listed-is}

@@ -1,5 +1,4 @@
-use Rattle.std.proofs.Common.{◌≡◌, ◌+◌, None, Some, drop, ap, sym, ◌∙◌, rules}
-use Rattle.std.specs.Prelude.{option_and_then}
+use Rattle.std.proofs.Common.{◌≡◌, ◌+◌, None, Some, drop, ap, sym, ◌∙◌, rules, option_and_then}
 use Rattle.hep_workers.specs.Marks.{marked}
 use Rattle.hep_workers.specs.Receipts.{receipts_of}
 use Rattle.hep_workers.proofs.Marks.{next-log}

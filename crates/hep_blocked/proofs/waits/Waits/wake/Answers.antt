@@ -1,5 +1,5 @@
 use Rattle.std.proofs.Common.{List, [], Option, sym, ap, ◌∙◌}
-use Rattle.hep_machine.specs.Processes.{is_number_among}
+use Rattle.hep_machine.specs.Words.{is_number_among}
 use Rattle.hep_blocked.specs.declared.want.Want.{Want}
 use Rattle.hep_blocked.specs.Lists.{list_of}
 use Rattle.hep_blocked.specs.Waiting.{waiting_at}

@@ -1,5 +1,5 @@
 use Rattle.std.proofs.Common.{subst}
-use Rattle.hep_check.specs.Conditions.{IsAccepted}
+use Rattle.hep_check.specs.Words.{IsAccepted}
 use Rattle.hep_check.proofs.checked.Checked.is_accepted.Goals as goal
 
 pub returns : goal.returns

@@ -1,8 +1,7 @@
 use Rattle.std.proofs.Common.{◌∙◌, ap, sym, Some, if◌then◌else◌}
 use Rattle.std.specs.Option.{option_eq}
 use Rattle.indexmap.specs.IndexMap.{get}
-use Rattle.hep_source.specs.Names.{name_eq}
-use Rattle.hep_machine.specs.Declarations.{same_block}
+use Rattle.hep_machine.specs.Words.{name_eq, same_block}
 use Rattle.hep_common.specs.Lengths.{lengthened}
 use Rattle.hep_common.proofs.Tables.{kept-next, known-block}
 use Rattle.hep_common.proofs.common.CommonBlocks.lengthen.Goals as goal

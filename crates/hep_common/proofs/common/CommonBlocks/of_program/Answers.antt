@@ -2,8 +2,7 @@ use Rattle.std.proofs.Common.{◌≡◌, ◌<◌, ◌≤◌, ◌+◌, ◌++◌, 
 use Rattle.std.specs.List.{flat_map}
 use Rattle.std.specs.Option.{option_eq}
 use Rattle.indexmap.specs.IndexMap.{get}
-use Rattle.hep_source.specs.Names.{name_eq}
-use Rattle.hep_machine.specs.Declarations.{blocks_of_unit, with_blocks}
+use Rattle.hep_machine.specs.Words.{name_eq, blocks_of_unit, with_blocks}
 use Rattle.hep_common.specs.Lengths.{entries_of, entries_of_program}
 use Rattle.hep_common.proofs.Tables.{row-next, row-end, blocks-next, lengths-next, start-length, start-unread, end-length}
 use Rattle.hep_common.proofs.Totals.{common-few}

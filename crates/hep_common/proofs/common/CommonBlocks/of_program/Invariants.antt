@@ -2,9 +2,7 @@ use Rattle.std.proofs.Common.{◌≡◌, ◌++◌, max, drop}
 use Rattle.std.specs.List.{flat_map}
 use Rattle.std.specs.Option.{option_eq}
 use Rattle.indexmap.specs.IndexMap.{get}
-use Rattle.hep_source.specs.Names.{name_eq}
-use Rattle.hep_machine.specs.Declarations.{BlockName, blocks_of_unit, blocks_of, with_blocks}
-use Rattle.hep_machine.specs.Layout.{block_cells}
+use Rattle.hep_machine.specs.Words.{name_eq, BlockName, blocks_of_unit, blocks_of, with_blocks, block_cells}
 use Rattle.hep_common.specs.Lengths.{entries_of_program, greatest_length, AreKept, IsUnread}
 use Rattle.hep_common.proofs.common.CommonBlocks.of_program.Given as goal
 

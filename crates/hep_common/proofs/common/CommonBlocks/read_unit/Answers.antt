@@ -3,8 +3,7 @@ use Rattle.std.proofs.lemmas.Bool.Decides.{nat_tests}
 use Rattle.std.proofs.lemmas.List.{drop_all, drop_more}
 use Rattle.std.specs.Option.{option_eq}
 use Rattle.indexmap.specs.IndexMap.{get}
-use Rattle.hep_source.specs.Names.{name_eq}
-use Rattle.hep_machine.specs.Declarations.{BlockName, same_block}
+use Rattle.hep_machine.specs.Words.{name_eq, BlockName, same_block}
 use Rattle.hep_common.specs.Lengths.{cells_in_block, greatest_length, lengthened, with_blocks_of}
 use Rattle.hep_common.proofs.Entries.{unit-blocks, unit-cells}
 use Rattle.hep_common.proofs.Tables.{lengthened-at, blocks-entry, cells-next, longest-next, unread-next, bounded-next, start-longest, start-few, end-blocks, end-cells}

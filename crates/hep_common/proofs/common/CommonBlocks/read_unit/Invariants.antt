@@ -1,8 +1,7 @@
 use Rattle.std.proofs.Common.{◌≡◌, ◌+◌, ◌*◌, ◌^◌, ◌≤◌, max, drop}
 use Rattle.std.specs.Option.{option_eq}
 use Rattle.indexmap.specs.IndexMap.{get}
-use Rattle.hep_source.specs.Names.{name_eq}
-use Rattle.hep_machine.specs.Declarations.{BlockName}
+use Rattle.hep_machine.specs.Words.{name_eq, BlockName}
 use Rattle.hep_common.specs.Lengths.{cells_in_block, cells_so_far, greatest_length, with_blocks_of, AreKept, IsUnread}
 use Rattle.hep_common.proofs.common.CommonBlocks.read_unit.Given as goal
 

@@ -1,5 +1,5 @@
 use Rattle.std.proofs.Common.{drop}
-use Rattle.hep_source.specs.Units.{Units}
+use Rattle.hep_machine.specs.Words.{Units}
 use Rattle.hep_common.specs.Starts.{AreBlocks}
 use Rattle.hep_common.proofs.Beginnings.{AreBegun}
 use Rattle.hep_common.proofs.starts.CommonStarts.of_blocks.Given as goal

@@ -1,5 +1,5 @@
 use Rattle.std.proofs.Common.{rules, ◌≡◌, ◌<◌, length, sym, subst, IfSome}
-use Rattle.hep_machine.specs.Control.{index_labelled}
+use Rattle.hep_machine.specs.Words.{index_labelled}
 use Rattle.hep_control.proofs.Labelled.{index_labelled-below}
 use Rattle.hep_control.proofs.labels.Labels.index_labelled.Goals as goal
 

@@ -1,6 +1,6 @@
 use Rattle.std.proofs.Common.{◌≡◌, ℕ, nat_eq, drop}
 use Rattle.indexmap.specs.IndexMap.{get}
-use Rattle.hep_machine.specs.Control.{index_labelled}
+use Rattle.hep_machine.specs.Words.{index_labelled}
 use Rattle.hep_control.proofs.Labelled.{index_from}
 use Rattle.hep_control.proofs.labels.Labels.new.Given as goal
 

@@ -1,6 +1,5 @@
 use Rattle.std.proofs.Common.{sym, ◌∙◌, arith}
-use Rattle.hep_history.proofs.Digits.{if_none}
-use Rattle.hep_history.proofs.Spellings.{entry_is, marked, same_numbers}
+use Rattle.hep_history.proofs.Digits.{if_none, entry_is, marked, same_numbers}
 use Rattle.hep_history.proofs.history.EntryFromLine.from_front.Goals as goal
 
 pub returns-in_err-steps-clause-none : goal.returns-in_err-steps-clause-none

@@ -1,5 +1,5 @@
 use Rattle.std.proofs.Common.{ap, sym, ◌∙◌}
-use Rattle.hep_source.specs.Units.{is_main, main_among, subroutine_name}
+use Rattle.hep_machine.specs.Words.{is_main, main_among, subroutine_name}
 use Rattle.hep_image.proofs.Mains.{index-inside}
 use Rattle.hep_image.proofs.image.Image.main.Goals as goal
 

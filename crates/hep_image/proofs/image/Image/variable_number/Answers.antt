@@ -1,5 +1,5 @@
 use Rattle.std.proofs.Common.{◌+◌, ap, arith, subst}
-use Rattle.hep_source.specs.Units.{Units}
+use Rattle.hep_machine.specs.Words.{Units}
 use Rattle.hep_image.specs.Names.{AreNames}
 use Rattle.hep_image.proofs.Numbers.{first-kept, variable-few}
 use Rattle.hep_image.proofs.image.Image.variable_number.Goals as goal

@@ -1,6 +1,6 @@
 use Rattle.std.proofs.Common.{◌≡◌, ◌∙◌, refl, sym, subst, rules}
 use Rattle.indexmap.specs.IndexSet.{contains}
-use Rattle.hep_source.specs.Names.{name_eq}
+use Rattle.hep_machine.specs.Words.{name_eq}
 use Rattle.hep_symbols.specs.Tables.{either}
 use Rattle.hep_initial.specs.Given.{element_eq, IsNamed}
 use Rattle.hep_initial.proofs.Giving.{with-one, with-all, element-added}
@@ -14,8 +14,7 @@ returns-in_ok-insert-in-One c =
     record {
       was = λ unit given s described named. was ∙ sym (described.alone e s (subst (λ n. IsNamed unit n s) c.in-One.is named));
       given = λ unit given s described named.
-          with-one unit given (contains name_eq old.names) (contains name_eq old.arrays) (contains element_eq old.elements) described
-          (contains name_eq c.add.new.set) (contains name_eq old.arrays) (contains element_eq c.insert.new.self) e s (subst (λ n. IsNamed unit n s) c.in-One.is named)
+          with-one described e s (subst (λ n. IsNamed unit n s) c.in-One.is named)
           (λ x. refl) c.in_ok-add-in-One.ensures (λ f. c.in_ok-insert-in-One.ensures.updates.0 f ∙ element-added e f (contains element_eq old.elements f));
     }
 
@@ -27,7 +26,6 @@ returns-in_ok-add-in-All-2 c =
     record {
       was = λ unit given s described named. was ∙ sym (described.together x c.in-All.field-1 s (subst (λ n. IsNamed unit n s) c.in-All.is named));
       given = λ unit given s described named.
-          with-all unit given (contains name_eq old.names) (contains name_eq old.arrays) (contains element_eq old.elements) described
-          (contains name_eq c.add-in-All.new.set) (contains name_eq c.add-in-All-2.new.set) (contains element_eq old.elements) x c.in-All.field-1 s (subst (λ n. IsNamed unit n s) c.in-All.is named)
+          with-all described x c.in-All.field-1 s (subst (λ n. IsNamed unit n s) c.in-All.is named)
           c.in_ok-add-in-All-2.ensures c.in_ok-add-in-All.ensures (λ f. refl);
     }

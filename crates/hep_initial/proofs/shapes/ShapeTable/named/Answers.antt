@@ -1,8 +1,6 @@
 use Rattle.std.proofs.Common.{◌∙◌, ap, sym}
 use Rattle.std.specs.Option.{option_map}
-use Rattle.hep_source.specs.Tree.{trees_of}
-use Rattle.hep_machine.specs.Arithmetic.{integers_of}
-use Rattle.hep_machine.specs.Constants.{value_among, values_of}
+use Rattle.hep_machine.specs.Words.{trees_of, integers_of, value_among, values_of}
 use Rattle.hep_initial.proofs.Naming.{scalar-named, array-named, nonempty-not}
 use Rattle.hep_initial.proofs.shapes.ShapeTable.named.Goals as goal
 

@@ -1,6 +1,6 @@
 use Rattle.indexmap.specs.IndexMap.{get}
-use Rattle.hep_source.specs.Names.{name_eq}
-use Rattle.hep_initial.proofs.Tabled.{table-turn}
+use Rattle.hep_machine.specs.Words.{name_eq}
+use Rattle.hep_initial.proofs.ArrayShapes.{table-turn}
 use Rattle.hep_initial.proofs.shapes.ShapeTable.prepare.Goals as goal
 
 pub returns-in_ok-insert-clause-table : goal.returns-in_ok-insert-clause-table

@@ -1,6 +1,6 @@
 use Rattle.std.proofs.Common.{ℕ, ◌+◌, ◌∙◌, ap, length, refl, subst}
 use Rattle.hep_lower.specs.Units.{IsUnit}
-use Rattle.hep_lower.proofs.Additions.{added-runnable}
+use Rattle.hep_lower.proofs.Counts.{added-runnable}
 use Rattle.hep_lower.proofs.units.LoweredUnits.add.Goals as goal
 
 pub returns-in_ok-push-in-Runnable : goal.returns-in_ok-push-in-Runnable

@@ -1,8 +1,7 @@
 use Rattle.std.proofs.Common.{◌≡◌, drop, map}
 use Rattle.std.specs.Option.{option_or}
 use Rattle.indexmap.specs.IndexMap.{get}
-use Rattle.hep_source.specs.declared.name.Name.{Name}
-use Rattle.hep_source.specs.Names.{name_eq}
+use Rattle.hep_machine.specs.Words.{Name, name_eq}
 use Rattle.hep_places.specs.Found.{behind, start_among}
 use Rattle.hep_places.proofs.names.Starts.add_all.Given as goal
 

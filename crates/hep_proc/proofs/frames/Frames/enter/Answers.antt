@@ -1,7 +1,7 @@
 use Rattle.std.proofs.Common.{◌≡◌, ◌∙◌, Some, sym, ap, subst, length}
-use Rattle.hep_machine.specs.Layout.{common_cells, frame_of, lowest_gap}
+use Rattle.hep_machine.specs.Words.{common_cells, frame_of, lowest_gap}
 use Rattle.hep_arena.specs.Holes.{first_fit}
-use Rattle.hep_frames.specs.Tree.{new_node, with_node}
+use Rattle.hep_frames.specs.Words.{new_node, with_node}
 use Rattle.hep_proc.specs.Keeping.{IsTaken}
 use Rattle.hep_proc.specs.Nodes.{nodes_of}
 use Rattle.hep_proc.proofs.Begun.{begun-gap, begun-keeps, fit-there}

@@ -1,6 +1,5 @@
 use Rattle.std.proofs.Common.{◌≡◌, ◌⊎◌, inl, inr, ◌≤◌, false, refl, sym, ◌∙◌, subst, arith}
-use Rattle.hep_frames.specs.Descriptors.{wanted_of}
-use Rattle.hep_frames.specs.Tree.{but, with_ended, is_stacked}
+use Rattle.hep_frames.specs.Words.{wanted_of, but, with_ended, is_stacked}
 use Rattle.hep_proc.specs.declared.frames.Frames.{Frames}
 use Rattle.hep_proc.specs.Keeping.{HasLeft}
 use Rattle.hep_proc.specs.Nodes.{nodes_of, shown}

@@ -1,10 +1,8 @@
 use Rattle.std.proofs.Common.{◌≡◌, ℕ, Bool, Some, length}
 use Rattle.slab.specs.Slab.{slab_len}
-use Rattle.hep_source.specs.Units.{Units}
-use Rattle.hep_machine.specs.Layout.{Layout}
-use Rattle.hep_machine.specs.State.{State}
-use Rattle.hep_frames.specs.Descriptors.{Wanted}
-use Rattle.hep_frames.specs.Tree.{Node as TreeNode, but}
+use Rattle.hep_machine.specs.Words.{Units, Layout, State}
+use Rattle.hep_frames.specs.Words.{Wanted, but}
+use Rattle.hep_frames.specs.Tree.{Node as TreeNode}
 use Rattle.hep_proc.specs.Nodes.{nodes_of}
 use Rattle.hep_proc.specs.Keeping.{Keeps}
 use Rattle.hep_proc.proofs.Giving.{IsGiving}

@@ -1,7 +1,6 @@
 use Rattle.std.proofs.Common.{◌∙◌, ◌+◌, ◌<◌, length, drop, get_or, refl, subst, arith}
 use Rattle.std.proofs.lemmas.List.{drop_all}
-use Rattle.hep_frames.specs.Descriptors.{wanted_of}
-use Rattle.hep_frames.specs.Tree.{is_stacked}
+use Rattle.hep_frames.specs.Words.{wanted_of, is_stacked}
 use Rattle.hep_proc.specs.Keeping.{all_but, frames_of}
 use Rattle.hep_proc.specs.Nodes.{nodes_of}
 use Rattle.hep_proc.proofs.Several.{AreLeaving, leaving-begins, leaving-ends, leaving-goes_on, leaving-next, next-key}

@@ -1,8 +1,6 @@
 use Rattle.std.proofs.Common.{◌≡◌, ℕ, Bool, List, drop, length}
-use Rattle.hep_source.specs.Units.{Units}
-use Rattle.hep_machine.specs.Layout.{Layout}
-use Rattle.hep_machine.specs.State.{State}
-use Rattle.hep_frames.specs.Descriptors.{wanted_of}
+use Rattle.hep_machine.specs.Words.{Units, Layout, State}
+use Rattle.hep_frames.specs.Words.{wanted_of}
 use Rattle.hep_proc.specs.Nodes.{nodes_of}
 use Rattle.hep_proc.specs.Keeping.{CanLeave, Keeps, LeadUpwards}
 use Rattle.hep_proc.proofs.Several.{AreLeaving}

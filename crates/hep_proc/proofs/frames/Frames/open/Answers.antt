@@ -1,6 +1,6 @@
 use Rattle.hep_arena.specs.Holes.{first_fit}
 use Rattle.std.proofs.Common.{◌∙◌, ap}
-use Rattle.hep_frames.specs.Tree.{first_nodes}
+use Rattle.hep_frames.specs.Words.{first_nodes}
 use Rattle.hep_proc.specs.Nodes.{nodes_of}
 use Rattle.hep_proc.proofs.Opened.{opened-keeps, opened-layout}
 use Rattle.hep_proc.proofs.Slabs.{opened-nodes}

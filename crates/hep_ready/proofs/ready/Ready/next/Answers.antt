@@ -1,5 +1,4 @@
-use Rattle.std.proofs.Common.{◌∙◌, sym}
-use Rattle.std.specs.Prelude.{slice_get}
+use Rattle.std.proofs.Common.{◌∙◌, sym, slice_get}
 use Rattle.hep_ready.proofs.Listed.{first-least, first-other, first-some}
 use Rattle.hep_ready.proofs.ready.Ready.next.Goals as goal
 

@@ -1,30 +1,22 @@
-use Rattle.std.proofs.Common.{◌≡◌, ◌≢◌, ◌<◌, ◌≤◌, ℕ, List, ◌++◌, ◌∷◌, [], ◌∙◌, inl, inr, sym, ap, subst, rules, false, true, None, Some, length, arith, refl}
-use Rattle.std.specs.Prelude.{◌||◌, is_some}
+use Rattle.std.proofs.Common.{◌≡◌, ◌≢◌, ◌<◌, ◌≤◌, ℕ, List, ◌++◌, ◌∷◌, [], ◌∙◌, inl, inr, sym, ap, subst, rules, false, true, Option, None, Some, length, arith, refl, ◌||◌, is_some}
 use Rattle.std.proofs.lemmas.List.{length-map}
 use Rattle.hep_machine.specs.declared.event.Entry.{Entry}
-use Rattle.hep_machine.specs.Processes.{is_number_among, living}
-use Rattle.hep_machine.specs.Run.{run, schedule_of, state_after}
-use Rattle.hep_machine.specs.Schedules.{progress_after, progress_after_step}
-use Rattle.hep_machine.specs.State.{State}
-use Rattle.hep_machine.specs.Step.{is_waiting, step}
+use Rattle.hep_machine.specs.Words.{is_number_among, living, run, schedule_of, state_after, progress_after, progress_after_step, State, is_waiting, step}
 use Rattle.hep_blocked.specs.Waiting.{waiting_at}
 use Rattle.hep_listed.specs.Listing.{AreListed, IsBlocked, IsReadyNoMore, is_noted}
 use Rattle.hep_purging.specs.Purged.{have_cell}
 use Rattle.hep_ready.specs.Numbers.{Numbers}
 use Rattle.hep_state.specs.declared.turn.Turned.{Turned}
 use Rattle.hep_state.specs.declared.turn.Turned.TheVariants.{Stepped, Purged, Waits}
-use Rattle.hep_state.specs.Outcomes.{HasTurned}
-use Rattle.hep_state.specs.Rooms.{IsMachineAfter}
-use Rattle.hep_state.specs.Snapshots.{snapshot_of, stack_of}
-use Rattle.hep_state.specs.Unturned.{IsUnturned}
-use Rattle.hep_scheduler.specs.Invariant.{core_value}
+use Rattle.hep_state.specs.Words.{HasTurned, IsMachineAfter, snapshot_of, stack_of, IsUnturned}
+use Rattle.hep_scheduler.specs.Invariant.{CoreInvariant, core_value}
 use Rattle.hep_views.specs.Seen.{machine_view}
-use Rattle.hep_scheduler.specs.Value.{IsStop, stop_after}
+use Rattle.hep_scheduler.specs.Value.{IsStop, IsTurn, stop_after}
+use Rattle.hep_scheduler.specs.declared.stop.Stop.{Stop}
 use Rattle.hep_scheduler.specs.Waking.{AreInArena, awake_after, is_woken_after}
 use Rattle.hep_scheduler.specs.declared.stop.Stop.TheVariants.{ArenaFull, Halted}
 use Rattle.hep_scheduler.proofs.Histories.{state-is}
-use Rattle.hep_scheduler.proofs.Kept.{AreSeen, halted-is, halted-next, named-left, next, some-of, state-next, stepped-kept, steps-on, unturned-kept, unturned-view, view-left, view-next, waited-kept}
-use Rattle.hep_scheduler.proofs.Turning.{IsNoWait, along, along-emptying, as-many, blocked-now, emptied-to-lists, in-arena, made-step, no-memory, told-to-lists, waits-unstepped, within}
+use Rattle.hep_scheduler.proofs.Kept.{AreSeen, halted-is, halted-next, named-left, next, some-of, state-next, stepped-kept, steps-on, unturned-kept, unturned-view, view-is, view-next, waited-kept, IsNoWait, along, along-emptying, as-many, blocked-now, emptied-to-lists, in-arena, made-step, no-memory, told-to-lists, waits-unstepped, within}
 use Rattle.hep_scheduler.proofs.scheduler.Core.choose.Goals.{After-len, After-lives, After-turn, After-wait, After-wake_after}
 use Rattle.hep_scheduler.proofs.scheduler.Core.choose.Goals as goal
 use Rattle.hep_source.proofs.Tests.{none-from-not}
@@ -86,51 +78,55 @@ turn-requires-clause-countable c =
 
 -- ---- a turn that wasn't taken
 
+-- the core keeps its invariant, whatever it has stopped
+unturned : (c : After-turn) → IsMachineAfter c.self.inside.image c.self.inside.cells (schedule_of c.self.inside.history.items) c.turn.new.self
+    → (stop : Option Stop) → IsStop c.self.inside.image c.self.inside.cells c.self.inside.limit c.self.inside.history.items stop
+    → CoreInvariant (record c.self.inside { history = c.turn.new.history; stop = stop; machine = c.turn.new.self; ready = c.turn.new.ready })
+unturned c after =
+    let i = c.self.inside in
+    let k = c.self.invariant in
+    unturned-kept i k c.turn.new.history c.turn.new.self c.turn.new.ready c.turn.ensures.entries after c.turn.ensures.ready c.turn.ensures.numbers (omega (arith, k.waiting, c.turn.ensures.grows)) i.waits refl
+
+-- what is seen of it is what was seen, but for the stop
+unturned-value : (c : After-turn) → IsMachineAfter c.self.inside.image c.self.inside.cells (schedule_of c.self.inside.history.items) c.turn.new.self
+    → (stop : Option Stop) → record (core_value c.self.inside) { history = c.turn.new.history.items; stop = stop; view = machine_view c.self.inside.image (snapshot_of c.turn.new.self) }
+    ≡ record (core_value c.self.inside) { stop = stop }
+unturned-value c after stop =
+    let view = unturned-view c.self.inside c.self.invariant c.turn.new.self after (are-seen c) in
+    λ j. record (core_value c.self.inside) { history = c.turn.ensures.entries j; stop = stop; view = view j }
+
 pub invariant_of-self-in-Err-NoMemory : goal.invariant_of-self-in-Err-NoMemory
 invariant_of-self-in-Err-NoMemory c =
     let i = c.self.inside in
     let k = c.self.invariant in
-    let after = c.in-Err-NoMemory.ensures.refused i.cells (schedule_of i.history.items) k.after in
-    unturned-kept i k c.turn.new.history c.turn.new.self c.turn.new.ready c.turn.ensures.entries after c.turn.ensures.ready c.turn.ensures.numbers (omega (arith, k.waiting, c.turn.ensures.grows)) i.waits refl i.stop k.named
+    unturned (goal.at.invariant_of-self-in-Err-NoMemory c).After-turn (c.in-Err-NoMemory.ensures.refused i.cells (schedule_of i.history.items) k.after) i.stop k.named
 
 pub returns-in-Err-NoMemory : goal.returns-in-Err-NoMemory
 returns-in-Err-NoMemory c =
+    let at = goal.at.returns-in-Err-NoMemory c in
     let i = c.self.inside in
     let h = i.history.items in
-    let going = going-on (goal.at.returns-in-Err-NoMemory c).After-lives in
-    let alive = is-alive (goal.at.returns-in-Err-NoMemory c).After-len in
-    let lt = is-asked (goal.at.returns-in-Err-NoMemory c).After-turn in
-    let seen = are-seen (goal.at.returns-in-Err-NoMemory c).After-turn in
     let after = c.in-Err-NoMemory.ensures.refused i.cells (schedule_of h) c.self.invariant.after in
     let gapped = subst (λ e. IsUnturned e i.image i.cells (schedule_of h) c.args.p) c.in-Err-NoMemory.field-0-is (c.in-Err-NoMemory.ensures.unturned i.cells (schedule_of h) c.self.invariant.after) in
-    let view = unturned-view i c.self.invariant c.turn.new.history c.turn.new.self c.turn.new.ready c.turn.ensures.entries after c.turn.ensures.ready c.turn.ensures.numbers (omega (arith, c.self.invariant.waiting, c.turn.ensures.grows)) seen in
-    let value : record (core_value i) { history = c.turn.new.history.items; view = machine_view i.image (snapshot_of c.turn.new.self) } ≡ core_value i = λ j. record (core_value i) { history = c.turn.ensures.entries j; view = view j } in
-    rw (← c.self.view_is) (going, alive, lt, (λ gap. gapped gap.full), value)
+    rw (← c.self.view_is) (going-on at.After-lives, is-alive at.After-len, is-asked at.After-turn, (λ gap. gapped gap.full), unturned-value at.After-turn after i.stop)
 
 pub invariant_of-self-in-Err-ArenaFull : goal.invariant_of-self-in-Err-ArenaFull
 invariant_of-self-in-Err-ArenaFull c =
+    let at = goal.at.invariant_of-self-in-Err-ArenaFull c in
     let i = c.self.inside in
     let h = i.history.items in
-    let going = going-on (goal.at.invariant_of-self-in-Err-ArenaFull c).After-lives in
     let k = c.self.invariant in
-    let after = c.in-Err-ArenaFull.ensures.refused i.cells (schedule_of h) k.after in
     let gap = subst (λ e. IsUnturned e i.image i.cells (schedule_of h) c.args.p) c.in-Err-ArenaFull.field-0-is (c.in-Err-ArenaFull.ensures.unturned i.cells (schedule_of h) k.after) in
-    unturned-kept i k c.turn.new.history c.turn.new.self c.turn.new.ready c.turn.ensures.entries after c.turn.ensures.ready c.turn.ensures.numbers (omega (arith, k.waiting, c.turn.ensures.grows)) i.waits refl (Some ArenaFull) (going.1, (c.args.p, gap))
+    unturned at.After-turn (c.in-Err-ArenaFull.ensures.refused i.cells (schedule_of h) k.after) (Some ArenaFull) ((going-on at.After-lives).1, (c.args.p, gap))
 
 pub returns-in-Err-ArenaFull : goal.returns-in-Err-ArenaFull
 returns-in-Err-ArenaFull c =
+    let at = goal.at.returns-in-Err-ArenaFull c in
     let i = c.self.inside in
     let h = i.history.items in
-    let going = going-on (goal.at.returns-in-Err-ArenaFull c).After-lives in
-    let alive = is-alive (goal.at.returns-in-Err-ArenaFull c).After-len in
-    let lt = is-asked (goal.at.returns-in-Err-ArenaFull c).After-turn in
-    let seen = are-seen (goal.at.returns-in-Err-ArenaFull c).After-turn in
     let after = c.in-Err-ArenaFull.ensures.refused i.cells (schedule_of h) c.self.invariant.after in
     let gap = subst (λ e. IsUnturned e i.image i.cells (schedule_of h) c.args.p) c.in-Err-ArenaFull.field-0-is (c.in-Err-ArenaFull.ensures.unturned i.cells (schedule_of h) c.self.invariant.after) in
-    let view = unturned-view i c.self.invariant c.turn.new.history c.turn.new.self c.turn.new.ready c.turn.ensures.entries after c.turn.ensures.ready c.turn.ensures.numbers (omega (arith, c.self.invariant.waiting, c.turn.ensures.grows)) seen in
-    let value : record (core_value i) { history = c.turn.new.history.items; stop = Some ArenaFull; view = machine_view i.image (snapshot_of c.turn.new.self) } ≡ record (core_value i) { stop = Some ArenaFull } =
-    λ j. record (core_value i) { history = c.turn.ensures.entries j; stop = Some ArenaFull; view = view j } in
-    rw (← c.self.view_is) (inr (inr (going, alive, lt, gap, refl, value)))
+    rw (← c.self.view_is) (inr (inr (going-on at.After-lives, is-alive at.After-len, is-asked at.After-turn, gap, refl, unturned-value at.After-turn after (Some ArenaFull))))
 
 -- ---- a turn that made a step
 
@@ -203,64 +199,72 @@ lists-now c =
     lists-by c c.in-Ok.turned (no-wait c) (turned-now c) (subst (λ rs. (q : ℕ) → waiting_at c.wake_after.new.waits q ≡ awake_after c.in-Ok.turned rs (waiting_at c.self.inside.waits q)) same c.wake_after.ensures.waits)
     (subst (λ rs. (q : ℕ) → is_number_among q c.wake_after.new.ready.ready ≡ (is_woken_after c.in-Ok.turned rs c.self.inside.waits q || is_number_among q c.note_ready.new.ready.ready)) same c.wake_after.ensures.ready)
 
-pub invariant_of-self-then-self : goal.invariant_of-self-then-self
-invariant_of-self-then-self c =
-    let at = (goal.at.invariant_of-self-then-self c).After-wake_after in
+-- the state that the step leads to, and that the machine has stopped just where it has
+after-step : (c : After-wake_after) → State
+after-step c = next c.self.inside.image c.self.inside.cells c.self.inside.history.items c.args.p c.note-in_default-turned.new.history.items (entry-is c) (stepped-now c).0
+
+halted-after : (c : After-wake_after) → c.turn.new.self.halted ≡ (after-step c).halted
+unfolding after-step
+halted-after c =
+    let i = c.self.inside in
+    halted-next i.image i.cells i.history.items c.args.p c.note-in_default-turned.new.history.items (entry-is c) (stepped-now c).0 c.turn.new.self (stepped-now c).1
+
+halted-history : (c : After-wake_after) → (state_after c.self.inside.image c.note-in_default-turned.new.history.items).halted ≡ c.turn.new.self.halted
+unfolding after-step
+halted-history c =
+    let i = c.self.inside in
+    ap (λ (s : State). s.halted) (state-next i.image i.cells i.history.items c.args.p c.note-in_default-turned.new.history.items (entry-is c) (stepped-now c).0) ∙ sym (halted-after c)
+
+-- the core keeps its invariant, whatever it has stopped
+step-kept : (c : After-wake_after) → length c.self.inside.history.items < c.self.inside.limit
+    → (stop : Option Stop) → IsStop c.self.inside.image c.self.inside.cells c.self.inside.limit c.note-in_default-turned.new.history.items stop
+    → CoreInvariant (record c.self.inside { history = c.note-in_default-turned.new.history; stop = stop; machine = c.turn.new.self; waits = c.wake_after.new.waits; ready = c.wake_after.new.ready })
+step-kept c lt =
+    let done = stepped-now c in
+    stepped-kept c.self.inside c.self.invariant c.args.p lt c.note-in_default-turned.new.history (entry-is c) c.turn.new.self done.0 done.1 c.wake_after.new.waits c.wake_after.new.ready (lists-now c)
+    (omega (arith, c.turn.ensures.numbers, c.note_ready.ensures.room, c.wake_after.ensures.room))
+    (omega (arith, c.self.invariant.waiting, c.wake_after.ensures.size, c.turn.ensures.grows, c.note_ready.ensures.room, c.wake_after.ensures.room))
+
+-- the turn is one that made a step
+step-made : (c : After-wake_after) → AreSeen c.self.inside.image c.self.inside.cells → (stop : Option Stop) → stop ≡ stop_after (after-step c)
+    → IsTurn (core_value c.self.inside) c.args.p 1 false (record (core_value c.self.inside) {
+      history = c.note-in_default-turned.new.history.items;
+      stop = stop;
+      view = machine_view c.self.inside.image (snapshot_of c.turn.new.self);
+    })
+unfolding after-step
+step-made c seen stop stops =
     let i = c.self.inside in
     let h = i.history.items in
-    let p = c.args.p in
-    let done = stepped-now at in
-    let lt = is-asked (goal.at.invariant_of-self-then-self c).After-turn in
-    stepped-kept i c.self.invariant p lt c.note-in_default-turned.new.history (entry-is at) c.turn.new.self done.0 done.1 c.wake_after.new.waits c.wake_after.new.ready (lists-now at)
-    (omega (arith, c.turn.ensures.numbers, c.note_ready.ensures.room, c.wake_after.ensures.room)) (omega (arith, c.self.invariant.waiting, c.wake_after.ensures.size, c.turn.ensures.grows, c.note_ready.ensures.room, c.wake_after.ensures.room)) (Some Halted)
-    (ap (λ (s : State). s.halted) (state-next i.image i.cells h p c.note-in_default-turned.new.history.items (entry-is at) done.0) ∙ sym (halted-next i.image i.cells h p c.note-in_default-turned.new.history.items (entry-is at) done.0 c.turn.new.self done.1) ∙ c.if-self.true)
+    let is = entry-is c in
+    let done = stepped-now c in
+    let view = view-next i.image i.cells h c.args.p c.note-in_default-turned.new.history.items is done.0 c.turn.new.self done.1 seen in
+    (after-step c, steps-on i.image i.cells h c.args.p c.note-in_default-turned.new.history.items is done.0, λ j. record (core_value i) { history = is j; stop = stops j; view = view j })
+
+pub invariant_of-self-then-self : goal.invariant_of-self-then-self
+invariant_of-self-then-self c =
+    let at = goal.at.invariant_of-self-then-self c in
+    step-kept at.After-wake_after (is-asked at.After-turn) (Some Halted) (halted-history at.After-wake_after ∙ c.if-self.true)
 
 pub invariant_of-self-else-self : goal.invariant_of-self-else-self
 invariant_of-self-else-self c =
-    let at = (goal.at.invariant_of-self-else-self c).After-wake_after in
+    let at = goal.at.invariant_of-self-else-self c in
     let i = c.self.inside in
-    let h = i.history.items in
-    let p = c.args.p in
-    let done = stepped-now at in
-    let going = going-on (goal.at.invariant_of-self-else-self c).After-lives in
-    let lt = is-asked (goal.at.invariant_of-self-else-self c).After-turn in
-    stepped-kept i c.self.invariant p lt c.note-in_default-turned.new.history (entry-is at) c.turn.new.self done.0 done.1 c.wake_after.new.waits c.wake_after.new.ready (lists-now at)
-    (omega (arith, c.turn.ensures.numbers, c.note_ready.ensures.room, c.wake_after.ensures.room)) (omega (arith, c.self.invariant.waiting, c.wake_after.ensures.size, c.turn.ensures.grows, c.note_ready.ensures.room, c.wake_after.ensures.room)) i.stop
-    (subst (IsStop i.image i.cells i.limit c.note-in_default-turned.new.history.items) (sym going.0) (ap (λ (s : State). s.halted) (state-next i.image i.cells h p c.note-in_default-turned.new.history.items (entry-is at) done.0) ∙ sym (halted-next i.image i.cells h p c.note-in_default-turned.new.history.items (entry-is at) done.0 c.turn.new.self done.1) ∙ c.if-self.false))
+    step-kept at.After-wake_after (is-asked at.After-turn) i.stop
+    (subst (IsStop i.image i.cells i.limit c.note-in_default-turned.new.history.items) (sym (going-on at.After-lives).0) (halted-history at.After-wake_after ∙ c.if-self.false))
 
 pub returns-then-self : goal.returns-then-self
 returns-then-self c =
-    let at = (goal.at.returns-then-self c).After-wake_after in
-    let i = c.self.inside in
-    let h = i.history.items in
-    let p = c.args.p in
-    let is = entry-is at in
-    let done = stepped-now at in
-    let lt = is-asked (goal.at.returns-then-self c).After-turn in
-    let going = going-on (goal.at.returns-then-self c).After-lives in
-    let s = next i.image i.cells h p c.note-in_default-turned.new.history.items is done.0 in
-    let halted : s.halted ≡ true = sym (halted-next i.image i.cells h p c.note-in_default-turned.new.history.items is done.0 c.turn.new.self done.1) ∙ c.if-self.true in
-    let stop : Some Halted ≡ stop_after s = rw halted refl in
-    let seen = are-seen (goal.at.returns-then-self c).After-turn in
-    let view = view-next i.image i.cells h p c.note-in_default-turned.new.history.items is done.0 c.turn.new.self done.1 seen in
-    rw (← c.self.view_is) (going, lt, (s, steps-on i.image i.cells h p c.note-in_default-turned.new.history.items is done.0, λ j. record (core_value i) { history = is j; stop = stop j; view = view j }))
+    let at = goal.at.returns-then-self c in
+    let halted : (after-step at.After-wake_after).halted ≡ true = sym (halted-after at.After-wake_after) ∙ c.if-self.true in
+    rw (← c.self.view_is) (going-on at.After-lives, is-asked at.After-turn, step-made at.After-wake_after (are-seen at.After-turn) (Some Halted) (rw halted refl))
 
 pub returns-else-self : goal.returns-else-self
 returns-else-self c =
-    let at = (goal.at.returns-else-self c).After-wake_after in
-    let i = c.self.inside in
-    let h = i.history.items in
-    let p = c.args.p in
-    let is = entry-is at in
-    let done = stepped-now at in
-    let lt = is-asked (goal.at.returns-else-self c).After-turn in
-    let going = going-on (goal.at.returns-else-self c).After-lives in
-    let s = next i.image i.cells h p c.note-in_default-turned.new.history.items is done.0 in
-    let halted : s.halted ≡ false = sym (halted-next i.image i.cells h p c.note-in_default-turned.new.history.items is done.0 c.turn.new.self done.1) ∙ c.if-self.false in
-    let stop : i.stop ≡ stop_after s = going.0 ∙ rw halted refl in
-    let seen = are-seen (goal.at.returns-else-self c).After-turn in
-    let view = view-next i.image i.cells h p c.note-in_default-turned.new.history.items is done.0 c.turn.new.self done.1 seen in
-    rw (← c.self.view_is) (going, lt, (s, steps-on i.image i.cells h p c.note-in_default-turned.new.history.items is done.0, λ j. record (core_value i) { history = is j; stop = stop j; view = view j }))
+    let at = goal.at.returns-else-self c in
+    let going = going-on at.After-lives in
+    let halted : (after-step at.After-wake_after).halted ≡ false = sym (halted-after at.After-wake_after) ∙ c.if-self.false in
+    rw (← c.self.view_is) (going, is-asked at.After-turn, step-made at.After-wake_after (are-seen at.After-turn) c.self.inside.stop (going.0 ∙ rw halted refl))
 
 pub wake_after-requires-clause-few : goal.wake_after-requires-clause-few
 wake_after-requires-clause-few c =
@@ -294,19 +298,12 @@ invariant_of-self-in_err-wait-in-Waits c =
 pub returns-in_err-wait-in-Waits : goal.returns-in_err-wait-in-Waits
 returns-in_err-wait-in-Waits c =
     let i = c.self.inside in
-    let h = i.history.items in
-    let k = c.self.invariant in
     let done = waited-now (goal.at.returns-in_err-wait-in-Waits c).After-wait in
-    let same = c.in_err-wait-in-Waits.ensures.refused in
-    let going = going-on (goal.at.returns-in_err-wait-in-Waits c).After-lives in
-    let alive = is-alive (goal.at.returns-in_err-wait-in-Waits c).After-len in
-    let lt = is-asked (goal.at.returns-in_err-wait-in-Waits c).After-turn in
-    let seen = are-seen (goal.at.returns-in_err-wait-in-Waits c).After-turn in
-    let view = unturned-view i k c.turn.new.history c.turn.new.self c.wait.new.ready c.turn.ensures.entries done.1 (ap (λ (r : Numbers). r.ready) same.1 ∙ c.turn.ensures.ready) (omega (arith, c.turn.ensures.numbers, c.wait.ensures.room))
-    (omega (arith, k.waiting, c.turn.ensures.grows, c.wait.ensures.room)) seen in
-    let value : record (core_value i) { history = c.turn.new.history.items; view = machine_view i.image (snapshot_of c.turn.new.self) } ≡ core_value i = λ j. record (core_value i) { history = c.turn.ensures.entries j; view = view j } in
-    let unstepped = waits-unstepped i.image c.args.p (run i.image (schedule_of h)) done.0.wanted done.0.waits in
-    rw (← c.self.view_is) (no-memory (core_value i) c.args.p c.from_residual.result (record (core_value i) { history = c.turn.new.history.items; view = machine_view i.image (snapshot_of c.turn.new.self) }) c.from_residual.ensures.1 (going, alive, lt, (λ gap. gap.stepped unstepped), value))
+    let at = goal.at.returns-in_err-wait-in-Waits c in
+    let unstepped = waits-unstepped i.image c.args.p (run i.image (schedule_of i.history.items)) done.0.wanted done.0.waits in
+    rw (← c.self.view_is) (
+    no-memory (core_value i) c.args.p c.from_residual.result (record (core_value i) { history = c.turn.new.history.items; view = machine_view i.image (snapshot_of c.turn.new.self) }) c.from_residual.ensures.1
+    (going-on at.After-lives, is-alive at.After-len, is-asked at.After-turn, (λ gap. gap.stepped unstepped), unturned-value at.After-turn done.1 i.stop))
 
 pub invariant_of-self-in-Waits : goal.invariant_of-self-in-Waits
 invariant_of-self-in-Waits c =
@@ -343,5 +340,5 @@ returns-in_ok-wait-in-Waits c =
     let going = going-on (goal.at.returns-in_ok-wait-in-Waits c).After-lives in
     let stop : i.stop ≡ stop_after (state_after i.image h) = going.0 ∙ rw going.1 refl in
     let seen = are-seen (goal.at.returns-in_ok-wait-in-Waits c).After-turn in
-    let view = view-left i.image i.cells h p c.note.new.history.items is c.turn.new.self done.1 seen in
+    let view = view-is i.image i.cells h (snapshot_of c.turn.new.self) done.1.after seen in
     rw (← c.self.view_is) (going, lt, (ap (λ (s : State). is_waiting i.image s p) (state-is i.image h) ∙ (is-blocked at).1, λ j. record (core_value i) { history = is j; stop = stop j; view = view j }))

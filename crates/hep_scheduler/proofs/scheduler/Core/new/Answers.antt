@@ -1,13 +1,8 @@
 use Rattle.std.proofs.Common.{◌≡◌, ◌≤◌, ◌∙◌, ◌∷◌, ap, arith, length, sym, subst, []}
-use Rattle.hep_machine.specs.Histories.{IsLegal}
-use Rattle.hep_machine.specs.Layout.{is_held}
-use Rattle.hep_machine.specs.Run.{schedule_of, state_after}
-use Rattle.hep_machine.specs.Schedules.{progress_after}
-use Rattle.hep_machine.specs.Views.{view_of}
+use Rattle.hep_machine.specs.Words.{IsLegal, is_held, schedule_of, state_after, progress_after, view_of}
 use Rattle.hep_listed.specs.Listing.{AreListed}
 use Rattle.hep_ready.specs.Numbers.{with_number}
-use Rattle.hep_state.specs.Rooms.{IsMachineAfter}
-use Rattle.hep_state.specs.Snapshots.{snapshot_of}
+use Rattle.hep_state.specs.Words.{IsMachineAfter, snapshot_of}
 use Rattle.hep_views.specs.Seen.{machine_view}
 use Rattle.hep_scheduler.specs.Value.{opening_of}
 use Rattle.hep_scheduler.proofs.Histories.{legal-none, progress-none, schedule-none, single-none}

@@ -1,8 +1,6 @@
 use Rattle.std.proofs.Common.{◌∙◌, ap, sym}
-use Rattle.hep_machine.specs.Layout.{is_held, used_cells}
-use Rattle.hep_machine.specs.Run.{run, schedule_of}
-use Rattle.hep_frames.specs.Descriptors.{wanted_of}
-use Rattle.hep_frames.specs.Tree.{is_stacked}
+use Rattle.hep_machine.specs.Words.{is_held, used_cells, run, schedule_of}
+use Rattle.hep_frames.specs.Words.{wanted_of, is_stacked}
 use Rattle.hep_scheduler.proofs.Histories.{state-is}
 use Rattle.hep_scheduler.proofs.scheduler.Core.used.Goals as goal
 

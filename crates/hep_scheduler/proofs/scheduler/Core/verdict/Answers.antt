@@ -1,12 +1,8 @@
-use Rattle.std.proofs.Common.{◌≡◌, ◌≢◌, ℕ, suc, Bool, true, false, List, [], ◌∷◌, None, length, refl, sym, ap, ◌∙◌, subst, true≢false, rules, arith}
+use Rattle.std.proofs.Common.{◌≡◌, ◌≢◌, ℕ, true, false, List, [], ◌∷◌, None, length, refl, sym, ap, ◌∙◌, subst, true≢false, rules, arith, ◌==◌, not}
+use Rattle.std.proofs.lemmas.Bool.{and_parts}
 use Rattle.std.proofs.lemmas.Bool.Decides.{nat_tests}
-use Rattle.std.specs.Prelude.{◌==◌, ◌&&◌, not}
-use Rattle.hep_source.specs.Units.{Units}
+use Rattle.hep_machine.specs.Words.{Units, is_number_among, schedule_of, state_after, Progress, living_from, progress_after, ready_in, State}
 use Rattle.hep_machine.specs.declared.event.Entry.{Entry}
-use Rattle.hep_machine.specs.Processes.{is_number_among}
-use Rattle.hep_machine.specs.Run.{schedule_of, state_after}
-use Rattle.hep_machine.specs.Schedules.{Progress, living_from, progress_after, ready_in}
-use Rattle.hep_machine.specs.State.{State}
 use Rattle.hep_listed.specs.Listing.{AreListed}
 use Rattle.hep_listed.proofs.Members.{among-living, among-ready, none-among}
 use Rattle.hep_scheduler.specs.Value.{verdict_by}
@@ -19,9 +15,7 @@ use Rattle.hep_machine.proofs.Held.{among-head}
 
 no-members : (ns : List ℕ) → ((length ns == 0) ≡ true) → ns ≡ []
 no-members [] e = refl
-no-members (n ∷ ns) e = absurd (true≢false (sym e ∙ none (length ns))) where
-  none : (k : ℕ) → (suc k == 0) ≡ false
-  none k = grind (arith, nat_tests)
+no-members (n ∷ ns) e = absurd (grind (arith, nat_tests, e))
 
 some-member : (ns : List ℕ) → ((length ns == 0) ≡ false) → (q : ℕ) × (is_number_among q ns ≡ true)
 some-member [] e = absurd cc
@@ -42,10 +36,6 @@ waiting-still [] ready some none = absurd (some refl)
 waiting-still (p ∷ ps) [] some none = refl
 waiting-still (p ∷ ps) (q ∷ qs) some none = absurd cc
 
-second : (a b : Bool) → (a && b) ≡ true → b ≡ true
-second true b e = e
-second false b e = absurd cc
-
 module _ (program : Units) (cells : ℕ) (history : List Entry) (waits : _) (ready : List ℕ) (listed : AreListed program cells (schedule_of history) (progress_after program history) waits ready) where
   abbrev x : Progress
   x = progress_after program history
@@ -61,7 +51,7 @@ module _ (program : Units) (cells : ℕ) (history : List Entry) (waits : _) (rea
   runs-on e =
       let some = some-member ready e in
       let among : is_number_among some.0 (ready_in x) ≡ true = sym (listed.are_ready some.0) ∙ some.1 in
-      let lives = second (not (is_number_among some.0 x.listed)) _ (sym (among-ready x some.0) ∙ among) in
+      let lives = (and_parts (not (is_number_among some.0 x.listed)) _ (sym (among-ready x some.0) ∙ among)).1 in
       let there : is_number_among some.0 (living_from 1 x.state.processes) ≡ true = among-living x.state some.0 ∙ lives in
       running (living_from 1 (state_after program history).processes) (ready_in x) (subst (λ ns. ns ≢ []) lived (not-empty (living_from 1 x.state.processes) some.0 there)) (not-empty (ready_in x) some.0 among)
 

@@ -1,9 +1,5 @@
-use Rattle.std.proofs.Common.{◌≡◌, ℕ, suc, ◌-◌, ◌≤◌, Bool, true, length, Option, Some, None, sym, ap, ◌∙◌, subst, arith}
-use Rattle.std.specs.Prelude.{if◌then◌else◌, is_some}
-use Rattle.hep_machine.specs.Processes.{is_number_among}
-use Rattle.hep_machine.specs.Run.{run, schedule_of, state_after}
-use Rattle.hep_machine.specs.Schedules.{progress_after}
-use Rattle.hep_machine.specs.State.{State}
+use Rattle.std.proofs.Common.{◌≡◌, ℕ, suc, ◌-◌, ◌≤◌, Bool, true, length, Option, Some, None, sym, ap, ◌∙◌, subst, arith, if◌then◌else◌, is_some}
+use Rattle.hep_machine.specs.Words.{is_number_among, run, schedule_of, state_after, progress_after, State}
 use Rattle.hep_blocked.specs.declared.want.Want.{Want}
 use Rattle.hep_blocked.specs.Waiting.{waiting_at}
 use Rattle.hep_listed.proofs.Living.{living-within, waits-live}
@@ -13,8 +9,7 @@ use Rattle.hep_waiting.specs.Listed.{listed_by}
 use Rattle.hep_scheduler.specs.Invariant.{CoreInvariant}
 use Rattle.hep_scheduler.specs.Value.{listed_after}
 use Rattle.hep_scheduler.specs.declared.scheduler.Core.TheInside.{Inside}
-use Rattle.hep_scheduler.proofs.Following.{listed-first, none-listed}
-use Rattle.hep_scheduler.proofs.Histories.{state-is}
+use Rattle.hep_scheduler.proofs.Histories.{listed-first, none-listed, state-is}
 use Rattle.hep_scheduler.proofs.scheduler.Core.waiting_after.Goals as goal
 
 -- one that is listed

@@ -1,7 +1,6 @@
-use Rattle.std.proofs.Common.{◌≡◌, ℕ, ◌-◌, List, ◌∷◌, length, refl, sym, ap, ◌∙◌, subst, arith}
-use Rattle.std.specs.Prelude.{◌<◌, IfSome, Option, Some, None, vec_capacity}
-use Rattle.std.proofs.lemmas.List.{length-set}
-use Rattle.hep_source.specs.declared.value.Value.{Value}
+use Rattle.std.proofs.Common.{◌≡◌, ℕ, ◌-◌, List, ◌∷◌, length, refl, sym, ap, ◌∙◌, subst, arith, ◌<◌, IfSome, Option, Some, None, vec_capacity, length-set}
+use Rattle.std.proofs.lemmas.Result.{IfOk-weaker, on_err_weaker}
+use Rattle.hep_machine.specs.Words.{Value}
 use Rattle.hep_arena.specs.Holes.{IsOut}
 use Rattle.hep_proc.specs.Nodes.{nodes_of}
 use Rattle.hep_step.specs.Effects.{effect_at}
@@ -12,18 +11,12 @@ use Rattle.std.specs.Vec.{with_item}
 use Rattle.hep_state.specs.declared.machine.Level.{Level}
 use Rattle.hep_state.specs.declared.machine.Machine.{Machine}
 use Rattle.hep_state.specs.declared.machine.Process.{Process}
-use Rattle.hep_state.specs.Showing.{node_under}
-use Rattle.hep_state.specs.Snapshots.{Snapshot, snapshot_of, stack_of}
-use Rattle.hep_state.specs.Taking.{IsLeft, stack_with}
-use Rattle.hep_state.specs.Tops.{frame_under, top_after, with_contents, with_stack}
-use Rattle.hep_state.specs.Turns.{IsAfter}
-use Rattle.hep_state.proofs.Ended.{top-node}
-use Rattle.hep_state.proofs.Processes.{process-at, room-moved, stacks-set}
-use Rattle.hep_state.proofs.Settled.{turning}
-use Rattle.hep_state.proofs.Stacked.{last-there}
-use Rattle.hep_state.proofs.Taken.{ahead-simulated, alike, inside, left-over, ready, unperformed, with_performed}
-use Rattle.hep_state.proofs.Touching.{touches-only}
-use Rattle.hep_state.proofs.Unchanged.{err-then, if-ok, rooms-set}
+use Rattle.hep_state.specs.Words.{node_under, Snapshot, snapshot_of, stack_of, IsLeft, stack_with, frame_under, top_after, with_contents, with_stack, IsAfter}
+use Rattle.hep_state.proofs.Moved.{top-node}
+use Rattle.hep_state.proofs.Processes.{process-at, room-moved, stacks-set, last-there}
+use Rattle.hep_state.proofs.Tops.{turning}
+use Rattle.hep_state.proofs.Taken.{ahead-simulated, alike, inside, left-over, ready, unperformed, with_performed, touches-only}
+use Rattle.hep_state.proofs.Unchanged.{rooms-set}
 use Rattle.hep_state.proofs.machine.Machine.advance.Goals as goal
 
 pub advance-requires : goal.advance-requires
@@ -39,18 +32,18 @@ advance-requires c =
     let laws = c.tops_are_running.ensures in
     let accepted = c.is_runnable.ensures.accepted in
     let main = c.is_runnable.ensures.main in
-    let it = process-at c.args.self.now.processes.items p (stack_with e.l e.ls e.operands) q e.there c.index_mut-process.ensures.value in
-    let turn = turning program cells choices m p h.after e.l e.ls e.operands c.requires.running e.there in
+    let it = process-at c.args.self.now.processes.items p e.there c.index_mut-process.ensures.value in
+    let turn = turning p h.after e.l e.ls e.operands c.requires.running e.there in
     let runs = laws.running program cells choices m p e.l e.ls e.operands turn.0 accepted main turn.1 in
     record {
       l = e.l;
       ls = e.ls;
       operands = e.operands;
       stack = it.stack;
-      inside = inside program cells choices m p e.l e.ls e.operands turn.0 turn.1;
-      there = top-node program cells choices m p e.l e.ls e.operands turn.0 turn.1;
+      inside = inside turn.1;
+      there = top-node turn.1;
       ready =
-          ready program cells choices m p e.l e.ls e.operands turn.0 turn.1 runs (vec_capacity q.operands) (laws.arrays program cells choices m p e.l e.ls e.operands turn.0 accepted main turn.1) h.few
+          ready turn.1 runs (vec_capacity q.operands) (laws.arrays program cells choices m p e.l e.ls e.operands turn.0 accepted main turn.1) h.few
           (h.room (p - 1) q it.there _ e.l (last-there q e.l e.ls e.operands it.stack));
     }
 
@@ -82,38 +75,38 @@ returns c =
     let law = c.tops_are_running.ensures.running in
     let accepted = c.is_runnable.ensures.accepted in
     let main = c.is_runnable.ensures.main in
-    let it = process-at old.processes.items p (stack_with l ls vs) q e.there c.index_mut-process.ensures.value in
+    let it = process-at old.processes.items p e.there c.index_mut-process.ensures.value in
     let a = done.advanced l ls vs it.stack in
     let k = stack_with (record l { index = a.next }) ls a.left in
     let after = performed.snapshot c.advance.new.frames.arena.contents a.left a.next in
     let ahead = effect_at (unit_code program l.unit) (unit_arrays program l.unit) (node_under m.nodes l.key).first m.arena.contents vs l.index in
     let shown = shown-now old p r c.advance.new.frames l ls a.left a.next a.stack done.holes done.nodes in
     record {
-      left = if-ok c.advance.result a.performed (λ advanced is cells choices h.
-          let turn = turning program cells choices m p h.after l ls vs c.requires.running e.there in
-          let simulated = ahead-simulated program cells choices m p l ls vs turn.0 turn.1 (law program cells choices m p l ls vs turn.0 accepted main turn.1) e.past e.plain in
-          subst (λ (n : Snapshot). IsLeft program cells choices p n advanced.effect) (sym shown) (left-over program cells choices m p l ls vs turn.0 turn.1 ahead advanced.effect after simulated done.cells is));
-      touched = if-ok c.advance.result done.touched (λ advanced is cells choices h.
-          let turn = turning program cells choices m p h.after l ls vs c.requires.running e.there in
+      left = IfOk-weaker c.advance.result _ _ (λ advanced is cells choices h.
+          let turn = turning p h.after l ls vs c.requires.running e.there in
+          let simulated = ahead-simulated turn.1 (law program cells choices m p l ls vs turn.0 accepted main turn.1) e.past e.plain in
+          subst (λ (n : Snapshot). IsLeft program cells choices p n advanced.effect) (sym shown) (left-over turn.1 ahead advanced.effect after simulated done.cells is)) a.performed;
+      touched = IfOk-weaker c.advance.result _ _ (λ advanced is cells choices h.
+          let turn = turning p h.after l ls vs c.requires.running e.there in
           let t = top_after program choices p turn.0 in
           let f = frame_under m.nodes l.key in
           let layout = turn.1.after.layout in
-          touches-only program cells choices m p l ls vs turn.0 turn.1 (law program cells choices m p l ls vs turn.0 accepted main turn.1) e.past e.plain
+          touches-only turn.1 (law program cells choices m p l ls vs turn.0 accepted main turn.1) e.past e.plain
           (c.touched_units_are_in_touched_cells.ensures program t layout f m.arena.contents m.arena.holes vs l.index)
           (c.purges_stand_ahead.ensures program t layout f m.arena.contents m.arena.holes vs l.index)
-          advanced.touched (is l ls vs it.stack));
-      state = if-ok c.advance.result a.performed (λ advanced is cells choices h.
-          let turn = turning program cells choices m p h.after l ls vs c.requires.running e.there in
-          let simulated = ahead-simulated program cells choices m p l ls vs turn.0 turn.1 (law program cells choices m p l ls vs turn.0 accepted main turn.1) e.past e.plain in
-          alike program cells choices m p l ls vs turn.0 turn.1 ahead advanced.effect after simulated is advanced.touched);
-      inside = if-ok c.advance.result done.inside (λ advanced inside. within advanced.touched inside done.cells);
-      out = if-ok c.advance.result done.out (λ advanced out. subst (λ holes. IfSome advanced.touched (λ cell. IsOut cell holes)) (sym done.holes) out);
+          advanced.touched (is l ls vs it.stack)) done.touched;
+      state = IfOk-weaker c.advance.result _ _ (λ advanced is cells choices h.
+          let turn = turning p h.after l ls vs c.requires.running e.there in
+          let simulated = ahead-simulated turn.1 (law program cells choices m p l ls vs turn.0 accepted main turn.1) e.past e.plain in
+          alike turn.1 ahead advanced.effect after simulated is advanced.touched) a.performed;
+      inside = IfOk-weaker c.advance.result _ _ (λ advanced inside. within advanced.touched inside done.cells) done.inside;
+      out = IfOk-weaker c.advance.result _ _ (λ advanced out. subst (λ holes. IfSome advanced.touched (λ cell. IsOut cell holes)) (sym done.holes) out) done.out;
       cells = done.cells;
-      refused = err-then c.advance.result a.refused (λ is cells choices h.
-          let turn = turning program cells choices m p h l ls vs c.requires.running e.there in
-          let same = shown ∙ (ap (with_performed program cells choices m p l ls vs turn.0 turn.1) is ∙ unperformed program cells choices m p l ls vs turn.0 turn.1) in
-          subst (IsAfter program cells choices) (sym same) h);
-      same = err-then c.advance.result a.refused (λ is. record {
+      refused = on_err_weaker c.advance.result (λ is cells choices h.
+          let turn = turning p h l ls vs c.requires.running e.there in
+          let same = shown ∙ (ap (with_performed turn.1) is ∙ unperformed turn.1) in
+          subst (IsAfter program cells choices) (sym same) h) a.refused;
+      same = on_err_weaker c.advance.result (λ is. record {
         arena = λ i. record { contents = (is i).contents; holes = done.holes i };
         nodes = ap nodes_of done.nodes;
         processes = ap length (stacks-set old.processes.items p r k a.stack) ∙ length-set m.processes (p - 1) k;
@@ -121,7 +114,7 @@ returns c =
         records = refl;
         faults = refl;
         halted = refl;
-      });
+      }) a.refused;
       rooms = λ cells h. rooms-set program cells old _ (p - 1) r refl refl (room-moved program q r l a.next ls vs a.left it.stack a.stack done.capacity (h.room (p - 1) q it.there)) h;
       records = refl;
       faults = refl;

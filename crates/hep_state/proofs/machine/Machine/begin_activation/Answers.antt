@@ -1,13 +1,6 @@
 use Rattle.std.proofs.Common.{◌≡◌, ℕ, ◌+◌, ◌≤◌, Bool, List, length, Option, Some, refl, sym, ap, ◌∙◌, subst, arith}
-use Rattle.hep_source.specs.Units.{Units, unit_at}
-use Rattle.hep_machine.specs.Layout.{Layout, common_cells, frame_of, is_held, lowest_gap}
-use Rattle.hep_machine.specs.Run.{run}
-use Rattle.hep_machine.specs.Shapes.{Bounds}
-use Rattle.hep_machine.specs.State.{State}
-use Rattle.hep_machine.specs.Step.{scope_of, step}
-use Rattle.hep_machine.specs.Variables.{frame_cells}
-use Rattle.hep_frames.specs.Descriptors.{wanted_of}
-use Rattle.hep_frames.specs.Tree.{Node, Nodes, also, is_stacked, new_node, with_node}
+use Rattle.hep_machine.specs.Words.{Units, unit_at, Layout, common_cells, frame_of, is_held, lowest_gap, run, Bounds, State, scope_of, step, frame_cells}
+use Rattle.hep_frames.specs.Words.{wanted_of, Node, Nodes, also, is_stacked, new_node, with_node}
 use Rattle.slab.specs.Slab.{ContainsKey}
 use Rattle.hep_proc.specs.Nodes.{nodes_of}
 use Rattle.hep_proc.proofs.Slabs.{some-value}
@@ -16,25 +9,18 @@ use Rattle.hep_entering.specs.Calling.{AreAllKept, ArePassed, IsWritten, layout_
 use Rattle.hep_entering.specs.Shapes.{AreShaping, cells_of_shapes, cells_to_bounds_of, cells_to_locals}
 use Rattle.hep_entering.proofs.Nodes.{node-new}
 use Rattle.hep_state.specs.declared.machine.Level.{Level}
-use Rattle.hep_state.specs.Calls.{IsMaking, Makes, state_made}
-use Rattle.hep_state.specs.Showing.{node_under}
-use Rattle.hep_state.specs.Snapshots.{snapshot_of}
-use Rattle.hep_state.specs.Taking.{stack_with}
-use Rattle.hep_state.proofs.Ended.{kept-now, top-activation, top-node}
-use Rattle.hep_state.proofs.Advanced.{carry}
-use Rattle.hep_state.proofs.Made.{IsBegunIn, begun-kept, dummies-fit, made-begun, made-dummies, made-number, made-stacked, made-unit, of-made, passed-many, shapes-inside}
-use Rattle.hep_state.proofs.Processes.{process-at}
-use Rattle.hep_state.proofs.Stacked.{some-levels}
+use Rattle.hep_state.specs.Words.{IsMaking, Makes, state_made, node_under, snapshot_of}
+use Rattle.hep_state.proofs.Moved.{kept-now, top-activation, top-node}
+use Rattle.hep_state.proofs.Unchanged.{carry}
+use Rattle.hep_state.proofs.Begun.{IsBegunIn, begun-kept, made-begun, made-dummies, made-number, made-stacked, made-unit, of-made, passed-many, shapes-inside}
+use Rattle.hep_state.proofs.Processes.{process-at, some-levels-at}
 use Rattle.hep_state.proofs.machine.Machine.begin_activation.Goals.{After-begin-key}
 use Rattle.hep_state.proofs.machine.Machine.begin_activation.Goals as goal
 
 -- ---- the caller or creator
 
 pub top-parent-requires : goal.top-parent-requires
-top-parent-requires c =
-    let e = c.requires.making.5.making in
-    let it = process-at c.args.self.now.processes.items c.args.p (stack_with e.l e.ls e.operands) c.index.result.now e.turning.kept c.index.ensures in
-    some-levels c.index.result.now e.l e.ls e.operands it.stack
+top-parent-requires c = some-levels-at (process-at c.args.self.now.processes.items c.args.p c.requires.making.5.making.turning.kept c.index.ensures)
 
 pub begin-key-requires : goal.begin-key-requires
 begin-key-requires c =
@@ -46,16 +32,16 @@ begin-key-requires c =
     let layout = e.turning.after.layout in
     let shows = e.turning.after.shows in
     let scope = scope_of r.1 s e.top.0.activation in
-    let it = process-at c.args.self.now.processes.items c.args.p (stack_with e.l e.ls e.operands) c.index.result.now e.turning.kept c.index.ensures in
+    let it = process-at c.args.self.now.processes.items c.args.p e.turning.kept c.index.ensures in
     let same = c.top-parent.ensures e.l e.ls e.operands it.stack in
     let many = passed-many r.1 s layout scope e.actuals c.deref.result.now (subst (ArePassed r.1 s layout scope e.actuals) (sym c.deref.ensures.value) e.passed) in
     record {
       room = c.requires.node;
       few = c.requires.few;
-      many = omega (arith, many, e.passing.as_many, r.5.unit.cells_are, dummies-fit r.1 c.args.called.unit);
+      many = omega (arith, many, e.passing.as_many, r.5.unit.cells_are);
       gap = c.requires.gap;
-      there = subst (λ (l : Level). ContainsKey slab l.key) (sym same) (some-value slab e.l.key (node_under m.nodes e.l.key) (top-node r.1 r.2 r.3 m c.args.p e.l e.ls e.operands e.top e.turning));
-      kept = kept-now r.1 r.2 r.3 m c.args.p e.l e.ls e.operands e.top e.turning;
+      there = subst (λ (l : Level). ContainsKey slab l.key) (sym same) (some-value slab e.l.key (node_under m.nodes e.l.key) (top-node e.turning));
+      kept = kept-now e.turning;
       children = c.children_are_activations.ensures r.1 s (is_stacked s) (is_held s) layout (wanted_of r.1 s layout) m.arena m.nodes c.top-parent.result.key shows.keeps (omega (arith, c.requires.countable, shows.activations));
     }
 
@@ -79,7 +65,7 @@ module _ (c : After-begin-key) (creates : Bool) (program : Units) (cells : ℕ) 
 
   parent : c.top-parent.result.key ≡ e.l.key
   parent =
-      let it = process-at c.args.self.now.processes.items c.args.p (stack_with e.l e.ls e.operands) c.index.result.now e.turning.kept c.index.ensures in
+      let it = process-at c.args.self.now.processes.items c.args.p e.turning.kept c.index.ensures in
       ap (λ (l : Level). l.key) (c.top-parent.ensures e.l e.ls e.operands it.stack)
 
   number : c.args.self.now.activations + 1 ≡ n
@@ -99,9 +85,9 @@ module _ (c : After-begin-key) (creates : Bool) (program : Units) (cells : ℕ) 
       let key = c.begin-key.result in
       let h = e.turning in
       let begins = made-begun creates program choices p e.top u e.b in
-      let there = ap m.nodes parent ∙ top-node program cells choices m p e.l e.ls e.operands e.top h in
+      let there = ap m.nodes parent ∙ top-node h in
       let stored = of-made creates program choices p e.top u e.b (λ z. z.store ≡ e.b.store) refl refl in
-      let written = c.begin-key.ensures.written program choices p e.top u e.actuals e.b t layout (is_held s) (node_under m.nodes e.l.key) h.after.shows.keeps there (top-activation program cells choices m p e.l e.ls e.operands e.top h) e.passing passed begins stored number refl size in
+      let written = c.begin-key.ensures.written program choices p e.top u e.actuals e.b t layout (is_held s) (node_under m.nodes e.l.key) h.after.shows.keeps there (top-activation h) e.passing passed begins stored number refl size in
       let first = written.0 in
       let node = new_node (m.activations + 1) u first c.args.called.cells c.top-parent.result.key in
       let binding = c.dummies_are_bound.ensures.binding program choices p e.top u e.actuals e.b t layout first (length m.arena.contents) c.deref.result.now e.passing passed begins h.after.shows.keeps.memory.laid in
@@ -166,7 +152,6 @@ returns-clause-entered c creates program cells choices index makes =
     let e = makes.making in
     let p = c.args.p in
     let u = c.args.called.unit in
-    let m = snapshot_of c.args.self.now in
     let s = run program choices in
     let t = state_made creates program choices p e.top u e.b in
     let n = length t.activations in
@@ -188,5 +173,5 @@ returns-clause-entered c creates program cells choices index makes =
       kept = kept before creates program cells choices index makes n (made-stacked creates program choices p e.top u e.b h.lives);
       size = c.shape_all.ensures.cells ∙ (c.begin-key.ensures.cells ∙ h.after.size);
       vacant = c.begin-key.ensures.vacant;
-      nodes_are = c.shape_all.ensures.nodes ∙ (c.begin-key.ensures.nodes b.first b.fit ∙ (λ i. with_node m.nodes c.begin-key.result (new_node (act i) u b.first (big i) (above i)) (above i)));
+      nodes_are = c.shape_all.ensures.nodes ∙ (c.begin-key.ensures.nodes b.first b.fit ∙ (λ i. with_node (snapshot_of c.args.self.now).nodes c.begin-key.result (new_node (act i) u b.first (big i) (above i)) (above i)));
     }

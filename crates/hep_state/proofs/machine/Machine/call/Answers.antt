@@ -1,20 +1,14 @@
-use Rattle.std.proofs.Common.{◌≡◌, ◌-◌, ◌≤◌, [], ◌∷◌, length, map, false, refl, sym, ap, ◌∙◌, subst, arith}
-use Rattle.std.specs.Prelude.{slice_get, vec_capacity}
+use Rattle.std.proofs.Common.{◌≡◌, ◌-◌, ◌≤◌, [], ◌∷◌, length, map, false, refl, sym, ap, ◌∙◌, subst, arith, slice_get, vec_capacity, length-set}
 use Rattle.std.specs.Vec.{with_item}
-use Rattle.std.proofs.lemmas.List.{length-set}
-use Rattle.hep_machine.specs.Processes.{with_numbered}
-use Rattle.hep_code.specs.Depths.{deepest}
+use Rattle.hep_machine.specs.Words.{with_numbered}
+use Rattle.hep_code.specs.Words.{deepest}
 use Rattle.hep_proc.specs.Nodes.{nodes_of}
 use Rattle.hep_step.specs.Simulation.{unit_code}
 use Rattle.hep_state.specs.declared.machine.Level.{Level}
 use Rattle.hep_state.specs.declared.machine.Machine.{Machine}
-use Rattle.hep_state.specs.Calls.{entered_level, snapshot_called}
-use Rattle.hep_state.specs.Snapshots.{Stack, snapshot_of, stack_of}
-use Rattle.hep_state.specs.Taking.{stack_with}
-use Rattle.hep_state.specs.Turns.{HasStepped}
+use Rattle.hep_state.specs.Words.{entered_level, snapshot_called, Stack, snapshot_of, stack_of, HasStepped}
 use Rattle.hep_state.proofs.Begun.{called-shown}
-use Rattle.hep_state.proofs.Processes.{process-still, room-more, stacks-set}
-use Rattle.hep_state.proofs.Stacked.{some-levels}
+use Rattle.hep_state.proofs.Processes.{process-still, room-more, stacks-set, some-levels-at}
 use Rattle.hep_state.proofs.Unchanged.{rooms-begun, rooms-set}
 use Rattle.hep_state.proofs.machine.Machine.call.Goals as goal
 
@@ -23,11 +17,9 @@ begin_activation-level-requires-clause-making c = let r = c.requires.calling in 
 
 pub put_above-requires : goal.put_above-requires
 put_above-requires c =
-    let e = c.requires.calling.3.making in
-    let q = c.index_mut.result.now in
     let same = ap (λ (m : Machine). m.processes.items) c.begin_activation-level.ensures.others in
-    let it = process-still c.args.self.now.processes.items c.begin_activation-level.new.self.processes.items c.args.p (stack_with e.l e.ls e.operands) q same e.turning.kept c.index_mut.ensures.value in
-    record { some = some-levels q e.l e.ls e.operands it.stack; room = c.requires.level q (ap (λ qs. slice_get qs (c.args.p - 1)) (sym same) ∙ it.there) }
+    let it = process-still c.args.self.now.processes.items c.begin_activation-level.new.self.processes.items c.args.p same c.requires.calling.3.making.turning.kept c.index_mut.ensures.value in
+    record { some = some-levels-at it; room = c.requires.level c.index_mut.result.now (ap (λ qs. slice_get qs (c.args.p - 1)) (sym same) ∙ it.there) }
 
 pub returns : goal.returns
 returns c =
@@ -46,17 +38,17 @@ returns c =
     record {
       stepped = λ program cells choices makes.
           let e = makes.making in
-          let it = process-still old.processes.items new.processes.items p (stack_with e.l e.ls e.operands) q same e.turning.kept c.index_mut.ensures.value in
+          let it = process-still old.processes.items new.processes.items p same e.turning.kept c.index_mut.ensures.value in
           let k : Stack = record { levels = entered_level program u level.key ∷ (record e.l { index = c.args.index } ∷ e.ls); operands = [] } in
           let entered : level ≡ entered_level program u level.key = begun.level ∙ (λ i. record { key = level.key; unit = u; index = makes.unit.entry_is i }) in
           let stack = c.put_above.ensures.stack e.l e.ls e.operands it.stack ∙ (λ i. record { levels = entered i ∷ (record e.l { index = c.args.index } ∷ e.ls); operands = [] }) in
           let stacks = stacks-set new.processes.items p r k stack ∙ ap (λ qs. with_numbered (map stack_of qs) p k) same in
           let shown = ap (λ (n : Machine). snapshot_of (record n { processes = with_item new.processes (p - 1) r })) begun.others ∙ (λ i. record (snapshot_called program m p e.l e.ls u level.key c.args.index arena nodes) { processes = stacks i }) in
           subst (HasStepped program cells choices p) (sym shown) (
-          called-shown program cells choices m p e.l e.ls e.operands e.top u e.b e.turning level.key c.args.index arena nodes (begun.entered false program cells choices c.args.index makes) e.after);
+          called-shown u e.b e.turning level.key c.args.index arena nodes (begun.entered false program cells choices c.args.index makes) e.after);
       rooms = λ program cells h deep.
           let e = c.requires.calling.3.making in
-          let it = process-still old.processes.items new.processes.items p (stack_with e.l e.ls e.operands) q same e.turning.kept c.index_mut.ensures.value in
+          let it = process-still old.processes.items new.processes.items p same e.turning.kept c.index_mut.ensures.value in
           let had = rooms-begun program cells old new begun.others h in
           let capacity = c.put_above.ensures.operands in
           let unit = ap (λ (l : Level). deepest (unit_code program l.unit)) begun.level in

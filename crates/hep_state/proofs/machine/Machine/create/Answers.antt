@@ -1,21 +1,15 @@
-use Rattle.std.proofs.Common.{◌≡◌, ◌+◌, ◌-◌, ◌≤◌, true, List, [], ◌∷◌, ◌++◌, length, map, reverse, sym, ap, ◌∙◌, subst, arith}
-use Rattle.std.specs.Prelude.{slice_get, slice_set, vec_capacity}
+use Rattle.std.proofs.Common.{◌≡◌, ◌+◌, ◌-◌, ◌≤◌, true, List, [], ◌∷◌, ◌++◌, length, map, reverse, sym, ap, ◌∙◌, subst, arith, slice_get, slice_set, vec_capacity}
 use Rattle.std.proofs.lemmas.List.{length-append, length-set, map-append}
-use Rattle.hep_machine.specs.Processes.{with_numbered}
-use Rattle.hep_code.specs.Depths.{deepest}
+use Rattle.hep_machine.specs.Words.{with_numbered}
+use Rattle.hep_code.specs.Words.{deepest}
 use Rattle.hep_proc.specs.Nodes.{nodes_of}
 use Rattle.hep_step.specs.Simulation.{unit_code}
 use Rattle.hep_state.specs.declared.machine.Level.{Level}
 use Rattle.hep_state.specs.declared.machine.Machine.{Machine}
 use Rattle.hep_state.specs.declared.machine.Process.{Process}
-use Rattle.hep_state.specs.Calls.{entered_level, snapshot_created}
-use Rattle.hep_state.specs.Rooms.{HasRoom}
-use Rattle.hep_state.specs.Snapshots.{Stack, snapshot_of, stack_of}
-use Rattle.hep_state.specs.Taking.{stack_with}
-use Rattle.hep_state.specs.Turns.{HasStepped}
+use Rattle.hep_state.specs.Words.{entered_level, snapshot_created, HasRoom, Stack, snapshot_of, stack_of, HasStepped}
 use Rattle.hep_state.proofs.Begun.{created-shown}
-use Rattle.hep_state.proofs.Processes.{all-more, all-set, process-still, room-alone, room-moved, stacks-set}
-use Rattle.hep_state.proofs.Stacked.{some-levels}
+use Rattle.hep_state.proofs.Processes.{all-more, all-set, process-still, room-alone, room-moved, stacks-set, some-levels-at}
 use Rattle.hep_state.proofs.Unchanged.{rooms-begun}
 use Rattle.hep_state.proofs.machine.Machine.create.Goals as goal
 
@@ -24,11 +18,8 @@ begin_activation-level-requires-clause-making c = let r = c.requires.creating in
 
 pub go_on-requires : goal.go_on-requires
 go_on-requires c =
-    let e = c.requires.creating.3.making in
-    let q = c.index_mut.result.now in
     let same = ap (λ (m : Machine). m.processes.items) c.begin_activation-level.ensures.others in
-    let it = process-still c.args.self.now.processes.items c.begin_activation-level.new.self.processes.items c.args.p (stack_with e.l e.ls e.operands) q same e.turning.kept c.index_mut.ensures.value in
-    some-levels q e.l e.ls e.operands it.stack
+    some-levels-at (process-still c.args.self.now.processes.items c.begin_activation-level.new.self.processes.items c.args.p same c.requires.creating.3.making.turning.kept c.index_mut.ensures.value)
 
 pub returns : goal.returns
 returns c =
@@ -49,7 +40,7 @@ returns c =
     record {
       stepped = λ program cells choices makes.
           let e = makes.making in
-          let it = process-still old.processes.items new.processes.items p (stack_with e.l e.ls e.operands) q same e.turning.kept c.index_mut.ensures.value in
+          let it = process-still old.processes.items new.processes.items p same e.turning.kept c.index_mut.ensures.value in
           let k : Stack = record { levels = record e.l { index = c.args.index } ∷ e.ls; operands = [] } in
           let own = stacks-set new.processes.items p r k (c.go_on.ensures.stack e.l e.ls e.operands it.stack) ∙ ap (λ qs. with_numbered (map stack_of qs) p k) same in
           let entered : level ≡ entered_level program u level.key = begun.level ∙ (λ i. record { key = level.key; unit = u; index = makes.unit.entry_is i }) in
@@ -57,10 +48,10 @@ returns c =
           let stacks = ap (map stack_of) c.append-2.ensures ∙ (map-append stack_of (slice_set new.processes.items (p - 1) r) (made ∷ []) ∙ (λ i. own i ++ fresh i ∷ [])) in
           let shown = ap (λ (n : Machine). snapshot_of (record n { processes = c.append-2.new.items })) begun.others ∙ (λ i. record (snapshot_created program m p e.l e.ls u level.key c.args.index arena nodes) { processes = stacks i }) in
           subst (HasStepped program cells choices p) (sym shown) (
-          created-shown program cells choices m p e.l e.ls e.operands e.top u e.b e.turning level.key c.args.index arena nodes (begun.entered true program cells choices c.args.index makes) e.after);
+          created-shown u e.b e.turning level.key c.args.index arena nodes (begun.entered true program cells choices c.args.index makes) e.after);
       rooms = λ program cells h deep.
           let e = c.requires.creating.3.making in
-          let it = process-still old.processes.items new.processes.items p (stack_with e.l e.ls e.operands) q same e.turning.kept c.index_mut.ensures.value in
+          let it = process-still old.processes.items new.processes.items p same e.turning.kept c.index_mut.ensures.value in
           let had = rooms-begun program cells old new begun.others h in
           let others = all-set (HasRoom program) new.processes.items (p - 1) r had.room (room-moved program q r e.l c.args.index e.ls e.operands [] it.stack (c.go_on.ensures.stack e.l e.ls e.operands it.stack) (omega (arith, c.go_on.ensures.operands)) (had.room (p - 1) q it.there)) in
           let unit = ap (λ (l : Level). deepest (unit_code program l.unit)) begun.level in

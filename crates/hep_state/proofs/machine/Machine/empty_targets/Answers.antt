@@ -1,30 +1,24 @@
 use Rattle.std.proofs.Common.{[], ◌-◌, refl, ap, ◌∙◌, arith}
 use Rattle.hep_purging.specs.Purged.{purged}
-use Rattle.hep_state.specs.Snapshots.{snapshot_of}
-use Rattle.hep_state.specs.Taking.{stack_with}
-use Rattle.hep_state.proofs.Processes.{process-at, room-moved, stacks-set}
-use Rattle.hep_state.proofs.Stacked.{some-levels}
+use Rattle.hep_state.specs.Words.{snapshot_of, stack_with}
+use Rattle.hep_state.proofs.Processes.{process-at, room-moved, stacks-set, some-levels-at}
 use Rattle.hep_state.proofs.Unchanged.{rooms-set}
 use Rattle.hep_state.proofs.machine.Machine.empty_targets.Goals as goal
 
 pub go_on-requires : goal.go_on-requires
-go_on-requires c =
-    let e = c.requires.living in
-    let it = process-at c.args.self.now.processes.items c.args.p (stack_with e.0 e.1 e.2) c.index_mut.result.now e.3 c.index_mut.ensures.value in
-    some-levels c.index_mut.result.now e.0 e.1 e.2 it.stack
+go_on-requires c = some-levels-at (process-at c.args.self.now.processes.items c.args.p c.requires.living.3 c.index_mut.ensures.value)
 
 pub returns-clause-moved : goal.returns-clause-moved
 returns-clause-moved c l ls vs there =
-    let m = snapshot_of c.args.self.now in
-    let it = process-at c.args.self.now.processes.items c.args.p (stack_with l ls vs) c.index_mut.result.now there c.index_mut.ensures.value in
+    let it = process-at c.args.self.now.processes.items c.args.p there c.index_mut.ensures.value in
     let stacks = stacks-set c.args.self.now.processes.items c.args.p c.go_on.new.process (stack_with (record l { index = c.args.index }) ls []) (c.go_on.ensures.stack l ls vs it.stack) in
     let contents = c.purge.ensures.contents ∙ ap (λ rs. purged rs c.args.self.now.frames.arena.contents) c.deref.ensures.value in
-    λ i. record m { arena = record { contents = contents i; holes = c.purge.ensures.holes i }; processes = stacks i }
+    λ i. record (snapshot_of c.args.self.now) { arena = record { contents = contents i; holes = c.purge.ensures.holes i }; processes = stacks i }
 
 pub returns-clause-rooms : goal.returns-clause-rooms
 returns-clause-rooms c program cells h =
     let e = c.requires.living in
     let q = c.index_mut.result.now in
-    let it = process-at c.args.self.now.processes.items c.args.p (stack_with e.0 e.1 e.2) q e.3 c.index_mut.ensures.value in
+    let it = process-at c.args.self.now.processes.items c.args.p e.3 c.index_mut.ensures.value in
     rooms-set program cells c.args.self.now _ (c.args.p - 1) c.go_on.new.process refl refl (
     room-moved program q c.go_on.new.process e.0 c.args.index e.1 e.2 [] it.stack (c.go_on.ensures.stack e.0 e.1 e.2 it.stack) (omega (arith, c.go_on.ensures.operands)) (h.room (c.args.p - 1) q it.there)) h

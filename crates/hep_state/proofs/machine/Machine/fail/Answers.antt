@@ -1,35 +1,26 @@
 use Rattle.std.proofs.Common.{◌≡◌, ◌-◌, ◌∷◌, ◌++◌, List, [], reverse, refl, sym, ap, ◌∙◌, subst}
 use Rattle.hep_machine.specs.declared.event.Fault.{Fault}
-use Rattle.hep_machine.specs.Layout.{activations_on, is_held}
-use Rattle.hep_machine.specs.Run.{run}
+use Rattle.hep_machine.specs.Words.{activations_on, is_held, run}
 use Rattle.hep_proc.specs.Keeping.{CanAllLeave, CanLeave}
-use Rattle.hep_frames.specs.Tree.{is_stacked}
+use Rattle.hep_frames.specs.Words.{is_stacked}
 use Rattle.hep_proc.specs.Nodes.{nodes_of}
 use Rattle.hep_state.specs.declared.machine.Level.{Level}
 use Rattle.hep_state.specs.declared.machine.Process.{Process}
-use Rattle.hep_state.specs.Snapshots.{Stack, snapshot_of}
-use Rattle.hep_state.specs.Taking.{stack_with}
-use Rattle.hep_state.specs.Tops.{keys_of, snapshot_failed, state_failed}
-use Rattle.hep_state.specs.Turns.{HasStepped}
-use Rattle.hep_state.proofs.Ended.{can-all-leave, can-leave, failed-ended, failed-shown, lead-upwards}
-use Rattle.hep_state.proofs.Processes.{process-at, room-none, stacks-set}
-use Rattle.hep_state.proofs.Stacked.{some-levels}
+use Rattle.hep_state.specs.Words.{Stack, snapshot_of, keys_of, snapshot_failed, state_failed, HasStepped}
+use Rattle.hep_state.proofs.Moved.{can-all-leave, can-leave, failed-ended, failed-shown, lead-upwards}
+use Rattle.hep_state.proofs.Processes.{process-at, room-none, stacks-set, some-levels-at}
 use Rattle.hep_state.proofs.Unchanged.{rooms-set}
 use Rattle.hep_state.proofs.machine.Machine.fail.Goals as goal
 
 pub top-unit-requires : goal.top-unit-requires
-top-unit-requires c =
-    let e = c.requires.ending.3 in
-    let it = process-at c.args.self.now.processes.items c.args.p (stack_with e.l e.ls e.operands) c.index_mut-process.result.now e.turning.kept c.index_mut-process.ensures.value in
-    some-levels c.index_mut-process.result.now e.l e.ls e.operands it.stack
+top-unit-requires c = some-levels-at (process-at c.args.self.now.processes.items c.args.p c.requires.ending.3.turning.kept c.index_mut-process.ensures.value)
 
 pub leave_all-requires : goal.leave_all-requires
 leave_all-requires c =
-    let r = c.requires.ending in
-    let e = r.3 in
+    let e = c.requires.ending.3 in
     let m = snapshot_of c.args.self.now in
-    let it = process-at c.args.self.now.processes.items c.args.p (stack_with e.l e.ls e.operands) c.index_mut-process.result.now e.turning.kept c.index_mut-process.ensures.value in
-    subst (λ (ls : List Level). CanAllLeave m.arena m.nodes (keys_of ls)) (ap (λ (k : Stack). k.levels) (sym it.stack)) (can-all-leave r.0 r.1 r.2 m c.args.p e.l e.ls e.operands e.top e.turning)
+    let it = process-at c.args.self.now.processes.items c.args.p e.turning.kept c.index_mut-process.ensures.value in
+    subst (λ (ls : List Level). CanAllLeave m.arena m.nodes (keys_of ls)) (ap (λ (k : Stack). k.levels) (sym it.stack)) (can-all-leave e.turning)
 
 pub returns-clause-stepped : goal.returns-clause-stepped
 returns-clause-stepped c program cells choices e =
@@ -40,13 +31,13 @@ returns-clause-stepped c program cells choices e =
     let t = state_failed program choices p e.top kind in
     let arena = c.leave_all.new.frames.arena in
     let nodes = nodes_of c.leave_all.new.frames.nodes in
-    let it = process-at c.args.self.now.processes.items p (stack_with e.l e.ls e.operands) c.index_mut-process.result.now e.turning.kept c.index_mut-process.ensures.value in
+    let it = process-at c.args.self.now.processes.items p e.turning.kept c.index_mut-process.ensures.value in
     let same = c.top-unit.ensures e.l e.ls e.operands it.stack in
     let ends = activations_on (e.top.0 ∷ e.top.1) in
-    let can = subst (λ (ls : List Level). CanLeave m.nodes (is_stacked old) (keys_of ls) ends) (ap (λ (k : Stack). k.levels) (sym it.stack)) (can-leave program cells choices m p e.l e.ls e.operands e.top e.turning) in
+    let can = subst (λ (ls : List Level). CanLeave m.nodes (is_stacked old) (keys_of ls) ends) (ap (λ (k : Stack). k.levels) (sym it.stack)) (can-leave e.turning) in
     let left = c.leave_all.ensures.ended program old t (is_held old) e.turning.after.layout ends e.turning.after.shows.keeps can
-    (failed-ended program cells choices m p e.l e.ls e.operands e.top e.turning kind) (lead-upwards program choices t refl) in
-    let shown = failed-shown program cells choices m p e.l e.ls e.operands e.top e.turning arena nodes c.args.line kind left c.leave_all.ensures.cells e.simulated in
+    (failed-ended e.turning kind) (lead-upwards program choices t refl) in
+    let shown = failed-shown e.turning arena nodes c.args.line kind left c.leave_all.ensures.cells e.simulated in
     let none : ◌≡◌ {A = Stack} (record { levels = reverse c.leave_all.new.levels.items; operands = c.clear.new.self.items }) (record { levels = []; operands = [] }) = λ i. record { levels = reverse (c.leave_all.ensures.none i); operands = c.clear.ensures.items i } in
     let stacks = stacks-set c.args.self.now.processes.items p (record { levels = c.leave_all.new.levels; operands = c.clear.new.self }) (record { levels = []; operands = [] }) none in
     let fault : Level → Fault = λ l. record { process = p; unit = l.unit; line = c.args.line; kind = kind } in

@@ -1,39 +1,26 @@
 use Rattle.std.proofs.Common.{[], ◌-◌, refl, sym, ap, ◌∙◌, subst, arith}
 use Rattle.slab.specs.Slab.{ContainsKey}
-use Rattle.hep_machine.specs.Layout.{is_held}
-use Rattle.hep_machine.specs.Run.{run}
+use Rattle.hep_machine.specs.Words.{is_held, run}
 use Rattle.hep_proc.specs.Nodes.{nodes_of}
 use Rattle.hep_proc.proofs.Slabs.{some-value}
 use Rattle.hep_state.specs.declared.machine.Level.{Level}
-use Rattle.hep_state.specs.Showing.{node_under}
-use Rattle.hep_state.specs.Snapshots.{snapshot_of}
-use Rattle.hep_state.specs.Taking.{stack_with}
-use Rattle.hep_state.specs.Tops.{snapshot_returned, state_returned}
-use Rattle.hep_state.specs.Turns.{HasStepped}
-use Rattle.hep_state.proofs.Ended.{kept-now, lead-upwards, returned-ended, returned-shown, top-node}
-use Rattle.hep_state.proofs.Processes.{process-at, room-fewer, stacks-set}
-use Rattle.hep_state.proofs.Stacked.{some-levels}
+use Rattle.hep_state.specs.Words.{node_under, snapshot_of, snapshot_returned, state_returned, HasStepped}
+use Rattle.hep_state.proofs.Moved.{kept-now, lead-upwards, returned-ended, returned-shown, top-node}
+use Rattle.hep_state.proofs.Processes.{process-at, room-fewer, stacks-set, some-levels-at}
 use Rattle.hep_state.proofs.Unchanged.{rooms-set}
 use Rattle.hep_state.proofs.machine.Machine.finish.Goals as goal
 
 pub end_top-ended-requires : goal.end_top-ended-requires
-end_top-ended-requires c =
-    let e = c.requires.3 in
-    let it = process-at c.args.self.now.processes.items c.args.p (stack_with e.l e.ls e.operands) c.index_mut.result.now e.turning.kept c.index_mut.ensures.value in
-    some-levels c.index_mut.result.now e.l e.ls e.operands it.stack
+end_top-ended-requires c = some-levels-at (process-at c.args.self.now.processes.items c.args.p c.requires.3.turning.kept c.index_mut.ensures.value)
 
 pub leave-requires : goal.leave-requires
 leave-requires c =
-    let r = c.requires in
-    let e = r.3 in
-    let m = snapshot_of c.args.self.now in
+    let e = c.requires.3 in
     let slab = c.args.self.now.frames.nodes in
-    let it = process-at c.args.self.now.processes.items c.args.p (stack_with e.l e.ls e.operands) c.index_mut.result.now e.turning.kept c.index_mut.ensures.value in
-    let same = c.end_top-ended.ensures.level e.l e.ls e.operands it.stack in
-    let node = top-node r.0 r.1 r.2 m c.args.p e.l e.ls e.operands e.top e.turning in
+    let it = process-at c.args.self.now.processes.items c.args.p e.turning.kept c.index_mut.ensures.value in
     record {
-      there = subst (λ (l : Level). ContainsKey slab l.key) (sym same) (some-value slab e.l.key (node_under m.nodes e.l.key) node);
-      kept = kept-now r.0 r.1 r.2 m c.args.p e.l e.ls e.operands e.top e.turning;
+      there = subst (λ (l : Level). ContainsKey slab l.key) (sym (c.end_top-ended.ensures.level e.l e.ls e.operands it.stack)) (some-value slab e.l.key _ (top-node e.turning));
+      kept = kept-now e.turning;
     }
 
 pub returns-clause-stepped : goal.returns-clause-stepped
@@ -42,21 +29,20 @@ returns-clause-stepped c program cells choices e =
     let m = snapshot_of c.args.self.now in
     let arena = c.leave.new.self.arena in
     let nodes = nodes_of c.leave.new.self.nodes in
-    let it = process-at c.args.self.now.processes.items p (stack_with e.l e.ls e.operands) c.index_mut.result.now e.turning.kept c.index_mut.ensures.value in
+    let it = process-at c.args.self.now.processes.items p e.turning.kept c.index_mut.ensures.value in
     let same = c.end_top-ended.ensures.level e.l e.ls e.operands it.stack in
-    let there = ap (λ (l : Level). m.nodes l.key) same ∙ top-node program cells choices m p e.l e.ls e.operands e.top e.turning in
+    let there = ap (λ (l : Level). m.nodes l.key) same ∙ top-node e.turning in
     let left = c.leave.ensures.ended program (run program choices) (state_returned program choices p e.top) (is_held (run program choices)) e.turning.after.layout (node_under m.nodes e.l.key) e.turning.after.shows.keeps there
-    (returned-ended program cells choices m p e.l e.ls e.operands e.top e.turning) (lead-upwards program choices (state_returned program choices p e.top) refl) in
-    let shown = returned-shown program cells choices m p e.l e.ls e.operands e.top e.turning arena nodes left c.leave.ensures.cells e.simulated in
+    (returned-ended e.turning) (lead-upwards program choices (state_returned program choices p e.top) refl) in
+    let shown = returned-shown e.turning arena nodes left c.leave.ensures.cells e.simulated in
     let stacks = stacks-set c.args.self.now.processes.items p c.end_top-ended.new.self (record { levels = e.ls; operands = [] }) (c.end_top-ended.ensures.stack e.l e.ls e.operands it.stack) in
     subst (HasStepped program cells choices p) (λ i. record (snapshot_returned m p e.ls arena nodes) { processes = sym stacks i }) shown
 
 pub returns-clause-rooms : goal.returns-clause-rooms
 returns-clause-rooms c program cells h =
-    let e = c.requires.3 in
     let p = c.args.p in
     let q = c.index_mut.result.now in
     let r = c.end_top-ended.new.self in
-    let it = process-at c.args.self.now.processes.items p (stack_with e.l e.ls e.operands) q e.turning.kept c.index_mut.ensures.value in
+    let it = process-at c.args.self.now.processes.items p c.requires.3.turning.kept c.index_mut.ensures.value in
     rooms-set program cells c.args.self.now _ (p - 1) r refl refl (
     room-fewer program q r c.end_top-ended.result c.end_top-ended.ensures.fewer (omega (arith, c.end_top-ended.ensures.capacity)) (h.room (p - 1) q it.there)) h

@@ -1,12 +1,11 @@
-use Rattle.std.proofs.Common.{◌≡◌, ℕ, ◌-◌, ◌<◌, ◌≤◌, List, Some, length, map, get_or, not, sym, ap, ◌∙◌, arith}
-use Rattle.std.specs.Prelude.{is_some, slice_get, vec_len}
+use Rattle.std.proofs.Common.{◌≡◌, ℕ, ◌-◌, ◌<◌, ◌≤◌, List, Some, length, map, get_or, not, sym, ap, ◌∙◌, arith, is_some, slice_get, vec_len}
 use Rattle.std.proofs.lemmas.Bool.Decides.{nat_tests}
 use Rattle.std.proofs.lemmas.Option.{slice_get-get_or}
-use Rattle.hep_machine.specs.Processes.{numbered}
+use Rattle.hep_machine.specs.Words.{numbered}
 use Rattle.hep_state.specs.declared.machine.Process.{Process}
-use Rattle.hep_state.specs.Snapshots.{snapshot_of, stack_of}
+use Rattle.hep_state.specs.Words.{stack_of}
 use Rattle.hep_state.proofs.Processes.{levels-by, numbered-at, numbered-past, some-levels-of}
-use Rattle.hep_state.proofs.Settled.{lives-by, none-lives}
+use Rattle.hep_state.proofs.Tops.{lives-by, none-lives}
 use Rattle.hep_state.proofs.machine.Machine.lives.Goals.{After-is_empty}
 use Rattle.hep_state.proofs.machine.Machine.lives.Goals as goal
 
@@ -19,15 +18,14 @@ numbered-p : (c : After-is_empty) → numbered (map stack_of c.args.self.now.pro
 numbered-p c =
     let qs = c.args.self.now.processes.items in
     let q = c.in-Some.process.now in
-    let test = c.in-Some.ensures.lookup.0 in
-    let inside : c.args.p - 1 < length c.deref.result.now = grind (arith, nat_tests, test) in
+    let inside : c.args.p - 1 < length c.deref.result.now = grind (arith, nat_tests, c.in-Some.ensures.lookup.0) in
     numbered-at qs c.args.p q c.if-p-eq0.false (there c.deref.result.now qs (c.args.p - 1) q c.deref.ensures.value inside c.in-Some.ensures.lookup.1)
 
 pub returns-in-Some-clause-lives : goal.returns-in-Some-clause-lives
 returns-in-Some-clause-lives c program cells choices h =
     let q = c.in-Some.process.now in
     let at = numbered-p (goal.at.returns-in-Some-clause-lives c).After-is_empty in
-    ap not c.is_empty.ensures ∙ (sym (levels-by q.levels.items (vec_len q.levels) q.levels.ok.0) ∙ sym (lives-by program cells choices (snapshot_of c.args.self.now) c.args.p h (stack_of q) at))
+    ap not c.is_empty.ensures ∙ (sym (levels-by q.levels.items (vec_len q.levels) q.levels.ok.0) ∙ sym (lives-by c.args.p h (stack_of q) at))
 
 pub returns-in-Some-clause-levels : goal.returns-in-Some-clause-levels
 returns-in-Some-clause-levels c some =
@@ -37,8 +35,6 @@ returns-in-Some-clause-levels c some =
 
 pub returns-in-None-clause-lives : goal.returns-in-None-clause-lives
 returns-in-None-clause-lives c program cells choices h =
-    let qs = c.args.self.now.processes.items in
-    let test = c.in-None.ensures.lookup.0 in
-    let past : length c.deref.result.now ≤ c.args.p - 1 = grind (arith, nat_tests, test) in
-    let none = none-lives program cells choices (snapshot_of c.args.self.now) c.args.p h (numbered-past qs c.args.p c.if-p-eq0.false (omega (arith, past, ap length c.deref.ensures.value))) in
+    let past : length c.deref.result.now ≤ c.args.p - 1 = grind (arith, nat_tests, c.in-None.ensures.lookup.0) in
+    let none = none-lives c.args.p h (numbered-past c.args.self.now.processes.items c.args.p c.if-p-eq0.false (omega (arith, past, ap length c.deref.ensures.value))) in
     ap is_some (sym none)

@@ -1,15 +1,10 @@
 use Rattle.std.proofs.Common.{◌≡◌, [], ◌∷◌, ◌++◌, length, Some, sym, ap, ◌∙◌, subst, arith}
-use Rattle.hep_machine.specs.Processes.{numbered}
+use Rattle.hep_machine.specs.Words.{numbered}
 use Rattle.hep_purging.specs.Purged.{purged}
 use Rattle.hep_purging.specs.Ready.{AreReached}
 use Rattle.hep_step.specs.Effects.{fails}
 use Rattle.hep_state.specs.declared.machine.Passing.{Passing}
-use Rattle.hep_state.specs.Outcomes.{HasPurged}
-use Rattle.hep_state.specs.Rooms.{HasRoomToPass}
-use Rattle.hep_state.specs.Snapshots.{Snapshot, snapshot_of}
-use Rattle.hep_state.specs.Taking.{IsEnding, stack_with}
-use Rattle.hep_state.specs.Tops.{snapshot_moved}
-use Rattle.hep_state.specs.Turns.{HasStepped}
+use Rattle.hep_state.specs.Words.{HasPurged, HasRoomToPass, Snapshot, snapshot_of, IsEnding, stack_with, snapshot_moved, HasStepped}
 use Rattle.hep_state.proofs.Purging.{reached-alike}
 use Rattle.hep_state.proofs.Unchanged.{machine-of, rooms-of}
 use Rattle.hep_state.proofs.machine.Machine.purge.Goals as goal
@@ -46,13 +41,12 @@ returns-in-Err-clause-purged c cells choices h at =
     let program = c.args.image.now in
     let p = c.args.p in
     let old = c.args.self.now in
-    let m = snapshot_of old in
     let between = c.find_targets.new.self in
     let new = c.fail.new.self in
     let line = c.args.purge.line in
     let kind = c.in-Err.kind in
     let ends = c.in-Err.ensures.fault cells choices at in
-    let same : snapshot_of between ≡ m = ap snapshot_of c.in-Err.ensures.others in
+    let same : snapshot_of between ≡ snapshot_of old = ap snapshot_of c.in-Err.ensures.others in
     let stepped = c.fail.ensures.stepped program cells choices (subst (λ (n : Snapshot). IsEnding program cells choices p n (fails line kind)) (sym same) ends) in
     let had = c.in-Err.ensures.rooms cells (rooms-of program cells choices old h) in
     let to_pass : HasRoomToPass program (record between.passing { ranges = c.clear.new.self }) =
@@ -66,6 +60,6 @@ returns-in-Err-clause-purged c cells choices h at =
     let none = ap (λ (ps : Passing). ps.ranges.items) c.fail.ensures.passing ∙ c.clear.ensures.items in (
       stepped.stepped,
       machine-of program cells (choices ++ p ∷ []) new stepped.after rooms,
-      subst (HasPurged program cells choices p) (sym none) (c.purges_are_shown.ensures.nothing program cells choices m p line kind ends),
+      subst (HasPurged program cells choices p) (sym none) (c.purges_are_shown.ensures.nothing program cells choices (snapshot_of old) p line kind ends),
       subst (AreReached new.frames.arena) (sym none) tt,
     )

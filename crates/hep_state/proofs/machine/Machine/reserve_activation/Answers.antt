@@ -1,24 +1,18 @@
-use Rattle.std.proofs.Common.{◌-◌, ◌<◌, ◌≤◌, refl, subst}
-use Rattle.std.specs.Prelude.{Result, Ok, Err, OnOk, vec_len, vec_capacity}
+use Rattle.std.proofs.Common.{◌-◌, ◌<◌, ◌≤◌, refl, subst, vec_len, vec_capacity}
+use Rattle.std.proofs.lemmas.Result.{on_ok_weaker}
 use Rattle.hep_state.specs.declared.machine.Process.{Process}
-use Rattle.hep_state.specs.Snapshots.{snapshot_of}
-use Rattle.hep_state.specs.Taking.{stack_with}
-use Rattle.hep_state.proofs.Processes.{process-at}
-use Rattle.hep_state.proofs.Reserved.{room-reserved, set-there, stacks-same}
+use Rattle.hep_state.specs.Words.{snapshot_of}
+use Rattle.hep_state.proofs.Processes.{process-at, room-reserved, set-there, stacks-same}
 use Rattle.hep_state.proofs.Unchanged.{rooms-set}
 use Rattle.hep_state.proofs.machine.Machine.reserve_activation.Goals as goal
 
-of-ok : {A E P Q : Type 0} (r : Result A E) → OnOk r P → (P → Q) → OnOk r Q
-of-ok (Ok x) h f = f h
-of-ok (Err e) h f = tt
-
 pub returns-clause-level : goal.returns-clause-level
 returns-clause-level c =
-    of-ok c.reserve-3.result c.reserve-3.ensures.level (λ room q e. subst (λ (z : Process). vec_len z.levels < vec_capacity z.levels) (set-there c.args.self.now.processes.items (c.args.p - 1) c.reserve-3.new.self q e) room)
+    on_ok_weaker c.reserve-3.result (λ room q e. subst (λ (z : Process). vec_len z.levels < vec_capacity z.levels) (set-there c.args.self.now.processes.items (c.args.p - 1) c.reserve-3.new.self q e) room) c.reserve-3.ensures.level
 
 pub returns-clause-operands : goal.returns-clause-operands
 returns-clause-operands c =
-    of-ok c.reserve-3.result c.reserve-3.ensures.operands (λ room q e. subst (λ (z : Process). c.args.operands ≤ vec_capacity z.operands) (set-there c.args.self.now.processes.items (c.args.p - 1) c.reserve-3.new.self q e) room)
+    on_ok_weaker c.reserve-3.result (λ room q e. subst (λ (z : Process). c.args.operands ≤ vec_capacity z.operands) (set-there c.args.self.now.processes.items (c.args.p - 1) c.reserve-3.new.self q e) room) c.reserve-3.ensures.operands
 
 pub returns-clause-shown : goal.returns-clause-shown
 returns-clause-shown c =
@@ -30,6 +24,5 @@ pub returns-clause-rooms : goal.returns-clause-rooms
 returns-clause-rooms c program cells h =
     let m = c.args.self.now in
     let q = c.index_mut.result.now in
-    let e = c.requires in
-    let it = process-at m.processes.items c.args.p (stack_with e.0 e.1 e.2) q e.3 c.index_mut.ensures.value in
+    let it = process-at m.processes.items c.args.p c.requires.3 c.index_mut.ensures.value in
     rooms-set program cells m _ (c.args.p - 1) c.reserve-3.new.self refl refl (room-reserved program q c.reserve-3.new.self c.reserve-3.ensures.same.0 c.reserve-3.ensures.capacity (h.room (c.args.p - 1) q it.there)) h

@@ -1,35 +1,24 @@
-use Rattle.std.proofs.Common.{◌≡◌, ℕ, ◌-◌, ◌<◌, ◌≤◌, false, List, ◌∷◌, drop, length, Some, refl, sym, ap, ◌∙◌, subst, arith}
-use Rattle.std.specs.Prelude.{vec_capacity}
+use Rattle.std.proofs.Common.{◌≡◌, ℕ, ◌-◌, ◌<◌, ◌≤◌, false, List, ◌∷◌, drop, length, Some, refl, sym, ap, ◌∙◌, subst, arith, vec_capacity, length-set}
 use Rattle.std.specs.Vec.{with_item}
-use Rattle.std.proofs.lemmas.List.{length-set}
-use Rattle.hep_source.specs.declared.value.Value.{Value}
-use Rattle.hep_source.specs.Units.{Units}
-use Rattle.hep_machine.specs.Processes.{numbered}
+use Rattle.hep_machine.specs.Words.{Value, Units, numbered}
 use Rattle.hep_machine.specs.State.{Level as SourceLevel, Process as SourceProcess}
 use Rattle.hep_code.specs.declared.instruction.Instruction.{Instruction}
 use Rattle.hep_code.specs.declared.instruction.Instruction.TheVariants.{Step}
 use Rattle.hep_code.specs.declared.instruction.Operation.{Operation}
 use Rattle.hep_code.specs.declared.instruction.Operation.TheVariants.{Call, Create, Purge}
-use Rattle.hep_code.specs.Ahead.{IsPastPushes, values_ahead}
-use Rattle.hep_code.specs.Depths.{deepest}
+use Rattle.hep_code.specs.Words.{IsPastPushes, values_ahead, deepest}
 use Rattle.hep_step.specs.Simulation.{IsNotLeftOut, is_left_out, unit_code}
 use Rattle.hep_state.specs.declared.machine.Level.{Level}
 use Rattle.hep_state.specs.declared.upcoming.StepAhead.{StepAhead}
 use Rattle.hep_state.specs.declared.upcoming.StepAhead.TheVariants as ahead
 use Rattle.hep_state.specs.declared.machine.Machine.{Machine}
-use Rattle.hep_state.specs.CallsAhead.{HasNone, IsAhead, IsInFront}
-use Rattle.hep_state.specs.Rooms.{IsMachineAfter}
-use Rattle.hep_state.specs.Snapshots.{Snapshot, Stack, snapshot_of}
-use Rattle.hep_state.specs.Taking.{stack_with}
-use Rattle.hep_state.specs.Tops.{IsTurning, with_stack}
-use Rattle.hep_state.specs.Turns.{IsAfter}
-use Rattle.hep_state.proofs.Processes.{process-at, room-moved, stacks-set}
-use Rattle.hep_state.proofs.Settled.{settled, turning}
-use Rattle.hep_state.proofs.Stacked.{last-there, some-levels}
+use Rattle.hep_state.specs.Words.{HasNone, IsAhead, IsInFront, IsMachineAfter, Snapshot, Stack, snapshot_of, stack_with, IsTurning, with_stack, IsAfter}
+use Rattle.hep_state.proofs.Processes.{process-at, room-moved, stacks-set, last-there, some-levels, some-levels-at}
+use Rattle.hep_state.proofs.Tops.{settled, turning}
 use Rattle.hep_state.proofs.Taken.{inside, room-ahead}
 use Rattle.hep_state.proofs.Unchanged.{machine-of, rooms-of, rooms-set}
 use Rattle.hep_state.proofs.machine.Machine.step_ahead.Goals as goal
-use Rattle.hep_entering.proofs.Rest.{set-numbered}
+use Rattle.hep_entering.proofs.Calls.{set-numbered}
 
 -- where none of them stands
 none-left-out : (code : List Instruction) (index : ℕ) → HasNone (drop index code) → IsNotLeftOut code index
@@ -41,19 +30,14 @@ none-left-out code index none line o behind ahead = by_operation o (subst HasNon
   by_operation _ h = refl
 
 pub top-unit-requires : goal.top-unit-requires
-top-unit-requires c =
-    let e = c.requires.living in
-    let it = process-at c.args.self.now.processes.items c.args.p (stack_with e.0 e.1 e.2) c.index_mut-process.result.now e.3 c.index_mut-process.ensures.value in
-    some-levels c.index_mut-process.result.now e.0 e.1 e.2 it.stack
+top-unit-requires c = some-levels-at (process-at c.args.self.now.processes.items c.args.p c.requires.living.3 c.index_mut-process.ensures.value)
 
 pub unit-requires : goal.unit-requires
 unit-requires c =
-    let program = c.args.image.now in
     let e = c.requires.living in
-    let h = c.requires.after in
-    let it = process-at c.args.self.now.processes.items c.args.p (stack_with e.0 e.1 e.2) c.index_mut-process.result.now e.3 c.index_mut-process.ensures.value in
-    let turn = turning program h.0 h.1 (snapshot_of c.args.self.now) c.args.p h.2.after e.0 e.1 e.2 c.requires.running e.3 in
-    subst (λ (l : Level). l.unit < length program) (sym (c.top-unit.ensures e.0 e.1 e.2 it.stack)) (inside program h.0 h.1 (snapshot_of c.args.self.now) c.args.p e.0 e.1 e.2 turn.0 turn.1)
+    let it = process-at c.args.self.now.processes.items c.args.p e.3 c.index_mut-process.ensures.value in
+    let turn = turning c.args.p c.requires.after.2.after e.0 e.1 e.2 c.requires.running e.3 in
+    subst (λ (l : Level). l.unit < length c.args.image.now) (sym (c.top-unit.ensures e.0 e.1 e.2 it.stack)) (inside turn.1)
 
 pub settle-requires : goal.settle-requires
 settle-requires c =
@@ -62,18 +46,18 @@ settle-requires c =
     let l = e.0 in
     let h = c.requires.after in
     let q = c.index_mut-process.result.now in
-    let it = process-at c.args.self.now.processes.items c.args.p (stack_with l e.1 e.2) q e.3 c.index_mut-process.ensures.value in
-    let turn = turning program h.0 h.1 (snapshot_of c.args.self.now) c.args.p h.2.after l e.1 e.2 c.requires.running e.3 in
+    let it = process-at c.args.self.now.processes.items c.args.p e.3 c.index_mut-process.ensures.value in
+    let turn = turning c.args.p h.2.after l e.1 e.2 c.requires.running e.3 in
     let code : c.as_slice-code.result.now ≡ unit_code program l.unit = c.as_slice-code.ensures ∙ (c.unit.ensures.code ∙ ap (λ (k : Level). unit_code program k.unit) (c.top-unit.ensures l e.1 e.2 it.stack)) in
     let ahead = ap (λ is. values_ahead (drop l.index is)) code in
     let room : deepest (unit_code program l.unit) ≤ vec_capacity q.operands = h.2.room (c.args.p - 1) q it.there _ l (last-there q l e.1 e.2 it.stack) in
-    (l, e.1, e.2, it.stack, omega (arith, ahead, room, room-ahead program h.0 h.1 (snapshot_of c.args.self.now) c.args.p l e.1 e.2 turn.0 turn.1))
+    (l, e.1, e.2, it.stack, omega (arith, ahead, room, room-ahead turn.1))
 
 pub top-requires : goal.top-requires
 top-requires c =
     let program = c.args.image.now in
     let e = c.requires.living in
-    let it = process-at c.args.self.now.processes.items c.args.p (stack_with e.0 e.1 e.2) c.index_mut-process.result.now e.3 c.index_mut-process.ensures.value in
+    let it = process-at c.args.self.now.processes.items c.args.p e.3 c.index_mut-process.ensures.value in
     let code : c.as_slice-code.result.now ≡ unit_code program e.0.unit = c.as_slice-code.ensures ∙ (c.unit.ensures.code ∙ ap (λ (k : Level). unit_code program k.unit) (c.top-unit.ensures e.0 e.1 e.2 it.stack)) in
     let s = c.settle.ensures.settled program e.0 e.1 e.2 code it.stack in
     some-levels c.settle.new.self (record e.0 { index = s.0 }) e.1 s.1 s.2
@@ -104,7 +88,7 @@ returns c =
     let l = e.0 in
     let ls = e.1 in
     let vs = e.2 in
-    let it = process-at old.processes.items p (stack_with l ls vs) q e.3 c.index_mut-process.ensures.value in
+    let it = process-at old.processes.items p e.3 c.index_mut-process.ensures.value in
     let code : c.as_slice-code.result.now ≡ unit_code program l.unit = c.as_slice-code.ensures ∙ (c.unit.ensures.code ∙ ap (λ (k : Level). unit_code program k.unit) (c.top-unit.ensures l ls vs it.stack)) in
     let s = c.settle.ensures.settled program l ls vs code it.stack in
     let later = record l { index = s.0 } in
@@ -119,12 +103,12 @@ returns c =
           subst (λ (n : Snapshot). IsAhead program p old n c.ahead_at.result) (sym shown) (
           found-ahead program old (with_stack m p (later ∷ ls) s.1) p later ls s.1
           (λ cells choices after.
-          let turn = turning program cells choices m p after.after l ls vs c.requires.running e.3 in
-          (turn.0, settled program cells choices m p l ls vs turn.0 turn.1 s.1 s.0 s.3.stands))
+          let turn = turning p after.after l ls vs c.requires.running e.3 in
+          (turn.0, settled turn.1 s.1 s.0 s.3.stands))
           there s.3.past c.ahead_at.result (subst (λ is. IsInFront is c.ahead_at.result) here c.ahead_at.ensures));
       after = λ cells choices h.
-          let turn = turning program cells choices m p h.after l ls vs c.requires.running e.3 in
-          machine-of program cells choices _ (subst (IsAfter program cells choices) (sym shown) (settled program cells choices m p l ls vs turn.0 turn.1 s.1 s.0 s.3.stands).after) (
+          let turn = turning p h.after l ls vs c.requires.running e.3 in
+          machine-of program cells choices _ (subst (IsAfter program cells choices) (sym shown) (settled turn.1 s.1 s.0 s.3.stands).after) (
           rooms-set program cells old _ (p - 1) r refl refl (room-moved program q r l s.0 ls vs s.1 it.stack s.2 c.settle.ensures.capacity (h.room (p - 1) q it.there)) (rooms-of program cells choices old h));
       same = record { arena = refl; nodes = refl; processes = ap length stacks ∙ length-set m.processes (p - 1) k; activations = refl; records = refl; faults = refl; halted = refl };
       living = (later, ls, s.1, ap (λ (ks : List Stack). numbered ks p) stacks ∙ there);

@@ -1,25 +1,16 @@
-use Rattle.std.proofs.Common.{◌≡◌, ◌≤◌, ℕ, Bool, true, false, List, [], ◌∷◌, ◌++◌, None, sym, ap, ◌∙◌, subst}
-use Rattle.std.specs.Prelude.{is_some, vec_capacity}
+use Rattle.std.proofs.Common.{◌≡◌, ◌≤◌, ℕ, Bool, true, false, List, [], ◌∷◌, ◌++◌, None, sym, ap, ◌∙◌, subst, is_some, vec_capacity}
 use Rattle.std.proofs.lemmas.Option.{none-some}
-use Rattle.hep_source.specs.Units.{Units}
+use Rattle.hep_machine.specs.Words.{Units}
 use Rattle.hep_arena.specs.Holes.{first_fit}
-use Rattle.hep_code.specs.Depths.{deepest}
+use Rattle.hep_code.specs.Words.{deepest}
 use Rattle.hep_step.specs.Effects.{fails}
 use Rattle.hep_step.specs.Simulation.{unit_code}
 use Rattle.hep_state.specs.declared.machine.Machine.{Machine}
 use Rattle.hep_state.specs.declared.upcoming.CallAhead.{CallAhead}
 use Rattle.hep_state.specs.declared.turn.Turned.TheVariants.{Stepped}
 use Rattle.hep_state.specs.declared.turn.TurnFault.{TurnFault}
-use Rattle.hep_state.specs.Calls.{IsMaking, IsUnit, Makes, state_made}
-use Rattle.hep_state.specs.CallsAhead.{IsAtCall}
-use Rattle.hep_state.specs.Outcomes.{HasTurned, Touches}
-use Rattle.hep_state.specs.Rooms.{HaveRoom, IsMachineAfter}
-use Rattle.hep_state.specs.Snapshots.{Snapshot, snapshot_of}
-use Rattle.hep_state.specs.Taking.{IsEnding}
-use Rattle.hep_state.specs.Turns.{HasGaps, HasStepped}
-use Rattle.hep_state.specs.Unturned.{IsUnturned}
-use Rattle.hep_state.proofs.Advanced.{carry}
-use Rattle.hep_state.proofs.Unchanged.{machine-of, machine-reserved, machine-written, on-err, rooms-of, shown-written, some-of, without-memory}
+use Rattle.hep_state.specs.Words.{IsMaking, IsUnit, Makes, state_made, IsAtCall, HasTurned, Touches, HaveRoom, IsMachineAfter, Snapshot, snapshot_of, IsEnding, HasGaps, HasStepped, IsUnturned}
+use Rattle.hep_state.proofs.Unchanged.{carry, machine-of, machine-reserved, machine-written, on-err, rooms-of, shown-written, without-memory}
 use Rattle.hep_state.proofs.machine.Machine.take_call.Goals.{After-fits}
 use Rattle.hep_state.proofs.machine.Machine.take_call.Goals as goal
 use Rattle.hep_source.proofs.Tests.{none-from-not}
@@ -97,7 +88,7 @@ module _ (c : After-fits) (cells : ℕ) (choices : List ℕ) (h : IsMachineAfter
   gaps-there : c.fits.result ≡ true → HasGaps program cells choices c.args.p
   gaps-there fits =
       c.gaps_are_told.ensures.some c.args.call.creates program cells choices (snapshot_of c.args.self.now) c.args.p u c.unit-unit.result.now.cells c.unit-unit.result.now.entry c.args.call.next c.give.new.self.passing.given.items c.give.new.self.passing.shapes.items
-      (c.in_default.ensures.given cells choices h at) called (some-of (first_fit c.unit-unit.result.now.cells c.args.self.now.frames.arena.holes) (sym fits-so ∙ fits))
+      (c.in_default.ensures.given cells choices h at) called (sym fits-so ∙ fits)
 
   given : IsMachineAfter program cells choices c.give.new.self
   given = machine-reserved program cells choices c.args.self.now c.give.new.self (ap snapshot_of c.give.ensures.others) (c.give.ensures.rooms cells) h

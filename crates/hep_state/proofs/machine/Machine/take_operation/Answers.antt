@@ -1,8 +1,6 @@
 use Rattle.std.proofs.Common.{ℕ, List, [], ◌∷◌, ◌++◌, length, ap, subst, sym, arith}
 use Rattle.hep_state.specs.declared.machine.Machine.{Machine}
-use Rattle.hep_state.specs.Outcomes.{Touches}
-use Rattle.hep_state.specs.Rooms.{IsMachineAfter}
-use Rattle.hep_state.specs.Snapshots.{snapshot_of}
+use Rattle.hep_state.specs.Words.{Touches, IsMachineAfter, snapshot_of}
 use Rattle.hep_state.proofs.Unchanged.{machine-of, machine-written, now-told, on-err, rooms-of}
 use Rattle.hep_state.proofs.machine.Machine.take_operation.Goals.{After-reserve}
 use Rattle.hep_state.proofs.machine.Machine.take_operation.Goals as goal

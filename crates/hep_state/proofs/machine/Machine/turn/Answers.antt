@@ -1,11 +1,9 @@
 use Rattle.std.proofs.Common.{ℕ, List, sym, ◌∙◌, subst}
-use Rattle.hep_source.specs.Units.{Units}
+use Rattle.std.proofs.lemmas.Result.{IfOk-weaker, on_err_weaker}
+use Rattle.hep_machine.specs.Words.{Units}
 use Rattle.hep_state.specs.declared.turn.TurnFault.{TurnFault}
-use Rattle.hep_state.specs.CallsAhead.{IsAtPurge}
-use Rattle.hep_state.specs.Rooms.{IsMachineAfter}
-use Rattle.hep_state.specs.Snapshots.{Snapshot, snapshot_of}
-use Rattle.hep_state.specs.Unturned.{IsUnturned}
-use Rattle.hep_state.proofs.Unchanged.{err-then, if-ok, machine-written, on-err, shown-written, without-memory}
+use Rattle.hep_state.specs.Words.{IsAtPurge, IsMachineAfter, Snapshot, snapshot_of, IsUnturned}
+use Rattle.hep_state.proofs.Unchanged.{machine-written, on-err, shown-written, without-memory}
 use Rattle.hep_state.proofs.machine.Machine.turn.Goals.{After-reserve}
 use Rattle.hep_state.proofs.machine.Machine.turn.Goals as goal
 
@@ -43,10 +41,10 @@ returns-in_err-take_operation-in-Other-clause-refused c =
     on-err c.from_residual-in_err-take_operation-in-Other.result c.from_residual-in_err-take_operation-in-Other.ensures.0 (λ cells choices h. c.in_err-take_operation-in-Other.ensures.refused cells choices (c.in-Other.ensures.after cells choices h))
 
 pub returns-in-Call-clause-turned : goal.returns-in-Call-clause-turned
-returns-in-Call-clause-turned c = if-ok c.take_call.result c.take_call.ensures.turned (λ turned told cells choices h. told cells choices (c.in-Call.ensures.after cells choices h) (c.in-Call.ensures.ahead cells choices h))
+returns-in-Call-clause-turned c = IfOk-weaker c.take_call.result _ _ (λ turned told cells choices h. told cells choices (c.in-Call.ensures.after cells choices h) (c.in-Call.ensures.ahead cells choices h)) c.take_call.ensures.turned
 
 pub returns-in-Call-clause-refused : goal.returns-in-Call-clause-refused
-returns-in-Call-clause-refused c = err-then c.take_call.result c.take_call.ensures.refused (λ refused cells choices h. refused cells choices (c.in-Call.ensures.after cells choices h))
+returns-in-Call-clause-refused c = on_err_weaker c.take_call.result (λ refused cells choices h. refused cells choices (c.in-Call.ensures.after cells choices h)) c.take_call.ensures.refused
 
 pub returns-in_ok-take_operation-in-Other-clause-turned : goal.returns-in_ok-take_operation-in-Other-clause-turned
 returns-in_ok-take_operation-in-Other-clause-turned c cells choices h = c.in_ok-take_operation-in-Other.ensures.turned cells choices (c.in-Other.ensures.after cells choices h)

@@ -1,5 +1,4 @@
-use Rattle.std.proofs.Common.{◌+◌, ◌-◌, ◌<◌, drop, length, ap, ◌∙◌, arith}
-use Rattle.std.proofs.lemmas.List.{length-drop, take_all}
+use Rattle.std.proofs.Common.{◌+◌, ◌-◌, ◌<◌, drop, length, ap, ◌∙◌, arith, length-drop, take_all}
 use Rattle.hep_state.proofs.machine.Process.behind.Goals.{After-as_slice}
 use Rattle.hep_state.proofs.machine.Process.behind.Goals as goal
 

@@ -4,8 +4,8 @@ use Rattle.hep_image.specs.Image.{IsUnitCode}
 use Rattle.hep_proc.specs.Nodes.{nodes_of}
 use Rattle.hep_proc.proofs.Slabs.{some-value}
 use Rattle.hep_state.specs.declared.machine.Level.{Level}
-use Rattle.hep_state.specs.Showing.{node_under}
-use Rattle.hep_state.proofs.Stacked.{some-levels}
+use Rattle.hep_state.specs.Words.{node_under}
+use Rattle.hep_state.proofs.Processes.{some-levels}
 use Rattle.hep_state.proofs.machine.Process.place.Goals.{After-top-key}
 use Rattle.hep_state.proofs.machine.Process.place.Goals as goal
 

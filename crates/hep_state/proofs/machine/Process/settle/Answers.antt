@@ -1,10 +1,24 @@
-use Rattle.std.proofs.Common.{drop, length, sym, ap, ◌∙◌, arith}
-use Rattle.hep_code.specs.Ahead.{values_ahead}
-use Rattle.hep_step.specs.Simulation.{unit_code}
+use Rattle.std.proofs.Common.{drop, length, sym, ap, ◌∙◌, arith, ◌≡◌, ℕ, List, subst}
+use Rattle.hep_code.specs.Words.{values_ahead, IsPastPushes, Stands, AddressedUnit, code_of}
+use Rattle.hep_step.specs.Simulation.{unit_code, unit_addressed}
 use Rattle.hep_state.specs.declared.machine.Level.{Level}
-use Rattle.hep_state.proofs.Advanced.{settled-here}
-use Rattle.hep_state.proofs.Stacked.{operands-are, some-levels}
+use Rattle.hep_state.proofs.Processes.{operands-are, some-levels}
 use Rattle.hep_state.proofs.machine.Process.settle.Goals as goal
+use Rattle.hep_machine.specs.Words.{Value, Units, Work}
+use Rattle.hep_code.specs.declared.instruction.Instruction.{Instruction}
+use Rattle.hep_state.specs.Words.{IsSettled}
+
+-- what its code says is what the unit's code says
+settled-here : (program : Units) (top l : Level) (was operands new : List Value) (index : ℕ) (code : List Instruction) → code ≡ unit_code program top.unit → top ≡ l → was ≡ operands
+    → IsPastPushes code index
+    → ((addressed : AddressedUnit) (k : ℕ) (work : Work) → code ≡ code_of addressed → Stands addressed k work was top.index → Stands addressed k work new index)
+    → IsSettled program l.unit operands l.index new index
+settled-here program top l was operands new index code is same ops past stands =
+    subst (λ (m : Level). IsSettled program m.unit operands m.index new index) same (
+    subst (λ vs. IsSettled program top.unit vs top.index new index) ops (record {
+      past = subst (λ c. IsPastPushes c index) is past;
+      stands = λ k work s. stands (unit_addressed program top.unit) k work is s;
+    }))
 
 pub top-index-requires : goal.top-index-requires
 top-index-requires c = let r = c.requires in some-levels c.args.self.now r.0 r.1 r.2 r.3

@@ -1,6 +1,5 @@
-use Rattle.std.proofs.Common.{◌≡◌, ◌-◌, ◌∷◌, get_or, reverse, ap, ◌∙◌}
-use Rattle.std.specs.Prelude.{slice_set}
-use Rattle.hep_state.proofs.Stacked.{last-is, last-set, operands-are}
+use Rattle.std.proofs.Common.{◌≡◌, ◌-◌, ◌∷◌, get_or, reverse, ap, ◌∙◌, slice_set}
+use Rattle.hep_state.proofs.Processes.{last-is, last-set, operands-are}
 use Rattle.hep_state.proofs.machine.Process.stand_at.Goals as goal
 
 pub returns-clause-stack : goal.returns-clause-stack

@@ -1,6 +1,6 @@
 use Rattle.std.proofs.Common.{refl}
 use Rattle.indexmap.specs.IndexSet.{contains}
-use Rattle.hep_source.specs.Names.{name_eq}
+use Rattle.hep_machine.specs.Words.{name_eq}
 use Rattle.hep_storage.specs.Blocks.{known}
 use Rattle.hep_storage.proofs.Listings.{holds-first, holds-other}
 use Rattle.hep_storage.proofs.contents.Contents.add_name.Goals as goal

@@ -1,8 +1,6 @@
 use Rattle.std.proofs.Common.{◌≡◌, ◌++◌, List, take}
 use Rattle.indexmap.specs.IndexSet.{contains}
-use Rattle.hep_source.specs.declared.name.Name.{Name}
-use Rattle.hep_source.specs.Names.{name_eq}
-use Rattle.hep_machine.specs.Declarations.{BlockName, names_declared}
+use Rattle.hep_machine.specs.Words.{Name, name_eq, BlockName, names_declared}
 use Rattle.hep_storage.specs.Blocks.{AreNoted, Holds, names_into}
 use Rattle.hep_storage.proofs.contents.Contents.add_names.Given as goal
 

@@ -1,7 +1,6 @@
-use Rattle.std.proofs.Common.{◌≡◌, ◌∙◌, [], Some, ap, sym}
-use Rattle.std.specs.Prelude.{slice_get}
+use Rattle.std.proofs.Common.{◌≡◌, ◌∙◌, [], Some, ap, sym, slice_get}
 use Rattle.std.specs.Option.{option_map}
-use Rattle.hep_source.specs.Units.{unit_at, subroutine_called, subroutine_name, is_named}
+use Rattle.hep_machine.specs.Words.{unit_at, subroutine_called, subroutine_name, is_named}
 use Rattle.hep_symbols.proofs.Passes.{found-within, item-read}
 use Rattle.hep_symbols.proofs.program.ProgramSymbols.called.Goals as goal
 

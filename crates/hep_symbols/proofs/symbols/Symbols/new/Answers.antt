@@ -2,12 +2,7 @@ use Rattle.std.proofs.Common.{◌≡◌, ◌∙◌, ap}
 use Rattle.std.specs.List.{filter}
 use Rattle.indexmap.specs.IndexMap.{get}
 use Rattle.indexmap.specs.IndexSet.{contains}
-use Rattle.hep_source.specs.declared.name.Name.{Name}
-use Rattle.hep_source.specs.Names.{index_among}
-use Rattle.hep_source.specs.Units.{dummies_of}
-use Rattle.hep_machine.specs.Declarations.{common_block, is_constant_name}
-use Rattle.hep_machine.specs.Variables.{names_of}
-use Rattle.hep_source.specs.Names.{name_eq}
+use Rattle.hep_machine.specs.Words.{Name, index_among, dummies_of, common_block, is_constant_name, names_of, name_eq}
 use Rattle.hep_symbols.specs.Tables.{is_local_by}
 use Rattle.hep_symbols.proofs.Owned.{locals-owned}
 use Rattle.hep_symbols.proofs.Statements.{dummies-by-header, block-by-statements, constant-by-statements}

@@ -1,7 +1,6 @@
-use Rattle.std.proofs.Common.{◌≡◌, ◌∙◌, ◌<◌, ◌≤◌, ℕ, false, true, None, Some, length, sym, ap, arith, rules}
-use Rattle.std.specs.Prelude.{if◌then◌else◌, not}
+use Rattle.std.proofs.Common.{◌≡◌, ◌∙◌, ◌<◌, ◌≤◌, ℕ, false, true, None, Some, length, sym, ap, arith, rules, if◌then◌else◌, not}
 use Rattle.hep_listed.proofs.Members.{ready-rise}
-use Rattle.hep_machine.specs.Schedules.{Progress, first_above, progress_after}
+use Rattle.hep_machine.specs.Words.{Progress, first_above, progress_after}
 use Rattle.hep_scheduler.specs.Value.{ready_of}
 use Rattle.hep_tickets.specs.Shared.{SharedValue, free_of}
 use Rattle.hep_tickets.specs.Tickets.{is_out}

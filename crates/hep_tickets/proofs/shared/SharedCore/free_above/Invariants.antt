@@ -1,6 +1,5 @@
-use Rattle.std.proofs.Common.{◌≡◌, ◌-◌, ◌≤◌, None, Some, length}
-use Rattle.std.specs.Prelude.{if◌then◌else◌, not}
-use Rattle.hep_machine.specs.Schedules.{first_above, progress_after}
+use Rattle.std.proofs.Common.{◌≡◌, ◌-◌, ◌≤◌, None, Some, length, if◌then◌else◌, not}
+use Rattle.hep_machine.specs.Words.{first_above, progress_after}
 use Rattle.hep_tickets.specs.Shared.{free_of}
 use Rattle.hep_tickets.specs.Tickets.{is_out}
 use Rattle.hep_tickets.proofs.shared.SharedCore.free_above.Given as goal

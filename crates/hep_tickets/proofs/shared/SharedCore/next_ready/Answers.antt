@@ -1,7 +1,6 @@
-use Rattle.std.proofs.Common.{◌≡◌, ◌∙◌, None, ap, length, sym}
-use Rattle.std.specs.Prelude.{not, slice_get}
+use Rattle.std.proofs.Common.{◌≡◌, ◌∙◌, None, ap, length, sym, not, slice_get}
 use Rattle.hep_listed.proofs.Members.{ready-rise, rising-filter}
-use Rattle.hep_machine.specs.Schedules.{first_above, last_process, progress_after}
+use Rattle.hep_machine.specs.Words.{first_above, last_process, progress_after}
 use Rattle.hep_ready.proofs.Listed.{first-least, first-other, first-some}
 use Rattle.hep_scheduler.specs.Value.{ready_of}
 use Rattle.hep_tickets.specs.Shared.{SharedValue, free_of}

@@ -1,5 +1,5 @@
 use Rattle.std.proofs.Common.{◌∙◌, ◌∷◌, [], ◌++◌, ap, sym, is_some, if◌then◌else◌}
-use Rattle.hep_machine.specs.Constants.{value_among}
+use Rattle.hep_machine.specs.Words.{value_among}
 use Rattle.hep_values.proofs.Tables.{given-last, given-before}
 use Rattle.hep_values.proofs.constants.Constants.add.Goals as goal
 use Rattle.hep_source.proofs.Tests.{none-from-not}

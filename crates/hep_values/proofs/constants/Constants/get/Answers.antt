@@ -1,5 +1,5 @@
 use Rattle.std.proofs.Common.{◌∙◌, ap}
-use Rattle.hep_machine.specs.Constants.{value_among}
+use Rattle.hep_machine.specs.Words.{value_among}
 use Rattle.hep_values.proofs.Tables.{value-found}
 use Rattle.hep_values.proofs.constants.Constants.get.Goals as goal
 

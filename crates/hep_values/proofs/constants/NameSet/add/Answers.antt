@@ -1,5 +1,5 @@
 use Rattle.std.proofs.Common.{◌∙◌, ◌∷◌, ap, reverse, if◌then◌else◌}
-use Rattle.hep_source.specs.Names.{is_among}
+use Rattle.hep_machine.specs.Words.{is_among}
 use Rattle.hep_values.proofs.Tables.{last-first}
 use Rattle.hep_values.proofs.constants.NameSet.add.Goals as goal
 

@@ -1,5 +1,5 @@
 use Rattle.std.proofs.Common.{◌∙◌, ap}
-use Rattle.hep_source.specs.Names.{is_among}
+use Rattle.hep_machine.specs.Words.{is_among}
 use Rattle.hep_values.proofs.Tables.{among-found}
 use Rattle.hep_values.proofs.constants.NameSet.contains.Goals as goal
 
