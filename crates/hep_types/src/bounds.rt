@@ -180,7 +180,8 @@ fn is_any_open(scope: &Scope, dimensions: &[Dimension]) -> Result<bool, AllocErr
 ///
 /// Only where memory was refused.
 pub fn are_bounds_open(scope: &Scope, declarator: &Declarator) -> Result<bool, AllocError>
-    ensures { IfOk result (λ are_open. are_open ≡ conditions.are_bounds_open scope.now.symbols.now scope.now.parameters.now declarator.now) }
+    ensures { IfOk result (λ are_open. are_open
+        ≡ conditions.are_bounds_open scope.now.symbols.now scope.now.parameters.now declarator.now) }
 {
     is_any_open(scope, declarator.dimensions.as_slice())
 }

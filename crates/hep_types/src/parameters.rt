@@ -114,7 +114,8 @@ fn are_pure(symbols: &Symbols, names: &[NameWithList]) -> bool
 ///
 /// Only where memory was refused.
 pub fn is_constant_expression(scope: &Scope, expression: &Expr) -> Result<bool, AllocError>
-    ensures { IfOk result (λ is_constant. is_constant ≡ conditions.is_constant_expression scope.now.symbols.now scope.now.parameters.now expression.now) }
+    ensures { IfOk result (λ is_constant. is_constant
+        ≡ conditions.is_constant_expression scope.now.symbols.now scope.now.parameters.now expression.now) }
 {
     let mut found = Vec::new(scope.alloc);
     occurrences::add_in_expression(scope.symbols, &mut found, expression)?;
@@ -148,7 +149,8 @@ pub fn is_constant_of(
     value_type: ValueType,
     expression: &Expr,
 ) -> Result<bool, AllocError>
-    ensures { IfOk result (λ is_constant. is_constant ≡ conditions.is_constant_of scope.now.symbols.now scope.now.parameters.now value_type expression.now) }
+    ensures { IfOk result (λ is_constant. is_constant
+        ≡ conditions.is_constant_of scope.now.symbols.now scope.now.parameters.now value_type expression.now) }
 {
     let has_value = has_value(scope, expression)?;
     Ok(is_typed_as(scope.symbols, value_type, expression) && has_value)
@@ -160,7 +162,8 @@ pub fn is_constant_of(
 ///
 /// Only where memory was refused.
 pub fn is_constant_given(scope: &Scope, constant: &NamedConstant) -> Result<bool, AllocError>
-    ensures { IfOk result (λ is_given. is_given ≡ conditions.is_constant_given scope.now.symbols.now scope.now.parameters.now constant.now) }
+    ensures { IfOk result (λ is_given. is_given
+        ≡ conditions.is_constant_given scope.now.symbols.now scope.now.parameters.now constant.now) }
 {
     let has_value = has_value(scope, &constant.value)?;
     let declared = Some(scope.symbols.type_of(&constant.occurrence.name));

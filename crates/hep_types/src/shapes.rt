@@ -70,7 +70,8 @@ type Table = IndexMap<Name, Option<Shape>>;
 // The shape that a declarator gives its name, where it gives dimensions and is the first that does.
 fn note_shape(scope: &Scope, declarator: &Declarator, shapes: &mut Table) -> Result<(), AllocError>
     ensures { OnOk result ((x : PureName) → get name_eq shapes.new x
-        ≡ option_or (get name_eq shapes.old x) (tables.shape_by_declarator scope.now.symbols.now scope.now.parameters.now declarator.now x)) }
+        ≡ option_or (get name_eq shapes.old x)
+        (tables.shape_by_declarator scope.now.symbols.now scope.now.parameters.now declarator.now x)) }
 {
     if !declarator.dimensions.as_slice().is_empty() {
         let shape = shape_given(scope, declarator)?;
@@ -85,7 +86,8 @@ fn note_shapes(
     shapes: &mut Table,
 ) -> Result<(), AllocError>
     ensures { OnOk result ((x : PureName) → get name_eq shapes.new x
-        ≡ option_or (get name_eq shapes.old x) (tables.shape_among scope.now.symbols.now scope.now.parameters.now x (rest_after declarators.now))) }
+        ≡ option_or (get name_eq shapes.old x)
+        (tables.shape_among scope.now.symbols.now scope.now.parameters.now x (rest_after declarators.now))) }
 {
     for declarator in declarators {
         note_shape(scope, declarator, shapes)?;
