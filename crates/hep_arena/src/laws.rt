@@ -1,6 +1,7 @@
 //! Laws of holes: what holds of every arena, whatever is taken and given, and what the holes are where
 //! blocks are the frames of a layout.
-ghost use Rattle.std.specs.Prelude.{◌≡◌, ◌⊎◌, ◌↔◌, ◌∷◌, ◌++◌, [], ℕ, ◌+◌, ◌<◌, ◌≤◌, Bool, List, Some, length, slice_get, slice_range, slice_set};
+ghost use Rattle.std.specs.Prelude.{◌≡◌, ◌⊎◌, ◌↔◌, ◌∷◌, ◌++◌, [], ℕ, ◌+◌, ◌<◌, ◌≤◌, Bool, List, Some, length, slice_get, slice_range};
+ghost use Rattle.std.specs.Prelude.{slice_set};
 ghost use Rattle.hep_machine.specs.Words.{StandApart, Frame, Layout, remaining_layout, lowest_gap, with_frame, State};
 ghost use Rattle.hep_arena.specs.Gaps.{frame_among, framed_cells, gaps, given_back, without};
 ghost use Rattle.hep_machine.specs.declared.slot.Slot.{Slot};

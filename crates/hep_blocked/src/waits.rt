@@ -1,5 +1,6 @@
 //! The processes that wait.
-ghost use Rattle.std.specs.Prelude.{◌≡◌, ◌≢◌, ℕ, ◌<◌, ◌≤◌, ◌||◌, [], None, Some, IfNone, IfSome, OnErr, OnOk, false, if◌then◌else◌, is_none, length, max, map, nat_eq, true};
+ghost use Rattle.std.specs.Prelude.{◌≡◌, ◌≢◌, ℕ, ◌<◌, ◌≤◌, ◌||◌, [], None, Some, IfNone, IfSome, OnErr, OnOk, false, if◌then◌else◌};
+ghost use Rattle.std.specs.Prelude.{is_none, length, max, map, nat_eq, true};
 ghost use Rattle.hep_machine.specs.Words.{is_number_among};
 ghost use Rattle.hep_blocked.specs.Waiting.{awake, next_waiting, numbers_waiting, waiting_at, waits_for};
 ghost use Rattle.hep_blocked.specs.Waiting.{with_numbers, with_want, without_want};

@@ -1,6 +1,7 @@
 //! Laws of the code of bounds.
 ghost use Rattle.std.specs.Prelude.{◌≡◌, ◌++◌, ◌∷◌, [], ℕ, if◌then◌else◌, List, Option, Some, None, Ok};
-ghost use Rattle.hep_machine.specs.Words.{Name, Statement, Value, Tree, bound_values, dummy_with_shape, with_shape, Values, shape_by, value_of, dimensions_of, is_array, Scope, Dummy, Store};
+ghost use Rattle.hep_machine.specs.Words.{Name, Statement, Value, Tree, bound_values, dummy_with_shape, with_shape, Values, shape_by};
+ghost use Rattle.hep_machine.specs.Words.{value_of, dimensions_of, is_array, Scope, Dummy, Store};
 ghost use Rattle.hep_bounds.specs.BoundCode.{AreSources, Sources, after_code, code_of_bound, coded_value};
 ghost use Rattle.hep_bounds.specs.declared.operation.BoundOperation.{BoundOperation};
 ghost use Rattle.hep_bounds.specs.DimensionCode.{code_of_dimensions, coded_shape};

@@ -2,7 +2,7 @@
 use Rattle.std.proofs.Common.{◌≡◌, ◌<◌, get_or, drop, min, arith, ℕ, zero, suc, Bool, true, false, ◌&&◌, Option, Some, None, List, [], ◌∷◌, length, refl, ap, sym, ◌∙◌, if◌then◌else◌}
 use Rattle.std.specs.Option.{option_map}
 use Rattle.hep_machine.specs.Words.{Tree, Trees, with_list, Units, unit_at, dummies_of, names_of_occurrences, spelling, PureFunction, StateFunction, Occurrence, Statement, is_array, element, by_pure_function, word_in, pure_functions, state_functions}
-use Rattle.hep_check.specs.Words.{ActualClass, given_with_list, actual_class, all_given, fits_dummy, fit_dummies, fits_subroutine, is_asynchronous_scalar, type_of_tree}
+use Rattle.hep_conditions.specs.Words.{ActualClass, given_with_list, actual_class, all_given, fits_dummy, fit_dummies, fits_subroutine, is_asynchronous_scalar, type_of_tree}
 use Rattle.hep_calls.specs.Passes.{fits_unit}
 
 pub fits_called : (program : Units) (unit : List Statement) (o : Option ℕ) (ts : List Tree)

@@ -1,5 +1,5 @@
 -- What an actual argument is, as contracts see it.
-use Rattle.hep_check.specs.Arguments as arguments
+use Rattle.hep_conditions.specs.Arguments as arguments
 use Rattle.hep_calls.specs.declared.actuals.ActualClass.{ActualClass}
 use Rattle.hep_calls.specs.declared.actuals.ActualClass.TheVariants.{Value, Variable, WholeArray, UnknownList}
 

@@ -2,7 +2,7 @@
 use Rattle.std.specs.Prelude.{Bool, true, not, ◌&&◌, List, Option, Some, None}
 use Rattle.std.specs.List.{list_all}
 use Rattle.hep_machine.specs.Words.{Tree, Units, dummies_of, Statement}
-use Rattle.hep_check.specs.Words.{all_given, fit_dummies, fits_call, is_reference_given, is_purgeable, names_with_lists, targets_purged, calls_in}
+use Rattle.hep_conditions.specs.Words.{all_given, fit_dummies, fits_call, is_reference_given, is_purgeable, names_with_lists, targets_purged, calls_in}
 
 -- the dummy arguments of the unit that is called take these actual arguments
 abbrev pub fits_unit : List Statement → Option (List Statement) → List Tree → Bool

@@ -1,10 +1,10 @@
 //! Actual arguments (X3.9-1978, 15.9.2).
 ghost use Rattle.std.specs.Prelude.{◌≡◌};
-ghost use Rattle.hep_check.specs.Arguments as conditions;
+ghost use Rattle.hep_conditions.specs.Arguments as conditions;
 ghost use Rattle.hep_calls.specs.Actuals.{class};
 
+use hep_names::{Meaning, Symbols};
 use hep_source::{Expr, Name, Node, ValueType};
-use hep_symbols::{Meaning, Symbols};
 use hep_types::{KnownType, type_of_tree};
 
 /// What an actual argument is (15.9.2).

@@ -2,16 +2,16 @@
 ghost use Rattle.std.specs.Prelude.{◌≡◌, ◌&&◌};
 ghost use Rattle.std.specs.List.{list_all};
 ghost use Rattle.hep_machine.specs.Words.{same_logical, names_of_occurrences};
-ghost use Rattle.hep_check.specs.Arguments as conditions;
-ghost use Rattle.hep_check.specs.Statements as statements;
-ghost use Rattle.hep_check.specs.Types as types;
-ghost use Rattle.hep_symbols.specs.Passes.{unit_called};
+ghost use Rattle.hep_conditions.specs.Arguments as conditions;
+ghost use Rattle.hep_conditions.specs.Statements as statements;
+ghost use Rattle.hep_conditions.specs.Types as types;
+ghost use Rattle.hep_names.specs.Passes.{unit_called};
 ghost use Rattle.hep_calls.specs.Actuals.{class};
 ghost use Rattle.hep_calls.specs.Passes as passes;
 
 use crate::actuals::{ActualClass, actual_class};
+use hep_names::{ProgramSymbols, Symbols};
 use hep_source::{Expr, Form, Name, Occurrence, ValueType};
-use hep_symbols::{ProgramSymbols, Symbols};
 use hep_types::types::{agree, same_declared};
 
 // Both are asynchronous or neither is, and both have one type.

@@ -2,13 +2,13 @@
 ghost use Rattle.std.specs.Prelude.{◌≡◌, map};
 ghost use Rattle.std.specs.List.{list_all};
 ghost use Rattle.hep_machine.specs.Words.{trees_of};
-ghost use Rattle.hep_check.specs.Arguments as conditions;
-ghost use Rattle.hep_check.specs.Statements as statements;
-ghost use Rattle.hep_symbols.specs.Meanings.{meaning};
-ghost use Rattle.hep_symbols.specs.Lists.{listed};
+ghost use Rattle.hep_conditions.specs.Arguments as conditions;
+ghost use Rattle.hep_conditions.specs.Statements as statements;
+ghost use Rattle.hep_names.specs.Meanings.{meaning};
+ghost use Rattle.hep_names.specs.Lists.{listed};
 
+use hep_names::{Meaning, NameWithList, Symbols};
 use hep_source::{Expr, Form, Node, Target};
-use hep_symbols::{Meaning, NameWithList, Symbols};
 
 // An asynchronous variable, or an element of an asynchronous array. Its whole class isn't asked for:
 // that has a type, which nothing here needs.

@@ -1,17 +1,17 @@
 //! 304: kinds of arguments, and of what is purged (X3.9-1978, 15.6.2.3 and 15.9.3, and docs/LANGUAGE.md, 9).
 ghost use Rattle.std.specs.Prelude.{◌≡◌, IfOk};
-ghost use Rattle.hep_check.specs.Arguments as conditions;
-ghost use Rattle.hep_check.specs.Reported as reported;
-ghost use Rattle.hep_check.specs.Words.{first_of};
-ghost use Rattle.hep_symbols.specs.Passes.{line_of};
+ghost use Rattle.hep_conditions.specs.Arguments as conditions;
+ghost use Rattle.hep_conditions.specs.Reported as reported;
+ghost use Rattle.hep_conditions.specs.Words.{first_of};
+ghost use Rattle.hep_names.specs.Passes.{line_of};
 ghost use Rattle.hep_calls.specs.Passes as passes;
 
 use crate::fitting::are_calls_fitting;
 use crate::state::{are_references_given, are_targets_purgeable};
-use hep_check::Violation;
-use hep_check::reported::{lesser, line_when, reported};
+use hep_conditions::Violation;
+use hep_conditions::reported::{lesser, line_when, reported};
+use hep_names::{ProgramSymbols, Symbols, names_with_lists};
 use hep_source::Statement;
-use hep_symbols::{ProgramSymbols, Symbols, names_with_lists};
 use std::alloc::{AllocError, Global};
 
 fn is_mismatched(

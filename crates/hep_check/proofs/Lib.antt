@@ -1,5 +1,3 @@
-pub mod Agreeing
-pub mod First
-pub mod Lines
-pub mod FrameCells
-mod Purged
+pub mod Gathering
+pub mod Sums
+mod Worked

@@ -1,75 +1,60 @@
-//! Checked programs.
-ghost use Rattle.std.specs.Prelude.{◌≡◌, ◌<◌, length, map};
-ghost use Rattle.hep_machine.specs.Words.{unit_at};
-ghost use Rattle.hep_machine.specs.Variables as variables;
-ghost use Rattle.hep_check.specs.Words.{IsAccepted};
+//! Which programs are accepted.
+ghost use Rattle.std.specs.Prelude.{◌≡◌, Some, None, map, IfOk, IfErr, OnOk};
+ghost use Rattle.hep_machine.specs.Words.{frame_cells};
+ghost use Rattle.hep_conditions.specs.Words.{IsAccepted, first_violation};
+ghost use Rattle.hep_check.specs.Faults.{Refuses, Reports};
 
+use crate::frames::frames;
+use crate::program::first_violation;
+use hep_base::Refusal as CheckFault;
+use hep_conditions::{Checked, Violation};
+use hep_names::ProgramSymbols;
 use hep_source::Program;
-use std::marker::Model;
+use std::alloc::{AllocError, Global};
 
-/// A program that violates no condition. Contracts see its units.
-#[derive(Drop)]
-pub struct Checked {
-    program: Program,
-    // The cells of the frame of each unit.
-    frames: Vec<u128>,
+// A violation as it is reported.
+fn fault_of(alloc: Global, violation: Violation) -> CheckFault
+    ensures { Reports violation result }
+{
+    let Violation { number, line, .. } = violation;
+    match violation.name {
+        None => CheckFault::refused(alloc, number, line),
+        Some(name) => match name.spelling(alloc) {
+            Ok(name) => CheckFault::Refused { number, line, name },
+            Err(_) => CheckFault::NoMemory,
+        },
+    }
 }
 
-impl Model for Checked {
-    ghost use Rattle.std.specs.Prelude.{◌≡◌, List, map};
-    ghost use Rattle.std.specs.Coded.{codes};
-    ghost use Rattle.hep_source.specs.declared.statement.Statement.{Statement};
-    ghost use Rattle.hep_source.specs.contracts.expression.Expr as expression;
-    ghost use Rattle.hep_check.specs.Conditions.{IsAccepted};
-    ghost use Rattle.hep_machine.specs.Variables.{frame_cells};
-
-    ghost Value = { List (List Statement) };
-
-    ghost coded = { Prim.hlevel (codes, expression.the_row.coded) };
-
-    ghost view = { λ a. a.program };
-
-    ghost invariant = { λ a. IsAccepted a.program × (a.frames.items ≡ map frame_cells a.program) };
+// The cells of the frames of a program that violates nothing, or else its first violation.
+fn judged(alloc: Global, program: &Program) -> Result<Result<Vec<u128>, Violation>, AllocError>
+    ensures accepted { IfOk result (λ found. OnOk found (first_violation program.now ≡ None)) }
+    ensures counted { IfOk result (λ found. IfOk found (λ frames. frames.items ≡ map frame_cells program.now)) }
+    ensures violated { IfOk result (λ found. IfErr found (λ violation. first_violation program.now ≡ Some violation)) }
+{
+    let symbols = ProgramSymbols::new(alloc, program.as_slice())?;
+    match first_violation(alloc, &symbols)? {
+        None => Ok(Ok(frames(alloc, &symbols)?)),
+        Some(violation) => Ok(Err(violation)),
+    }
 }
 
-impl Checked {
-    /// A program that violates no condition, and how many cells the frame of each unit has. `hep_checked` finds
-    /// out both.
-    pub fn new(program: Program, frames: Vec<u128>) -> Checked
-        requires accepted { IsAccepted program }
-        requires counted { frames.items ≡ map variables.frame_cells program }
-        ensures { result ≡ program }
-    {
-        Checked { program, frames }
-    }
-
-    /// The program.
-    pub fn program(&self) -> &Program
-        ensures { result.now ≡ self.now }
-    {
-        &self.program
-    }
-
-    /// The program alone; this takes no memory.
-    pub fn into_program(self) -> Program
-        ensures { result ≡ self }
-    {
-        self.program
-    }
-
-    /// How many cells the frame of a unit has (docs/MACHINE.md, "Variables and frames"), by its index in the source,
-    /// counted from 0; this takes no memory.
-    pub fn frame_cells(&self, unit: usize) -> u128
-        requires { unit < length self.now }
-        ensures { result ≡ variables.frame_cells (unit_at self.now unit) }
-    {
-        self.frames[unit]
-    }
-
-    /// A checked program has no violation.
-    pub fn is_accepted(&self)
-        ensures { IsAccepted self.now }
-    {
-        let _ = &self.program;
+/// Accepts a program that violates no condition.
+///
+/// # Errors
+///
+/// The first violation by line, then by number, then by the position of the name (docs/LANGUAGE.md, 10):
+/// 301 to 311 with its line, and for 301 and 310 the name; or that memory was refused.
+pub fn check(alloc: Global, program: Program) -> Result<Checked, CheckFault>
+    // What is checked is the program.
+    ensures same { IfOk result (λ checked. checked ≡ program) }
+    // No condition is violated where it is accepted.
+    ensures accepted { OnOk result (IsAccepted program) }
+    // What is reported is the first violation.
+    ensures refused { IfErr result (Refuses program) }
+{
+    match judged(alloc, &program)? {
+        Ok(frames) => Ok(Checked::new(program, frames)),
+        Err(violation) => Err(fault_of(alloc, violation)),
     }
 }

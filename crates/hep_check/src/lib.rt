@@ -1,14 +1,17 @@
-//! The conditions that a program has to meet before it runs, 301 to 311.
+//! Checked programs: all conditions, 301 to 311, put together (docs/LANGUAGE.md, 10).
 //!
-//! The conditions are stated in `specs/`, each as the list of the violations that a program has. A
-//! program is accepted where it has none; else the first one by line, number and position is reported. A
-//! program that is accepted is kept as a [`Checked`], which `hep_checked` makes.
+//! [`check`] accepts a program that violates none of them, and else answers with the first violation. A checked
+//! program knows how many cells its frames have, and [`list_text`] shows them with those of its common blocks.
 #![tactic(auto)]
 
-pub mod checked;
-pub mod laws;
-pub mod reported;
-pub mod violation;
+mod checked;
+mod frames;
+mod listing;
+mod program;
+mod unit;
 
-pub use checked::Checked;
-pub use violation::Violation;
+pub use checked::check;
+/// Why a program isn't accepted: refusals 301 to 311, of which 301 and 310 are about a name.
+pub use hep_base::Refusal as CheckFault;
+pub use hep_conditions::Checked;
+pub use listing::list_text;

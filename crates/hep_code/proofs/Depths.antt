@@ -12,7 +12,9 @@ use Rattle.hep_code.specs.declared.instruction.Evaluation.TheVariants.{Load, Sig
 use Rattle.hep_code.specs.declared.instruction.Instruction.{Instruction}
 use Rattle.hep_code.specs.declared.instruction.Instruction.TheVariants.{Push, Step, Pass, Show}
 use Rattle.hep_code.specs.declared.instruction.Operation.TheVariants.{Evaluate, Condition}
-use Rattle.hep_code.specs.Words.{arity, count, asked, asked_listed, asked_listed_code, asked_code, name_code, listed_code, tree_code, trees_code, evaluating, actual_code, actual_name_code, actual_listed_code, argument_of, argument_of_name, argument_of_listed, target_code, argument_of_target, item_code, printed_of, control_code, operation_code, form_code, conditions_code, work_code, Stands, NameTable, Table, AddressedUnit, table_of, code_of, operands_passed, operands_shown, operands_of_entries, operands_of_entry, operands_by, operands_ahead, operands_before, deeper, deepest, line_before, line_ahead, line_too_deep, values_ahead, most_operands}
+use Rattle.hep_code.specs.Words.{arity, count, asked, asked_listed, asked_listed_code, asked_code, name_code, listed_code, tree_code, trees_code, evaluating, actual_code, actual_name_code, actual_listed_code, argument_of, argument_of_name, argument_of_listed, target_code, argument_of_target, item_code, printed_of}
+use Rattle.hep_code.specs.Words.{control_code, operation_code, form_code, conditions_code, work_code, Stands, NameTable, Table, AddressedUnit, table_of, code_of, operands_passed, operands_shown, operands_of_entries, operands_of_entry, operands_by, operands_ahead, operands_before, deeper, deepest, line_before}
+use Rattle.hep_code.specs.Words.{line_ahead, line_too_deep, values_ahead, most_operands}
 use Rattle.std.proofs.lemmas.Bool.Decides.{nat_tests}
 
 -- h operands are taken by these instructions, up to an operation that takes all that are there

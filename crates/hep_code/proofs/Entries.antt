@@ -2,7 +2,9 @@
 -- operation, which stays while they are evaluated: these entries, with the operands, are what the action has.
 use Rattle.std.proofs.Common.{◌≡◌, ℕ, List, [], ◌∷◌, ◌++◌, map, length, refl, ap, sym, ◌∙◌, Option, Some, None, suc, drop}
 use Rattle.std.specs.List.{flat_map}
-use Rattle.hep_machine.specs.Words.{Target, Name, Occurrence, Operator, DoControl, PrintItem, Value, Tree, Trees, constant, occurrence, with_list, parenthesized, signed, negated, binary, trees, trees_of, constant_value, Reference, Part, whole, first_redex, redex_of, then_part, mapped_part, signing, negating, combined, part_of_listed, part_of, parts_of, reference_of, plugged, plugged_first, plugged_listed, plug, plug_all, list_part, plug_list, Actual, evaluated, actual_of_name, actual_of_listed, actual_of, actuals_of, plug_actuals, target_part, plug_target, targets_part, plug_targets, item_of, item_part, items_part, plug_item, plug_items, increment_of, control_part, plug_control, referred, Meaning, element, pure, state, unknown, listed_meaning}
+use Rattle.hep_machine.specs.Words.{Target, Name, Occurrence, Operator, DoControl, PrintItem, Value, Tree, Trees, constant, occurrence, with_list, parenthesized, signed, negated, binary, trees, trees_of, constant_value, Reference, Part, whole, first_redex, redex_of, then_part, mapped_part, signing, negating, combined}
+use Rattle.hep_machine.specs.Words.{part_of_listed, part_of, parts_of, reference_of, plugged, plugged_first, plugged_listed, plug, plug_all, list_part, plug_list, Actual, evaluated, actual_of_name, actual_of_listed, actual_of, actuals_of, plug_actuals, target_part, plug_target, targets_part, plug_targets, item_of}
+use Rattle.hep_machine.specs.Words.{item_part, items_part, plug_item, plug_items, increment_of, control_part, plug_control, referred, Meaning, element, pure, state, unknown, listed_meaning}
 use Rattle.hep_source.specs.declared.operator.Sign.{Sign as SignBefore}
 use Rattle.hep_source.specs.declared.statement.PrintItem.TheVariants as print_item
 use Rattle.hep_source.specs.declared.value.Value.TheVariants as value

@@ -2,7 +2,8 @@
 -- expression and what is left of it: X3.9-1978, 6.6.
 use Rattle.std.proofs.Common.{◌≡◌, ℕ, List, [], ◌∷◌, ◌++◌, map, refl, ap, sym, ◌∙◌, append_assoc, suc, length, Option, Some, None}
 use Rattle.std.proofs.lemmas.List.{map-append}
-use Rattle.hep_machine.specs.Words.{Value, Redex, Part, whole, first_redex, Reference, signing, negating, applying, testing, combining, redex_of, then_part, part_of_name, part_of_listed, reference_of_listed, combined, part_of, parts_of, reference_of, plugged, plugged_first, plugged_listed, plug, plug_all, Name, Occurrence, Operator, Tree, Trees, constant, occurrence, with_list, parenthesized, signed, negated, binary, no_trees, trees, constant_value, Meaning, element, pure, state, unknown, listed_meaning}
+use Rattle.hep_machine.specs.Words.{Value, Redex, Part, whole, first_redex, Reference, signing, negating, applying, testing, combining, redex_of, then_part, part_of_name, part_of_listed, reference_of_listed, combined, part_of, parts_of, reference_of, plugged, plugged_first, plugged_listed, plug, plug_all, Name}
+use Rattle.hep_machine.specs.Words.{Occurrence, Operator, Tree, Trees, constant, occurrence, with_list, parenthesized, signed, negated, binary, no_trees, trees, constant_value, Meaning, element, pure, state, unknown, listed_meaning}
 use Rattle.hep_machine.specs.Evaluation.{reading}
 use Rattle.hep_code.specs.declared.instruction.Evaluation.{Evaluation}
 use Rattle.hep_code.specs.declared.instruction.Instruction.{Instruction}

@@ -2,7 +2,11 @@
 //! code as activations begin and end.
 ghost use Rattle.std.specs.Prelude.{◌≡◌, ◌≤◌, ◌∷◌, ◌++◌, ◌+◌, ℕ, Bool, true, List, Result, drop, length, map, []};
 ghost use Rattle.std.specs.List.{flat_map};
-ghost use Rattle.hep_machine.specs.Words.{Name, Statement, Value, Units, line_at, statement_at, unit_at, Binding, level_after_statement, Actual, Redex, Reference, does, entering_loop, ending_loop, next_of, plug_work, Scope, location_of_name, Activation, Level, Location, Process, State, Store, Work, Top, answer_of, entry_level, next_activation, result_after_assignment, result_after_write, stack_after_return, unit_on_top, with_activation, is_do};
+ghost use Rattle.hep_machine.specs.Words.{Name, Statement, Value, Units, line_at, statement_at, unit_at, Binding, level_after_statement};
+ghost use Rattle.hep_machine.specs.Words.{Actual, Redex, Reference, does, entering_loop, ending_loop, next_of, plug_work, Scope};
+ghost use Rattle.hep_machine.specs.Words.{location_of_name, Activation, Level, Location, Process, State, Store, Work, Top, answer_of};
+ghost use Rattle.hep_machine.specs.Words.{entry_level, next_activation, result_after_assignment, result_after_write, stack_after_return};
+ghost use Rattle.hep_machine.specs.Words.{unit_on_top, with_activation, is_do};
 ghost use Rattle.hep_machine.specs.declared.event.Kind.{Kind};
 ghost use Rattle.hep_machine.specs.declared.record.Item.{Item};
 ghost use Rattle.hep_machine.specs.declared.slot.Slot.{Slot};
@@ -10,7 +14,11 @@ ghost use Rattle.hep_code.specs.declared.instruction.Instruction.{Instruction};
 ghost use Rattle.hep_code.specs.declared.instruction.Instruction.TheVariants.{Pass, Show, Step};
 ghost use Rattle.hep_code.specs.declared.instruction.Operation.{Operation};
 ghost use Rattle.hep_code.specs.declared.variable.Variable.{Variable};
-ghost use Rattle.hep_code.specs.Words.{argument_of_actual, evaluation_of, operands_of_actual, operands_of_item, operands_of_redex, printed_item, referred_argument, IsNext, IsPastPushes, IsRedex, values_ahead, deepest, Moves, items_from, passed_actual, passed_from, passed_reference, Addressing, Answers, Finds, IsAddressed, IsAddressedIn, answer_to_store, reply_of, reply_to_store, Addresses, AreBelow, AreLevels, CodeLevel, NoLoops, addressed_unit, calling, entered, Counts, Fits, Stands, AddressedUnit, code_of};
+ghost use Rattle.hep_code.specs.Words.{argument_of_actual, evaluation_of, operands_of_actual, operands_of_item, operands_of_redex};
+ghost use Rattle.hep_code.specs.Words.{printed_item, referred_argument, IsNext, IsPastPushes, IsRedex, values_ahead, deepest, Moves};
+ghost use Rattle.hep_code.specs.Words.{items_from, passed_actual, passed_from, passed_reference, Addressing, Answers, Finds, IsAddressed};
+ghost use Rattle.hep_code.specs.Words.{IsAddressedIn, answer_to_store, reply_of, reply_to_store, Addresses, AreBelow, AreLevels, CodeLevel};
+ghost use Rattle.hep_code.specs.Words.{NoLoops, addressed_unit, calling, entered, Counts, Fits, Stands, AddressedUnit, code_of};
 
 /// Where an activation stands and no value stands ahead, there is an operation, with the line of the statement.
 /// An operation that stands ahead is that of what comes next of the statement: of a redex or an action,

@@ -4,13 +4,13 @@ use Rattle.std.proofs.lemmas.Bool.Decides.{nat_tests}
 use Rattle.std.proofs.lemmas.List.{drop_all}
 use Rattle.std.specs.Option.{option_eq}
 use Rattle.hep_machine.specs.Words.{name_eq, Units, BlockName, same_block, blocks_of, is_block_among, block_cells, cells_of_blocks, common_cells}
-use Rattle.hep_frames.specs.Words.{Row, cells_in, common_row, first_in, first_of_block}
-use Rattle.hep_frames.proofs.CommonRows.{common_row-cells}
+use Rattle.hep_layout.specs.Words.{Row, cells_in, common_row, first_in, first_of_block}
+use Rattle.hep_layout.proofs.CommonRows.{common_row-cells}
 use Rattle.hep_values.proofs.BlockNames.{changed}
 use Rattle.hep_common.specs.Starts.{AreStarts, narrowed, start_in}
 use Rattle.hep_common.specs.declared.starts.CommonStarts.{CommonStarts}
 use Rattle.hep_common.proofs.Singles.{AreSingle, program-single, single-apart, single-rest}
-use Rattle.hep_frames.proofs.Runs.{block-turned}
+use Rattle.hep_layout.proofs.Runs.{block-turned}
 
 -- what a table has of a block after it was given a start
 pub start-added : (k b : BlockName) (n v : ℕ) (old new : Option ℕ) → new ≡ cond (option_eq name_eq k b) (Some v) old → v ≡ n → unwrap_or new 0 ≡ (if same_block k b then n else unwrap_or old 0)

@@ -3,9 +3,9 @@ use Rattle.std.proofs.Common.{◌≡◌, ℕ, ◌+◌, Bool, true, false, ◌||�
 use Rattle.std.proofs.lemmas.Grind.{flat_map-append}
 use Rattle.hep_machine.specs.Words.{CommonBlock, Declarator, Name, Statement, cells_of, cells_of_all, BlockName, same_block, block_of, blocks_in, blocks_of_unit, names_in_block, entries_under, names_declared, is_block_among, with_blocks}
 use Rattle.hep_machine.proofs.Locations.{block-self}
-use Rattle.hep_common.specs.declared.common.Entry.{Entry}
+use Rattle.hep_common.specs.declared.common.CommonItem.{CommonItem}
 use Rattle.hep_common.specs.Lengths.{entry_of, entries_listed, entries_in_list, entries_in_lists, entries_of, cells_of_entry, cells_in_block, with_block, with_blocks_of}
-use Rattle.hep_symbols.proofs.News.{declared-append}
+use Rattle.hep_names.proofs.News.{declared-append}
 use Rattle.std.proofs.lemmas.Bool.{or_right}
 
 -- ---- cells
@@ -16,7 +16,7 @@ ahead-of-none n = omega arith
 pub grouped : (a b c d : ℕ) → d ≡ b + c → a + d ≡ (a + b) + c
 grouped a b c d e = omega (arith, e)
 
-cells-append : (unit : List Statement) (b : BlockName) (es fs : List Entry) → cells_in_block unit b (es ++ fs) ≡ cells_in_block unit b es + cells_in_block unit b fs
+cells-append : (unit : List Statement) (b : BlockName) (es fs : List CommonItem) → cells_in_block unit b (es ++ fs) ≡ cells_in_block unit b es + cells_in_block unit b fs
 cells-append unit b [] fs = ahead-of-none (cells_in_block unit b fs)
 cells-append unit b (e ∷ es) fs =
     grouped (if same_block e.block b then cells_of_entry unit e else 0) (cells_in_block unit b es) (cells_in_block unit b fs) (cells_in_block unit b (es ++ fs)) (cells-append unit b es fs)
@@ -62,7 +62,7 @@ unit-cells unit b = lists-cells unit b (blocks_of_unit unit)
 
 -- ---- blocks
 
-blocks-append : (bs : List BlockName) (es fs : List Entry) → with_blocks_of bs (es ++ fs) ≡ with_blocks_of (with_blocks_of bs es) fs
+blocks-append : (bs : List BlockName) (es fs : List CommonItem) → with_blocks_of bs (es ++ fs) ≡ with_blocks_of (with_blocks_of bs es) fs
 blocks-append bs [] fs = refl
 blocks-append bs (e ∷ es) fs = blocks-append (with_block bs e.block) es fs
 
@@ -103,7 +103,7 @@ with_blocks-append bs (c ∷ cs) ds = with_blocks-append (with_block bs (block_o
 -- ---- statements
 
 -- one statement more
-pub entries-turn : (found next whole : List Entry) (s : Statement) (ss more : List Statement) → found ++ entries_of ss ≡ whole → next ≡ found ++ entries_in_lists (blocks_in s.form) → ss ≡ s ∷ more
+pub entries-turn : (found next whole : List CommonItem) (s : Statement) (ss more : List Statement) → found ++ entries_of ss ≡ whole → next ≡ found ++ entries_in_lists (blocks_in s.form) → ss ≡ s ∷ more
     → next ++ entries_of more ≡ whole
 entries-turn found next whole s ss more h n d =
     ap (λ es. es ++ entries_of more) n

@@ -7,7 +7,7 @@ use Rattle.std.specs.Option.{option_eq}
 use Rattle.hep_machine.specs.Words.{name_eq, Units, Statement, cells_of_all, BlockName, same_block, blocks_of_unit, names_in_block, is_block_among, with_blocks, block_cells}
 use Rattle.hep_values.proofs.BlockNames.{block_eq-is}
 use Rattle.hep_machine.proofs.Locations.{equal_blocks}
-use Rattle.hep_common.specs.declared.common.Entry.{Entry}
+use Rattle.hep_common.specs.declared.common.CommonItem.{CommonItem}
 use Rattle.hep_common.specs.declared.common.Length.{Length}
 use Rattle.hep_common.specs.Lengths.{entries_of, entries_of_program, cells_of_entry, cells_in_block, with_block, with_blocks_of, cells_so_far, greatest_length, lengthened, AreKept}
 use Rattle.hep_common.proofs.Entries.{this-among, with_blocks-append}
@@ -70,7 +70,7 @@ so_far-next : (unit n : ℕ) (t : Bool) (o : Option Length) → cells_so_far uni
 so_far-next unit n true o = ap (λ s. if s then cells_so_far unit o + n else 0) (eq-eqb unit unit refl)
 so_far-next unit n false o = omega arith
 
-pub cells-next : (unit : List Statement) (number n : ℕ) (b : BlockName) (e : Entry) (es fs : List Entry) (o new : Option Length) (whole : ℕ)
+pub cells-next : (unit : List Statement) (number n : ℕ) (b : BlockName) (e : CommonItem) (es fs : List CommonItem) (o new : Option Length) (whole : ℕ)
     → cells_so_far number o + cells_in_block unit b es ≡ whole → es ≡ e ∷ fs → n ≡ cells_of_entry unit e → new ≡ (if same_block e.block b then Some (lengthened o number n) else o)
     → cells_so_far number new + cells_in_block unit b fs ≡ whole
 cells-next unit number n b e es fs o new whole h d k i =
@@ -108,7 +108,7 @@ bounded-next number n i t o new h k e = few (cells_so_far number o) n i (cells_s
 
 -- ---- a unit from its first entry to its last
 
-pub blocks-entry : (bs ks whole : List BlockName) (e : Entry) (es fs : List Entry) → with_blocks_of bs es ≡ whole → es ≡ e ∷ fs → ks ≡ with_block bs e.block → with_blocks_of ks fs ≡ whole
+pub blocks-entry : (bs ks whole : List BlockName) (e : CommonItem) (es fs : List CommonItem) → with_blocks_of bs es ≡ whole → es ≡ e ∷ fs → ks ≡ with_block bs e.block → with_blocks_of ks fs ≡ whole
 blocks-entry bs ks whole e es fs h d k = ap (λ cs. with_blocks_of cs fs) k ∙ (ap (with_blocks_of bs) (sym d) ∙ h)
 
 pub start-longest : (g s : ℕ) → s ≡ 0 → g ≡ max g s
@@ -118,11 +118,11 @@ pub start-few : (s : ℕ) → s ≡ 0 → s ≤ 2 ^ 32 * 0
 start-few s h = omega (arith, h)
 
 -- the blocks once no entry is left
-pub end-blocks : (bs whole : List BlockName) (i : ℕ) (es : List Entry) → length es ≤ i → with_blocks_of bs (drop i es) ≡ whole → bs ≡ whole
+pub end-blocks : (bs whole : List BlockName) (i : ℕ) (es : List CommonItem) → length es ≤ i → with_blocks_of bs (drop i es) ≡ whole → bs ≡ whole
 end-blocks bs whole i es k h = ap (with_blocks_of bs) (sym (drop_all i es k)) ∙ h
 
 -- the cells of a block once no entry is left
-pub end-cells : (unit : List Statement) (b : BlockName) (s i : ℕ) (es : List Entry) → length es ≤ i → s + cells_in_block unit b (drop i es) ≡ cells_in_block unit b es → s ≡ cells_in_block unit b es
+pub end-cells : (unit : List Statement) (b : BlockName) (s i : ℕ) (es : List CommonItem) → length es ≤ i → s + cells_in_block unit b (drop i es) ≡ cells_in_block unit b es → s ≡ cells_in_block unit b es
 end-cells unit b s i es k h =
     let e : cells_in_block unit b (drop i es) ≡ 0 = ap (cells_in_block unit b) (drop_all i es k) in
     omega (arith, h, e)
@@ -138,12 +138,12 @@ lengths-next b unit us vs o new whole h d e =
     regrouped-max (greatest_length o) (cells_of_all unit (names_in_block unit b)) (block_cells vs b) (greatest_length new) whole e (ap (λ ws. max (greatest_length o) (block_cells ws b)) (sym d) ∙ h)
 
 -- what the units so far say, and the rest
-pub row-next : (row next whole : List Entry) (unit : List Statement) (us vs : Units) → row ++ entries_of_program us ≡ whole → us ≡ unit ∷ vs → next ≡ row ++ entries_of unit
+pub row-next : (row next whole : List CommonItem) (unit : List Statement) (us vs : Units) → row ++ entries_of_program us ≡ whole → us ≡ unit ∷ vs → next ≡ row ++ entries_of unit
     → next ++ entries_of_program vs ≡ whole
 row-next row next whole unit us vs h d e =
     ap (λ es. es ++ entries_of_program vs) e ∙ (append_assoc row (entries_of unit) (entries_of_program vs) ∙ (ap (λ ws. row ++ entries_of_program ws) (sym d) ∙ h))
 
-pub row-end : (row : List Entry) (i : ℕ) (us : Units) → length us ≤ i → row ++ entries_of_program (drop i us) ≡ entries_of_program us → length (entries_of_program us) ≤ length row
+pub row-end : (row : List CommonItem) (i : ℕ) (us : Units) → length us ≤ i → row ++ entries_of_program (drop i us) ≡ entries_of_program us → length (entries_of_program us) ≤ length row
 row-end row i us k h =
     let e : length (row ++ []) ≡ length (entries_of_program us) = ap length (sym (ap (λ ws. row ++ entries_of_program ws) (drop_all i us k)) ∙ h) in
     omega (arith, e, length-append row [])

@@ -3,7 +3,7 @@ use Rattle.std.proofs.Common.{◌≡◌, ℕ, ◌+◌, ◌*◌, ◌^◌, ◌<◌
 use Rattle.std.proofs.lemmas.Bool.Decides.{nat_tests}
 use Rattle.std.specs.Option.{option_map_or}
 use Rattle.hep_machine.specs.Words.{Units, Name, Statement, constant_value, bounds_of, cells_of, cells_of_all, cells_of_shape, if_shape, BlockName, same_block, blocks_of, dimensions_of, is_array, names_in_block, block_cells, cells_of_blocks, common_cells, Bounds, are_dimensions, elements, is_most, is_shape}
-use Rattle.hep_common.specs.declared.common.Entry.{Entry}
+use Rattle.hep_common.specs.declared.common.CommonItem.{CommonItem}
 use Rattle.hep_common.specs.Lengths.{entries_of, entries_of_program, cells_of_entry, cells_in_block}
 use Rattle.hep_common.proofs.Entries.{unit-cells}
 use Rattle.hep_common.proofs.Singles.{AreSingle, occurrences, program-single}
@@ -36,7 +36,7 @@ cells-few unit x = by (is_array unit x)
     by true = shape-few (bounds_of unit (constant_value unit) (dimensions_of unit x))
     by false = omega arith
 
-entry-few : (unit : List Statement) (e : Entry) → cells_of_entry unit e ≤ 2 ^ 20
+entry-few : (unit : List Statement) (e : CommonItem) → cells_of_entry unit e ≤ 2 ^ 20
 entry-few unit e = by e.name
   where
     by : (o : Option Name) → option_map_or (cells_of unit) o 0 ≤ 2 ^ 20
@@ -45,11 +45,11 @@ entry-few unit e = by e.name
 
 -- ---- one entry, in whichever of some blocks it is
 
-abbrev cells_added : List Statement → Entry → List BlockName → ℕ
+abbrev cells_added : List Statement → CommonItem → List BlockName → ℕ
 cells_added unit e [] = 0
 cells_added unit e (b ∷ bs) = (if same_block e.block b then cells_of_entry unit e else 0) + cells_added unit e bs
 
-added-none : (unit : List Statement) (e : Entry) (bs : List BlockName) → occurrences e.block bs ≡ 0 → cells_added unit e bs ≡ 0
+added-none : (unit : List Statement) (e : CommonItem) (bs : List BlockName) → occurrences e.block bs ≡ 0 → cells_added unit e bs ≡ 0
 added-none unit e [] h = refl
 added-none unit e (b ∷ bs) h = by (same_block e.block b) h (added-none unit e bs)
   where
@@ -57,7 +57,7 @@ added-none unit e (b ∷ bs) h = by (same_block e.block b) h (added-none unit e 
     by true g rest = absurd (omega (arith, g))
     by false g rest = omega (arith, rest (omega (arith, g)))
 
-added-few : (unit : List Statement) (e : Entry) (bs : List BlockName) → occurrences e.block bs ≤ 1 → cells_added unit e bs ≤ 2 ^ 20
+added-few : (unit : List Statement) (e : CommonItem) (bs : List BlockName) → occurrences e.block bs ≤ 1 → cells_added unit e bs ≤ 2 ^ 20
 added-few unit e [] h = omega arith
 added-few unit e (b ∷ bs) h = by (same_block e.block b) h (added-few unit e bs)
   where
@@ -67,14 +67,14 @@ added-few unit e (b ∷ bs) h = by (same_block e.block b) h (added-few unit e bs
 
 -- ---- one unit
 
-abbrev cells_in_blocks : List Statement → List BlockName → List Entry → ℕ
+abbrev cells_in_blocks : List Statement → List BlockName → List CommonItem → ℕ
 cells_in_blocks unit [] es = 0
 cells_in_blocks unit (b ∷ bs) es = cells_in_block unit b es + cells_in_blocks unit bs es
 
 regrouped : (a c r s all : ℕ) → all ≡ s + r → (a + c) + all ≡ (a + s) + (c + r)
 regrouped a c r s all e = omega (arith, e)
 
-blocks-split : (unit : List Statement) (e : Entry) (es : List Entry) (bs : List BlockName) → cells_in_blocks unit bs (e ∷ es) ≡ cells_added unit e bs + cells_in_blocks unit bs es
+blocks-split : (unit : List Statement) (e : CommonItem) (es : List CommonItem) (bs : List BlockName) → cells_in_blocks unit bs (e ∷ es) ≡ cells_added unit e bs + cells_in_blocks unit bs es
 blocks-split unit e es [] = omega arith
 blocks-split unit e es (b ∷ bs) =
     regrouped (if same_block e.block b then cells_of_entry unit e else 0) (cells_in_block unit b es) (cells_in_blocks unit bs es) (cells_added unit e bs) (cells_in_blocks unit bs (e ∷ es)) (blocks-split unit e es bs)
@@ -83,7 +83,7 @@ blocks-empty : (unit : List Statement) (bs : List BlockName) → cells_in_blocks
 blocks-empty unit [] = refl
 blocks-empty unit (b ∷ bs) = omega (arith, blocks-empty unit bs)
 
-blocks-few : (unit : List Statement) (bs : List BlockName) (es : List Entry) → AreSingle bs → cells_in_blocks unit bs es ≤ 2 ^ 20 * length es
+blocks-few : (unit : List Statement) (bs : List BlockName) (es : List CommonItem) → AreSingle bs → cells_in_blocks unit bs es ≤ 2 ^ 20 * length es
 blocks-few unit bs [] h = omega (arith, blocks-empty unit bs)
 blocks-few unit bs (e ∷ es) h = omega (arith, blocks-split unit e es bs, added-few unit e bs (h e.block), blocks-few unit bs es h)
 

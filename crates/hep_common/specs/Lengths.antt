@@ -3,37 +3,37 @@ use Rattle.std.specs.Prelude.{◌≡◌, ℕ, ◌+◌, ◌≤◌, true, nat_eq, 
 use Rattle.std.specs.List.{flat_map}
 use Rattle.std.specs.Option.{option_map_or}
 use Rattle.hep_machine.specs.Words.{CommonBlock, Declarator, Statement, Units, cells_of, BlockName, same_block, block_of, blocks_of_unit, is_block_among}
-use Rattle.hep_common.specs.declared.common.Entry.{Entry}
+use Rattle.hep_common.specs.declared.common.CommonItem.{CommonItem}
 use Rattle.hep_common.specs.declared.common.Length.{Length}
 
 -- ---- what the COMMON statements of a unit say, in order
 
-abbrev pub entry_of : BlockName → Declarator → Entry
+abbrev pub entry_of : BlockName → Declarator → CommonItem
 entry_of b d = record { block = b; name = Some d.occurrence.name }
 
 -- the names of a list, or only its block where there are none
-abbrev pub entries_listed : BlockName → List Declarator → List Entry
+abbrev pub entries_listed : BlockName → List Declarator → List CommonItem
 entries_listed b [] = record { block = b; name = None } ∷ []
 entries_listed b (d ∷ ds) = map (entry_of b) (d ∷ ds)
 
-abbrev pub entries_in_list : CommonBlock → List Entry
+abbrev pub entries_in_list : CommonBlock → List CommonItem
 entries_in_list c = entries_listed (block_of c) c.entries
 
-abbrev pub entries_in_lists : List CommonBlock → List Entry
+abbrev pub entries_in_lists : List CommonBlock → List CommonItem
 entries_in_lists cs = flat_map entries_in_list cs
 
-abbrev pub entries_of : List Statement → List Entry
+abbrev pub entries_of : List Statement → List CommonItem
 entries_of unit = entries_in_lists (blocks_of_unit unit)
 
 -- what those of all units say
-abbrev pub entries_of_program : Units → List Entry
+abbrev pub entries_of_program : Units → List CommonItem
 entries_of_program program = flat_map entries_of program
 
-abbrev pub cells_of_entry : List Statement → Entry → ℕ
+abbrev pub cells_of_entry : List Statement → CommonItem → ℕ
 cells_of_entry unit e = option_map_or (cells_of unit) e.name 0
 
 -- the cells that entries add to a block
-abbrev pub cells_in_block : List Statement → BlockName → List Entry → ℕ
+abbrev pub cells_in_block : List Statement → BlockName → List CommonItem → ℕ
 cells_in_block unit b [] = 0
 cells_in_block unit b (e ∷ es) = (if same_block e.block b then cells_of_entry unit e else 0) + cells_in_block unit b es
 
@@ -42,7 +42,7 @@ cells_in_block unit b (e ∷ es) = (if same_block e.block b then cells_of_entry 
 abbrev pub with_block : List BlockName → BlockName → List BlockName
 with_block bs b = if is_block_among b bs then bs else bs ++ b ∷ []
 
-abbrev pub with_blocks_of : List BlockName → List Entry → List BlockName
+abbrev pub with_blocks_of : List BlockName → List CommonItem → List BlockName
 with_blocks_of bs [] = bs
 with_blocks_of bs (e ∷ es) = with_blocks_of (with_block bs e.block) es
 

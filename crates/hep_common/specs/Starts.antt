@@ -3,7 +3,7 @@ use Rattle.std.specs.Prelude.{◌≡◌, ℕ, ◌<◌, ◌^◌, true, nat_le, if
 use Rattle.std.specs.Option.{option_eq}
 use Rattle.indexmap.specs.IndexMap.{get}
 use Rattle.hep_machine.specs.Words.{name_eq, Units, BlockName, blocks_of, is_block_among, block_cells, common_cells}
-use Rattle.hep_frames.specs.Words.{first_of_block}
+use Rattle.hep_layout.specs.Words.{first_of_block}
 use Rattle.hep_common.specs.Lengths.{greatest_length}
 use Rattle.hep_common.specs.declared.common.CommonBlocks.{CommonBlocks}
 use Rattle.hep_common.specs.declared.starts.CommonStarts.{CommonStarts}

@@ -2,14 +2,15 @@
 ghost use Rattle.std.specs.Prelude.{◌≡◌, ◌+◌, ◌<◌, ◌≤◌, ◌^◌, ◌++◌, [], ℕ, ◌&&◌, Some, None, is_some, max, map, if◌then◌else◌, IfOk, OnOk};
 ghost use Rattle.std.specs.Option.{option_eq, unwrap_or};
 ghost use Rattle.indexmap.specs.IndexMap.{get};
-ghost use Rattle.hep_machine.specs.Words.{index_where, name_eq, value_among, constant_value, cells_of_all, BlockName, same_block, block_cells, common_cells};
+ghost use Rattle.hep_machine.specs.Words.{index_where, name_eq, value_among, constant_value, cells_of_all, BlockName, same_block};
+ghost use Rattle.hep_machine.specs.Words.{block_cells, common_cells};
 ghost use Rattle.hep_machine.specs.Declarations as declarations;
 ghost use Rattle.hep_common.specs.Lengths as reading;
 ghost use Rattle.hep_common.specs.Lengths.{AreKept, IsUnread};
 
+use hep_names::declarators::{block_of, blocks_in};
+use hep_names::{ProgramSymbols, Symbols};
 use hep_source::{CommonBlock, Declarator, Name, Statement};
-use hep_symbols::declarators::{block_of, blocks_in};
-use hep_symbols::{ProgramSymbols, Symbols};
 use hep_values::given::constants;
 use hep_values::{Constants, cells_of};
 use indexmap::{IndexMap, IndexSet};
@@ -17,7 +18,7 @@ use std::alloc::{AllocError, Global};
 
 // What a COMMON statement says, one thing at a time: a name in a block, or none where a list names only the block.
 #[derive(Clone, Copy, Debug, PartialEq, Eq)]
-struct Entry {
+struct CommonItem {
     block: Option<Name>,
     name: Option<Name>,
 }
@@ -47,7 +48,7 @@ impl Drop for CommonBlocks {
 }
 
 fn add_names(
-    entries: &mut Vec<Entry>,
+    entries: &mut Vec<CommonItem>,
     block: Option<Name>,
     declarators: &[Declarator],
 ) -> Result<(), AllocError>
@@ -55,23 +56,23 @@ fn add_names(
 {
     for declarator in declarators {
         let name = Some(declarator.occurrence.name);
-        entries.push(Entry { block, name })?;
+        entries.push(CommonItem { block, name })?;
     }
     Ok(())
 }
 
-fn add_list(entries: &mut Vec<Entry>, list: &CommonBlock) -> Result<(), AllocError>
+fn add_list(entries: &mut Vec<CommonItem>, list: &CommonBlock) -> Result<(), AllocError>
     ensures { OnOk result (entries.new.items ≡ entries.old.items ++ reading.entries_in_list list.now) }
 {
     let block = block_of(list);
     match list.entries.as_slice() {
-        [] => entries.push(Entry { block, name: None })?,
+        [] => entries.push(CommonItem { block, name: None })?,
         declarators => add_names(entries, block, declarators)?,
     }
     Ok(())
 }
 
-fn add_lists(entries: &mut Vec<Entry>, lists: &[CommonBlock]) -> Result<(), AllocError>
+fn add_lists(entries: &mut Vec<CommonItem>, lists: &[CommonBlock]) -> Result<(), AllocError>
     ensures { OnOk result (entries.new.items ≡ entries.old.items ++ reading.entries_in_lists lists.now) }
 {
     for list in lists {
@@ -80,7 +81,7 @@ fn add_lists(entries: &mut Vec<Entry>, lists: &[CommonBlock]) -> Result<(), Allo
     Ok(())
 }
 
-fn add_entries(entries: &mut Vec<Entry>, statements: &[Statement]) -> Result<(), AllocError>
+fn add_entries(entries: &mut Vec<CommonItem>, statements: &[Statement]) -> Result<(), AllocError>
     ensures { OnOk result (entries.new.items ≡ entries.old.items ++ reading.entries_of statements.now) }
 {
     for statement in statements {
@@ -93,7 +94,7 @@ fn cells_of_entry(
     alloc: Global,
     symbols: &Symbols,
     constants: &Constants,
-    entry: &Entry,
+    entry: &CommonItem,
 ) -> Result<u32, AllocError>
     requires { value_among constants.now ≡ constant_value symbols.now }
     ensures { IfOk result (λ cells. cells ≡ reading.cells_of_entry symbols.now entry.now) }
@@ -209,7 +210,7 @@ impl CommonBlocks {
         alloc: Global,
         symbols: &Symbols,
         unit: usize,
-        entries: &[Entry],
+        entries: &[CommonItem],
     ) -> Result<(), AllocError>
         requires unread { IsUnread unit (get (option_eq name_eq) self.old.lengths) }
         requires entries { entries.now ≡ reading.entries_of symbols.now }

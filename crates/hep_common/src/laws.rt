@@ -1,7 +1,7 @@
 //! Laws of the starts of common blocks.
 ghost use Rattle.std.specs.Prelude.{◌≡◌, ◌≤◌, true};
 ghost use Rattle.hep_machine.specs.Words.{Units, BlockName, blocks_of, is_block_among, common_cells};
-ghost use Rattle.hep_frames.specs.Words.{first_of_block};
+ghost use Rattle.hep_layout.specs.Words.{first_of_block};
 ghost use Rattle.hep_common.specs.Starts.{AreStarts, start_in};
 ghost use Rattle.hep_common.specs.declared.starts.CommonStarts.{CommonStarts};
 

@@ -4,8 +4,8 @@ use Rattle.std.specs.Option.{unwrap_or}
 use Rattle.std.specs.List.{flat_map}
 use Rattle.hep_machine.specs.Words.{Form, Statement, line_at, statement_at, index_labelled}
 use Rattle.hep_source.specs.declared.statement.Form.TheVariants as form
-use Rattle.hep_check.specs.Words.{IndexedStatement, BlockIf, indexed_from, indexed_statements, is_unconditional, is_wrong_terminal, holds_wrongly, terminal_violations, loop_violations, statement_violations, block_ifs_of, block_violations, nesting_violations, structure_violations, is_plain_integer_scalar, first_of, when, at_line, reported, least_line, line_when, least_line_of}
-use Rattle.hep_check.proofs.Lines.{reported-append, reported-when, reported-of, least_line-assoc}
+use Rattle.hep_conditions.specs.Words.{IndexedStatement, BlockIf, indexed_from, indexed_statements, is_unconditional, is_wrong_terminal, holds_wrongly, terminal_violations, loop_violations, statement_violations, block_ifs_of, block_violations, nesting_violations, structure_violations, is_plain_integer_scalar, first_of, when, at_line, reported, least_line, line_when, least_line_of}
+use Rattle.hep_conditions.proofs.Lines.{reported-append, reported-when, reported-of, least_line-assoc}
 use Rattle.hep_control.specs.declared.blocks.BlockIf as code
 use Rattle.hep_control.specs.Ranges.{block_if}
 use Rattle.hep_control.specs.Structure.{has_loop_variable, terminal_line, loop_line, statement_line, least_statement, line_of_stray, line_of_unclosed}

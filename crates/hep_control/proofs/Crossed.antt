@@ -5,14 +5,14 @@ use Rattle.std.proofs.lemmas.Bool.Decides.{nat_tests}
 use Rattle.hep_machine.specs.Words.{Name, Form, Statement, name_eq, same_name, line_at, index_labelled}
 use Rattle.hep_source.specs.declared.statement.Form.TheVariants as form
 use Rattle.hep_source.proofs.NameTests.{equal_names, name_eq-is}
-use Rattle.hep_check.specs.Words.{indexed_from, is_unconditional, range_to, range_by, ranges_of, shares_variable, block_ifs_of, ranges_cross, range_pair, leaves_range, leaves_block, crossing, nesting_violations, is_between, ends_after, end_between, least_line, line_when, least_line_of, reported, first_of, when, at_line}
-use Rattle.hep_check.proofs.Lines.{least_line-assoc, reported-append, reported-when, reported-of, least_line-or, least_line_of-same, least_line_of-both, least_line_of-any, least_line_of-turned}
+use Rattle.hep_conditions.specs.Words.{indexed_from, is_unconditional, range_to, range_by, ranges_of, shares_variable, block_ifs_of, ranges_cross, range_pair, leaves_range, leaves_block, crossing, nesting_violations, is_between, ends_after, end_between, least_line, line_when, least_line_of, reported, first_of, when, at_line}
+use Rattle.hep_conditions.proofs.Lines.{least_line-assoc, reported-append, reported-when, reported-of, least_line-or, least_line_of-same, least_line_of-both, least_line_of-any, least_line_of-turned}
 use Rattle.hep_control.specs.Ranges.{range_at, block_if, do_range}
 use Rattle.hep_control.specs.Crossing.{later, with_range, reaches, least_shared, value_of_range, question_of_range, question_of_block, BlockEnd, ends_from, ends_in, value_of_end, values_in, question_in_range}
 use Rattle.hep_source.proofs.Tests.{and-false, and-true, or-assoc, or-false, or-turned, any-or, and-assoc, any-flat}
 use Rattle.std.specs.Option.{unwrap_or}
 use Rattle.std.proofs.lemmas.List.{map-append}
-use Rattle.hep_check.specs.Nesting as nesting
+use Rattle.hep_conditions.specs.Nesting as nesting
 use Rattle.hep_control.specs.declared.blocks.BlockIf.{BlockIf}
 use Rattle.hep_control.specs.declared.region.DoRange.{DoRange}
 use Rattle.hep_control.specs.Sweep.{is_within, least_met}

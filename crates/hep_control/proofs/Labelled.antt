@@ -4,17 +4,13 @@ use Rattle.std.specs.Option.{option_map}
 use Rattle.hep_machine.specs.Words.{Statement, is_executable, has_label, is_labelled, index_labelled}
 use Rattle.hep_control.specs.Labels.{executable_label, noted, is_absent, goes_nowhere, line_of, least_unlabelled, is_seen, with_seen, least_repeated}
 use Rattle.std.specs.List.{flat_map, list_any}
-use Rattle.hep_check.specs.Words.{unlabelled, labels_of, label_violations, targets_of_jump, terminal_labels, first_of, when, at_line, repeated_after, repeated_by, reported, least_line, line_when}
-use Rattle.hep_check.proofs.Lines.{reported-any, reported-append, reported-of, reported-when, least_line-where, least_line-assoc}
+use Rattle.hep_conditions.specs.Words.{unlabelled, labels_of, label_violations, targets_of_jump, terminal_labels, first_of, when, at_line, repeated_after, repeated_by, reported, least_line, line_when}
+use Rattle.hep_conditions.proofs.Lines.{reported-any, reported-append, reported-of, reported-when, least_line-where, least_line-assoc}
 
 -- where a label leads from statement `index` on, if it wasn't met before
 abbrev pub index_from : Option ℕ → ℕ → List Statement → ℕ → Option ℕ
 index_from (Some k) index ss l = Some k
 index_from None index ss l = option_map (λ k. index + k) (index_labelled ss l)
-
-pub index_from-start : (o : Option ℕ) → option_map (λ k. 0 + k) o ≡ o
-index_from-start None = refl
-index_from-start (Some k) = ap (λ n. Some n) (omega arith)
 
 later : (index : ℕ) (o : Option ℕ) → option_map (λ k. index + k) (option_map suc o) ≡ option_map (λ k. index + 1 + k) o
 later index None = refl

@@ -4,8 +4,8 @@ use Rattle.std.proofs.lemmas.List.{reverse-append}
 use Rattle.std.specs.List.{flat_map, list_any}
 use Rattle.std.proofs.lemmas.List.Folds.{list_any-append}
 use Rattle.hep_machine.specs.Words.{Statement, statement_at, role_of, index_labelled}
-use Rattle.hep_check.specs.Nesting as nesting
-use Rattle.hep_check.specs.Words.{regions_before, regions_to_last, block_regions, range_region, ranges_of, block_ifs_of, regions_of, IndexedStatement, indexed_statements, enters, is_division, is_wrong_jump, jump_to, jump_violations, targets_of_jump, Violations, first_of, reported, least_line, line_when, least_line_of}
+use Rattle.hep_conditions.specs.Nesting as nesting
+use Rattle.hep_conditions.specs.Words.{regions_before, regions_to_last, block_regions, range_region, ranges_of, block_ifs_of, regions_of, IndexedStatement, indexed_statements, enters, is_division, is_wrong_jump, jump_to, jump_violations, targets_of_jump, Violations, first_of, reported, least_line, line_when, least_line_of}
 use Rattle.hep_control.specs.declared.blocks.BlockIf.{BlockIf}
 use Rattle.hep_control.specs.Ranges.{block_if}
 use Rattle.hep_control.specs.Jumps.{blocks_from, blocks_in, region, Leap, leap, leap_to, leaps_at, leaps_of, value_by_start, question_by_start, value_by_end, question_by_end, line_to_division}
@@ -13,7 +13,7 @@ use Rattle.hep_control.proofs.Sets.{or-comm, any-same, any-map, any-reverse}
 use Rattle.hep_source.proofs.Tests.{or-false, or-assoc, any-flat, any-or}
 use Rattle.std.below.core.specs.declared.int.usize.TheConstants.{MAX}
 use Rattle.std.proofs.lemmas.Bool.Decides.{nat_tests}
-use Rattle.hep_check.proofs.Lines.{reported-append, reported-when, least_line_of-append, least_line_of-same, least_line_of-both, least_line-or, least_line-none}
+use Rattle.hep_conditions.proofs.Lines.{reported-append, reported-when, least_line_of-append, least_line_of-same, least_line_of-both, least_line-or, least_line-none}
 use Rattle.hep_control.specs.declared.region.Region.{Region}
 use Rattle.hep_control.specs.declared.region.Jump.{Jump}
 use Rattle.hep_control.specs.Sweep.{is_within, least_met}

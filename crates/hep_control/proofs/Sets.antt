@@ -12,11 +12,11 @@ use Rattle.std.proofs.lemmas.Map.Lookups.{exact_unsigned}
 use Rattle.hep_control.specs.Sweep.{is_within}
 use Rattle.hep_source.proofs.Tests.{or-turned}
 use Rattle.hep_machine.specs.Words.{Statement}
-use Rattle.hep_check.specs.Words.{IndexedStatement, indexed_from, least_line, least_line_of}
+use Rattle.hep_conditions.specs.Words.{IndexedStatement, indexed_from, least_line, least_line_of}
 use Rattle.std.specs.List.Sorted.{IsPermutation}
 use Rattle.std.proofs.lemmas.List.Sorted.{list_any-IsPermutation, All-permutation, IsPermutation-sym, IsPermutation-reverse}
 use Rattle.std.proofs.lemmas.List.Elements.{All-nil, All-cons, All-head, All-tail, All-weaker}
-use Rattle.hep_check.proofs.Lines.{least_line-none, least_line-assoc, least_line-comm}
+use Rattle.hep_conditions.proofs.Lines.{least_line-none, least_line-assoc, least_line-comm}
 
 pub or-comm : (a b : Bool) → (a || b) ≡ (b || a)
 or-comm true true = refl

@@ -3,8 +3,8 @@
 use Rattle.std.proofs.Common.{◌≡◌, ℕ, Bool, false, ◌&&◌, ◌||◌, nat_lt, List, [], ◌∷◌, ◌++◌, map, Option, None, refl, ◌∙◌, ap, suc, ◌+◌, ◌*◌, ◌<◌, ◌≤◌, true, sym, arith, append_assoc}
 use Rattle.std.specs.List.{list_any}
 use Rattle.std.proofs.lemmas.List.Folds.{list_any-append}
-use Rattle.hep_check.specs.Words.{least_line, line_when, least_line_of}
-use Rattle.hep_check.proofs.Lines.{least_line_of-append, least_line-assoc, least_line_of-same}
+use Rattle.hep_conditions.specs.Words.{least_line, line_when, least_line_of}
+use Rattle.hep_conditions.proofs.Lines.{least_line_of-append, least_line-assoc, least_line_of-same}
 use Rattle.hep_control.specs.declared.sweep.Event.{Event}
 use Rattle.hep_control.specs.declared.sweep.Event.TheVariants.{Value, Question}
 use Rattle.hep_control.specs.Sweep.{is_within, comes_before, line_asked, least_met, rank, line_met, with_event, least_swept}

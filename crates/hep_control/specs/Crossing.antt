@@ -2,8 +2,8 @@
 use Rattle.std.specs.Prelude.{ℕ, suc, Bool, false, nat_le, max, if◌then◌else◌, List, [], ◌∷◌, map, Option, Some, None}
 use Rattle.std.specs.Option.{unwrap_or}
 use Rattle.hep_machine.specs.Words.{Name, Statement, same_name, line_at}
-use Rattle.hep_check.specs.Nesting as nesting
-use Rattle.hep_check.specs.Words.{least_line, line_when}
+use Rattle.hep_conditions.specs.Nesting as nesting
+use Rattle.hep_conditions.specs.Words.{least_line, line_when}
 use Rattle.hep_control.specs.declared.blocks.BlockIf.{BlockIf}
 use Rattle.hep_control.specs.declared.region.DoRange.{DoRange}
 use Rattle.hep_control.specs.declared.sweep.Event.{Event}

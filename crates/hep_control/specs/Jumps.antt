@@ -3,8 +3,8 @@ use Rattle.std.specs.Prelude.{ℕ, suc, ◌-◌, List, [], ◌∷◌, Option, So
 use Rattle.std.specs.List.{flat_map}
 use Rattle.std.below.core.specs.declared.int.usize.TheConstants.{MAX}
 use Rattle.hep_machine.specs.Words.{Statement, statement_at, role_of, index_labelled}
-use Rattle.hep_check.specs.Nesting as nesting
-use Rattle.hep_check.specs.Words.{DoRange, IndexedStatement, indexed_statements, is_division, targets_of_jump, line_when}
+use Rattle.hep_conditions.specs.Nesting as nesting
+use Rattle.hep_conditions.specs.Words.{DoRange, IndexedStatement, indexed_statements, is_division, targets_of_jump, line_when}
 use Rattle.hep_control.specs.declared.blocks.BlockIf.{BlockIf}
 use Rattle.hep_control.specs.declared.region.Region.{Region}
 use Rattle.hep_control.specs.declared.region.Jump.{Jump}

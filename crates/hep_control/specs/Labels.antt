@@ -2,7 +2,7 @@
 use Rattle.std.specs.Prelude.{ℕ, Bool, false, ◌||◌, nat_eq, if◌then◌else◌, List, [], ◌∷◌, ◌++◌, Option, Some, None, is_none}
 use Rattle.std.specs.List.{list_any}
 use Rattle.hep_machine.specs.Words.{Statement, is_executable, index_labelled}
-use Rattle.hep_check.specs.Words.{targets_of_jump, terminal_labels, least_line, line_when, least_line_where}
+use Rattle.hep_conditions.specs.Words.{targets_of_jump, terminal_labels, least_line, line_when, least_line_where}
 
 -- the label of a statement that one may go to
 abbrev pub executable_label : Statement → Option ℕ

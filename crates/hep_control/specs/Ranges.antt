@@ -1,8 +1,8 @@
 -- DO ranges and block IFs as the code keeps them (X3.9-1978, 11.6 to 11.10).
 use Rattle.std.specs.Prelude.{List, [], if◌then◌else◌, reverse}
 use Rattle.hep_machine.specs.Words.{Statement}
-use Rattle.hep_check.specs.Nesting as nesting
-use Rattle.hep_check.specs.Words.{IndexedStatement, is_unconditional, range_by}
+use Rattle.hep_conditions.specs.Nesting as nesting
+use Rattle.hep_conditions.specs.Words.{IndexedStatement, is_unconditional, range_by}
 use Rattle.hep_control.specs.declared.region.DoRange.{DoRange}
 use Rattle.hep_control.specs.declared.blocks.BlockIf.{BlockIf}
 

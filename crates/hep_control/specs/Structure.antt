@@ -2,7 +2,7 @@
 use Rattle.std.specs.Prelude.{ℕ, Bool, true, not, nat_lt, if◌then◌else◌, List, map, Option, Some, None}
 use Rattle.hep_machine.specs.Words.{Form, Statement, line_at, statement_at, index_labelled}
 use Rattle.hep_source.specs.declared.statement.Form.TheVariants as form
-use Rattle.hep_check.specs.Words.{IndexedStatement, is_unconditional, is_wrong_terminal, holds_wrongly, is_plain_integer_scalar, least_line, line_when, least_line_of}
+use Rattle.hep_conditions.specs.Words.{IndexedStatement, is_unconditional, is_wrong_terminal, holds_wrongly, is_plain_integer_scalar, least_line, line_when, least_line_of}
 use Rattle.hep_control.specs.declared.blocks.BlockIf.{BlockIf}
 
 -- for each statement whether its DO variable, where it has one, is a plain integer scalar

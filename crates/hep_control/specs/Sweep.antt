@@ -1,7 +1,7 @@
 -- Values and questions: whether a value with a lesser key lies in an interval.
 use Rattle.std.specs.Prelude.{ℕ, ◌+◌, ◌*◌, Bool, false, ◌&&◌, nat_lt, nat_le, List, [], ◌∷◌, Option, None}
 use Rattle.std.specs.List.{list_any}
-use Rattle.hep_check.specs.Words.{least_line, line_when, least_line_of}
+use Rattle.hep_conditions.specs.Words.{least_line, line_when, least_line_of}
 use Rattle.hep_control.specs.declared.sweep.Event.{Event}
 use Rattle.hep_control.specs.declared.sweep.Event.TheVariants.{Value, Question}
 

@@ -1,7 +1,7 @@
 //! The block IFs of a unit (X3.9-1978, 11.6 to 11.9).
 ghost use Rattle.std.specs.Prelude.{◌≡◌, IfOk, OnOk, map, reverse};
 ghost use Rattle.hep_machine.specs.Words.{role_of};
-ghost use Rattle.hep_check.specs.Nesting as nesting;
+ghost use Rattle.hep_conditions.specs.Nesting as nesting;
 ghost use Rattle.hep_control.specs.Ranges.{block_if};
 
 use hep_source::{Form, Statement};
@@ -38,7 +38,7 @@ impl Drop for BlockIfs {
 
 impl Model for BlockIfs {
     ghost use Rattle.std.specs.Prelude.{map, reverse};
-    ghost use Rattle.hep_check.specs.Nesting as nesting;
+    ghost use Rattle.hep_conditions.specs.Nesting as nesting;
     ghost use Rattle.hep_control.specs.Ranges.{block_if};
 
     ghost Value = { nesting.BlockIfs };

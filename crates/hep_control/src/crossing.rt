@@ -5,15 +5,15 @@ ghost use Rattle.indexmap.specs.IndexMap.{get};
 ghost use Rattle.hep_source.specs.declared.name.Name.{Name as PureName};
 ghost use Rattle.hep_source.specs.Names as names;
 ghost use Rattle.hep_source.specs.Units as units;
-ghost use Rattle.hep_check.specs.Nesting as nesting;
-ghost use Rattle.hep_check.specs.Words.{reported, first_of};
+ghost use Rattle.hep_conditions.specs.Nesting as nesting;
+ghost use Rattle.hep_conditions.specs.Words.{reported, first_of};
 ghost use Rattle.hep_control.specs.Ranges.{do_range};
 ghost use Rattle.hep_control.specs.Crossing as spec;
 
 use crate::blocks::{BlockIf, BlockIfs};
 use crate::region::DoRange;
 use crate::sweep::{Event, least_met, question, value};
-use hep_check::reported::{lesser, line_when};
+use hep_conditions::reported::{lesser, line_when};
 use hep_source::{Name, Statement};
 use indexmap::IndexMap;
 use std::alloc::{AllocError, Global};

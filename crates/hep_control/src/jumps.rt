@@ -2,16 +2,16 @@
 ghost use Rattle.std.specs.Prelude.{◌≡◌, ◌<◌, ◌++◌, IfOk, OnOk, length, map};
 ghost use Rattle.std.specs.List.{flat_map};
 ghost use Rattle.hep_machine.specs.Words.{role_of, index_labelled, statement_at};
-ghost use Rattle.hep_check.specs.Nesting as nesting;
-ghost use Rattle.hep_check.specs.Words.{targets_of_jump, least_line_of, first_of};
+ghost use Rattle.hep_conditions.specs.Nesting as nesting;
+ghost use Rattle.hep_conditions.specs.Words.{targets_of_jump, least_line_of, first_of};
 ghost use Rattle.hep_control.specs.Jumps as spec;
 
 use crate::labels::Labels;
 use crate::region::{Jump, Region};
 use crate::regions::regions_of;
 use crate::sweep::{Event, least_met, question, value};
-use hep_check::Violation;
-use hep_check::reported::{lesser, line_when, reported};
+use hep_conditions::Violation;
+use hep_conditions::reported::{lesser, line_when, reported};
 use hep_source::{Form, Statement};
 use std::alloc::{AllocError, Global};
 

@@ -6,11 +6,11 @@ ghost use Rattle.indexmap.specs.IndexMap.{get};
 ghost use Rattle.indexmap.specs.IndexSet.{contains};
 ghost use Rattle.hep_machine.specs.Control as control;
 ghost use Rattle.hep_source.specs.Units as units;
-ghost use Rattle.hep_check.specs.Words.{label_violations, targets_of_jump, terminal_labels, first_of};
+ghost use Rattle.hep_conditions.specs.Words.{label_violations, targets_of_jump, terminal_labels, first_of};
 ghost use Rattle.hep_control.specs.Labels as passes;
 
-use hep_check::Violation;
-use hep_check::reported::{lesser, line_when, reported};
+use hep_conditions::Violation;
+use hep_conditions::reported::{lesser, line_when, reported};
 use hep_source::{Form, Statement};
 use indexmap::{IndexMap, IndexSet};
 use std::alloc::{AllocError, Global};

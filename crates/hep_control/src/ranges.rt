@@ -1,7 +1,7 @@
 //! The DO ranges of a unit (X3.9-1978, 11.10.1).
 ghost use Rattle.std.specs.Prelude.{◌≡◌, IfOk, OnOk, map, ◌++◌, option_to_list};
 ghost use Rattle.std.specs.Option.{option_map};
-ghost use Rattle.hep_check.specs.Nesting as nesting;
+ghost use Rattle.hep_conditions.specs.Nesting as nesting;
 ghost use Rattle.hep_control.specs.Ranges as spec;
 ghost use Rattle.hep_control.specs.Ranges.{do_range};
 

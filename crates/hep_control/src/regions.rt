@@ -1,7 +1,7 @@
 //! The regions of a unit that no jump may lead into (X3.9-1978, 11.6.3, 11.7.2, 11.8.2 and 11.10.8).
 ghost use Rattle.std.specs.Prelude.{◌≡◌, ◌++◌, Bool, IfOk, OnOk, map};
 ghost use Rattle.std.specs.List.{flat_map, list_any};
-ghost use Rattle.hep_check.specs.Nesting as nesting;
+ghost use Rattle.hep_conditions.specs.Nesting as nesting;
 ghost use Rattle.hep_control.specs.Jumps as spec;
 ghost use Rattle.hep_control.specs.Ranges.{do_range};
 

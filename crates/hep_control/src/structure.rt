@@ -1,17 +1,17 @@
 //! DOs and block IFs that are wrong or aren't nested: 307 (X3.9-1978, 11.5 to 11.10).
 ghost use Rattle.std.specs.Prelude.{◌≡◌, IfOk, true, slice_get};
 ghost use Rattle.std.specs.Option.{unwrap_or};
-ghost use Rattle.hep_check.specs.Nesting as nesting;
-ghost use Rattle.hep_check.specs.Reported as lines;
-ghost use Rattle.hep_check.specs.Words.{first_of};
+ghost use Rattle.hep_conditions.specs.Nesting as nesting;
+ghost use Rattle.hep_conditions.specs.Reported as lines;
+ghost use Rattle.hep_conditions.specs.Words.{first_of};
 ghost use Rattle.hep_control.specs.Structure as spec;
 
 use crate::blocks::{BlockIf, BlockIfs, block_ifs_of};
 use crate::crossing::{least_crossing, line_at};
 use crate::labels::Labels;
 use crate::ranges::ranges_of;
-use hep_check::Violation;
-use hep_check::reported::{lesser, line_when, reported};
+use hep_conditions::Violation;
+use hep_conditions::reported::{lesser, line_when, reported};
 use hep_source::{Form, Statement};
 use std::alloc::{AllocError, Global};
 

@@ -4,7 +4,7 @@ ghost use Rattle.std.specs.Prelude.{◌≡◌, ℕ, Bool, IfOk, OnOk};
 ghost use Rattle.std.specs.List.{list_any};
 ghost use Rattle.hep_control.specs.Sweep as sweep;
 
-use hep_check::reported::{lesser, line_when};
+use hep_conditions::reported::{lesser, line_when};
 use std::alloc::{AllocError, Global};
 use std::collections::BTreeSet;
 

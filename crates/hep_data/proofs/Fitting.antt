@@ -4,20 +4,21 @@ use Rattle.std.specs.Option.{option_map, unwrap_or}
 use Rattle.std.proofs.lemmas.Bool.{and_parts, not-true}
 use Rattle.std.proofs.lemmas.Bool.Decides.{nat_tests}
 use Rattle.std.proofs.lemmas.Option.{none-some}
-use Rattle.hep_machine.specs.Words.{trees_of, DataGroup, Target, Name, Statement, Value, index_among, is_among, Units, main_unit, unit_at, integers_of, cells_of, cells_of_shape, constant_shape, constant_value, shape_by, values_of, Stretch, all_elements, data_groups, element_with, elements_named, groups_in, common_block, is_array, is_common, is_constant_name, is_dummy, is_nonempty, no_shape, common_cells, Bounds, are_dimensions, counted_element, element_number, elements, is_most, is_shape, most_elements, frame_cells, is_local, locals_of, names_of}
+use Rattle.hep_machine.specs.Words.{trees_of, DataGroup, Target, Name, Statement, Value, index_among, is_among, Units, main_unit, unit_at, integers_of, cells_of, cells_of_shape, constant_shape, constant_value, shape_by, values_of, Stretch, all_elements, data_groups, element_with, elements_named, groups_in}
+use Rattle.hep_machine.specs.Words.{common_block, is_array, is_common, is_constant_name, is_dummy, is_nonempty, no_shape, common_cells, Bounds, are_dimensions, counted_element, element_number, elements, is_most, is_shape, most_elements, frame_cells, is_local, locals_of, names_of}
 use Rattle.hep_machine.proofs.ConstantShapes.{constant-shape}
-use Rattle.hep_check.specs.Words.{IsAccepted}
+use Rattle.hep_conditions.specs.Words.{IsAccepted}
 use Rattle.hep_code.specs.declared.variable.Variable.{Variable}
 use Rattle.hep_code.specs.declared.variable.Variable.TheVariants as variables
-use Rattle.hep_frames.specs.Words.{bounds, first_of_part, frame_row, same_part, size_in, variable}
-use Rattle.hep_frames.proofs.FrameRows.{frame_row-cells, variable-first, first-size}
-use Rattle.hep_frames.proofs.Runs.{local-index}
+use Rattle.hep_layout.specs.Words.{bounds, first_of_part, frame_row, same_part, size_in, variable}
+use Rattle.hep_layout.proofs.FrameRows.{frame_row-cells, variable-first, first-size}
+use Rattle.hep_layout.proofs.Runs.{local-index}
 use Rattle.hep_values.proofs.Elements.{number-within}
-use Rattle.hep_accepted.specs.Typing.{HasShape}
-use Rattle.hep_accepted.proofs.Meant.{data_known}
-use Rattle.hep_accepted.proofs.Members.{Has, flat_has, has_filter, has_flat, image_at}
-use Rattle.hep_accepted.proofs.Shaped.{arrays_have_shapes}
-use Rattle.hep_accepted.proofs.Valued.{ConstantsAgree}
+use Rattle.hep_conditions_laws.specs.Typing.{HasShape}
+use Rattle.hep_conditions_laws.proofs.Meant.{data_known}
+use Rattle.hep_conditions_laws.proofs.Members.{Has, flat_has, has_filter, has_flat, image_at}
+use Rattle.hep_conditions_laws.proofs.Shaped.{arrays_have_shapes}
+use Rattle.hep_conditions_laws.proofs.Valued.{ConstantsAgree}
 use Rattle.hep_image.specs.declared.array.Array.{Array}
 use Rattle.hep_image.specs.declared.array.Extents.TheVariants.{Constant, Adjustable}
 use Rattle.hep_image.specs.declared.array.Start.TheVariants.{Local}

@@ -9,7 +9,7 @@ use Rattle.hep_image.specs.Data.{value_in_rows}
 use Rattle.hep_data.specs.declared.cells.Cells.{Cells}
 use Rattle.hep_data.specs.Cells.{Gives, GivesSome, Takes, count_of_cells, index_of_cell, is_among_cells, value_of_cell}
 use Rattle.hep_data.proofs.Taking.{item_at-end}
-use Rattle.hep_symbols.proofs.Notes.{or-assoc, or-none}
+use Rattle.hep_names.proofs.Notes.{or-assoc, or-none}
 
 -- ---- options
 

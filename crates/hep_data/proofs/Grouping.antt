@@ -5,7 +5,7 @@ use Rattle.hep_machine.specs.Words.{DataGroup, Name, Statement, Value}
 use Rattle.hep_code.specs.declared.variable.Variable.{Variable}
 use Rattle.hep_image.specs.declared.array.Array.{Array}
 use Rattle.hep_data.specs.Given.{value_by_group, value_by_groups}
-use Rattle.hep_symbols.proofs.Notes.{or-none, or-assoc}
+use Rattle.hep_names.proofs.Notes.{or-none, or-assoc}
 
 module _ (unit : List Statement) (table : Name → Option Variable) (arrays : List Array) (common : ℕ) (p : ℕ) where
   by_group : DataGroup → Option Value

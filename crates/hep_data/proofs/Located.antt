@@ -7,11 +7,11 @@ use Rattle.std.proofs.lemmas.Option.{none-some, same_Some}
 use Rattle.hep_source.proofs.NameTests.{equal_names, same_name-self}
 use Rattle.hep_machine.specs.Words.{Name, is_among, same_name, Units, main_unit, unit_at, cells_of, same_block, common_cells, opening_layout, Scope, storage_by_dummy, storage_of, index_within, opening, Location, State, common, local, distance, further, frame_cells, locals_of}
 use Rattle.hep_machine.proofs.Locations.{equal_blocks, block-self}
-use Rattle.hep_frames.specs.Words.{IsLaid, address, first_of_part, variable, RunsFrom}
-use Rattle.hep_frames.proofs.Addresses.{one-location}
-use Rattle.hep_frames.proofs.HeldFrames.{opening-is, placed-opening}
-use Rattle.hep_frames.proofs.Runs.{local-index, further-further}
-use Rattle.hep_frames.proofs.Storages.{storage-local}
+use Rattle.hep_layout.specs.Words.{IsLaid, address, first_of_part, variable, RunsFrom}
+use Rattle.hep_layout.proofs.Addresses.{one-location}
+use Rattle.hep_layout.proofs.HeldFrames.{opening-is, placed-opening}
+use Rattle.hep_layout.proofs.Runs.{local-index, further-further}
+use Rattle.hep_layout.proofs.Storages.{storage-local}
 use Rattle.hep_image.specs.Data.{first_frames}
 use Rattle.hep_data.specs.declared.cells.Cells.{Cells}
 use Rattle.hep_data.specs.Cells.{is_among_cells}

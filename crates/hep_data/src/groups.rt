@@ -1,7 +1,7 @@
 //! The groups of the DATA statements of a unit (X3.9-1978, 9.1).
 ghost use Rattle.std.specs.Prelude.{◌≡◌, ◌++◌, [], ◌∷◌, IfOk, OnOk};
 ghost use Rattle.hep_machine.specs.Data as machine;
-ghost use Rattle.hep_symbols.specs.Statements.{rest_after};
+ghost use Rattle.hep_names.specs.Statements.{rest_after};
 
 use hep_source::{DataGroup, Statement};
 use hep_values::statements::groups_in;

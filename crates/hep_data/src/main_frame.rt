@@ -2,8 +2,8 @@
 
 use hep_code::Variable;
 use hep_image::Array;
+use hep_names::Symbols;
 use hep_source::Name;
-use hep_symbols::Symbols;
 use indexmap::IndexMap;
 
 /// The main program's frame, as lowering has found it.

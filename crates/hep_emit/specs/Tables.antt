@@ -4,7 +4,7 @@ use Rattle.std.specs.Option.{unwrap_or}
 use Rattle.hep_machine.specs.Words.{Name, Statement, Units, line_at, value_among, terminal_of, listed_meaning, unit_called}
 use Rattle.hep_code.specs.Words.{NameTable, Table, Target, at, end_of, onward, outward, inward, aside, labelled, AddressedUnit}
 use Rattle.hep_emit.specs.declared.names.Names.{Names}
-use Rattle.hep_variables.specs.declared.places.Places.{Places}
+use Rattle.hep_variables.specs.declared.places.Placement.{Placement}
 use Rattle.hep_emit.specs.declared.tables.Starts.{Starts}
 use Rattle.hep_emit.specs.declared.tables.Tables.{Tables}
 use Rattle.hep_variables.specs.Places.{variable_in, cells_in}
@@ -53,7 +53,7 @@ table_in t =
 
 -- ---- what a unit's code is a function of, by its statements, its places and its program
 
-abbrev pub addressed_by : List Statement → Places → Units → AddressedUnit
+abbrev pub addressed_by : List Statement → Placement → Units → AddressedUnit
 addressed_by unit places program =
     record { unit = unit; variables = variable_in places; cells = cells_in places; subroutines = unit_called program }
 

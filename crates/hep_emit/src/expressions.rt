@@ -1,7 +1,7 @@
 //! The code of expressions: operands from left to right, and then what is done with them (X3.9-1978, 6.6).
 ghost use Rattle.std.specs.Prelude.{◌≡◌, ◌++◌, length, OnOk, IfErr};
 ghost use Rattle.hep_machine.specs.Words.{trees, no_trees, trees_of};
-ghost use Rattle.hep_symbols.specs.Meanings.{meaning};
+ghost use Rattle.hep_names.specs.Meanings.{meaning};
 ghost use Rattle.hep_code.specs.ExpressionCode as code_words;
 ghost use Rattle.hep_emit.specs.Asked.{subscripts_asked, subscripts_asked_listed};
 ghost use Rattle.hep_emit.specs.Limits.{IsTooLong};
@@ -11,8 +11,8 @@ use crate::emit::{Code, counted, emit, emit_evaluation};
 use crate::fault::EmitFault;
 use crate::names::Names;
 use hep_code::{Evaluation, Instruction};
+use hep_names::Meaning;
 use hep_source::{Expr, Name, Node, Occurrence, Value};
-use hep_symbols::Meaning;
 use std::alloc::AllocError;
 
 // The name that no variable has.

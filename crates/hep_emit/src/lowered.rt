@@ -10,9 +10,9 @@ use crate::unit::{EmittedUnit, emit_unit};
 use hep_code::{Depth, Instruction, depth_of};
 use hep_control::control::Control;
 use hep_control::labels::Labels;
-use hep_symbols::{ProgramSymbols, Symbols};
+use hep_names::{ProgramSymbols, Symbols};
 use hep_values::given::constants;
-use hep_variables::Places;
+use hep_variables::Placement;
 use std::alloc::Global;
 
 /// The code of a unit, the index at which an activation of it begins, and its deepest stack of operands.
@@ -32,7 +32,7 @@ pub fn lower_unit(
     alloc: Global,
     program: &ProgramSymbols,
     symbols: &Symbols,
-    places: &Places,
+    places: &Placement,
 ) -> Result<Lowered, EmitFault>
     requires { length program.now ≤ greatest }
     ensures code { IfOk result (λ lowered. lowered.code.items ≡ code_of (addressed_by symbols.now places.now program.now)) }

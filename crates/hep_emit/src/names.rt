@@ -1,13 +1,13 @@
 //! What the names of a unit are.
 ghost use Rattle.std.specs.Prelude.{◌≡◌};
-ghost use Rattle.hep_symbols.specs.Meanings.{meaning};
+ghost use Rattle.hep_names.specs.Meanings.{meaning};
 ghost use Rattle.hep_emit.specs.Tables.{names_in};
 
 use hep_code::Variable;
+use hep_names::{Meaning, Symbols};
 use hep_source::{Name, Value};
-use hep_symbols::{Meaning, Symbols};
 use hep_values::Constants;
-use hep_variables::Places;
+use hep_variables::Placement;
 
 /// The tables of a unit by which its names are looked up.
 #[derive(Clone, Copy)]
@@ -15,7 +15,7 @@ pub struct Names<'a> {
     pub symbols: &'a Symbols<'a>,
     /// The values of the unit's constants.
     pub constants: &'a Constants,
-    pub places: &'a Places,
+    pub places: &'a Placement,
 }
 
 impl<'a> Names<'a> {

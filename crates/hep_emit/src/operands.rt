@@ -13,8 +13,8 @@ use crate::expressions::{emit_all, emit_expression};
 use crate::fault::EmitFault;
 use crate::names::Names;
 use hep_code::Instruction;
+use hep_names::Meaning;
 use hep_source::{DoControl, Expr, Node, PrintItem, Target, Value};
-use hep_symbols::Meaning;
 
 /// What has operands.
 pub(crate) trait Operands {

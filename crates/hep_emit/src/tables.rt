@@ -6,8 +6,8 @@ ghost use Rattle.hep_emit.specs.Tables as spec;
 use crate::flow::{Destination, aside, inward, labelled, line_at, onward, outward};
 use crate::names::Names;
 use hep_control::control::Control;
+use hep_names::ProgramSymbols;
 use hep_source::Name;
-use hep_symbols::ProgramSymbols;
 
 /// Where the code of statements begins, by indexes of instructions.
 #[derive(Drop)]

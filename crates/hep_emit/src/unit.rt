@@ -15,8 +15,8 @@ use crate::tables::{Starts, Tables};
 use hep_code::{Instruction, Operation};
 use hep_control::control::Control;
 use hep_control::labels::is_executable;
+use hep_names::ProgramSymbols;
 use hep_source::Statement;
-use hep_symbols::ProgramSymbols;
 use std::alloc::Global;
 
 /// The most instructions that a unit may have.

@@ -1,26 +1,27 @@
 -- The activation that a CALL or CREATE makes, and what its dummy arguments stand for.
 use Rattle.std.proofs.Common.{◌≡◌, ℕ, ◌+◌, ◌-◌, ◌<◌, Bool, true, false, List, [], ◌∷◌, length, Option, Some, None, Result, Ok, Err, refl, sym, ap, ◌∙◌, subst, arith, zero, suc, ◌++◌, ◌≤◌, if◌then◌else◌, nat_eq, eqb-true, eq-eqb, length-append}
-use Rattle.hep_machine.specs.Words.{Name, Statement, Units, dummies_of, unit_at, Binding, binding_for, binding_with_shapes, bound_values, dummies_for, dummy_before, dummy_for, dummy_with_shape, first_element, from_element, with_actuals, with_shape, with_shapes, with_store, shape_by, is_array, Actual, evaluated, referred, Layout, Scope, storage_of, dummy_at, Bounds, fits, Dummy, State, Store, local, Activation, Level, Process, further, with_value, activation_of, unit_of, run, is_owned, next_activation, scope_of}
+use Rattle.hep_machine.specs.Words.{Name, Statement, Units, dummies_of, unit_at, Binding, binding_for, binding_with_shapes, bound_values, dummies_for, dummy_before, dummy_for, dummy_with_shape, first_element, from_element, with_actuals, with_shape, with_shapes, with_store, shape_by, is_array, Actual, evaluated}
+use Rattle.hep_machine.specs.Words.{referred, Layout, Scope, storage_of, dummy_at, Bounds, fits, Dummy, State, Store, local, Activation, Level, Process, further, with_value, activation_of, unit_of, run, is_owned, next_activation, scope_of}
 use Rattle.hep_machine.specs.declared.event.Kind.{Kind}
 use Rattle.hep_machine.specs.declared.event.Kind.TheVariants.{Shape}
-use Rattle.hep_frames.specs.Words.{RunsFrom, IsLaid, frame_from, is_stacked}
-use Rattle.hep_frames.proofs.Passed.{IsMadeScope, made-further, made-storage}
+use Rattle.hep_layout.specs.Words.{RunsFrom, IsLaid, frame_from, is_stacked}
+use Rattle.hep_layout.proofs.Passed.{IsMadeScope, made-further, made-storage}
 use Rattle.hep_passing.specs.declared.given.Given.{Given}
 use Rattle.hep_passing.specs.declared.given.Given.TheVariants as given
 use Rattle.hep_entering.specs.Calling.{ArePassed, IsPassed, layout_with, IsPassing, called_activation, state_begun}
 use Rattle.hep_entering.specs.Giving.{AreGiven, IsGiven, with_given, AreDistinct}
-use Rattle.hep_frames.proofs.Storages.{same-ok}
-use Rattle.hep_finding.proofs.Activations.{not-owned}
+use Rattle.hep_layout.proofs.Storages.{same-ok}
+use Rattle.hep_layout_laws.proofs.Activations.{not-owned}
 use Rattle.hep_machine.proofs.Ages.{aged, on_stack_made}
-use Rattle.hep_frames.proofs.Memory.{activation-kept, activation-last, unmade}
-use Rattle.hep_frames.proofs.Runs.{runs-entered}
-use Rattle.hep_frames.proofs.Tree.{stacked-on, stacked-top}
-use Rattle.hep_finding.specs.Bound.{AreKept}
+use Rattle.hep_layout.proofs.Memory.{activation-kept, activation-last, unmade}
+use Rattle.hep_layout.proofs.Runs.{runs-entered}
+use Rattle.hep_layout.proofs.FrameTree.{stacked-on, stacked-top}
+use Rattle.hep_layout_laws.specs.Bound.{AreKept}
 use Rattle.hep_arena.specs.Gaps.{frame_among}
-use Rattle.hep_frames.proofs.Frames.{among-with_frame}
-use Rattle.hep_frames.proofs.References.{references-made, unset-ahead}
-use Rattle.hep_frames.proofs.Stacks.{top-numbered}
-use Rattle.hep_proc.specs.Keeping.{IsBegun}
+use Rattle.hep_layout.proofs.Frames.{among-with_frame}
+use Rattle.hep_layout.proofs.References.{references-made, unset-ahead}
+use Rattle.hep_layout.proofs.Stacks.{top-numbered}
+use Rattle.hep_frames.specs.Keeping.{IsBegun}
 use Rattle.hep_entering.specs.Writing.{IsBinding}
 
 -- ---- what a binding stores

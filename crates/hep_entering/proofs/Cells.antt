@@ -2,16 +2,16 @@
 use Rattle.std.proofs.Common.{◌≡◌, ℕ, zero, suc, ◌+◌, ◌*◌, ◌<◌, ◌≤◌, List, [], ◌∷◌, length, take, Some, sym, ap, ◌∙◌, subst, arith, Bool, true, false, Option, None, refl, slice_get, if◌then◌else◌, nat_eq, nat_lt, take_all, eqb-true, eq-eqb, ltb-true, lt-ltb, ltb-false}
 use Rattle.std.proofs.lemmas.Option.{none-some, same_Some, slice_get_within}
 use Rattle.hep_machine.specs.Words.{Name, Statement, index_among, same_name, dummies_of, Units, unit_at, adjustable_dimensions, adjustable_dimensions_of_all, frame_cells, unset_cell, Frame, Layout, unit_of, Location, State, Store, with_cell}
-use Rattle.hep_accepted.proofs.Parts.{found_at}
-use Rattle.hep_frames.specs.Words.{argument, bounds, frame_row, place_of_part, same_part, FramePart, address, cell_in, frame_address, Wanted, is_descriptor, wanted_of, Nodes}
-use Rattle.hep_frames.proofs.FrameRows.{argument-first, bounds-first, equal_parts}
-use Rattle.hep_frames.proofs.Rows.{place-at, placed, owned-by}
+use Rattle.hep_conditions_laws.proofs.Parts.{found_at}
+use Rattle.hep_layout.specs.Words.{argument, bounds, frame_row, place_of_part, same_part, FramePart, address, cell_in, frame_address, DescriptorSlots, is_descriptor, descriptor_slots, Nodes}
+use Rattle.hep_layout.proofs.FrameRows.{argument-first, bounds-first, equal_parts}
+use Rattle.hep_layout.proofs.Rows.{place-at, placed, owned-by}
 use Rattle.hep_entering.specs.Shapes.{cells_to_bounds, cells_to_bounds_of, cells_to_locals}
 use Rattle.hep_machine.specs.declared.slot.Slot.{Slot}
 use Rattle.hep_arena.specs.Gaps.{frame_among}
 use Rattle.hep_arena.specs.Space.{Space}
-use Rattle.hep_proc.specs.Keeping.{Keeps}
-use Rattle.hep_proc.proofs.Stays.{keeps-described, keeps-same, keeps-stored}
+use Rattle.hep_frames.specs.Keeping.{Keeps}
+use Rattle.hep_frames.proofs.Stays.{keeps-described, keeps-same, keeps-stored}
 use Rattle.hep_entering.specs.Writing.{IsSet, is_before, wanted_up_to, with_stored}
 
 -- ---- places
@@ -76,20 +76,20 @@ pub one-cell : (unit : List Statement) (c d : FramePart × ℕ) (n : ℕ) → pl
 one-cell unit c d n e f =
     same_Some c d (sym (owned-by (same_part c.0) c.0 c.1 (frame_row unit) n (equal_parts c.0) e).0 ∙ (owned-by (same_part d.0) d.0 d.1 (frame_row unit) n (equal_parts d.0) f).0)
 
-module _ (program : Units) (t : State) (on out : ℕ → Bool) (layout : Layout) (wanted : Wanted) (a : ℕ) (nodes : Nodes) where
+module _ (program : Units) (t : State) (on out : ℕ → Bool) (layout : Layout) (wanted : DescriptorSlots) (a : ℕ) (nodes : Nodes) where
   abbrev unit : List Statement
   unit = unit_at program (unit_of t a)
 
   -- what is wanted of a cell of the frame
   abbrev of_frame : Bool → FramePart × ℕ → Option Slot
-  of_frame b c = if b then wanted_of program t layout a c else Some unset_cell
+  of_frame b c = if b then descriptor_slots program t layout a c else Some unset_cell
 
-  abbrev up_to : ℕ → Wanted
+  abbrev up_to : ℕ → DescriptorSlots
   up_to m = wanted_up_to program t layout a m wanted
 
   -- more cells, of which no value is wanted of those of the frame
   fewer : (m more : ℕ) → m ≤ more → (b : ℕ) (d : FramePart × ℕ) (v : Slot)
-      → (b ≡ a → (n : ℕ) → place_of_part unit d.0 d.1 ≡ Some n → m ≤ n → n < more → wanted_of program t layout a d ≡ Some v → v ≡ unset_cell)
+      → (b ≡ a → (n : ℕ) → place_of_part unit d.0 d.1 ≡ Some n → m ≤ n → n < more → descriptor_slots program t layout a d ≡ Some v → v ≡ unset_cell)
       → up_to more b d ≡ Some v → up_to m b d ≡ Some v
   fewer m more le b d v unset = by_number (nat_eq b a) refl where
     by_test : b ≡ a → (n : ℕ) → place_of_part unit d.0 d.1 ≡ Some n → (p q : Bool) → nat_lt n m ≡ p → nat_lt n more ≡ q → of_frame q d ≡ Some v → of_frame p d ≡ Some v
@@ -106,14 +106,14 @@ module _ (program : Units) (t : State) (on out : ℕ → Bool) (layout : Layout)
     by_number false e w = w
     by_number true e w = by_place (eqb-true b a e) (place_of_part unit d.0 d.1) refl w
 
-  pub keeps-skipped : (store : Store) (arena : Space) (m more : ℕ) → m ≤ more → ((d : FramePart × ℕ) (n : ℕ) (v : Slot) → place_of_part unit d.0 d.1 ≡ Some n → m ≤ n → n < more → wanted_of program t layout a d ≡ Some v → v ≡ unset_cell)
+  pub keeps-skipped : (store : Store) (arena : Space) (m more : ℕ) → m ≤ more → ((d : FramePart × ℕ) (n : ℕ) (v : Slot) → place_of_part unit d.0 d.1 ≡ Some n → m ≤ n → n < more → descriptor_slots program t layout a d ≡ Some v → v ≡ unset_cell)
       → Keeps program (with_stored t store) on out layout (up_to m) arena nodes → Keeps program (with_stored t store) on out layout (up_to more) arena nodes
   keeps-skipped store arena m more le unset h =
       keeps-same program (with_stored t store) (with_stored t store) on on out layout (up_to m) (up_to more) arena nodes h refl refl (λ b. refl) (λ b d v. fewer m more le b d v (λ own n. unset d n v))
 
   -- the next cell, which keeps no storage unit
   pub keeps-written : (store : Store) (before after : Space) (m : ℕ) (f : Frame) (c : FramePart × ℕ) (slot : Slot)
-      → frame_among a layout ≡ Some f → place_of_part unit c.0 c.1 ≡ Some m → is_descriptor program t a c ≡ true → wanted_of program t layout a c ≡ Some slot → IsSet (f.first + m) slot before after
+      → frame_among a layout ≡ Some f → place_of_part unit c.0 c.1 ≡ Some m → is_descriptor program t a c ≡ true → descriptor_slots program t layout a c ≡ Some slot → IsSet (f.first + m) slot before after
       → Keeps program (with_stored t store) on out layout (up_to m) before nodes → Keeps program (with_stored t store) on out layout (up_to (suc m)) after nodes
   keeps-written store before after m f c slot framed there is wants set h =
       keeps-described program (with_stored t store) on out layout (up_to m) before after nodes (f.first + m) slot h set.contents_are set.holes_are (up_to (suc m)) a c is here now others where

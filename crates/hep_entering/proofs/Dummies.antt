@@ -7,29 +7,29 @@ use Rattle.hep_machine.specs.Words.{Name, Statement, Value, index_among, Units, 
 use Rattle.hep_machine.specs.declared.slot.Slot.{Slot}
 use Rattle.hep_arena.specs.Gaps.{frame_among}
 use Rattle.hep_arena.specs.Space.{Space}
-use Rattle.hep_frames.specs.Words.{address, Wanted, is_descriptor, is_value, number, slot_by_dummy, slot_of_dummy, slot_of_reference, slot_of_value, wanted_of, FramePart, argument, frame_row, place_of_part, same_part, header, Nodes}
-use Rattle.hep_frames.proofs.FrameRows.{argument-first}
-use Rattle.hep_frames.proofs.Rows.{place-at}
-use Rattle.hep_frames.proofs.Runs.{runs-value}
-use Rattle.hep_proc.specs.Keeping.{Keeps, with_unset}
+use Rattle.hep_layout.specs.Words.{address, DescriptorSlots, is_descriptor, is_value, number, slot_by_dummy, slot_of_dummy, slot_of_reference, slot_of_value, descriptor_slots, FramePart, argument, frame_row, place_of_part, same_part, header, Nodes}
+use Rattle.hep_layout.proofs.FrameRows.{argument-first}
+use Rattle.hep_layout.proofs.Rows.{place-at}
+use Rattle.hep_layout.proofs.Runs.{runs-value}
+use Rattle.hep_frames.specs.Keeping.{Keeps, with_unset}
 use Rattle.hep_passing.specs.declared.given.Given.{Given}
 use Rattle.hep_passing.specs.declared.given.Given.TheVariants as given
 use Rattle.hep_entering.specs.Giving.{IsGiven, with_one_given, with_given}
 use Rattle.hep_entering.specs.Writing.{IsPut, IsSet, wanted_up_to, with_stored, IsBinding, is_before}
 use Rattle.hep_entering.proofs.Cells.{keeps-given, keeps-skipped, keeps-written, one-cell}
 use Rattle.std.proofs.lemmas.Bool.Decides.{nat_tests}
-use Rattle.hep_proc.proofs.Stays.{keeps-same}
+use Rattle.hep_frames.proofs.Stays.{keeps-same}
 use Rattle.hep_entering.specs.Shapes.{cells_to_locals}
 use Rattle.hep_entering.proofs.Names.{full-given, given-at, given-many, given-next, index-found}
 
 -- ---- the two cells of one
 
-module _ (program : Units) (t : State) (on out : ℕ → Bool) (layout : Layout) (wanted : Wanted) (a : ℕ) (nodes : Nodes) (f : Frame) (framed : frame_among a layout ≡ Some f)
+module _ (program : Units) (t : State) (on out : ℕ → Bool) (layout : Layout) (wanted : DescriptorSlots) (a : ℕ) (nodes : Nodes) (f : Frame) (framed : frame_among a layout ≡ Some f)
     (k : ℕ) (x : Name) (d : Dummy) (index : index_among x (dummies_of (unit_at program (unit_of t a))) ≡ Some k) (there : dummy_at (activation_of t a).dummies k ≡ d) where
   abbrev unit : List Statement
   unit = unit_at program (unit_of t a)
 
-  abbrev up_to : ℕ → Wanted
+  abbrev up_to : ℕ → DescriptorSlots
   up_to m = wanted_up_to program t layout a m wanted
 
   place : (i m : ℕ) → i < 2 → m ≡ 1 + 2 * k + i → place_of_part unit (argument x) i ≡ Some m
@@ -37,7 +37,7 @@ module _ (program : Units) (t : State) (on out : ℕ → Bool) (layout : Layout)
       let entry = argument-first unit x k index in
       place-at (same_part (argument x)) i (frame_row unit) (subst (λ n. i < n) (sym entry.sized) less) ∙ ap (λ n. Some n) (omega (arith, entry.begins, e))
 
-  wants : (i : ℕ) → wanted_of program t layout a (argument x, i) ≡ slot_of_dummy program t layout a d i
+  wants : (i : ℕ) → descriptor_slots program t layout a (argument x, i) ≡ slot_of_dummy program t layout a d i
   wants i = ap (slot_by_dummy (λ z. slot_of_dummy program t layout a z i) (activation_of t a).dummies) index ∙ ap (λ z. slot_of_dummy program t layout a z i) there
 
   -- storage units of others
@@ -76,13 +76,13 @@ module _ (program : Units) (t : State) (on out : ℕ → Bool) (layout : Layout)
           let entry = argument-first unit x k index in
           runs-value program t layout a x k f framed index owned 0 (omega arith) ∙ ap (λ n. Some n) (omega (arith, entry.begins))
 
-      own : (i : ℕ) → wanted_of program t layout a (argument x, i) ≡ slot_of_value i
+      own : (i : ℕ) → descriptor_slots program t layout a (argument x, i) ≡ slot_of_value i
       own i = wants i ∙ ap (λ b. if b then slot_of_value i else slot_of_reference (address program t layout d.start) d.rest i) (ap (is_owned a) is ∙ eq-eqb a a refl)
 
-      unset : (c : FramePart × ℕ) (n : ℕ) (slot : Slot) → place_of_part unit c.0 c.1 ≡ Some n → 1 + 2 * k ≤ n → n < suc (suc (1 + 2 * k)) → wanted_of program t layout a c ≡ Some slot → slot ≡ unset_cell
+      unset : (c : FramePart × ℕ) (n : ℕ) (slot : Slot) → place_of_part unit c.0 c.1 ≡ Some n → 1 + 2 * k ≤ n → n < suc (suc (1 + 2 * k)) → descriptor_slots program t layout a c ≡ Some slot → slot ≡ unset_cell
       unset c n slot at low high w = by_number (nat_eq n (1 + 2 * k)) refl where
         value : (i : ℕ) → (argument x, i) ≡ c → slot_of_value i ≡ Some slot
-        value i same = sym (own i) ∙ (ap (wanted_of program t layout a) same ∙ w)
+        value i same = sym (own i) ∙ (ap (descriptor_slots program t layout a) same ∙ w)
 
         by_number : (b : Bool) → nat_eq n (1 + 2 * k) ≡ b → slot ≡ unset_cell
         by_number true e =
@@ -105,7 +105,7 @@ none-before None = refl
 none-before (Some n) = grind (arith, nat_tests)
 
 -- the header holds nothing that is wanted
-pub keeps-unset : (program : Units) (s t : State) (on out : ℕ → Bool) (layout : Layout) (wanted : Wanted) (a : ℕ) (arena : Space) (nodes : Nodes) → t.activations ≡ s.activations
+pub keeps-unset : (program : Units) (s t : State) (on out : ℕ → Bool) (layout : Layout) (wanted : DescriptorSlots) (a : ℕ) (arena : Space) (nodes : Nodes) → t.activations ≡ s.activations
     → Keeps program s on out layout (with_unset a wanted) arena nodes → Keeps program (with_stored t s.store) on out layout (wanted_up_to program t layout a 1 wanted) arena nodes
 keeps-unset program s t on out layout wanted a arena nodes same h =
     keeps-skipped program t on out layout wanted a nodes s.store arena 0 1 (omega arith) headed
@@ -113,22 +113,22 @@ keeps-unset program s t on out layout wanted a arena nodes same h =
   where
     none : (b : ℕ) (c : FramePart × ℕ) (v : Slot) → wanted_up_to program t layout a 0 wanted b c ≡ Some v → with_unset a wanted b c ≡ Some v
     none b c v w = by_number (nat_eq b a) w where
-      by_number : (x : Bool) → (if x then (if is_before 0 (place_of_part (unit_at program (unit_of t a)) c.0 c.1) then wanted_of program t layout a c else Some unset_cell) else wanted b c) ≡ Some v → (if x then Some unset_cell else wanted b c) ≡ Some v
+      by_number : (x : Bool) → (if x then (if is_before 0 (place_of_part (unit_at program (unit_of t a)) c.0 c.1) then descriptor_slots program t layout a c else Some unset_cell) else wanted b c) ≡ Some v → (if x then Some unset_cell else wanted b c) ≡ Some v
       by_number false w = w
-      by_number true w = sym (ap (λ z. if z then wanted_of program t layout a c else Some unset_cell) (none-before (place_of_part (unit_at program (unit_of t a)) c.0 c.1))) ∙ w
+      by_number true w = sym (ap (λ z. if z then descriptor_slots program t layout a c else Some unset_cell) (none-before (place_of_part (unit_at program (unit_of t a)) c.0 c.1))) ∙ w
 
-    headed : (d : FramePart × ℕ) (n : ℕ) (v : Slot) → place_of_part (unit_at program (unit_of t a)) d.0 d.1 ≡ Some n → 0 ≤ n → n < 1 → wanted_of program t layout a d ≡ Some v → v ≡ unset_cell
+    headed : (d : FramePart × ℕ) (n : ℕ) (v : Slot) → place_of_part (unit_at program (unit_of t a)) d.0 d.1 ≡ Some n → 0 ≤ n → n < 1 → descriptor_slots program t layout a d ≡ Some v → v ≡ unset_cell
     headed d n v at low high w =
         let first : 0 ≡ n = omega (arith, high) in
         let same : (header, 0) ≡ d = one-cell (unit_at program (unit_of t a)) (header, 0) d n (ap (λ m. Some m) first) at in
-        absurd (none-some v (ap (wanted_of program t layout a) same ∙ w))
+        absurd (none-some v (ap (descriptor_slots program t layout a) same ∙ w))
 
 -- ---- the first k are
 
 -- what is kept once the first k are written, where the frame begins at a cell
 abbrev pub AreBound : ℕ → List Given → Space → Nodes → ℕ → Space → Nodes → Type 0
 AreBound first given before old k after new =
-    (program : Units) (s t : State) (on out : ℕ → Bool) (layout : Layout) (wanted : Wanted) (a : ℕ)
+    (program : Units) (s t : State) (on out : ℕ → Bool) (layout : Layout) (wanted : DescriptorSlots) (a : ℕ)
     → Keeps program s on out layout (with_unset a wanted) before old → t.activations ≡ s.activations → ((y : Name) → s.store (local a y 1) ≡ unset_cell) → IsBinding program t layout a first given
     → Keeps program (with_stored t (with_given s.store a (dummies_of (unit_at program (unit_of t a))) (take k given))) on out layout (wanted_up_to program t layout a (1 + 2 * k) wanted) after new
 
@@ -164,7 +164,7 @@ bound-next first given before old k at default mid after nodes new less place pu
     bound-goes_on first given before old k (get_or given k default) mid after nodes new (slice_get-get_or given k default less) (subst (λ p. IsPut p (get_or given k default) mid after) place put) same h
 
 pub bound-ends : (first : ℕ) (given : List Given) (before : Space) (old : Nodes) (k : ℕ) (after : Space) (new : Nodes) → k ≡ length given → AreBound first given before old k after new
-    → (program : Units) (s t : State) (on out : ℕ → Bool) (layout : Layout) (wanted : Wanted) (a : ℕ)
+    → (program : Units) (s t : State) (on out : ℕ → Bool) (layout : Layout) (wanted : DescriptorSlots) (a : ℕ)
     → Keeps program s on out layout (with_unset a wanted) before old → t.activations ≡ s.activations → t.store ≡ with_given s.store a (dummies_of (unit_at program (unit_of t a))) given → ((y : Name) → s.store (local a y 1) ≡ unset_cell)
     → IsBinding program t layout a first given → Keeps program t on out layout (wanted_up_to program t layout a (cells_to_locals (unit_at program (unit_of t a))) wanted) after new
 bound-ends first given before old k after new all so_far program s t on out layout wanted a h same stored fresh b =

@@ -2,19 +2,19 @@
 use Rattle.std.proofs.Common.{◌≡◌, inl, inr, ℕ, ◌-◌, ◌≤◌, true, false, List, [], ◌∷◌, ◌++◌, Some, refl, sym, ap, ◌∙◌, subst, arith, ◌⊎◌, suc, ◌<◌, Bool, length, Option, None, nat_eq, if◌then◌else◌, eq-eqb, eqb-true, lt-ltb, length-append}
 use Rattle.std.proofs.lemmas.Grind.{flat_map-append}
 use Rattle.hep_machine.specs.Words.{Units, unit_at, activations_on, Frame, Layout, numbered, with_numbered, activation_of, unit_of, run, Level, Process, State, Activation, Statement, unset_cell, dummy_at, frame_cells}
-use Rattle.hep_frames.specs.Words.{level_of, Describes, loop_among, slot_of_loop, slot_on_level, wanted_of, times, IsLaid, cell_in, frame_address, frame_from, IsMadeAt, FramePart, argument, iteration, bounds, frame_row, place_of_part, same_part, AreWantedBut, is_stacked, IsTree, Nodes}
-use Rattle.hep_frames.proofs.Stacks.{once}
+use Rattle.hep_layout.specs.Words.{level_of, Describes, loop_among, slot_of_loop, slot_on_level, descriptor_slots, times, IsLaid, cell_in, frame_address, frame_from, IsMadeAt, FramePart, argument, iteration, bounds, frame_row, place_of_part, same_part, AreNeededBut, is_stacked, IsFrameTree, Nodes}
+use Rattle.hep_layout.proofs.Stacks.{once}
 use Rattle.hep_entering.proofs.Found.{IsAmong, all_levels, among-numbered, among-parts, among-set, find-among, found, times-all}
 use Rattle.std.proofs.lemmas.Option.{none-some}
 use Rattle.hep_machine.specs.declared.slot.Slot.{Slot}
 use Rattle.hep_arena.specs.Gaps.{frame_among}
 use Rattle.hep_arena.specs.Space.{Space}
-use Rattle.hep_frames.proofs.Addresses.{IsFramed, framed}
-use Rattle.hep_frames.proofs.FrameRows.{equal_parts, frame_row-cells}
-use Rattle.hep_frames.proofs.Memory.{one-of}
-use Rattle.hep_frames.proofs.Rows.{owned-by}
-use Rattle.hep_frames.proofs.Wants.{wanted-entered}
-use Rattle.hep_proc.specs.Keeping.{Keeps}
+use Rattle.hep_layout.proofs.Addresses.{IsFramed, framed}
+use Rattle.hep_layout.proofs.FrameRows.{equal_parts, frame_row-cells}
+use Rattle.hep_layout.proofs.Memory.{one-of}
+use Rattle.hep_layout.proofs.Rows.{owned-by}
+use Rattle.hep_layout.proofs.Wants.{wanted-entered}
+use Rattle.hep_frames.specs.Keeping.{Keeps}
 use Rattle.hep_entering.specs.Calling.{layout_with}
 use Rattle.hep_entering.specs.Writing.{is_before, wanted_up_to}
 
@@ -86,7 +86,7 @@ module _ (program : Units) (s t : State) (x : Activation) (layout : Layout) (fir
   long = ap (λ (xs : List Activation). length xs) more ∙ length-append s.activations (x ∷ []) ∙ omega arith
 
   -- what is wanted of the others was wanted
-  was-wanted : (a : ℕ) (c : FramePart × ℕ) (v : Slot) → nat_eq a n ≡ false → a ≤ length s.activations → wanted_of program t after a c ≡ Some v → wanted_of program s layout a c ≡ Some v
+  was-wanted : (a : ℕ) (c : FramePart × ℕ) (v : Slot) → nat_eq a n ≡ false → a ≤ length s.activations → descriptor_slots program t after a c ≡ Some v → descriptor_slots program s layout a c ≡ Some v
   was-wanted a (iteration d, i) v other le w = by_level (level_of t a) refl w where
     by_level : (o : Option Level) → level_of t a ≡ o → slot_on_level o d i ≡ Some v → slot_on_level (level_of s a) d i ≡ Some v
     by_level None e w = absurd (none-some v w)
@@ -111,9 +111,9 @@ module _ (program : Units) (s t : State) (x : Activation) (layout : Layout) (fir
     by_place None e k = absurd (no-cell (frame_among n after) k)
     by_place (Some m) e k = lt-ltb m (frame_cells unit) (subst (λ z. m < z) (frame_row-cells unit) (owned-by (same_part c.0) c.0 c.1 (frame_row unit) m (equal_parts c.0) e).1)
 
-  module _ (on out : ℕ → Bool) (arena : Space) (nodes : Nodes) (h : Keeps program t on out after (wanted_up_to program t after n (frame_cells (unit_at program (unit_of t n))) (wanted_of program s layout)) arena nodes)
+  module _ (on out : ℕ → Bool) (arena : Space) (nodes : Nodes) (h : Keeps program t on out after (wanted_up_to program t after n (frame_cells (unit_at program (unit_of t n))) (descriptor_slots program s layout)) arena nodes)
       (stacks : (a : ℕ) → is_stacked t a ≡ on a) where
-    described : Describes program t after (wanted_of program t after) arena.contents
+    described : Describes program t after (descriptor_slots program t after) arena.contents
     described a c p v is k w = h.described a c p v is k (by_number (nat_eq a n) refl) where
       unit : List Statement
       unit = unit_at program (unit_of t n)
@@ -121,23 +121,23 @@ module _ (program : Units) (s t : State) (x : Activation) (layout : Layout) (fir
       frame : IsFramed program t (length arena.contents) after a c p
       frame = framed program t (length arena.contents) after a c p h.memory.laid k
 
-      by_number : (b : Bool) → nat_eq a n ≡ b → (if b then (if is_before (frame_cells unit) (place_of_part unit c.0 c.1) then wanted_of program t after n c else Some unset_cell) else wanted_of program s layout a c) ≡ Some v
+      by_number : (b : Bool) → nat_eq a n ≡ b → (if b then (if is_before (frame_cells unit) (place_of_part unit c.0 c.1) then descriptor_slots program t after n c else Some unset_cell) else descriptor_slots program s layout a c) ≡ Some v
       by_number true e =
           let same = eqb-true a n e in
           let before = all-before c p (ap (λ z. frame_address program t after z c) (sym same) ∙ k) in
-          ap (λ z. if z then wanted_of program t after n c else Some unset_cell) before ∙ (ap (λ z. wanted_of program t after z c) (sym same) ∙ w)
+          ap (λ z. if z then descriptor_slots program t after n c else Some unset_cell) before ∙ (ap (λ z. descriptor_slots program t after z c) (sym same) ∙ w)
       by_number false e = was-wanted a c v e (by_frame (one-of program s t x layout first more a frame.frame laid frame.framed)) w where
         by_frame : ((n ≡ a) × (frame_from program t n first ≡ frame.frame)) ⊎ (frame_among a layout ≡ Some frame.frame) → a ≤ length s.activations
         by_frame (inl same) = let both : true ≡ false = sym (eq-eqb a n (sym same.0)) ∙ e in absurd cc
         by_frame (inr there) = (laid.made a frame.frame there).1
 
-    pub keeps-entered : Keeps program t (is_stacked t) out (layout_with program t layout first) (wanted_of program t (layout_with program t layout first)) arena nodes
+    pub keeps-entered : Keeps program t (is_stacked t) out (layout_with program t layout first) (descriptor_slots program t (layout_with program t layout first)) arena nodes
     keeps-entered =
         let same : on ≡ is_stacked t = λ i a. sym (stacks a) i in
         record {
           memory = h.memory;
-          tree = subst (λ test. IsTree t test out nodes) same h.tree;
-          rest = subst (λ test. AreWantedBut None t test out) same h.rest;
+          tree = subst (λ test. IsFrameTree t test out nodes) same h.tree;
+          rest = subst (λ test. AreNeededBut None t test out) same h.rest;
           framed = h.framed;
           frames_are = h.frames_are;
           described = described;

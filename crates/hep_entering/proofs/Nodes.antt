@@ -2,30 +2,30 @@
 use Rattle.std.proofs.Common.{◌≡◌, ℕ, Bool, true, false, Some, None, refl, sym, ap, ◌∙◌, suc, ◌+◌, ◌<◌, ◌≤◌, length, Option, subst, arith, if◌then◌else◌, nat_eq, eqb-true, eq-eqb}
 use Rattle.std.specs.Option.{option_map}
 use Rattle.std.proofs.lemmas.Option.{none-some}
-use Rattle.hep_frames.specs.Words.{Node, Nodes, with_node, with_one_more, IsMemory}
+use Rattle.hep_layout.specs.Words.{FrameNode, Nodes, with_node, with_one_more, IsMemory}
 use Rattle.hep_machine.specs.Words.{Units, Frame, Layout, common_cells, lowest_gap, with_frame, State}
 use Rattle.hep_arena.specs.Gaps.{frame_among}
 use Rattle.hep_arena.specs.Holes.{IsOut, first_fit, taken}
 use Rattle.hep_arena.specs.Space.{Space}
 use Rattle.hep_arena.proofs.Gaps.{taken-gaps}
-use Rattle.hep_frames.proofs.Frames.{among, among-out, among-with_frame, apart-with_frame}
-use Rattle.hep_frames.proofs.Memory.{memory-fits}
-use Rattle.hep_proc.specs.Keeping.{IsTaken}
+use Rattle.hep_layout.proofs.Frames.{among, among-out, among-with_frame, apart-with_frame}
+use Rattle.hep_layout.proofs.Memory.{memory-fits}
+use Rattle.hep_frames.specs.Keeping.{IsTaken}
 
 -- ---- the nodes
 
 -- one that was there is under its key still, of the same activation
-pub node-stays : (old : Nodes) (v : ℕ) (new : Node) (above : ℕ) → old v ≡ None → (key : ℕ) (n : Node) → old key ≡ Some n → (k : Node) × (with_node old v new above key ≡ Some k) × (k.activation ≡ n.activation)
+pub node-stays : (old : Nodes) (v : ℕ) (new : FrameNode) (above : ℕ) → old v ≡ None → (key : ℕ) (n : FrameNode) → old key ≡ Some n → (k : FrameNode) × (with_node old v new above key ≡ Some k) × (k.activation ≡ n.activation)
 node-stays old v new above vacant key n e = by_key (nat_eq key v) refl where
-  by_parent : (b : Bool) → (k : Node) × ((if b then option_map with_one_more (old key) else old key) ≡ Some k) × (k.activation ≡ n.activation)
+  by_parent : (b : Bool) → (k : FrameNode) × ((if b then option_map with_one_more (old key) else old key) ≡ Some k) × (k.activation ≡ n.activation)
   by_parent true = (with_one_more n, ap (option_map with_one_more) e, refl)
   by_parent false = (n, e, refl)
 
-  by_key : (b : Bool) → nat_eq key v ≡ b → (k : Node) × ((if b then Some new else (if nat_eq key above then option_map with_one_more (old key) else old key)) ≡ Some k) × (k.activation ≡ n.activation)
+  by_key : (b : Bool) → nat_eq key v ≡ b → (k : FrameNode) × ((if b then Some new else (if nat_eq key above then option_map with_one_more (old key) else old key)) ≡ Some k) × (k.activation ≡ n.activation)
   by_key false t = by_parent (nat_eq key above)
   by_key true t = absurd (none-some n (sym (ap old (eqb-true key v t) ∙ vacant) ∙ e))
 
-pub node-new : (old : Nodes) (v : ℕ) (new : Node) (above : ℕ) → with_node old v new above v ≡ Some new
+pub node-new : (old : Nodes) (v : ℕ) (new : FrameNode) (above : ℕ) → with_node old v new above v ≡ Some new
 node-new old v new above = ap (λ b. if b then Some new else (if nat_eq v above then option_map with_one_more (old v) else old v)) (eq-eqb v v refl)
 
 -- ---- the block of the frame is out, and inside the arena

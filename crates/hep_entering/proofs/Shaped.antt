@@ -5,16 +5,16 @@ use Rattle.hep_machine.specs.Words.{index_among, Units, dummies_of, unit_at, uns
 use Rattle.hep_machine.specs.declared.shape.Bound.{Bound}
 use Rattle.hep_machine.specs.declared.slot.Slot.{Slot}
 use Rattle.hep_arena.specs.Space.{Space}
-use Rattle.hep_frames.specs.Words.{Wanted, number, slot_by_dummy, slot_of_bounds, slot_of_upper, wanted_of, FramePart, bounds, place_of_part, Nodes, Node}
-use Rattle.hep_proc.specs.Keeping.{Keeps}
+use Rattle.hep_layout.specs.Words.{DescriptorSlots, number, slot_by_dummy, slot_of_bounds, slot_of_upper, descriptor_slots, FramePart, bounds, place_of_part, Nodes, FrameNode}
+use Rattle.hep_frames.specs.Keeping.{Keeps}
 use Rattle.hep_entering.specs.Shapes.{IsBoundPut, IsShaping, cells_to_bounds_of, AreShaping, IsFramedBy, cells_of_shape, cells_of_shapes}
 use Rattle.hep_entering.specs.Writing.{IsSet, wanted_up_to}
 use Rattle.hep_entering.proofs.Cells.{keeps-skipped, keeps-written, one-cell, place-bounds, to-next, to-end, to-first}
 use Rattle.hep_entering.proofs.Names.{index-found}
 use Rattle.hep_arena.specs.Gaps.{frame_among}
 use Rattle.hep_arena.specs.Holes.{IsOut}
-use Rattle.hep_frames.proofs.Frames.{among}
-use Rattle.hep_frames.proofs.Memory.{frame-is-out}
+use Rattle.hep_layout.proofs.Frames.{among}
+use Rattle.hep_layout.proofs.Memory.{frame-is-out}
 use Rattle.hep_passing.specs.Shapes.{AreShapesOf, IsShapeOf}
 
 -- ---- the two cells of a dimension
@@ -29,17 +29,17 @@ upper-slot [] j i b e same = absurd (none-some b e)
 upper-slot (c ∷ cs) zero i b e same = ap (slot_of_bounds (c ∷ cs)) same ∙ ap (λ (z : Bound). Some (slot_of_upper z.upper)) (same_Some c b e)
 upper-slot (c ∷ cs) (suc j) i b e same = ap (slot_of_bounds (c ∷ cs)) (let next : i ≡ suc (suc (2 * j + 1)) = omega (arith, same) in next) ∙ upper-slot cs j (2 * j + 1) b e refl
 
-module _ (program : Units) (s : State) (on out : ℕ → Bool) (layout : Layout) (wanted : Wanted) (a k at : ℕ) (shape : Bounds) (nodes : Nodes) (h : IsShaping program s layout a k at shape) where
+module _ (program : Units) (s : State) (on out : ℕ → Bool) (layout : Layout) (wanted : DescriptorSlots) (a k at : ℕ) (shape : Bounds) (nodes : Nodes) (h : IsShaping program s layout a k at shape) where
   abbrev first : ℕ
   first = cells_to_bounds_of (unit_at program (unit_of s a)) k
 
-  abbrev up_to : ℕ → Wanted
+  abbrev up_to : ℕ → DescriptorSlots
   up_to m = wanted_up_to program s layout a m wanted
 
   index : index_among h.name (dummies_of (unit_at program (unit_of s a))) ≡ Some k
   index = index-found h.name (dummies_of (unit_at program (unit_of s a))) k h.distinct h.named
 
-  wants : (i : ℕ) → wanted_of program s layout a (bounds h.name, i) ≡ slot_of_bounds shape i
+  wants : (i : ℕ) → descriptor_slots program s layout a (bounds h.name, i) ≡ slot_of_bounds shape i
   wants i = ap (slot_by_dummy (λ d. slot_of_bounds d.shape i) (activation_of s a).dummies) index ∙ ap (λ bs. slot_of_bounds bs i) h.shape_is
 
   place : (i m : ℕ) → i < 2 * length shape → m ≡ first + i → place_of_part (unit_at program (unit_of s a)) (bounds h.name) i ≡ Some m
@@ -62,12 +62,12 @@ module _ (program : Units) (s : State) (on out : ℕ → Bool) (layout : Layout)
 
     keeps-open : (after : Space) → b.upper ≡ None → Keeps program s on out layout (up_to (suc m)) after nodes → Keeps program s on out layout (up_to (suc (suc m))) after nodes
     keeps-open after upper kept = keeps-skipped program s on out layout wanted a nodes s.store after (suc m) (suc (suc m)) (omega arith) unset kept where
-      unset : (d : FramePart × ℕ) (n : ℕ) (v : Slot) → place_of_part (unit_at program (unit_of s a)) d.0 d.1 ≡ Some n → suc m ≤ n → n < suc (suc m) → wanted_of program s layout a d ≡ Some v → v ≡ unset_cell
+      unset : (d : FramePart × ℕ) (n : ℕ) (v : Slot) → place_of_part (unit_at program (unit_of s a)) d.0 d.1 ≡ Some n → suc m ≤ n → n < suc (suc m) → descriptor_slots program s layout a d ≡ Some v → v ≡ unset_cell
       unset d n v here low high w =
           let same : n ≡ first + (2 * j + 1) = omega (arith, low, high, m_is) in
           let cell = one-cell (unit_at program (unit_of s a)) (bounds h.name, 2 * j + 1) d n (place (2 * j + 1) n (omega (arith, inside)) same) here in
-          let none : wanted_of program s layout a (bounds h.name, 2 * j + 1) ≡ Some unset_cell = wants (2 * j + 1) ∙ (upper-slot shape j (2 * j + 1) b there refl ∙ ap (λ o. Some (slot_of_upper o)) upper) in
-          sym (same_Some unset_cell v (sym none ∙ (ap (wanted_of program s layout a) cell ∙ w)))
+          let none : descriptor_slots program s layout a (bounds h.name, 2 * j + 1) ≡ Some unset_cell = wants (2 * j + 1) ∙ (upper-slot shape j (2 * j + 1) b there refl ∙ ap (λ o. Some (slot_of_upper o)) upper) in
+          sym (same_Some unset_cell v (sym none ∙ (ap (descriptor_slots program s layout a) cell ∙ w)))
 
     pub keeps-bound : (before after : Space) (p : ℕ) (o : Option ℤ) → b.upper ≡ o → p ≡ at + 2 * j → IsBoundPut p b.lower o before after → Keeps program s on out layout (up_to m) before nodes → Keeps program s on out layout (up_to (suc (suc m))) after nodes
     keeps-bound before after p None upper p_is put kept = keeps-open after upper (keeps-lower before after p p_is put kept)
@@ -78,7 +78,7 @@ module _ (program : Units) (s : State) (on out : ℕ → Bool) (layout : Layout)
 -- what is kept once they are written
 abbrev pub AreShaped : ℕ → Bounds → Space → Nodes → ℕ → Space → Nodes → Type 0
 AreShaped at shape before old j after new =
-    (program : Units) (s : State) (on out : ℕ → Bool) (layout : Layout) (wanted : Wanted) (a k : ℕ)
+    (program : Units) (s : State) (on out : ℕ → Bool) (layout : Layout) (wanted : DescriptorSlots) (a k : ℕ)
     → Keeps program s on out layout (wanted_up_to program s layout a (cells_to_bounds_of (unit_at program (unit_of s a)) k) wanted) before old → IsShaping program s layout a k at shape
     → Keeps program s on out layout (wanted_up_to program s layout a (cells_to_bounds_of (unit_at program (unit_of s a)) k + 2 * j) wanted) after new
 
@@ -96,7 +96,7 @@ shaped-next at shape before old j p default mid after nodes new less p_is put sa
     subst (λ m. Keeps program s on out layout (wanted_up_to program s layout a m wanted) after new) cells (subst (Keeps program s on out layout (wanted_up_to program s layout a (suc (suc (first + 2 * j))) wanted) after) (sym same_nodes) written)
 
 pub shaped-ends : (at : ℕ) (shape : Bounds) (before : Space) (old : Nodes) (j : ℕ) (after : Space) (new : Nodes) → j ≡ length shape → AreShaped at shape before old j after new
-    → (program : Units) (s : State) (on out : ℕ → Bool) (layout : Layout) (wanted : Wanted) (a k : ℕ)
+    → (program : Units) (s : State) (on out : ℕ → Bool) (layout : Layout) (wanted : DescriptorSlots) (a k : ℕ)
     → Keeps program s on out layout (wanted_up_to program s layout a (cells_to_bounds_of (unit_at program (unit_of s a)) k) wanted) before old → IsShaping program s layout a k at shape
     → Keeps program s on out layout (wanted_up_to program s layout a (cells_to_bounds_of (unit_at program (unit_of s a)) (k + 1)) wanted) after new
 shaped-ends at shape before old j after new all so_far program s on out layout wanted a k kept h =
@@ -131,7 +131,7 @@ there-is (x ∷ xs) (suc j) less = there-is xs j (omega (arith, less))
 -- what is kept once those of the first j are written, and where the next ones begin
 abbrev pub AreAllShaped : ℕ → List (Option Bounds) → Space → Nodes → ℕ → ℕ → Space → Nodes → Type 0
 AreAllShaped at shapes before old j next after new =
-    (program : Units) (s : State) (on out : ℕ → Bool) (layout : Layout) (wanted : Wanted) (a : ℕ) (frame : Frame)
+    (program : Units) (s : State) (on out : ℕ → Bool) (layout : Layout) (wanted : DescriptorSlots) (a : ℕ) (frame : Frame)
     → Keeps program s on out layout (wanted_up_to program s layout a (cells_to_bounds_of (unit_at program (unit_of s a)) 0) wanted) before old
     → frame_among a layout ≡ Some frame → at ≡ frame.first + cells_to_bounds_of (unit_at program (unit_of s a)) 0 → AreShaping program s a shapes
     → (next ≡ frame.first + cells_to_bounds_of (unit_at program (unit_of s a)) j)
@@ -140,7 +140,7 @@ AreAllShaped at shapes before old j next after new =
 -- what the writing of one of them keeps
 abbrev pub IsOneShaped : ℕ → Option Bounds → Space → Nodes → Space → Nodes → Type 0
 IsOneShaped at shape before old after new =
-    (bounds : Bounds) → shape ≡ Some bounds → (program : Units) (s : State) (on out : ℕ → Bool) (layout : Layout) (wanted : Wanted) (a k : ℕ)
+    (bounds : Bounds) → shape ≡ Some bounds → (program : Units) (s : State) (on out : ℕ → Bool) (layout : Layout) (wanted : DescriptorSlots) (a k : ℕ)
     → Keeps program s on out layout (wanted_up_to program s layout a (cells_to_bounds_of (unit_at program (unit_of s a)) k) wanted) before old → IsShaping program s layout a k at bounds
     → Keeps program s on out layout (wanted_up_to program s layout a (cells_to_bounds_of (unit_at program (unit_of s a)) (k + 1)) wanted) after new
 
@@ -175,7 +175,7 @@ all-shaped-next at shapes before old j p q o mid after nodes new e0 q_is none so
           )
 
 pub all-shaped-ends : (at : ℕ) (shapes : List (Option Bounds)) (before : Space) (old : Nodes) (j p : ℕ) (after : Space) (new : Nodes) → j ≡ length shapes → AreAllShaped at shapes before old j p after new
-    → (program : Units) (s : State) (on out : ℕ → Bool) (layout : Layout) (wanted : Wanted) (a : ℕ) (frame : Frame)
+    → (program : Units) (s : State) (on out : ℕ → Bool) (layout : Layout) (wanted : DescriptorSlots) (a : ℕ) (frame : Frame)
     → Keeps program s on out layout (wanted_up_to program s layout a (cells_to_bounds_of (unit_at program (unit_of s a)) 0) wanted) before old
     → frame_among a layout ≡ Some frame → at ≡ frame.first + cells_to_bounds_of (unit_at program (unit_of s a)) 0 → AreShaping program s a shapes
     → Keeps program s on out layout (wanted_up_to program s layout a (frame_cells (unit_at program (unit_of s a))) wanted) after new
@@ -203,14 +203,14 @@ shapes-last unit ds shapes h =
     let cells = all-cells unit (dummies_of unit) shapes h.as_many (λ k x o e f. shape-cells unit x (dummy_at ds k) o (h.each k x o e f)) in
     omega (arith, cells, to-first unit)
 
-pub begins-behind : (program : Units) (s : State) (layout : Layout) (a : ℕ) (n : Node) (shapes : List (Option Bounds)) (at : ℕ) → (h : IsFramedBy program s layout a n) → AreShaping program s a shapes → at + cells_of_shapes shapes ≡ n.first + n.cells
+pub begins-behind : (program : Units) (s : State) (layout : Layout) (a : ℕ) (n : FrameNode) (shapes : List (Option Bounds)) (at : ℕ) → (h : IsFramedBy program s layout a n) → AreShaping program s a shapes → at + cells_of_shapes shapes ≡ n.first + n.cells
     → at ≡ h.frame.first + cells_to_bounds_of (unit_at program (unit_of s a)) 0
 begins-behind program s layout a n shapes at h shaping is =
     omega (arith, is, h.begins, h.sized, shapes-last (unit_at program (unit_of s a)) (activation_of s a).dummies shapes shaping.shapes_are)
 
 -- ---- the cells of a frame that is kept
 
-module _ (program : Units) (s : State) (on out : ℕ → Bool) (layout : Layout) (wanted : Wanted) (arena : Space) (nodes : Nodes) (key : ℕ) (n : Node)
+module _ (program : Units) (s : State) (on out : ℕ → Bool) (layout : Layout) (wanted : DescriptorSlots) (arena : Space) (nodes : Nodes) (key : ℕ) (n : FrameNode)
     (kept : Keeps program s on out layout wanted arena nodes) (there : nodes key ≡ Some n) where
   abbrev frame-here : Frame
   frame-here = record { activation = n.activation; first = n.first; cells = n.cells }

@@ -2,9 +2,9 @@
 use Rattle.std.specs.Prelude.{◌≡◌, ℕ, ◌≤◌, Bool, true, List, [], ◌∷◌, ◌++◌, length, Some, Ok}
 use Rattle.hep_machine.specs.Words.{Statement, Units, dummies_of, unit_at, Binding, first_element, from_element, level_after_statement, Actual, evaluated, referred, Layout, with_frame, Scope, storage_of, living, unit_of, with_process, run, Activation, Dummy, Level, Process, State, Top, binding_of, entry_level, next_activation, with_activation, with_new_process, frame_cells}
 use Rattle.hep_arena.specs.Space.{Space}
-use Rattle.hep_frames.specs.Words.{frame_from, wanted_of, RunsFrom, Nodes, also, is_stacked}
-use Rattle.hep_finding.specs.Bound.{AreKept}
-use Rattle.hep_proc.specs.Keeping.{Keeps}
+use Rattle.hep_layout.specs.Words.{frame_from, descriptor_slots, RunsFrom, Nodes, also, is_stacked}
+use Rattle.hep_layout_laws.specs.Bound.{AreKept}
+use Rattle.hep_frames.specs.Keeping.{Keeps}
 use Rattle.hep_passing.specs.declared.given.Given.{Given}
 use Rattle.hep_passing.specs.declared.given.Given.TheVariants as given
 use Rattle.hep_entering.specs.Giving.{AreDistinct}
@@ -57,7 +57,7 @@ layout_with program t layout first = with_frame layout (frame_from program t (le
 abbrev pub IsWritten : Units → State → State → Layout → ℕ → ℕ → (ℕ → Bool) → Space → Nodes → Type 0
 IsWritten program s t layout first m out arena nodes =
     Keeps program t (also (length t.activations) (is_stacked s)) (also (length t.activations) out) (layout_with program t layout first)
-    (wanted_up_to program t (layout_with program t layout first) (length t.activations) m (wanted_of program s layout)) arena nodes
+    (wanted_up_to program t (layout_with program t layout first) (length t.activations) m (descriptor_slots program s layout)) arena nodes
 
 -- the unit of a state's last activation
 abbrev pub unit_begun : Units → State → List Statement
@@ -71,7 +71,7 @@ IsAllWritten program s t layout first out arena nodes =
 -- the frames of state t are kept, with that of its last activation, where those of some activations were out before
 abbrev pub IsKeptIn : Units → State → Layout → ℕ → (ℕ → Bool) → Space → Nodes → Type 0
 IsKeptIn program t layout first out arena nodes =
-    Keeps program t (is_stacked t) (also (length t.activations) out) (layout_with program t layout first) (wanted_of program t (layout_with program t layout first)) arena nodes
+    Keeps program t (is_stacked t) (also (length t.activations) out) (layout_with program t layout first) (descriptor_slots program t (layout_with program t layout first)) arena nodes
 
 -- what the dummy arguments of each activation on a stack stand for is kept in consecutive cells
 abbrev pub AreAllKept : Units → State → Layout → Type 0

@@ -3,7 +3,7 @@ use Rattle.std.specs.Prelude.{◌≡◌, ℕ, ◌+◌, ◌*◌, List, [], ◌∷
 use Rattle.hep_machine.specs.Words.{Name, Statement, Units, dummies_of, unit_at, adjustable_dimensions, cells_of_all, Frame, Layout, dummy_at, activation_of, unit_of, Bounds, State, adjustable_dimensions_of_all, do_statements, frame_cells, locals_of}
 use Rattle.hep_arena.specs.Gaps.{frame_among}
 use Rattle.hep_arena.specs.Space.{Space}
-use Rattle.hep_frames.specs.Words.{number, Node}
+use Rattle.hep_layout.specs.Words.{number, FrameNode}
 use Rattle.hep_passing.specs.Shapes.{AreShapesOf}
 use Rattle.hep_entering.specs.Giving.{AreDistinct}
 use Rattle.hep_entering.specs.Writing.{IsSet}
@@ -52,7 +52,7 @@ pub record AreShaping (program : Units) (s : State) (a : ℕ) (shapes : List (Op
   pub shapes_are : AreShapesOf (unit_at program (unit_of s a)) (activation_of s a).dummies shapes
 
 -- a node has the frame of activation a in a layout, as long as its unit's are
-pub record IsFramedBy (program : Units) (s : State) (layout : Layout) (a : ℕ) (n : Node) : Type 0 where
+pub record IsFramedBy (program : Units) (s : State) (layout : Layout) (a : ℕ) (n : FrameNode) : Type 0 where
   pub frame : Frame
   pub framed : frame_among a layout ≡ Some frame
   pub begins : n.first ≡ frame.first

@@ -4,7 +4,7 @@ use Rattle.hep_machine.specs.Words.{Units, dummies_of, unit_at, unset_cell, Fram
 use Rattle.hep_machine.specs.declared.slot.Slot.{Slot}
 use Rattle.hep_arena.specs.Gaps.{frame_among}
 use Rattle.hep_arena.specs.Space.{Space}
-use Rattle.hep_frames.specs.Words.{Wanted, number, wanted_of, place_of_part}
+use Rattle.hep_layout.specs.Words.{DescriptorSlots, number, descriptor_slots, place_of_part}
 use Rattle.hep_passing.specs.declared.given.Given.{Given}
 use Rattle.hep_passing.specs.declared.given.Given.TheVariants as given
 use Rattle.hep_entering.specs.Giving.{AreDistinct, AreGiven}
@@ -16,9 +16,9 @@ is_before m (Some n) = nat_lt n m
 
 -- of the first m cells of activation a's frame it is wanted what a state wants, the others are unset; and of other frames it is wanted
 -- what was wanted
-abbrev pub wanted_up_to : Units → State → Layout → ℕ → ℕ → Wanted → Wanted
+abbrev pub wanted_up_to : Units → State → Layout → ℕ → ℕ → DescriptorSlots → DescriptorSlots
 wanted_up_to program s layout a m wanted b c =
-    if nat_eq b a then (if is_before m (place_of_part (unit_at program (unit_of s a)) c.0 c.1) then wanted_of program s layout a c else Some unset_cell) else wanted b c
+    if nat_eq b a then (if is_before m (place_of_part (unit_at program (unit_of s a)) c.0 c.1) then descriptor_slots program s layout a c else Some unset_cell) else wanted b c
 
 -- a state with another store
 abbrev pub with_stored : State → Store → State

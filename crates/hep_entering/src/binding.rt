@@ -2,17 +2,17 @@
 ghost use Rattle.std.specs.Prelude.{◌≡◌, ◌+◌, ◌*◌, ◌<◌, ◌≤◌, ℕ, Bool, List, Some, length};
 ghost use Rattle.hep_machine.specs.Words.{Name, Units, dummies_of, unit_at, unset_cell, Layout, unit_of, State, local};
 ghost use Rattle.hep_arena.specs.Holes.{IsOut};
-ghost use Rattle.hep_frames.specs.Descriptors.{number as slot_of_number};
-ghost use Rattle.hep_frames.specs.Words.{Wanted};
-ghost use Rattle.hep_proc.specs.Keeping.{Keeps, with_unset};
-ghost use Rattle.hep_proc.specs.Nodes.{nodes_of};
+ghost use Rattle.hep_layout.specs.Descriptors.{number as slot_of_number};
+ghost use Rattle.hep_layout.specs.Words.{DescriptorSlots};
+ghost use Rattle.hep_frames.specs.Keeping.{Keeps, with_unset};
+ghost use Rattle.hep_frames.specs.Nodes.{nodes_of};
 ghost use Rattle.hep_entering.specs.Giving.{with_given};
 ghost use Rattle.hep_entering.specs.Shapes.{cells_to_locals};
 ghost use Rattle.hep_entering.specs.Writing.{IsBinding, IsPut, wanted_up_to};
 
+use hep_frames::Frames;
 use hep_machine::Slot;
 use hep_passing::Given;
-use hep_proc::Frames;
 use hep_source::Value;
 
 pub(crate) fn number(value: i64) -> Slot
@@ -57,7 +57,7 @@ pub fn bind(frames: &mut Frames, first: u32, given: &[Given])
     requires few { length frames.old.arena.contents ≤ 16777216 }
     requires inside { first + (1 + 2 * length given.now) ≤ length frames.old.arena.contents }
     requires out { (p : ℕ) → first ≤ p → p < first + (1 + 2 * length given.now) → IsOut p frames.old.arena.holes }
-    ensures bound { (program : Units) (s t : State) (on out : ℕ → Bool) (layout : Layout) (wanted : Wanted) (a : ℕ)
+    ensures bound { (program : Units) (s t : State) (on out : ℕ → Bool) (layout : Layout) (wanted : DescriptorSlots) (a : ℕ)
         → Keeps program s on out layout (with_unset a wanted) frames.old.arena (nodes_of frames.old.nodes) → t.activations ≡ s.activations
         → t.store ≡ with_given s.store a (dummies_of (unit_at program (unit_of t a))) given.now
         → ((y : Name) → s.store (local a y 1) ≡ unset_cell) → IsBinding program t layout a first given.now

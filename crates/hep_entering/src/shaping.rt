@@ -4,16 +4,17 @@ ghost use Rattle.slab.specs.Slab.{ContainsKey};
 ghost use Rattle.hep_machine.specs.Words.{Bounds, Units, unit_at, Frame, Layout, unit_of, State, frame_cells};
 ghost use Rattle.hep_arena.specs.Gaps.{frame_among};
 ghost use Rattle.hep_arena.specs.Holes.{IsOut};
-ghost use Rattle.hep_frames.specs.Words.{Wanted};
-ghost use Rattle.hep_frames.specs.Tree.{Node as TreeNode};
-ghost use Rattle.hep_proc.specs.Keeping.{AreOfSomeState, Keeps};
-ghost use Rattle.hep_proc.specs.Nodes.{nodes_of};
-ghost use Rattle.hep_entering.specs.Shapes.{AreShaping, IsBoundPut, IsFramedBy, IsShaping, cells_of_shape, cells_of_shapes, cells_to_bounds_of};
+ghost use Rattle.hep_layout.specs.Words.{DescriptorSlots};
+ghost use Rattle.hep_layout.specs.FrameTree.{FrameNode};
+ghost use Rattle.hep_frames.specs.Keeping.{AreOfSomeState, Keeps};
+ghost use Rattle.hep_frames.specs.Nodes.{nodes_of};
+ghost use Rattle.hep_entering.specs.Shapes.{AreShaping, IsBoundPut, IsFramedBy, IsShaping, cells_of_shape, cells_of_shapes};
+ghost use Rattle.hep_entering.specs.Shapes.{cells_to_bounds_of};
 ghost use Rattle.hep_entering.specs.Writing.{wanted_up_to};
 
 use crate::binding::number;
+use hep_frames::Frames;
 use hep_machine::Bound;
-use hep_proc::Frames;
 use hep_shape::Shape;
 
 // Writes the bounds of a dimension to its two cells, of which the second one has no value yet.
@@ -41,7 +42,7 @@ fn shape(frames: &mut Frames, at: u32, bounds: &[Bound])
     requires few { length frames.old.arena.contents ≤ 16777216 }
     requires inside { at + 2 * length bounds.now ≤ length frames.old.arena.contents }
     requires out { (p : ℕ) → at ≤ p → p < at + 2 * length bounds.now → IsOut p frames.old.arena.holes }
-    ensures shaped { (program : Units) (s : State) (on out : ℕ → Bool) (layout : Layout) (wanted : Wanted) (a k : ℕ)
+    ensures shaped { (program : Units) (s : State) (on out : ℕ → Bool) (layout : Layout) (wanted : DescriptorSlots) (a k : ℕ)
         → Keeps program s on out layout (wanted_up_to program s layout a
         (cells_to_bounds_of (unit_at program (unit_of s a)) k) wanted) frames.old.arena (nodes_of frames.old.nodes)
         → IsShaping program s layout a k at bounds.now
@@ -89,7 +90,7 @@ fn shape_one(frames: &mut Frames, at: u32, shape_of_one: &Option<Shape>) -> u32
     ensures next { result ≡ at + cells_of_shape shape_of_one.now }
     ensures none { shape_of_one.now ≡ None → frames.new.arena ≡ frames.old.arena }
     ensures shaped { (bounds : Bounds) → shape_of_one.now ≡ Some bounds
-        → (program : Units) (s : State) (on out : ℕ → Bool) (layout : Layout) (wanted : Wanted) (a k : ℕ)
+        → (program : Units) (s : State) (on out : ℕ → Bool) (layout : Layout) (wanted : DescriptorSlots) (a k : ℕ)
         → Keeps program s on out layout (wanted_up_to program s layout a
         (cells_to_bounds_of (unit_at program (unit_of s a)) k) wanted) frames.old.arena (nodes_of frames.old.nodes)
         → IsShaping program s layout a k at bounds
@@ -113,7 +114,7 @@ fn shape_from(frames: &mut Frames, at: u32, shapes: &[Option<Shape>])
     requires few { length frames.old.arena.contents ≤ 16777216 }
     requires inside { at + cells_of_shapes shapes.now ≤ length frames.old.arena.contents }
     requires out { (p : ℕ) → at ≤ p → p < at + cells_of_shapes shapes.now → IsOut p frames.old.arena.holes }
-    ensures shaped { (program : Units) (s : State) (on out : ℕ → Bool) (layout : Layout) (wanted : Wanted) (a : ℕ) (frame : Frame)
+    ensures shaped { (program : Units) (s : State) (on out : ℕ → Bool) (layout : Layout) (wanted : DescriptorSlots) (a : ℕ) (frame : Frame)
         → Keeps program s on out layout (wanted_up_to program s layout a
         (cells_to_bounds_of (unit_at program (unit_of s a)) 0) wanted) frames.old.arena (nodes_of frames.old.nodes)
         → frame_among a layout ≡ Some frame → at ≡ frame.first + cells_to_bounds_of (unit_at program (unit_of s a)) 0
@@ -138,8 +139,8 @@ pub fn shape_all(frames: &mut Frames, key: usize, shapes: &[Option<Shape>])
     requires few { length frames.old.arena.contents ≤ 16777216 }
     requires there { ContainsKey frames.old.nodes key }
     requires kept { AreOfSomeState frames.old.arena (nodes_of frames.old.nodes) }
-    requires many { (n : TreeNode) → nodes_of frames.old.nodes key ≡ Some n → cells_of_shapes shapes.now ≤ n.cells }
-    ensures shaped { (program : Units) (s : State) (on out : ℕ → Bool) (layout : Layout) (wanted : Wanted) (a : ℕ) (n : TreeNode)
+    requires many { (n : FrameNode) → nodes_of frames.old.nodes key ≡ Some n → cells_of_shapes shapes.now ≤ n.cells }
+    ensures shaped { (program : Units) (s : State) (on out : ℕ → Bool) (layout : Layout) (wanted : DescriptorSlots) (a : ℕ) (n : FrameNode)
         → Keeps program s on out layout (wanted_up_to program s layout a
         (cells_to_bounds_of (unit_at program (unit_of s a)) 0) wanted) frames.old.arena (nodes_of frames.old.nodes)
         → nodes_of frames.old.nodes key ≡ Some n → IsFramedBy program s layout a n → AreShaping program s a shapes.now

@@ -84,13 +84,6 @@ front_row p (c ∷ w) r h e =
     let i = front_row p w r a.1 e in
     (rw (a.0, i.0) refl, rw (a.0, i.1) refl)
 
-front_first : (p : ℕ → Bool) (s : List ℕ) → begins p s ≡ true → (c : ℕ) × (m : List ℕ) × (s ≡ c ∷ m) × (p c ≡ true) × (front p s ≡ c ∷ front p m)
-front_first p [] e = absurd cc
-front_first p (c ∷ s) e = (c, s, refl, e, rw e refl)
-
-letter_is_of_word : (c : ℕ) → is_letter c ≡ true → is_letter_or_digit c ≡ true
-letter_is_of_word c e = rw e refl
-
 pub digits_are : (s : List ℕ) → begins is_digit s ≡ true → IsDigits (front is_digit s)
 digits_are [] e = absurd cc
 digits_are (c ∷ s) e = rw e (e, (front_splits is_digit s).0)

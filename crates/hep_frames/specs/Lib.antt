@@ -1,8 +1,2 @@
-pub mod Rows
-pub mod Addresses
-pub mod Runs
-pub mod Descriptors
-pub mod Tree
-pub mod Stacks
-pub mod References
-pub mod Words
+pub mod Nodes
+pub mod Keeping

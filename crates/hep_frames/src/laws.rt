@@ -1,450 +1,49 @@
-//! Laws of frames: what holds of the frames of every unit, of COMMON in every program, and of the arena in
-//! which the storage units of a state are kept.
-ghost use Rattle.std.specs.Prelude.{◌≡◌, ◌⊎◌, ◌↔◌, ◌<◌, ◌≤◌, ◌+◌, ◌*◌, ◌∷◌, ◌++◌, [], ℕ, nat_eq, nat_lt, pos, if◌then◌else◌, Bool, true, false, List, Option, Some, None, is_some, Ok, ◌-◌, length, take, slice_get, slice_set};
-ghost use Rattle.std.specs.List.{filter};
-ghost use Rattle.hep_machine.specs.Words.{Name, Statement, Value, same_name, is_among, index_among, Units, dummies_of, main_unit, unit_at, adjustable_dimensions, cells_of, cells_of_all, cells_before, BlockName, common_block, same_block, names_in_block, unset_cell, dummy_for, first_element, Reference, referred, Scope, dummy_at, element_of, location_of_name, storage_of, Frame, Layout, activations_on, block_cells, common_cells, frame_of, is_held, layout_of, lowest_gap, opening_layout, used_cells, with_frame, run, Activation, Dummy, Level, Location, Loop, Process, State, local, activation_of, is_number_among, living, parent_of, unit_of, with_loop, with_numbered, fits, natural, scope_of, with_cell, adjustable_dimensions_of_all, do_statements, frame_cells, is_do, locals_of, is_owned};
+//! Laws of the frames of states.
+ghost use Rattle.std.specs.Prelude.{◌≡◌, ◌+◌, ◌<◌, ◌^◌, [], ℕ, Bool, List, Some, length};
+ghost use Rattle.hep_machine.specs.Words.{Units, dummies_of, main_unit, unit_at, unset_cell, Layout, common_cells, is_held};
+ghost use Rattle.hep_machine.specs.Words.{remaining_layout, run, State};
 ghost use Rattle.hep_machine.specs.declared.slot.Slot.{Slot};
-ghost use Rattle.hep_arena.specs.Gaps.{frame_among, framed_cells, gaps, without};
-ghost use Rattle.hep_arena.specs.Holes.{Hole, IsOut, first_fit, free_cells, given, taken};
-ghost use Rattle.hep_frames.specs.Words.{AreSingle, IsLaid, IsMemory, address, frame_address, frame_from, Describes, Wanted, is_descriptor, level_of, loop_among, number, slot_of_bounds, slot_of_loop, wanted_of, IsMadeAt, IsOwnedAbove, RunsFrom, times_on, AreFramed, AreWantedBut, first_nodes, is_stacked, IsAtRest, IsTree, IsWanted, Node, Nodes, activation_under, also, but, new_node, with_ended, with_node, without_node, FramePart, argument, block_row, bounds, cells_in, common_row, first_in, first_in_common, first_of_block, first_of_part, frame_row, iteration, owner_in, place_in, place_of_block, place_of_part, same_part, size_in, variable};
+ghost use Rattle.hep_arena.specs.Gaps.{framed_cells};
+ghost use Rattle.hep_arena.specs.Holes.{free_cells};
+ghost use Rattle.hep_arena.specs.Space.{Space};
+ghost use Rattle.hep_layout.specs.Words.{DescriptorSlots, descriptor_slots, FramePart, Nodes, is_stacked};
+ghost use Rattle.hep_frames.specs.Nodes.{CanCount};
+ghost use Rattle.hep_frames.specs.Keeping.{IsOpening, Keeps, frames_of};
 
-/// The rows have just the cells that there are: of a frame, of COMMON, and of a block in a unit, which
-/// has no more of them than the block.
-pub fn rows_have_all_cells()
-    ensures frame { (unit : List Statement) → cells_in (frame_row unit) ≡ frame_cells unit }
-    ensures common { (program : Units) → cells_in (common_row program) ≡ common_cells program }
-    ensures block { (unit : List Statement) (b : BlockName) → cells_in (block_row unit b) ≡ cells_of_all unit (names_in_block unit b) }
-    ensures greatest { (program : Units) (u : ℕ) (unit : List Statement) (b : BlockName) → slice_get program u ≡ Some unit
-        → cells_in (block_row unit b) ≤ block_cells program b }
+/// The frames of a state are those of another one that has the same activations and the same store, on
+/// stacks too, where no more is wanted of the other cells.
+pub fn frames_are_of_states_alike()
+    ensures { (program : Units) (s t : State) (on now out : ℕ
+        → Bool) (layout : Layout) (wanted after : DescriptorSlots) (arena : Space) (nodes : Nodes)
+        → Keeps program s on out layout wanted arena nodes
+        → t.activations ≡ s.activations → t.store ≡ s.store → ((a : ℕ) → now a ≡ on a)
+        → ((a : ℕ) (c : FramePart × ℕ) (v : Slot) → after a c ≡ Some v → wanted a c ≡ Some v)
+        → Keeps program t now out layout after arena nodes }
 {}
 
-/// The cells of a part, of a block and of a name in a block follow one another from the first one on,
-/// as many as it has.
-pub fn places_follow_first_cells()
-    ensures frame { (unit : List Statement) (part : FramePart) (i : ℕ)
-        → place_of_part unit part i ≡ (if nat_lt i (size_in (same_part part) (frame_row unit)) then Some (first_of_part unit part + i)
-        else None) }
-    ensures common { (program : Units) (b : BlockName) (i : ℕ)
-        → place_of_block program b i ≡ (if nat_lt i (size_in (same_block b) (common_row program)) then Some (first_of_block program b + i)
-        else None) }
-    ensures block { (unit : List Statement) (b : BlockName) (x : Name) (i : ℕ)
-        → place_in (same_name x) i (block_row unit b)
-        ≡ (if nat_lt i (size_in (same_name x) (block_row unit b)) then Some (first_in (same_name x) (block_row unit b) + i) else None) }
+/// A node has no more children than there are activations, so one more can be counted.
+pub fn children_are_activations()
+    ensures { (program : Units) (s : State) (on out : ℕ
+        → Bool) (layout : Layout) (wanted : DescriptorSlots) (arena : Space) (nodes : Nodes) (key : ℕ)
+        → Keeps program s on out layout wanted arena nodes → length s.activations + 1 < 2 ^ 64 → CanCount nodes key }
 {}
 
-/// No cell is one of two parts, of two blocks or of two names in a block, nor twice of one of them: from
-/// the cell its owner and the index are found again. Each lies within the frame, COMMON or the block.
-pub fn owners_share_no_cell()
-    ensures frame { (unit : List Statement) (part : FramePart) (i n : ℕ) → place_of_part unit part i ≡ Some n
-        → (owner_in (frame_row unit) n ≡ Some (part, i)) × (n < frame_cells unit) }
-    ensures common { (program : Units) (b : BlockName) (i n : ℕ) → place_of_block program b i ≡ Some n
-        → (owner_in (common_row program) n ≡ Some (b, i)) × (n < common_cells program) }
-    ensures block { (unit : List Statement) (b : BlockName) (x : Name) (i n : ℕ) → place_in (same_name x) i (block_row unit b) ≡ Some n
-        → (owner_in (block_row unit b) n ≡ Some (x, i)) × (n < cells_of_all unit (names_in_block unit b)) }
+/// At the opening of a program whose main program has no dummy arguments, cells that are unset are all
+/// that is wanted of its frame.
+pub fn openings_want_unset_cells()
+    ensures { (program : Units) (s : State) (layout : Layout) (c : FramePart × ℕ) (v : Slot) → IsOpening program s
+        → dummies_of (unit_at program (main_unit program)) ≡ [] → descriptor_slots program s layout 1 c ≡ Some v → v ≡ unset_cell }
 {}
 
-/// Where the cells of each part of a frame begin, and how many they are: behind the header and what
-/// stands before the part, in the order of the frame's cells.
-pub fn parts_in_order()
-    ensures argument { (unit : List Statement) (x : Name) (k : ℕ) → index_among x (dummies_of unit) ≡ Some k
-        → (first_of_part unit (argument x) ≡ 1 + 2 * k) × (size_in (same_part (argument x)) (frame_row unit) ≡ 2) }
-    ensures variable { (unit : List Statement) (x : Name) → is_among x (locals_of unit) ≡ true
-        → (first_of_part unit (variable x) ≡ 1 + (2 * length (dummies_of unit) + cells_before unit x (locals_of unit)))
-        × (size_in (same_part (variable x)) (frame_row unit) ≡ cells_of unit x) }
-    ensures iteration { (unit : List Statement) (d : ℕ) (s : Statement) → slice_get unit d ≡ Some s → is_do s.form ≡ true
-        → (first_of_part unit (iteration d)
-        ≡ 1 + (2 * length (dummies_of unit) + (cells_of_all unit (locals_of unit) + 2 * do_statements (take d unit))))
-        × (size_in (same_part (iteration d)) (frame_row unit) ≡ 2) }
-    ensures bounds { (unit : List Statement) (x : Name) (k : ℕ) → index_among x (dummies_of unit) ≡ Some k
-        → (first_of_part unit (bounds x)
-        ≡ 1 + (2 * length (dummies_of unit) + (cells_of_all unit (locals_of unit)
-        + (2 * do_statements unit + 2 * adjustable_dimensions_of_all unit (take k (dummies_of unit))))))
-        × (size_in (same_part (bounds x)) (frame_row unit) ≡ 2 * adjustable_dimensions unit x) }
-{}
-
-/// A name in a block begins as many cells behind the block's first one as the names before it have.
-pub fn names_follow_in_common()
-    ensures first { (program : Units) (unit : List Statement) (b : BlockName) (x : Name)
-        → first_in_common program unit b x ≡ first_of_block program b + cells_before unit x (names_in_block unit b) }
-    ensures size { (unit : List Statement) (b : BlockName) (x : Name) → is_among x (names_in_block unit b) ≡ true
-        → size_in (same_name x) (block_row unit b) ≡ cells_of unit x }
-{}
-
-/// No two storage units are kept in the same cell. Each one's lies in the arena and in no hole.
-pub fn addresses_are_apart()
-    ensures one { (program : Units) (s : State) (cells : ℕ) (layout : Layout) (l m : Location) (p : ℕ) → IsLaid program s cells layout
-        → address program s layout l ≡ Some p → address program s layout m ≡ Some p → l ≡ m }
-    ensures inside { (program : Units) (s : State) (cells : ℕ) (layout : Layout) (at : Location) (p : ℕ) → IsLaid program s cells layout
-        → address program s layout at ≡ Some p → p < cells }
-    ensures out { (program : Units) (s : State) (layout : Layout) (contents : List Slot) (holes : List Hole) (at : Location) (p : ℕ)
-        → IsMemory program s layout contents holes → address program s layout at ≡ Some p → IsOut p holes }
-{}
-
-/// A write of a storage unit's cell is a write at its address: what is kept elsewhere stays.
-pub fn writes_change_one_cell()
-    ensures same { (program : Units) (s t : State) (layout : Layout) (contents : List Slot) (holes : List Hole)
-        → IsMemory program s layout contents holes → t.activations ≡ s.activations → t.store ≡ s.store
-        → IsMemory program t layout contents holes }
-    ensures written { (program : Units) (s t : State) (layout : Layout) (contents : List Slot) (holes : List Hole) (at : Location) (p : ℕ)
-        (cell : Slot) → IsMemory program s layout contents holes → address program s layout at ≡ Some p → t.activations ≡ s.activations
-        → t.store ≡ with_cell s.store at cell → IsMemory program t layout (slice_set contents p cell) holes }
-    ensures elsewhere { (program : Units) (s : State) (layout : Layout) (contents : List Slot) (l m : Location) (p q : ℕ) (cell : Slot)
-        → IsLaid program s (length contents) layout → address program s layout l ≡ Some p → address program s layout m ≡ Some q
-        → (l ≡ m → ⊥) → slice_get (slice_set contents p cell) q ≡ slice_get contents q }
-{}
-
-/// Cells that are all unset are the arena of the opening before DATA gives values, where COMMON and the frame
-/// of the main program are out.
-pub fn memory_begins()
-    ensures { (program : Units) (s : State) (layout : Layout) (contents : List Slot)
-        → opening_layout program (length contents) ≡ Some layout → s.activations ≡ (run program []).activations
-        → ((at : Location) → s.store at ≡ unset_cell) → ((p : ℕ) → p < length contents → slice_get contents p ≡ Some unset_cell)
-        → IsMemory program s layout contents (gaps (length contents) (common_cells program) layout) }
-{}
-
-/// The frame of a new activation fits just where the layout has a gap. Where it enters, the block is taken
-/// and its cells are cleared, the arena is that of the state with the activation, in which nothing is
-/// stored yet; and what was kept somewhere is kept there still.
-pub fn frames_enter()
-    ensures fits { (program : Units) (s : State) (layout : Layout) (contents : List Slot) (holes : List Hole) (n : ℕ)
-        → IsMemory program s layout contents holes → 1 ≤ n
-        → first_fit n holes ≡ lowest_gap (length contents) n (common_cells program) layout }
-    ensures memory { (program : Units) (s t : State) (x : Activation) (layout : Layout) (first : ℕ)
-        (old new : List Slot) (holes : List Hole) → IsMemory program s layout old holes → t.activations ≡ s.activations ++ x ∷ []
-        → t.store ≡ s.store → ((y : Name) (i : ℕ) → s.store (local (length t.activations) y i) ≡ unset_cell)
-        → first_fit (frame_of program t (length t.activations)) holes ≡ Some first → length new ≡ length old
-        → ((p : ℕ) → IsOut p holes → slice_get new p ≡ slice_get old p)
-        → ((p : ℕ) → first ≤ p → p < first + frame_of program t (length t.activations) → slice_get new p ≡ Some unset_cell)
-        → IsMemory program t (with_frame layout (frame_from program t (length t.activations) first)) new
-        (taken (frame_of program t (length t.activations)) holes) }
-    ensures addresses { (program : Units) (s t : State) (x : Activation) (layout : Layout) (first cells p : ℕ) (at : Location)
-        → IsLaid program s cells layout → t.activations ≡ s.activations ++ x ∷ [] → address program s layout at ≡ Some p
-        → address program t (with_frame layout (frame_from program t (length t.activations) first)) at ≡ Some p }
-{}
-
-/// Where an activation's frame is given back, the arena is that of the state with the layout without it,
-/// and what is of other activations or in COMMON is kept where it was.
-pub fn frames_leave()
-    ensures out { (program : Units) (s : State) (layout : Layout) (contents : List Slot) (holes : List Hole) (a p : ℕ) (f : Frame)
-        → IsMemory program s layout contents holes → frame_among a layout ≡ Some f → f.first ≤ p → p < f.first + f.cells → IsOut p holes }
-    ensures memory { (program : Units) (s : State) (a : ℕ) (layout : Layout) (f : Frame) (old new : List Slot) (holes : List Hole)
-        → IsMemory program s layout old holes → frame_among a layout ≡ Some f → length new ≡ length old
-        → ((p : ℕ) → IsOut p (given (f.first, f.cells) holes) → slice_get new p ≡ slice_get old p)
-        → IsMemory program s (without a layout) new (given (f.first, f.cells) holes) }
-    ensures addresses { (program : Units) (s : State) (a cells : ℕ) (layout : Layout) (at : Location) → IsLaid program s cells layout
-        → is_owned a at ≡ false → address program s (without a layout) at ≡ address program s layout at }
-{}
-
-/// COMMON, the frames of the layout and the holes are all cells of the arena.
-pub fn cells_are_used_or_free()
-    ensures { (program : Units) (s : State) (layout : Layout) (contents : List Slot) (holes : List Hole)
-        → IsMemory program s layout contents holes → free_cells holes + (common_cells program + framed_cells layout) ≡ length contents }
-{}
-
-/// Two cells of frames at one place are one cell. Where a cell keeps no storage unit, no storage unit is kept.
-pub fn descriptors_are_apart()
-    ensures one { (program : Units) (s : State) (cells : ℕ) (layout : Layout) (a b p : ℕ) (c d : FramePart × ℕ)
-        → IsLaid program s cells layout → frame_address program s layout a c ≡ Some p → frame_address program s layout b d ≡ Some p
-        → (a ≡ b) × (c ≡ d) }
-    ensures units { (program : Units) (s : State) (cells : ℕ) (layout : Layout) (at : Location) (a p : ℕ) (c : FramePart × ℕ)
-        → IsLaid program s cells layout → is_descriptor program s a c ≡ true → frame_address program s layout a c ≡ Some p
-        → address program s layout at ≡ Some p → ⊥ }
-{}
-
-/// A write to a storage unit leaves the descriptors, and a write to a descriptor the storage units and the
-/// other descriptors. A DO that begins or goes on is two writes.
-pub fn descriptors_are_written()
-    ensures unit { (program : Units) (s : State) (layout : Layout) (wanted : Wanted) (contents : List Slot) (at : Location) (p : ℕ)
-        (slot : Slot) → IsLaid program s (length contents) layout → Describes program s layout wanted contents
-        → address program s layout at ≡ Some p → Describes program s layout wanted (slice_set contents p slot) }
-    ensures memory { (program : Units) (s : State) (layout : Layout) (contents : List Slot) (holes : List Hole) (a p : ℕ) (c : FramePart
-        × ℕ) (slot : Slot) → IsMemory program s layout contents holes → is_descriptor program s a c ≡ true
-        → frame_address program s layout a c ≡ Some p → IsMemory program s layout (slice_set contents p slot) holes }
-    ensures descriptor { (program : Units) (s : State) (layout : Layout) (old new : Wanted) (contents : List Slot) (a p : ℕ) (c : FramePart
-        × ℕ) (slot : Slot) → IsLaid program s (length contents) layout → Describes program s layout old contents
-        → frame_address program s layout a c ≡ Some p → new a c ≡ Some slot
-        → ((b : ℕ) (d : FramePart × ℕ) (v : Slot) → ((a ≡ b) × (c ≡ d) → ⊥) → new b d ≡ Some v → old b d ≡ Some v)
-        → Describes program s layout new (slice_set contents p slot) }
-    ensures iteration { (program : Units) (s t : State) (layout : Layout) (contents : List Slot) (a : ℕ) (level after : Level) (l : Loop)
-        (p q : ℕ) → IsLaid program s (length contents) layout → Describes program s layout (wanted_of program s layout) contents
-        → t.activations ≡ s.activations → level_of s a ≡ Some level → level_of t a ≡ Some after → after.loops ≡ with_loop level.loops l
-        → ((b : ℕ) → nat_eq a b ≡ false → level_of t b ≡ level_of s b)
-        → frame_address program s layout a (iteration l.statement, 0) ≡ Some p
-        → frame_address program s layout a (iteration l.statement, 1) ≡ Some q
-        → Describes program t layout (wanted_of program t layout)
-        (slice_set (slice_set contents p (number (pos (natural l.count)))) q (number l.increment)) }
-    ensures same { (program : Units) (s t : State) (layout : Layout) (old new : Wanted) (contents : List Slot)
-        → Describes program s layout old contents → t.activations ≡ s.activations
-        → ((a : ℕ) (c : FramePart × ℕ) (v : Slot) → new a c ≡ Some v → old a c ≡ Some v) → Describes program t layout new contents }
-{}
-
-/// What is wanted of the cells of an activation is the same where the frame of a new one enters, and where
-/// that of another one leaves which its dummy arguments don't stand for.
-pub fn what_is_wanted_stays()
-    ensures enters { (program : Units) (s t : State) (x : Activation) (layout : Layout) (first cells a : ℕ) (c : FramePart × ℕ)
-        → IsLaid program s cells layout → t.activations ≡ s.activations ++ x ∷ [] → a ≤ length s.activations
-        → ((k : ℕ) → IsMadeAt (length s.activations) (dummy_at (activation_of s a).dummies k).start) → level_of t a ≡ level_of s a
-        → wanted_of program t (with_frame layout (frame_from program t (length t.activations) first)) a c ≡ wanted_of program s layout a c }
-    ensures leaves { (program : Units) (s : State) (a b cells : ℕ) (layout : Layout) (c : FramePart × ℕ) → IsLaid program s cells layout
-        → ((k : ℕ) → is_owned b (dummy_at (activation_of s a).dummies k).start ≡ false)
-        → wanted_of program s (without b layout) a c ≡ wanted_of program s layout a c }
-{}
-
-/// What is found in the cells of a dummy argument, of the bounds of an adjustable array and of a DO, so many
-/// cells behind the first one of its activation's frame.
-pub fn descriptors_tell()
-    ensures start { (program : Units) (s : State) (layout : Layout) (contents : List Slot) (a : ℕ) (f : Frame) (x : Name) (k base : ℕ)
-        → Describes program s layout (wanted_of program s layout) contents → frame_among a layout ≡ Some f
-        → index_among x (dummies_of (unit_at program (unit_of s a))) ≡ Some k
-        → is_owned a (dummy_at (activation_of s a).dummies k).start ≡ false
-        → address program s layout (dummy_at (activation_of s a).dummies k).start ≡ Some base
-        → slice_get contents (f.first + first_of_part (unit_at program (unit_of s a)) (argument x) + 0) ≡ Some (number (pos base)) }
-    ensures rest { (program : Units) (s : State) (layout : Layout) (contents : List Slot) (a : ℕ) (f : Frame) (x : Name) (k : ℕ)
-        → Describes program s layout (wanted_of program s layout) contents → frame_among a layout ≡ Some f
-        → index_among x (dummies_of (unit_at program (unit_of s a))) ≡ Some k
-        → is_owned a (dummy_at (activation_of s a).dummies k).start ≡ false
-        → slice_get contents (f.first + first_of_part (unit_at program (unit_of s a)) (argument x) + 1)
-        ≡ Some (number (pos (dummy_at (activation_of s a).dummies k).rest)) }
-    ensures value { (program : Units) (s : State) (layout : Layout) (contents : List Slot) (a : ℕ) (f : Frame) (x : Name) (k : ℕ)
-        → Describes program s layout (wanted_of program s layout) contents → frame_among a layout ≡ Some f
-        → index_among x (dummies_of (unit_at program (unit_of s a))) ≡ Some k
-        → is_owned a (dummy_at (activation_of s a).dummies k).start ≡ true
-        → slice_get contents (f.first + first_of_part (unit_at program (unit_of s a)) (argument x) + 1) ≡ Some unset_cell }
-    ensures bounds { (program : Units) (s : State) (layout : Layout) (contents : List Slot) (a : ℕ) (f : Frame) (x : Name)
-        (k i : ℕ) (slot : Slot) → Describes program s layout (wanted_of program s layout) contents → frame_among a layout ≡ Some f
-        → index_among x (dummies_of (unit_at program (unit_of s a))) ≡ Some k
-        → i < 2 * adjustable_dimensions (unit_at program (unit_of s a)) x
-        → slot_of_bounds (dummy_at (activation_of s a).dummies k).shape i ≡ Some slot
-        → slice_get contents (f.first + first_of_part (unit_at program (unit_of s a)) (bounds x) + i) ≡ Some slot }
-    ensures iteration { (program : Units) (s : State) (layout : Layout) (contents : List Slot) (a : ℕ) (f : Frame)
-        (d i : ℕ) (statement : Statement) (level : Level) (slot : Slot)
-        → Describes program s layout (wanted_of program s layout) contents → frame_among a layout ≡ Some f
-        → slice_get (unit_at program (unit_of s a)) d ≡ Some statement → is_do statement.form ≡ true → level_of s a ≡ Some level → i < 2
-        → slot_of_loop (loop_among d level.loops) i ≡ Some slot
-        → slice_get contents (f.first + first_of_part (unit_at program (unit_of s a)) (iteration d) + i) ≡ Some slot }
-{}
-
-/// Where a frame enters or leaves, the descriptors of the others stay; those of a new frame have no values.
-pub fn descriptors_stay()
-    ensures enters { (program : Units) (s t : State) (x : Activation) (layout : Layout) (first : ℕ) (wanted : Wanted) (old new : List Slot)
-        → IsLaid program s (length old) layout → Describes program s layout wanted old → t.activations ≡ s.activations ++ x ∷ []
-        → lowest_gap (length old) (frame_of program t (length t.activations)) (common_cells program) layout ≡ Some first
-        → ((c : FramePart × ℕ) (v : Slot) → wanted (length t.activations) c ≡ Some v → v ≡ unset_cell)
-        → ((p : ℕ) → IsOut p (gaps (length old) (common_cells program) layout) → slice_get new p ≡ slice_get old p)
-        → ((p : ℕ) → first ≤ p → p < first + frame_of program t (length t.activations) → slice_get new p ≡ Some unset_cell)
-        → Describes program t (with_frame layout (frame_from program t (length t.activations) first)) wanted new }
-    ensures leaves { (program : Units) (s : State) (a : ℕ) (layout : Layout) (wanted : Wanted) (old new : List Slot)
-        → IsLaid program s (length old) layout → Describes program s layout wanted old
-        → ((p : ℕ) → IsOut p (gaps (length old) (common_cells program) (without a layout)) → slice_get new p ≡ slice_get old p)
-        → Describes program s (without a layout) wanted new }
-{}
-
-/// At the opening the main program's activation has the one node, and nothing is to be given back. A step
-/// that makes no activation leaves the tree, but for what is on stacks.
-pub fn trees_begin_and_stay()
-    ensures begins { (program : Units) (v first cells : ℕ)
-        → IsAtRest (run program []) (λ a. nat_eq a 1) (first_nodes v (main_unit program) first cells) }
-    ensures tree { (s t : State) (on out : ℕ → Bool) (nodes : Nodes) → t.activations ≡ s.activations → IsTree s on out nodes
-        → IsTree t on out nodes }
-    ensures wanted { (s t : State) (on out : ℕ → Bool) (exception : Option ℕ) → t.activations ≡ s.activations
-        → AreWantedBut exception s on out → AreWantedBut exception t on out }
-{}
-
-/// Where nothing is to be given back before a step, nothing is after one that leaves the same activations on
-/// stacks, or begins one. After one that ends the activation on top, that one alone may have to be given back.
-pub fn steps_lead_to_rest()
-    ensures same { (s t : State) (out : ℕ → Bool) (nodes : Nodes) → IsAtRest s out nodes → t.activations ≡ s.activations
-        → ((a : ℕ) → is_stacked t a ≡ is_stacked s a) → IsAtRest t out nodes }
-    ensures begun { (s t : State) (x : Activation) (out : ℕ → Bool) (nodes : Nodes) (first cells v k : ℕ) (n : Node) → IsAtRest s out nodes
-        → nodes v ≡ None → nodes k ≡ Some n → t.activations ≡ s.activations ++ x ∷ [] → x.parent ≡ Some n.activation
-        → ((a : ℕ) → is_stacked t a ≡ also (length t.activations) (is_stacked s) a)
-        → IsAtRest t (also (length t.activations) out) (with_node nodes v (new_node (length t.activations) x.unit first cells k) k) }
-    ensures ended { (s t : State) (out : ℕ → Bool) (nodes : Nodes) (k : ℕ) (n : Node) → IsAtRest s out nodes → nodes k ≡ Some n
-        → t.activations ≡ s.activations → ((a : ℕ) → is_stacked t a ≡ but n.activation (is_stacked s) a)
-        → IsTree t (is_stacked t) out (with_ended nodes k) × AreWantedBut (Some n.activation) t (is_stacked t) out }
-{}
-
-/// Where nothing is left to be given back, just the frames of held activations are out, and these have nodes.
-pub fn frames_out_are_held()
-    ensures out { (program : Units) (processes : List ℕ) (out : ℕ → Bool) (nodes : Nodes) (a : ℕ)
-        → IsAtRest (run program processes) out nodes → out a ≡ is_held (run program processes) a }
-    ensures nodes { (program : Units) (processes : List ℕ) (out : ℕ → Bool) (nodes : Nodes) (a : ℕ)
-        → IsAtRest (run program processes) out nodes → (is_held (run program processes) a ≡ true)
-        ↔ ((k : ℕ) × (n : Node) × (nodes k ≡ Some n) × (n.activation ≡ a)) }
-{}
-
-/// An activation that has ended and has no child out is given back: the tree is one without it, and then
-/// its parent alone may not be wanted any more, whose node is another one and has counted it.
-pub fn frames_are_given_back_upwards()
-    ensures tree { (s : State) (on out : ℕ → Bool) (nodes : Nodes) (k : ℕ) (n : Node) → IsTree s on out nodes → nodes k ≡ Some n
-        → n.finished ≡ true → n.children ≡ 0 → IsTree s on (but n.activation out) (without_node nodes k n) }
-    ensures wanted { (s : State) (on out : ℕ → Bool) (nodes : Nodes) (k : ℕ) (n : Node) → IsTree s on out nodes → nodes k ≡ Some n
-        → AreWantedBut (Some n.activation) s on out → AreWantedBut (parent_of s n.activation) s on (but n.activation out) }
-    ensures parent { (s : State) (on out : ℕ → Bool) (nodes : Nodes) (k : ℕ) (n : Node) → IsTree s on out nodes → nodes k ≡ Some n
-        → n.children ≡ 0 → activation_under (without_node nodes k n) n.parent ≡ Some (parent_of s n.activation) }
-    ensures apart { (s : State) (on out : ℕ → Bool) (nodes : Nodes) (k l : ℕ) (n : Node) → IsTree s on out nodes → nodes k ≡ Some n
-        → n.children ≡ 0 → n.parent ≡ Some l → nat_eq l k ≡ false }
-    ensures counted { (s : State) (on out : ℕ → Bool) (nodes : Nodes) (k l : ℕ) (n m : Node) → IsTree s on out nodes → nodes k ≡ Some n
-        → n.parent ≡ Some l → nodes l ≡ Some m → 1 ≤ m.children }
-{}
-
-/// What has not ended, or has a child out, is wanted; where that was the exception, all that is out is wanted.
-pub fn giving_back_stops()
-    ensures node { (s : State) (on out : ℕ → Bool) (nodes : Nodes) (k : ℕ) (n : Node) → IsTree s on out nodes → nodes k ≡ Some n
-        → (n.finished ≡ false) ⊎ (1 ≤ n.children) → IsWanted s on out n.activation }
-    ensures wanted { (s : State) (on out : ℕ → Bool) (a : ℕ) → AreWantedBut (Some a) s on out → IsWanted s on out a
-        → AreWantedBut None s on out }
-{}
-
-/// An activation that ends stays out until it is given back, and it alone may not be wanted any more.
-pub fn activations_end()
-    ensures tree { (s : State) (on out : ℕ → Bool) (nodes : Nodes) (k : ℕ) (n : Node) → IsTree s on out nodes → nodes k ≡ Some n
-        → IsTree s (but n.activation on) out (with_ended nodes k) }
-    ensures wanted { (s : State) (on out : ℕ → Bool) (a : ℕ) → AreWantedBut None s on out → AreWantedBut (Some a) s (but a on) out }
-{}
-
-/// A new activation is a child of the one that makes it.
-pub fn activations_begin()
-    ensures tree { (s t : State) (x : Activation) (on out : ℕ → Bool) (nodes : Nodes) (first cells v k : ℕ) (n : Node)
-        → IsTree s on out nodes → nodes v ≡ None → nodes k ≡ Some n → t.activations ≡ s.activations ++ x ∷ [] → x.parent ≡ Some n.activation
-        → IsTree t (also (length t.activations) on) (also (length t.activations) out)
-        (with_node nodes v (new_node (length t.activations) x.unit first cells k) k) }
-    ensures wanted { (s t : State) (x : Activation) (on out : ℕ → Bool) (nodes : Nodes) (k : ℕ) (n : Node) → IsTree s on out nodes
-        → nodes k ≡ Some n → t.activations ≡ s.activations ++ x ∷ [] → x.parent ≡ Some n.activation → AreWantedBut None s on out
-        → AreWantedBut None t (also (length t.activations) on) (also (length t.activations) out) }
-{}
-
-/// The nodes have the frames of the layout, whatever begins, ends or is given back; and the frames of what
-/// is out, without that of one activation, are those of what is out but that one.
-pub fn nodes_have_frames()
-    ensures begun { (s t : State) (x : Activation) (on out : ℕ → Bool) (nodes : Nodes) (first cells v k : ℕ) (n : Node) (layout : Layout)
-        → IsTree s on out nodes → nodes v ≡ None → nodes k ≡ Some n → t.activations ≡ s.activations ++ x ∷ [] → x.parent ≡ Some n.activation
-        → frame_among (length t.activations) layout ≡ None → AreFramed layout nodes
-        → AreFramed (with_frame layout (record { activation = length t.activations; first = first; cells = cells }))
-        (with_node nodes v (new_node (length t.activations) x.unit first cells k) k) }
-    ensures ended { (layout : Layout) (nodes : Nodes) (k : ℕ) → AreFramed layout nodes → AreFramed layout (with_ended nodes k) }
-    ensures given { (s : State) (on out : ℕ → Bool) (layout : Layout) (nodes : Nodes) (k : ℕ) (n : Node) → IsTree s on out nodes
-        → nodes k ≡ Some n → AreSingle layout → AreFramed layout nodes → AreFramed (without n.activation layout) (without_node nodes k n) }
-    ensures layout { (out : ℕ → Bool) (a : ℕ) (layout : Layout) → AreSingle layout
-        → without a (filter (λ (f : Frame). out f.activation) layout) ≡ filter (λ (f : Frame). but a out f.activation) layout }
-{}
-
-/// What a name stands for is kept in consecutive cells: that of a local variable from its first cell in the
-/// frame, in COMMON from its first cell there, of a dummy argument from where what it stands for begins.
-pub fn variables_are_kept_in_runs()
-    ensures local { (program : Units) (s : State) (layout : Layout) (a : ℕ) (x : Name) (f : Frame) → frame_among a layout ≡ Some f
-        → is_among x (locals_of (unit_at program (unit_of s a))) ≡ true
-        → RunsFrom program s layout (storage_of (scope_of program s a) x).start (storage_of (scope_of program s a) x).rest (f.first
-        + first_of_part (unit_at program (unit_of s a)) (variable x)) }
-    ensures common { (program : Units) (s : State) (layout : Layout) (a : ℕ) (x : Name) (b : BlockName)
-        → slice_get program (unit_of s a) ≡ Some (unit_at program (unit_of s a))
-        → index_among x (dummies_of (unit_at program (unit_of s a))) ≡ None → common_block (unit_at program (unit_of s a)) x ≡ Some b
-        → RunsFrom program s layout (storage_of (scope_of program s a) x).start (storage_of (scope_of program s a) x).rest
-        (first_in_common program (unit_at program (unit_of s a)) b x) }
-    ensures dummy { (program : Units) (s : State) (layout : Layout) (a : ℕ) (x : Name) (i first : ℕ)
-        → index_among x (dummies_of (unit_at program (unit_of s a))) ≡ Some i
-        → fits (dummy_at (activation_of s a).dummies i).shape (dummy_at (activation_of s a).dummies i).rest ≡ true
-        → RunsFrom program s layout (dummy_at (activation_of s a).dummies i).start (dummy_at (activation_of s a).dummies i).rest first
-        → RunsFrom program s layout (storage_of (scope_of program s a) x).start (storage_of (scope_of program s a) x).rest first }
-    ensures value { (program : Units) (s : State) (layout : Layout) (a : ℕ) (x : Name) (i : ℕ) (f : Frame) → frame_among a layout ≡ Some f
-        → index_among x (dummies_of (unit_at program (unit_of s a))) ≡ Some i
-        → is_owned a (dummy_at (activation_of s a).dummies i).start ≡ true
-        → RunsFrom program s layout (local a x 1) 1 (f.first + first_of_part (unit_at program (unit_of s a)) (argument x)) }
-{}
-
-/// A scalar or an element is kept so many cells behind the first one of its variable as elements are before
-/// it; and what an actual argument passes is kept from the cell of the element on that it begins with.
-pub fn elements_are_kept_in_order()
-    ensures element { (program : Units) (s : State) (layout : Layout) (scope : Scope) (x : Name) (subscripts : List Value) (first : ℕ)
-        (at : Location) → RunsFrom program s layout (storage_of scope x).start (storage_of scope x).rest first
-        → location_of_name scope x subscripts ≡ Ok at → (n : ℕ) × (element_of (storage_of scope x) subscripts ≡ Ok n) × (1 ≤ n)
-        × (n ≤ (storage_of scope x).rest) × (address program s layout at ≡ Some (first + (n - 1))) }
-    ensures actual { (program : Units) (s : State) (layout : Layout) (scope : Scope) (a : ℕ) (x : Name) (r : Reference) (d : Dummy)
-        (first : ℕ) → RunsFrom program s layout (storage_of scope r.0).start (storage_of scope r.0).rest first
-        → dummy_for scope a x (referred r) ≡ Ok d → (n : ℕ) × (first_element scope r ≡ Ok n)
-        × RunsFrom program s layout d.start d.rest (first + (n - 1)) }
-{}
-
-/// What is kept in consecutive cells stays there where a frame enters, and where the frame of another
-/// activation leaves.
-pub fn runs_stay()
-    ensures enters { (program : Units) (s t : State) (x : Activation) (layout : Layout) (entered cells : ℕ) (start : Location)
-        (count first : ℕ) → IsLaid program s cells layout → t.activations ≡ s.activations ++ x ∷ []
-        → RunsFrom program s layout start count first
-        → RunsFrom program t (with_frame layout (frame_from program t (length t.activations) entered)) start count first }
-    ensures leaves { (program : Units) (s : State) (a cells : ℕ) (layout : Layout) (start : Location) (count first : ℕ)
-        → IsLaid program s cells layout → is_owned a start ≡ false → RunsFrom program s layout start count first
-        → RunsFrom program s (without a layout) start count first }
-{}
-
-/// No activation is twice on stacks. So the level on top of a process is the one that is found by its
-/// activation, and another level there leaves those of the other activations.
-pub fn stacks_share_nothing()
-    ensures once { (program : Units) (processes : List ℕ) (a : ℕ) → times_on a (run program processes).processes ≤ 1 }
-    ensures found { (program : Units) (processes : List ℕ) (p : ℕ) (top : Level × Process) → living (run program processes) p ≡ Some top
-        → level_of (run program processes) top.0.activation ≡ Some top.0 }
-    ensures others { (s t : State) (p : ℕ) (top : Level × Process) (after : Level) (b : ℕ) → living s p ≡ Some top
-        → t.processes ≡ with_numbered s.processes p (after ∷ top.1) → after.activation ≡ top.0.activation
-        → nat_eq top.0.activation b ≡ false → level_of t b ≡ level_of s b }
-{}
-
-/// What is on stacks where a process gets another stack: the same where its activations are the same, all but
-/// the one on top where that ends, all but those of the process where that ends, and one more where an
-/// activation begins on top or with a process of its own.
-pub fn stacks_change()
-    ensures same { (s t : State) (p a : ℕ) (top : Level × Process) (q : Process) → living s p ≡ Some top
-        → t.processes ≡ with_numbered s.processes p q → activations_on q ≡ activations_on (top.0 ∷ top.1)
-        → is_stacked t a ≡ is_stacked s a }
-    ensures ended { (s t : State) (p a : ℕ) (top : Level × Process) (q : Process) → living s p ≡ Some top
-        → t.processes ≡ with_numbered s.processes p q → times_on a s.processes ≤ 1 → activations_on q ≡ activations_on top.1
-        → is_stacked t a ≡ but top.0.activation (is_stacked s) a }
-    ensures emptied { (s t : State) (p a : ℕ) (top : Level × Process) → living s p ≡ Some top → t.processes ≡ with_numbered s.processes p []
-        → times_on a s.processes ≤ 1 → is_stacked t a
-        ≡ (if is_number_among a (activations_on (top.0 ∷ top.1)) then false else is_stacked s a) }
-    ensures begun { (s t : State) (p a c : ℕ) (top : Level × Process) (q : Process) → living s p ≡ Some top
-        → t.processes ≡ with_numbered s.processes p q → activations_on q ≡ c ∷ activations_on (top.0 ∷ top.1)
-        → is_stacked t a ≡ also c (is_stacked s) a }
-    ensures created { (s t : State) (a c : ℕ) (r : Process) → t.processes ≡ s.processes ++ r ∷ [] → activations_on r ≡ c ∷ []
-        → is_stacked t a ≡ also c (is_stacked s) a }
-{}
-
-/// What a dummy argument stands for is in COMMON or of its activation or one above it. So it was made, and
-/// with an activation all is held that its dummy arguments stand for.
-pub fn references_lead_upwards()
-    ensures above { (program : Units) (processes : List ℕ) (a k : ℕ)
-        → IsOwnedAbove (run program processes) a (dummy_at (activation_of (run program processes) a).dummies k).start }
-    ensures made { (program : Units) (processes : List ℕ) (a k : ℕ) → a ≤ length (run program processes).activations
-        → IsMadeAt (length (run program processes).activations) (dummy_at (activation_of (run program processes) a).dummies k).start }
-    ensures held { (program : Units) (processes : List ℕ) (a k above : ℕ) (x : Name) (i : ℕ) → is_held (run program processes) a ≡ true
-        → (dummy_at (activation_of (run program processes) a).dummies k).start ≡ local above x i
-        → is_held (run program processes) above ≡ true }
-{}
-
-/// Nothing is stored in a variable of an activation that wasn't made yet.
-pub fn nothing_is_stored_ahead()
-    ensures { (program : Units) (processes : List ℕ) (a : ℕ) (x : Name) (i : ℕ) → length (run program processes).activations < a
-        → (run program processes).store (local a x i) ≡ unset_cell }
-{}
-
-/// What was made and isn't held is never held again, so a frame that was given back is never wanted.
-pub fn what_was_held_is_held_no_more()
-    ensures { (program : Units) (processes : List ℕ) (p a : ℕ) → a ≤ length (run program processes).activations
-        → is_held (run program (processes ++ p ∷ [])) a ≡ true → is_held (run program processes) a ≡ true }
-{}
-
-/// Where frames are given back as soon as their activations aren't held, the frames of a run are those of
-/// just the held activations, each with the cells of its unit, and the cells in use are COMMON's and theirs:
-/// all that are in no hole.
-pub fn layouts_have_what_is_held()
-    ensures laid { (program : Units) (cells : ℕ) (processes : List ℕ) (layout : Layout)
-        → layout_of program cells is_held processes ≡ Some layout → IsLaid program (run program processes) cells layout }
-    ensures held { (program : Units) (cells : ℕ) (processes : List ℕ) (layout : Layout) (a : ℕ)
-        → layout_of program cells is_held processes ≡ Some layout → is_some (frame_among a layout) ≡ is_held (run program processes) a }
-    ensures used { (program : Units) (cells : ℕ) (processes : List ℕ) (layout : Layout)
-        → layout_of program cells is_held processes ≡ Some layout
-        → used_cells program is_held (run program processes) ≡ common_cells program + framed_cells layout }
-    ensures free { (program : Units) (processes : List ℕ) (layout : Layout) (contents : List Slot) (holes : List Hole)
-        → layout_of program (length contents) is_held processes ≡ Some layout
-        → IsMemory program (run program processes) layout contents holes
-        → free_cells holes + used_cells program is_held (run program processes) ≡ length contents }
+/// After a run the frames are those of just the held activations. So what is left of a layout is what the
+/// machine leaves of it.
+pub fn frames_are_of_held_activations()
+    ensures out { (program : Units) (processes : List ℕ) (out : ℕ
+        → Bool) (layout : Layout) (wanted : DescriptorSlots) (arena : Space) (nodes : Nodes) (a : ℕ)
+        → Keeps program (run program processes) (is_stacked (run program processes)) out layout wanted arena nodes
+        → out a ≡ is_held (run program processes) a }
+    ensures layout { (program : Units) (processes : List ℕ) (out : ℕ
+        → Bool) (layout before : Layout) (wanted : DescriptorSlots) (arena : Space) (nodes : Nodes)
+        → Keeps program (run program processes) (is_stacked (run program processes)) out layout wanted arena nodes
+        → frames_of out before ≡ remaining_layout is_held (run program processes) before }
 {}

@@ -1,7 +1,11 @@
-//! Frames: what their cells are for, and where in the arena the storage units of a state are.
+//! The frames of activations: each has a block of the arena's cells, and a node that says whose it is.
 //!
-//! There is no code here. The definitions stand in `specs/`, and what holds of them is said by the
-//! contracts of the functions in [`laws`].
+//! A frame is out while its activation hasn't ended or has a child whose frame is out. No call takes memory
+//! but the ones that make the table and reserve room in it.
 #![tactic(auto)]
 
+mod frames;
 pub mod laws;
+mod nodes;
+
+pub use frames::Frames;

@@ -9,13 +9,13 @@ use Rattle.hep_machine.specs.Words.{is_held, layout_of, opening, living, run, ru
 use Rattle.hep_state.specs.Words.{HasNoGap}
 use Rattle.hep_state.proofs.Runs.{laid-before}
 use Rattle.hep_scheduler.specs.declared.fault.ChooseFault.TheVariants as refused
-use Rattle.hep_scheduler.specs.declared.stop.Stop.{Stop}
-use Rattle.hep_scheduler.specs.declared.stop.Stop.TheVariants.{Halted}
+use Rattle.hep_scheduler.specs.declared.stop.ChoiceStop.{ChoiceStop}
+use Rattle.hep_scheduler.specs.declared.stop.ChoiceStop.TheVariants.{Halted}
 use Rattle.hep_scheduler.specs.declared.stop.Turn.{Turn as CoreTurn}
 use Rattle.hep_scheduler.specs.Value.{CoreValue, state_of, core_after_choice, stop_after, HasNoStop, IsTurn, IsChoice}
 use Rattle.hep_history.specs.Progress.{IsStanding, longer, HasTurn, turn_entry, TurnMade, StepsMade, EntryMade}
 use Rattle.hep_history.specs.Replays.{HaveGaps, most_entries, standing, ArePossible, IsPossible, IsThere, replayed, single_entries, single_steps}
-use Rattle.hep_listed.proofs.Living.{waits-idle}
+use Rattle.hep_blocked_laws.proofs.Living.{waits-idle}
 use Rattle.hep_machine.proofs.Replays.{run_after}
 use Rattle.std.proofs.lemmas.Bool.{cases_lt}
 use Rattle.hep_history.specs.declared.fault.ReplayFault.{ReplayFault}
@@ -123,14 +123,14 @@ no_turn program s p false dead has = has (dead_stays program p s dead).0
 pub nobody_turns : (old new : CoreValue) (p : ℕ) (waits : Bool) → IsChoice old p (Err refused.NoSuchProcess) new → TurnMade old p waits (Ok false) new
 nobody_turns old new p waits c = λ room has gaps. no_turn old.program (state_of old) p waits c.1 has
 
-is_halted : (s : State) (stop : Stop) → stop_after s ≡ Some stop → s.halted ≡ true
+is_halted : (s : State) (stop : ChoiceStop) → stop_after s ≡ Some stop → s.halted ≡ true
 is_halted s stop e = (cond_some s.halted Halted stop e).0
 
 halted_turn : (program : Units) (s : State) (p : ℕ) (waits : Bool) → s.halted ≡ true → HasTurn program s p waits → ⊥
 halted_turn program s p true halted has = absurd (cc (halted, has.0))
 halted_turn program s p false halted has = has (halted_stays program p s halted)
 
-pub stopped_turns : (old new : CoreValue) (p : ℕ) (waits : Bool) (stop : Stop) → IsStanding old → IsChoice old p (Err (refused.Stopped stop)) new → TurnMade old p waits (Ok false) new
+pub stopped_turns : (old new : CoreValue) (p : ℕ) (waits : Bool) (stop : ChoiceStop) → IsStanding old → IsChoice old p (Err (refused.Stopped stop)) new → TurnMade old p waits (Ok false) new
 stopped_turns old new p waits stop h (inl c) = λ room has gaps.
     halted_turn old.program (state_of old) p waits (is_halted (state_of old) stop (sym (ap (λ k. k.stop) h) ∙ c.0)) has
 stopped_turns old new p waits stop h (inr (inl c)) = λ room has gaps. omega (arith, limit_is old h, c.2)

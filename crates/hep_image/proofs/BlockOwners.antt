@@ -3,8 +3,8 @@ use Rattle.std.proofs.Common.{◌≡◌, ℕ, ◌+◌, true, List, [], ◌∷◌
 use Rattle.std.specs.List.Sorted.{IsNonDecreasingBy}
 use Rattle.hep_machine.specs.Words.{Units, BlockName, blocks_of, same_block, block_cells}
 use Rattle.hep_machine.proofs.Locations.{equal_blocks, block-self}
-use Rattle.hep_frames.specs.Words.{Row, common_row, first_in, owner_in}
-use Rattle.hep_frames.proofs.Rows.{has_key}
+use Rattle.hep_layout.specs.Words.{Row, common_row, first_in, owner_in}
+use Rattle.hep_layout.proofs.Rows.{has_key}
 use Rattle.hep_image.specs.declared.owners.BlockStart.{BlockStart}
 use Rattle.hep_image.specs.Owners.{IsBlockTold, block_start, block_starts, last_before}
 use Rattle.hep_image.proofs.Distinct.{AreDistinct, block_in, blocks_distinct, is_in}

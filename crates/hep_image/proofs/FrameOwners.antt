@@ -3,9 +3,9 @@ use Rattle.std.proofs.Common.{◌≡◌, ℕ, ◌+◌, ◌-◌, Bool, true, fals
 use Rattle.std.specs.Option.{option_or}
 use Rattle.hep_machine.specs.Words.{Name, Statement, is_among, same_name, dummies_of, no_name, locals_of}
 use Rattle.hep_source.proofs.NameTests.{same_name-self}
-use Rattle.hep_frames.specs.Words.{FramePart, Row, header, argument, variable, iteration, bounds, arguments_row, bounds_row, cells_in, first_in, frame_row, iterations_row, owner_in, same_part, variables_row}
-use Rattle.hep_frames.proofs.FrameRows.{equal_parts, none-arguments, none-iterations, none-variables}
-use Rattle.hep_frames.proofs.Rows.{first-behind, first-within, has_key}
+use Rattle.hep_layout.specs.Words.{FramePart, Row, header, argument, variable, iteration, bounds, arguments_row, bounds_row, cells_in, first_in, frame_row, iterations_row, owner_in, same_part, variables_row}
+use Rattle.hep_layout.proofs.FrameRows.{equal_parts, none-arguments, none-iterations, none-variables}
+use Rattle.hep_layout.proofs.Rows.{first-behind, first-within, has_key}
 use Rattle.hep_image.specs.declared.owners.FrameVariable.{FrameVariable}
 use Rattle.hep_image.specs.Owners.{AreGivenOnce, AreInOrder, IsTold, argument_at, frame_variables, last_before, variable_at}
 use Rattle.hep_image.proofs.Distinct.{AreDistinct, distinct_by_index, locals_distinct}

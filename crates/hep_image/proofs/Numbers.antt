@@ -8,7 +8,7 @@ use Rattle.hep_machine.specs.Words.{Name, Occurrence, Form, Statement, index_whe
 use Rattle.hep_source.specs.declared.statement.Form.TheVariants as form
 use Rattle.hep_machine.proofs.Locations.{equal_blocks}
 use Rattle.hep_image.specs.declared.names.ProgramNames.{ProgramNames}
-use Rattle.hep_image.specs.Names.{AreNames, block_index, block_number, block_spelling, first_block, first_variable, names_in_order, spellings_of, variable_index, variable_number}
+use Rattle.hep_image.specs.Names.{AreNames, block_index, block_number, block_spelling, first_variable, names_in_order, spellings_of, variable_index, variable_number}
 use Rattle.hep_image.proofs.Members.{among-added, among-before, among-behind, among-filtered, indexed}
 use Rattle.hep_source.proofs.Tests.{at-front}
 
@@ -116,13 +116,6 @@ variables-inside program u inside =
       length-append all blocks,
     )
 
-pub blocks-inside : (program : Units) → first_block program + length (blocks_of program) ≡ length (names_in_order program)
-blocks-inside program =
-    let units = map unit_name program in
-    let all = flat_map spellings_of program in
-    let blocks = map block_spelling (blocks_of program) in
-    omega (arith, length-map (blocks_of program) block_spelling, length-map program unit_name, length-append units (all ++ blocks), length-append all blocks)
-
 -- the number that is kept for a unit
 pub first-kept : (program : Units) (names : ProgramNames) → AreNames program names → (numbers : List ℕ) → numbers ≡ names.variables → (u : ℕ) → u < length program
     → get_or numbers u 0 ≡ first_variable program u
@@ -135,9 +128,6 @@ pub variable-few : (program : Units) (names : ProgramNames) → AreNames program
     → i < length (names_of (unit_at program u)) → get_or numbers u 0 + i < 2 ^ 32
 variable-few program names are numbers same u i inside less =
     omega (arith, less, first-kept program names are numbers same u inside, variables-inside program u inside, are.few, ap length are.spelled)
-
-pub block-few : (program : Units) (names : ProgramNames) → AreNames program names → (i : ℕ) → i < length (blocks_of program) → names.blocks + i < 2 ^ 32
-block-few program names are i less = omega (arith, less, are.blocks_are, blocks-inside program, are.few, ap length are.spelled)
 
 -- ---- the variables of frames are named
 

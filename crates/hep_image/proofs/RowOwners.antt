@@ -4,8 +4,8 @@ use Rattle.std.specs.List.Sorted.{IsNonDecreasingBy}
 use Rattle.std.specs.Option.{option_or}
 use Rattle.std.proofs.lemmas.Bool.Decides.{nat_tests}
 use Rattle.std.proofs.lemmas.Option.{none-some, same_Some}
-use Rattle.hep_frames.specs.Words.{Row, cells_in, first_in, owner_in}
-use Rattle.hep_frames.proofs.Rows.{has_key}
+use Rattle.hep_layout.specs.Words.{Row, cells_in, first_in, owner_in}
+use Rattle.hep_layout.proofs.Rows.{has_key}
 use Rattle.hep_image.specs.Owners.{last_before}
 use Rattle.hep_image.proofs.Lookups.{none-begun}
 

@@ -1,7 +1,7 @@
 -- What DATA gives the cells of the arena before the first step: X3.9-1978, section 9.
 use Rattle.std.specs.Prelude.{◌≡◌, ℕ, ◌+◌, ◌&&◌, nat_le, nat_lt, if◌then◌else◌, List, [], ◌∷◌, Option, Some, None}
 use Rattle.hep_machine.specs.Words.{Value, Units, unit_at, main_unit, unset_cell, Layout, common_cells, opening, cell_given, Location, frame_cells}
-use Rattle.hep_frames.specs.Words.{address}
+use Rattle.hep_layout.specs.Words.{address}
 use Rattle.hep_image.specs.declared.data.DataRow.{DataRow}
 
 -- at the opening the frame of the main program is just behind COMMON, wherever it fits

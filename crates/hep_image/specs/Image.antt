@@ -1,7 +1,7 @@
 -- What an image has of a program: docs/ARCHITECTURE.md, "Forms".
 use Rattle.std.specs.Prelude.{◌≡◌, ℕ, ◌≤◌, List, map, length, slice_get, Some}
 use Rattle.hep_machine.specs.Words.{Units, main_among, unit_at, common_cells, frame_cells}
-use Rattle.hep_check.specs.Words.{IsAccepted}
+use Rattle.hep_conditions.specs.Words.{IsAccepted}
 use Rattle.hep_code.specs.Words.{deepest, most_operands, addressed_unit, entry_index, code_of}
 use Rattle.hep_image.specs.Data.{AreInitial, AreOfUnits}
 use Rattle.hep_image.specs.Dummies.{dummy_arguments}

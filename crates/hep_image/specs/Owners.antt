@@ -3,7 +3,7 @@ use Rattle.std.specs.Prelude.{◌≡◌, ℕ, ◌+◌, ◌<◌, true, length, na
 use Rattle.std.specs.List.Sorted.{IsNonDecreasingBy}
 use Rattle.std.specs.Option.{option_or}
 use Rattle.hep_machine.specs.Words.{Name, Statement, is_among, Units, dummies_of, BlockName, blocks_of, is_array, is_block_among, locals_of, names_of}
-use Rattle.hep_frames.specs.Words.{argument, variable, first_of_block, first_of_part}
+use Rattle.hep_layout.specs.Words.{argument, variable, first_of_block, first_of_part}
 use Rattle.hep_image.specs.Names.{block_index, variable_index}
 use Rattle.hep_image.specs.declared.owners.BlockStart.{BlockStart}
 use Rattle.hep_image.specs.declared.owners.FrameVariable.{FrameVariable}

@@ -6,7 +6,7 @@ use Rattle.hep_machine.specs.Words.{Name, Statement, index_among, is_among, Unit
 use Rattle.hep_code.specs.declared.variable.Variable.{Variable}
 use Rattle.hep_code.specs.declared.variable.Variable.TheVariants as variables
 use Rattle.hep_code.specs.Words.{Addresses}
-use Rattle.hep_frames.specs.Words.{argument, variable, iteration, bounds, first_of_part, first_in_common}
+use Rattle.hep_layout.specs.Words.{argument, variable, iteration, bounds, first_of_part, first_in_common}
 use Rattle.hep_image.specs.declared.array.Array.{Array}
 use Rattle.hep_image.specs.declared.array.Extents.{Extents}
 use Rattle.hep_image.specs.declared.array.Extents.TheVariants.{Constant, Adjustable}

@@ -1,6 +1,6 @@
 //! Images.
 ghost use Rattle.std.specs.Prelude.{◌≡◌, ◌↔◌, ◌≤◌, ◌<◌, ◌+◌, true, None, Some, is_some, length, option_map, slice_get, IfOk, IsTrue};
-ghost use Rattle.hep_check.specs.Words.{IsAccepted};
+ghost use Rattle.hep_conditions.specs.Words.{IsAccepted};
 ghost use Rattle.hep_machine.specs.Words.{blocks_of, common_cells, names_of, main_among, unit_at};
 ghost use Rattle.hep_image.specs.Data.{AreInitial, AreOfUnits};
 ghost use Rattle.hep_image.specs.Image as spec;

@@ -1,7 +1,8 @@
 //! Laws of images.
 ghost use Rattle.std.specs.Prelude.{◌≡◌, ◌+◌, ◌<◌, [], ℕ, true, nat_le, if◌then◌else◌, List, Some, None, length, slice_get};
-ghost use Rattle.hep_machine.specs.Words.{Name, Statement, is_among, spelling, Units, dummies_of, main_unit, unit_at, BlockName, blocks_of, is_block_among, common_cells, frame_of, opening_layout, run, frame_cells, names_of};
-ghost use Rattle.hep_frames.specs.Words.{argument, common_row, frame_row, owner_in, variable};
+ghost use Rattle.hep_machine.specs.Words.{Name, Statement, is_among, spelling, Units, dummies_of, main_unit, unit_at, BlockName, blocks_of};
+ghost use Rattle.hep_machine.specs.Words.{is_block_among, common_cells, frame_of, opening_layout, run, frame_cells, names_of};
+ghost use Rattle.hep_layout.specs.Words.{argument, common_row, frame_row, owner_in, variable};
 ghost use Rattle.hep_image.specs.Data.{first_frames};
 ghost use Rattle.hep_image.specs.Names.{block_number, block_spelling, names_in_order, variable_number};
 ghost use Rattle.hep_image.specs.Owners.{AreGivenOnce, IsBlockTold, IsTold};

@@ -5,8 +5,8 @@ use Rattle.std.specs.Option.{option_map}
 use Rattle.std.proofs.lemmas.List.{take_more, drop_all}
 use Rattle.std.proofs.lemmas.Grind.{flat_map-append}
 use Rattle.hep_machine.specs.Words.{trees_of, DataGroup, DataValue, Target, Statement, Constants, value_among, given_by, values_of, constant_shape, Stretch, groups_in, elements_named, repeat_of, value_of_constant, values_given, is_nonempty, is_array, constants_in}
-use Rattle.hep_check.specs.Words.{name_repeated, known_targets, known_values, has_type, is_forbidden, is_outside, is_target_outside, is_value, is_wrong_group, is_misplaced, wrong_groups_from, share_element, elements_in, is_given_twice, given_twice_from, data_violations, known_before, same_length, holds_at_each_place, reported, least_line, line_when, first_of, at_line, when}
-use Rattle.hep_check.proofs.Lines.{reported-when, reported-append, least_line-none, least_line-assoc, least_line-swap, least_line-or}
+use Rattle.hep_conditions.specs.Words.{name_repeated, known_targets, known_values, has_type, is_forbidden, is_outside, is_target_outside, is_value, is_wrong_group, is_misplaced, wrong_groups_from, share_element, elements_in, is_given_twice, given_twice_from, data_violations, known_before, same_length, holds_at_each_place, reported, least_line, line_when, first_of, at_line, when}
+use Rattle.hep_conditions.proofs.Lines.{reported-when, reported-append, least_line-none, least_line-assoc, least_line-swap, least_line-or}
 use Rattle.hep_values.proofs.GivenInTurn.{given-same}
 use Rattle.hep_initial.specs.Given.{given_after, IsGiven, Gives}
 use Rattle.hep_initial.specs.Groups.{is_wrong, wrong_line, twice_line, data_line}

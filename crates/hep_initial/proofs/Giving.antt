@@ -7,8 +7,8 @@ use Rattle.std.proofs.lemmas.Bool.{and_parts}
 use Rattle.std.proofs.lemmas.Option.{same_Some}
 use Rattle.hep_machine.specs.Words.{same_name, Name, Statement, constant_shape, constant_value, bounds_of, if_shape, Stretch, dimensions_of, is_nonempty, Bounds, elements, element_number, extent, is_between, are_dimensions}
 use Rattle.hep_shape.proofs.Extents.{between_extent}
-use Rattle.hep_check.specs.Words.{share_element, meet}
-use Rattle.hep_symbols.specs.Tables.{either}
+use Rattle.hep_conditions.specs.Words.{share_element, meet}
+use Rattle.hep_names.specs.Tables.{either}
 use Rattle.hep_source.proofs.NameTests.{name_eq-is, equal_names, same_name-turned}
 use Rattle.hep_initial.specs.Given.{element_eq, IsNamed, Describes}
 use Rattle.hep_initial.specs.declared.given.Element.{Element}

@@ -4,7 +4,7 @@ use Rattle.std.proofs.lemmas.List.{length-map, take_more}
 use Rattle.std.specs.Option.{option_map}
 use Rattle.std.specs.List.{list_any}
 use Rattle.hep_machine.specs.Words.{DataValue, Name, Statement, Value, Constants, value_among, Repeated, values_given, Stretch, elements_named, Target, DataGroup}
-use Rattle.hep_check.specs.Words.{has_type, known_values, name_repeated, known_targets, is_target_outside, is_forbidden, is_value, is_wrong_group, known_before, Known, count_of_items, same_length, holds_at_each_place}
+use Rattle.hep_conditions.specs.Words.{has_type, known_values, name_repeated, known_targets, is_target_outside, is_forbidden, is_value, is_wrong_group, known_before, Known, count_of_items, same_length, holds_at_each_place}
 use Rattle.hep_runs.specs.Spread.{repeat_before, spread, agree_as_far}
 use Rattle.hep_runs.specs.Runs.{alike, positions_in}
 use Rattle.hep_initial.specs.Groups.{position_of_name, position_of_value, run_of_values, run_given}

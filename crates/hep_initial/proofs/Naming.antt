@@ -4,7 +4,7 @@ use Rattle.std.proofs.lemmas.Bool.Decides.{nat_tests}
 use Rattle.std.specs.Bool.{◌==◌}
 use Rattle.std.specs.Option.{option_map, is_none}
 use Rattle.hep_machine.specs.Words.{Tree, trees_of, Target, Name, Statement, Value, integers_of, Constants, Values, both, value_among, value_of, values_of, constant_value, constant_shape, shape_by, Stretch, all_elements, element_with, is_array, is_nonempty, Bounds, elements, element_number}
-use Rattle.hep_check.specs.Words.{is_outside}
+use Rattle.hep_conditions.specs.Words.{is_outside}
 use Rattle.hep_initial.specs.Given.{IsNamed}
 use Rattle.hep_initial.specs.Shapes.{IsShaped, IsWhole, IsElementBy, IsElement, IsArray, Names}
 use Rattle.hep_initial.specs.declared.given.Stretch.TheVariants.{One, All}
@@ -12,9 +12,6 @@ use Rattle.hep_initial.specs.declared.shapes.ArrayShape.{ArrayShape}
 use Rattle.hep_initial.specs.declared.shapes.Named.{Named}
 use Rattle.hep_initial.specs.declared.shapes.Named.TheVariants.{Open, Outside, Elements}
 use Rattle.std.proofs.lemmas.Bool.{and_right}
-
-scalar-shape : (unit : List Statement) (x : Name) → is_array unit x ≡ false → constant_shape unit x ≡ Some []
-scalar-shape unit x h = ap (λ b. if b then shape_by unit (constant_value unit) x else Some []) h
 
 array-shape : (unit : List Statement) (x : Name) → is_array unit x ≡ true → constant_shape unit x ≡ shape_by unit (constant_value unit) x
 array-shape unit x h = ap (λ b. if b then shape_by unit (constant_value unit) x else Some []) h

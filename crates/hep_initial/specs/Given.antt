@@ -5,8 +5,8 @@ use Rattle.std.specs.Cmp.Lexicographic.{pointwise}
 use Rattle.std.specs.Ordering.{int_eq}
 use Rattle.indexmap.specs.IndexSet.{contains}
 use Rattle.hep_machine.specs.Words.{Name, Statement, constant_shape, Stretch, Bounds, elements, element_number, name_eq}
-use Rattle.hep_check.specs.Words.{share_element, is_given_twice}
-use Rattle.hep_symbols.specs.Tables.{either}
+use Rattle.hep_conditions.specs.Words.{share_element, is_given_twice}
+use Rattle.hep_names.specs.Tables.{either}
 use Rattle.hep_initial.specs.declared.given.Element.{Element}
 use Rattle.hep_initial.specs.declared.given.Given.{Given}
 use Rattle.hep_initial.specs.declared.given.Stretch.{Stretch as Named}

@@ -2,7 +2,7 @@
 use Rattle.std.specs.Prelude.{◌≡◌, ℕ, Bool, false, ◌||◌, List, [], ◌∷◌, ◌++◌, Option, Some, None, option_to_list}
 use Rattle.std.specs.List.{flat_map, list_any}
 use Rattle.hep_machine.specs.Words.{DataGroup, DataValue, Target, Name, Statement, Value, Constants, value_among, given_by, Repeated, groups_in, Stretch, elements_named, values_given, type_of, constants_in}
-use Rattle.hep_check.specs.Words.{is_misplaced, is_wrong_group, is_given_twice, elements_in, least_line, line_when, type_of_value}
+use Rattle.hep_conditions.specs.Words.{is_misplaced, is_wrong_group, is_given_twice, elements_in, least_line, line_when, type_of_value}
 use Rattle.hep_initial.specs.Given.{IsGiven, given_after}
 use Rattle.hep_initial.specs.declared.given.Given.{Given}
 use Rattle.hep_runs.specs.declared.runs.Position.{Position}

@@ -1,7 +1,7 @@
 -- What tables say of the shapes of arrays, and what names in DATA stand for: X3.9-1978, 5.2 and 9.2.
 use Rattle.std.specs.Prelude.{◌≡◌, ℕ, ℤ, Bool, true, false, nat_eq, List, length, Option, Some, None, is_some}
 use Rattle.hep_machine.specs.Words.{Target, Name, Statement, Constants, value_among, constant_value, shape_by, Stretch, elements_named, Bounds, elements, element_number}
-use Rattle.hep_check.specs.Words.{is_target_outside}
+use Rattle.hep_conditions.specs.Words.{is_target_outside}
 use Rattle.hep_initial.specs.Given.{IsNamed}
 use Rattle.hep_initial.specs.declared.given.Stretch.TheVariants.{One, All}
 use Rattle.hep_initial.specs.declared.shapes.ArrayShape.{ArrayShape}

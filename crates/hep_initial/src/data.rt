@@ -7,8 +7,8 @@ ghost use Rattle.hep_source.specs.declared.declaration.Target.{Target as PureTar
 ghost use Rattle.hep_machine.specs.Words.{name_eq};
 ghost use Rattle.hep_initial.specs.Shapes.{IsTable};
 ghost use Rattle.hep_machine.specs.Declarations as declarations;
-ghost use Rattle.hep_check.specs.Data as conditions;
-ghost use Rattle.hep_check.specs.Types as types;
+ghost use Rattle.hep_conditions.specs.Data as conditions;
+ghost use Rattle.hep_conditions.specs.Types as types;
 ghost use Rattle.hep_initial.specs.Groups as groups;
 ghost use Rattle.hep_initial.specs.Named as lists;
 ghost use Rattle.hep_runs.specs.Runs.{alike, positions_in};
@@ -16,9 +16,9 @@ ghost use Rattle.hep_runs.specs.Spread.{agree_as_far};
 
 use crate::given::Stretch;
 use crate::shapes::{Named, ShapeTable};
+use hep_names::Symbols;
 use hep_runs::{Known, Position, Run, agree};
 use hep_source::{DataGroup, DataValue, Name, Target};
-use hep_symbols::Symbols;
 use hep_types::{is_dummy, type_of_value};
 use hep_values::{Constants, repeat_of, value_of_constant};
 use std::alloc::{AllocError, Global};

@@ -6,8 +6,8 @@ ghost use Rattle.hep_source.specs.declared.statement.Statement.{Statement as Pur
 ghost use Rattle.hep_source.specs.declared.name.Name.{Name as PureName};
 ghost use Rattle.hep_machine.specs.Words.{same_name, name_eq};
 ghost use Rattle.hep_machine.specs.Data.{Stretch as PureStretch};
-ghost use Rattle.hep_check.specs.Words.{share_element};
-ghost use Rattle.hep_symbols.specs.Tables.{either};
+ghost use Rattle.hep_conditions.specs.Words.{share_element};
+ghost use Rattle.hep_names.specs.Tables.{either};
 ghost use Rattle.hep_initial.specs.declared.given.Element.{Element as PureElement};
 ghost use Rattle.hep_initial.specs.Given.{IsGiven, IsNamed, element_eq};
 

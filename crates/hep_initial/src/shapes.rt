@@ -10,9 +10,9 @@ ghost use Rattle.hep_initial.specs.Shapes as shapes;
 
 use crate::given::{Element, Stretch};
 use hep_machine::Bound;
+use hep_names::Symbols;
 use hep_shape::Shape;
 use hep_source::{Dimension, Expr, Name, Target, UpperBound, Value};
-use hep_symbols::Symbols;
 use hep_values::given::constants;
 use hep_values::{Constants, bounds_of, integers};
 use indexmap::IndexMap;

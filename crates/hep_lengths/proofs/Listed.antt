@@ -1,15 +1,9 @@
 -- Where the first number is that is great enough, and the last that isn't 0.
-use Rattle.std.proofs.Common.{◌≡◌, ℕ, zero, suc, ◌+◌, ◌-◌, ◌<◌, ◌≤◌, List, [], ◌∷◌, length, take, drop, replicate, Option, Some, None, refl, sym, ap, ◌∙◌, inl, inr, arith}
-use Rattle.std.specs.Prelude.{slice_get}
+use Rattle.std.proofs.Common.{◌≡◌, ℕ, zero, suc, ◌+◌, ◌-◌, ◌<◌, ◌≤◌, List, [], ◌∷◌, take, drop, Option, Some, None, refl, sym, ap, ◌∙◌, inl, inr, arith}
 use Rattle.std.proofs.lemmas.Bool.{cases_lt, lt-ltb, le-ltb}
 use Rattle.std.proofs.lemmas.List.{get_or-drop, get_or-take, get_or_past}
 use Rattle.hep_lengths.specs.Places.{first_from, last_from}
 use Rattle.hep_lengths.specs.Trees.{number}
-
-pub get-number : (k x : ℕ) (xs : List ℕ) → k < length xs → number xs k ≡ x → slice_get xs k ≡ Some x
-get-number k x [] h e = absurd (omega arith)
-get-number zero x (y ∷ ys) h e = ap Some e
-get-number (suc k) x (y ∷ ys) h e = get-number k x ys (omega arith) e
 
 pub number-take : (n k : ℕ) (xs : List ℕ) → k < n → number (take n xs) k ≡ number xs k
 number-take n k xs h = get_or-take n xs k 0 h
@@ -19,11 +13,6 @@ take-past zero k xs h = refl
 take-past (suc n) k [] h = refl
 take-past (suc n) zero (x ∷ xs) h = absurd (omega arith)
 take-past (suc n) (suc k) (x ∷ xs) h = take-past n k xs (omega arith)
-
-pub zeros-read : (n k : ℕ) → number (replicate n 0) k ≡ 0
-zeros-read zero k = refl
-zeros-read (suc n) zero = refl
-zeros-read (suc n) (suc k) = zeros-read n k
 
 -- zeros behind the places say nothing
 pub number-seen : (n k : ℕ) (xs : List ℕ) → ((j : ℕ) → n ≤ j → number xs j ≡ 0) → number (take n xs) k ≡ number xs k

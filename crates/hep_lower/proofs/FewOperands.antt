@@ -14,7 +14,9 @@ use Rattle.hep_code.specs.declared.instruction.Instruction.{Instruction}
 use Rattle.hep_code.specs.declared.instruction.Instruction.TheVariants.{Push, Step, To, Pass, Show}
 use Rattle.hep_code.specs.declared.instruction.Operation.{Operation}
 use Rattle.hep_code.specs.declared.instruction.Operation.TheVariants.{Store, Choose, BySign, Condition, Branch, EnterLoop, Call, Create, Purge, Print}
-use Rattle.hep_code.specs.Words.{arity, operands_passed, operands_shown, operands_of_entry, operands_of_entries, operands_by, operands_before, operands_ahead, line_ahead, line_too_deep, count, evaluating, name_code, asked, asked_listed, asked_listed_code, listed_code, tree_code, trees_code, asked_code, actual_name_code, actual_listed_code, actual_code, actuals_code, argument_of, argument_of_name, argument_of_listed, argument_of_target, target_code, item_code, printed_of, control_code, most_operands, addressed_unit, operands_code, operation_code, conditions_code, loop_end_code, statement_code, statements_code, NameTable, Table, AddressedUnit, code_of, table_of}
+use Rattle.hep_code.specs.Words.{arity, operands_passed, operands_shown, operands_of_entry, operands_of_entries, operands_by, operands_before, operands_ahead, line_ahead, line_too_deep, count, evaluating, name_code, asked, asked_listed, asked_listed_code, listed_code, tree_code, trees_code, asked_code}
+use Rattle.hep_code.specs.Words.{actual_name_code, actual_listed_code, actual_code, actuals_code, argument_of, argument_of_name, argument_of_listed, argument_of_target, target_code, item_code, printed_of, control_code, most_operands, addressed_unit, operands_code, operation_code, conditions_code, loop_end_code}
+use Rattle.hep_code.specs.Words.{statement_code, statements_code, NameTable, Table, AddressedUnit, code_of, table_of}
 use Rattle.hep_image.specs.Places.{addresses_of}
 use Rattle.hep_lower.specs.Parts.{HasLongStatement, IsOfLongStatement, in_tree, in_trees, in_list, in_optional, in_target, in_control, in_item, in_form, names_and_constants}
 use Rattle.hep_lower.specs.Refusals.{IsFirstDeep}

@@ -11,9 +11,9 @@ use Rattle.hep_image.specs.Places.{addresses_of, loop_cells, variable_of}
 use Rattle.hep_data.specs.Frame.{IsMainFrame}
 use Rattle.hep_places.specs.declared.unit.UnitPlaces.{UnitPlaces}
 use Rattle.hep_places.specs.Unit.{ArePlaces}
-use Rattle.hep_variables.specs.declared.places.Places.{Places}
+use Rattle.hep_variables.specs.declared.places.Placement.{Placement}
 use Rattle.hep_variables.specs.Places.{cells_in, variable_in}
-use Rattle.hep_placed.specs.Placed.{code_in}
+use Rattle.hep_image_laws.specs.Placed.{code_in}
 use Rattle.hep_emit.specs.declared.fault.EmitFault.{EmitFault}
 use Rattle.hep_emit.specs.declared.fault.EmitFault.TheVariants as emit_fault
 use Rattle.hep_emit.specs.Limits.{IsOverLimit}
@@ -21,7 +21,7 @@ use Rattle.hep_lower.specs.Refusals.{RefusesCode, fault_by}
 use Rattle.hep_emit.specs.Tables.{addressed_by}
 use Rattle.hep_lower.proofs.Counts.{as-many}
 
-module _ (program : Units) (u : ℕ) (unit : List Statement) (places : Places) (same : unit ≡ unit_at program u)
+module _ (program : Units) (u : ℕ) (unit : List Statement) (places : Placement) (same : unit ≡ unit_at program u)
     (variables : (x : Name) → variable_in places x ≡ variable_of program (unit_at program u) x) (loops : (d : ℕ) → cells_in places d ≡ loop_cells (unit_at program u) d) where
   pub addressed-is : addressed_by unit places program ≡ addressed_unit program (addresses_of program) u
   addressed-is = λ i. record { unit = same i; variables = λ x. variables x i; cells = λ d. loops d i; subroutines = unit_called program }

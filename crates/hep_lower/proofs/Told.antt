@@ -7,7 +7,7 @@ use Rattle.hep_base.specs.declared.refusal.Refusal.{Refusal as LowerFault}
 use Rattle.hep_base.specs.declared.refusal.Refusal.TheVariants.{NoMemory, Refused}
 use Rattle.indexmap.specs.IndexMap.{get}
 use Rattle.hep_machine.specs.Words.{name_eq, Units, main_among, unit_at, BlockName, blocks_of, block_cells, common_cells, frame_cells}
-use Rattle.hep_check.specs.Words.{IsAccepted}
+use Rattle.hep_conditions.specs.Words.{IsAccepted}
 use Rattle.hep_code.specs.Words.{most_instructions}
 use Rattle.hep_image.specs.declared.data.DataRow.{DataRow}
 use Rattle.hep_image.specs.declared.names.ProgramNames.{ProgramNames}

@@ -12,12 +12,12 @@ use crate::mains::main_index;
 use crate::spellings::names_in_order;
 use crate::units::{LoweredProgram, lower_units};
 use hep_base::{Refusal as LowerFault, Sequence};
-use hep_check::Checked;
 use hep_common::{CommonBlocks, CommonStarts};
+use hep_conditions::Checked;
 use hep_emit::MOST_INSTRUCTIONS;
 use hep_image::{BlockStart, DataRow, Image, ProgramNames, UnitCode};
+use hep_names::ProgramSymbols;
 use hep_source::Program;
-use hep_symbols::ProgramSymbols;
 use std::alloc::{AllocError, Global};
 
 /// The most cells that a frame, and COMMON, may have.

@@ -8,8 +8,8 @@ ghost use Rattle.hep_lower.specs.Numbers.{numbers_from};
 
 use hep_base::Sequence;
 use hep_image::ProgramNames;
+use hep_names::{ProgramSymbols, Symbols};
 use hep_source::{Name, Text, Unit};
-use hep_symbols::{ProgramSymbols, Symbols};
 use std::alloc::{AllocError, Global};
 
 // The names of these units.

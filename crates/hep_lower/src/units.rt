@@ -1,7 +1,7 @@
 //! The units of a program, lowered one after the other.
 ghost use Rattle.std.specs.Prelude.{◌≡◌, ◌<◌, ◌≤◌, ◌+◌, ℕ, length, IfOk, IfErr, OnOk};
 ghost use Rattle.hep_machine.specs.Words.{Units, main_unit, unit_at, common_cells, frame_cells};
-ghost use Rattle.hep_check.specs.Words.{IsAccepted};
+ghost use Rattle.hep_conditions.specs.Words.{IsAccepted};
 ghost use Rattle.hep_code.specs.Words.{most_instructions};
 ghost use Rattle.hep_image.specs.Image.{most_cells};
 ghost use Rattle.hep_common.specs.Starts.{AreStarts};
@@ -16,8 +16,8 @@ use hep_common::CommonStarts;
 use hep_data::{MainFrame, data_rows};
 use hep_emit::{EmitFault, MOST_INSTRUCTIONS, lower_unit};
 use hep_image::{DataRow, UnitCode};
+use hep_names::{ProgramSymbols, Symbols};
 use hep_places::{UnitPlaces, unit_places};
-use hep_symbols::{ProgramSymbols, Symbols};
 use std::alloc::{AllocError, Global};
 
 /// A unit, or the line of its first statement that has too many operands.

@@ -2,7 +2,11 @@
 use Rattle.std.proofs.Common.{◌≡◌, ℕ, Bool, true, false, List, [], ◌∷◌, ◌++◌, Option, Some, None, Result, Ok, Err, refl, ap, subst, ℤ, ◌+ℤ◌, ◌-ℤ◌, if◌then◌else◌, int_lt, pos}
 use Rattle.std.proofs.lemmas.Option.{same_Some, none-some}
 use Rattle.hep_machine.specs.declared.event.Kind.{Kind}
-use Rattle.hep_machine.specs.Words.{Statement, Value, integer_of, logical_of, integer_or_overflow, Binding, level_at_end_of, level_after_statement, level_at_choice, label_chosen, level_after_condition, level_in_block, level_in_range, level_after_loop, terminal_of, loops_around, loops_ending_at, variable_of, Action, assigning, jumping, choosing, branching, testing_condition, entering_block, entering_loop, ending_loop, calling, creating, purging, printing, continuing, leaving, stopping, Next, wants, does, next_of, activations_on, location_of_name, Activation, Level, Loop, Process, State, Location, Store, Answer, fails, answer_of, StepResult, stepped, waiting, absent, Top, unit_on_top, scope_of, result_after_answer, answer_at, written, result_after_write, result_after_store, result_after_assignment, store_after_purge, result_after_purge, iterations, level_after_count, state_after_count, result_after_do, result_after_increment, result_after_loop_variable, result_after_loop_end, entry_level, next_activation, result_after_call, result_after_create, unit_called, binding_of, stack_after_return, result_after_action, result_after_next, step_result_of_top, step_result_of, state_made, step, Units, unit_at, living, with_numbered, unit_of, loop_at, with_loop}
+use Rattle.hep_machine.specs.Words.{Statement, Value, integer_of, logical_of, integer_or_overflow, Binding, level_at_end_of, level_after_statement, level_at_choice, label_chosen, level_after_condition, level_in_block, level_in_range, level_after_loop, terminal_of, loops_around, loops_ending_at, variable_of, Action}
+use Rattle.hep_machine.specs.Words.{assigning, jumping, choosing, branching, testing_condition, entering_block, entering_loop, ending_loop, calling, creating, purging, printing, continuing, leaving, stopping, Next, wants, does, next_of, activations_on, location_of_name, Activation, Level, Loop, Process, State}
+use Rattle.hep_machine.specs.Words.{Location, Store, Answer, fails, answer_of, StepResult, stepped, waiting, absent, Top, unit_on_top, scope_of, result_after_answer, answer_at, written, result_after_write, result_after_store, result_after_assignment, store_after_purge, result_after_purge, iterations, level_after_count}
+use Rattle.hep_machine.specs.Words.{state_after_count, result_after_do, result_after_increment, result_after_loop_variable, result_after_loop_end, entry_level, next_activation, result_after_call, result_after_create, unit_called, binding_of, stack_after_return, result_after_action, result_after_next}
+use Rattle.hep_machine.specs.Words.{step_result_of_top, step_result_of, state_made, step, Units, unit_at, living, with_numbered, unit_of, loop_at, with_loop}
 use Rattle.hep_machine.specs.Step.{gives, waits}
 
 -- ---- what a step can make of the processes and the activations

@@ -1,7 +1,10 @@
 //! Laws of the source machine: what holds of every program, state and history, whatever is run.
 ghost use Rattle.std.specs.Prelude.{◌≡◌, ◌≢◌, ◌⊎◌, ◌↔◌, ◌<◌, ◌≤◌, ◌+◌, ℕ, Bool, true, false, List, length, Some, None};
 ghost use Rattle.hep_machine.specs.declared.event.Entry.{Entry};
-ghost use Rattle.hep_machine.specs.Words.{IsLegal, FillsNone, HasHeldChild, IsOnStack, IsSameOrOneMore, KeepsStatesBut, StandApart, is_purge, state_replayed, is_held, Layout, layout_of, common_cells, opening, AreSteps, state_after_turn, run, schedule_of, state_after, State, Location, step, Units, living, numbered, parent_of};
+ghost use Rattle.hep_machine.specs.Words.{IsLegal, FillsNone, HasHeldChild, IsOnStack, IsSameOrOneMore, KeepsStatesBut, StandApart};
+ghost use Rattle.hep_machine.specs.Words.{is_purge, state_replayed, is_held, Layout, layout_of, common_cells, opening, AreSteps};
+ghost use Rattle.hep_machine.specs.Words.{state_after_turn, run, schedule_of, state_after, State, Location, step, Units, living, numbered};
+ghost use Rattle.hep_machine.specs.Words.{parent_of};
 
 /// A step of a process leaves the other processes as they are.
 pub fn other_processes_stay()

@@ -25,10 +25,6 @@ failed view fault (Err e) whole h m = subst (λ (z : ParseFault). Misses z whole
 abbrev pub with_units : List (List Statement) → List Statement → Result (List (List Statement)) Refusal → Result (List (List Statement)) Refusal
 with_units done unit read = or_refusal read (λ rest. ok (done ++ after_some unit rest))
 
-pub nothing_before : (read : Result (List (List Statement)) Refusal) → with_units [] [] read ≡ read
-nothing_before (Ok rest) = refl
-nothing_before (Err e) = refl
-
 more_of_unit : (unit : List Statement) (t : Statement) (stage : Stage) (rest : List (List Statement)) → is_start stage ≡ false → after_some unit (after_one t stage rest) ≡ after_some (unit ++ t ∷ []) rest
 more_of_unit unit t stage rest within = by_stage stage within ∙ by_unit unit rest
   where

@@ -9,8 +9,8 @@ use Rattle.hep_arena.specs.Space.{Space}
 use Rattle.hep_code.specs.declared.variable.Variable.{Variable}
 use Rattle.hep_code.specs.declared.variable.Variable.TheVariants.{Absent}
 use Rattle.hep_code.specs.Words.{passed_actual}
-use Rattle.hep_frames.specs.Words.{IsMemory}
-use Rattle.hep_frames.proofs.Addresses.{address-out}
+use Rattle.hep_layout.specs.Words.{IsMemory}
+use Rattle.hep_layout.proofs.Addresses.{address-out}
 use Rattle.hep_image.specs.declared.array.Array.{Array}
 use Rattle.hep_image.specs.declared.array.Start.{Start}
 use Rattle.hep_image.specs.declared.array.Start.TheVariants as start
@@ -18,13 +18,13 @@ use Rattle.hep_image.specs.Finding.{cells_in}
 use Rattle.hep_image.specs.Image.{most_cells}
 use Rattle.hep_image.specs.Places.{array_of, arrays_of, scalar, variable_of}
 use Rattle.hep_image.specs.Within.{LiesIn}
-use Rattle.hep_finding.specs.Within.{ArePlacedArrays}
-use Rattle.hep_finding.proofs.Activations.{dummy-shape}
-use Rattle.hep_finding.proofs.Found.{IsFound}
+use Rattle.hep_layout_laws.specs.Within.{ArePlacedArrays}
+use Rattle.hep_layout_laws.proofs.Activations.{dummy-shape}
+use Rattle.hep_layout_laws.proofs.Found.{IsFound}
 use Rattle.hep_machine.proofs.ConstantShapes.{constant-shape}
-use Rattle.hep_finding.proofs.Named.{absent-or, array-listed, at-index, by-kind}
-use Rattle.hep_finding.proofs.Variables.{frame-reached}
-use Rattle.hep_finding.proofs.Within.{variable-within}
+use Rattle.hep_layout_laws.proofs.Named.{absent-or, array-listed, at-index, by-kind}
+use Rattle.hep_layout_laws.proofs.Variables.{frame-reached}
+use Rattle.hep_layout_laws.proofs.Within.{variable-within}
 use Rattle.hep_step.specs.declared.frame.Frame as arena
 use Rattle.hep_step.specs.Cells.{HasFrame}
 use Rattle.hep_passing.specs.Agreement.{IsCaller, IsPassedAs, arrays_at}

@@ -7,17 +7,17 @@ use Rattle.hep_machine.specs.declared.event.Kind.{Kind}
 use Rattle.hep_machine.specs.declared.event.Kind.TheVariants.{Range}
 use Rattle.hep_machine.specs.declared.slot.Slot.{Slot}
 use Rattle.hep_code.specs.declared.variable.Variable.TheVariants.{Absent}
-use Rattle.hep_frames.specs.Words.{RunsFrom}
-use Rattle.hep_frames.proofs.Storages.{dummy-runs, element-counted}
+use Rattle.hep_layout.specs.Words.{RunsFrom}
+use Rattle.hep_layout.proofs.Storages.{dummy-runs, element-counted}
 use Rattle.hep_image.specs.declared.array.Start.{Start}
 use Rattle.hep_image.specs.declared.array.Start.TheVariants as start
 use Rattle.hep_image.specs.Finding.{base_at, bounds_at, cells_in, rest_at}
 use Rattle.hep_image.specs.Places.{array_of, arrays_of, extents_of, scalar, variable_of}
-use Rattle.hep_finding.specs.Constant.{HasConstantShape}
-use Rattle.hep_finding.proofs.Activations.{scope-sized}
-use Rattle.hep_finding.proofs.Found.{IsFound}
-use Rattle.hep_finding.proofs.Named.{array-listed, at-index, by-kind}
-use Rattle.hep_finding.proofs.Variables.{any-found}
+use Rattle.hep_layout_laws.specs.Constant.{HasConstantShape}
+use Rattle.hep_layout_laws.proofs.Activations.{scope-sized}
+use Rattle.hep_layout_laws.proofs.Found.{IsFound}
+use Rattle.hep_layout_laws.proofs.Named.{array-listed, at-index, by-kind}
+use Rattle.hep_layout_laws.proofs.Variables.{any-found}
 use Rattle.hep_passing.specs.Agreement.{IsCaller, IsPassedAs, arrays_at, AreGivenAs, ArePlaced, IsGiven}
 use Rattle.hep_passing.specs.Passing.{count_of, passed_at, passed_from_element, passed_of_array, passed_of_scalar, given_by, given_for, given_units, made_before}
 use Rattle.hep_code.specs.declared.variable.Variable.{Variable}

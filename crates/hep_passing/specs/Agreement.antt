@@ -6,10 +6,10 @@ use Rattle.hep_machine.specs.declared.slot.Slot.{Slot}
 use Rattle.hep_arena.specs.Gaps.{frame_among}
 use Rattle.hep_code.specs.declared.variable.Variable.{Variable}
 use Rattle.hep_code.specs.declared.variable.Variable.TheVariants.{Absent}
-use Rattle.hep_frames.specs.Words.{Describes, wanted_of, RunsFrom}
+use Rattle.hep_layout.specs.Words.{Describes, descriptor_slots, RunsFrom}
 use Rattle.hep_image.specs.declared.array.Array.{Array}
 use Rattle.hep_image.specs.Places.{array_of, arrays_of}
-use Rattle.hep_finding.specs.Bound.{AreClosed, AreKept, IsBound}
+use Rattle.hep_layout_laws.specs.Bound.{AreClosed, AreKept, IsBound}
 use Rattle.hep_passing.specs.declared.given.Given.{Given}
 use Rattle.hep_passing.specs.declared.given.Given.TheVariants as giving
 
@@ -20,7 +20,7 @@ pub record IsCaller (program : Units) (s : State) (layout : Layout) (contents : 
   pub closed : AreClosed program
   pub unit : slice_get program (unit_of s a) ≡ Some (unit_at program (unit_of s a))
   pub framed : frame_among a layout ≡ Some f
-  pub described : Describes program s layout (wanted_of program s layout) contents
+  pub described : Describes program s layout (descriptor_slots program s layout) contents
   pub bound : IsBound program s a
   pub kept : AreKept program s layout a
 

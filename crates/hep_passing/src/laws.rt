@@ -2,18 +2,19 @@
 //! stand for.
 ghost use Rattle.std.specs.Prelude.{◌≡◌, ◌≢◌, ℕ, ◌≤◌, List, ◌++◌, length, map};
 ghost use Rattle.std.specs.List.{flat_map};
-ghost use Rattle.hep_machine.specs.Words.{Name, Value, Units, unit_at, dummies_for, dummy_for, Actual, referred, Frame, Layout, unit_of, State, scope_of};
+ghost use Rattle.hep_machine.specs.Words.{Name, Value, Units, unit_at, dummies_for, dummy_for, Actual, referred, Frame, Layout, unit_of};
+ghost use Rattle.hep_machine.specs.Words.{State, scope_of};
 ghost use Rattle.hep_machine.specs.declared.slot.Slot.{Slot};
 ghost use Rattle.hep_arena.specs.Holes.{Hole};
 ghost use Rattle.hep_code.specs.declared.instruction.Instruction.{Instruction};
 ghost use Rattle.hep_code.specs.declared.instruction.Instruction.TheVariants.{Pass};
 ghost use Rattle.hep_code.specs.declared.variable.Variable.TheVariants.{Absent};
 ghost use Rattle.hep_code.specs.Words.{argument_of_actual, operands_of_actual, passed_actual, passed_from};
-ghost use Rattle.hep_frames.specs.Words.{IsMemory};
+ghost use Rattle.hep_layout.specs.Words.{IsMemory};
 ghost use Rattle.hep_image.specs.Finding.{cells_in};
 ghost use Rattle.hep_image.specs.Image.{most_cells};
 ghost use Rattle.hep_image.specs.Places.{variable_of};
-ghost use Rattle.hep_finding.specs.Within.{ArePlacedArrays};
+ghost use Rattle.hep_layout_laws.specs.Within.{ArePlacedArrays};
 ghost use Rattle.hep_step.specs.Cells.{HasFrame};
 ghost use Rattle.hep_passing.specs.Agreement.{AreGivenAs, ArePlaced, IsCaller, IsPassedAs, arrays_at};
 ghost use Rattle.hep_passing.specs.Passing.{given_by, passed_at};

@@ -7,11 +7,11 @@ use Rattle.hep_machine.specs.Words.{Name, Statement, no_statement, index_among, 
 use Rattle.hep_image.specs.declared.array.Start.TheVariants.{Common, Dummy}
 use Rattle.hep_image.specs.Places.{loop_cells, start_of}
 use Rattle.hep_image.specs.Places as image
-use Rattle.hep_frames.specs.Words.{FramePart, Row, argument, block_row, bounds, cells_in, common_row, first_in, first_in_common, first_of_block, first_of_part, frame_row, iteration, same_part, size_in, variable}
-use Rattle.hep_frames.proofs.CommonRows.{block_row-below, common_row-cells}
-use Rattle.hep_frames.proofs.FrameRows.{argument-first, bounds-first, frame_row-cells, iteration-first, variable-first, first-size}
-use Rattle.hep_frames.proofs.Rows.{has_key}
-use Rattle.hep_frames.proofs.Runs.{common-size}
+use Rattle.hep_layout.specs.Words.{FramePart, Row, argument, block_row, bounds, cells_in, common_row, first_in, first_in_common, first_of_block, first_of_part, frame_row, iteration, same_part, size_in, variable}
+use Rattle.hep_layout.proofs.CommonRows.{block_row-below, common_row-cells}
+use Rattle.hep_layout.proofs.FrameRows.{argument-first, bounds-first, frame_row-cells, iteration-first, variable-first, first-size}
+use Rattle.hep_layout.proofs.Rows.{has_key}
+use Rattle.hep_layout.proofs.Runs.{common-size}
 use Rattle.hep_common.specs.Starts.{AreStarts, narrowed, start_in}
 use Rattle.hep_common.specs.declared.starts.CommonStarts.{CommonStarts}
 use Rattle.hep_places.specs.Found.{Table, adjustable_row, behind, behind_loops, first_bound, first_local, first_loop, loops_from, name_row, no_length, offset_among, entries_of, start_among, start_by, start_found}

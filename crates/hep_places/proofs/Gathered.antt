@@ -2,7 +2,7 @@
 use Rattle.std.proofs.Common.{◌≡◌, Bool, true, false, List, [], ◌∷◌, ◌++◌, refl, ap, sym, ◌∙◌, if◌then◌else◌}
 use Rattle.std.specs.List.{flat_map}
 use Rattle.hep_machine.specs.Words.{Name, is_among, same_name}
-use Rattle.hep_symbols.specs.Tables.{either}
+use Rattle.hep_names.specs.Tables.{either}
 
 among-append : (x : Name) (xs ys : List Name) → is_among x (xs ++ ys) ≡ either (is_among x xs) (is_among x ys)
 among-append x [] ys = refl

@@ -2,8 +2,8 @@
 use Rattle.std.proofs.Common.{◌≡◌, ◌+◌, ◌*◌, ◌≤◌, true, List, ◌++◌, Some, ap, ap₂, ◌∙◌}
 use Rattle.std.specs.Option.{unwrap_or}
 use Rattle.hep_machine.specs.Words.{Name, Statement, is_among, dummies_of, is_array, frame_cells, locals_of}
-use Rattle.hep_accepted.proofs.Members.{Has, has_among}
-use Rattle.hep_frames.specs.Words.{first_of_part, variable}
+use Rattle.hep_conditions_laws.proofs.Members.{Has, has_among}
+use Rattle.hep_layout.specs.Words.{first_of_part, variable}
 use Rattle.hep_image.specs.Names.{variable_index}
 use Rattle.hep_image.specs.declared.owners.FrameVariable.{FrameVariable}
 use Rattle.hep_image.specs.Owners.{argument_at, frame_variables, variable_at}

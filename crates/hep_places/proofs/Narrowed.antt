@@ -1,5 +1,5 @@
 -- Sums of numbers in 32 bits.
-use Rattle.std.proofs.Common.{◌≡◌, ℕ, ◌+◌, ◌*◌, ◌≤◌, Bool, true, false, refl, arith, min, if◌then◌else◌, nat_le}
+use Rattle.std.proofs.Common.{◌≡◌, ℕ, ◌+◌, ◌≤◌, Bool, true, false, refl, arith, min, if◌then◌else◌, nat_le}
 use Rattle.std.proofs.lemmas.Bool.Decides.{nat_tests}
 use Rattle.hep_common.specs.Starts.{narrowed}
 
@@ -17,9 +17,6 @@ narrowed-more a c = omega (arith, most a, most (narrowed a + c), most (a + c))
 
 pub narrowed-sum : (a b : ℕ) → narrowed (a + narrowed b) ≡ narrowed (a + b)
 narrowed-sum a b = omega (arith, most b, most (a + narrowed b), most (a + b))
-
-pub narrowed-pairs : (f p : ℕ) → narrowed (narrowed (f + narrowed p) + narrowed p) ≡ narrowed (f + 2 * p)
-narrowed-pairs f p = omega (arith, most p, most (f + narrowed p), most (narrowed (f + narrowed p) + narrowed p), most (f + 2 * p))
 
 pub narrowed-zero : narrowed 0 ≡ 0
 narrowed-zero = narrowed-small 0 (omega arith)

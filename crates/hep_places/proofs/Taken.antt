@@ -2,14 +2,12 @@
 use Rattle.std.proofs.Common.{◌≡◌, ℕ, ◌+◌, Bool, true, false, List, [], ◌∷◌, Option, Some, None, refl, ap, sym, ◌∙◌, arith, if◌then◌else◌}
 use Rattle.std.specs.Option.{option_or}
 use Rattle.hep_machine.specs.Words.{Name, Statement, same_name, cells_of, BlockName}
-use Rattle.hep_code.specs.declared.variable.Variable.{Variable}
-use Rattle.hep_frames.specs.Words.{Row, cells_in, first_in}
-use Rattle.hep_frames.proofs.Rows.{has_key}
-use Rattle.hep_image.specs.declared.array.Start.{Start}
-use Rattle.hep_symbols.specs.Tables.{by_name}
+use Rattle.hep_layout.specs.Words.{Row, cells_in, first_in}
+use Rattle.hep_layout.proofs.Rows.{has_key}
+use Rattle.hep_names.specs.Tables.{by_name}
 use Rattle.hep_common.specs.Starts.{narrowed}
 use Rattle.hep_places.specs.declared.blocks.Entry.{Entry}
-use Rattle.hep_places.specs.Found.{start_among, behind, arrays_with, lengthened, no_length, offset_among, variable_among, variable_found}
+use Rattle.hep_places.specs.Found.{start_among, behind, lengthened, no_length, offset_among}
 use Rattle.hep_places.proofs.Narrowed.{narrowed-more}
 use Rattle.hep_places.proofs.InBlocks.{grouped}
 
@@ -28,9 +26,6 @@ start-next x y c n m row rest a new whole h d e f =
     ∙ (taken a (same_name x y) n (start_among (narrowed (n + c)) rest x)
     ∙ (ap (λ r. option_or a (start_among n r x)) (sym d) ∙ h)))
 
-pub behind-next : (y : Name) (c n m : ℕ) (row rest : Row Name) (whole : ℕ) → behind n row ≡ whole → row ≡ (y, c) ∷ rest → m ≡ narrowed (n + c) → behind m rest ≡ whole
-behind-next y c n m row rest whole h d f = ap (λ k. behind k rest) f ∙ (ap (behind n) (sym d) ∙ h)
-
 pub offset-next : (unit : List Statement) (x : Name) (e : Entry) (lengths longer : BlockName → ℕ) (es rest : List Entry) (a new whole : Option ℕ)
     → option_or a (offset_among unit lengths es x) ≡ whole → es ≡ e ∷ rest → new ≡ option_or a (by_name e.name (lengths e.block) x)
     → ((b : BlockName) → longer b ≡ lengthened lengths e.block (cells_of unit e.name) b) → option_or new (offset_among unit longer rest x) ≡ whole
@@ -39,15 +34,6 @@ offset-next unit x e lengths longer es rest a new whole h d n l =
     ∙ (ap (λ (f : BlockName → ℕ). option_or (option_or a (by_name e.name (lengths e.block) x)) (offset_among unit f rest x)) (λ i b. l b i)
     ∙ (taken a (same_name x e.name) (lengths e.block) (offset_among unit (lengthened lengths e.block (cells_of unit e.name)) rest x)
     ∙ (ap (λ r. option_or a (offset_among unit lengths r x)) (sym d) ∙ h)))
-
-pub variable-next : (unit : List Statement) (start : Name → Option Start) (x y : Name) (n m : ℕ) (ys rest : List Name) (a new whole : Option Variable)
-    → option_or a (variable_among unit start n ys x) ≡ whole → ys ≡ y ∷ rest → new ≡ option_or a (by_name y (variable_found unit n y (start y)) x)
-    → m ≡ arrays_with unit n y → option_or new (variable_among unit start m rest x) ≡ whole
-variable-next unit start x y n m ys rest a new whole h d e f =
-    ap (λ o. option_or o (variable_among unit start m rest x)) e
-    ∙ (ap (λ k. option_or (option_or a (by_name y (variable_found unit n y (start y)) x)) (variable_among unit start k rest x)) f
-    ∙ (taken a (same_name x y) (variable_found unit n y (start y)) (variable_among unit start (arrays_with unit n y) rest x)
-    ∙ (ap (λ r. option_or a (variable_among unit start n r x)) (sym d) ∙ h)))
 
 -- ---- rows as a whole
 

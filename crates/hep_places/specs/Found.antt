@@ -12,7 +12,7 @@ use Rattle.hep_image.specs.declared.array.Extents.TheVariants.{Constant, Adjusta
 use Rattle.hep_image.specs.declared.array.Start.{Start}
 use Rattle.hep_image.specs.declared.array.Start.TheVariants.{Local, Common, Dummy}
 use Rattle.hep_image.specs.Places.{scalar}
-use Rattle.hep_frames.specs.Words.{Row}
+use Rattle.hep_layout.specs.Words.{Row}
 use Rattle.hep_common.specs.Starts.{narrowed, start_in}
 use Rattle.hep_common.specs.declared.starts.CommonStarts.{CommonStarts}
 use Rattle.hep_places.specs.declared.blocks.Entry.{Entry}

@@ -4,7 +4,7 @@ ghost use Rattle.std.specs.List.{flat_map};
 ghost use Rattle.indexmap.specs.IndexSet.{contains};
 ghost use Rattle.hep_source.specs.declared.name.Name.{Name as PureName};
 ghost use Rattle.hep_machine.specs.Words.{is_among, name_eq};
-ghost use Rattle.hep_symbols.specs.Tables.{either};
+ghost use Rattle.hep_names.specs.Tables.{either};
 ghost use Rattle.hep_image.specs.Private as private;
 
 use hep_source::{Expr, Form, Name, Node, Statement};

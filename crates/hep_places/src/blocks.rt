@@ -5,13 +5,13 @@ ghost use Rattle.indexmap.specs.IndexMap.{get};
 ghost use Rattle.hep_source.specs.declared.name.Name.{Name as PureName};
 ghost use Rattle.hep_machine.specs.Words.{name_eq, value_among, constant_value, BlockName};
 ghost use Rattle.hep_machine.specs.Declarations as declarations;
-ghost use Rattle.hep_symbols.specs.Tables.{by_name};
+ghost use Rattle.hep_names.specs.Tables.{by_name};
 ghost use Rattle.hep_places.specs.Found as found;
 
 use crate::cells::further;
+use hep_names::declarators::{block_of, blocks_in};
+use hep_names::{Symbols, note};
 use hep_source::{CommonBlock, Declarator, Name, Statement};
-use hep_symbols::declarators::{block_of, blocks_in};
-use hep_symbols::{Symbols, note};
 use hep_values::{Constants, cells_of};
 use indexmap::IndexMap;
 use std::alloc::{AllocError, Global};

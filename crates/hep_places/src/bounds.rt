@@ -4,15 +4,15 @@ ghost use Rattle.hep_machine.specs.Words.{trees_of};
 ghost use Rattle.hep_bounds.specs.BoundCode as codes;
 ghost use Rattle.hep_bounds.specs.DimensionCode.{code_of_lower, code_of_dimensions};
 ghost use Rattle.hep_code.specs.Words.{count};
-ghost use Rattle.hep_symbols.specs.Meanings.{meaning};
+ghost use Rattle.hep_names.specs.Meanings.{meaning};
 ghost use Rattle.hep_places.specs.Dummies.{source_in};
 
 use crate::cells::further;
 use crate::tables::Tables;
 use hep_bounds::BoundOperation;
 use hep_common::CommonStarts;
+use hep_names::{Meaning, Symbols};
 use hep_source::{Dimension, Expr, Name, Node, UpperBound, Value};
-use hep_symbols::{Meaning, Symbols};
 use hep_values::Constants;
 use std::alloc::AllocError;
 

@@ -1,11 +1,11 @@
 //! Laws of the arrays of accepted programs.
 ghost use Rattle.std.specs.Prelude.{ℕ, length, ◌<◌, ◌≤◌};
 ghost use Rattle.hep_machine.specs.Words.{Units, unit_at, common_cells, frame_cells};
-ghost use Rattle.hep_check.specs.Words.{IsAccepted};
+ghost use Rattle.hep_conditions.specs.Words.{IsAccepted};
 ghost use Rattle.hep_image.specs.Places.{arrays_of};
 
-use hep_accepted::values::arrays_have_shapes;
-use hep_placed::laws::arrays_are_there;
+use hep_conditions_laws::values::arrays_have_shapes;
+use hep_image_laws::laws::arrays_are_there;
 
 /// A unit whose frame, and a program whose COMMON, have no more than 16,777,216 cells has no more than twice as many
 /// arrays: each one has cells of its own.

@@ -9,8 +9,8 @@ ghost use Rattle.hep_common.specs.Starts.{narrowed};
 ghost use Rattle.hep_places.specs.Found as found;
 
 use crate::cells::{behind_pairs, further};
+use hep_names::{Symbols, note};
 use hep_source::{Name, Occurrence};
-use hep_symbols::{Symbols, note};
 use hep_values::{Constants, adjustable_dimensions, cells_of};
 use indexmap::IndexMap;
 use std::alloc::{AllocError, Global};

@@ -8,8 +8,8 @@ ghost use Rattle.hep_places.specs.Owners as owners;
 use crate::cells::behind_pairs;
 use crate::tables::Tables;
 use hep_image::FrameVariable;
+use hep_names::Symbols;
 use hep_source::{Name, Occurrence};
-use hep_symbols::Symbols;
 use std::alloc::{AllocError, Global};
 
 // The index of a name of the unit among all that it has.

@@ -2,7 +2,7 @@
 ghost use Rattle.std.specs.Prelude.{◌≡◌, ◌≤◌, ◌<◌, ℕ, length, IfOk};
 ghost use Rattle.hep_machine.specs.Words.{Units, unit_at, common_cells};
 ghost use Rattle.hep_machine.specs.Variables as variables;
-ghost use Rattle.hep_check.specs.Words.{IsAccepted};
+ghost use Rattle.hep_conditions.specs.Words.{IsAccepted};
 ghost use Rattle.hep_common.specs.Starts.{AreStarts};
 ghost use Rattle.hep_places.specs.Unit.{ArePlaces};
 
@@ -13,21 +13,21 @@ use crate::laws::arrays_are_few;
 use crate::owners::variables_in_frame;
 use crate::tables::tables_of;
 use crate::variables::{private_among, variables_among};
-use hep_accepted::names::names_are_given_once;
-use hep_accepted::values::arrays_have_shapes;
 use hep_common::CommonStarts;
+use hep_conditions_laws::names::names_are_given_once;
+use hep_conditions_laws::values::arrays_have_shapes;
 use hep_image::{Array, DummyArgument, FrameVariable};
-use hep_placed::laws::constant_shapes;
-use hep_symbols::Symbols;
+use hep_image_laws::laws::constant_shapes;
+use hep_names::Symbols;
 use hep_values::given::constants;
-use hep_variables::Places;
+use hep_variables::Placement;
 use std::alloc::{AllocError, Global};
 use std::mem::replace;
 
 /// Where a unit's variables, arrays and DOs are.
 #[derive(Drop)]
 pub struct UnitPlaces {
-    pub places: Places,
+    pub places: Placement,
     /// Its arrays, in order of first appearance.
     pub arrays: Vec<Array>,
     /// How many cells its frame has.
@@ -65,7 +65,7 @@ pub fn unit_places(
     let constants = constants(alloc, symbols)?;
     let mut tables = tables_of(alloc, symbols, &constants)?;
     let names = symbols.names().as_slice();
-    let places = Places {
+    let places = Placement {
         variables: variables_among(alloc, symbols, common, &tables, names)?,
         loop_cells: replace(&mut tables.loop_cells, Vec::new(alloc)),
     };

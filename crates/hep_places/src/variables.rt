@@ -6,7 +6,7 @@ ghost use Rattle.indexmap.specs.IndexMap.{get};
 ghost use Rattle.indexmap.specs.IndexSet.{contains};
 ghost use Rattle.hep_source.specs.declared.name.Name.{Name as PureName};
 ghost use Rattle.hep_machine.specs.Words.{is_among, name_eq};
-ghost use Rattle.hep_symbols.specs.Tables.{by_name};
+ghost use Rattle.hep_names.specs.Tables.{by_name};
 ghost use Rattle.hep_image.specs.Places as places;
 ghost use Rattle.hep_image.specs.Private as private;
 ghost use Rattle.hep_places.specs.Found as found;
@@ -17,8 +17,8 @@ use crate::tables::{Tables, start_of};
 use hep_code::Variable;
 use hep_common::CommonStarts;
 use hep_image::Start;
+use hep_names::{Symbols, note};
 use hep_source::Name;
-use hep_symbols::{Symbols, note};
 use indexmap::{IndexMap, IndexSet};
 use std::alloc::{AllocError, Global};
 

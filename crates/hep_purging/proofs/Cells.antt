@@ -8,7 +8,7 @@ use Rattle.hep_machine.specs.declared.slot.Slot.{Slot}
 use Rattle.hep_machine.specs.Words.{purged_cell, unset_cell}
 use Rattle.hep_arena.proofs.Lists.{get-set_other, get-set_same}
 use Rattle.hep_image.specs.Finding.{cells_in}
-use Rattle.hep_purging.specs.declared.range.Range.{Range}
+use Rattle.hep_purging.specs.declared.range.ClosedRange.{ClosedRange}
 use Rattle.hep_purging.specs.Purged.{has_cell, have_cell, purged, purged_from}
 
 -- ---- one range
@@ -49,28 +49,28 @@ within_from (suc n) at contents p slot above below there = by_place (cases_eq p 
 
 -- ---- all ranges
 
-pub length-purged : (ranges : List Range) (contents : List Slot) → length (purged ranges contents) ≡ length contents
+pub length-purged : (ranges : List ClosedRange) (contents : List Slot) → length (purged ranges contents) ≡ length contents
 length-purged [] contents = refl
 length-purged (r ∷ rs) contents = length-purged rs (purged_from r.cells r.first contents) ∙ length-purged_from r.cells r.first contents
 
 -- ---- whose a cell is
 
-has-cell : (r : Range) (p : ℕ) → has_cell r p ≡ true → (r.first ≤ p) × (p < r.first + r.cells)
+has-cell : (r : ClosedRange) (p : ℕ) → has_cell r p ≡ true → (r.first ≤ p) × (p < r.first + r.cells)
 has-cell r p e =
     let both = and_parts (nat_le r.first p) (nat_lt p (r.first + r.cells)) e in
     (grind (arith, nat_tests, both.0), grind (arith, nat_tests, both.1))
 
-has-no-cell : (r : Range) (p : ℕ) → has_cell r p ≡ false → r.first ≤ p → p < r.first + r.cells → ⊥
+has-no-cell : (r : ClosedRange) (p : ℕ) → has_cell r p ≡ false → r.first ≤ p → p < r.first + r.cells → ⊥
 has-no-cell r p e from to = true≢false (sym (and_from (nat_le r.first p) (nat_lt p (r.first + r.cells)) (grind (arith, nat_tests, from)) (grind (arith, nat_tests, to))) ∙ e)
 
-pub emptied-elsewhere : (ranges : List Range) (contents : List Slot) (p : ℕ) → have_cell ranges p ≡ false → slice_get (purged ranges contents) p ≡ slice_get contents p
+pub emptied-elsewhere : (ranges : List ClosedRange) (contents : List Slot) (p : ℕ) → have_cell ranges p ≡ false → slice_get (purged ranges contents) p ≡ slice_get contents p
 emptied-elsewhere [] contents p e = refl
 emptied-elsewhere (r ∷ rs) contents p e =
     let none = or_parts (has_cell r p) (have_cell rs p) e in
     emptied-elsewhere rs (purged_from r.cells r.first contents) p none.1 ∙ elsewhere_from r.cells r.first contents p (has-no-cell r p none.0)
 
 -- to purge a cell once more changes nothing
-pub emptied-within : (ranges : List Range) (contents : List Slot) (p : ℕ) (slot : Slot) → have_cell ranges p ≡ true → slice_get contents p ≡ Some slot → slice_get (purged ranges contents) p ≡ Some (purged_cell slot)
+pub emptied-within : (ranges : List ClosedRange) (contents : List Slot) (p : ℕ) (slot : Slot) → have_cell ranges p ≡ true → slice_get contents p ≡ Some slot → slice_get (purged ranges contents) p ≡ Some (purged_cell slot)
 emptied-within [] contents p slot e there = absurd cc
 emptied-within (r ∷ rs) contents p slot e there = by_tests (has_cell r p) (have_cell rs p) refl refl e (emptied-within rs after p) where
   after : List Slot

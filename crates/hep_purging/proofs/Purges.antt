@@ -14,11 +14,11 @@ use Rattle.hep_code.specs.Words.{referred_argument, IsNext, passed_from, passed_
 use Rattle.hep_code.proofs.Leads.{operation_leads}
 use Rattle.hep_code.proofs.Moves.{after_statement_keeps}
 use Rattle.hep_code.proofs.Entries.{references_passed}
-use Rattle.hep_frames.specs.Words.{wanted_of}
-use Rattle.hep_frames.proofs.Addresses.{address-out}
-use Rattle.hep_frames.proofs.Memory.{memory-same}
-use Rattle.hep_finding.specs.Within.{ArePlacedArrays}
-use Rattle.hep_finding.proofs.Named.{absent-or}
+use Rattle.hep_layout.specs.Words.{descriptor_slots}
+use Rattle.hep_layout.proofs.Addresses.{address-out}
+use Rattle.hep_layout.proofs.Memory.{memory-same}
+use Rattle.hep_layout_laws.specs.Within.{ArePlacedArrays}
+use Rattle.hep_layout_laws.proofs.Named.{absent-or}
 use Rattle.hep_image.specs.declared.array.Array.{Array}
 use Rattle.hep_image.specs.Finding.{cells_in}
 use Rattle.hep_image.specs.Places.{variable_of}
@@ -30,7 +30,7 @@ use Rattle.hep_passing.proofs.References.{reference-passed}
 use Rattle.hep_step.specs.Ready.{frame_in_arena}
 use Rattle.hep_step.specs.Simulation.{IsRunning, Simulates, addressed_on_top, arrays_on_top, code_on_top, counts_in}
 use Rattle.hep_step.proofs.Running.{reached, action_made, fault_is, is_at, next_is}
-use Rattle.hep_purging.specs.declared.range.Range.{Range}
+use Rattle.hep_purging.specs.declared.range.ClosedRange.{ClosedRange}
 use Rattle.hep_purging.specs.Placed.{AreEntriesPlaced}
 use Rattle.hep_purging.specs.Purged.{effect_of_purge, effect_of_ranges, purged}
 use Rattle.hep_purging.specs.Ranges.{ranges_of}
@@ -116,7 +116,7 @@ module _ (program : Units) (t : Top) (layout : Layout) (f : Frame) (contents : L
 
     -- ---- it is done
 
-    purge_done : (p : IsPurgeAhead) (ranges : Result (List Range) Kind) → AreAllPurged program t.state layout contents t.level.activation f calls holes (wanted_of program t.state layout) ranges (store_after_purge (scope_of program t.state t.level.activation) p.targets)
+    purge_done : (p : IsPurgeAhead) (ranges : Result (List ClosedRange) Kind) → AreAllPurged program t.state layout contents t.level.activation f calls holes (descriptor_slots program t.state layout) ranges (store_after_purge (scope_of program t.state t.level.activation) p.targets)
         → Simulates program t layout f holes contents (effect_of_ranges line next contents ranges)
     purge_done p (Err k) h =
         fault_is program t layout f contents holes operands index running line (Purge count next) behind ahead k (
@@ -141,4 +141,4 @@ module _ (program : Units) (t : Top) (layout : Layout) (f : Frame) (contents : L
         let here = targets-placed p.targets p.more behind p.entries (subst (λ n. AreEntriesPlaced n behind) p.counted placed) in
         subst (λ ps. Simulates program t layout f holes contents (effect_of_purge arrays f.first line next ps contents)) (sym (named_so p)) (
         purge_done p (ranges_of (cells_in contents) f.first arrays (map (passed_reference variables) p.targets)) (
-        targets-purged program t.state layout contents t.level.activation f calls holes (wanted_of program t.state layout) p.targets here))
+        targets-purged program t.state layout contents t.level.activation f calls holes (descriptor_slots program t.state layout) p.targets here))

@@ -14,7 +14,7 @@ use Rattle.hep_image.specs.Finding.{base_at, bounds_at, cells_in}
 use Rattle.hep_passing.specs.Passing.{count_of, made_before, passed_at, passed_from_element, passed_of_array, passed_of_scalar}
 use Rattle.hep_passing.specs.Ready.{ArePassable, AreUnitsIn}
 use Rattle.hep_step.specs.declared.frame.Frame.{Frame}
-use Rattle.hep_purging.specs.declared.range.Range.{Range}
+use Rattle.hep_purging.specs.declared.range.ClosedRange.{ClosedRange}
 use Rattle.hep_purging.specs.Ranges.{is_whole, range_for, range_in, ranges_of}
 use Rattle.hep_purging.specs.Ready.{AreOut, AreReached, AreUnitsOut, IsRangeReached}
 
@@ -54,7 +54,7 @@ module _ (space : Space) (arrays : List Array) (frame : Frame) where
   cells = cells_in space.contents
 
   -- of one target
-  abbrev IsOneReached : Result Range Kind → Type 0
+  abbrev IsOneReached : Result ClosedRange Kind → Type 0
   IsOneReached (Ok r) = IsRangeReached space r
   IsOneReached (Err k) = Unit {0}
 
@@ -66,11 +66,11 @@ module _ (space : Space) (arrays : List Array) (frame : Frame) where
       record { inside = omega (arith, inside, one); out = λ p from to. out p from (omega (arith, to, one)) }
 
   -- of all
-  abbrev AreAllReached : Result (List Range) Kind → Type 0
+  abbrev AreAllReached : Result (List ClosedRange) Kind → Type 0
   AreAllReached (Ok rs) = AreReached space rs
   AreAllReached (Err k) = Unit {0}
 
-  before-reached : (r : Result Range Kind) (rs : Result (List Range) Kind) → IsOneReached r → AreAllReached rs → AreAllReached (made_before r rs)
+  before-reached : (r : Result ClosedRange Kind) (rs : Result (List ClosedRange) Kind) → IsOneReached r → AreAllReached rs → AreAllReached (made_before r rs)
   before-reached (Err k) rs h hs = tt
   before-reached (Ok r) (Err k) h hs = tt
   before-reached (Ok r) (Ok rs) h hs = (h, hs)
@@ -84,5 +84,5 @@ module _ (space : Space) (arrays : List Array) (frame : Frame) where
       (one-reached (is_whole x vs) (passed_at cells frame.first arrays x vs) (passed-some cells frame.first arrays x vs) passable.0.reached out.0)
       (all-reached ps passable.1 out.1)
 
-  pub ranges_reached : (ps : List Passed) (rs : List Range) → ArePassable space arrays frame ps → AreOut space arrays frame ps → ranges_of cells frame.first arrays ps ≡ Ok rs → AreReached space rs
+  pub ranges_reached : (ps : List Passed) (rs : List ClosedRange) → ArePassable space arrays frame ps → AreOut space arrays frame ps → ranges_of cells frame.first arrays ps ≡ Ok rs → AreReached space rs
   ranges_reached ps rs passable out found = subst AreAllReached found (all-reached ps passable out)

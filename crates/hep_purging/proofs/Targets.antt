@@ -4,14 +4,14 @@ use Rattle.std.specs.Option.{unwrap_or}
 use Rattle.hep_machine.specs.Words.{Units, unit_at, purged_cell, unset_cell, Layout, Frame, Location, State, Store, emptied_from, further, with_cell, with_empty, Name, Statement, Value, index_among, from_element, is_array, is_nonempty, Reference, Scope, StorageSequence, element_of, location_in, storage_of, unit_of, scope_of, store_after_both, store_after_purge, store_after_purge_at, store_after_purge_of}
 use Rattle.hep_machine.specs.declared.slot.Slot.{Slot}
 use Rattle.hep_arena.specs.Holes.{Hole}
-use Rattle.hep_frames.specs.Words.{IsLaid, IsMemory, address, Describes, Wanted, RunsFrom}
-use Rattle.hep_frames.proofs.Descriptors.{described-written}
-use Rattle.hep_frames.proofs.Memory.{address-same, memory-written}
-use Rattle.hep_frames.proofs.Runs.{runs-from, runs-fewer}
+use Rattle.hep_layout.specs.Words.{IsLaid, IsMemory, address, Describes, DescriptorSlots, RunsFrom}
+use Rattle.hep_layout.proofs.Descriptors.{described-written}
+use Rattle.hep_layout.proofs.Memory.{address-same, memory-written}
+use Rattle.hep_layout.proofs.Runs.{runs-from, runs-fewer}
 use Rattle.hep_image.specs.Finding.{cells_in}
 use Rattle.hep_purging.specs.Purged.{purged_from, purged}
-use Rattle.hep_finding.proofs.Variables.{further-none}
-use Rattle.hep_finding.proofs.Named.{by-kind}
+use Rattle.hep_layout_laws.proofs.Variables.{further-none}
+use Rattle.hep_layout_laws.proofs.Named.{by-kind}
 use Rattle.hep_machine.specs.declared.event.Kind.{Kind}
 use Rattle.hep_code.specs.declared.variable.Variable.{Variable}
 use Rattle.hep_code.specs.declared.variable.Variable.TheVariants.{Absent}
@@ -24,12 +24,12 @@ use Rattle.hep_image.specs.Places.{arrays_of, scalar, variable_of}
 use Rattle.hep_passing.specs.Agreement.{IsCaller, IsPassedAs, arrays_at}
 use Rattle.hep_passing.specs.Passing.{made_before, passed_at}
 use Rattle.hep_passing.proofs.References.{caller-found, reference-passed}
-use Rattle.hep_purging.specs.declared.range.Range.{Range}
+use Rattle.hep_purging.specs.declared.range.ClosedRange.{ClosedRange}
 use Rattle.hep_purging.specs.Ranges.{is_whole, range_for, range_in, ranges_of}
 
 -- ---- storage units and the cells that keep them are emptied: what is kept is that of the store, and descriptors stay
 
-module _ (program : Units) (s : State) (layout : Layout) (holes : List Hole) (wanted : Wanted) where
+module _ (program : Units) (s : State) (layout : Layout) (holes : List Hole) (wanted : DescriptorSlots) where
   -- the arena of the state with a store
   abbrev pub with_store : Store → State
   with_store store = record s { store = store }
@@ -71,7 +71,7 @@ ArePlaced variables (r ∷ rs) = (variables r.0 ≢ Absent) × ArePlaced variabl
 
 module _ (program : Units) (s : State) (layout : Layout) where
   -- its storage units are kept in the cells of the range
-  abbrev IsOnePurged : Result Range Kind → (Store → Result Store Kind) → Type 0
+  abbrev IsOnePurged : Result ClosedRange Kind → (Store → Result Store Kind) → Type 0
   IsOnePurged (Err k) after = (store : Store) → after store ≡ Err k
   IsOnePurged (Ok r) after = (at : Location) × ((store : Store) → after store ≡ Ok (emptied_from r.cells at store)) × RunsFrom program s layout at r.cells r.first
 
@@ -141,15 +141,15 @@ module _ (program : Units) (s : State) (layout : Layout) (contents : List Slot) 
 
   -- ---- all targets
 
-  module _ (holes : List Hole) (wanted : Wanted) where
+  module _ (holes : List Hole) (wanted : DescriptorSlots) where
     abbrev KeepsStore : Store → List Slot → Type 0
     KeepsStore store cells = Keeps program s layout holes wanted store cells
 
-    abbrev pub AreAllPurged : Result (List Range) Kind → (Store → Result Store Kind) → Type 0
+    abbrev pub AreAllPurged : Result (List ClosedRange) Kind → (Store → Result Store Kind) → Type 0
     AreAllPurged (Err k) after = (store : Store) → after store ≡ Err k
     AreAllPurged (Ok rs) after = (store : Store) (cells : List Slot) → KeepsStore store cells → (new : Store) × (after store ≡ Ok new) × KeepsStore new (purged rs cells)
 
-    before-purged : (r : Result Range Kind) (rs : Result (List Range) Kind) (one all : Store → Result Store Kind) → IsOnePurged program s layout r one → AreAllPurged rs all → AreAllPurged (made_before r rs) (λ store. store_after_both (one store) all)
+    before-purged : (r : Result ClosedRange Kind) (rs : Result (List ClosedRange) Kind) (one all : Store → Result Store Kind) → IsOnePurged program s layout r one → AreAllPurged rs all → AreAllPurged (made_before r rs) (λ store. store_after_both (one store) all)
     before-purged (Err k) rs one all h hs = λ store. ap (λ q. store_after_both q all) (h store)
     before-purged (Ok r) (Err k) one all h hs = λ store. ap (λ q. store_after_both q all) (h.1 store) ∙ hs (emptied_from r.cells h.0 store)
     before-purged (Ok r) (Ok rs) one all h hs = λ store cells keeps.

@@ -7,7 +7,7 @@ use Rattle.hep_code.specs.Words.{Passed}
 use Rattle.hep_image.specs.declared.array.Array.{Array}
 use Rattle.hep_image.specs.Finding.{cells_in}
 use Rattle.hep_step.specs.Effects.{Effect, fails, moves}
-use Rattle.hep_purging.specs.declared.range.Range.{Range}
+use Rattle.hep_purging.specs.declared.range.ClosedRange.{ClosedRange}
 use Rattle.hep_purging.specs.Ranges.{ranges_of}
 
 -- ---- cells
@@ -18,24 +18,24 @@ purged_from zero at contents = contents
 purged_from (suc n) at contents = purged_from n (suc at) (slice_set contents at (purged_cell (cells_in contents at)))
 
 -- those of all ranges are
-abbrev pub purged : List Range → List Slot → List Slot
+abbrev pub purged : List ClosedRange → List Slot → List Slot
 purged [] contents = contents
 purged (r ∷ rs) contents = purged rs (purged_from r.cells r.first contents)
 
 -- ---- which cells
 
-abbrev pub has_cell : Range → ℕ → Bool
+abbrev pub has_cell : ClosedRange → ℕ → Bool
 has_cell r p = nat_le r.first p && nat_lt p (r.first + r.cells)
 
 -- one of the ranges has it
-abbrev pub have_cell : List Range → ℕ → Bool
+abbrev pub have_cell : List ClosedRange → ℕ → Bool
 have_cell [] p = false
 have_cell (r ∷ rs) p = has_cell r p || have_cell rs p
 
 -- ---- the operation
 
 -- the activation goes on at an index; a fault changes nothing
-abbrev pub effect_of_ranges : ℕ → ℕ → List Slot → Result (List Range) Kind → Effect
+abbrev pub effect_of_ranges : ℕ → ℕ → List Slot → Result (List ClosedRange) Kind → Effect
 effect_of_ranges line next contents (Err k) = fails line k
 effect_of_ranges line next contents (Ok ranges) = moves (purged ranges contents) [] next
 

@@ -8,7 +8,7 @@ use Rattle.hep_code.specs.declared.variable.Variable.TheVariants.{Array as Array
 use Rattle.hep_code.specs.Words.{Passed, by_value, by_reference}
 use Rattle.hep_image.specs.declared.array.Array.{Array}
 use Rattle.hep_passing.specs.Passing.{made_by, passed_at}
-use Rattle.hep_purging.specs.declared.range.Range.{Range}
+use Rattle.hep_purging.specs.declared.range.ClosedRange.{ClosedRange}
 
 -- ---- one target
 
@@ -18,23 +18,23 @@ is_whole (ArrayAt asynchronous i) [] = true
 is_whole x subscripts = false
 
 -- of a whole array all storage units that would be passed, and of a scalar or an element the one that it is
-abbrev pub range_in : Bool → Result (ℕ × ℕ) Kind → Result Range Kind
+abbrev pub range_in : Bool → Result (ℕ × ℕ) Kind → Result ClosedRange Kind
 range_in whole (Err k) = Err k
 range_in whole (Ok units) = Ok (record { first = units.0; cells = if whole then units.1 else 1 })
 
 -- ---- all targets
 
 -- the value of an expression is in no cell; no PURGE has one
-abbrev pub no_cells : Range
+abbrev pub no_cells : ClosedRange
 no_cells = record { first = 0; cells = 0 }
 
 -- from the contents of the arena, the first cell of the frame, and the arrays of the unit
 module _ (cells : ℕ → Slot) (first : ℕ) (arrays : List Array) where
   -- RANGE for what isn't there
-  abbrev pub range_for : Passed → Result Range Kind
+  abbrev pub range_for : Passed → Result ClosedRange Kind
   range_for (by_value v) = Ok no_cells
   range_for (by_reference x subscripts) = range_in (is_whole x subscripts) (passed_at cells first arrays x subscripts)
 
   -- those of all targets from left to right; the first fault answers
-  abbrev pub ranges_of : List Passed → Result (List Range) Kind
+  abbrev pub ranges_of : List Passed → Result (List ClosedRange) Kind
   ranges_of = made_by range_for

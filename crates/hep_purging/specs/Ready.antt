@@ -8,7 +8,7 @@ use Rattle.hep_image.specs.declared.array.Array.{Array}
 use Rattle.hep_image.specs.Finding.{cells_in}
 use Rattle.hep_passing.specs.Passing.{passed_at}
 use Rattle.hep_step.specs.declared.frame.Frame.{Frame}
-use Rattle.hep_purging.specs.declared.range.Range.{Range}
+use Rattle.hep_purging.specs.declared.range.ClosedRange.{ClosedRange}
 
 -- ---- what is named
 
@@ -27,11 +27,11 @@ module _ (space : Space) (arrays : List Array) (frame : Frame) where
 -- ---- what is purged
 
 -- a range lies in the arena, and no hole has a cell of it
-pub record IsRangeReached (space : Space) (range : Range) : Type 0 where
+pub record IsRangeReached (space : Space) (range : ClosedRange) : Type 0 where
   pub inside : range.first + range.cells ≤ length space.contents
   pub out : (p : ℕ) → range.first ≤ p → p < range.first + range.cells → IsOut p space.holes
 
 -- each of them
-abbrev pub AreReached : Space → List Range → Type 0
+abbrev pub AreReached : Space → List ClosedRange → Type 0
 AreReached space [] = Unit {0}
 AreReached space (r ∷ rs) = IsRangeReached space r × AreReached space rs

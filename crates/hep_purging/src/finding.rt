@@ -8,7 +8,7 @@ ghost use Rattle.hep_purging.specs.Ranges as definitions;
 ghost use Rattle.hep_purging.specs.Ranges.{range_for, ranges_of};
 ghost use Rattle.hep_purging.specs.Ready.{AreOut, AreReached};
 
-use crate::range::Range;
+use crate::range::ClosedRange;
 use hep_arena::Arena;
 use hep_code::{Instruction, Variable};
 use hep_image::Array;
@@ -18,7 +18,7 @@ use hep_source::Value;
 use hep_step::Frame;
 
 // No cells.
-const NONE: Range = Range { first: 0, cells: 0 };
+const NONE: ClosedRange = ClosedRange { first: 0, cells: 0 };
 
 // An array without subscripts stands for all its elements.
 fn is_whole(variable: Variable, subscripts: &[Value]) -> bool
@@ -27,7 +27,7 @@ fn is_whole(variable: Variable, subscripts: &[Value]) -> bool
     matches!(variable, Variable::Array { .. }) && subscripts.is_empty()
 }
 
-impl FromPassed for Range {
+impl FromPassed for ClosedRange {
     ghost made_for = { range_for };
 
     fn from_passed(
@@ -35,7 +35,7 @@ impl FromPassed for Range {
         arrays: &[Array],
         arena: &Arena,
         frame: Frame,
-    ) -> Result<Range, Kind> {
+    ) -> Result<ClosedRange, Kind> {
         let Passed::ByReference {
             variable,
             subscripts,
@@ -50,7 +50,7 @@ impl FromPassed for Range {
                 } else {
                     1
                 };
-                Ok(Range { first, cells })
+                Ok(ClosedRange { first, cells })
             }
             Given::Value(_) => Ok(NONE),
         }
@@ -71,7 +71,7 @@ pub fn find_ranges(
     arrays: &[Array],
     arena: &Arena,
     frame: Frame,
-    ranges: &mut Vec<Range>,
+    ranges: &mut Vec<ClosedRange>,
 ) -> Result<(), Kind>
     requires frame { HasFrame arena.now frame }
     // Where an activation purges, these two are so: `laws::purges_are_ready`.

@@ -8,13 +8,13 @@ ghost use Rattle.hep_code.specs.declared.instruction.Instruction.TheVariants.{St
 ghost use Rattle.hep_code.specs.declared.instruction.Operation.TheVariants.{Purge};
 ghost use Rattle.hep_code.specs.Words.{passed_from};
 ghost use Rattle.hep_image.specs.Image.{most_cells};
-ghost use Rattle.hep_finding.specs.Within.{ArePlacedArrays};
+ghost use Rattle.hep_layout_laws.specs.Within.{ArePlacedArrays};
 ghost use Rattle.hep_step.specs.Cells.{HasFrame};
 ghost use Rattle.hep_passing.specs.Agreement.{IsCaller};
 ghost use Rattle.hep_passing.specs.Ready.{ArePassable};
 ghost use Rattle.hep_step.specs.Ready.{frame_in_arena};
 ghost use Rattle.hep_step.specs.Simulation.{IsRunning, Simulates, arrays_on_top, code_on_top};
-ghost use Rattle.hep_purging.specs.declared.range.Range.{Range};
+ghost use Rattle.hep_purging.specs.declared.range.ClosedRange.{ClosedRange};
 ghost use Rattle.hep_purging.specs.Placed.{AreEntriesPlaced};
 ghost use Rattle.hep_purging.specs.Purged.{effect_of_purge, have_cell, purged};
 ghost use Rattle.hep_purging.specs.Ready.{AreOut};
@@ -53,9 +53,9 @@ pub fn purges_are_ready()
 
 /// The cells of the ranges are empty, with the values that they had, and all other cells are as they were.
 pub fn ranges_are_emptied()
-    ensures within { (ranges : List Range) (contents : List Slot) (p : ℕ) (slot : Slot) → have_cell ranges p ≡ true
+    ensures within { (ranges : List ClosedRange) (contents : List Slot) (p : ℕ) (slot : Slot) → have_cell ranges p ≡ true
         → slice_get contents p ≡ Some slot → slice_get (purged ranges contents) p ≡ Some (purged_cell slot) }
-    ensures elsewhere { (ranges : List Range) (contents : List Slot) (p : ℕ) → have_cell ranges p ≡ false
+    ensures elsewhere { (ranges : List ClosedRange) (contents : List Slot) (p : ℕ) → have_cell ranges p ≡ false
         → slice_get (purged ranges contents) p ≡ slice_get contents p }
-    ensures cells { (ranges : List Range) (contents : List Slot) → length (purged ranges contents) ≡ length contents }
+    ensures cells { (ranges : List ClosedRange) (contents : List Slot) → length (purged ranges contents) ≡ length contents }
 {}

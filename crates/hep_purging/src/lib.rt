@@ -12,5 +12,5 @@ pub mod room;
 
 pub use finding::find_ranges;
 pub use purging::purge;
-pub use range::Range;
+pub use range::ClosedRange;
 pub use room::most_targets;

@@ -7,7 +7,7 @@ ghost use Rattle.hep_image.specs.Image.{most_cells};
 ghost use Rattle.hep_purging.specs.Purged.{purged, purged_from};
 ghost use Rattle.hep_purging.specs.Ready.{AreReached, IsRangeReached};
 
-use crate::range::Range;
+use crate::range::ClosedRange;
 use hep_arena::Arena;
 use hep_cells::cells::purged;
 
@@ -24,7 +24,7 @@ fn purge_cell(arena: &mut Arena, at: u32)
 }
 
 // Empties the cells of a range.
-fn purge_range(arena: &mut Arena, range: Range)
+fn purge_range(arena: &mut Arena, range: ClosedRange)
     requires reached { IsRangeReached arena.old range }
     requires few { length arena.old.contents ≤ most_cells }
     ensures contents { arena.new.contents ≡ purged_from range.cells range.first arena.old.contents }
@@ -37,7 +37,7 @@ fn purge_range(arena: &mut Arena, range: Range)
 }
 
 /// Empties the cells of all ranges; what was stored in them stays.
-pub fn purge(arena: &mut Arena, ranges: &[Range])
+pub fn purge(arena: &mut Arena, ranges: &[ClosedRange])
     requires reached { AreReached arena.old ranges.now }
     requires few { length arena.old.contents ≤ most_cells }
     ensures contents { arena.new.contents ≡ purged ranges.now arena.old.contents }

@@ -2,7 +2,7 @@
 
 /// Cells of the arena that follow one another.
 #[derive(Clone, Copy, Debug, PartialEq, Eq)]
-pub struct Range {
+pub struct ClosedRange {
     /// The first one, counted from that of the arena.
     pub first: u32,
     /// How many there are.

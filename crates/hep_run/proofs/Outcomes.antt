@@ -1,8 +1,8 @@
 -- The outcome of a run, from the core that it left.
 use Rattle.std.proofs.Common.{◌≡◌, ℕ, List, Option, Some, None, Result, Ok, Err, refl, subst, inl, inr, IfOk}
 use Rattle.hep_machine.specs.Words.{IsLegal, Units}
-use Rattle.hep_scheduler.specs.declared.stop.Stop.{Stop}
-use Rattle.hep_scheduler.specs.declared.stop.Stop.TheVariants.{Halted, ArenaFull, StepLimit}
+use Rattle.hep_scheduler.specs.declared.stop.ChoiceStop.{ChoiceStop}
+use Rattle.hep_scheduler.specs.declared.stop.ChoiceStop.TheVariants.{Halted, ArenaFull, StepLimit}
 use Rattle.hep_scheduler.specs.Value as core
 use Rattle.hep_scheduler.specs.Value.{CoreValue}
 use Rattle.hep_run.specs.declared.options.Options.{Options}
@@ -26,7 +26,7 @@ made options core running legal =
       scheduled = running.scheduled;
     }
 
-over : (options : Options) (value : CoreValue) (stop : Option Stop) → IsStopOfRun options value stop → (stop ≡ None → next_process value.program options.choices value.history ≡ None) → core.IsStop value.program value.cells value.limit value.history stop → IsOver value.program options value.history stop
+over : (options : Options) (value : CoreValue) (stop : Option ChoiceStop) → IsStopOfRun options value stop → (stop ≡ None → next_process value.program options.choices value.history ≡ None) → core.IsStop value.program value.cells value.limit value.history stop → IsOver value.program options value.history stop
 over options value None here none named = (named, none refl)
 over options value (Some Halted) here none named = named
 over options value (Some ArenaFull) here none named = (named.0, here)

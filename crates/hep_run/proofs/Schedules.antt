@@ -2,8 +2,8 @@
 use Rattle.std.proofs.Common.{◌≡◌, ℕ, zero, suc, ◌+◌, ◌<◌, ◌≤◌, Bool, true, false, List, [], ◌∷◌, ◌++◌, length, take, Option, Some, None, refl, sym, ap, ◌∙◌, subst, arith, inl, inr, Ok, Err, length-append, ◌≢◌, slice_get, nat_lt, not, replicate, cond, if◌then◌else◌}
 use Rattle.std.specs.List.{filter}
 use Rattle.hep_state.specs.Words.{HasNoGap}
-use Rattle.hep_scheduler.specs.declared.stop.Stop.{Stop}
-use Rattle.hep_scheduler.specs.declared.stop.Stop.TheVariants.{ArenaFull, Halted, StepLimit}
+use Rattle.hep_scheduler.specs.declared.stop.ChoiceStop.{ChoiceStop}
+use Rattle.hep_scheduler.specs.declared.stop.ChoiceStop.TheVariants.{ArenaFull, Halted, StepLimit}
 use Rattle.hep_scheduler.specs.declared.fault.ChooseFault.{ChooseFault}
 use Rattle.hep_scheduler.specs.declared.fault.ChooseFault.TheVariants.{NoSuchProcess, Stopped}
 use Rattle.std.proofs.lemmas.Bool.{cases_lt}
@@ -210,7 +210,7 @@ pub refused_for : (old new : CoreValue) (p : ℕ) (fault reason : ChooseFault) �
 refused_for old new p fault reason is c = subst (λ (f : ChooseFault). IsChoice old p (Err f) new) is c
 
 -- a choice that meets a stop leaves the run at it
-pub stopped : (options : Options) (old new : CoreValue) (p : ℕ) (stop : Stop) → IsChoice old p (Err (Stopped stop)) new → IsRunning options old → (HasNoStop old → next_process old.program options.choices old.history ≡ Some p) → IsRunning options new
+pub stopped : (options : Options) (old new : CoreValue) (p : ℕ) (stop : ChoiceStop) → IsChoice old p (Err (Stopped stop)) new → IsRunning options old → (HasNoStop old → next_process old.program options.choices old.history ≡ Some p) → IsRunning options new
 stopped options old new p stop c running next = elim c [ inl before ↦ at_stop before | inr now ↦ elim now [ inl limit ↦ at_limit limit | inr gap ↦ at_gap gap ] ]
   where
     at_stop : (old.stop ≡ Some stop) × (new ≡ old) → IsRunning options new

@@ -1,7 +1,7 @@
 -- What `check` and `list` of a source come to, from its bytes to the bytes that they write: docs/MACHINE.md, "The program".
 use Rattle.std.specs.Prelude.{◌≡◌, ℕ, List, []}
-use Rattle.hep_check.specs.Words.{IsAccepted}
-use Rattle.hep_checked.specs.Listing.{listing}
+use Rattle.hep_conditions.specs.Words.{IsAccepted}
+use Rattle.hep_check.specs.Listing.{listing}
 use Rattle.hep_run.specs.declared.status.Status.TheVariants as statuses
 use Rattle.hep_run.specs.Sources.{IsViolatingProgram}
 use Rattle.hep_run.specs.Outcome.{Outcome, ComesTo, RunsTo}

@@ -4,8 +4,8 @@ use Rattle.hep_machine.specs.declared.event.Entry.{Entry}
 use Rattle.hep_machine.specs.declared.event.Fault.{Fault}
 use Rattle.hep_machine.specs.Words.{Units, opening_layout, living_from, next_ready, progress_after, ready_in, schedule_of, state_after, IsLegal, living}
 use Rattle.hep_state.specs.Words.{HasNoGap}
-use Rattle.hep_scheduler.specs.declared.stop.Stop.{Stop}
-use Rattle.hep_scheduler.specs.declared.stop.Stop.TheVariants.{Halted, ArenaFull, StepLimit}
+use Rattle.hep_scheduler.specs.declared.stop.ChoiceStop.{ChoiceStop}
+use Rattle.hep_scheduler.specs.declared.stop.ChoiceStop.TheVariants.{Halted, ArenaFull, StepLimit}
 use Rattle.hep_scheduler.specs.declared.stop.Verdict.{Verdict}
 use Rattle.hep_scheduler.specs.declared.stop.Verdict.TheVariants as verdicts
 use Rattle.hep_scheduler.specs.Value.{verdict_by}
@@ -63,7 +63,7 @@ IsFull program options history =
     × (p : ℕ) × (next_process program options.choices history ≡ Some p) × HasNoGap program options.arena (schedule_of history) p
 
 -- the run is over after this history: no process comes next, or it stops
-abbrev pub IsOver : Units → Options → List Entry → Option Stop → Type 0
+abbrev pub IsOver : Units → Options → List Entry → Option ChoiceStop → Type 0
 IsOver program options history None =
     ((state_after program history).halted ≡ false) × (next_process program options.choices history ≡ None)
 IsOver program options history (Some StepLimit) = IsCutShort program options history
@@ -105,7 +105,7 @@ status_of verdicts.Done faults = status_by_faults faults
 status_of verdicts.Running faults = status_by_faults faults
 
 -- whether a run with this history and this stop goes on
-abbrev pub verdict_after : Units → List Entry → Option Stop → Verdict
+abbrev pub verdict_after : Units → List Entry → Option ChoiceStop → Verdict
 verdict_after program history stop =
     verdict_by stop (living_from 1 (state_after program history).processes) (ready_in (progress_after program history))
 
@@ -114,7 +114,7 @@ abbrev pub dump_text : Units → List Entry → Verdict → List ℕ
 dump_text program history verdicts.Waiting = waiting_text program history 1 (length (state_after program history).processes)
 dump_text program history _ = []
 
-abbrev pub outcome_of_end : Units → List Entry → Option Stop → Outcome
+abbrev pub outcome_of_end : Units → List Entry → Option ChoiceStop → Outcome
 outcome_of_end program history stop =
     record {
       output = records_text (state_after program history).records;
@@ -128,7 +128,7 @@ abbrev pub IsRunOutcome : Units → Options → Outcome → Type 0
 IsRunOutcome program options o =
     (history : List Entry) × IsHistory program options history × (
     (IsChoiceRefused program options history × (o ≡ outcome_of_refused_choice history))
-    ⊎ ((stop : Option Stop) × IsOver program options history stop × (o ≡ outcome_of_end program history stop)))
+    ⊎ ((stop : Option ChoiceStop) × IsOver program options history stop × (o ≡ outcome_of_end program history stop)))
 
 -- an accepted program
 abbrev pub IsProgramOutcome : Units → Options → Outcome → Type 0

@@ -1,8 +1,8 @@
 -- How far a run has come: docs/ARCHITECTURE.md, "Forms".
 use Rattle.std.specs.Prelude.{◌≡◌, ℕ, ◌+◌, List, length, Option, Some, None, IsSome}
 use Rattle.hep_machine.specs.Words.{Units, opening_layout}
-use Rattle.hep_scheduler.specs.declared.stop.Stop.{Stop}
-use Rattle.hep_scheduler.specs.declared.stop.Stop.TheVariants.{Halted, ArenaFull, StepLimit}
+use Rattle.hep_scheduler.specs.declared.stop.ChoiceStop.{ChoiceStop}
+use Rattle.hep_scheduler.specs.declared.stop.ChoiceStop.TheVariants.{Halted, ArenaFull, StepLimit}
 use Rattle.hep_scheduler.specs.Value.{CoreValue, opening_of}
 use Rattle.hep_run.specs.declared.options.Options.{Options}
 use Rattle.hep_run.specs.declared.run.Halt.{Halt}
@@ -16,7 +16,7 @@ IsOpening source options core =
     (program : Units) × IsRunnableSource source program
     × IsSome (opening_layout program options.arena) × (core ≡ opening_of program options.arena options.steps)
 
-abbrev pub IsStopOfRun : Options → CoreValue → Option Stop → Type 0
+abbrev pub IsStopOfRun : Options → CoreValue → Option ChoiceStop → Type 0
 IsStopOfRun options core None = Unit {0}
 IsStopOfRun options core (Some StepLimit) = IsCutShort core.program options core.history
 IsStopOfRun options core (Some Halted) = Unit {0}

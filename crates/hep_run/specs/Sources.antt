@@ -5,8 +5,8 @@ use Rattle.hep_text.specs.declared.statement.Stmt.{Stmt}
 use Rattle.hep_text.specs.Reading.{statements_of, refusal}
 use Rattle.hep_parse.specs.Program.{IsProgram, IsFirstFault}
 use Rattle.hep_machine.specs.Words.{Units}
-use Rattle.hep_check.specs.Words.{IsAccepted}
-use Rattle.hep_checked.specs.Faults.{Refuses}
+use Rattle.hep_conditions.specs.Words.{IsAccepted}
+use Rattle.hep_check.specs.Faults.{Refuses}
 use Rattle.hep_lower.specs.Refusals.{IsLowered, IsUnlowered}
 
 -- ---- why there is no program to go on with: a number, a line and a name

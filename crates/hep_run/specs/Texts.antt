@@ -1,8 +1,8 @@
 -- The lines that the program writes of itself: docs/MACHINE.md, "The program".
 use Rattle.std.specs.Prelude.{ℕ, List, [], ◌∷◌, ◌++◌, codes, Option, Some, None}
 use Rattle.std.specs.Fmt.{decimal}
-use Rattle.hep_scheduler.specs.declared.stop.Stop.{Stop}
-use Rattle.hep_scheduler.specs.declared.stop.Stop.TheVariants.{Halted, ArenaFull, StepLimit}
+use Rattle.hep_scheduler.specs.declared.stop.ChoiceStop.{ChoiceStop}
+use Rattle.hep_scheduler.specs.declared.stop.ChoiceStop.TheVariants.{Halted, ArenaFull, StepLimit}
 
 -- ---- refusals
 
@@ -16,7 +16,7 @@ refusal_text number line name = codes "REFUSED " ++ decimal number ++ codes " LI
 -- ---- the texts of a whole run
 
 -- the line for a stop that isn't the program's own
-abbrev pub stop_text : Option Stop → List ℕ
+abbrev pub stop_text : Option ChoiceStop → List ℕ
 stop_text None = []
 stop_text (Some Halted) = []
 stop_text (Some ArenaFull) = codes "STOPPED ARENA FULL\n"

@@ -3,7 +3,7 @@ use Rattle.std.specs.Prelude.{◌≡◌, ◌≢◌, ◌⊎◌, ℕ, true, Bool, 
 use Rattle.std.specs.List.{list_any}
 use Rattle.hep_machine.specs.declared.event.Entry.{Entry}
 use Rattle.hep_machine.specs.Words.{IsLegal, opening_layout, Units}
-use Rattle.hep_scheduler.specs.declared.stop.Stop.{Stop}
+use Rattle.hep_scheduler.specs.declared.stop.ChoiceStop.{ChoiceStop}
 use Rattle.hep_scheduler.specs.declared.stop.Verdict.TheVariants.{Running}
 use Rattle.hep_scheduler.specs.Value.{IsStop}
 use Rattle.hep_workers.specs.declared.options.WorkOptions.{WorkOptions}
@@ -12,7 +12,7 @@ use Rattle.hep_run.specs.Outcome.{Outcome, RunsTo, outcome_of_end, outcome_of_fu
 use Rattle.hep_run.specs.Texts.{workers_text}
 
 -- the workers' history is a legal one of the program by these options, with the stop that it says, after which the run is over
-pub record IsWorked (program : Units) (options : WorkOptions) (history : List Entry) (stop : Option Stop) : Type 0 where
+pub record IsWorked (program : Units) (options : WorkOptions) (history : List Entry) (stop : Option ChoiceStop) : Type 0 where
   pub legal : IsLegal program options.arena options.steps history
   pub stopped : IsStop program options.arena options.steps history stop
   pub over : verdict_after program history stop ≢ Running
@@ -29,7 +29,7 @@ abbrev pub IsImageWorked : Units → WorkOptions → Outcome → Type 0
 IsImageWorked program options o =
     ((opening_layout program options.arena ≡ None) × (o ≡ outcome_of_full_arena))
     ⊎ ((number : ℕ) × (is_refusal_of_workers number ≡ true) × (o ≡ outcome_of_refused_workers number))
-    ⊎ ((history : List Entry) × (stop : Option Stop) × IsWorked program options history stop × (o ≡ outcome_of_end program history stop))
+    ⊎ ((history : List Entry) × (stop : Option ChoiceStop) × IsWorked program options history stop × (o ≡ outcome_of_end program history stop))
 
 -- what a run of a source by workers comes to by these options
 abbrev pub IsWorkOutcome : WorkOptions → List ℕ → Outcome → Type 0

@@ -6,7 +6,7 @@ ghost use Rattle.hep_run.specs.Transcripts.{outcome_of};
 use crate::front::{checked_source, image_of_source};
 use crate::transcript::{Transcript, refused_transcript, text_transcript};
 use hep_base::Refusal;
-use hep_checked::list_text;
+use hep_check::list_text;
 use std::alloc::{AllocError, Global};
 
 /// All that `check` of a source comes to, before a byte of it is written.

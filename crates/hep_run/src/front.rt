@@ -4,7 +4,7 @@ ghost use Rattle.hep_run.specs.Sources.{IsAcceptedSource, IsRunnableSource};
 ghost use Rattle.hep_run.specs.Refusals.{IsCheckRefusal, IsSourceRefusal};
 
 use hep_base::Refusal;
-use hep_checked::{Checked, check};
+use hep_check::{Checked, check};
 use hep_image::Image;
 use hep_lower::lower;
 use hep_parse::parse;

@@ -14,7 +14,7 @@ use crate::texts::put_refusal;
 use hep_dump::{append_all_waiting, append_faults};
 use hep_history::History;
 use hep_output::{append_number, append_records};
-use hep_scheduler::{Core, Fault, Stop, Verdict};
+use hep_scheduler::{ChoiceStop, Core, Fault, Verdict};
 use hep_source::Text;
 use std::alloc::{AllocError, Global};
 
@@ -48,13 +48,13 @@ impl Transcript {
     }
 }
 
-fn stop_text(stop: Option<Stop>) -> &'static [u8]
+fn stop_text(stop: Option<ChoiceStop>) -> &'static [u8]
     ensures { result.now ≡ texts.stop_text stop }
 {
     match stop {
-        None | Some(Stop::Halted) => b"",
-        Some(Stop::ArenaFull) => b"STOPPED ARENA FULL\n",
-        Some(Stop::StepLimit) => b"STOPPED STEP LIMIT\n",
+        None | Some(ChoiceStop::Halted) => b"",
+        Some(ChoiceStop::ArenaFull) => b"STOPPED ARENA FULL\n",
+        Some(ChoiceStop::StepLimit) => b"STOPPED STEP LIMIT\n",
     }
 }
 
@@ -62,11 +62,12 @@ fn status_of(verdict: Verdict, faults: &[Fault]) -> Status
     ensures { result ≡ outcome.status_of verdict faults.now }
 {
     match (verdict, faults) {
-        (Verdict::Stopped(Stop::ArenaFull), _) => Status::ArenaFull,
-        (Verdict::Stopped(Stop::StepLimit), _) => Status::StepLimit,
+        (Verdict::Stopped(ChoiceStop::ArenaFull), _) => Status::ArenaFull,
+        (Verdict::Stopped(ChoiceStop::StepLimit), _) => Status::StepLimit,
         (_, [_, ..]) => Status::Faulted,
         (Verdict::Waiting, []) => Status::Waiting,
-        (Verdict::Stopped(Stop::Halted) | Verdict::Done | Verdict::Running, []) => Status::Done,
+        (Verdict::Stopped(ChoiceStop::Halted) | Verdict::Done | Verdict::Running, []) =>
+            Status::Done,
     }
 }
 
@@ -81,7 +82,7 @@ fn append_dump(text: &mut Vec<u8>, core: &Core, verdict: Verdict) -> Result<(), 
 }
 
 /// The stop that a core is at.
-fn stop_of(core: &Core) -> Option<Stop>
+fn stop_of(core: &Core) -> Option<ChoiceStop>
     ensures { result ≡ core.now.stop }
 {
     match core.verdict() {
@@ -234,7 +235,7 @@ pub fn text_transcript(alloc: Global, text: Vec<u8>) -> Transcript
 pub fn full_transcript(alloc: Global) -> Result<Transcript, AllocError>
     ensures { IfOk result (λ r. outcome_of r ≡ outcome.outcome_of_full_arena) }
 {
-    let messages = Vec::from_slice(alloc, stop_text(Some(Stop::ArenaFull)))?;
+    let messages = Vec::from_slice(alloc, stop_text(Some(ChoiceStop::ArenaFull)))?;
     let history = History::from(Vec::new(alloc));
     Ok(Transcript::silent(alloc, messages, Status::ArenaFull, history))
 }

@@ -3,7 +3,7 @@ use Rattle.std.proofs.Common.{◌≡◌, ◌≤◌, ◌<◌, ℕ, zero, suc, ◌
 use Rattle.std.proofs.lemmas.Bool.Decides.{nat_tests}
 use Rattle.std.proofs.lemmas.List.{take-append-drop, take_more, drop_more, drop_all}
 use Rattle.hep_machine.specs.Words.{ValueType, Integer, Logical, same_logical}
-use Rattle.hep_check.specs.Words.{same_type, same_declared}
+use Rattle.hep_conditions.specs.Words.{same_type, same_declared}
 use Rattle.hep_runs.specs.Spread.{repeat_before, agree_as_far}
 use Rattle.hep_runs.specs.Runs.{alike, positions_in, IsWithin, IsPlace, first_places, later_places, front, rest, after, heads_differ}
 use Rattle.hep_runs.specs.declared.runs.Place.{Place}

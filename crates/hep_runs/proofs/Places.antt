@@ -2,7 +2,7 @@
 use Rattle.std.proofs.Common.{◌≡◌, ◌≤◌, ℕ, zero, suc, ◌+◌, Bool, true, false, not, ◌&&◌, ◌||◌, nat_lt, List, [], ◌∷◌, refl, sym, ap, ◌∙◌, arith}
 use Rattle.std.proofs.lemmas.Bool.Decides.{nat_tests}
 use Rattle.hep_machine.specs.Words.{Repeated}
-use Rattle.hep_check.specs.Words.{meet, holds_within, holds_from, holds_at_each_place}
+use Rattle.hep_conditions.specs.Words.{meet, holds_within, holds_from, holds_at_each_place}
 use Rattle.hep_runs.specs.Spread.{repeat_before, spread, agree_as_far}
 use Rattle.hep_source.proofs.Tests.{and-assoc, and-true}
 

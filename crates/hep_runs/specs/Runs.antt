@@ -1,7 +1,7 @@
 -- Lists in runs, and places in them.
 use Rattle.std.specs.Prelude.{◌≡◌, ℕ, ◌+◌, ◌-◌, ◌≤◌, Bool, false, not, ◌&&◌, nat_eq, if◌then◌else◌, List, [], ◌∷◌, ◌++◌, take, drop, length}
 use Rattle.hep_machine.specs.Words.{same_logical}
-use Rattle.hep_check.specs.Words.{same_declared}
+use Rattle.hep_conditions.specs.Words.{same_declared}
 use Rattle.hep_runs.specs.Spread.{repeat_before}
 use Rattle.hep_runs.specs.declared.runs.Place.{Place}
 use Rattle.hep_runs.specs.declared.runs.Position.{Position}

@@ -4,15 +4,15 @@ use Rattle.std.specs.declared.vec.Vec.{Vec}
 use Rattle.hep_machine.specs.Words.{Units, IsLegal, is_held, layout_of, Layout, opening, run, run_from, schedule_of, state_after, progress_after, progress_after_entry, progress_after_step, State, is_waiting, step, Wanted, wanted_by, view_of, is_number_among, living}
 use Rattle.hep_machine.specs.declared.event.Entry.{Entry}
 use Rattle.hep_blocked.specs.declared.want.Want.{Want}
-use Rattle.hep_listed.specs.Listing.{AreListed, GoesAlong, GoesAlongEmptying, HasEmptied, IsBlocked, IsTold, awake_by, awake_where, is_noted, is_woken, is_woken_where}
+use Rattle.hep_blocked_laws.specs.Listing.{AreListed, GoesAlong, GoesAlongEmptying, HasEmptied, IsBlocked, IsTold, awake_by, awake_where, is_noted, is_woken, is_woken_where}
 use Rattle.hep_ready.specs.Numbers.{Numbers}
 use Rattle.hep_state.specs.declared.machine.Machine.{Machine}
 use Rattle.hep_state.specs.Words.{IsMachineAfter, Snapshot, snapshot_of, stack_of, IsAfter, HasWaited, HasPurged, HasTurned, IsNow, Touches, cell_wanted, HasLevels}
-use Rattle.hep_views.specs.Seen.{machine_view}
+use Rattle.hep_state_laws.specs.Seen.{machine_view}
 use Rattle.hep_scheduler.specs.Invariant.{CoreInvariant}
 use Rattle.hep_scheduler.specs.Value.{IsStop, CoreValue, IsChoice}
 use Rattle.hep_scheduler.specs.declared.scheduler.Core.TheInside.{Inside}
-use Rattle.hep_scheduler.specs.declared.stop.Stop.{Stop}
+use Rattle.hep_scheduler.specs.declared.stop.ChoiceStop.{ChoiceStop}
 use Rattle.hep_scheduler.proofs.Histories.{legal-stepped, legal-waited, progress-last, progress-stepped, schedule-stepped, schedule-waited, state-is, state-stepped}
 use Rattle.hep_source.proofs.Tests.{some-there}
 use Rattle.std.proofs.lemmas.List.{length-map}
@@ -20,13 +20,13 @@ use Rattle.std.specs.Result.{IsErrAnd}
 use Rattle.std.proofs.lemmas.Option.{none-some, same_Some, slice_get_within}
 use Rattle.std.proofs.lemmas.Result.{err_from_is_err_and}
 use Rattle.hep_blocked.specs.Waiting.{waiting_at}
-use Rattle.hep_frames.specs.Words.{address}
+use Rattle.hep_layout.specs.Words.{address}
 use Rattle.hep_image.specs.Image.{most_cells}
-use Rattle.hep_listed.proofs.Living.{waits-idle}
-use Rattle.hep_purging.specs.declared.range.Range.{Range}
+use Rattle.hep_blocked_laws.proofs.Living.{waits-idle}
+use Rattle.hep_purging.specs.declared.range.ClosedRange.{ClosedRange}
 use Rattle.hep_purging.specs.Purged.{have_cell}
 use Rattle.hep_purging.specs.Ready.{AreReached}
-use Rattle.hep_needs.specs.Needs.{need_of}
+use Rattle.hep_needs_laws.specs.Needs.{need_of}
 use Rattle.hep_state.specs.declared.turn.Turned.{Turned}
 use Rattle.hep_state.specs.declared.turn.Turned.TheVariants.{Stepped, Purged, Waits}
 use Rattle.hep_scheduler.specs.declared.fault.ChooseFault.{ChooseFault}
@@ -34,7 +34,7 @@ use Rattle.hep_scheduler.specs.declared.fault.ChooseFault.TheVariants.{NoMemory}
 use Rattle.hep_scheduler.specs.declared.stop.Turn.{Turn}
 use Rattle.hep_scheduler.specs.Waking.{AreInArena}
 
--- what is seen of machines: `hep_views`
+-- what is seen of machines: `hep_state_laws`
 abbrev pub AreSeen : Units → ℕ → Type 0
 AreSeen program cells = (choices : List ℕ) (m : Snapshot) → IsAfter program cells choices m → machine_view program m ≡ view_of program is_held (run program choices)
 
@@ -66,7 +66,7 @@ module _ (program : Units) (cells : ℕ) (history : List Entry) (m : Snapshot) (
 -- a core with the same entries, whose machine keeps the same state
 module _ (c : Inside) (kept : CoreInvariant c) (history : Vec Entry Global) (machine : Machine) (ready : Numbers) (same : history.items ≡ c.history.items) (after : IsMachineAfter c.image c.cells (schedule_of c.history.items) machine)
     (noted : ready.ready ≡ c.ready.ready) (numbers : length machine.processes.items ≤ ready.room) (room : length c.waits ≤ ready.room) where
-  pub unturned-kept : (waits : List (Option Want)) → waits ≡ c.waits → (stop : Option Stop) → IsStop c.image c.cells c.limit c.history.items stop → CoreInvariant (record c { history = history; stop = stop; machine = machine; waits = waits; ready = ready })
+  pub unturned-kept : (waits : List (Option Want)) → waits ≡ c.waits → (stop : Option ChoiceStop) → IsStop c.image c.cells c.limit c.history.items stop → CoreInvariant (record c { history = history; stop = stop; machine = machine; waits = waits; ready = ready })
   unturned-kept waits waiting stop named =
       record {
         after = subst (λ es. IsMachineAfter c.image c.cells (schedule_of es) machine) (sym same) after;
@@ -169,7 +169,7 @@ module _ (i : Inside) (k : CoreInvariant i) (p : ℕ) (lt : length i.history.ite
     (made : step i.image p (run i.image (schedule_of i.history.items)) ≢ None) (after : IsMachineAfter i.image i.cells (schedule_of i.history.items ++ p ∷ []) m) (waits : List (Option Want)) (ready : Numbers)
     (listed : AreListed i.image i.cells (schedule_of i.history.items ++ p ∷ []) (progress_after_step i.image (progress_after i.image i.history.items) p (run i.image (schedule_of i.history.items ++ p ∷ []))) waits ready.ready)
     (numbers : length m.processes.items ≤ ready.room) (room : length waits ≤ ready.room) where
-  pub stepped-kept : (stop : Option Stop) → IsStop i.image i.cells i.limit history.items stop → CoreInvariant (record i { history = history; stop = stop; machine = m; waits = waits; ready = ready })
+  pub stepped-kept : (stop : Option ChoiceStop) → IsStop i.image i.cells i.limit history.items stop → CoreInvariant (record i { history = history; stop = stop; machine = m; waits = waits; ready = ready })
   stepped-kept stop named =
       record {
         after = after-next i.image i.cells i.history.items p history.items is made m after;
@@ -186,7 +186,7 @@ module _ (i : Inside) (k : CoreInvariant i) (p : ℕ) (lt : length i.history.ite
     (after : IsMachineAfter i.image i.cells (schedule_of i.history.items) m) (waiting : is_waiting i.image (run i.image (schedule_of i.history.items)) p ≡ true) (waits : List (Option Want)) (ready : Numbers)
     (listed : AreListed i.image i.cells (schedule_of i.history.items) (progress_after_entry i.image (progress_after i.image i.history.items) (record { process = p; steps = 0 }) 0) waits ready.ready)
     (numbers : length m.processes.items ≤ ready.room) (room : length waits ≤ ready.room) where
-  pub waited-kept : (stop : Option Stop) → IsStop i.image i.cells i.limit history.items stop → CoreInvariant (record i { history = history; stop = stop; machine = m; waits = waits; ready = ready })
+  pub waited-kept : (stop : Option ChoiceStop) → IsStop i.image i.cells i.limit history.items stop → CoreInvariant (record i { history = history; stop = stop; machine = m; waits = waits; ready = ready })
   waited-kept stop named =
       record {
         after = subst (λ ps. IsMachineAfter i.image i.cells ps m) (sym (schedule-left i.image i.cells i.history.items p history.items is)) after;
@@ -217,7 +217,7 @@ told-to-lists program cells choices p layout changed laid touches now =
       now = λ w at is there. now w layout at is laid there;
     }
 
-pub emptied-to-lists : (program : Units) (cells : ℕ) (choices : List ℕ) (p : ℕ) (layout : Layout) (ranges : List Range) → layout_of program cells is_held choices ≡ Some layout → HasPurged program cells choices p ranges → HasEmptied program choices p layout (have_cell ranges)
+pub emptied-to-lists : (program : Units) (cells : ℕ) (choices : List ℕ) (p : ℕ) (layout : Layout) (ranges : List ClosedRange) → layout_of program cells is_held choices ≡ Some layout → HasPurged program cells choices p ranges → HasEmptied program choices p layout (have_cell ranges)
 emptied-to-lists program cells choices p layout ranges laid h =
     record { others = λ at c found outside. h.others layout at c laid found outside; now = λ at c found inside. h.emptied layout at c laid found inside }
 
@@ -232,9 +232,9 @@ made-step program cells choices p (Stepped changed) new other h = (h.0, h.1)
 made-step program cells choices p Purged new other h = (h.0, h.1)
 made-step program cells choices p (Waits want) new other h = absurd (other want refl)
 
-each-reached : (m : Machine) (ranges : List Range) → length m.frames.arena.contents ≤ most_cells → AreReached m.frames.arena ranges → (i : ℕ) (r : Range) → slice_get ranges i ≡ Some r → r.first + r.cells ≤ most_cells
+each-reached : (m : Machine) (ranges : List ClosedRange) → length m.frames.arena.contents ≤ most_cells → AreReached m.frames.arena ranges → (i : ℕ) (r : ClosedRange) → slice_get ranges i ≡ Some r → r.first + r.cells ≤ most_cells
 each-reached m [] few h i r e = absurd (none-some r e)
-each-reached m (s ∷ ss) few h zero r e = subst (λ (x : Range). x.first + x.cells ≤ most_cells) (same_Some s r e) (omega (arith, few, h.0.inside))
+each-reached m (s ∷ ss) few h zero r e = subst (λ (x : ClosedRange). x.first + x.cells ≤ most_cells) (same_Some s r e) (omega (arith, few, h.0.inside))
 each-reached m (s ∷ ss) few h (suc i) r e = each-reached m ss few h.1 i r e
 
 pub in-arena : (program : Units) (cells : ℕ) (choices : List ℕ) (p : ℕ) (turned : Turned) (new : Machine) → HasTurned program cells choices p turned new → AreInArena turned new.passing.ranges.items

@@ -1,25 +1,27 @@
 //! The core: a run of an image, one choice at a time, with its history.
-ghost use Rattle.std.specs.Prelude.{◌≡◌, ◌≤◌, ◌<◌, ◌++◌, ◌∷◌, [], None, Some, IsSome, IfNone, IfSome, IfOk, OnOk, IfErr, is_some, length, nat_lt, vec_len, vec_capacity};
-ghost use Rattle.hep_machine.specs.Words.{IsLegal, common_cells, is_held, opening_layout, used_cells, living, first_above, last_process, view_of};
+ghost use Rattle.std.specs.Prelude.{◌≡◌, ◌≤◌, ◌<◌, ◌++◌, ◌∷◌, [], None, Some, IsSome, IfNone, IfSome, IfOk, OnOk, IfErr, is_some, length};
+ghost use Rattle.std.specs.Prelude.{nat_lt, vec_len, vec_capacity};
+ghost use Rattle.hep_machine.specs.Words.{IsLegal, common_cells, is_held, opening_layout, used_cells, living, first_above, last_process};
+ghost use Rattle.hep_machine.specs.Words.{view_of};
 ghost use Rattle.hep_scheduler.specs.Value.{state_of, opening_of, IsNewFault, IsChoice, HasNoStop, IsStop, IsStoppedWhereFull};
 ghost use Rattle.hep_scheduler.specs.Value.{IsAtPosition, next_listed_of, verdict_of, next_ready_of, ready_of};
 
 use crate::fault::{ChooseFault, NewFault};
 use crate::lists::{note_ready, wait, wake_after};
-use crate::stop::{Stop, Turn, Verdict};
+use crate::stop::{ChoiceStop, Turn, Verdict};
 use hep_blocked::Waits;
-use hep_frames::laws::layouts_have_what_is_held;
-use hep_image::Image;
-use hep_listed::laws::{
+use hep_blocked_laws::laws::{
     lists_are_those_of_definitions, lists_go_along_with_purges, lists_go_along_with_steps,
     openings_list_nobody, waiting_processes_are_listed,
 };
+use hep_image::Image;
+use hep_layout::laws::layouts_have_what_is_held;
 use hep_machine::{Entry, Fault, Record, Slot};
-use hep_needs::laws::waiting_processes_need_it;
+use hep_needs_laws::laws::waiting_processes_need_it;
 use hep_ready::Ready;
 use hep_state::laws::activations_are_few;
 use hep_state::{Machine, TurnFault, Turned, fits};
-use hep_views::laws::views_are_of_states;
+use hep_state_laws::laws::views_are_of_states;
 use hep_waiting::Listed;
 use hep_waiting::finding::listed;
 use std::alloc::Global;
@@ -36,7 +38,7 @@ pub struct Core {
     cells: u32,
     limit: u64,
     history: Vec<Entry>,
-    stop: Option<Stop>,
+    stop: Option<ChoiceStop>,
     machine: Machine,
     // The processes that were found waiting and wait since, and what they wait for.
     waits: Waits,
@@ -133,8 +135,8 @@ impl Core {
             return Err(ChooseFault::NoSuchProcess);
         }
         if self.limit <= self.history.len() as u64 {
-            self.stop = Some(Stop::StepLimit);
-            return Err(ChooseFault::Stopped(Stop::StepLimit));
+            self.stop = Some(ChoiceStop::StepLimit);
+            return Err(ChooseFault::Stopped(ChoiceStop::StepLimit));
         }
         self.image.is_runnable();
         views_are_of_states();
@@ -166,7 +168,7 @@ impl Core {
                     let emptied = &self.machine.passing.ranges;
                     wake_after(&mut self.waits, &mut self.ready, turned, emptied);
                     if self.machine.halted {
-                        self.stop = Some(Stop::Halted);
+                        self.stop = Some(ChoiceStop::Halted);
                     }
                     Ok(Turn {
                         steps: 1,
@@ -176,8 +178,8 @@ impl Core {
             },
             Err(TurnFault::NoMemory) => Err(ChooseFault::NoMemory),
             Err(TurnFault::ArenaFull) => {
-                self.stop = Some(Stop::ArenaFull);
-                Err(ChooseFault::Stopped(Stop::ArenaFull))
+                self.stop = Some(ChoiceStop::ArenaFull);
+                Err(ChooseFault::Stopped(ChoiceStop::ArenaFull))
             }
         }
     }
@@ -196,7 +198,7 @@ impl Core {
     }
 
     /// The stop that the core is at.
-    pub fn stop(&self) -> Option<Stop>
+    pub fn stop(&self) -> Option<ChoiceStop>
         ensures stop { result ≡ self.now.stop }
         ensures none { IfNone result (HasNoStop self.now) }
     {
@@ -210,7 +212,7 @@ impl Core {
     {
         let full = self.limit <= self.history.len() as u64;
         if full {
-            self.stop = Some(Stop::StepLimit);
+            self.stop = Some(ChoiceStop::StepLimit);
         }
         full
     }

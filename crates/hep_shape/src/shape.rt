@@ -1,7 +1,8 @@
 //! The shape of an array.
 ghost use Rattle.std.specs.Prelude.{◌≡◌, ◌↔◌, ◌≤◌, ◌^◌, ◌-ℤ◌, true, if◌then◌else◌, [], length, Some, None, IfSome, IsTrue};
 ghost use Rattle.std.specs.Option.{is_none};
-ghost use Rattle.hep_machine.specs.Words.{is_shape, elements, counted_element, fits, are_dimensions, is_between, is_most, is_within, extent, natural};
+ghost use Rattle.hep_machine.specs.Words.{is_shape, elements, counted_element, fits, are_dimensions, is_between, is_most, is_within};
+ghost use Rattle.hep_machine.specs.Words.{extent, natural};
 
 use arrayvec::ArrayVec;
 use hep_machine::Bound;

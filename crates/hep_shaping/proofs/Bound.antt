@@ -6,16 +6,17 @@ use Rattle.std.specs.Option.{option_or, unwrap_or}
 use Rattle.std.proofs.lemmas.Bool.{and_parts}
 use Rattle.std.proofs.lemmas.List.{length-map}
 use Rattle.std.proofs.lemmas.Option.{none-some, same_Some}
-use Rattle.hep_machine.specs.Words.{Dimension, Name, Statement, Units, dummies_of, Binding, binding_for, binding_with_shapes, bound_values, dummies_for, dummy_before, dummy_with_shape, with_actuals, with_shape, with_shapes, with_store, adjustable_dimensions, bounds_of, cells_of, constant_shape, constant_value, if_shape, is_constant_dimension, shape_by, dimensions_of, is_array, is_common, is_dummy, is_nonempty, no_shape, Actual, evaluated, referred, Layout, Scope, dummy_at, storage_of, Bounds, fits, is_shape, Dummy, State, Store}
+use Rattle.hep_machine.specs.Words.{Dimension, Name, Statement, Units, dummies_of, Binding, binding_for, binding_with_shapes, bound_values, dummies_for, dummy_before, dummy_with_shape, with_actuals, with_shape, with_shapes, with_store, adjustable_dimensions, bounds_of, cells_of, constant_shape, constant_value}
+use Rattle.hep_machine.specs.Words.{if_shape, is_constant_dimension, shape_by, dimensions_of, is_array, is_common, is_dummy, is_nonempty, no_shape, Actual, evaluated, referred, Layout, Scope, dummy_at, storage_of, Bounds, fits, is_shape, Dummy, State, Store}
 use Rattle.hep_machine.specs.declared.event.Kind.{Kind}
 use Rattle.hep_machine.specs.declared.event.Kind.TheVariants.{Shape}
 use Rattle.hep_machine.specs.declared.slot.Slot.{Slot}
 use Rattle.hep_arena.specs.Gaps.{frame_among}
-use Rattle.hep_frames.specs.Words.{Holds}
+use Rattle.hep_layout.specs.Words.{Holds}
 use Rattle.hep_image.specs.declared.dummy.DummyArgument.{DummyArgument}
 use Rattle.hep_image.specs.declared.dummy.DummyArgument.TheVariants.{Scalar, Array, Adjustable}
 use Rattle.hep_image.specs.Dummies.{common_cell, dummy_arguments, dummy_of}
-use Rattle.hep_finding.proofs.Extents.{all-adjustable, bounds-length, bounds-same, none-adjustable}
+use Rattle.hep_layout_laws.proofs.Extents.{all-adjustable, bounds-length, bounds-same, none-adjustable}
 use Rattle.hep_passing.specs.declared.given.Given.{Given}
 use Rattle.hep_passing.specs.declared.given.Given.TheVariants as giving
 use Rattle.hep_passing.specs.Agreement.{AreGiven, IsGiven}

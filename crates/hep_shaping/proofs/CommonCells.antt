@@ -2,12 +2,12 @@
 use Rattle.std.proofs.Common.{◌≡◌, ℕ, ◌+◌, ◌<◌, ◌≤◌, Bool, true, false, if◌then◌else◌, List, [], ◌∷◌, Option, Some, None, refl, sym, ap, ◌∙◌, arith, is_some, slice_get}
 use Rattle.std.specs.Option.{unwrap_or}
 use Rattle.hep_machine.specs.Words.{Name, Statement, Units, cells_before, cells_of, cells_of_shape, constant_value, shape_by, BlockName, common_block, is_array, is_common, is_constant_name, is_dummy, names_in_block, Layout, Scope, own_storage, start_by_block, elements, Dummy, State, common, is_local}
-use Rattle.hep_accepted.specs.Meanings.{IsOneThing, how_many}
-use Rattle.hep_accepted.specs.Typing.{HasShape}
-use Rattle.hep_frames.specs.Words.{address, first_in_common}
-use Rattle.hep_frames.proofs.Runs.{runs-common}
+use Rattle.hep_conditions_laws.specs.Meanings.{IsOneThing, how_many}
+use Rattle.hep_conditions_laws.specs.Typing.{HasShape}
+use Rattle.hep_layout.specs.Words.{address, first_in_common}
+use Rattle.hep_layout.proofs.Runs.{runs-common}
 use Rattle.hep_image.specs.Dummies.{common_cell, common_cell_by}
-use Rattle.hep_finding.proofs.Extents.{shape-some}
+use Rattle.hep_layout_laws.proofs.Extents.{shape-some}
 
 no_second : (c d m l : Bool) → m ≡ true → how_many (c ∷ d ∷ m ∷ l ∷ []) ≡ 1 → d ≡ false
 no_second c false m l t h = refl

@@ -6,7 +6,7 @@ use Rattle.hep_machine.specs.Words.{Name, Statement, Units, dummies_of, adjustab
 use Rattle.hep_machine.specs.declared.slot.Slot.{Slot}
 use Rattle.hep_arena.specs.Holes.{Hole}
 use Rattle.hep_arena.specs.Space.{Space}
-use Rattle.hep_frames.specs.Words.{IsMemory}
+use Rattle.hep_layout.specs.Words.{IsMemory}
 use Rattle.hep_image.specs.declared.dummy.DummyArgument.{DummyArgument}
 use Rattle.hep_image.specs.declared.dummy.DummyArgument.TheVariants.{Scalar, Array, Adjustable}
 use Rattle.hep_image.specs.Dummies.{common_cell, dummy_arguments, dummy_of}

@@ -1,13 +1,14 @@
 //! Laws of what the code of bounds reads at a CALL.
 ghost use Rattle.std.specs.Prelude.{◌≡◌, ℕ, ◌<◌, ◌≤◌, true, false, List, Some, None, Ok, Err, length};
-ghost use Rattle.hep_machine.specs.Words.{Dimension, Name, Statement, Tree, Units, dummies_of, unit_at, Binding, binding_for, dummies_for, with_actuals, is_common, Actual, Layout, Scope, own_storage, Dummy, State};
+ghost use Rattle.hep_machine.specs.Words.{Dimension, Name, Statement, Tree, Units, dummies_of, unit_at, Binding, binding_for, dummies_for};
+ghost use Rattle.hep_machine.specs.Words.{with_actuals, is_common, Actual, Layout, Scope, own_storage, Dummy, State};
 ghost use Rattle.hep_machine.specs.declared.event.Kind.TheVariants.{Shape};
 ghost use Rattle.hep_machine.specs.declared.slot.Slot.{Slot};
-ghost use Rattle.hep_check.specs.Words.{IsAccepted};
+ghost use Rattle.hep_conditions.specs.Words.{IsAccepted};
 ghost use Rattle.hep_arena.specs.Gaps.{frame_among};
 ghost use Rattle.hep_arena.specs.Holes.{Hole};
 ghost use Rattle.hep_arena.specs.Space.{Space};
-ghost use Rattle.hep_frames.specs.Words.{Holds, IsMemory, address};
+ghost use Rattle.hep_layout.specs.Words.{Holds, IsMemory, address};
 ghost use Rattle.hep_image.specs.Dummies.{dummy_arguments};
 ghost use Rattle.hep_passing.specs.Agreement.{AreGiven};
 ghost use Rattle.hep_passing.specs.declared.given.Given.{Given};
@@ -51,8 +52,8 @@ pub fn calls_are_shapable()
         → longest_code (dummy_arguments program (unit_at program u)) ≤ room
         → AreShapable (record { contents = contents; holes = holes }) given room (dummy_arguments program (unit_at program u)) }
 {
-    hep_accepted::names::names_stand_for_one_thing();
-    hep_accepted::values::arrays_have_shapes();
+    hep_conditions_laws::names::names_stand_for_one_thing();
+    hep_conditions_laws::values::arrays_have_shapes();
 }
 
 /// Where the actual arguments of a CALL or CREATE give what the dummy arguments of a unit stand for, these are bound if each
@@ -75,8 +76,8 @@ pub fn shapes_decide_bindings()
         → are_fitting contents given (dummy_arguments program (unit_at program u)) ≡ false
         → binding_for scope s.store (unit_at program u) a actuals ≡ Err Shape }
 {
-    hep_accepted::names::names_are_given_once();
-    hep_accepted::names::names_stand_for_one_thing();
-    hep_accepted::values::arrays_have_shapes();
-    hep_placed::laws::constant_shapes();
+    hep_conditions_laws::names::names_are_given_once();
+    hep_conditions_laws::names::names_stand_for_one_thing();
+    hep_conditions_laws::values::arrays_have_shapes();
+    hep_image_laws::laws::constant_shapes();
 }

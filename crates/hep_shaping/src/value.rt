@@ -1,8 +1,10 @@
 //! The value of a bound.
-ghost use Rattle.std.specs.Prelude.{◌≡◌, ◌<◌, ◌≤◌, ◌+◌, ◌++◌, ◌∷◌, [], length, slice_get, take, vec_len, vec_capacity, Some, None, MatchOption};
+ghost use Rattle.std.specs.Prelude.{◌≡◌, ◌<◌, ◌≤◌, ◌+◌, ◌++◌, ◌∷◌, [], length, slice_get, take, vec_len, vec_capacity, Some, None};
+ghost use Rattle.std.specs.Prelude.{MatchOption};
 ghost use Rattle.hep_arena.specs.Holes.{IsOut};
 ghost use Rattle.hep_bounds.specs.BoundCode as definitions;
-ghost use Rattle.hep_shaping.specs.Given.{AreReadable, IsFirstCell, IsReadable, left_by_code, left_by_operation, stored_for, stored_in, value_by_code};
+ghost use Rattle.hep_shaping.specs.Given.{AreReadable, IsFirstCell, IsReadable, left_by_code, left_by_operation, stored_for, stored_in};
+ghost use Rattle.hep_shaping.specs.Given.{value_by_code};
 
 use hep_arena::Arena;
 use hep_bounds::BoundOperation;

@@ -6,10 +6,10 @@ use Rattle.hep_machine.specs.State.{Level as SourceLevel}
 use Rattle.hep_arena.specs.Space.{Space}
 use Rattle.hep_code.specs.Words.{Stands}
 use Rattle.hep_code.proofs.Moves.{StandsAt, after_statement_stands, entry_stands}
-use Rattle.hep_finding.specs.Bound.{AreKept}
-use Rattle.hep_frames.specs.Words.{wanted_of, Node, Nodes, also, is_stacked, new_node, frame_from}
-use Rattle.hep_frames.proofs.Memory.{activation-last, memory-fits}
-use Rattle.hep_proc.specs.Keeping.{Keeps, AreOfSomeState as ArenaKept}
+use Rattle.hep_layout_laws.specs.Bound.{AreKept}
+use Rattle.hep_layout.specs.Words.{descriptor_slots, FrameNode, Nodes, also, is_stacked, new_node, frame_from}
+use Rattle.hep_layout.proofs.Memory.{activation-last, memory-fits}
+use Rattle.hep_frames.specs.Keeping.{Keeps, AreOfSomeState as ArenaKept}
 use Rattle.hep_step.specs.Simulation.{unit_addressed}
 use Rattle.hep_state.specs.declared.machine.Level.{Level}
 use Rattle.hep_state.specs.Words.{Snapshot, Stack, IsTurning, state_failed, HasStepped, HasGaps, HasNoGap, HasEntered, IsAfterCall, entered_level, snapshot_called, snapshot_created, state_made, IsMaking, IsUnit, IsEnding}
@@ -59,7 +59,7 @@ module _ {program : Units} {cells : ℕ} {choices : List ℕ} {m : Snapshot} {p 
   -- ---- in a state with one activation more
 
   module _ (t : State) (more : t.activations ≡ (run program choices).activations ++ called_activation u top b ∷ []) (key : ℕ) (arena : Space) (nodes : Nodes) (e : HasEntered program cells choices p h.after.layout m.nodes u key l.key t arena nodes)
-      (keeps : Keeps program t (is_stacked t) (also (length t.activations) (is_held (run program choices))) (layout_with program t h.after.layout e.first) (wanted_of program t (layout_with program t h.after.layout e.first)) arena nodes) where
+      (keeps : Keeps program t (is_stacked t) (also (length t.activations) (is_held (run program choices))) (layout_with program t h.after.layout e.first) (descriptor_slots program t (layout_with program t h.after.layout e.first)) arena nodes) where
     abbrev n : ℕ
     n = length t.activations
 
@@ -77,7 +77,7 @@ module _ {program : Units} {cells : ℕ} {choices : List ℕ} {m : Snapshot} {p 
         layout-more program cells choices p layout t (Some e.first) h.after.laid e.made long e.gap
         ∙ all-remain program cells choices p t next now (also n (is_held old)) arena nodes keeps
 
-    stay : (k : ℕ) (q : Node) → m.nodes k ≡ Some q → is_stacked t q.activation ≡ true → (r : Node) × (nodes k ≡ Some r) × (r.activation ≡ q.activation)
+    stay : (k : ℕ) (q : FrameNode) → m.nodes k ≡ Some q → is_stacked t q.activation ≡ true → (r : FrameNode) × (nodes k ≡ Some r) × (r.activation ≡ q.activation)
     stay k q at on =
         let kept = node-stays m.nodes key (new_node n u e.first (frame_of program t n) l.key) l.key e.vacant k q at in
         (kept.0, ap (λ (z : Nodes). z k) e.nodes_are ∙ kept.1, kept.2)
@@ -243,7 +243,7 @@ module _ (creates : Bool) (program : Units) (choices : List ℕ) (p : ℕ) (top 
 
 pub record IsBegunIn (program : Units) (choices : List ℕ) (t : State) (layout : Layout) (n key : ℕ) (shapes : List (Option Bounds)) (old arena : Space) (nodes : Nodes) : Type 0 where
   pub first : ℕ
-  pub node : Node
+  pub node : FrameNode
   pub fit : first_fit n old.holes ≡ Some first
   pub gap : lowest_gap (length old.contents) n (common_cells program) layout ≡ Some first
   pub written : IsWritten program (run program choices) t layout first (cells_to_locals (unit_begun program t)) (is_held (run program choices)) arena nodes
@@ -253,17 +253,17 @@ pub record IsBegunIn (program : Units) (choices : List ℕ) (t : State) (layout 
 
 module _ (program : Units) (choices : List ℕ) (t : State) (layout : Layout) (n key : ℕ) (shapes : List (Option Bounds)) (old arena : Space) (nodes : Nodes) (h : IsBegunIn program choices t layout n key shapes old arena nodes) where
   -- the bounds have their cells in it
-  pub shapes-inside : (m : Node) → nodes key ≡ Some m → cells_of_shapes shapes ≤ m.cells
+  pub shapes-inside : (m : FrameNode) → nodes key ≡ Some m → cells_of_shapes shapes ≤ m.cells
   shapes-inside m e =
       let a = length t.activations in
-      let same = ap (λ (z : Node). z.cells) (same_Some h.node m (sym h.there ∙ e)) in
+      let same = ap (λ (z : FrameNode). z.cells) (same_Some h.node m (sym h.there ∙ e)) in
       omega (arith, same, h.framed.sized, shapes-last (unit_at program (unit_of t a)) (activation_of t a).dummies shapes h.shaping.shapes_are)
 
   pub begun-kept : ArenaKept arena nodes
   begun-kept =
       let a = length t.activations in
       let s = run program choices in
-      (program, t, also a (is_stacked s), also a (is_held s), layout_with program t layout h.first, wanted_up_to program t (layout_with program t layout h.first) a (cells_to_locals (unit_begun program t)) (wanted_of program s layout), h.written)
+      (program, t, also a (is_stacked s), also a (is_held s), layout_with program t layout h.first, wanted_up_to program t (layout_with program t layout h.first) a (cells_to_locals (unit_begun program t)) (descriptor_slots program s layout), h.written)
 
 -- ---- whether its frame has a gap
 

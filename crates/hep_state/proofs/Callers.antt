@@ -12,7 +12,7 @@ use Rattle.hep_image.specs.Places.{variable_of}
 use Rattle.hep_passing.specs.Agreement.{IsCaller, arrays_at, AreGiven, AreGivenAs, ArePlaced, IsGiven}
 use Rattle.hep_step.specs.Calls.{IsCallAhead, made_by, making}
 use Rattle.hep_step.specs.Simulation.{IsRunning, code_on_top, unit_arrays, unit_code, Simulates}
-use Rattle.hep_works.specs.Works.{IsCalledBy}
+use Rattle.hep_code_laws.specs.Works.{IsCalledBy}
 use Rattle.hep_state.specs.declared.upcoming.CallAhead.{CallAhead}
 use Rattle.hep_state.specs.Words.{IsAtCall, IsAtStep, given_of, AreRunning, IsKnown, Snapshot, snapshot_of, stack_of, frame_under, top_after, IsAfterCall, IsMaking, state_made, IsEnding, IsBehind, stack_with, IsThere, node_under}
 use Rattle.hep_state.proofs.Standing.{are-on}
@@ -23,20 +23,20 @@ use Rattle.hep_arena.specs.Gaps.{frame_among}
 use Rattle.hep_arena.specs.Holes.{Hole}
 use Rattle.hep_code.specs.declared.instruction.Instruction.{Instruction}
 use Rattle.hep_code.specs.declared.variable.Variable.TheVariants.{Absent}
-use Rattle.hep_frames.specs.Words.{IsMemory, RunsFrom}
+use Rattle.hep_layout.specs.Words.{IsMemory, RunsFrom}
 use Rattle.hep_image.specs.Finding.{cells_in}
 use Rattle.hep_passing.specs.declared.given.Given.{Given}
 use Rattle.hep_passing.specs.declared.given.Given.TheVariants as giving
 use Rattle.hep_passing.specs.Passing.{given_by}
 use Rattle.hep_passing.specs.Shapes.{AreShapesOf}
 use Rattle.hep_step.specs.Effects.{fails}
-use Rattle.hep_works.specs.Actuals.{FitsDummy, IsVariableOf}
+use Rattle.hep_code_laws.specs.Actuals.{FitsDummy, IsVariableOf}
 use Rattle.hep_entering.specs.Calling.{ArePassed, IsPassed, IsPassing}
 use Rattle.hep_entering.specs.Giving.{AreDistinct}
 use Rattle.hep_state.proofs.Tops.{there-too, dropped-first}
 use Rattle.std.proofs.lemmas.Option.{slice_get_within}
 use Rattle.hep_code.proofs.Ahead.{drop_one_more}
-use Rattle.hep_proc.specs.Nodes.{nodes_of}
+use Rattle.hep_frames.specs.Nodes.{nodes_of}
 use Rattle.hep_step.specs.declared.frame.Frame.{Frame as CellFrame}
 use Rattle.hep_step.specs.Ready.{frame_in_arena}
 use Rattle.hep_state.specs.declared.machine.Level.{Level}

@@ -4,19 +4,19 @@ use Rattle.std.proofs.lemmas.Option.{none-some}
 use Rattle.hep_machine.specs.Words.{Units, Layout, activations_on, is_held, with_frame, is_number_among, numbered, unit_of, with_numbered, activation_of, run, Level, Process, State, Activation, Dummy, Location, common, local, stack_after_return, dummy_at, further, is_owned}
 use Rattle.hep_machine.specs.declared.slot.Slot.{Slot}
 use Rattle.hep_code.proofs.Moves.{after_statement_keeps}
-use Rattle.hep_frames.specs.Words.{level_of, slot_on_level, slot_of_loop, loop_among, wanted_of, FramePart, header, argument, variable, iteration, bounds, times, but, IsLaid, frame_from, RunsFrom}
-use Rattle.hep_frames.proofs.Descriptors.{wanted-same}
-use Rattle.hep_frames.proofs.Stacks.{once}
+use Rattle.hep_layout.specs.Words.{level_of, slot_on_level, slot_of_loop, loop_among, descriptor_slots, FramePart, header, argument, variable, iteration, bounds, times, but, IsLaid, frame_from, RunsFrom}
+use Rattle.hep_layout.proofs.Descriptors.{wanted-same}
+use Rattle.hep_layout.proofs.Stacks.{once}
 use Rattle.hep_step.specs.Simulation.{unit_addressed}
-use Rattle.hep_proc.specs.Keeping.{all_but, frames_of}
+use Rattle.hep_frames.specs.Keeping.{all_but, frames_of}
 use Rattle.hep_entering.proofs.Found.{IsAmong, all_levels, among-numbered, among-set, find-among, found, times-all}
 use Rattle.std.proofs.lemmas.Bool.{cases_Bool, eqb-true}
 use Rattle.hep_arena.specs.Gaps.{frame_among}
-use Rattle.hep_frames.proofs.Addresses.{address-alike}
-use Rattle.hep_frames.proofs.Memory.{activation-kept, address-same, same-activation}
-use Rattle.hep_frames.proofs.References.{references-held}
-use Rattle.hep_frames.proofs.Runs.{runs-entered, owned-further}
-use Rattle.hep_finding.specs.Bound.{AreKept}
+use Rattle.hep_layout.proofs.Addresses.{address-alike}
+use Rattle.hep_layout.proofs.Memory.{activation-kept, address-same, same-activation}
+use Rattle.hep_layout.proofs.References.{references-held}
+use Rattle.hep_layout.proofs.Runs.{runs-entered, owned-further}
+use Rattle.hep_layout_laws.specs.Bound.{AreKept}
 
 -- ---- stacks that leave
 
@@ -60,7 +60,7 @@ module _ (program : Units) (choices : List ℕ) (t : State) (layout : Layout) (p
         | inr other ↦ (x, found a (all_levels s.processes) x few other new.1, refl)
       ]
 
-  pub no-more : (a : ℕ) (c : FramePart × ℕ) (v : Slot) → wanted_of program t layout a c ≡ Some v → wanted_of program s layout a c ≡ Some v
+  pub no-more : (a : ℕ) (c : FramePart × ℕ) (v : Slot) → descriptor_slots program t layout a c ≡ Some v → descriptor_slots program s layout a c ≡ Some v
   no-more a (header, i) v w = absurd (none-some v w)
   no-more a (variable x, i) v w = absurd (none-some v w)
   no-more a (argument x, i) v w = sym (wanted-same program s t layout a (argument x, i) same (λ d j e. absurd (no-iteration (argument x) d i j (λ same. cc) e))) ∙ w

@@ -4,15 +4,15 @@ use Rattle.hep_machine.specs.Words.{Value, Units, activations_on, is_held, layou
 use Rattle.hep_machine.specs.declared.record.Item.{Item}
 use Rattle.hep_machine.specs.declared.slot.Slot.{Slot}
 use Rattle.hep_machine.specs.State.{Level as SourceLevel}
-use Rattle.hep_machine.specs.Step.{wanted_of as wanted_in}
+use Rattle.hep_machine.specs.Step.{wanted_of}
 use Rattle.hep_code.specs.Words.{Stands}
-use Rattle.hep_frames.specs.Words.{wanted_of, AreWantedBut, is_stacked, IsTree, but, Node, Nodes, IsAbove, IsOwnedAbove, times}
-use Rattle.hep_frames.proofs.Beginning.{tree-same, wanted-same}
-use Rattle.hep_frames.proofs.Descriptors.{described-same, wanted-same as wanted-alike}
-use Rattle.hep_frames.proofs.Memory.{memory-same}
-use Rattle.hep_frames.proofs.StackChanges.{stacks-same, stacks-emptied, stacks-ended}
-use Rattle.hep_frames.proofs.Stacks.{top-numbered, once, times_on-numbered}
-use Rattle.hep_proc.specs.Keeping.{Keeps, AreOfSomeState, CanAllLeave, CanLeave, HasLeft, IsEnded, LeadUpwards, all_but, frames_of}
+use Rattle.hep_layout.specs.Words.{descriptor_slots, AreNeededBut, is_stacked, IsFrameTree, but, FrameNode, Nodes, IsAbove, IsOwnedAbove, times}
+use Rattle.hep_layout.proofs.Beginning.{tree-same, wanted-same}
+use Rattle.hep_layout.proofs.Descriptors.{described-same, wanted-same as wanted-alike}
+use Rattle.hep_layout.proofs.Memory.{memory-same}
+use Rattle.hep_layout.proofs.StackChanges.{stacks-same, stacks-emptied, stacks-ended}
+use Rattle.hep_layout.proofs.Stacks.{top-numbered, once, times_on-numbered}
+use Rattle.hep_frames.specs.Keeping.{Keeps, AreOfSomeState, CanAllLeave, CanLeave, HasLeft, IsEnded, LeadUpwards, all_but, frames_of}
 use Rattle.hep_step.specs.Effects.{moves, prints, waits, fails, returns}
 use Rattle.hep_step.specs.Simulation.{state_with_record, Reaches, Simulates, unit_addressed}
 use Rattle.hep_state.specs.declared.machine.Level.{Level}
@@ -26,9 +26,9 @@ use Rattle.std.proofs.lemmas.Option.{same_Some}
 use Rattle.hep_machine.specs.declared.event.Fault.{Fault}
 use Rattle.hep_machine.specs.declared.event.Kind.{Kind}
 use Rattle.hep_arena.specs.Space.{Space}
-use Rattle.hep_frames.proofs.References.{references}
-use Rattle.hep_frames.proofs.Tree.{on-stacked}
-use Rattle.hep_finding.specs.Bound.{AreKept as kept_of}
+use Rattle.hep_layout.proofs.References.{references}
+use Rattle.hep_layout.proofs.FrameTree.{on-stacked}
+use Rattle.hep_layout_laws.specs.Bound.{AreKept as kept_of}
 use Rattle.hep_machine.proofs.Changes.{on-stack_after_return}
 
 -- ---- what leads upwards
@@ -111,13 +111,13 @@ module _ {program : Units} {cells : ℕ} {choices : List ℕ} {m : Snapshot} {p 
     on-same : is_stacked old ≡ is_stacked t
     on-same = λ i a. sym (stacks-same old t p top (after ∷ top.1) h.lives set a (ap (λ b. b ∷ activations_on top.1) r.activation)) i
 
-    keeps : Keeps program t (is_stacked t) (is_held old) h.after.layout (wanted_of program t h.after.layout) (record { contents = new; holes = m.arena.holes }) m.nodes
+    keeps : Keeps program t (is_stacked t) (is_held old) h.after.layout (descriptor_slots program t h.after.layout) (record { contents = new; holes = m.arena.holes }) m.nodes
     keeps =
         let k = h.after.shows.keeps in
         record {
           memory = r.memory;
-          tree = subst (λ on. IsTree t on (is_held old) m.nodes) on-same (tree-same old t (is_stacked old) (is_held old) m.nodes same k.tree);
-          rest = subst (λ on. AreWantedBut None t on (is_held old)) on-same (wanted-same old t (is_stacked old) (is_held old) None same k.rest);
+          tree = subst (λ on. IsFrameTree t on (is_held old) m.nodes) on-same (tree-same old t (is_stacked old) (is_held old) m.nodes same k.tree);
+          rest = subst (λ on. AreNeededBut None t on (is_held old)) on-same (wanted-same old t (is_stacked old) (is_held old) None same k.rest);
           framed = k.framed;
           frames_are = k.frames_are;
           described = r.described;
@@ -170,7 +170,7 @@ module _ {program : Units} {cells : ℕ} {choices : List ℕ} {m : Snapshot} {p 
       record {
         activation = refl;
         memory = memory-same program old t layout m.arena.contents m.arena.holes k.memory refl refl;
-        described = described-same program old t layout (wanted_of program old layout) (wanted_of program t layout) m.arena.contents k.described refl (λ a c v w. sym (wanted-alike program old t layout a c refl (λ d i is. refl)) ∙ w);
+        described = described-same program old t layout (descriptor_slots program old layout) (descriptor_slots program t layout) m.arena.contents k.described refl (λ a c v w. sym (wanted-alike program old t layout a c refl (λ d i is. refl)) ∙ w);
         stands = subst (λ u. Stands (unit_addressed program u) top.0.statement top.0.work vs l.index) (sym unit-is) standing-before.0.stands;
       } in
       subst (λ (ks : List Stack). HasStepped program cells choices p (record m { processes = ks; halted = true })) (sym (set-same m.processes p (record { levels = l ∷ ls; operands = vs }) h.kept)) (
@@ -182,13 +182,13 @@ module _ {program : Units} {cells : ℕ} {choices : List ℕ} {m : Snapshot} {p 
       → Simulates program (top_after program choices p top) h.after.layout (frame_under m.nodes l.key) m.arena.holes m.arena.contents (waits cell full)
       → HasWaited program cells choices p cell full m
   waited-shown cell full sim =
-      record { running = h.running; wanted = record { at = sim.0; full = full }; waits = ap wanted_in sim.1; after = h.after; found = sim.2; state = refl }
+      record { running = h.running; wanted = record { at = sim.0; full = full }; waits = ap wanted_of sim.1; after = h.after; found = sim.2; state = refl }
 
   abbrev layout : Layout
   layout = h.after.layout
 
   pub kept-now : AreOfSomeState m.arena m.nodes
-  kept-now = (program, old, is_stacked old, is_held old, layout, wanted_of program old layout, h.after.shows.keeps)
+  kept-now = (program, old, is_stacked old, is_held old, layout, descriptor_slots program old layout, h.after.shows.keeps)
 
   pub top-node : m.nodes l.key ≡ Some (node_under m.nodes l.key)
   top-node = (h.after.shows.stacks p (record { levels = l ∷ ls; operands = vs }) (top.0 ∷ top.1) h.kept there).there.0.1
@@ -196,13 +196,13 @@ module _ {program : Units} {cells : ℕ} {choices : List ℕ} {m : Snapshot} {p 
   pub top-activation : (node_under m.nodes l.key).activation ≡ top.0.activation
   top-activation =
       let here = standing-before.0.here in
-      ap (λ (n : Node). n.activation) (same_Some (node_under m.nodes l.key) here.node (sym top-node ∙ here.there)) ∙ sym here.activation
+      ap (λ (n : FrameNode). n.activation) (same_Some (node_under m.nodes l.key) here.node (sym top-node ∙ here.there)) ∙ sym here.activation
 
   -- ---- where they have ended
 
   module _ (t : State) (q : Process) (set : t.processes ≡ with_numbered old.processes p q) (same : t.activations ≡ old.activations) (made : step_result_of program p old ≡ stepped t) where
     module _ (arena : Space) (nodes : Nodes) (left : HasLeft program t (is_stacked t) (is_held old) layout m.arena arena m.nodes nodes) where
-      stay : (key : ℕ) (n : Node) → m.nodes key ≡ Some n → is_stacked t n.activation ≡ true → (k : Node) × (nodes key ≡ Some k) × (k.activation ≡ n.activation)
+      stay : (key : ℕ) (n : FrameNode) → m.nodes key ≡ Some n → is_stacked t n.activation ≡ true → (k : FrameNode) × (nodes key ≡ Some k) × (k.activation ≡ n.activation)
       stay key n e on = let kept = left.keys_stay key n e (left.keeps.tree.stacked n.activation on) in (kept.0, kept.1, kept.2)
 
       remains : layout_of program cells is_held (choices ++ p ∷ []) ≡ Some (frames_of left.still layout)

@@ -7,15 +7,15 @@ use Rattle.hep_machine.specs.declared.slot.Slot.{Slot}
 use Rattle.hep_code.specs.Words.{entry_index}
 use Rattle.hep_code.proofs.Moves.{StandsAt, entry_stands}
 use Rattle.hep_arena.specs.Gaps.{gaps}
-use Rattle.hep_frames.specs.Words.{Holds, IsLaid, IsMemory, address, Describes, wanted_of, is_stacked, Node, Nodes, first_nodes}
-use Rattle.hep_frames.proofs.Beginning.{tree-same, wanted-same}
-use Rattle.hep_frames.proofs.Descriptors.{descriptor-apart, described-same, wanted-same as wanted-alike}
-use Rattle.hep_frames.proofs.HeldFrames.{opening-is}
-use Rattle.hep_frames.proofs.Memory.{address-same, laid-same}
-use Rattle.hep_frames.proofs.Tree.{rest-held}
+use Rattle.hep_layout.specs.Words.{Holds, IsLaid, IsMemory, address, Describes, descriptor_slots, is_stacked, FrameNode, Nodes, first_nodes}
+use Rattle.hep_layout.proofs.Beginning.{tree-same, wanted-same}
+use Rattle.hep_layout.proofs.Descriptors.{descriptor-apart, described-same, wanted-same as wanted-alike}
+use Rattle.hep_layout.proofs.HeldFrames.{opening-is}
+use Rattle.hep_layout.proofs.Memory.{address-same, laid-same}
+use Rattle.hep_layout.proofs.FrameTree.{rest-held}
 use Rattle.hep_image.specs.declared.data.DataRow.{DataRow}
 use Rattle.hep_image.specs.Data.{AreOfUnits, AreInitial, first_frames, value_in_rows}
-use Rattle.hep_proc.specs.Keeping.{IsOpening, Keeps, IsUnused}
+use Rattle.hep_frames.specs.Keeping.{IsOpening, Keeps, IsUnused}
 use Rattle.hep_step.specs.Simulation.{unit_addressed}
 use Rattle.hep_arena.specs.Space.{Space}
 use Rattle.hep_state.specs.Words.{IsEntered, IsGiven, snapshot_opened, unset_opening, IsStack, Stack, IsAfter, AreOut}
@@ -26,7 +26,7 @@ use Rattle.std.proofs.lemmas.Bool.Decides.{nat_tests}
 use Rattle.std.proofs.lemmas.List.{drop_more, get_or-reverse, length-reverse}
 use Rattle.hep_arena.specs.Holes.{IsOut, first_fit}
 use Rattle.hep_arena.proofs.Gaps.{fit-gaps}
-use Rattle.hep_frames.proofs.Addresses.{address-out}
+use Rattle.hep_layout.proofs.Addresses.{address-out}
 use Rattle.hep_state.proofs.Processes.{numbered-only}
 use Rattle.hep_state.proofs.Unchanged.{carry}
 
@@ -102,7 +102,7 @@ module _ (program : Units) (cells key entry : ℕ) (rows : List DataRow) (before
       }
 
   -- no descriptor has got a value
-  described : Describes program s h.layout (wanted_of program s h.layout) after.contents
+  described : Describes program s h.layout (descriptor_slots program s h.layout) after.contents
   described a c p slot is here want = by_value (value_in_rows rows p) refl (given.given p ∙ ap (option_map (cell_given (value_in_rows rows p))) (h.keeps.described a c p slot is here want)) where
     by_value : (o : Option Value) → value_in_rows rows p ≡ o → slice_get after.contents p ≡ Some (cell_given (value_in_rows rows p) slot) → slice_get after.contents p ≡ Some slot
     by_value None e there = there ∙ ap (λ o. Some (cell_given o slot)) e
@@ -110,7 +110,7 @@ module _ (program : Units) (cells key entry : ℕ) (rows : List DataRow) (before
         let unit = units p v e in
         absurd (descriptor-apart program s (length before.contents) h.layout unit.0 a p c h.keeps.memory.laid (opening-address program cells h.layout h.laid unit.0 ∙ unit.1) here is)
 
-  keeps-opened : Keeps program t (is_stacked t) (λ a. nat_eq a 1) h.layout (wanted_of program t h.layout) after nodes
+  keeps-opened : Keeps program t (is_stacked t) (λ a. nat_eq a 1) h.layout (descriptor_slots program t h.layout) after nodes
   keeps-opened =
       let k = h.keeps in
       record {
@@ -119,14 +119,14 @@ module _ (program : Units) (cells key entry : ℕ) (rows : List DataRow) (before
         rest = wanted-same s t (is_stacked t) (λ a. nat_eq a 1) None refl k.rest;
         framed = k.framed;
         frames_are = k.frames_are;
-        described = described-same program s t h.layout (wanted_of program s h.layout) (wanted_of program t h.layout) after.contents described refl (λ a c v w. sym (wanted-alike program s t h.layout a c refl (λ d i is. refl)) ∙ w);
+        described = described-same program s t h.layout (descriptor_slots program s h.layout) (descriptor_slots program t h.layout) after.contents described refl (λ a c v w. sym (wanted-alike program s t h.layout a c refl (λ d i is. refl)) ∙ w);
       }
 
   held : (λ (a : ℕ). nat_eq a 1) ≡ is_held t
   held = λ i a. rest-held program [] (λ b. nat_eq b 1) nodes a (record { tree = keeps-opened.tree; wanted = keeps-opened.rest }) i
 
-  keeps-held : Keeps program t (is_stacked t) (is_held t) h.layout (wanted_of program t h.layout) after nodes
-  keeps-held = subst (λ out. Keeps program t (is_stacked t) out h.layout (wanted_of program t h.layout) after nodes) held keeps-opened
+  keeps-held : Keeps program t (is_stacked t) (is_held t) h.layout (descriptor_slots program t h.layout) after nodes
+  keeps-held = subst (λ out. Keeps program t (is_stacked t) out h.layout (descriptor_slots program t h.layout) after nodes) held keeps-opened
 
   module _ (inside : main_unit program < length program) (entry_is : entry ≡ entry_index (unit_addressed program (main_unit program))) where
     standing : AreStanding program t nodes [] (record { key = key; unit = main_unit program; index = entry } ∷ []) (entry_level (unit_at program (main_unit program)) 1 ∷ [])
@@ -177,15 +177,15 @@ module _ (program : Units) (cells key entry : ℕ) (rows : List DataRow) (before
 pub unset-opens : (program : Units) → IsOpening program (unset_opening program)
 unset-opens program = record { activations_are = refl; processes_are = refl; unset = λ at. refl }
 
-pub is-entered : (program : Units) (cells key : ℕ) (layout : Layout) (arena : Space) (nodes : Nodes) (node : Node) → opening_layout program cells ≡ Some layout → length arena.contents ≡ cells
-    → Keeps program (unset_opening program) (is_stacked (unset_opening program)) (λ a. nat_eq a 1) layout (wanted_of program (unset_opening program) (first_frames program)) arena nodes → nodes key ≡ Some node → node.activation ≡ 1 → IsEntered program cells key arena nodes
+pub is-entered : (program : Units) (cells key : ℕ) (layout : Layout) (arena : Space) (nodes : Nodes) (node : FrameNode) → opening_layout program cells ≡ Some layout → length arena.contents ≡ cells
+    → Keeps program (unset_opening program) (is_stacked (unset_opening program)) (λ a. nat_eq a 1) layout (descriptor_slots program (unset_opening program) (first_frames program)) arena nodes → nodes key ≡ Some node → node.activation ≡ 1 → IsEntered program cells key arena nodes
 is-entered program cells key layout arena nodes node laid size keeps there first =
     let s = unset_opening program in
     record {
       layout = layout;
       laid = laid;
       size = size;
-      keeps = subst (λ fs. Keeps program s (is_stacked s) (λ a. nat_eq a 1) layout (wanted_of program s fs) arena nodes) (sym (frames-first program cells layout laid)) keeps;
+      keeps = subst (λ fs. Keeps program s (is_stacked s) (λ a. nat_eq a 1) layout (descriptor_slots program s fs) arena nodes) (sym (frames-first program cells layout laid)) keeps;
       node = node;
       there = there;
       first = first;
@@ -323,7 +323,7 @@ first-fit program arena nodes unused by_numbers fits =
     by_test true h = refl
     by_test false h = absurd (false≢true h)
 
-abbrev pub first_node : ℕ → ℕ → ℕ → Node
+abbrev pub first_node : ℕ → ℕ → ℕ → FrameNode
 first_node unit first cells = record { activation = 1; unit = unit; first = first; cells = cells; parent = None; children = 0; finished = false }
 
 pub node-there : (key unit first cells : ℕ) → first_nodes key unit first cells key ≡ Some (first_node unit first cells)

@@ -12,13 +12,13 @@ use Rattle.hep_code.specs.declared.instruction.Argument.TheVariants.{Referred}
 use Rattle.hep_code.specs.declared.instruction.Instruction.{Instruction}
 use Rattle.hep_code.specs.declared.instruction.Instruction.TheVariants.{Pass}
 use Rattle.hep_code.specs.Words.{passed_from}
-use Rattle.hep_frames.specs.Words.{address}
-use Rattle.hep_frames.proofs.Memory.{address-same}
+use Rattle.hep_layout.specs.Words.{address}
+use Rattle.hep_layout.proofs.Memory.{address-same}
 use Rattle.hep_image.specs.declared.array.Array.{Array}
 use Rattle.hep_image.specs.Finding.{cells_in}
-use Rattle.hep_placed.specs.Instructions.{variables_in}
-use Rattle.hep_placed.specs.Placed.{ArePlaced, code_in}
-use Rattle.hep_purging.specs.declared.range.Range.{Range}
+use Rattle.hep_image_laws.specs.Instructions.{variables_in}
+use Rattle.hep_image_laws.specs.Placed.{ArePlaced, code_in}
+use Rattle.hep_purging.specs.declared.range.ClosedRange.{ClosedRange}
 use Rattle.hep_purging.specs.Placed.{AreEntriesPlaced}
 use Rattle.hep_purging.specs.Purged.{effect_of_purge, effect_of_ranges, have_cell, purged}
 use Rattle.hep_purging.specs.Ranges.{ranges_of}
@@ -37,15 +37,15 @@ use Rattle.hep_state.proofs.Tops.{dropped-behind}
 
 -- what the laws of ranges say
 abbrev pub Within : Type 0
-Within = (ranges : List Range) (contents : List Slot) (c : ℕ) (slot : Slot) → have_cell ranges c ≡ true → slice_get contents c ≡ Some slot → slice_get (purged ranges contents) c ≡ Some (purged_cell slot)
+Within = (ranges : List ClosedRange) (contents : List Slot) (c : ℕ) (slot : Slot) → have_cell ranges c ≡ true → slice_get contents c ≡ Some slot → slice_get (purged ranges contents) c ≡ Some (purged_cell slot)
 
 abbrev pub Elsewhere : Type 0
-Elsewhere = (ranges : List Range) (contents : List Slot) (c : ℕ) → have_cell ranges c ≡ false → slice_get (purged ranges contents) c ≡ slice_get contents c
+Elsewhere = (ranges : List ClosedRange) (contents : List Slot) (c : ℕ) → have_cell ranges c ≡ false → slice_get (purged ranges contents) c ≡ slice_get contents c
 
 abbrev pub SameLength : Type 0
-SameLength = (ranges : List Range) (contents : List Slot) → length (purged ranges contents) ≡ length contents
+SameLength = (ranges : List ClosedRange) (contents : List Slot) → length (purged ranges contents) ≡ length contents
 
-cell-emptied : Within → SameLength → (ranges : List Range) (contents : List Slot) (c : ℕ) → have_cell ranges c ≡ true → (cells_in (purged ranges contents) c).full ≡ false
+cell-emptied : Within → SameLength → (ranges : List ClosedRange) (contents : List Slot) (c : ℕ) → have_cell ranges c ≡ true → (cells_in (purged ranges contents) c).full ≡ false
 cell-emptied within same ranges contents c e = by_slots (slice_get contents c) refl (slice_get (purged ranges contents) c) refl where
   by_slots : (o : Option Slot) → slice_get contents c ≡ o → (q : Option Slot) → slice_get (purged ranges contents) c ≡ q → (cells_in (purged ranges contents) c).full ≡ false
   by_slots (Some slot) is q there = ap (λ (z : Option Slot). (unwrap_or z unset_cell).full) (within ranges contents c slot e is)
@@ -56,7 +56,7 @@ cell-emptied within same ranges contents c e = by_slots (slice_get contents c) r
       absurd (none-some _ (sym is ∙ slice_get-get_or contents c unset_cell before))
 
 -- ranges are reached in each arena with the same holes and as many cells
-pub reached-alike : (a b : Space) (ranges : List Range) → length b.contents ≡ length a.contents → b.holes ≡ a.holes → AreReached a ranges → AreReached b ranges
+pub reached-alike : (a b : Space) (ranges : List ClosedRange) → length b.contents ≡ length a.contents → b.holes ≡ a.holes → AreReached a ranges → AreReached b ranges
 reached-alike a b [] size holes h = tt
 reached-alike a b (r ∷ rs) size holes h =
     (record { inside = omega (arith, h.0.inside, size); out = λ c from to. subst (IsOut c) (sym holes) (h.0.out c from to) }, reached-alike a b rs size holes h.1)
@@ -80,7 +80,7 @@ module _ {program : Units} {cells : ℕ} {choices : List ℕ} {p : ℕ} {m : Sna
       record { emptied = λ layout at c laid found e. absurd (true≢false (sym e)); others = λ layout at c laid found e. ap (λ (s : State). (s.store at).full) next }
 
   -- the cells of ranges are emptied
-  module _ (within : Within) (elsewhere : Elsewhere) (same : SameLength) (ranges : List Range) (index : ℕ) (sim : Does (moves (purged ranges m.arena.contents) [] index)) where
+  module _ (within : Within) (elsewhere : Elsewhere) (same : SameLength) (ranges : List ClosedRange) (index : ℕ) (sim : Does (moves (purged ranges m.arena.contents) [] index)) where
     abbrev after : State
     after = state_with_store (top_after program choices p top) sim.0 sim.1
 
@@ -128,9 +128,9 @@ module _ {program : Units} (known : AreRunning program) {cells : ℕ} {choices :
 
   -- what it does, by what its targets name
   pub does-so : Doing (effect_of_purge (arrays_on_top program (top_after program choices p at.top)) (node_under m.nodes at.l.key).first purge.line purge.next (passed_from purge.count at.behind at.operands) m.arena.contents)
-      → (r : Result (List Range) Kind) → ranges_ahead program m purge at ≡ r → Doing (effect_of_ranges purge.line purge.next m.arena.contents r)
+      → (r : Result (List ClosedRange) Kind) → ranges_ahead program m purge at ≡ r → Doing (effect_of_ranges purge.line purge.next m.arena.contents r)
   does-so sim r e =
-      subst (λ (q : Result (List Range) Kind). Doing (effect_of_ranges purge.line purge.next m.arena.contents q))
+      subst (λ (q : Result (List ClosedRange) Kind). Doing (effect_of_ranges purge.line purge.next m.arena.contents q))
       (ap (λ u. ranges_of (cells_in m.arena.contents) (node_under m.nodes at.l.key).first (unit_arrays program u) (passed_from purge.count at.behind at.operands)) unit-here ∙ e) sim
 
   pub fault-ends : (kind : Kind) → Doing (fails purge.line kind) → IsEnding program cells choices p m (fails purge.line kind)
@@ -138,9 +138,9 @@ module _ {program : Units} (known : AreRunning program) {cells : ℕ} {choices :
 
   -- each frame has its gap then
   pub gaps-there : ((kind : Kind) → IsEnding program cells choices p m (fails purge.line kind) → HasGaps program cells choices p)
-      → ((ranges : List Range) → ranges_ahead program m purge at ≡ Ok ranges → HasStepped program cells choices p (snapshot_moved m p at.l at.ls (purged ranges m.arena.contents) [] purge.next))
+      → ((ranges : List ClosedRange) → ranges_ahead program m purge at ≡ Ok ranges → HasStepped program cells choices p (snapshot_moved m p at.l at.ls (purged ranges m.arena.contents) [] purge.next))
       → ((kind : Kind) → ranges_ahead program m purge at ≡ Err kind → IsEnding program cells choices p m (fails purge.line kind)) → HasGaps program cells choices p
   gaps-there by_fault by_step ends = by_ranges (ranges_ahead program m purge at) refl where
-    by_ranges : (r : Result (List Range) Kind) → ranges_ahead program m purge at ≡ r → HasGaps program cells choices p
+    by_ranges : (r : Result (List ClosedRange) Kind) → ranges_ahead program m purge at ≡ r → HasGaps program cells choices p
     by_ranges (Ok ranges) e none = none-some _ (sym none ∙ (by_step ranges e).after.laid)
     by_ranges (Err kind) e none = by_fault kind (ends kind e) none

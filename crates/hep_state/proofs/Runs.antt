@@ -7,13 +7,13 @@ use Rattle.std.proofs.lemmas.Bool.Decides.{nat_tests}
 use Rattle.hep_machine.specs.Words.{Units, IsSameOrOneMore, Frame, Layout, Placing, common_cells, frame_of, is_held, layout_after_step, layout_after_turn, layout_of, layout_with_activation, lowest_gap, opening_layout, placing_from, placing_turn, remaining_layout, with_frame, opening, run, run_from, state_after_turn, State, Process, step, numbered, with_numbered}
 use Rattle.hep_machine.proofs.Others.{activations_after, other_numbered}
 use Rattle.hep_arena.specs.Gaps.{frame_among}
-use Rattle.hep_frames.specs.Words.{frame_from, wanted_of, IsAtRest, is_stacked, Node, Nodes}
-use Rattle.hep_frames.proofs.HeldFrames.{run-last}
-use Rattle.hep_proc.specs.Keeping.{frames_of, Keeps}
+use Rattle.hep_layout.specs.Words.{frame_from, descriptor_slots, IsAtRest, is_stacked, FrameNode, Nodes}
+use Rattle.hep_layout.proofs.HeldFrames.{run-last}
+use Rattle.hep_frames.specs.Keeping.{frames_of, Keeps}
 use Rattle.std.proofs.lemmas.Option.{same_Some, none-some}
 use Rattle.hep_arena.specs.Space.{Space}
-use Rattle.hep_finding.specs.Bound.{AreKept}
-use Rattle.hep_frames.proofs.Tree.{rest-held}
+use Rattle.hep_layout_laws.specs.Bound.{AreKept}
+use Rattle.hep_layout.proofs.FrameTree.{rest-held}
 use Rattle.hep_state.specs.Words.{IsStack, Shows, Snapshot, Stack, HasStepped}
 use Rattle.hep_state.proofs.Standing.{AreOn, are-on, AreMade, AreStanding, stack-again, stack-standing, standing-still}
 use Rattle.hep_entering.proofs.Calls.{set-numbered}
@@ -158,13 +158,13 @@ module _ (program : Units) (cells : ℕ) (choices : List ℕ) (p : ℕ) (t : Sta
   on-after : (n : ℕ) (q : Process) → numbered t.processes n ≡ Some q → AreOn t q
   on-after n q = subst (λ (z : State). numbered z.processes n ≡ Some q → AreOn z q) next (are-on program (choices ++ p ∷ []) n q)
 
-  module _ (layout : Layout) (out : ℕ → Bool) (arena : Space) (nodes : Nodes) (keeps : Keeps program t (is_stacked t) out layout (wanted_of program t layout) arena nodes) where
+  module _ (layout : Layout) (out : ℕ → Bool) (arena : Space) (nodes : Nodes) (keeps : Keeps program t (is_stacked t) out layout (descriptor_slots program t layout) arena nodes) where
     pub held-after : (a : ℕ) → out a ≡ is_held t a
     held-after a =
         subst (λ (z : State). IsAtRest z out nodes → out a ≡ is_held z a) next (rest-held program (choices ++ p ∷ []) out nodes a) (record { tree = keeps.tree; wanted = keeps.rest })
 
-    pub keeps-after : Keeps program t (is_stacked t) (is_held t) layout (wanted_of program t layout) arena nodes
-    keeps-after = subst (λ test. Keeps program t (is_stacked t) test layout (wanted_of program t layout) arena nodes) (λ i a. held-after a i) keeps
+    pub keeps-after : Keeps program t (is_stacked t) (is_held t) layout (descriptor_slots program t layout) arena nodes
+    keeps-after = subst (λ test. Keeps program t (is_stacked t) test layout (descriptor_slots program t layout) arena nodes) (λ i a. held-after a i) keeps
 
     pub remaining-after : (before : Layout) → frames_of out before ≡ remaining_layout is_held t before
     remaining-after before = ap (λ (test : ℕ → Bool). filter (λ (f : Frame). test f.activation) before) (λ i a. held-after a i)
@@ -175,7 +175,7 @@ module _ (program : Units) (cells : ℕ) (choices : List ℕ) (p : ℕ) (t : Sta
 
   -- ---- the state is shown, and a step was made
 
-  module _ (new : Snapshot) (layout : Layout) (out : ℕ → Bool) (keeps : Keeps program t (is_stacked t) out layout (wanted_of program t layout) new.arena new.nodes)
+  module _ (new : Snapshot) (layout : Layout) (out : ℕ → Bool) (keeps : Keeps program t (is_stacked t) out layout (descriptor_slots program t layout) new.arena new.nodes)
       (kept : (a : ℕ) → is_stacked t a ≡ true → AreKept program t layout a) (count : length new.processes ≡ length t.processes)
       (standing : (n : ℕ) (k : Stack) (q : Process) → numbered new.processes n ≡ Some k → numbered t.processes n ≡ Some q → AreOn t q → AreStanding program t new.nodes k.operands k.levels q) where
     stacks : (n : ℕ) (k : Stack) (q : Process) → numbered new.processes n ≡ Some k → numbered t.processes n ≡ Some q → IsStack program t new.arena.contents new.nodes k q
@@ -206,7 +206,7 @@ module _ (program : Units) (cells : ℕ) (choices : List ℕ) (p : ℕ) (t : Sta
 
 module _ (program : Units) (s t : State) (layout : Layout) (m : Snapshot) (nodes : Nodes) (shows : Shows program s layout m) (p : ℕ) (old k : Stack) (before q : Process)
     (kept : numbered m.processes p ≡ Some old) (there : numbered s.processes p ≡ Some before) (made : AreMade s t)
-    (stay : (key : ℕ) (n : Node) → m.nodes key ≡ Some n → is_stacked t n.activation ≡ true → (l : Node) × (nodes key ≡ Some l) × (l.activation ≡ n.activation))
+    (stay : (key : ℕ) (n : FrameNode) → m.nodes key ≡ Some n → is_stacked t n.activation ≡ true → (l : FrameNode) × (nodes key ≡ Some l) × (l.activation ≡ n.activation))
     (top : AreOn t q → AreStanding program t nodes k.operands k.levels q) where
   pub standing-changed : (n : ℕ) (j : Stack) (r : Process) → numbered (with_numbered m.processes p k) n ≡ Some j → numbered (with_numbered s.processes p q) n ≡ Some r → AreOn t r → AreStanding program t nodes j.operands j.levels r
   standing-changed n j r here on-it on = by_number (nat_eq p n) refl where

@@ -7,16 +7,16 @@ use Rattle.hep_machine.specs.State.{Level as SourceLevel}
 use Rattle.hep_arena.specs.Gaps.{frame_among}
 use Rattle.hep_code.specs.Words.{AreBelow, AreLevels, IsOf, HoldsLoops, Stands, table_of}
 use Rattle.hep_code.proofs.Moves.{StandsAt, after_statement_keeps, after_statement_stands}
-use Rattle.hep_frames.specs.Words.{Describes, level_of, wanted_of, AreFramed, is_stacked, Node, Nodes, times}
-use Rattle.hep_frames.proofs.Memory.{activation-kept}
-use Rattle.hep_finding.proofs.Counted.{counted}
+use Rattle.hep_layout.specs.Words.{Describes, level_of, descriptor_slots, AreFramed, is_stacked, FrameNode, Nodes, times}
+use Rattle.hep_layout.proofs.Memory.{activation-kept}
+use Rattle.hep_layout_laws.proofs.Counted.{counted}
 use Rattle.hep_image.specs.Places.{addresses_of}
 use Rattle.hep_step.specs.Simulation.{counts_in, unit_addressed}
 use Rattle.hep_state.specs.declared.machine.Level.{Level}
 use Rattle.hep_state.specs.Words.{AreThere, IsStack, IsThere, code_level, code_levels, node_under, Stack}
 use Rattle.std.proofs.lemmas.Bool.{cases_Bool, eq-eqb}
-use Rattle.hep_frames.proofs.Stacks.{once}
-use Rattle.hep_frames.proofs.Tree.{on-stacked}
+use Rattle.hep_layout.proofs.Stacks.{once}
+use Rattle.hep_layout.proofs.FrameTree.{on-stacked}
 use Rattle.hep_entering.proofs.Found.{IsAmong, all_levels, among-numbered, found, times-all}
 
 -- ---- on stacks, where each is found by its activation
@@ -53,7 +53,7 @@ module _ (program : Units) (choices : List ℕ) (p : ℕ) (q : Process) (there :
 -- the activation of a level is that of its node, was made, and runs the level's unit
 pub record IsHere (program : Units) (s : State) (nodes : Nodes) (l : Level) (a : ℕ) : Type 0 where
   pub inside : l.unit < length program
-  pub node : Node
+  pub node : FrameNode
   pub there : nodes l.key ≡ Some node
   pub activation : a ≡ node.activation
   pub made : (1 ≤ a) × (a ≤ length s.activations)
@@ -81,7 +81,7 @@ module _ (program : Units) (s : State) (nodes : Nodes) where
   -- ---- of levels in the code
 
   module _ (contents : List Slot) where
-    node-is : (l : Level) (n : Node) → nodes l.key ≡ Some n → node_under nodes l.key ≡ n
+    node-is : (l : Level) (n : FrameNode) → nodes l.key ≡ Some n → node_under nodes l.key ≡ n
     node-is l n e = ap (λ o. unwrap_or o (node_under (λ k. None) 0)) e
 
     is-here : (vs : List Value) (l : Level) (level : SourceLevel) → IsThere program nodes l → IsOf program (addresses_of program) s (code_level program contents nodes vs l) level → IsHere program s nodes l level.activation
@@ -107,13 +107,13 @@ module _ (program : Units) (s : State) (nodes : Nodes) where
 
     -- ---- and back, where the cells of DOs hold what is wanted
 
-    module _ (layout : Layout) (described : Describes program s layout (wanted_of program s layout) contents) (framed : AreFramed layout nodes) where
+    module _ (layout : Layout) (described : Describes program s layout (descriptor_slots program s layout) contents) (framed : AreFramed layout nodes) where
       there-again : (l : Level) (a : ℕ) → IsHere program s nodes l a → IsThere program nodes l
-      there-again l a h = (h.inside, h.there ∙ ap (λ (n : Node). Some n) (sym (node-is l h.node h.there)))
+      there-again l a h = (h.inside, h.there ∙ ap (λ (n : FrameNode). Some n) (sym (node-is l h.node h.there)))
 
       of-again : (vs : List Value) (l : Level) (level : SourceLevel) → IsHere program s nodes l level.activation → IsOf program (addresses_of program) s (code_level program contents nodes vs l) level
       of-again vs l level h =
-          let same : level.activation ≡ (node_under nodes l.key).activation = h.activation ∙ ap (λ (n : Node). n.activation) (sym (node-is l h.node h.there)) in
+          let same : level.activation ≡ (node_under nodes l.key).activation = h.activation ∙ ap (λ (n : FrameNode). n.activation) (sym (node-is l h.node h.there)) in
           record {
             activation = same;
             made = subst (λ a. (1 ≤ a) × (a ≤ length s.activations)) same h.made;
@@ -127,7 +127,7 @@ module _ (program : Units) (s : State) (nodes : Nodes) where
           let frame : Frame = record { activation = n.activation; first = n.first; cells = n.cells } in
           let found : frame_among level.activation layout ≡ Some frame = ap (λ a. frame_among a layout) h.activation ∙ framed l.key n h.there in
           subst (λ u. HoldsLoops (unit_at program u) (counts_in (unit_at program u) contents (node_under nodes l.key).first) level.loops) h.unit (
-          subst (λ (m : Node). HoldsLoops (unit_at program (unit_of s level.activation)) (counts_in (unit_at program (unit_of s level.activation)) contents m.first) level.loops) (sym (node-is l n h.there)) (
+          subst (λ (m : FrameNode). HoldsLoops (unit_at program (unit_of s level.activation)) (counts_in (unit_at program (unit_of s level.activation)) contents m.first) level.loops) (sym (node-is l n h.there)) (
           counted program s layout contents level.activation frame level described found on))
 
       below-again : (ls : List Level) (levels : Process) → AreStandingBelow ls levels → AreOn s levels → AreThere program nodes ls × AreBelow program (addresses_of program) s (map (code_level program contents nodes []) ls) levels
@@ -170,7 +170,7 @@ made-more s t x more a le =
     (omega (arith, long, le), ap (λ (z : Activation). z.unit) (activation-kept s t x a more le))
 
 module _ (program : Units) (s t : State) (old new : Nodes) (made : AreMade s t)
-    (stay : (key : ℕ) (n : Node) → old key ≡ Some n → is_stacked t n.activation ≡ true → (m : Node) × (new key ≡ Some m) × (m.activation ≡ n.activation)) where
+    (stay : (key : ℕ) (n : FrameNode) → old key ≡ Some n → is_stacked t n.activation ≡ true → (m : FrameNode) × (new key ≡ Some m) × (m.activation ≡ n.activation)) where
   pub here-still : (l : Level) (a : ℕ) → IsHere program s old l a → is_stacked t a ≡ true → IsHere program t new l a
   here-still l a h on =
       let kept = stay l.key h.node h.there (sym (ap (is_stacked t) h.activation) ∙ on) in

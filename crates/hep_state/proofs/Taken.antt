@@ -7,9 +7,9 @@ use Rattle.hep_machine.specs.declared.slot.Slot.{Slot}
 use Rattle.hep_machine.specs.State.{Level as SourceLevel, Process as SourceProcess}
 use Rattle.hep_code.specs.Words.{IsPastPushes, values_ahead, deepest}
 use Rattle.hep_code.proofs.Depths.{room_for}
-use Rattle.hep_finding.specs.Within.{ArePlacedArrays}
-use Rattle.hep_frames.specs.Words.{address}
-use Rattle.hep_frames.proofs.HeldFrames.{run-last}
+use Rattle.hep_layout_laws.specs.Within.{ArePlacedArrays}
+use Rattle.hep_layout.specs.Words.{address}
+use Rattle.hep_layout.proofs.HeldFrames.{run-last}
 use Rattle.hep_image.specs.Finding.{cells_in}
 use Rattle.hep_image.specs.Image.{most_cells}
 use Rattle.hep_cells.specs.Outcomes.{is_full_state}
@@ -33,7 +33,7 @@ use Rattle.hep_code.specs.declared.instruction.Instruction.TheVariants.{Step}
 use Rattle.hep_code.specs.declared.instruction.Operation.{Operation}
 use Rattle.hep_code.specs.declared.instruction.Operation.TheVariants.{Purge}
 use Rattle.hep_code.proofs.Ahead.{step_is_ahead}
-use Rattle.hep_needs.specs.Needs.{touched_by}
+use Rattle.hep_needs_laws.specs.Needs.{touched_by}
 use Rattle.hep_touched.specs.Touched.{touched_at}
 use Rattle.std.proofs.lemmas.Bool.{false_from_ne_true}
 

@@ -11,21 +11,21 @@ use Rattle.hep_code.specs.declared.instruction.Operation.{Operation}
 use Rattle.hep_code.specs.declared.instruction.Operation.TheVariants.{Evaluate, Store, EnterLoop, EndLoop}
 use Rattle.hep_code.specs.declared.variable.Variable.TheVariants.{Absent}
 use Rattle.hep_code.specs.Words.{IsAddressed, HoldsLoops, Stands}
-use Rattle.hep_frames.specs.Words.{address, Describes, level_of, wanted_of, times, is_stacked}
-use Rattle.hep_frames.proofs.Stacks.{level-found, levels-stay, once, times_on-numbered}
-use Rattle.hep_frames.proofs.Tree.{on-stacked}
-use Rattle.hep_finding.specs.Bound.{AreClosed, IsBound}
-use Rattle.hep_finding.specs.Constant.{HasConstantShape}
-use Rattle.hep_finding.proofs.Counted.{counted, loop-at}
-use Rattle.hep_finding.proofs.Named.{array-listed}
-use Rattle.hep_finding.proofs.Variables.{any-addressed}
-use Rattle.hep_finding.proofs.Within.{few-dimensions}
-use Rattle.hep_finding.specs.Within.{ArePlacedArrays}
+use Rattle.hep_layout.specs.Words.{address, Describes, level_of, descriptor_slots, times, is_stacked}
+use Rattle.hep_layout.proofs.Stacks.{level-found, levels-stay, once, times_on-numbered}
+use Rattle.hep_layout.proofs.FrameTree.{on-stacked}
+use Rattle.hep_layout_laws.specs.Bound.{AreClosed, IsBound}
+use Rattle.hep_layout_laws.specs.Constant.{HasConstantShape}
+use Rattle.hep_layout_laws.proofs.Counted.{counted, loop-at}
+use Rattle.hep_layout_laws.proofs.Named.{array-listed}
+use Rattle.hep_layout_laws.proofs.Variables.{any-addressed}
+use Rattle.hep_layout_laws.proofs.Within.{few-dimensions}
+use Rattle.hep_layout_laws.specs.Within.{ArePlacedArrays}
 use Rattle.hep_image.specs.Places.{arrays_of, start_of, variable_of}
 use Rattle.hep_image.specs.declared.array.Start.{Start}
 use Rattle.hep_image.proofs.Numbers.{unit-there}
-use Rattle.hep_placed.specs.Instructions.{variables_in_operation}
-use Rattle.hep_placed.specs.Placed.{ArePlaced, code_in}
+use Rattle.hep_image_laws.specs.Instructions.{variables_in_operation}
+use Rattle.hep_image_laws.specs.Placed.{ArePlaced, code_in}
 use Rattle.hep_step.specs.Simulation.{IsRunning, counts_in, found_in, unit_addressed, unit_code, variable_in}
 use Rattle.hep_state.specs.declared.machine.Level.{Level}
 use Rattle.hep_state.specs.Words.{Snapshot, Stack, IsTurning, frame_under, top_after, with_stack, Shows, IsAbsent, IsAfter}
@@ -129,7 +129,7 @@ module _ {program : Units} (known : IsKnown program) {cells : ℕ} {choices : Li
       any-addressed program old layout m.arena.contents top.0.activation (frame_under m.nodes l.key) x ss h.after.shows.keeps.described framed (unit-there program number inside) bound
       (h.after.shows.kept top.0.activation on-top) (own-shaped program known.closed number inside x)
 
-  counts : (s : State) (after : SourceLevel) (slots : List Slot) → s.activations ≡ old.activations → Describes program s layout (wanted_of program s layout) slots → level_of s top.0.activation ≡ Some after
+  counts : (s : State) (after : SourceLevel) (slots : List Slot) → s.activations ≡ old.activations → Describes program s layout (descriptor_slots program s layout) slots → level_of s top.0.activation ≡ Some after
       → HoldsLoops (unit_on_top program t) (counts_in (unit_on_top program t) slots (frame_under m.nodes l.key).first) after.loops
   counts s after slots same described on =
       let one : unit_of s top.0.activation ≡ number = ap (λ (xs : List Activation). unit_of (record old { activations = xs }) top.0.activation) same in

@@ -4,8 +4,8 @@ use Rattle.hep_machine.specs.Words.{Value, Units, unit_at, Binding, Actual, Layo
 use Rattle.hep_machine.specs.State.{Level as SourceLevel}
 use Rattle.hep_arena.specs.Space.{Space}
 use Rattle.hep_code.specs.Words.{entry_index, table_of}
-use Rattle.hep_finding.specs.Bound.{AreKept}
-use Rattle.hep_frames.specs.Words.{Nodes, new_node, with_node}
+use Rattle.hep_layout_laws.specs.Bound.{AreKept}
+use Rattle.hep_layout.specs.Words.{Nodes, new_node, with_node}
 use Rattle.hep_passing.specs.declared.given.Given.{Given}
 use Rattle.hep_passing.specs.Shapes.{AreShapesOf}
 use Rattle.hep_step.specs.Simulation.{unit_addressed}

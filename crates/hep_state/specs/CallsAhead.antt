@@ -11,7 +11,7 @@ use Rattle.hep_code.specs.Words.{IsPastPushes, passed_from}
 use Rattle.hep_image.specs.Finding.{cells_in}
 use Rattle.hep_passing.specs.declared.given.Given.{Given}
 use Rattle.hep_passing.specs.Passing.{given_by}
-use Rattle.hep_purging.specs.declared.range.Range.{Range}
+use Rattle.hep_purging.specs.declared.range.ClosedRange.{ClosedRange}
 use Rattle.hep_purging.specs.Ranges.{ranges_of}
 use Rattle.hep_step.specs.Calls.{making}
 use Rattle.hep_step.specs.Simulation.{IsNotLeftOut, unit_arrays, unit_code}
@@ -88,6 +88,6 @@ given_of program m call at =
     given_by (cells_in m.arena.contents) (node_under m.nodes at.l.key).first (unit_arrays program at.l.unit) (passed_from call.count at.behind at.operands)
 
 -- the cells that its targets name
-abbrev pub ranges_ahead : (program : Units) {cells : ℕ} {choices : List ℕ} {p : ℕ} (m : Snapshot) (purge : PurgeAhead) → IsAtPurge program cells choices p m purge → Result (List Range) Kind
+abbrev pub ranges_ahead : (program : Units) {cells : ℕ} {choices : List ℕ} {p : ℕ} (m : Snapshot) (purge : PurgeAhead) → IsAtPurge program cells choices p m purge → Result (List ClosedRange) Kind
 ranges_ahead program m purge at =
     ranges_of (cells_in m.arena.contents) (node_under m.nodes at.l.key).first (unit_arrays program at.l.unit) (passed_from purge.count at.behind at.operands)

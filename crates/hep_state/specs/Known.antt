@@ -6,10 +6,10 @@ use Rattle.hep_machine.specs.State.{Level as SourceLevel}
 use Rattle.hep_arena.specs.Holes.{Hole}
 use Rattle.hep_code.specs.declared.instruction.Instruction.{Instruction}
 use Rattle.hep_code.specs.declared.instruction.Instruction.TheVariants.{Step}
-use Rattle.hep_finding.specs.Bound.{AreClosed, IsBound}
+use Rattle.hep_layout_laws.specs.Bound.{AreClosed, IsBound}
 use Rattle.hep_step.specs.Calls.{IsCallAhead, made_by, making}
 use Rattle.hep_step.specs.Simulation.{IsRunning, code_on_top}
-use Rattle.hep_works.specs.Works.{ComesFrom, IsCalledBy}
+use Rattle.hep_code_laws.specs.Works.{ComesFrom, IsCalledBy}
 use Rattle.hep_state.specs.declared.machine.Level.{Level}
 use Rattle.hep_state.specs.Snapshots.{Snapshot}
 use Rattle.hep_state.specs.Tops.{IsTurning, frame_under, top_after}

@@ -2,10 +2,10 @@
 use Rattle.std.specs.Prelude.{◌≡◌, ◌≢◌, ℕ, true, false, List, [], ◌∷◌, ◌++◌, Option, Some, None}
 use Rattle.hep_machine.specs.Words.{Units, is_purge, Layout, is_held, layout_of, run, Location, step}
 use Rattle.hep_blocked.specs.declared.want.Want.{Want}
-use Rattle.hep_frames.specs.Words.{address}
+use Rattle.hep_layout.specs.Words.{address}
 use Rattle.hep_image.specs.Finding.{cells_in}
-use Rattle.hep_needs.specs.Needs.{touched_by}
-use Rattle.hep_purging.specs.declared.range.Range.{Range}
+use Rattle.hep_needs_laws.specs.Needs.{touched_by}
+use Rattle.hep_purging.specs.declared.range.ClosedRange.{ClosedRange}
 use Rattle.hep_purging.specs.Purged.{have_cell}
 use Rattle.hep_purging.specs.Ready.{AreReached}
 use Rattle.hep_state.specs.declared.machine.Machine.{Machine}
@@ -43,7 +43,7 @@ abbrev pub IsTold : Snapshot → Option Want → Type 0
 IsTold m changed = (w : Want) → changed ≡ Some w → (cells_in m.arena.contents w.cell).full ≡ w.full
 
 -- each storage unit that is kept in a cell of these ranges is empty after the step, and each other one is as full as before
-pub record HasPurged (program : Units) (cells : ℕ) (choices : List ℕ) (p : ℕ) (ranges : List Range) : Type 0 where
+pub record HasPurged (program : Units) (cells : ℕ) (choices : List ℕ) (p : ℕ) (ranges : List ClosedRange) : Type 0 where
   pub emptied : (layout : Layout) (at : Location) (c : ℕ) → layout_of program cells is_held choices ≡ Some layout → address program (run program choices) layout at ≡ Some c → have_cell ranges c ≡ true
       → ((run program (choices ++ p ∷ [])).store at).full ≡ false
   pub others : (layout : Layout) (at : Location) (c : ℕ) → layout_of program cells is_held choices ≡ Some layout → address program (run program choices) layout at ≡ Some c → have_cell ranges c ≡ false

@@ -4,8 +4,8 @@ use Rattle.hep_machine.specs.Words.{Value}
 use Rattle.hep_machine.specs.declared.event.Fault.{Fault}
 use Rattle.hep_machine.specs.declared.record.Item.{Item}
 use Rattle.hep_arena.specs.Space.{Space}
-use Rattle.hep_frames.specs.Words.{Nodes}
-use Rattle.hep_proc.specs.Nodes.{nodes_of}
+use Rattle.hep_layout.specs.Words.{Nodes}
+use Rattle.hep_frames.specs.Nodes.{nodes_of}
 use Rattle.hep_state.specs.declared.machine.Level.{Level}
 use Rattle.hep_state.specs.declared.machine.Machine.{Machine}
 use Rattle.hep_state.specs.declared.machine.Process.{Process}

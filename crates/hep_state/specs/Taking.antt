@@ -5,7 +5,7 @@ use Rattle.hep_machine.specs.State.{Level as SourceLevel, Process as SourceProce
 use Rattle.hep_arena.specs.Space.{Space}
 use Rattle.hep_code.specs.declared.instruction.Instruction.{Instruction}
 use Rattle.hep_code.specs.Words.{IsPastPushes, Stands}
-use Rattle.hep_frames.specs.Words.{Nodes}
+use Rattle.hep_layout.specs.Words.{Nodes}
 use Rattle.hep_cells.specs.Outcomes.{is_full_state}
 use Rattle.hep_image.specs.declared.array.Array.{Array}
 use Rattle.hep_image.specs.declared.unit.UnitCode.{UnitCode}

@@ -1,5 +1,6 @@
 //! CALL and CREATE: an activation that begins, with its frame (X3.9-1978, 15.6.2).
-ghost use Rattle.std.specs.Prelude.{◌≡◌, ◌<◌, ◌≤◌, ◌+◌, ◌-◌, ◌^◌, ◌++◌, ◌∷◌, ℕ, Bool, true, false, List, [], Some, IsSome, length, slice_get, vec_len, vec_capacity};
+ghost use Rattle.std.specs.Prelude.{◌≡◌, ◌<◌, ◌≤◌, ◌+◌, ◌-◌, ◌^◌, ◌++◌, ◌∷◌, ℕ, Bool, true, false, List, [], Some, IsSome, length};
+ghost use Rattle.std.specs.Prelude.{slice_get, vec_len, vec_capacity};
 ghost use Rattle.slab.specs.Slab.{HasRoomFor};
 ghost use Rattle.hep_source.specs.declared.value.Value.{Value as OperandValue};
 ghost use Rattle.hep_machine.specs.Words.{Units};
@@ -8,7 +9,7 @@ ghost use Rattle.hep_state.specs.declared.machine.Level.{Level as ALevel};
 ghost use Rattle.hep_state.specs.declared.machine.Process.{Process as AProcess};
 ghost use Rattle.hep_state.specs.Words.{snapshot_of, stack_of, stack_with, HasStepped, HasEntered, Makes, state_made, HasRoomAt, HaveRoom};
 ghost use Rattle.hep_code.specs.Words.{deepest};
-ghost use Rattle.hep_proc.specs.Nodes.{nodes_of};
+ghost use Rattle.hep_frames.specs.Nodes.{nodes_of};
 ghost use Rattle.hep_step.specs.Simulation.{unit_code};
 
 use crate::machine::{Level, Machine, Process, append};
@@ -69,7 +70,7 @@ impl Machine {
         ensures level { result ≡ record { key = result.key; unit = called.unit; index = called.entry } }
         ensures others { self.new ≡ record self.old { frames = self.new.frames; activations = self.old.activations + 1 } }
     {
-        hep_proc::laws::children_are_activations();
+        hep_frames::laws::children_are_activations();
         hep_entering::laws::dummies_are_bound();
         hep_entering::laws::other_cells_are_unset();
         hep_entering::laws::references_are_kept();

@@ -8,7 +8,8 @@ ghost use Rattle.hep_purging.specs.Ready.{AreReached};
 ghost use Rattle.hep_step.specs.Effects.{fails};
 ghost use Rattle.hep_state.specs.declared.machine.Level.{Level as ALevel};
 ghost use Rattle.hep_state.specs.declared.turn.Turned.TheVariants.{Purged};
-ghost use Rattle.hep_state.specs.Words.{IsAtPurge, ranges_ahead, HasTurned, HaveRoom, IsMachineAfter, snapshot_of, HasLevels, IsEnding, stack_with, snapshot_moved};
+ghost use Rattle.hep_state.specs.Words.{IsAtPurge, ranges_ahead, HasTurned, HaveRoom, IsMachineAfter, snapshot_of, HasLevels, IsEnding};
+ghost use Rattle.hep_state.specs.Words.{stack_with, snapshot_moved};
 
 use crate::calling::go_on;
 use crate::laws;

@@ -2,9 +2,9 @@
 ghost use Rattle.std.specs.Prelude.{◌≡◌, ◌<◌, ◌++◌, ◌∷◌, ℕ, Bool, List, [], MatchOption, Some, length, reverse, vec_len, vec_capacity};
 ghost use Rattle.hep_source.specs.declared.value.Value.{Value as OperandValue};
 ghost use Rattle.hep_machine.specs.Words.{Units, Layout, State};
-ghost use Rattle.hep_frames.specs.Words.{wanted_of, is_stacked};
-ghost use Rattle.hep_proc.specs.Keeping.{CanAllLeave, CanLeave, HasLeft, IsEnded, Keeps, LeadUpwards, all_but};
-ghost use Rattle.hep_proc.specs.Nodes.{nodes_of};
+ghost use Rattle.hep_layout.specs.Words.{descriptor_slots, is_stacked};
+ghost use Rattle.hep_frames.specs.Keeping.{CanAllLeave, CanLeave, HasLeft, IsEnded, Keeps, LeadUpwards, all_but};
+ghost use Rattle.hep_frames.specs.Nodes.{nodes_of};
 ghost use Rattle.hep_step.specs.Effects.{fails, returns};
 ghost use Rattle.hep_state.specs.declared.machine.Level.{Level as ALevel};
 ghost use Rattle.hep_state.specs.Words.{HaveRoom, snapshot_of, stack_of, IsEnding, IsLeft, stack_with, keys_of, HasStepped, HasWaited};
@@ -12,15 +12,15 @@ ghost use Rattle.hep_state.specs.Words.{HaveRoom, snapshot_of, stack_of, IsEndin
 use crate::machine::{Level, Machine, Process, append};
 use hep_blocked::Want;
 use hep_cells::CellState;
+use hep_frames::Frames;
 use hep_machine::{Fault, Kind};
-use hep_proc::Frames;
 use hep_step::Effect;
 
 // Several activations have ended, the last one first: their frames leave, and no levels are left.
 fn leave_all(frames: &mut Frames, levels: &mut Vec<Level>)
     requires { CanAllLeave frames.old.arena (nodes_of frames.old.nodes) (keys_of (reverse levels.old.items)) }
     ensures ended { (program : Units) (s t : State) (out : ℕ → Bool) (layout : Layout) (ends : List ℕ)
-        → Keeps program s (is_stacked s) out layout (wanted_of program s layout) frames.old.arena (nodes_of frames.old.nodes)
+        → Keeps program s (is_stacked s) out layout (descriptor_slots program s layout) frames.old.arena (nodes_of frames.old.nodes)
         → CanLeave (nodes_of frames.old.nodes) (is_stacked s) (keys_of (reverse levels.old.items)) ends
         → IsEnded program layout (all_but ends (is_stacked s)) s t → LeadUpwards t
         → HasLeft program t (is_stacked t) out layout frames.old.arena frames.new.arena (nodes_of frames.old.nodes)

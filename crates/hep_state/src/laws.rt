@@ -1,20 +1,22 @@
 //! Laws of what a core keeps: what a turn changes in it is what the source machine's step changes in the state.
-ghost use Rattle.std.specs.Prelude.{◌≡◌, ◌<◌, ◌≤◌, ◌+◌, ◌∷◌, ℕ, Bool, true, false, List, Option, Some, None, Ok, Err, IsSome, [], drop, is_some, length, nat_eq};
-ghost use Rattle.hep_machine.specs.Words.{Value, Units, dummies_of, main_among, main_unit, unit_at, Binding, Layout, activations_on, is_held, opening_layout, numbered, run, Work, Bounds};
+ghost use Rattle.std.specs.Prelude.{◌≡◌, ◌<◌, ◌≤◌, ◌+◌, ◌∷◌, ℕ, Bool, true, false, List, Option, Some, None, Ok, Err, IsSome, [], drop};
+ghost use Rattle.std.specs.Prelude.{is_some, length, nat_eq};
+ghost use Rattle.hep_machine.specs.Words.{Value, Units, dummies_of, main_among, main_unit, unit_at, Binding, Layout, activations_on};
+ghost use Rattle.hep_machine.specs.Words.{is_held, opening_layout, numbered, run, Work, Bounds};
 ghost use Rattle.hep_machine.specs.declared.event.Kind.{Kind};
 ghost use Rattle.hep_machine.specs.declared.record.Item.{Item};
 ghost use Rattle.hep_machine.specs.declared.slot.Slot.{Slot};
 ghost use Rattle.hep_machine.specs.State.{Level as SourceLevel, Process as SourceProcess};
 ghost use Rattle.hep_machine.specs.declared.event.Kind.TheVariants.{Shape};
-ghost use Rattle.hep_check.specs.Words.{IsAccepted};
+ghost use Rattle.hep_conditions.specs.Words.{IsAccepted};
 ghost use Rattle.hep_arena.specs.Space.{Space};
 ghost use Rattle.hep_code.specs.declared.instruction.Instruction.{Instruction};
 ghost use Rattle.hep_code.specs.Words.{entry_index, Stands, passed_from};
-ghost use Rattle.hep_frames.specs.Words.{wanted_of, Node, Nodes, but, is_stacked};
-ghost use Rattle.hep_finding.specs.Within.{ArePlacedArrays};
+ghost use Rattle.hep_layout.specs.Words.{descriptor_slots, FrameNode, Nodes, but, is_stacked};
+ghost use Rattle.hep_layout_laws.specs.Within.{ArePlacedArrays};
 ghost use Rattle.hep_image.specs.declared.data.DataRow.{DataRow};
 ghost use Rattle.hep_image.specs.Data.{AreInitial, AreOfUnits, first_frames};
-ghost use Rattle.hep_proc.specs.Keeping.{AreOfSomeState, CanAllLeave, CanLeave, HasLeft, IsEnded, IsOpening, Keeps, LeadUpwards, all_but};
+ghost use Rattle.hep_frames.specs.Keeping.{AreOfSomeState, CanAllLeave, CanLeave, HasLeft, IsEnded, IsOpening, Keeps, LeadUpwards, all_but};
 ghost use Rattle.hep_arena.specs.Holes.{first_fit};
 ghost use Rattle.hep_code.specs.declared.instruction.Instruction.TheVariants.{Step};
 ghost use Rattle.hep_code.specs.declared.instruction.Operation.{Operation};
@@ -22,7 +24,7 @@ ghost use Rattle.hep_image.specs.Dummies.{dummy_arguments};
 ghost use Rattle.hep_image.specs.Image.{most_cells};
 ghost use Rattle.hep_passing.specs.declared.given.Given.{Given};
 ghost use Rattle.hep_passing.specs.Ready.{ArePassable};
-ghost use Rattle.hep_purging.specs.declared.range.Range.{Range};
+ghost use Rattle.hep_purging.specs.declared.range.ClosedRange.{ClosedRange};
 ghost use Rattle.hep_purging.specs.Purged.{purged};
 ghost use Rattle.hep_purging.specs.Ready.{AreOut};
 ghost use Rattle.hep_shaping.specs.Fitting.{AreShapable, are_fitting, longest_code, shapes_of};
@@ -33,7 +35,12 @@ ghost use Rattle.hep_step.specs.Effects.{fails, moves, prints, returns, stops, w
 ghost use Rattle.hep_step.specs.Simulation.{IsRunning, Simulates, is_left_out, unit_addressed, unit_arrays, unit_code};
 ghost use Rattle.hep_state.specs.declared.machine.Level.{Level};
 ghost use Rattle.hep_entering.specs.Calling.{state_called, state_created};
-ghost use Rattle.hep_state.specs.Words.{HasEntered, IsAfterCall, IsMaking, IsUnit, snapshot_called, snapshot_created, state_made, IsKnown, IsEntered, IsGiven, snapshot_opened, unset_opening, node_under, Snapshot, IsEnding, IsTurning, frame_under, keys_of, snapshot_failed, snapshot_moved, snapshot_printed, snapshot_returned, snapshot_stopped, state_failed, state_returned, top_after, with_stack, IsAtCall, IsAtPurge, IsWithoutCall, given_of, ranges_ahead, HasPurged, Touches, HasGaps, HasNoGap, HasStepped, HasWaited, IsAbsent, IsAfter};
+ghost use Rattle.hep_state.specs.Words.{HasEntered, IsAfterCall, IsMaking, IsUnit, snapshot_called, snapshot_created, state_made, IsKnown};
+ghost use Rattle.hep_state.specs.Words.{IsEntered, IsGiven, snapshot_opened, unset_opening, node_under, Snapshot, IsEnding, IsTurning};
+ghost use Rattle.hep_state.specs.Words.{frame_under, keys_of, snapshot_failed, snapshot_moved, snapshot_printed, snapshot_returned};
+ghost use Rattle.hep_state.specs.Words.{snapshot_stopped, state_failed, state_returned, top_after, with_stack, IsAtCall, IsAtPurge};
+ghost use Rattle.hep_state.specs.Words.{IsWithoutCall, given_of, ranges_ahead, HasPurged, Touches, HasGaps, HasNoGap, HasStepped};
+ghost use Rattle.hep_state.specs.Words.{HasWaited, IsAbsent, IsAfter};
 ghost use Rattle.hep_state.specs.declared.upcoming.CallAhead.{CallAhead};
 ghost use Rattle.hep_state.specs.declared.upcoming.PurgeAhead.{PurgeAhead};
 
@@ -65,10 +72,10 @@ pub fn tops_are_running()
         (operands : List Value) (top : SourceLevel × SourceProcess) → IsAccepted program → is_some (main_among program) ≡ true
         → IsTurning program cells choices m p l ls operands top → ArePlacedArrays program (unit_at program l.unit) }
 {
-    hep_placed::laws::variables_of_the_code_are_placed();
-    hep_placed::laws::arrays_are_there();
-    hep_works::laws::programs_are_closed();
-    hep_works::laws::activations_are_bound_in_runs();
+    hep_image_laws::laws::variables_of_the_code_are_placed();
+    hep_image_laws::laws::arrays_are_there();
+    hep_code_laws::laws::programs_are_closed();
+    hep_code_laws::laws::activations_are_bound_in_runs();
 }
 
 /// A turn makes one activation at most, and the opening has one.
@@ -179,12 +186,12 @@ pub fn faults_are_shown()
 fn programs_are_known()
     ensures { (program : Units) → IsAccepted program → is_some (main_among program) ≡ true → IsKnown program }
 {
-    hep_works::laws::works_come_from_statements();
-    hep_works::laws::calls_come_from_statements();
-    hep_works::laws::subroutines_are_called();
-    hep_works::laws::programs_are_closed();
-    hep_works::laws::units_are_there();
-    hep_works::laws::activations_are_bound_in_runs();
+    hep_code_laws::laws::works_come_from_statements();
+    hep_code_laws::laws::calls_come_from_statements();
+    hep_code_laws::laws::subroutines_are_called();
+    hep_code_laws::laws::programs_are_closed();
+    hep_code_laws::laws::units_are_there();
+    hep_code_laws::laws::activations_are_bound_in_runs();
     hep_step::laws::calls_are_ahead();
     tops_are_running();
 }
@@ -233,11 +240,13 @@ pub fn purges_can_be_made()
 /// storage units in these cells are empty, and the others as full as before. Where a target isn't there, a fault ends the process, and
 /// nothing is emptied. In either case each frame has its gap.
 pub fn purges_are_shown()
-    ensures stepped { (program : Units) (cells : ℕ) (choices : List ℕ) (m : Snapshot) (p : ℕ) (purge : PurgeAhead) (ranges : List Range)
+    ensures stepped { (program : Units) (cells : ℕ) (choices : List ℕ) (m : Snapshot) (p : ℕ) (purge : PurgeAhead)
+        (ranges : List ClosedRange)
         → IsAccepted program → is_some (main_among program) ≡ true → (at : IsAtPurge program cells choices p m purge)
         → ranges_ahead program m purge at ≡ Ok ranges
         → HasStepped program cells choices p (snapshot_moved m p at.l at.ls (purged ranges m.arena.contents) [] purge.next) }
-    ensures purged { (program : Units) (cells : ℕ) (choices : List ℕ) (m : Snapshot) (p : ℕ) (purge : PurgeAhead) (ranges : List Range)
+    ensures purged { (program : Units) (cells : ℕ) (choices : List ℕ) (m : Snapshot) (p : ℕ) (purge : PurgeAhead)
+        (ranges : List ClosedRange)
         → IsAccepted program → is_some (main_among program) ≡ true → (at : IsAtPurge program cells choices p m purge)
         → ranges_ahead program m purge at ≡ Ok ranges → HasPurged program cells choices p ranges }
     ensures range { (program : Units) (cells : ℕ) (choices : List ℕ) (m : Snapshot) (p : ℕ) (purge : PurgeAhead) (kind : Kind)
@@ -248,7 +257,7 @@ pub fn purges_are_shown()
     ensures gaps { (program : Units) (cells : ℕ) (choices : List ℕ) (m : Snapshot) (p : ℕ) (purge : PurgeAhead) → IsAccepted program
         → is_some (main_among program) ≡ true → IsAtPurge program cells choices p m purge → HasGaps program cells choices p }
 {
-    hep_placed::laws::variables_of_the_code_are_placed();
+    hep_image_laws::laws::variables_of_the_code_are_placed();
     hep_purging::laws::purges_do_what_the_machine_does();
     hep_purging::laws::ranges_are_emptied();
     gaps_are_told();
@@ -286,9 +295,9 @@ pub fn calls_give_what_is_bound()
         → given_of program m call at ≡ Ok given → are_fitting m.arena.contents given (dummy_arguments program (unit_at program call.unit))
         ≡ false → IsEnding program cells choices p m (fails call.line Shape) }
 {
-    hep_works::laws::actual_arguments_fit();
-    hep_works::laws::variables_are_placed();
-    hep_accepted::names::names_are_given_once();
+    hep_code_laws::laws::actual_arguments_fit();
+    hep_code_laws::laws::variables_are_placed();
+    hep_conditions_laws::names::names_are_given_once();
     hep_passing::laws::all_actuals_are_passed();
     hep_shaping::laws::calls_are_shapable();
     hep_shaping::laws::shapes_decide_bindings();
@@ -345,10 +354,10 @@ pub fn calls_are_shown()
 /// 1 at the main program's first executable statement.
 pub fn openings_are_shown()
     ensures opening { (program : Units) → IsOpening program (unset_opening program) }
-    ensures entered { (program : Units) (cells key : ℕ) (layout : Layout) (arena : Space) (nodes : Nodes) (node : Node)
+    ensures entered { (program : Units) (cells key : ℕ) (layout : Layout) (arena : Space) (nodes : Nodes) (node : FrameNode)
         → opening_layout program cells ≡ Some layout → length arena.contents ≡ cells
         → Keeps program (unset_opening program) (is_stacked (unset_opening program)) (λ a. nat_eq a 1) layout
-        (wanted_of program (unset_opening program) (first_frames program)) arena nodes → nodes key ≡ Some node → node.activation ≡ 1
+        (descriptor_slots program (unset_opening program) (first_frames program)) arena nodes → nodes key ≡ Some node → node.activation ≡ 1
         → IsEntered program cells key arena nodes }
     ensures shown { (program : Units) (cells key entry : ℕ) (rows : List DataRow) (before after : Space) (nodes : Nodes)
         → IsEntered program cells key before nodes → IsGiven rows before after → AreInitial program rows → AreOfUnits program rows

@@ -1,10 +1,10 @@
 //! What a core keeps of a state.
 ghost use Rattle.std.specs.Prelude.{◌≡◌, ◌<◌, ◌++◌, ◌∷◌, [], vec_len, vec_capacity};
 
+use hep_frames::Frames;
 use hep_machine::{Fault, Record};
 use hep_passing::Given;
-use hep_proc::Frames;
-use hep_purging::Range;
+use hep_purging::ClosedRange;
 use hep_shape::Shape;
 use hep_source::Value;
 
@@ -41,7 +41,7 @@ pub struct Passing {
     /// The values of bounds, while shapes are found.
     pub values: Vec<Value>,
     /// The cells that the last PURGE emptied.
-    pub ranges: Vec<Range>,
+    pub ranges: Vec<ClosedRange>,
 }
 
 // Written out, so that a caller's proof has one call of it at each exit.

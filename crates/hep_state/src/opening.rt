@@ -9,17 +9,17 @@ ghost use Rattle.hep_code.specs.declared.instruction.Instruction.TheVariants.{St
 ghost use Rattle.hep_code.specs.declared.instruction.Operation.TheVariants.{Purge};
 ghost use Rattle.hep_image.specs.Dummies.{dummy_arguments};
 ghost use Rattle.hep_image.specs.Image.{IsUnitCode};
-ghost use Rattle.hep_proc.specs.Keeping.{IsUnused};
-ghost use Rattle.hep_proc.specs.Nodes.{nodes_of};
+ghost use Rattle.hep_frames.specs.Keeping.{IsUnused};
+ghost use Rattle.hep_frames.specs.Nodes.{nodes_of};
 ghost use Rattle.hep_shaping.specs.Fitting as shaping;
 ghost use Rattle.hep_step.specs.Simulation.{unit_code};
 ghost use Rattle.hep_state.specs.Words.{AreOut, IsEntered, IsGiven, HasRoomToPass, IsMachineAfter};
 
 use crate::laws;
 use crate::machine::{Level, Machine, Passing, Process};
+use hep_frames::Frames;
 use hep_image::{DataRow, Image, UnitCode};
 use hep_machine::Slot;
-use hep_proc::Frames;
 use hep_purging::most_targets;
 use hep_shaping::longest_code;
 use hep_source::{Form, Statement, Unit, Value};
@@ -48,8 +48,8 @@ fn enter_main(frames: &mut Frames, image: &Image) -> usize
     ensures { IsEntered image.now (length frames.old.arena.contents) result frames.new.arena (nodes_of frames.new.nodes) }
 {
     hep_image::laws::openings_fit_by_numbers();
-    hep_proc::laws::openings_want_unset_cells();
-    hep_works::laws::programs_are_closed();
+    hep_frames::laws::openings_want_unset_cells();
+    hep_code_laws::laws::programs_are_closed();
     laws::openings_are_shown();
     frames.open(image.main(), main_program(image).cells)
 }

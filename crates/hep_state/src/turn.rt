@@ -1,12 +1,14 @@
 //! One turn of a process.
-ghost use Rattle.std.specs.Prelude.{◌≡◌, ◌≢◌, ◌<◌, ◌≤◌, ◌+◌, ◌^◌, ◌++◌, ◌∷◌, ◌-◌, ℕ, true, false, List, [], None, Some, IfOk, IfErr, IfSome, OnErr, OnOk, length, slice_get, vec_len, vec_capacity};
+ghost use Rattle.std.specs.Prelude.{◌≡◌, ◌≢◌, ◌<◌, ◌≤◌, ◌+◌, ◌^◌, ◌++◌, ◌∷◌, ◌-◌, ℕ, true, false, List, [], None, Some, IfOk, IfErr};
+ghost use Rattle.std.specs.Prelude.{IfSome, OnErr, OnOk, length, slice_get, vec_len, vec_capacity};
 ghost use Rattle.std.specs.Option.{is_some};
 ghost use Rattle.slab.specs.Slab.{HasRoomFor};
 ghost use Rattle.hep_machine.specs.Words.{Units, living, run};
 ghost use Rattle.hep_arena.specs.Holes.{IsOut};
 ghost use Rattle.hep_image.specs.Image.{most_cells};
 ghost use Rattle.hep_state.specs.declared.machine.Process.{Process as AProcess};
-ghost use Rattle.hep_state.specs.Words.{IsAtCall, IsWithoutCall, HaveRoom, IsMachineAfter, snapshot_of, HasLevels, IsLeft, IsSeenSame, HasTurned, IsInState, IsTold, Touches, cell_wanted, IsAfter, IsUnturned};
+ghost use Rattle.hep_state.specs.Words.{IsAtCall, IsWithoutCall, HaveRoom, IsMachineAfter, snapshot_of, HasLevels, IsLeft, IsSeenSame};
+ghost use Rattle.hep_state.specs.Words.{HasTurned, IsInState, IsTold, Touches, cell_wanted, IsAfter, IsUnturned};
 
 use crate::advancing::{Advanced, advance};
 use crate::calling::Called;

@@ -1,7 +1,8 @@
 -- Operations that leave the arena as it is: GO TO, computed GO TO, IF and what only goes on, PRINT, RETURN and END, STOP, CALL and CREATE.
 -- X3.9-1978, 11.1 to 11.12, 12.8, 15.6 and 15.8.
 use Rattle.std.proofs.Common.{◌≡◌, ℕ, Bool, true, false, List, [], ◌∷◌, drop, refl, ap, sym, ◌∙◌, ◌++◌, map, length, subst, Err}
-use Rattle.hep_machine.specs.Words.{Statement, Value, Units, integer_of, logical_of, label_by_sign, label_chosen, level_after_condition, level_after_statement, level_at_choice, level_at_label, level_in_block, Action, jumping, choosing, branching, testing_condition, entering_block, continuing, Next, wants, does, next_of, printing, leaving, stopping, Actual, calling, creating, Frame, Layout, Level, Top, step_result_of, result_after_action, state_with_level, stepped, unit_on_top, binding_of, result_after_call, result_after_create, result_after_fault, unit_called, Name}
+use Rattle.hep_machine.specs.Words.{Statement, Value, Units, integer_of, logical_of, label_by_sign, label_chosen, level_after_condition, level_after_statement, level_at_choice, level_at_label, level_in_block, Action, jumping, choosing, branching, testing_condition, entering_block, continuing, Next, wants, does}
+use Rattle.hep_machine.specs.Words.{next_of, printing, leaving, stopping, Actual, calling, creating, Frame, Layout, Level, Top, step_result_of, result_after_action, state_with_level, stepped, unit_on_top, binding_of, result_after_call, result_after_create, result_after_fault, unit_called, Name}
 use Rattle.hep_machine.specs.declared.slot.Slot.{Slot}
 use Rattle.hep_arena.specs.Holes.{Hole}
 use Rattle.hep_code.specs.declared.instruction.Instruction.{Instruction}

@@ -1,6 +1,7 @@
 -- DO: its count is set, or one iteration is over, and its variable is set. X3.9-1978, 11.10.3 to 11.10.7.
 use Rattle.std.proofs.Common.{◌≡◌, ◌≢◌, ℕ, suc, ◌+◌, ◌-◌, ℤ, Bool, true, false, List, [], ◌∷◌, drop, length, Option, Some, None, Result, Ok, Err, refl, ap, sym, ◌∙◌, subst, arith, pos, ◌+ℤ◌, ◌-ℤ◌, int_lt, nat_eq, if◌then◌else◌, slice_set, eq-eqb, ne_eqb, length-set}
-use Rattle.hep_machine.specs.Words.{Name, Statement, Value, Int, Units, statement_at, integer_of, integer_or_overflow, level_after_loop, level_in_range, entering_loop, ending_loop, Next, does, next_of, Frame, Layout, location_of_name, loop_at, unit_of, with_loop, natural, Level, Location, Loop, State, Top, iterations, level_after_count, result_after_do, result_after_fault, result_after_increment, result_after_loop_end, result_after_loop_variable, scope_of, state_after_count, state_with_store, step_result_of, stepped, unit_on_top, with_cell, with_value, is_do}
+use Rattle.hep_machine.specs.Words.{Name, Statement, Value, Int, Units, statement_at, integer_of, integer_or_overflow, level_after_loop, level_in_range, entering_loop, ending_loop, Next, does, next_of, Frame, Layout, location_of_name, loop_at, unit_of, with_loop, natural, Level, Location, Loop, State, Top, iterations}
+use Rattle.hep_machine.specs.Words.{level_after_count, result_after_do, result_after_fault, result_after_increment, result_after_loop_end, result_after_loop_variable, scope_of, state_after_count, state_with_store, step_result_of, stepped, unit_on_top, with_cell, with_value, is_do}
 use Rattle.hep_machine.specs.declared.event.Kind.{Kind}
 use Rattle.hep_machine.specs.declared.event.Kind.TheVariants.{Undefined}
 use Rattle.hep_machine.specs.declared.slot.Slot.{Slot}
@@ -14,9 +15,9 @@ use Rattle.hep_code.specs.declared.variable.Variable.TheVariants.{Absent}
 use Rattle.hep_code.specs.Words.{IsAction, IsNext, IsCounted, first_operand, led_by_count, IsSame, second_operand, Counts, counts_of, AddressedUnit}
 use Rattle.hep_code.proofs.Leads.{ended_is_do, entered_is_do, ended_leads, entered_leads, loop_index, one_less}
 use Rattle.hep_code.proofs.Moves.{Keeps, StandsAt, after_loop_keeps}
-use Rattle.hep_frames.specs.Words.{IsLaid, IsMemory, address, frame_address, Describes, number, wanted_of, iteration}
-use Rattle.hep_frames.proofs.Descriptors.{described-loop, described-written, memory-described}
-use Rattle.hep_frames.proofs.Memory.{memory-written}
+use Rattle.hep_layout.specs.Words.{IsLaid, IsMemory, address, frame_address, Describes, number, descriptor_slots, iteration}
+use Rattle.hep_layout.proofs.Descriptors.{described-loop, described-written, memory-described}
+use Rattle.hep_layout.proofs.Memory.{memory-written}
 use Rattle.hep_image.specs.declared.array.Array.{Array}
 use Rattle.hep_image.specs.Finding.{cells_in, counts_at}
 use Rattle.hep_image.specs.Places.{loop_cells, variable_of}
@@ -104,10 +105,10 @@ module _ (program : Units) (t : Top) (layout : Layout) (f : Frame) (contents : L
     laid : IsLaid program t.state (length (with_value_at contents p (Int z))) layout
     laid = subst (λ n. IsLaid program t.state n layout) (sym (length-set contents p cell)) running.memory.laid
 
-    described_after : Describes program new layout (wanted_of program new layout) (with_counts (with_value_at contents p (Int z)) first_cell (natural l.count) l.increment)
+    described_after : Describes program new layout (descriptor_slots program new layout) (with_counts (with_value_at contents p (Int z)) first_cell (natural l.count) l.increment)
     described_after =
         described-loop program t.state new layout (with_value_at contents p (Int z)) t.level.activation t.level after l first_cell (suc first_cell) laid (
-        described-written program t.state layout (wanted_of program t.state layout) contents at p cell running.memory.laid running.described here) refl running.level (running.itself after keeps.1) keeps.0 (λ b e.
+        described-written program t.state layout (descriptor_slots program t.state layout) contents at p cell running.memory.laid running.described here) refl running.level (running.itself after keeps.1) keeps.0 (λ b e.
         running.others after b keeps.1 e) at_count at_increment
 
     pub loop_is_set : (n : ℕ) → step_result_of program t.process t.state ≡ stepped (state_after_count program t l.statement at z l.count l.increment) → StandsAt addressed after n

@@ -14,7 +14,7 @@ use Rattle.hep_code.specs.declared.variable.Variable.{Variable}
 use Rattle.hep_code.specs.Words.{arity, evaluation_of, operands_of_redex, operation_of, operands_of_action, IsNext, IsRedex, IsAction, IsAddressedIn, reply_of, answer_to_store, reply_to_store, AddressedUnit, table_of, first_operand}
 use Rattle.hep_code.proofs.Ahead.{next_is_ahead}
 use Rattle.hep_code.proofs.Replies.{reply_is, assignment_is, stored_is}
-use Rattle.hep_frames.specs.Words.{address}
+use Rattle.hep_layout.specs.Words.{address}
 use Rattle.hep_image.specs.Finding.{cells_in}
 use Rattle.hep_image.specs.Places.{variable_of}
 use Rattle.hep_step.specs.Effects.{Effect, effect_of, effect_of_reply, moves, subscripts_in}

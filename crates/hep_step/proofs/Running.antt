@@ -7,9 +7,9 @@ use Rattle.hep_machine.specs.Access.{gives, waits}
 use Rattle.hep_machine.specs.Step as step
 use Rattle.hep_arena.specs.Holes.{Hole}
 use Rattle.hep_code.specs.Words.{Answers, Finds, Reply, accessed, result, Stands, IsAt, IsNext}
-use Rattle.hep_frames.specs.Words.{IsMemory, address, Describes, level_of, loop_among, slot_of_loop, slot_on_level, wanted_of}
-use Rattle.hep_frames.proofs.Descriptors.{described-same, described-written, wanted-same}
-use Rattle.hep_frames.proofs.Memory.{memory-same, memory-written}
+use Rattle.hep_layout.specs.Words.{IsMemory, address, Describes, level_of, loop_among, slot_of_loop, slot_on_level, descriptor_slots}
+use Rattle.hep_layout.proofs.Descriptors.{described-same, described-written, wanted-same}
+use Rattle.hep_layout.proofs.Memory.{memory-same, memory-written}
 use Rattle.hep_image.specs.Finding.{cells_in}
 use Rattle.hep_step.specs.Effects.{effect_of_reply, moves, fails}
 use Rattle.hep_step.specs.Simulation.{IsRunning, Reaches, Simulates, unit_addressed, counts_in, addressed_on_top, code_on_top}
@@ -69,18 +69,18 @@ module _ (program : Units) (t : Top) (layout : Layout) (f : Frame) (contents : L
 
     -- the arena is that of a state with this level
     reaching : (s : State) → ((b : ℕ) → level_of s b ≡ level_of (state_with_level t after) b) → s.activations ≡ t.state.activations → (new : List Slot) (vs : List Value) (n : ℕ) → IsMemory program s layout new holes
-        → Describes program t.state layout (wanted_of program t.state layout) new → Stands (unit_addressed program (unit_of t.state t.level.activation)) after.statement after.work vs n → Reaches program t layout f holes s after new vs n
+        → Describes program t.state layout (descriptor_slots program t.state layout) new → Stands (unit_addressed program (unit_of t.state t.level.activation)) after.statement after.work vs n → Reaches program t layout f holes s after new vs n
     reaching s levels activations new vs n memory described stands =
         record {
           activation = activation;
           memory = memory;
           described =
-              described-same program t.state s layout (wanted_of program t.state layout) (wanted_of program s layout) new described activations (λ a c v w.
+              described-same program t.state s layout (descriptor_slots program t.state layout) (descriptor_slots program s layout) new described activations (λ a c v w.
               sym (wanted-same program t.state s layout a c activations (λ d i is_loop. ap (λ o. slot_on_level o d i) (levels a) ∙ counts_stay a d i)) ∙ w);
           stands = stands;
         }
 
-    pub reached : (store : Store) (new : List Slot) (vs : List Value) (n : ℕ) → IsMemory program (state_with_store t store after) layout new holes → Describes program t.state layout (wanted_of program t.state layout) new
+    pub reached : (store : Store) (new : List Slot) (vs : List Value) (n : ℕ) → IsMemory program (state_with_store t store after) layout new holes → Describes program t.state layout (descriptor_slots program t.state layout) new
         → Stands (unit_addressed program (unit_of t.state t.level.activation)) after.statement after.work vs n → Reaches program t layout f holes (state_with_store t store after) after new vs n
     reached store = reaching (state_with_store t store after) (λ b. refl) refl
 
@@ -117,7 +117,7 @@ module _ (program : Units) (t : Top) (layout : Layout) (f : Frame) (contents : L
           store,
           goes_on v,
           is ∙ ap (after_answer program t goes_on) same.2,
-          reached (goes_on v) (activation v) (loops v) store (slice_set contents p slot) (values v) n (memory-written program t.state s layout contents holes same.0 p slot running.memory same.1 refl refl) (described-written program t.state layout (wanted_of program t.state layout) contents same.0 p slot running.memory.laid running.described same.1) (stands v),
+          reached (goes_on v) (activation v) (loops v) store (slice_set contents p slot) (values v) n (memory-written program t.state s layout contents holes same.0 p slot running.memory same.1 refl refl) (described-written program t.state layout (descriptor_slots program t.state layout) contents same.0 p slot running.memory.laid running.described same.1) (stands v),
         )
     replied (accessed p (waits full)) answer same is = (same.0, is ∙ ap (after_answer program t goes_on) same.2, same.1)
     replied (accessed p undefined) answer same is = (is ∙ ap (after_answer program t goes_on) same.2, line_is)

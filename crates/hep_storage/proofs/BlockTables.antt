@@ -4,11 +4,11 @@ use Rattle.std.specs.Option.{option_map}
 use Rattle.std.proofs.lemmas.Grind.{flat_map-append}
 use Rattle.std.proofs.lemmas.List.{take_more, take_all}
 use Rattle.hep_machine.specs.Words.{CommonBlock, Declarator, Name, Statement, BlockName, same_block, block_of, blocks_in, blocks_of_unit, names_in_block, entries_under, names_declared}
-use Rattle.hep_check.specs.Common as conditions
+use Rattle.hep_conditions.specs.Common as conditions
 use Rattle.hep_storage.specs.Blocks.{AreNoted, Holds, Has, HasContents, block, block_in, names_into, names_under, later_line}
 use Rattle.hep_storage.specs.declared.contents.Contents.{Contents}
 use Rattle.hep_machine.proofs.Locations.{equal_blocks, block-self}
-use Rattle.hep_symbols.proofs.News.{declared-append}
+use Rattle.hep_names.proofs.News.{declared-append}
 
 -- ---- lists of COMMON
 

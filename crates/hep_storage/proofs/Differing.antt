@@ -3,10 +3,10 @@ use Rattle.std.proofs.Common.{◌≡◌, ℕ, ◌+◌, Bool, false, not, ◌&&�
 use Rattle.std.specs.List.{flat_map}
 use Rattle.std.proofs.lemmas.Bool.Decides.{nat_tests}
 use Rattle.hep_machine.specs.Words.{Statement, Units, Repeated, BlockName, blocks_of}
-use Rattle.hep_check.specs.Common as conditions
-use Rattle.hep_check.specs.Known.{Known as Items}
-use Rattle.hep_check.specs.Words.{count_of_items, holds_at_each_place, least_line, line_when, least_line_of, reported, first_of}
-use Rattle.hep_check.proofs.Lines.{least_line-or, least_line_of-same, least_line_of-both, least_line_of-turned, reported-append, reported-of, reported-when, least_line_of-nones, least_line-assoc, least_line-comm}
+use Rattle.hep_conditions.specs.Common as conditions
+use Rattle.hep_conditions.specs.Known.{Known as Items}
+use Rattle.hep_conditions.specs.Words.{count_of_items, holds_at_each_place, least_line, line_when, least_line_of, reported, first_of}
+use Rattle.hep_conditions.proofs.Lines.{least_line-or, least_line_of-same, least_line_of-both, least_line_of-turned, reported-append, reported-of, reported-when, least_line_of-nones, least_line-assoc, least_line-comm}
 use Rattle.hep_storage.specs.Agreement.{Summed, nothing_summed, with_list, with_block, with_length, is_other_length, place_count, differs_from, line_after, least_after, least_of_blocks}
 use Rattle.hep_storage.specs.Blocks.{KnownPlaces, Block, run_of, known_places, block_in}
 use Rattle.hep_runs.specs.Runs.{alike, positions_in}

@@ -3,8 +3,8 @@ use Rattle.std.proofs.Common.{◌≡◌, ℕ, ◌+◌, Bool, true, false, not, �
 use Rattle.std.specs.Option.{option_map, option_map_or}
 use Rattle.hep_machine.specs.Words.{Name, Statement, same_name, name_eq, is_among, Repeated, BlockName, same_block, common_block}
 use Rattle.hep_source.proofs.NameTests.{equal_names, name_eq-is, same_name-turned}
-use Rattle.hep_check.specs.Common as conditions
-use Rattle.hep_check.specs.Words.{known_before, nothing_more}
+use Rattle.hep_conditions.specs.Common as conditions
+use Rattle.hep_conditions.specs.Words.{known_before, nothing_more}
 use Rattle.hep_storage.specs.Blocks.{AreNoted, KnownPlaces, is_first_block, names_into, no_run, places_of, run_of, run_of_name, with_noted, with_run, with_known_run, known_places, places_of_names}
 use Rattle.hep_runs.specs.Runs.{alike, positions_in}
 use Rattle.hep_runs.specs.Spread.{repeat_before}

@@ -5,13 +5,13 @@ use Rattle.std.proofs.lemmas.Bool.Decides.{nat_tests}
 use Rattle.std.specs.List.{list_any, flat_map}
 use Rattle.std.proofs.lemmas.List.Folds.{list_any-append, list_any_at}
 use Rattle.hep_machine.specs.Words.{Statement, Units, BlockName, same_block, is_block_among, blocks_of, block_of, blocks_in, blocks_of_unit, with_blocks, CommonBlock}
-use Rattle.hep_check.specs.Words.{least_line, least_line_of}
-use Rattle.hep_check.proofs.Lines.{least_line-none, least_line-assoc, least_line-comm, least_line_of-both, least_line_of-nones}
+use Rattle.hep_conditions.specs.Words.{least_line, least_line_of}
+use Rattle.hep_conditions.proofs.Lines.{least_line-none, least_line-assoc, least_line-comm, least_line_of-both, least_line_of-nones}
 use Rattle.hep_storage.specs.Agreement.{Summed, with_block, line_after, least_after, least_of_blocks, least_of_left, AreAmong}
 use Rattle.hep_storage.specs.Blocks.{Block, block_in, known_places}
 use Rattle.hep_machine.proofs.Locations.{equal_blocks, block-self, block-stays}
 use Rattle.hep_source.proofs.Tests.{any-flat, some-mapped}
-use Rattle.hep_check.specs.Common as conditions
+use Rattle.hep_conditions.specs.Common as conditions
 
 -- ---- the blocks of a unit are among those of its program
 

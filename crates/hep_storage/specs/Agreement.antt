@@ -1,7 +1,7 @@
 -- What the units before say of a common block in a later one: X3.9-1978, 8.3.
 use Rattle.std.specs.Prelude.{◌≡◌, ℕ, Bool, true, false, not, ◌&&◌, ◌||◌, nat_eq, if◌then◌else◌, List, [], ◌∷◌, length, Option, Some, None, is_some}
 use Rattle.hep_machine.specs.Words.{Units, BlockName, is_block_among}
-use Rattle.hep_check.specs.Words.{least_line, line_when, least_line_of}
+use Rattle.hep_conditions.specs.Words.{least_line, line_when, least_line_of}
 use Rattle.hep_storage.specs.Blocks.{KnownPlaces, Block, block_in}
 use Rattle.hep_runs.specs.Runs.{positions_in}
 use Rattle.hep_storage.specs.Shared.{departs, in_common}

@@ -3,8 +3,8 @@ use Rattle.std.specs.Prelude.{◌≡◌, ℕ, Bool, true, false, if◌then◌els
 use Rattle.std.specs.Option.{option_map, option_map_or}
 use Rattle.std.specs.List.{list_any}
 use Rattle.hep_machine.specs.Words.{CommonBlock, Name, Statement, is_among, same_name, Repeated, BlockName, same_block, block_of, common_block, entries_under, names_declared}
-use Rattle.hep_check.specs.Common as conditions
-use Rattle.hep_check.specs.Known.{Known as Items}
+use Rattle.hep_conditions.specs.Common as conditions
+use Rattle.hep_conditions.specs.Known.{Known as Items}
 use Rattle.hep_storage.specs.declared.contents.Contents.{Contents}
 use Rattle.hep_runs.specs.declared.runs.Known.{Known}
 use Rattle.hep_runs.specs.Runs.{positions_in}

@@ -1,17 +1,17 @@
 //! Condition 305: units have a common block otherwise (X3.9-1978, 8.3.3 to 8.3.5).
 ghost use Rattle.std.specs.Prelude.{◌≡◌, List, None, IfOk};
 ghost use Rattle.hep_machine.specs.Words.{BlockName, blocks_of};
-ghost use Rattle.hep_check.specs.Common as conditions;
-ghost use Rattle.hep_check.specs.Words.{first_of};
+ghost use Rattle.hep_conditions.specs.Common as conditions;
+ghost use Rattle.hep_conditions.specs.Words.{first_of};
 ghost use Rattle.hep_storage.specs.Agreement as agreement;
 ghost use Rattle.hep_storage.specs.Table.{block_at, summed_in, entry_at};
 
 use crate::blocks::read_blocks;
 use crate::table::{Table, settle};
-use hep_check::Violation;
-use hep_check::reported::{lesser, reported};
+use hep_conditions::Violation;
+use hep_conditions::reported::{lesser, reported};
+use hep_names::ProgramSymbols;
 use hep_source::Name;
-use hep_symbols::ProgramSymbols;
 use indexmap::{IndexMap, IndexSet};
 use std::alloc::{AllocError, Global};
 

@@ -10,9 +10,9 @@ ghost use Rattle.hep_storage.specs.Table.{block_at, summed_in, AreRead, AreListe
 
 use crate::contents::Noted;
 use crate::table::{Entry, Table};
+use hep_names::Symbols;
+use hep_names::declarators::{block_of, blocks_in};
 use hep_source::{CommonBlock, Name};
-use hep_symbols::Symbols;
-use hep_symbols::declarators::{block_of, blocks_in};
 use hep_types::Shapes;
 use std::alloc::{AllocError, Global};
 

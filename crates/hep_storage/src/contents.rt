@@ -1,5 +1,6 @@
 //! What a unit has in a common block, as far as it is known (X3.9-1978, 8.3).
-ghost use Rattle.std.specs.Prelude.{◌≡◌, ◌+◌, ◌++◌, ◌∷◌, [], List, Bool, true, false, not, ◌&&◌, ◌||◌, Option, Some, None, if◌then◌else◌, IfOk, OnOk, IfSome};
+ghost use Rattle.std.specs.Prelude.{◌≡◌, ◌+◌, ◌++◌, ◌∷◌, [], List, Bool, true, false, not, ◌&&◌, ◌||◌, Option, Some, None, if◌then◌else◌};
+ghost use Rattle.std.specs.Prelude.{IfOk, OnOk, IfSome};
 ghost use Rattle.std.specs.Option.{option_eq, option_map, option_map_or, option_and_then};
 ghost use Rattle.indexmap.specs.IndexSet.{contains};
 ghost use Rattle.hep_machine.specs.Words.{name_eq, same_name, BlockName, same_block, names_declared, elements};
@@ -8,9 +9,9 @@ ghost use Rattle.hep_storage.specs.Blocks as blocks;
 ghost use Rattle.hep_runs.specs.Runs.{positions_in};
 ghost use Rattle.hep_types.specs.Known.{known};
 
+use hep_names::Symbols;
 use hep_runs::{Known, Position, Run};
 use hep_source::{Declarator, Name};
-use hep_symbols::Symbols;
 use hep_types::{KnownShape, Shapes};
 use indexmap::IndexSet;
 use std::alloc::{AllocError, Global};

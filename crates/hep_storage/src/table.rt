@@ -10,7 +10,7 @@ ghost use Rattle.hep_storage.specs.Table.{contents_in, summed_in, block_at, entr
 
 use crate::contents::Contents;
 use crate::summary::Summary;
-use hep_check::reported::line_when;
+use hep_conditions::reported::line_when;
 use hep_source::Name;
 use indexmap::IndexMap;
 use std::alloc::Global;

@@ -6,7 +6,7 @@ mod lowering;
 mod parts;
 mod workers;
 
-use hep_checked::check;
+use hep_check::check;
 use hep_image::Image;
 use hep_lower::lower;
 use hep_parse::parse;

@@ -4,7 +4,7 @@ use Rattle.std.specs.List.{filter}
 use Rattle.hep_machine.specs.Words.{living, last_process, next_of_ready}
 use Rattle.hep_scheduler.specs.Value.{CoreValue, HasNoStop, IsChoice, ready_of, state_of}
 use Rattle.hep_scheduler.specs.declared.fault.ChooseFault.TheVariants as choosing
-use Rattle.hep_scheduler.specs.declared.stop.Stop.TheVariants.{StepLimit}
+use Rattle.hep_scheduler.specs.declared.stop.ChoiceStop.TheVariants.{StepLimit}
 use Rattle.hep_scheduler.specs.declared.stop.Turn.{Turn}
 use Rattle.hep_tickets.specs.declared.fault.CommitFault.{CommitFault}
 use Rattle.hep_tickets.specs.declared.fault.CommitFault.TheVariants as committing

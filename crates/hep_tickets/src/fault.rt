@@ -1,6 +1,6 @@
 //! Why a call of a shared core is refused.
 
-use hep_scheduler::Stop;
+use hep_scheduler::ChoiceStop;
 use thiserror::Error;
 
 /// Why a process isn't chosen or checked out. A refused call changes nothing, save that a stop may be set.
@@ -8,7 +8,7 @@ use thiserror::Error;
 pub enum ShareFault {
     /// The core has stopped, now or before, for this reason.
     #[error("stopped")]
-    Stopped(Stop),
+    Stopped(ChoiceStop),
     /// The process was never made or has ended.
     #[error("no such process")]
     NoSuchProcess,
@@ -28,7 +28,7 @@ pub enum ShareFault {
 pub enum CommitFault {
     /// The core has stopped, now or before, for this reason.
     #[error("stopped")]
-    Stopped(Stop),
+    Stopped(ChoiceStop),
     /// The ticket isn't the one that is out for its process.
     #[error("stale")]
     Stale,

@@ -6,7 +6,7 @@ ghost use Rattle.hep_tickets.specs.Shared.{IsCancelled, IsCheckedOut, IsChosen, 
 
 use crate::fault::{CommitFault, ShareFault};
 use crate::ticket::{Segment, Ticket, TicketId};
-use hep_scheduler::{ChooseFault, Core, Stop, Turn};
+use hep_scheduler::{ChoiceStop, ChooseFault, Core, Turn};
 use std::alloc::Global;
 use std::marker::Model;
 
@@ -139,7 +139,7 @@ impl SharedCore {
             return Err(ShareFault::NoTicket);
         }
         if self.core.stop_where_full() {
-            return Err(ShareFault::Stopped(Stop::StepLimit));
+            return Err(ShareFault::Stopped(ChoiceStop::StepLimit));
         }
         let id = TicketId {
             number: self.given + 1,

@@ -13,11 +13,11 @@ use Rattle.hep_code.specs.declared.instruction.Operation.TheVariants.{Evaluate}
 use Rattle.hep_code.specs.declared.variable.Variable.{Variable}
 use Rattle.hep_code.specs.Words.{evaluation_of, operands_of_redex, IsNext, IsPastPushes, IsRedex, Addressing, IsAddressed, IsSame, is_asynchronous}
 use Rattle.hep_code.proofs.Ahead.{step_is_ahead}
-use Rattle.hep_frames.specs.Words.{address}
+use Rattle.hep_layout.specs.Words.{address}
 use Rattle.hep_image.specs.Finding.{address_of, cells_in}
 use Rattle.hep_image.specs.Places.{variable_of}
-use Rattle.hep_needs.specs.Needs.{if_so, named_location, touched_by, touched_by_next}
-use Rattle.hep_needs.specs.Needs as needs
+use Rattle.hep_needs_laws.specs.Needs.{if_so, named_location, touched_by, touched_by_next}
+use Rattle.hep_needs_laws.specs.Needs as needs
 use Rattle.hep_step.specs.Ready.{last_operands}
 use Rattle.hep_step.specs.Simulation.{IsRunning, addressed_on_top, arrays_on_top, code_on_top, variable_in}
 use Rattle.hep_step.proofs.Replied.{arity_is, in_front}

@@ -9,7 +9,7 @@ use Rattle.hep_code.specs.declared.instruction.Instruction.TheVariants.{Step}
 use Rattle.hep_code.specs.declared.instruction.Operation.{Operation}
 use Rattle.hep_code.specs.declared.instruction.Operation.TheVariants.{Purge}
 use Rattle.hep_code.specs.Words.{IsNext, table_of}
-use Rattle.hep_needs.specs.Needs.{touched_by, touched_by_next}
+use Rattle.hep_needs_laws.specs.Needs.{touched_by, touched_by_next}
 use Rattle.hep_step.specs.Simulation.{IsRunning, addressed_on_top, code_on_top, is_left_out}
 use Rattle.hep_step.proofs.Running.{action_made, next_is}
 use Rattle.hep_touched.proofs.Next.{purge_is, touched_is}

@@ -3,7 +3,7 @@ use Rattle.std.proofs.Common.{◌≡◌, ℕ, List, ap}
 use Rattle.hep_machine.specs.Words.{Value, Units, next_of, is_purge, purges, top_purges, Frame, Layout, Top, scope_of, unit_on_top}
 use Rattle.hep_machine.specs.declared.slot.Slot.{Slot}
 use Rattle.hep_arena.specs.Holes.{Hole}
-use Rattle.hep_needs.specs.Needs.{on_top, touched_by, touched_by_next}
+use Rattle.hep_needs_laws.specs.Needs.{on_top, touched_by, touched_by_next}
 use Rattle.hep_step.specs.Simulation.{IsRunning}
 
 module _ (program : Units) (t : Top) (layout : Layout) (f : Frame) (contents : List Slot) (holes : List Hole) (operands : List Value) (index : ℕ) (running : IsRunning program t layout f contents holes operands index) where

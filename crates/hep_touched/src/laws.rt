@@ -8,8 +8,8 @@ ghost use Rattle.hep_code.specs.declared.instruction.Instruction.TheVariants.{St
 ghost use Rattle.hep_code.specs.declared.instruction.Operation.{Operation};
 ghost use Rattle.hep_code.specs.declared.instruction.Operation.TheVariants.{Purge};
 ghost use Rattle.hep_code.specs.Words.{IsPastPushes};
-ghost use Rattle.hep_frames.specs.Words.{address};
-ghost use Rattle.hep_needs.specs.Needs.{touched_by};
+ghost use Rattle.hep_layout.specs.Words.{address};
+ghost use Rattle.hep_needs_laws.specs.Needs.{touched_by};
 ghost use Rattle.hep_step.specs.Simulation.{IsRunning, arrays_on_top, code_on_top, is_left_out};
 ghost use Rattle.hep_touched.specs.Touched.{touched_at};
 

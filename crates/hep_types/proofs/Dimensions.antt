@@ -5,8 +5,8 @@ use Rattle.std.specs.List.{list_all, list_any, flat_map}
 use Rattle.std.specs.Option.{option_map}
 use Rattle.std.proofs.lemmas.List.Folds.{list_any-append}
 use Rattle.hep_machine.specs.Words.{Name, same_name, is_among, index_among, Declarator, Dimension, Statement, Constants, bounds_of, value_among, is_nonempty, is_dummy, Bounds}
-use Rattle.hep_check.specs.Words.{Parameters, is_dimension, are_bounds_open, is_shape_if_known, has_bounds}
-use Rattle.hep_symbols.proofs.Notes.{not-empty}
+use Rattle.hep_conditions.specs.Words.{Parameters, is_dimension, are_bounds_open, is_shape_if_known, has_bounds}
+use Rattle.hep_names.proofs.Notes.{not-empty}
 use Rattle.hep_source.proofs.Tests.{some-mapped}
 
 -- a name that has a position among others is one of them

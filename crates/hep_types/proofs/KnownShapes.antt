@@ -2,8 +2,8 @@
 use Rattle.std.proofs.Common.{◌≡◌, Bool, true, false, not, ◌&&◌, if◌then◌else◌, Option, Some, None, List, ◌∷◌, refl, ap, sym, ◌∙◌}
 use Rattle.std.specs.Option.{option_or, option_map}
 use Rattle.hep_machine.specs.Words.{Declarator, Name, Statement, same_name, value_among, bounds_of, declarators_in, constants_in, declarator_among, is_nonempty, Bounds}
-use Rattle.hep_check.specs.Words.{Parameters, shape_by_declarator, known_shape_from, with_parameters, has_bounds, are_bounds_open}
-use Rattle.hep_symbols.specs.Tables.{by_name, by_declarator, given}
+use Rattle.hep_conditions.specs.Words.{Parameters, shape_by_declarator, known_shape_from, with_parameters, has_bounds, are_bounds_open}
+use Rattle.hep_names.specs.Tables.{by_name, by_declarator, given}
 use Rattle.hep_source.proofs.NameTests.{same_name-turned}
 use Rattle.hep_types.specs.Shapes.{shape_or, shape_among}
 

@@ -1,8 +1,8 @@
 -- 302, as one pass over a unit tells it.
 use Rattle.std.proofs.Common.{◌≡◌, ℕ, Bool, not, Option, List, [], ◌∷◌, refl, ap, sym, ◌∙◌}
 use Rattle.hep_machine.specs.Words.{Statement}
-use Rattle.hep_check.specs.Words.{Parameters, is_statement_typed, type_violations_from, reported, least_line, line_when, first_of, when, at_line}
-use Rattle.hep_check.proofs.Lines.{least_line-assoc, reported-append, reported-when}
+use Rattle.hep_conditions.specs.Words.{Parameters, is_statement_typed, type_violations_from, reported, least_line, line_when, first_of, when, at_line}
+use Rattle.hep_conditions.proofs.Lines.{least_line-assoc, reported-append, reported-when}
 use Rattle.hep_types.specs.Passes.{parameters_after, least_untyped}
 
 pub reported-untyped : (unit : List Statement) (ps : Parameters) (ss : List Statement) → first_of (type_violations_from unit ps ss) ≡ reported 302 (least_untyped unit ps ss)

@@ -2,7 +2,7 @@
 use Rattle.std.specs.Prelude.{Bool, not, ◌&&◌, if◌then◌else◌, List, Option, None}
 use Rattle.std.specs.List.{list_any}
 use Rattle.hep_machine.specs.Words.{Declarator, Dimension, Statement, value_among, bounds_of, Bounds}
-use Rattle.hep_check.specs.Words.{Parameters, is_open, has_bounds, are_bounds_open, trees_in_dimension}
+use Rattle.hep_conditions.specs.Words.{Parameters, is_open, has_bounds, are_bounds_open, trees_in_dimension}
 
 abbrev pub is_dimension_open : List Statement → Parameters → Dimension → Bool
 is_dimension_open unit ps d = list_any (is_open unit ps) (trees_in_dimension d)

@@ -1,7 +1,7 @@
 -- 302, as one pass over a unit tells it.
 use Rattle.std.specs.Prelude.{ℕ, not, List, [], ◌∷◌, Option, None}
 use Rattle.hep_machine.specs.Words.{Statement, constants_in}
-use Rattle.hep_check.specs.Words.{Parameters, with_parameters, is_statement_typed, least_line, line_when}
+use Rattle.hep_conditions.specs.Words.{Parameters, with_parameters, is_statement_typed, least_line, line_when}
 
 abbrev pub parameters_after : List Statement → Parameters → Statement → Parameters
 parameters_after unit ps s = with_parameters unit ps (constants_in s.form)

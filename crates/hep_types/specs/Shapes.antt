@@ -2,8 +2,8 @@
 use Rattle.std.specs.Prelude.{List, [], Option, Some, None}
 use Rattle.std.specs.Option.{option_map}
 use Rattle.hep_machine.specs.Words.{Declarator, Name, Statement, declarator_among, Bounds}
-use Rattle.hep_check.specs.Words.{Parameters}
-use Rattle.hep_symbols.specs.Tables.{by_declarator}
+use Rattle.hep_conditions.specs.Words.{Parameters}
+use Rattle.hep_names.specs.Tables.{by_declarator}
 use Rattle.hep_types.specs.Bounds.{shape_given}
 
 -- what a table has for a name, else this

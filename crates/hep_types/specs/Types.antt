@@ -2,7 +2,7 @@
 use Rattle.std.specs.Prelude.{Bool, true, ◌&&◌, List, map}
 use Rattle.hep_machine.specs.Words.{Tree, occurrence, ValueType, Form, Statement}
 use Rattle.hep_source.specs.declared.statement.Form.TheVariants as form
-use Rattle.hep_check.specs.Words.{KnownType, is_of, is_typed, is_plain_integer_scalar}
+use Rattle.hep_conditions.specs.Words.{KnownType, is_of, is_typed, is_plain_integer_scalar}
 
 -- right in itself, and of this type
 abbrev pub is_typed_by : Bool → ValueType → KnownType → Bool

@@ -7,8 +7,8 @@ ghost use Rattle.hep_source.specs.declared.name.Occurrence.{Occurrence as PureOc
 ghost use Rattle.hep_machine.specs.Arithmetic as arithmetic;
 ghost use Rattle.hep_machine.specs.Constants as values;
 ghost use Rattle.hep_machine.specs.Words.{value_among, is_nonempty};
-ghost use Rattle.hep_check.specs.Constants as conditions;
-ghost use Rattle.hep_check.specs.Statements as statements;
+ghost use Rattle.hep_conditions.specs.Constants as conditions;
+ghost use Rattle.hep_conditions.specs.Statements as statements;
 ghost use Rattle.hep_types.specs.Bounds as walks;
 
 use crate::parameters::has_value;
@@ -16,9 +16,9 @@ use crate::scope::Scope;
 use crate::types::is_typed_as;
 use crate::variables::{is_dummy, is_plain_integer_scalar};
 use hep_machine::Bound;
+use hep_names::{Symbols, lists, occurrences};
 use hep_shape::Shape;
 use hep_source::{Declarator, Dimension, Expr, Name, Occurrence, UpperBound, Value, ValueType};
-use hep_symbols::{Symbols, lists, occurrences};
 use hep_values::{Constants, bounds_of};
 use std::alloc::{AllocError, Global};
 

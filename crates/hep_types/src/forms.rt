@@ -1,13 +1,13 @@
 //! Types in executable statements (X3.9-1978, sections 10, 11 and 12, and docs/LANGUAGE.md, 9).
 ghost use Rattle.std.specs.Prelude.{◌≡◌, option_to_list};
 ghost use Rattle.std.specs.List.{list_all};
-ghost use Rattle.hep_check.specs.Types as types;
+ghost use Rattle.hep_conditions.specs.Types as types;
 
 use crate::types::{
     KnownType, agree, are_actuals, is_list_typed, is_of, is_typed, is_typed_as, type_of_tree,
 };
+use hep_names::{Meaning, Symbols};
 use hep_source::{DoControl, Expr, Form, PrintItem, Target, ValueType};
-use hep_symbols::{Meaning, Symbols};
 
 /// The subscripts of what is assigned, given a value by DATA or purged.
 pub fn is_target_typed(symbols: &Symbols, target: &Target) -> bool

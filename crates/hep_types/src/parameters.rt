@@ -2,16 +2,16 @@
 ghost use Rattle.std.specs.Prelude.{◌≡◌, if◌then◌else◌, is_some, map, IfOk, OnOk};
 ghost use Rattle.std.specs.List.{list_all};
 ghost use Rattle.hep_source.specs.declared.name.Occurrence.{Occurrence as PureOccurrence};
-ghost use Rattle.hep_check.specs.Constants as conditions;
-ghost use Rattle.hep_check.specs.Statements.{NameWithList as PureReference};
+ghost use Rattle.hep_conditions.specs.Constants as conditions;
+ghost use Rattle.hep_conditions.specs.Statements.{NameWithList as PureReference};
 ghost use Rattle.hep_machine.specs.Words.{value_among, with_constant, listed_meaning};
-ghost use Rattle.hep_symbols.specs.Lists.{listed};
+ghost use Rattle.hep_names.specs.Lists.{listed};
 ghost use Rattle.hep_values.specs.Evaluation as walks;
 
 use crate::scope::Scope;
 use crate::types::{agree, is_typed, is_typed_as, type_of_tree};
+use hep_names::{Meaning, NameWithList, Symbols, lists, occurrences};
 use hep_source::{Expr, Name, NamedConstant, Occurrence, Value, ValueType};
-use hep_symbols::{Meaning, NameWithList, Symbols, lists, occurrences};
 use hep_values::evaluation::{Evaluation, evaluate};
 use hep_values::{Constants, NameSet};
 use std::alloc::{AllocError, Global};
@@ -31,7 +31,7 @@ impl Drop for Parameters {
 }
 
 impl Model for Parameters {
-    ghost use Rattle.hep_check.specs.Constants.{Parameters as PureParameters};
+    ghost use Rattle.hep_conditions.specs.Constants.{Parameters as PureParameters};
     ghost use Rattle.hep_values.specs.Evaluation.{parameters};
 
     ghost Value = { PureParameters };

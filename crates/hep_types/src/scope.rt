@@ -1,6 +1,6 @@
 //! What the conditions of a statement are asked by.
 use crate::parameters::Parameters;
-use hep_symbols::Symbols;
+use hep_names::Symbols;
 use std::alloc::Global;
 
 /// What is known of the names of a unit at a statement: its table, and the constants given before.

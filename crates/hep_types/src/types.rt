@@ -1,12 +1,12 @@
 //! Types of expressions (X3.9-1978, 6.1.4, 6.3.3, 6.4.2 and 15.10).
 ghost use Rattle.std.specs.Prelude.{◌≡◌};
 ghost use Rattle.hep_machine.specs.Words.{trees_of};
-ghost use Rattle.hep_check.specs.Types as types;
-ghost use Rattle.hep_symbols.specs.Meanings.{meaning};
+ghost use Rattle.hep_conditions.specs.Types as types;
+ghost use Rattle.hep_names.specs.Meanings.{meaning};
 ghost use Rattle.hep_types.specs.Types as walks;
 
+use hep_names::{Meaning, Symbols};
 use hep_source::{Expr, Name, Node, Operator, StateFunction, Value, ValueType};
-use hep_symbols::{Meaning, Symbols};
 
 /// The type of an expression, as far as it is known: integer, logical, or none where it is real, which no
 /// value is here; nothing where another violation leaves it open.
@@ -133,7 +133,7 @@ fn type_of_listed(symbols: &Symbols, listed: Meaning, name: &Name, arguments: &[
 }
 
 // The subscripts of an array are as many as its dimensions (5.4.1).
-#[tactic(auto, using(hep_symbols::proofs::Passes::count_is_length))]
+#[tactic(auto, using(hep_names::proofs::Passes::count_is_length))]
 fn has_dimensions(symbols: &Symbols, name: &Name, subscripts: &[Expr]) -> bool
     ensures { result ≡ types.has_dimensions symbols.now name.now (trees_of subscripts.now) }
 {

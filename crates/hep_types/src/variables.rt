@@ -1,12 +1,12 @@
 //! Variables by which a DO counts, or a bound is adjusted (X3.9-1978, 5.5.1 and 11.10).
 ghost use Rattle.std.specs.Prelude.{◌≡◌, IfOk};
 ghost use Rattle.hep_machine.specs.Declarations as declarations;
-ghost use Rattle.hep_check.specs.Types as types;
+ghost use Rattle.hep_conditions.specs.Types as types;
 ghost use Rattle.hep_types.specs.Types as walks;
 
 use crate::types::same_declared;
+use hep_names::Symbols;
 use hep_source::{Form, Name, ValueType};
-use hep_symbols::Symbols;
 use std::alloc::{AllocError, Global};
 
 /// A dummy argument of the unit.

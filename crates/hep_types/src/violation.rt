@@ -1,10 +1,10 @@
 //! 302: types, constants and bounds (X3.9-1978, sections 5, 6, 8, 9, 10 and 11).
 ghost use Rattle.std.specs.Prelude.{◌≡◌, IfOk, OnOk};
 ghost use Rattle.std.specs.List.{list_all};
-ghost use Rattle.hep_check.specs.Constants as conditions;
-ghost use Rattle.hep_check.specs.Types as types;
-ghost use Rattle.hep_check.specs.Words.{first_of};
-ghost use Rattle.hep_symbols.specs.Statements.{rest_after};
+ghost use Rattle.hep_conditions.specs.Constants as conditions;
+ghost use Rattle.hep_conditions.specs.Types as types;
+ghost use Rattle.hep_conditions.specs.Words.{first_of};
+ghost use Rattle.hep_names.specs.Statements.{rest_after};
 ghost use Rattle.hep_types.specs.Passes as passes;
 
 use crate::bounds::has_bounds;
@@ -12,11 +12,11 @@ use crate::forms::{is_form_typed, is_target_typed};
 use crate::parameters::{Parameters, is_constant_of};
 use crate::scope::Scope;
 use crate::types::is_typed_as;
-use hep_check::Violation;
-use hep_check::reported::{lesser, line_when, reported};
+use hep_conditions::Violation;
+use hep_conditions::reported::{lesser, line_when, reported};
+use hep_names::Symbols;
+use hep_names::declarators::array_declarators;
 use hep_source::{DataGroup, Declarator, Expr, Statement, Target, ValueType};
-use hep_symbols::Symbols;
-use hep_symbols::declarators::array_declarators;
 use hep_values::statements::{constants_in, groups_in};
 use std::alloc::{AllocError, Global};
 

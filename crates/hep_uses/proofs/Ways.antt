@@ -7,12 +7,12 @@ use Rattle.std.proofs.lemmas.Bool.Decides.{nat_tests}
 use Rattle.std.proofs.lemmas.List.{drop_more}
 use Rattle.hep_machine.specs.Words.{Name, Statement, name_eq, same_name, Units, CommonBlock, blocks_in, entries_of_blocks, is_nonempty, names_declared}
 use Rattle.hep_source.proofs.NameTests.{equal_names, name_eq-is, same_name-turned}
-use Rattle.hep_symbols.proofs.News.{declared-append}
-use Rattle.hep_check.specs.Words.{Use, overlap, letter_ranges_of, letters_repeated, uses_by, repeated, both_ways, given_twice, used_both_ways, misused_constants, dummy_names, typed_names, bounded_names, common_names, constant_names, data_names, assigned_names, called_names, variable_names, ambiguous_in, unit_uses, block_names, ambiguous_units, reported, least_line, line_when, least_line_of, first_of, when, at_line, repeated_after}
-use Rattle.hep_check.proofs.Lines.{reported-append, reported-of, reported-when, least_line-assoc, least_line-none, least_line_of-same, least_line_of-turned}
+use Rattle.hep_names.proofs.News.{declared-append}
+use Rattle.hep_conditions.specs.Words.{Use, overlap, letter_ranges_of, letters_repeated, uses_by, repeated, both_ways, given_twice, used_both_ways, misused_constants, dummy_names, typed_names, bounded_names, common_names, constant_names, data_names, assigned_names, called_names, variable_names, ambiguous_in, unit_uses, block_names, ambiguous_units, reported, least_line, line_when, least_line_of, first_of, when, at_line, repeated_after}
+use Rattle.hep_conditions.proofs.Lines.{reported-append, reported-of, reported-when, least_line-assoc, least_line-none, least_line_of-same, least_line_of-turned}
 use Rattle.hep_uses.specs.declared.uses.Way.{Way}
 use Rattle.hep_uses.specs.declared.uses.Way.TheVariants.{Dummy, Common, Constant, Called, Variable}
-use Rattle.hep_symbols.specs.Tables.{are_new, names_in_common}
+use Rattle.hep_names.specs.Tables.{are_new, names_in_common}
 use Rattle.hep_uses.specs.Uses.{uses_of, used_at}
 use Rattle.hep_uses.specs.Ambiguous.{none_seen, with_seen, least_repeated, least_repeated_name, least_given_twice, least_named, later_line, least_met, least_both_ways, least_of_two_ways, least_misused, least_overlapping, given_once, no_constants, least_ambiguous, least_ambiguous_unit}
 

@@ -3,7 +3,7 @@ use Rattle.std.specs.Prelude.{ℕ, ◌+◌, max, Bool, false, ◌||◌, nat_le, 
 use Rattle.std.specs.List.{flat_map, list_any}
 use Rattle.std.specs.Option.{option_map}
 use Rattle.hep_machine.specs.Words.{LetterRange, Name, Statement, same_name, Units}
-use Rattle.hep_check.specs.Words.{Use, overlap, letter_ranges_of, least_line, line_when, least_line_of, least_line_where}
+use Rattle.hep_conditions.specs.Words.{Use, overlap, letter_ranges_of, least_line, line_when, least_line_of, least_line_where}
 use Rattle.hep_uses.specs.declared.uses.Way.{Way}
 use Rattle.hep_uses.specs.declared.uses.Way.TheVariants.{Header, Block, Dummy, Typed, Bounded, Common, Constant, Data, Assigned, Called, Variable}
 use Rattle.hep_uses.specs.Uses.{uses_of}

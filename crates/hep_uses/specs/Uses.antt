@@ -2,7 +2,7 @@
 use Rattle.std.specs.Prelude.{ℕ, Bool, not, List, map}
 use Rattle.std.specs.List.{filter}
 use Rattle.hep_machine.specs.Words.{Declarator, Name, Occurrence, Form, Statement, names_of_occurrences, is_constant_name, is_nonempty, names_declared}
-use Rattle.hep_check.specs.Words.{Use, uses_by, header_name, block_names, dummy_names, typed_names, bounded_names, common_names, constant_names, data_names, assigned_names, called_names, variable_names, Calling, calls_in}
+use Rattle.hep_conditions.specs.Words.{Use, uses_by, header_name, block_names, dummy_names, typed_names, bounded_names, common_names, constant_names, data_names, assigned_names, called_names, variable_names, Calling, calls_in}
 use Rattle.hep_uses.specs.declared.uses.Way.{Way}
 use Rattle.hep_uses.specs.declared.uses.Way.TheVariants as ways
 

@@ -1,7 +1,7 @@
 //! 309: a name stands for two things, or is given something twice (X3.9-1978, 18.1 and 18.2).
 ghost use Rattle.std.specs.Prelude.{◌≡◌, true, None, IfOk};
-ghost use Rattle.hep_check.specs.Names as conditions;
-ghost use Rattle.hep_check.specs.Words.{first_of};
+ghost use Rattle.hep_conditions.specs.Names as conditions;
+ghost use Rattle.hep_conditions.specs.Words.{first_of};
 ghost use Rattle.hep_machine.specs.Words.{is_nonempty};
 ghost use Rattle.hep_uses.specs.Ambiguous as passes;
 ghost use Rattle.hep_uses.specs.Uses as rows;
@@ -9,9 +9,9 @@ ghost use Rattle.hep_uses.specs.Uses as rows;
 use crate::letters::{least_overlapping, letter_ranges};
 use crate::repeated::{least_both_ways, least_met, least_repeated, lines_by_name};
 use crate::uses::{Use, Way, uses_in_program, uses_of};
-use hep_check::Violation;
-use hep_check::reported::{lesser, reported};
-use hep_symbols::{ProgramSymbols, Symbols};
+use hep_conditions::Violation;
+use hep_conditions::reported::{lesser, reported};
+use hep_names::{ProgramSymbols, Symbols};
 use std::alloc::{AllocError, Global};
 
 // No name is used twice in a way, as the tables of the unit know already: they were made by names of COMMON, each once.

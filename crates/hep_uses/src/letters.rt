@@ -2,10 +2,10 @@
 ghost use Rattle.std.specs.Prelude.{◌≡◌, ◌<◌, ◌++◌, None, length, get_or, slice_set, IfOk, OnOk};
 ghost use Rattle.std.specs.List.{flat_map};
 ghost use Rattle.hep_source.specs.declared.declaration.ImplicitGroup.{ImplicitGroup as PureGroup};
-ghost use Rattle.hep_check.specs.Names as conditions;
+ghost use Rattle.hep_conditions.specs.Names as conditions;
 ghost use Rattle.hep_uses.specs.Ambiguous as passes;
 
-use hep_check::reported::{lesser, line_when};
+use hep_conditions::reported::{lesser, line_when};
 use hep_source::{Form, ImplicitGroup, LetterRange, Statement};
 use std::alloc::{AllocError, Global};
 

@@ -4,11 +4,11 @@ ghost use Rattle.indexmap.specs.IndexMap.{get};
 ghost use Rattle.indexmap.specs.IndexSet.{contains};
 ghost use Rattle.hep_machine.specs.Words.{same_name, name_eq};
 ghost use Rattle.hep_source.specs.declared.name.Name.{Name as PureName};
-ghost use Rattle.hep_check.specs.Reported as reported;
+ghost use Rattle.hep_conditions.specs.Reported as reported;
 ghost use Rattle.hep_uses.specs.Ambiguous as passes;
 
 use crate::uses::Use;
-use hep_check::reported::{lesser, line_when};
+use hep_conditions::reported::{lesser, line_when};
 use hep_source::Name;
 use indexmap::{IndexMap, IndexSet};
 use std::alloc::{AllocError, Global};

@@ -4,17 +4,17 @@ ghost use Rattle.std.specs.List.{flat_map};
 ghost use Rattle.hep_source.specs.declared.declaration.CommonBlock.{CommonBlock as PureBlock};
 ghost use Rattle.hep_source.specs.Units as units;
 ghost use Rattle.hep_machine.specs.Declarations as declarations;
-ghost use Rattle.hep_check.specs.Names as conditions;
-ghost use Rattle.hep_check.specs.Statements as statements;
+ghost use Rattle.hep_conditions.specs.Names as conditions;
+ghost use Rattle.hep_conditions.specs.Statements as statements;
 ghost use Rattle.hep_uses.specs.Uses as rows;
 ghost use Rattle.hep_uses.specs.Uses.{used_at};
 
+use hep_names::declarators::{block_of, blocks_in};
+use hep_names::occurrences::{occurrences, occurrences_in_groups};
+use hep_names::{ProgramSymbols, Symbols};
 use hep_source::{
     CommonBlock, DataGroup, Declarator, Form, Name, NamedConstant, Occurrence, Statement, Target,
 };
-use hep_symbols::declarators::{block_of, blocks_in};
-use hep_symbols::occurrences::{occurrences, occurrences_in_groups};
-use hep_symbols::{ProgramSymbols, Symbols};
 use hep_values::statements::{constants_in, groups_in};
 use std::alloc::{AllocError, Global};
 

@@ -114,14 +114,6 @@ number-within bs ss c n h k = by (before_element 1 bs ss) refl k
         let m = some-equal (1 + q) n g in
         (omega (arith, m), omega (arith, m, less))
 
--- a number is at least 1
-pub number-from_one : (bs : Bounds) (ss : List ℤ) (n : ℕ) → element_number bs ss ≡ Some n → 1 ≤ n
-number-from_one bs ss n k = by (before_element 1 bs ss) k
-  where
-    by : (o : Option ℕ) → sum 1 o ≡ Some n → 1 ≤ n
-    by None g = absurd cc
-    by (Some q) g = let m = some-equal (1 + q) n g in omega (arith, m)
-
 -- ---- no two elements have one number
 
 -- a quotient and its remainder follow from the number

@@ -3,7 +3,7 @@ use Rattle.std.proofs.Common.{◌≡◌, Bool, true, false, if◌then◌else◌,
 use Rattle.std.specs.Option.{option_or}
 use Rattle.hep_machine.specs.Words.{same_name, NamedConstant, Name, Statement, Value, Constants, value_among, with_constant, given_by, value_of, constants_in, named_constants}
 use Rattle.hep_source.proofs.NameTests.{equal_names}
-use Rattle.hep_check.proofs.Agreeing.{given_by-append}
+use Rattle.hep_conditions.proofs.Agreeing.{given_by-append}
 
 pub on-so : {A E P Q : Type 0} (r : Result A E) → OnOk r P → (P → Q) → OnOk r Q
 on-so (Ok x) p f = f p

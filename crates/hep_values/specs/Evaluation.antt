@@ -2,7 +2,7 @@
 use Rattle.std.specs.Prelude.{Bool, not, ◌||◌, List, [], ◌∷◌, ◌++◌, Option, Some, None}
 use Rattle.std.specs.List.{list_all, list_any}
 use Rattle.hep_machine.specs.Words.{Tree, Trees, Name, Occurrence, Statement, Value, is_among, function_value, Constants, without_fault, Meaning, pure, occurrences_in_all}
-use Rattle.hep_check.specs.Words.{Parameters, has_value_or_is_open, is_counted, subexpressions_of, subexpressions_of_all, names_with_lists_in_all}
+use Rattle.hep_conditions.specs.Words.{Parameters, has_value_or_is_open, is_counted, subexpressions_of, subexpressions_of_all, names_with_lists_in_all}
 
 abbrev pub parameters : Constants → List Name → Parameters
 parameters known doubtful = record { known = known; doubtful = doubtful }

@@ -11,8 +11,8 @@ use crate::constants::Constants;
 use crate::evaluation::value_of;
 use hep_machine::Bound;
 use hep_machine::values::integer_of;
+use hep_names::Symbols;
 use hep_source::{Dimension, Expr, UpperBound, Value};
-use hep_symbols::Symbols;
 use std::alloc::{AllocError, Global};
 
 /// The integers of expressions in a row, by these constants; none where one has no value.

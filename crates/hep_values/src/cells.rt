@@ -8,9 +8,9 @@ ghost use Rattle.hep_machine.specs.Constants as values;
 use crate::bounds::bounds_of;
 use crate::constants::Constants;
 use hep_machine::Bound;
+use hep_names::Symbols;
 use hep_shape::Shape;
 use hep_source::Name;
-use hep_symbols::Symbols;
 use std::alloc::{AllocError, Global};
 
 // The elements of an array with these bounds; none where a bound has no value, they make no shape, or the last is open.

@@ -5,8 +5,8 @@ ghost use Rattle.hep_machine.specs.Words.{value_among, value_of, with_constant, 
 use crate::constants::Constants;
 use crate::evaluation::value_of;
 use crate::statements::constants_in;
+use hep_names::Symbols;
 use hep_source::NamedConstant;
-use hep_symbols::Symbols;
 use std::alloc::{AllocError, Global};
 
 // Gives a constant its value, if it has one.

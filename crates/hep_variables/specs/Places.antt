@@ -6,10 +6,10 @@ use Rattle.hep_source.specs.declared.name.Name.{Name}
 use Rattle.hep_source.specs.Names.{name_eq}
 use Rattle.hep_code.specs.declared.variable.Variable.{Variable}
 use Rattle.hep_code.specs.declared.variable.Variable.TheVariants.{Absent}
-use Rattle.hep_variables.specs.declared.places.Places.{Places}
+use Rattle.hep_variables.specs.declared.places.Placement.{Placement}
 
-abbrev pub variable_in : Places → Name → Variable
+abbrev pub variable_in : Placement → Name → Variable
 variable_in places x = unwrap_or (get name_eq places.variables x) Absent
 
-abbrev pub cells_in : Places → ℕ → ℕ
+abbrev pub cells_in : Placement → ℕ → ℕ
 cells_in places d = unwrap_or (slice_get places.loop_cells.items d) 0

@@ -4,4 +4,4 @@
 
 pub mod places;
 
-pub use places::Places;
+pub use places::Placement;

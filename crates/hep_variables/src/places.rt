@@ -7,21 +7,21 @@ use hep_source::Name;
 use indexmap::IndexMap;
 
 /// Where each variable of a unit is, and of each DO the first of its two cells, by the index of its statement.
-pub struct Places {
+pub struct Placement {
     pub variables: IndexMap<Name, Variable>,
     pub loop_cells: Vec<u32>,
 }
 
-impl Drop for Places {
+impl Drop for Placement {
     fn drop(self) {
-        let Places {
+        let Placement {
             variables,
             loop_cells,
         } = self;
     }
 }
 
-impl Places {
+impl Placement {
     /// Where a variable is: what was entered of it, and else nowhere.
     pub fn variable(&self, name: &Name) -> Variable
         ensures { result ≡ spec.variable_in self.now name.now }

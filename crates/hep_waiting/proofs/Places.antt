@@ -4,20 +4,20 @@ use Rattle.std.proofs.lemmas.Option.{none-some, same_Some, slice_get_within}
 use Rattle.slab.specs.Slab.{get}
 use Rattle.hep_machine.specs.Words.{Name, Statement, Units, dummies_of, main_among, unit_at, BlockName, Layout, common_cells, frame_of, is_held, parent_of, unit_of, run, Location, State, common, local}
 use Rattle.hep_machine.proofs.Ages.{run_older}
-use Rattle.hep_check.specs.Words.{IsAccepted}
-use Rattle.hep_accepted.proofs.Meant.{dummies_once}
-use Rattle.hep_frames.specs.Words.{IsLaid, address, IsOwnedAbove, FramePart, argument, common_row, frame_row, owner_in, variable, Node, is_stacked}
-use Rattle.hep_frames.proofs.Frames.{among}
+use Rattle.hep_conditions.specs.Words.{IsAccepted}
+use Rattle.hep_conditions_laws.proofs.Meant.{dummies_once}
+use Rattle.hep_layout.specs.Words.{IsLaid, address, IsOwnedAbove, FramePart, argument, common_row, frame_row, owner_in, variable, FrameNode, is_stacked}
+use Rattle.hep_layout.proofs.Frames.{among}
 use Rattle.hep_image.specs.Image.{most_cells}
 use Rattle.hep_image.specs.Owners.{AreGivenOnce, IsBlockTold, IsTold}
 use Rattle.hep_image.proofs.BlockOwners.{tells_block}
 use Rattle.hep_image.proofs.FrameOwners.{tells_argument, tells_variable}
-use Rattle.hep_proc.specs.Nodes.{nodes_of}
-use Rattle.hep_proc.proofs.Slabs.{some-value}
-use Rattle.hep_works.proofs.Closed.{units-there}
+use Rattle.hep_frames.specs.Nodes.{nodes_of}
+use Rattle.hep_frames.proofs.Slabs.{some-value}
+use Rattle.hep_code_laws.proofs.Closed.{units-there}
 use Rattle.hep_state.specs.declared.machine.Machine.{Machine}
-use Rattle.hep_views.specs.Waited.{unit_in_frame, unit_of_block, unit_of_part}
-use Rattle.hep_views.proofs.Cells.{common-told, frame-told}
+use Rattle.hep_state_laws.specs.Waited.{unit_in_frame, unit_of_block, unit_of_part}
+use Rattle.hep_state_laws.proofs.Cells.{common-told, frame-told}
 use Rattle.hep_waiting.specs.declared.place.Place.{Place}
 use Rattle.hep_waiting.specs.Listed.{block_place, place_of, variable_place}
 use Rattle.hep_waiting.specs.Sought.{IsSought, holder_above}
@@ -165,12 +165,12 @@ module _ (program : Units) (cells : ℕ) (choices : List ℕ) (m : Machine) (key
     pub name : Name
     pub index : ℕ
     pub told : IsTold (unit_at program unit) (cell - first) name index
-    pub place : (owner : ℕ) (result : Place) → ((n : Node) → nodes_of m.frames.nodes k ≡ Some n → owner ≡ n.activation)
+    pub place : (owner : ℕ) (result : Place) → ((n : FrameNode) → nodes_of m.frames.nodes k ≡ Some n → owner ≡ n.activation)
         → result ≡ variable_place program unit name (index + 1) owner → result ≡ place_of program s at
 
   pub read-there : common_cells program ≤ cell → (k unit first : ℕ) → IsAccepted program → is_some (main_among program) ≡ true
       → holder_above (nodes_of m.frames.nodes) cell m.activations key ≡ Some k
-      → ((n : Node) → nodes_of m.frames.nodes k ≡ Some n → unit ≡ n.unit) → ((n : Node) → nodes_of m.frames.nodes k ≡ Some n → first ≡ n.first)
+      → ((n : FrameNode) → nodes_of m.frames.nodes k ≡ Some n → unit ≡ n.unit) → ((n : FrameNode) → nodes_of m.frames.nodes k ≡ Some n → first ≡ n.first)
       → IsRead k unit first
   read-there back k unit first accepted main e units firsts =
       let f = in-frame back in

@@ -8,22 +8,22 @@ use Rattle.hep_code.specs.declared.instruction.Instruction.{Instruction}
 use Rattle.hep_code.specs.declared.instruction.Instruction.TheVariants.{Push}
 use Rattle.hep_code.specs.Words.{operands_of_action, operands_of_redex, line_ahead, Stands, work_code, AddressedUnit, code_of}
 use Rattle.hep_code.proofs.Works.{NextIs, work_is}
-use Rattle.hep_frames.specs.Words.{IsOwnedAbove, Node, Nodes}
-use Rattle.hep_frames.proofs.References.{references}
-use Rattle.hep_needs.specs.Needs.{need_of, unmet}
-use Rattle.hep_needs.proofs.Waiting.{waits-unmet}
-use Rattle.hep_proc.specs.Nodes.{nodes_of}
+use Rattle.hep_layout.specs.Words.{IsOwnedAbove, FrameNode, Nodes}
+use Rattle.hep_layout.proofs.References.{references}
+use Rattle.hep_needs_laws.specs.Needs.{need_of, unmet}
+use Rattle.hep_needs_laws.proofs.Waiting.{waits-unmet}
+use Rattle.hep_frames.specs.Nodes.{nodes_of}
 use Rattle.hep_state.specs.declared.machine.Level.{Level}
 use Rattle.hep_state.specs.declared.machine.Machine.{Machine}
 use Rattle.hep_state.specs.Words.{IsMachineAfter, Stack, snapshot_of, stack_with}
 use Rattle.hep_state.proofs.Standing.{AreStanding, stack-standing}
 use Rattle.hep_step.specs.Simulation.{unit_addressed, unit_code}
-use Rattle.hep_listed.specs.Listing.{IsBlocked}
+use Rattle.hep_blocked_laws.specs.Listing.{IsBlocked}
 use Rattle.hep_waiting.specs.declared.place.Place.{Place}
 use Rattle.hep_waiting.specs.Listed.{listed_by, listed_with, place_of}
 use Rattle.hep_waiting.specs.Sought.{IsSought}
 use Rattle.hep_waiting.proofs.Above.{need-above}
-use Rattle.hep_views.proofs.Views.{line-after}
+use Rattle.hep_state_laws.proofs.Views.{line-after}
 
 -- ---- the line of the operation ahead
 
@@ -68,7 +68,7 @@ pub record IsTop (program : Units) (s : State) (m : Machine) (p : ℕ) (top : So
   pub operands : List Value
   pub kept : numbered (snapshot_of m).processes p ≡ Some (stack_with l ls operands)
   pub inside : l.unit < length program
-  pub there : (n : Node) × (nodes_of m.frames.nodes l.key ≡ Some n) × (top.0.activation ≡ n.activation)
+  pub there : (n : FrameNode) × (nodes_of m.frames.nodes l.key ≡ Some n) × (top.0.activation ≡ n.activation)
   pub unit : unit_of s top.0.activation ≡ l.unit
   pub line : line_ahead (drop l.index (unit_code program l.unit)) ≡ line_at (unit_at program (unit_of s top.0.activation)) top.0.statement
 

@@ -2,18 +2,18 @@
 use Rattle.std.specs.Prelude.{◌≡◌, ◌+◌, ◌≤◌, ℕ, zero, suc, ◌&&◌, Bool, false, nat_le, nat_lt, if◌then◌else◌, List, Option, Some, None}
 use Rattle.std.specs.Option.{option_map_or}
 use Rattle.hep_machine.specs.Words.{Units, run, Location}
-use Rattle.hep_frames.specs.Words.{address, IsOwnedAbove, Node, Nodes}
+use Rattle.hep_layout.specs.Words.{address, IsOwnedAbove, FrameNode, Nodes}
 use Rattle.hep_image.specs.Image.{most_cells}
-use Rattle.hep_proc.specs.Nodes.{nodes_of}
+use Rattle.hep_frames.specs.Nodes.{nodes_of}
 use Rattle.hep_state.specs.declared.machine.Machine.{Machine}
 use Rattle.hep_state.specs.Words.{snapshot_of, IsAfter}
-use Rattle.hep_views.specs.Nodes.{parent_in}
+use Rattle.hep_state_laws.specs.Nodes.{parent_in}
 
 -- the frame of a node has a cell
-abbrev pub has_cell : Node → ℕ → Bool
+abbrev pub has_cell : FrameNode → ℕ → Bool
 has_cell n cell = nat_le n.first cell && nat_lt cell (n.first + n.cells)
 
-abbrev pub has_among : ℕ → Option Node → Bool
+abbrev pub has_among : ℕ → Option FrameNode → Bool
 has_among cell None = false
 has_among cell (Some n) = has_cell n cell
 
@@ -28,6 +28,6 @@ pub record IsSought (program : Units) (cells : ℕ) (choices : List ℕ) (m : Ma
   pub after : IsAfter program cells choices (snapshot_of m)
   pub few : cells ≤ most_cells
   pub kept : address program (run program choices) after.layout at ≡ Some cell
-  pub node : Node
+  pub node : FrameNode
   pub there : nodes_of m.frames.nodes key ≡ Some node
   pub owned : IsOwnedAbove (run program choices) node.activation at

@@ -3,13 +3,13 @@ ghost use Rattle.std.specs.Prelude.{◌≡◌, ◌+◌, ◌-◌, ◌<◌, ◌≤
 ghost use Rattle.slab.specs.Slab.{ContainsKey};
 ghost use Rattle.hep_machine.specs.Words.{Name, Value, unit_at, BlockName, numbered, run, Location};
 ghost use Rattle.hep_code.specs.Depths as depths;
-ghost use Rattle.hep_frames.specs.Words.{Node};
+ghost use Rattle.hep_layout.specs.Words.{FrameNode};
 ghost use Rattle.hep_image.specs.Image.{most_cells};
 ghost use Rattle.hep_image.specs.Owners.{IsBlockTold, IsTold};
-ghost use Rattle.hep_proc.specs.Nodes.{nodes_of};
+ghost use Rattle.hep_frames.specs.Nodes.{nodes_of};
 ghost use Rattle.hep_state.specs.declared.machine.Level.{Level as ALevel};
 ghost use Rattle.hep_state.specs.Words.{IsMachineAfter, snapshot_of, HasLevels, stack_with};
-ghost use Rattle.hep_listed.specs.Listing.{IsBlocked};
+ghost use Rattle.hep_blocked_laws.specs.Listing.{IsBlocked};
 ghost use Rattle.hep_waiting.specs.Listed.{block_place, listed_by, place_of, variable_place};
 ghost use Rattle.hep_waiting.specs.Sought.{IsSought, has_cell as frame_has_cell, holder_above};
 
@@ -17,8 +17,8 @@ use crate::listed::Listed;
 use crate::place::Place;
 use hep_blocked::Want;
 use hep_code::Instruction;
+use hep_frames::Frames;
 use hep_image::Image;
-use hep_proc::Frames;
 use hep_state::{Level, Machine};
 
 // The level of the top activation of process p.
@@ -48,7 +48,7 @@ fn line_from(code: &[Instruction], index: usize) -> u32
 // The frame under a key has a cell.
 fn has_cell(frames: &Frames, key: usize, cell: u32) -> bool
     requires { ContainsKey frames.now.nodes key }
-    ensures { (n : Node) → nodes_of frames.now.nodes key ≡ Some n → result ≡ frame_has_cell n cell }
+    ensures { (n : FrameNode) → nodes_of frames.now.nodes key ≡ Some n → result ≡ frame_has_cell n cell }
 {
     let first = frames.first(key);
     first <= cell && cell - first < frames.cells(key)

@@ -3,8 +3,8 @@ use Rattle.std.specs.Prelude.{◌≡◌, ℕ, List, [], Option, Some, None, Resu
 use Prim.Native.String.{String}
 use Rattle.hep_machine.specs.Words.{Name, spelling, Units}
 use Rattle.hep_worked.proofs.Sources.{units_of}
-use Rattle.hep_check.specs.declared.violation.Violation.{Violation}
-use Rattle.hep_check.specs.Words.{first_violation}
+use Rattle.hep_conditions.specs.declared.violation.Violation.{Violation}
+use Rattle.hep_conditions.specs.Words.{first_violation}
 
 -- what is reported of a source
 pub data Reported : Type 0 where

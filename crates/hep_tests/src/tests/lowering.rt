@@ -2,7 +2,7 @@
 
 use super::program_of;
 use hep_base::Refusal;
-use hep_checked::check;
+use hep_check::check;
 use hep_code::{Instruction, Operation, Variable};
 use hep_image::{DataRow, Image, UnitCode};
 use hep_lower::lower;

@@ -3,7 +3,7 @@
 use super::{FIRST, UNDEFINED, chosen, core_of, image_from, is_single_steps, source_of};
 use hep_arena::Arena;
 use hep_run::{Options, run_source};
-use hep_scheduler::{ChooseFault, Core, NewFault, Stop, Verdict};
+use hep_scheduler::{ChoiceStop, ChooseFault, Core, NewFault, Verdict};
 use hep_text::{Span, statements};
 use std::alloc::Global;
 use std::io;
@@ -55,9 +55,9 @@ fn full_history(rt: HostRuntime) -> Result<(), Fail> {
     for process in [1, 2, 1] {
         assert_eq!(rt;
             chosen(&mut core, process).err(),
-            Some(ChooseFault::Stopped(Stop::StepLimit))
+            Some(ChooseFault::Stopped(ChoiceStop::StepLimit))
         );
-        assert_eq!(rt; core.verdict(), Verdict::Stopped(Stop::StepLimit));
+        assert_eq!(rt; core.verdict(), Verdict::Stopped(ChoiceStop::StepLimit));
         assert!(rt; is_single_steps(core.history(), 3));
     }
     Ok(())

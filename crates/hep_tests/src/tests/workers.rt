@@ -3,7 +3,7 @@ ghost use Rattle.std.specs.Prelude.{◌≤◌};
 
 use super::{core_of, image_from, source_of};
 use hep_image::Image;
-use hep_scheduler::{Core, Stop, Verdict};
+use hep_scheduler::{ChoiceStop, Core, Verdict};
 use hep_source::Value;
 use hep_tickets::{CommitFault, Segment, ShareFault, SharedCore, Ticket, compute};
 use hep_workers::{
@@ -68,15 +68,15 @@ fn full_histories(rt: HostRuntime) -> Result<(), Fail> {
     shared.choose(1)?;
     assert_eq!(rt;
         shared.check_out(1).err(),
-        Some(ShareFault::Stopped(Stop::StepLimit))
+        Some(ShareFault::Stopped(ChoiceStop::StepLimit))
     );
     assert_eq!(rt;
         shared.check_out(7).err(),
-        Some(ShareFault::Stopped(Stop::StepLimit))
+        Some(ShareFault::Stopped(ChoiceStop::StepLimit))
     );
     assert_eq!(rt;
         shared.choose(7).err(),
-        Some(ShareFault::Stopped(Stop::StepLimit))
+        Some(ShareFault::Stopped(ChoiceStop::StepLimit))
     );
     Ok(())
 }

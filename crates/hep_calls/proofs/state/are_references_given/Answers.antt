@@ -2,8 +2,8 @@ use Rattle.std.proofs.Common.{◌∙◌, sym, rules, tests}
 use Rattle.std.proofs.lemmas.Iterator.{YieldsList-from_slice}
 use Rattle.std.proofs.lemmas.Iterator.Search.{all_from_yields_List}
 use Rattle.std.proofs.lemmas.List.Folds.{list_all-map}
-use Rattle.hep_check.specs.Words.{is_reference_given}
-use Rattle.hep_symbols.specs.Lists.{listed}
+use Rattle.hep_conditions.specs.Words.{is_reference_given}
+use Rattle.hep_names.specs.Lists.{listed}
 use Rattle.hep_calls.proofs.state.are_references_given.Goals as goal
 
 pub returns : goal.returns

@@ -1,6 +1,6 @@
 use Rattle.std.proofs.Common.{◌≡◌, ◌&&◌, ap, sym, ◌∙◌}
 use Rattle.hep_machine.specs.Words.{with_list, trees_of, is_array}
-use Rattle.hep_check.specs.Words.{actual_class, is_asynchronous_scalar}
+use Rattle.hep_conditions.specs.Words.{actual_class, is_asynchronous_scalar}
 use Rattle.hep_calls.proofs.Passes.{element_given}
 use Rattle.hep_calls.proofs.state.is_asynchronous_scalar.Goals as goal
 

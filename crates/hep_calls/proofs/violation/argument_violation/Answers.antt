@@ -1,7 +1,7 @@
 use Rattle.std.proofs.Common.{◌∙◌, ap, sym}
-use Rattle.hep_check.specs.Words.{reported}
-use Rattle.hep_check.proofs.Lines.{reported-where}
-use Rattle.hep_symbols.specs.Passes.{line_of}
+use Rattle.hep_conditions.specs.Words.{reported}
+use Rattle.hep_conditions.proofs.Lines.{reported-where}
+use Rattle.hep_names.specs.Passes.{line_of}
 use Rattle.hep_calls.specs.Passes.{is_mismatched}
 use Rattle.hep_calls.proofs.violation.argument_violation.Goals as goal
 

@@ -1,6 +1,6 @@
 use Rattle.std.proofs.Common.{◌≡◌, drop}
-use Rattle.hep_check.specs.Words.{least_line, least_line_where}
-use Rattle.hep_symbols.specs.Passes.{line_of}
+use Rattle.hep_conditions.specs.Words.{least_line, least_line_where}
+use Rattle.hep_names.specs.Passes.{line_of}
 use Rattle.hep_calls.specs.Passes.{is_mismatched}
 use Rattle.hep_calls.proofs.violation.least_mismatched.Given as goal
 

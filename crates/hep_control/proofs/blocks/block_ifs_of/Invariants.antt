@@ -1,5 +1,5 @@
 use Rattle.std.proofs.Common.{◌≡◌, drop}
-use Rattle.hep_check.specs.Words.{with_all, indexed_from, block_ifs_of}
+use Rattle.hep_conditions.specs.Words.{with_all, indexed_from, block_ifs_of}
 use Rattle.hep_control.proofs.blocks.block_ifs_of.Given as goal
 
 abbrev pub invariant-loop-index : goal.invariant-loop-index

@@ -1,6 +1,6 @@
 use Rattle.std.proofs.Common.{◌≡◌, ◌++◌, map, ◌∙◌, ap}
 use Rattle.std.specs.List.{flat_map}
-use Rattle.hep_check.specs.Words.{reported, least_line}
+use Rattle.hep_conditions.specs.Words.{reported, least_line}
 use Rattle.hep_control.specs.Sweep.{least_met}
 use Rattle.hep_control.specs.Crossing.{value_of_range, question_of_range, question_of_block, values_in, question_in_range}
 use Rattle.hep_control.proofs.Crossed.{reported-crossing}

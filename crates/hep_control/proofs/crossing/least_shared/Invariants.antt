@@ -1,6 +1,6 @@
 use Rattle.std.proofs.Common.{◌≡◌, None, drop, map}
 use Rattle.indexmap.specs.IndexMap.{get}
-use Rattle.hep_check.specs.Words.{least_line}
+use Rattle.hep_conditions.specs.Words.{least_line}
 use Rattle.hep_control.specs.Ranges.{do_range}
 use Rattle.hep_machine.specs.Words.{name_eq}
 use Rattle.hep_control.specs.Crossing.{least_shared}

@@ -1,6 +1,6 @@
 use Rattle.std.proofs.Common.{◌≡◌, ◌++◌, drop, map}
 use Rattle.std.specs.List.{flat_map}
-use Rattle.hep_check.specs.Words.{indexed_from}
+use Rattle.hep_conditions.specs.Words.{indexed_from}
 use Rattle.hep_control.specs.Jumps.{leap, leaps_at, leaps_of}
 use Rattle.hep_control.proofs.jumps.jumps_of.Given as goal
 

@@ -1,6 +1,6 @@
 use Rattle.std.proofs.Common.{◌≡◌, nat_eq, false, drop}
 use Rattle.indexmap.specs.IndexSet.{contains}
-use Rattle.hep_check.specs.Words.{least_line}
+use Rattle.hep_conditions.specs.Words.{least_line}
 use Rattle.hep_control.specs.Labels.{least_repeated}
 use Rattle.hep_control.proofs.labels.least_repeated.Given as goal
 

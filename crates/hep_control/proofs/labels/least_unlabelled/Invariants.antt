@@ -1,5 +1,5 @@
 use Rattle.std.proofs.Common.{◌≡◌, drop}
-use Rattle.hep_check.specs.Words.{least_line}
+use Rattle.hep_conditions.specs.Words.{least_line}
 use Rattle.hep_control.specs.Labels.{least_unlabelled}
 use Rattle.hep_control.proofs.labels.least_unlabelled.Given as goal
 

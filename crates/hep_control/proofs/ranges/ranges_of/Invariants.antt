@@ -1,6 +1,6 @@
 use Rattle.std.proofs.Common.{◌≡◌, drop, map, ◌++◌}
 use Rattle.std.specs.List.{flat_map}
-use Rattle.hep_check.specs.Words.{indexed_from, ranges_of}
+use Rattle.hep_conditions.specs.Words.{indexed_from, ranges_of}
 use Rattle.hep_control.specs.Ranges.{do_range, range_at}
 use Rattle.hep_control.proofs.ranges.ranges_of.Given as goal
 

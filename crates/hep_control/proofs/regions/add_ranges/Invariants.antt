@@ -1,5 +1,5 @@
 use Rattle.std.proofs.Common.{◌≡◌, ◌++◌, drop, map}
-use Rattle.hep_check.specs.Words.{range_region}
+use Rattle.hep_conditions.specs.Words.{range_region}
 use Rattle.hep_control.specs.Jumps.{region}
 use Rattle.hep_control.specs.Ranges.{do_range}
 use Rattle.hep_control.proofs.regions.add_ranges.Given as goal

@@ -1,5 +1,5 @@
 use Rattle.std.proofs.Common.{◌≡◌, drop}
-use Rattle.hep_check.specs.Words.{indexed_from, indexed_statements, least_line}
+use Rattle.hep_conditions.specs.Words.{indexed_from, indexed_statements, least_line}
 use Rattle.hep_control.specs.Structure.{least_statement}
 use Rattle.hep_control.proofs.structure.least_statement.Given as goal
 

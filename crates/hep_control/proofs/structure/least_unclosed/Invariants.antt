@@ -1,5 +1,5 @@
 use Rattle.std.proofs.Common.{◌≡◌, drop}
-use Rattle.hep_check.specs.Words.{least_line, least_line_of}
+use Rattle.hep_conditions.specs.Words.{least_line, least_line_of}
 use Rattle.hep_control.specs.Structure.{line_of_unclosed}
 use Rattle.hep_control.proofs.structure.least_unclosed.Given as goal
 

@@ -1,5 +1,5 @@
 use Rattle.std.proofs.Common.{◌≡◌, ◌∙◌, ap}
-use Rattle.hep_check.specs.Words.{block_violations, nesting_violations, first_of, reported, least_line}
+use Rattle.hep_conditions.specs.Words.{block_violations, nesting_violations, first_of, reported, least_line}
 use Rattle.hep_control.proofs.Alone.{reported-structure}
 use Rattle.hep_control.proofs.structure.structure_violation.Goals as goal
 

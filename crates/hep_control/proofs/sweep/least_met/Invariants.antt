@@ -1,5 +1,5 @@
 use Rattle.std.proofs.Common.{◌≡◌, drop, []}
-use Rattle.hep_check.specs.Words.{least_line}
+use Rattle.hep_conditions.specs.Words.{least_line}
 use Rattle.hep_control.specs.Sweep.{least_swept}
 use Rattle.hep_control.proofs.sweep.least_met.Given as goal
 

@@ -1,5 +1,5 @@
 use Rattle.std.proofs.Common.{◌≡◌, ◌++◌, drop}
-use Rattle.hep_symbols.specs.Statements.{rest_after}
+use Rattle.hep_names.specs.Statements.{rest_after}
 use Rattle.hep_data.proofs.groups.add_each.Given as goal
 
 abbrev pub invariant-loop-group : goal.invariant-loop-group

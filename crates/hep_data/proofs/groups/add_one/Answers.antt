@@ -1,6 +1,6 @@
 use Rattle.std.proofs.Common.{◌∷◌, [], ◌∙◌, ap}
-use Rattle.hep_symbols.specs.Statements.{rest_after}
-use Rattle.hep_symbols.proofs.Trees.{after-append}
+use Rattle.hep_names.specs.Statements.{rest_after}
+use Rattle.hep_names.proofs.Trees.{after-append}
 use Rattle.hep_data.proofs.groups.add_one.Goals as goal
 
 pub returns : goal.returns

@@ -1,6 +1,6 @@
 use Rattle.std.proofs.Common.{◌≡◌, ◌++◌, drop}
 use Rattle.hep_machine.specs.Data as machine
-use Rattle.hep_symbols.specs.Statements.{rest_after}
+use Rattle.hep_names.specs.Statements.{rest_after}
 use Rattle.hep_data.proofs.groups.data_groups.Given as goal
 
 abbrev pub invariant-loop-statement : goal.invariant-loop-statement

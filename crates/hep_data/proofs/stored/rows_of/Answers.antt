@@ -2,8 +2,8 @@ use Rattle.std.proofs.Common.{[], ◌∷◌, ap, sym, ◌∙◌}
 use Rattle.std.specs.Option.{option_or}
 use Rattle.indexmap.specs.IndexMap.{get}
 use Rattle.hep_machine.specs.Words.{name_eq}
-use Rattle.hep_symbols.specs.Statements.{rest_after}
-use Rattle.hep_symbols.proofs.Trees.{after-append}
+use Rattle.hep_names.specs.Statements.{rest_after}
+use Rattle.hep_names.proofs.Trees.{after-append}
 use Rattle.hep_image.specs.Data.{value_in_rows}
 use Rattle.hep_data.specs.Given.{value_by_groups}
 use Rattle.hep_data.proofs.Grouping.{group_turn}

@@ -2,7 +2,7 @@ use Rattle.std.proofs.Common.{◌≡◌, ℕ, length}
 use Rattle.std.specs.Option.{option_or}
 use Rattle.indexmap.specs.IndexMap.{get}
 use Rattle.hep_machine.specs.Words.{name_eq, data_groups}
-use Rattle.hep_symbols.specs.Statements.{rest_after}
+use Rattle.hep_names.specs.Statements.{rest_after}
 use Rattle.hep_image.specs.Data.{value_in_rows}
 use Rattle.hep_data.specs.Given.{value_by_groups}
 use Rattle.hep_data.proofs.stored.rows_of.Given as goal

@@ -2,23 +2,23 @@ use Rattle.std.proofs.Common.{◌≡◌, Bool, ℕ, List, length, Some, refl, sy
 use Rattle.hep_machine.specs.Words.{Units, Layout, frame_of, with_frame, run, Activation, State}
 use Rattle.hep_arena.specs.Space.{Space}
 use Rattle.hep_arena.specs.Holes.{first_fit}
-use Rattle.hep_frames.specs.Words.{frame_from, wanted_of, Nodes, also, is_stacked, new_node, with_node}
-use Rattle.hep_frames.proofs.Memory.{memory-fits}
-use Rattle.hep_frames.proofs.References.{unset-ahead}
-use Rattle.hep_proc.specs.Keeping.{Keeps, with_unset}
-use Rattle.hep_proc.specs.Nodes.{nodes_of}
-use Rattle.hep_proc.proofs.Slabs.{some-value}
+use Rattle.hep_layout.specs.Words.{frame_from, descriptor_slots, Nodes, also, is_stacked, new_node, with_node}
+use Rattle.hep_layout.proofs.Memory.{memory-fits}
+use Rattle.hep_layout.proofs.References.{unset-ahead}
+use Rattle.hep_frames.specs.Keeping.{Keeps, with_unset}
+use Rattle.hep_frames.specs.Nodes.{nodes_of}
+use Rattle.hep_frames.proofs.Slabs.{some-value}
 use Rattle.hep_entering.specs.Calling.{called_activation, layout_with, state_begun}
 use Rattle.hep_entering.specs.Writing.{IsBinding}
 use Rattle.hep_entering.proofs.Begun.{begins, binding, long, stored}
 use Rattle.hep_entering.proofs.Nodes.{block-inside, block-out, node-new}
 use Rattle.hep_entering.proofs.beginning.begin.Goals as goal
-use Rattle.hep_proc.proofs.Begun.{fit-there}
+use Rattle.hep_frames.proofs.Begun.{fit-there}
 
 -- the frame has entered, where the activations are these
 abbrev HasBegun : Units → State → Layout → (ℕ → Bool) → ℕ → List Activation → Space → Nodes → Type 0
 HasBegun program s layout out first xs arena nodes =
-    Keeps program (record s { activations = xs }) (also (length xs) (is_stacked s)) (also (length xs) out) (with_frame layout (frame_from program (record s { activations = xs }) (length xs) first)) (with_unset (length xs) (wanted_of program s layout)) arena nodes
+    Keeps program (record s { activations = xs }) (also (length xs) (is_stacked s)) (also (length xs) out) (with_frame layout (frame_from program (record s { activations = xs }) (length xs) first)) (with_unset (length xs) (descriptor_slots program s layout)) arena nodes
 
 -- the new node is under its key
 node-there : (old new : Nodes) (key a u first cells parent : ℕ) → new ≡ with_node old key (new_node a u first cells parent) parent → new key ≡ Some (new_node a u first cells parent)
@@ -60,7 +60,7 @@ returns-clause-written c program choices p top u actuals b t layout out n keeps 
     let x = called_activation u top b in
     let old = nodes_of c.args.frames.now.nodes in
     let new = nodes_of c.enter-key.new.self.nodes in
-    let wanted = wanted_of program s layout in
+    let wanted = descriptor_slots program s layout in
     let begun = c.enter-key.ensures.begun program s (state_begun program choices top u b) x (is_stacked s) out layout wanted n keeps at (begins program choices p top u actuals b pass) (ap (λ z. Some z) (sym same)) (act ∙ ap (λ (xs : List Activation). length xs) more) unit (cells ∙ ap (λ (xs : List Activation). frame_of program (record s { activations = xs }) (length xs)) more) in
     let first = begun.0 in
     let fit : first_fit c.args.cells c.args.frames.now.arena.holes ≡ Some first = memory-fits program s layout c.args.frames.now.arena.contents c.args.frames.now.arena.holes c.args.cells keeps.memory (omega (arith, c.requires.many)) ∙ begun.1 in

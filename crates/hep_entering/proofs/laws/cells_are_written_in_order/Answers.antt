@@ -1,6 +1,6 @@
 use Rattle.std.proofs.Common.{◌≡◌, suc, ◌+◌, ◌*◌, refl, subst, arith}
 use Rattle.hep_machine.specs.Words.{unit_at, unit_of}
-use Rattle.hep_proc.specs.Keeping.{Keeps}
+use Rattle.hep_frames.specs.Keeping.{Keeps}
 use Rattle.hep_entering.specs.Giving.{with_one_given}
 use Rattle.hep_entering.specs.Shapes.{cells_to_bounds_of}
 use Rattle.hep_entering.specs.Writing.{wanted_up_to, with_stored}

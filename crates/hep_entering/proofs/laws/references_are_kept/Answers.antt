@@ -1,6 +1,6 @@
 use Rattle.std.proofs.Common.{◌≡◌, ℕ, List, [], ◌∷◌, ◌++◌, length, refl, sym, ◌∙◌}
 use Rattle.hep_machine.specs.Words.{Units, dummies_of, unit_at, Binding, Actual, Layout, run, Level, Process, State, scope_of}
-use Rattle.hep_frames.specs.Words.{IsLaid, also, is_stacked}
+use Rattle.hep_layout.specs.Words.{IsLaid, also, is_stacked}
 use Rattle.hep_passing.specs.declared.given.Given.{Given}
 use Rattle.hep_entering.specs.Calling.{AreAllKept, ArePassed, IsPassing, called_activation, layout_with, state_called, state_created}
 use Rattle.hep_entering.proofs.Begun.{activation-is, given-before, kept-entered}

@@ -1,7 +1,7 @@
 use Rattle.std.proofs.Common.{◌∙◌, ◌||◌, ap, map}
 use Rattle.std.specs.List.{list_any}
 use Rattle.hep_machine.specs.Words.{Target}
-use Rattle.hep_check.specs.Words.{is_forbidden}
+use Rattle.hep_conditions.specs.Words.{is_forbidden}
 use Rattle.hep_initial.specs.Named.{places_of, are_known, run_named, is_outside_named}
 use Rattle.hep_initial.proofs.Groups.{wrong-group}
 use Rattle.hep_initial.proofs.data.is_wrong_group.Goals as goal

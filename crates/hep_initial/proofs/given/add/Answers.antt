@@ -1,7 +1,7 @@
 use Rattle.std.proofs.Common.{◌∙◌}
 use Rattle.indexmap.specs.IndexSet.{contains}
 use Rattle.hep_machine.specs.Words.{name_eq}
-use Rattle.hep_symbols.proofs.Notes.{added}
+use Rattle.hep_names.proofs.Notes.{added}
 use Rattle.hep_initial.proofs.given.add.Goals as goal
 
 pub returns : goal.returns

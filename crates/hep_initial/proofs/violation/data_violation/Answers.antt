@@ -1,5 +1,5 @@
 use Rattle.std.proofs.Common.{◌∙◌, ap, sym}
-use Rattle.hep_check.specs.Words.{reported}
+use Rattle.hep_conditions.specs.Words.{reported}
 use Rattle.hep_initial.proofs.DataLines.{data-lines}
 use Rattle.hep_initial.proofs.violation.data_violation.Goals as goal
 

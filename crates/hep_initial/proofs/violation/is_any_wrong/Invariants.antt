@@ -2,7 +2,7 @@ use Rattle.std.proofs.Common.{◌≡◌, drop}
 use Rattle.std.specs.List.{list_any}
 use Rattle.indexmap.specs.IndexMap.{get}
 use Rattle.hep_machine.specs.Words.{name_eq}
-use Rattle.hep_check.specs.Words.{is_wrong_group}
+use Rattle.hep_conditions.specs.Words.{is_wrong_group}
 use Rattle.hep_initial.specs.Shapes.{IsTable}
 use Rattle.hep_initial.proofs.violation.is_any_wrong.Given as goal
 

@@ -1,6 +1,6 @@
 use Rattle.std.proofs.Common.{◌≤◌, ◌+◌, ◌∙◌, [], ap, drop, length, arith}
 use Rattle.hep_machine.specs.Words.{value_among, given_by}
-use Rattle.hep_check.specs.Words.{elements_in}
+use Rattle.hep_conditions.specs.Words.{elements_in}
 use Rattle.hep_initial.specs.Given.{given_after}
 use Rattle.hep_initial.specs.Groups.{data_line}
 use Rattle.hep_initial.proofs.DataLines.{data-turn, data-end}

@@ -1,7 +1,7 @@
 use Rattle.std.proofs.Common.{◌≡◌, List, [], drop}
 use Rattle.indexmap.specs.IndexMap.{get}
 use Rattle.hep_machine.specs.Words.{name_eq, Stretch}
-use Rattle.hep_check.specs.Words.{least_line}
+use Rattle.hep_conditions.specs.Words.{least_line}
 use Rattle.hep_initial.specs.Given.{IsGiven}
 use Rattle.hep_initial.specs.Groups.{data_line}
 use Rattle.hep_initial.specs.Shapes.{IsTable}

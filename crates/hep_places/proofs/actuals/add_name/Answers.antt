@@ -1,8 +1,8 @@
 use Rattle.std.proofs.Common.{ap, sym, ◌∙◌}
 use Rattle.indexmap.specs.IndexSet.{contains}
 use Rattle.hep_machine.specs.Words.{is_among, name_eq, node_tree}
-use Rattle.hep_symbols.specs.Tables.{either}
-use Rattle.hep_symbols.proofs.Notes.{added}
+use Rattle.hep_names.specs.Tables.{either}
+use Rattle.hep_names.proofs.Notes.{added}
 use Rattle.hep_image.specs.Private.{bare_name}
 use Rattle.hep_places.proofs.Gathered.{among-one}
 use Rattle.hep_places.proofs.actuals.add_name.Goals as goal

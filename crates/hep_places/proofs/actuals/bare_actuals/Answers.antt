@@ -1,7 +1,7 @@
 use Rattle.std.proofs.Common.{◌+◌, ap, ◌∙◌, drop}
 use Rattle.indexmap.specs.IndexSet.{contains}
 use Rattle.hep_machine.specs.Words.{is_among, name_eq, Statement}
-use Rattle.hep_symbols.specs.Tables.{either}
+use Rattle.hep_names.specs.Tables.{either}
 use Rattle.hep_image.specs.Private.{bare_actuals_in}
 use Rattle.hep_places.proofs.Gathered.{among-next}
 use Rattle.hep_places.proofs.actuals.bare_actuals.Goals as goal

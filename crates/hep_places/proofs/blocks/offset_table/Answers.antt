@@ -3,7 +3,7 @@ use Rattle.std.proofs.lemmas.List.{drop_more, drop_all}
 use Rattle.std.specs.Option.{option_or}
 use Rattle.indexmap.specs.IndexMap.{get}
 use Rattle.hep_machine.specs.Words.{name_eq}
-use Rattle.hep_symbols.proofs.Notes.{or-none}
+use Rattle.hep_names.proofs.Notes.{or-none}
 use Rattle.hep_places.specs.Found.{length_in, lengthened, no_length, offset_among, entries_of}
 use Rattle.hep_places.proofs.Taken.{offset-first, offset-next, no_entry}
 use Rattle.hep_places.proofs.blocks.offset_table.Goals as goal

@@ -1,7 +1,7 @@
 use Rattle.std.proofs.Common.{refl, inl}
 use Rattle.std.proofs.KnownBytes.{Keeps-refl}
-use Rattle.hep_check.specs.Words.{IsAccepted}
-use Rattle.hep_checked.specs.Listing.{listing}
+use Rattle.hep_conditions.specs.Words.{IsAccepted}
+use Rattle.hep_check.specs.Listing.{listing}
 use Rattle.hep_run.specs.Sources.{IsViolatingProgram}
 use Rattle.hep_run.proofs.Accepted.{checked_left}
 use Rattle.hep_run.proofs.source.list_source.Goals as goal

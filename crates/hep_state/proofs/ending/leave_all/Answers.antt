@@ -1,11 +1,11 @@
 use Rattle.std.proofs.Common.{◌≡◌, List, [], ◌∷◌, ◌++◌, length, reverse, refl, sym, ap, ◌∙◌, subst, arith}
 use Rattle.std.proofs.lemmas.List.{reverse-append}
-use Rattle.hep_frames.specs.Words.{wanted_of, is_stacked}
-use Rattle.hep_proc.specs.Keeping.{all_but, frames_of}
-use Rattle.hep_proc.specs.Nodes.{nodes_of}
-use Rattle.hep_proc.proofs.Several.{AreLeaving, leaving-begins, leaving-ends, leaving-goes_on, leaving-next}
-use Rattle.hep_proc.proofs.Slabs.{some-value}
-use Rattle.hep_proc.proofs.Stays.{ended-left}
+use Rattle.hep_layout.specs.Words.{descriptor_slots, is_stacked}
+use Rattle.hep_frames.specs.Keeping.{all_but, frames_of}
+use Rattle.hep_frames.specs.Nodes.{nodes_of}
+use Rattle.hep_frames.proofs.Several.{AreLeaving, leaving-begins, leaving-ends, leaving-goes_on, leaving-next}
+use Rattle.hep_frames.proofs.Slabs.{some-value}
+use Rattle.hep_frames.proofs.Stays.{ended-left}
 use Rattle.hep_state.specs.declared.machine.Level.{Level}
 use Rattle.hep_state.specs.Words.{keys_of}
 use Rattle.hep_state.proofs.ending.leave_all.Goals as goal
@@ -37,7 +37,7 @@ pub leave-requires-clause-kept : goal.leave-requires-clause-kept
 leave-requires-clause-kept c =
     let f = c.requires in
     let g = c.loop-level.invariant.0 f.0 f.1 f.2 f.3 f.4 f.5 f.6 f.7 f.8 in
-    (f.0, f.1, g.on_now, g.left.still, frames_of g.left.still f.4, wanted_of f.0 f.1 (frames_of g.left.still f.4), g.left.keeps)
+    (f.0, f.1, g.on_now, g.left.still, frames_of g.left.still f.4, descriptor_slots f.0 f.1 (frames_of g.left.still f.4), g.left.keeps)
 
 pub loop-level-preserved : goal.loop-level-preserved
 loop-level-preserved c = (

@@ -1,6 +1,6 @@
 use Rattle.std.proofs.Common.{sym, subst, ◌∙◌}
 use Rattle.hep_machine.specs.Words.{unit_at, run}
-use Rattle.hep_finding.specs.Within.{ArePlacedArrays}
+use Rattle.hep_layout_laws.specs.Within.{ArePlacedArrays}
 use Rattle.hep_passing.specs.Ready.{ArePassable}
 use Rattle.hep_step.specs.Ready.{frame_in_arena}
 use Rattle.hep_state.specs.Words.{frame_under}

@@ -5,7 +5,7 @@ use Rattle.hep_step.specs.Calls.{made_by}
 use Rattle.hep_machine.specs.declared.event.Kind.TheVariants.{Shape}
 use Rattle.hep_entering.specs.Calling.{IsPassing}
 use Rattle.hep_state.specs.Words.{state_made}
-use Rattle.hep_check.specs.Words.{IsAccepted}
+use Rattle.hep_conditions.specs.Words.{IsAccepted}
 use Rattle.hep_image.specs.Dummies.{dummy_arguments}
 use Rattle.hep_shaping.specs.Fitting.{shapes_of}
 use Rattle.hep_state.proofs.Callers.{IsKnownToBind, actuals, called-so, dummies-given, fault-ends, frameless, range-bound, called-inside}

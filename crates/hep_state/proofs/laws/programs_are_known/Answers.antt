@@ -1,7 +1,7 @@
 use Rattle.std.proofs.Common.{◌≡◌, ℕ, Bool, List, false, true}
 use Rattle.hep_machine.specs.Words.{Name, Statement, Actual, does, next_of, Work}
 use Rattle.hep_step.specs.Calls.{made_by}
-use Rattle.hep_works.specs.Works.{ComesFrom, IsCalledBy}
+use Rattle.hep_code_laws.specs.Works.{ComesFrom, IsCalledBy}
 use Rattle.hep_state.proofs.laws.programs_are_known.Goals as goal
 
 from-made : goal.After-tops_are_running → (creates : Bool) (unit : List Statement) (k : ℕ) (work : Work) (x : Name) (actuals : List Actual) → ComesFrom unit k work → next_of unit work ≡ does (made_by creates x actuals) → IsCalledBy unit k x actuals

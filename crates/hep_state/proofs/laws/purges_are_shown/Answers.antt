@@ -1,6 +1,6 @@
 use Rattle.std.proofs.Common.{◌≡◌, ℕ, true, List, Ok, Err, is_some}
 use Rattle.hep_machine.specs.Words.{Units, main_among}
-use Rattle.hep_check.specs.Words.{IsAccepted}
+use Rattle.hep_conditions.specs.Words.{IsAccepted}
 use Rattle.hep_code.specs.Words.{passed_from}
 use Rattle.hep_purging.specs.Purged.{effect_of_purge}
 use Rattle.hep_step.specs.Simulation.{Simulates, arrays_on_top}

@@ -1,7 +1,7 @@
 use Rattle.std.proofs.Common.{sym, subst}
 use Rattle.hep_machine.specs.Words.{unit_at}
 use Rattle.hep_code.specs.Words.{passed_from}
-use Rattle.hep_finding.specs.Within.{ArePlacedArrays}
+use Rattle.hep_layout_laws.specs.Within.{ArePlacedArrays}
 use Rattle.hep_passing.specs.Ready.{ArePassable}
 use Rattle.hep_purging.specs.Ready.{AreOut}
 use Rattle.hep_step.specs.Ready.{frame_in_arena}

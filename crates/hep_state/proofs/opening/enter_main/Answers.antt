@@ -2,9 +2,9 @@ use Rattle.std.proofs.Common.{◌≡◌, [], length, Some, refl, sym, ap, ◌∙
 use Rattle.std.specs.Option.{unwrap_or}
 use Rattle.hep_machine.specs.Words.{no_unit, dummies_of, main_unit, unit_at, common_cells, frame_of, frame_cells}
 use Rattle.hep_arena.specs.Holes.{first_fit}
-use Rattle.hep_frames.specs.Words.{wanted_of, Nodes}
+use Rattle.hep_layout.specs.Words.{descriptor_slots, Nodes}
 use Rattle.hep_image.specs.Data.{first_frames}
-use Rattle.hep_proc.specs.Nodes.{nodes_of}
+use Rattle.hep_frames.specs.Nodes.{nodes_of}
 use Rattle.hep_state.specs.Words.{unset_opening}
 use Rattle.hep_state.proofs.Opened.{first-fit, first_node, node-there}
 use Rattle.hep_state.proofs.opening.enter_main.Goals as goal
@@ -22,7 +22,7 @@ returns c =
     let own : cells ≡ frame_cells (unit_at program (main_unit program)) = c.main_program.ensures.cells in
     let size : cells ≡ frame_of program s 1 = own ∙ sym (c.openings_fit_by_numbers.ensures.frame program) in
     let plain : dummies_of (unit_at program (main_unit program)) ≡ [] = c.programs_are_closed.ensures.main program (ap is_some c.main.ensures.main) in
-    let opened = c.open.ensures.opened program s (wanted_of program s (first_frames program)) c.requires.unused starts (sym found) size (
+    let opened = c.open.ensures.opened program s (descriptor_slots program s (first_frames program)) c.requires.unused starts (sym found) size (
     λ part v. c.openings_want_unset_cells.ensures program s (first_frames program) part v starts plain) in
     let fit : first_fit cells old.arena.holes ≡ Some common =
     subst (λ n. first_fit n old.arena.holes ≡ Some common) (sym own) (first-fit program old.arena (nodes_of old.nodes) c.requires.unused (c.openings_fit_by_numbers.ensures.layout program) c.requires.fits) in

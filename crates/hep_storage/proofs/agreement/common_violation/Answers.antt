@@ -1,5 +1,5 @@
 use Rattle.std.proofs.Common.{◌∙◌, ap, sym}
-use Rattle.hep_check.specs.Words.{reported}
+use Rattle.hep_conditions.specs.Words.{reported}
 use Rattle.hep_storage.proofs.Differing.{all-pairs}
 use Rattle.hep_storage.proofs.agreement.common_violation.Goals as goal
 

@@ -1,7 +1,7 @@
 use Rattle.std.proofs.Common.{◌≤◌, ap, length, take, arith}
 use Rattle.indexmap.specs.IndexSet.{contains}
 use Rattle.hep_machine.specs.Words.{name_eq, names_in_block}
-use Rattle.hep_check.specs.Words.{last_line}
+use Rattle.hep_conditions.specs.Words.{last_line}
 use Rattle.hep_storage.proofs.BlockTables.{statement-turn, unit-whole}
 use Rattle.hep_storage.proofs.Tables.{none-has, none-named, read-start, read-next}
 use Rattle.hep_storage.specs.Table.{entry_at}

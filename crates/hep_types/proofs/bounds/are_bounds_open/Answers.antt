@@ -1,6 +1,6 @@
 use Rattle.std.proofs.Common.{◌∙◌, ap}
 use Rattle.std.specs.List.{list_any}
-use Rattle.hep_check.specs.Words.{is_open, trees_in_dimension}
+use Rattle.hep_conditions.specs.Words.{is_open, trees_in_dimension}
 use Rattle.hep_types.specs.Bounds.{is_dimension_open}
 use Rattle.hep_types.proofs.Dimensions.{any-within}
 use Rattle.hep_types.proofs.Results.{ok-also}

@@ -1,6 +1,6 @@
 use Rattle.std.proofs.Common.{◌≡◌, drop}
 use Rattle.std.specs.List.{list_all}
-use Rattle.hep_check.specs.Words.{is_dimension}
+use Rattle.hep_conditions.specs.Words.{is_dimension}
 use Rattle.hep_types.proofs.bounds.are_dimensions.Given as goal
 
 abbrev pub invariant-loop-dimension : goal.invariant-loop-dimension

@@ -3,8 +3,8 @@ use Rattle.std.proofs.lemmas.Iterator.{YieldsList-from_slice}
 use Rattle.std.proofs.lemmas.Iterator.Search.{all_from_yields_List}
 use Rattle.std.proofs.lemmas.List.Folds.{list_all-map}
 use Rattle.hep_machine.specs.Words.{listed_meaning}
-use Rattle.hep_check.specs.Words.{is_pure, NameWithList}
-use Rattle.hep_symbols.specs.Lists.{listed}
+use Rattle.hep_conditions.specs.Words.{is_pure, NameWithList}
+use Rattle.hep_names.specs.Lists.{listed}
 use Rattle.hep_types.proofs.parameters.are_pure.Goals as goal
 
 pub returns : goal.returns

@@ -3,7 +3,7 @@ use Rattle.std.specs.Bool.{◌==◌}
 use Rattle.std.specs.Option.{option_or}
 use Rattle.indexmap.specs.IndexMap.{get}
 use Rattle.hep_machine.specs.Words.{name_eq}
-use Rattle.hep_symbols.proofs.Notes.{not-empty}
+use Rattle.hep_names.proofs.Notes.{not-empty}
 use Rattle.hep_types.specs.Bounds.{shape_given}
 use Rattle.hep_types.proofs.KnownShapes.{noted}
 use Rattle.hep_types.proofs.shapes.note_shape.Goals as goal

@@ -2,7 +2,7 @@ use Rattle.std.proofs.Common.{◌≡◌, drop}
 use Rattle.std.specs.Option.{option_or}
 use Rattle.indexmap.specs.IndexMap.{get}
 use Rattle.hep_machine.specs.Words.{Name, name_eq}
-use Rattle.hep_symbols.specs.Statements.{rest_after}
+use Rattle.hep_names.specs.Statements.{rest_after}
 use Rattle.hep_types.specs.Shapes.{shape_among}
 use Rattle.hep_types.proofs.shapes.note_shapes.Given as goal
 

@@ -1,10 +1,10 @@
 use Rattle.std.proofs.Common.{◌≡◌, ◌+◌, ◌∙◌, refl, ap, drop}
 use Rattle.std.specs.Option.{option_or, option_map}
 use Rattle.indexmap.specs.IndexMap.{get}
-use Rattle.hep_check.specs.Words.{with_parameters}
-use Rattle.hep_symbols.specs.Statements.{rest_after}
+use Rattle.hep_conditions.specs.Words.{with_parameters}
+use Rattle.hep_names.specs.Statements.{rest_after}
 use Rattle.hep_machine.specs.Words.{name_eq, declarator_among, declarators_in}
-use Rattle.hep_symbols.proofs.ArraysAmong.{among_arrays}
+use Rattle.hep_names.proofs.ArraysAmong.{among_arrays}
 use Rattle.hep_types.specs.Bounds.{shape_given}
 use Rattle.hep_types.proofs.KnownShapes.{next-shape}
 use Rattle.hep_types.proofs.shapes.shapes_of.Goals as goal

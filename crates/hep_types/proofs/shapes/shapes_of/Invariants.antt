@@ -1,7 +1,7 @@
 use Rattle.std.proofs.Common.{◌≡◌, drop}
 use Rattle.indexmap.specs.IndexMap.{get}
 use Rattle.hep_machine.specs.Words.{Name, name_eq}
-use Rattle.hep_check.specs.Words.{known_shape, known_shape_from}
+use Rattle.hep_conditions.specs.Words.{known_shape, known_shape_from}
 use Rattle.hep_types.specs.Shapes.{shape_or}
 use Rattle.hep_types.proofs.shapes.shapes_of.Given as goal
 

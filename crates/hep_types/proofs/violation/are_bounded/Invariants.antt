@@ -1,7 +1,7 @@
 use Rattle.std.proofs.Common.{◌≡◌, drop}
 use Rattle.std.specs.List.{list_all}
-use Rattle.hep_check.specs.Words.{has_bounds}
-use Rattle.hep_symbols.specs.Statements.{rest_after}
+use Rattle.hep_conditions.specs.Words.{has_bounds}
+use Rattle.hep_names.specs.Statements.{rest_after}
 use Rattle.hep_types.proofs.violation.are_bounded.Given as goal
 
 abbrev pub invariant-loop-declarator : goal.invariant-loop-declarator

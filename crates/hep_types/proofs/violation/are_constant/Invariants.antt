@@ -1,7 +1,7 @@
 use Rattle.std.proofs.Common.{◌≡◌, drop}
 use Rattle.std.specs.List.{list_all}
 use Rattle.hep_machine.specs.Words.{Integer}
-use Rattle.hep_check.specs.Words.{is_constant_of}
+use Rattle.hep_conditions.specs.Words.{is_constant_of}
 use Rattle.hep_types.proofs.violation.are_constant.Given as goal
 
 abbrev pub invariant-loop-subscript : goal.invariant-loop-subscript

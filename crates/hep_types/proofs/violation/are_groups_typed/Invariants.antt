@@ -1,6 +1,6 @@
 use Rattle.std.proofs.Common.{◌≡◌, drop}
 use Rattle.std.specs.List.{list_all}
-use Rattle.hep_check.specs.Words.{is_group_typed}
+use Rattle.hep_conditions.specs.Words.{is_group_typed}
 use Rattle.hep_types.proofs.violation.are_groups_typed.Given as goal
 
 abbrev pub invariant-loop-group : goal.invariant-loop-group

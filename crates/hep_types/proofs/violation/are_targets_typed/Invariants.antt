@@ -1,6 +1,6 @@
 use Rattle.std.proofs.Common.{◌≡◌, drop}
 use Rattle.std.specs.List.{list_all}
-use Rattle.hep_check.specs.Words.{has_constant_subscripts}
+use Rattle.hep_conditions.specs.Words.{has_constant_subscripts}
 use Rattle.hep_types.proofs.violation.are_targets_typed.Given as goal
 
 abbrev pub invariant-loop-target : goal.invariant-loop-target

@@ -1,5 +1,5 @@
 use Rattle.std.proofs.Common.{◌≡◌, drop}
-use Rattle.hep_check.specs.Words.{no_parameters, least_line}
+use Rattle.hep_conditions.specs.Words.{no_parameters, least_line}
 use Rattle.hep_types.specs.Passes.{least_untyped}
 use Rattle.hep_types.proofs.violation.least_untyped.Given as goal
 

@@ -1,5 +1,5 @@
 use Rattle.std.proofs.Common.{◌∙◌, ap, sym}
-use Rattle.hep_check.specs.Words.{no_parameters, reported}
+use Rattle.hep_conditions.specs.Words.{no_parameters, reported}
 use Rattle.hep_types.proofs.Passes.{reported-untyped}
 use Rattle.hep_types.proofs.violation.type_violation.Goals as goal
 

@@ -1,5 +1,5 @@
 use Rattle.std.proofs.Common.{◌∙◌, ap, sym}
-use Rattle.hep_check.specs.Words.{reported}
+use Rattle.hep_conditions.specs.Words.{reported}
 use Rattle.hep_uses.proofs.Ways.{reported-ambiguous}
 use Rattle.hep_uses.proofs.ambiguous.ambiguous_violation.Goals as goal
 

@@ -1,5 +1,5 @@
 use Rattle.std.proofs.Common.{◌≡◌, drop}
-use Rattle.hep_check.specs.Words.{least_line}
+use Rattle.hep_conditions.specs.Words.{least_line}
 use Rattle.hep_uses.specs.Ambiguous as passes
 use Rattle.hep_uses.proofs.ambiguous.least_misused.Given as goal
 

@@ -1,4 +1,4 @@
-use Rattle.hep_check.specs.Words.{overlap}
+use Rattle.hep_conditions.specs.Words.{overlap}
 use Rattle.hep_uses.specs.Ambiguous.{none_seen}
 use Rattle.hep_uses.proofs.Overlaps.{none-met, overlapping-turn}
 use Rattle.hep_uses.proofs.Ways.{least_repeated-same}

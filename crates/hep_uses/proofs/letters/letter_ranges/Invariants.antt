@@ -1,5 +1,5 @@
 use Rattle.std.proofs.Common.{◌≡◌, ◌++◌, drop}
-use Rattle.hep_check.specs.Names as conditions
+use Rattle.hep_conditions.specs.Names as conditions
 use Rattle.hep_uses.proofs.letters.letter_ranges.Given as goal
 
 abbrev pub invariant-loop-statement : goal.invariant-loop-statement

@@ -1,7 +1,7 @@
 use Rattle.std.proofs.Common.{◌≡◌, drop}
 use Rattle.indexmap.specs.IndexSet.{contains}
 use Rattle.hep_machine.specs.Words.{same_name, name_eq}
-use Rattle.hep_check.specs.Words.{least_line}
+use Rattle.hep_conditions.specs.Words.{least_line}
 use Rattle.hep_uses.specs.Ambiguous as passes
 use Rattle.hep_uses.proofs.repeated.least_repeated.Given as goal
 

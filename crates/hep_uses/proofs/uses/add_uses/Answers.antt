@@ -1,7 +1,7 @@
 use Rattle.std.proofs.Common.{◌+◌, ◌++◌, ◌∙◌, ap, drop}
 use Rattle.hep_machine.specs.Words.{Statement}
 use Rattle.hep_uses.specs.Uses.{used_at, names_by}
-use Rattle.hep_symbols.proofs.Firsts.{grow}
+use Rattle.hep_names.proofs.Firsts.{grow}
 use Rattle.hep_uses.proofs.uses.add_uses.Goals as goal
 use Rattle.hep_source.proofs.Tests.{drop_at}
 

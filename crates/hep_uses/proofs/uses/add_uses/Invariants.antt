@@ -1,5 +1,5 @@
 use Rattle.std.proofs.Common.{◌≡◌, ◌++◌, drop}
-use Rattle.hep_check.specs.Words.{uses_by}
+use Rattle.hep_conditions.specs.Words.{uses_by}
 use Rattle.hep_uses.specs.Uses as rows
 use Rattle.hep_uses.proofs.uses.add_uses.Given as goal
 

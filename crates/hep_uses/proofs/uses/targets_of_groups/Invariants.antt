@@ -1,5 +1,5 @@
 use Rattle.std.proofs.Common.{◌≡◌, ◌++◌, drop}
-use Rattle.hep_check.specs.Words.{names_of_targets, targets_of_groups}
+use Rattle.hep_conditions.specs.Words.{names_of_targets, targets_of_groups}
 use Rattle.hep_uses.proofs.uses.targets_of_groups.Given as goal
 
 abbrev pub invariant-loop-group : goal.invariant-loop-group

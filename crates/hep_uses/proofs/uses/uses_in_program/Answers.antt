@@ -1,6 +1,6 @@
 use Rattle.std.proofs.Common.{◌+◌, drop}
 use Rattle.hep_uses.specs.Uses.{uses_of}
-use Rattle.hep_symbols.proofs.Firsts.{grow}
+use Rattle.hep_names.proofs.Firsts.{grow}
 use Rattle.hep_uses.proofs.uses.uses_in_program.Goals as goal
 use Rattle.hep_source.proofs.Tests.{drop_at}
 

@@ -8,7 +8,7 @@ use Rattle.hep_machine.specs.contracts.event.Entry as entry
 use Rattle.hep_ready.specs.contracts.ready.Ready as ready
 use Rattle.hep_scheduler.specs.contracts.scheduler.Core as core
 use Rattle.hep_scheduler.specs.contracts.scheduler.Core.TheInside as inside
-use Rattle.hep_scheduler.specs.contracts.stop.Stop as stop
+use Rattle.hep_scheduler.specs.contracts.stop.ChoiceStop as stop
 use Rattle.hep_state.specs.contracts.machine.Machine as machine
 use Rattle.hep_tickets.specs.contracts.shared.SharedCore.TheInside as shared
 use Rattle.hep_tickets.specs.contracts.ticket.TicketId as ticket

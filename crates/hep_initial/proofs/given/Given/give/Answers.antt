@@ -1,7 +1,7 @@
 use Rattle.std.proofs.Common.{◌≡◌, ◌∙◌, refl, sym, subst, rules}
 use Rattle.indexmap.specs.IndexSet.{contains}
 use Rattle.hep_machine.specs.Words.{name_eq}
-use Rattle.hep_symbols.specs.Tables.{either}
+use Rattle.hep_names.specs.Tables.{either}
 use Rattle.hep_initial.specs.Given.{element_eq, IsNamed}
 use Rattle.hep_initial.proofs.Giving.{with-one, with-all, element-added}
 use Rattle.hep_initial.proofs.given.Given.give.Goals as goal

@@ -1,6 +1,6 @@
 use Rattle.std.proofs.Common.{◌∙◌, ap, sym}
 use Rattle.hep_machine.specs.Words.{is_held, used_cells, run, schedule_of}
-use Rattle.hep_frames.specs.Words.{wanted_of, is_stacked}
+use Rattle.hep_layout.specs.Words.{descriptor_slots, is_stacked}
 use Rattle.hep_scheduler.proofs.Histories.{state-is}
 use Rattle.hep_scheduler.proofs.scheduler.Core.used.Goals as goal
 
@@ -11,6 +11,6 @@ returns c =
     let s = run i.image choices in
     let after = c.self.invariant.after.after in
     rw (← c.self.view_is) (
-    c.used.ensures.used i.image s (is_stacked s) (is_held s) after.layout (wanted_of i.image s after.layout) after.shows.keeps
+    c.used.ensures.used i.image s (is_stacked s) (is_held s) after.layout (descriptor_slots i.image s after.layout) after.shows.keeps
     ∙ sym (c.layouts_have_what_is_held.ensures.used i.image i.cells choices after.layout after.laid)
     ∙ ap (used_cells i.image is_held) (sym (state-is i.image i.history.items)))

@@ -2,11 +2,11 @@ use Rattle.std.proofs.Common.{◌≡◌, ℕ, ◌-◌, List, ◌∷◌, length, 
 use Rattle.std.proofs.lemmas.Result.{IfOk-weaker, on_err_weaker}
 use Rattle.hep_machine.specs.Words.{Value}
 use Rattle.hep_arena.specs.Holes.{IsOut}
-use Rattle.hep_proc.specs.Nodes.{nodes_of}
+use Rattle.hep_frames.specs.Nodes.{nodes_of}
 use Rattle.hep_step.specs.Effects.{effect_at}
 use Rattle.hep_step.specs.Performed as performed
 use Rattle.hep_step.specs.Simulation.{unit_arrays, unit_code}
-use Rattle.hep_proc.specs.declared.frames.Frames.{Frames}
+use Rattle.hep_frames.specs.declared.frames.Frames.{Frames}
 use Rattle.std.specs.Vec.{with_item}
 use Rattle.hep_state.specs.declared.machine.Level.{Level}
 use Rattle.hep_state.specs.declared.machine.Machine.{Machine}

@@ -1,9 +1,9 @@
 use Rattle.std.proofs.Common.{◌≡◌, ℕ, ◌+◌, ◌≤◌, Bool, List, length, Option, Some, refl, sym, ap, ◌∙◌, subst, arith}
 use Rattle.hep_machine.specs.Words.{Units, unit_at, Layout, common_cells, frame_of, is_held, lowest_gap, run, Bounds, State, scope_of, step, frame_cells}
-use Rattle.hep_frames.specs.Words.{wanted_of, Node, Nodes, also, is_stacked, new_node, with_node}
+use Rattle.hep_layout.specs.Words.{descriptor_slots, FrameNode, Nodes, also, is_stacked, new_node, with_node}
 use Rattle.slab.specs.Slab.{ContainsKey}
-use Rattle.hep_proc.specs.Nodes.{nodes_of}
-use Rattle.hep_proc.proofs.Slabs.{some-value}
+use Rattle.hep_frames.specs.Nodes.{nodes_of}
+use Rattle.hep_frames.proofs.Slabs.{some-value}
 use Rattle.hep_passing.specs.Shapes.{AreShapesOf}
 use Rattle.hep_entering.specs.Calling.{AreAllKept, ArePassed, IsWritten, layout_with, unit_begun}
 use Rattle.hep_entering.specs.Shapes.{AreShaping, cells_of_shapes, cells_to_bounds_of, cells_to_locals}
@@ -42,7 +42,7 @@ begin-key-requires c =
       gap = c.requires.gap;
       there = subst (λ (l : Level). ContainsKey slab l.key) (sym same) (some-value slab e.l.key (node_under m.nodes e.l.key) (top-node e.turning));
       kept = kept-now e.turning;
-      children = c.children_are_activations.ensures r.1 s (is_stacked s) (is_held s) layout (wanted_of r.1 s layout) m.arena m.nodes c.top-parent.result.key shows.keeps (omega (arith, c.requires.countable, shows.activations));
+      children = c.children_are_activations.ensures r.1 s (is_stacked s) (is_held s) layout (descriptor_slots r.1 s layout) m.arena m.nodes c.top-parent.result.key shows.keeps (omega (arith, c.requires.countable, shows.activations));
     }
 
 -- ---- the frame with the cells of its dummy arguments written
@@ -144,7 +144,7 @@ shape_all-requires c =
       few = omega (arith, c.requires.few, c.begin-key.ensures.cells);
       there = some-value frames.nodes key b.node b.there;
       kept = begun-kept r.1 r.3 _ _ c.args.called.cells key shapes c.args.self.now.frames.arena frames.arena (nodes_of frames.nodes) b;
-      many = subst (λ (xs : List (Option Bounds)). (n : Node) → nodes_of frames.nodes key ≡ Some n → cells_of_shapes xs ≤ n.cells) (sym c.deref-2.ensures.value) inside;
+      many = subst (λ (xs : List (Option Bounds)). (n : FrameNode) → nodes_of frames.nodes key ≡ Some n → cells_of_shapes xs ≤ n.cells) (sym c.deref-2.ensures.value) inside;
     }
 
 pub returns-clause-entered : goal.returns-clause-entered
@@ -169,7 +169,7 @@ returns-clause-entered c creates program cells choices index makes =
       first = b.first;
       gap = (λ i. lowest_gap (sym h.after.size i) (sym big i) (common_cells program) layout) ∙ b.gap;
       written =
-          c.shape_all.ensures.shaped program t (also n (is_stacked s)) (also n (is_held s)) (layout_with program t layout b.first) (wanted_of program s layout) n b.node (unset before creates program cells choices index makes) b.there b.framed shaping;
+          c.shape_all.ensures.shaped program t (also n (is_stacked s)) (also n (is_held s)) (layout_with program t layout b.first) (descriptor_slots program s layout) n b.node (unset before creates program cells choices index makes) b.there b.framed shaping;
       kept = kept before creates program cells choices index makes n (made-stacked creates program choices p e.top u e.b h.lives);
       size = c.shape_all.ensures.cells ∙ (c.begin-key.ensures.cells ∙ h.after.size);
       vacant = c.begin-key.ensures.vacant;

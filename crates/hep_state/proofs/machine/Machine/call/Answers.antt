@@ -2,7 +2,7 @@ use Rattle.std.proofs.Common.{◌≡◌, ◌-◌, ◌≤◌, [], ◌∷◌, leng
 use Rattle.std.specs.Vec.{with_item}
 use Rattle.hep_machine.specs.Words.{with_numbered}
 use Rattle.hep_code.specs.Words.{deepest}
-use Rattle.hep_proc.specs.Nodes.{nodes_of}
+use Rattle.hep_frames.specs.Nodes.{nodes_of}
 use Rattle.hep_step.specs.Simulation.{unit_code}
 use Rattle.hep_state.specs.declared.machine.Level.{Level}
 use Rattle.hep_state.specs.declared.machine.Machine.{Machine}

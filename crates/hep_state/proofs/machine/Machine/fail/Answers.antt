@@ -1,9 +1,9 @@
 use Rattle.std.proofs.Common.{◌≡◌, ◌-◌, ◌∷◌, ◌++◌, List, [], reverse, refl, sym, ap, ◌∙◌, subst}
 use Rattle.hep_machine.specs.declared.event.Fault.{Fault}
 use Rattle.hep_machine.specs.Words.{activations_on, is_held, run}
-use Rattle.hep_proc.specs.Keeping.{CanAllLeave, CanLeave}
-use Rattle.hep_frames.specs.Words.{is_stacked}
-use Rattle.hep_proc.specs.Nodes.{nodes_of}
+use Rattle.hep_frames.specs.Keeping.{CanAllLeave, CanLeave}
+use Rattle.hep_layout.specs.Words.{is_stacked}
+use Rattle.hep_frames.specs.Nodes.{nodes_of}
 use Rattle.hep_state.specs.declared.machine.Level.{Level}
 use Rattle.hep_state.specs.declared.machine.Process.{Process}
 use Rattle.hep_state.specs.Words.{Stack, snapshot_of, keys_of, snapshot_failed, state_failed, HasStepped}

@@ -1,8 +1,8 @@
 use Rattle.std.proofs.Common.{[], ◌-◌, refl, sym, ap, ◌∙◌, subst, arith}
 use Rattle.slab.specs.Slab.{ContainsKey}
 use Rattle.hep_machine.specs.Words.{is_held, run}
-use Rattle.hep_proc.specs.Nodes.{nodes_of}
-use Rattle.hep_proc.proofs.Slabs.{some-value}
+use Rattle.hep_frames.specs.Nodes.{nodes_of}
+use Rattle.hep_frames.proofs.Slabs.{some-value}
 use Rattle.hep_state.specs.declared.machine.Level.{Level}
 use Rattle.hep_state.specs.Words.{node_under, snapshot_of, snapshot_returned, state_returned, HasStepped}
 use Rattle.hep_state.proofs.Moved.{kept-now, lead-upwards, returned-ended, returned-shown, top-node}

@@ -3,8 +3,8 @@ use Rattle.std.specs.Option.{unwrap_or}
 use Rattle.hep_machine.specs.Words.{no_unit, main_unit, Units}
 use Rattle.hep_code.specs.Words.{deepest}
 use Rattle.hep_arena.specs.Space.{Space}
-use Rattle.hep_frames.specs.Words.{Nodes}
-use Rattle.hep_proc.specs.Nodes.{nodes_of}
+use Rattle.hep_layout.specs.Words.{Nodes}
+use Rattle.hep_frames.specs.Nodes.{nodes_of}
 use Rattle.hep_step.specs.Simulation.{unit_code}
 use Rattle.hep_state.specs.Words.{IsEntered, snapshot_opened, IsAfter, HasRoom, HasRoomToPass, IsMachineAfter, snapshot_of, stack_of}
 use Rattle.hep_state.proofs.Opened.{entered-out}

@@ -1,5 +1,5 @@
 use Rattle.std.proofs.Common.{◌≡◌, ◌&&◌, drop}
-use Rattle.hep_check.specs.Words.{with_parameters, are_constants_given}
+use Rattle.hep_conditions.specs.Words.{with_parameters, are_constants_given}
 use Rattle.hep_types.proofs.parameters.Parameters.add_all.Given as goal
 
 abbrev pub invariant-loop-constant : goal.invariant-loop-constant

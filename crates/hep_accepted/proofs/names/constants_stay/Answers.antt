@@ -1,5 +1,0 @@
-use Rattle.hep_accepted.proofs.Meant.{constant_not_assigned, constant_not_in_data, constant_not_called}
-use Rattle.hep_accepted.proofs.names.constants_stay.Goals as goal
-
-pub returns : goal.returns
-returns c = record { assigned = constant_not_assigned; «data» = constant_not_in_data; called = constant_not_called }

@@ -1,5 +1,0 @@
-use Rattle.hep_accepted.proofs.Formed.{conditions_are_logical}
-use Rattle.hep_accepted.proofs.types.conditions_are_logical.Goals as goal
-
-pub returns : goal.returns
-returns c = conditions_are_logical

@@ -1,5 +1,0 @@
-use Rattle.hep_check.proofs.Agreeing.{constants_agree}
-use Rattle.hep_check.proofs.laws.constants_agree.Goals as goal
-
-pub returns : goal.returns
-returns c = constants_agree

@@ -1,0 +1,18 @@
+-- Why a program isn't accepted: docs/LANGUAGE.md, 10.
+use Rattle.std.specs.Prelude.{◌≡◌, [], Some}
+use Rattle.std.specs.Option.{option_map_or}
+use Rattle.hep_base.specs.declared.refusal.Refusal.{Refusal}
+use Rattle.hep_base.specs.declared.refusal.Refusal.TheVariants.{NoMemory, Refused}
+use Rattle.hep_conditions.specs.Words.{first_violation}
+use Rattle.hep_conditions.specs.declared.violation.Violation.{Violation}
+use Rattle.hep_machine.specs.Words.{spelling, Units}
+
+-- a refusal says what a violation is; want of memory says nothing of it
+abbrev pub Reports : Violation → Refusal → Type 0
+Reports v NoMemory = Unit {0}
+Reports v (Refused number line name) = (number ≡ v.number) × (line ≡ v.line) × (name ≡ option_map_or spelling v.name [])
+
+-- a refusal says what the first violation of a program is
+abbrev pub Refuses : Units → Refusal → Type 0
+Refuses program NoMemory = Unit {0}
+Refuses program (Refused number line name) = (v : Violation) × (first_violation program ≡ Some v) × Reports v (Refused number line name)

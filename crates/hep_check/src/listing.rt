@@ -1,0 +1,94 @@
+//! The lines of units and common blocks, with the cells that they take (docs/MACHINE.md, "Variables and frames" and
+//! "Layout").
+ghost use Rattle.std.specs.Prelude.{◌≡◌, ◌++◌, IfOk, OnOk};
+ghost use Rattle.std.specs.Fmt.{decimal};
+ghost use Rattle.std.specs.List.{flat_map};
+ghost use Rattle.hep_machine.specs.Words.{blocks_of};
+ghost use Rattle.hep_check.specs.Listing as words;
+
+use hep_common::CommonBlocks;
+use hep_conditions::Checked;
+use hep_names::ProgramSymbols;
+use hep_source::{Name, Text};
+use itoa::Buffer;
+use std::alloc::{AllocError, Global};
+
+// Appends a number in decimal.
+fn append_number(text: &mut Vec<u8>, number: u128) -> Result<(), AllocError>
+    ensures { OnOk result (text.new.items ≡ text.old.items ++ decimal number) }
+{
+    let mut buffer = Buffer::new();
+    text.extend_from_slice(buffer.format(number).as_bytes())
+}
+
+fn block_name(alloc: Global, block: Option<Name>) -> Result<Text, AllocError>
+    ensures { IfOk result (λ name. name ≡ words.block_name block) }
+{
+    match block {
+        Some(name) => name.spelling(alloc),
+        None => Ok(Text::from(Vec::new(alloc))),
+    }
+}
+
+// The line of a unit of this name: `UNIT name CELLS n`.
+fn append_unit(text: &mut Vec<u8>, name: &[u8], cells: u128) -> Result<(), AllocError>
+    ensures { OnOk result (text.new.items ≡ text.old.items ++ words.unit_text name.now cells) }
+{
+    text.extend_from_slice(b"UNIT ")?;
+    text.extend_from_slice(name)?;
+    text.extend_from_slice(b" CELLS ")?;
+    append_number(text, cells)?;
+    text.extend_from_slice(b"\n")?;
+    Ok(())
+}
+
+// The line of a common block of this name: `BLOCK /name/ CELLS n`.
+fn append_block(text: &mut Vec<u8>, name: &[u8], cells: u128) -> Result<(), AllocError>
+    ensures { OnOk result (text.new.items ≡ text.old.items ++ words.block_text name.now cells) }
+{
+    text.extend_from_slice(b"BLOCK /")?;
+    text.extend_from_slice(name)?;
+    text.extend_from_slice(b"/ CELLS ")?;
+    append_number(text, cells)?;
+    text.extend_from_slice(b"\n")?;
+    Ok(())
+}
+
+fn append_units(alloc: Global, text: &mut Vec<u8>, checked: &Checked) -> Result<(), AllocError>
+    ensures { OnOk result (text.new.items ≡ text.old.items ++ flat_map words.unit_line checked.now) }
+{
+    for (number, unit) in checked.program().as_slice().iter().enumerate() {
+        let name = unit.name(alloc)?;
+        append_unit(text, name.as_slice(), checked.frame_cells(number))?;
+    }
+    Ok(())
+}
+
+fn append_blocks(alloc: Global, text: &mut Vec<u8>, checked: &Checked) -> Result<(), AllocError>
+    ensures { OnOk result (text.new.items ≡ text.old.items ++ flat_map (words.block_line checked.now) (blocks_of checked.now)) }
+{
+    let program = ProgramSymbols::new(alloc, checked.program().as_slice())?;
+    let common = CommonBlocks::of_program(alloc, &program)?;
+    for block in common.blocks() {
+        let name = block_name(alloc, *block)?;
+        append_block(text, name.as_slice(), common.cells(*block))?;
+    }
+    Ok(())
+}
+
+/// The lines of a checked program: `UNIT name CELLS n` with the cells of the frame of each unit, in the order of the
+/// source, then `BLOCK /name/ CELLS n` with those of each common block at its greatest length (X3.9-1978, 8.3.3), in
+/// the order of their first appearance. A main program without PROGRAM statement is `MAIN`, and blank COMMON has no
+/// name.
+///
+/// # Errors
+///
+/// Only where memory was refused.
+pub fn list_text(alloc: Global, checked: &Checked) -> Result<Text, AllocError>
+    ensures { IfOk result (λ text. text ≡ words.listing checked.now) }
+{
+    let mut text = Vec::new(alloc);
+    append_units(alloc, &mut text, checked)?;
+    append_blocks(alloc, &mut text, checked)?;
+    Ok(Text::from(text))
+}

@@ -1,0 +1,39 @@
+-- All conditions of a program: docs/LANGUAGE.md, 10.
+use Rattle.std.specs.Prelude.{◌≡◌, List, [], ◌++◌, Option}
+use Rattle.std.specs.List.{flat_map}
+use Rattle.hep_machine.specs.Words.{Statement, Units}
+use Rattle.hep_conditions.specs.declared.violation.Violation.{Violation}
+use Rattle.hep_conditions.specs.Common.{common_violations}
+use Rattle.hep_conditions.specs.Data.{data_violations}
+use Rattle.hep_conditions.specs.Labels.{label_violations}
+use Rattle.hep_conditions.specs.Names.{type_missing_violations, name_violations, unknown_name_violations}
+use Rattle.hep_conditions.specs.Nesting.{structure_violations, jump_violations}
+use Rattle.hep_conditions.specs.Constants.{type_violations}
+use Rattle.hep_conditions.specs.Counts.{count_violations}
+use Rattle.hep_conditions.specs.Arguments.{argument_violations}
+use Rattle.hep_conditions.specs.Violations.{Violations, first_of}
+
+-- the violations of a unit, 301 to 311 but for those of whole programs
+abbrev pub violations_in : Units → List Statement → Violations
+violations_in program unit =
+    type_missing_violations unit
+    ++ (type_violations unit
+    ++ (count_violations program unit
+    ++ (argument_violations program unit
+    ++ (label_violations unit
+    ++ (structure_violations unit
+    ++ (jump_violations unit
+    ++ (unknown_name_violations program unit
+    ++ data_violations unit)))))))
+
+-- the violations of a program
+abbrev pub violations : Units → Violations
+violations program = flat_map (violations_in program) program ++ (common_violations program ++ name_violations program)
+
+-- a program is accepted where it has no violation
+abbrev pub IsAccepted : Units → Type 0
+IsAccepted program = violations program ≡ []
+
+-- the violation that is reported
+abbrev pub first_violation : Units → Option Violation
+first_violation program = first_of (violations program)

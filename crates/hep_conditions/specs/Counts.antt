@@ -1,0 +1,44 @@
+-- Conditions of numbers of arguments: 303 (X3.9-1978, 15.6.2.3 and 15.10).
+use Rattle.std.specs.Prelude.{ℕ, suc, Bool, true, not, ◌&&◌, nat_eq, nat_le, List, length, Option, Some, None}
+use Rattle.std.specs.List.{flat_map, list_all}
+use Rattle.hep_machine.specs.Words.{Trees, no_trees, trees, PureFunction, AbsoluteValue, Remainder, TransferOfSign, PositiveDifference, Largest, Smallest, Statement, Meaning, element, pure, state, unknown, listed_meaning, Units, unit_at, subroutine_called, dummies_of}
+use Rattle.hep_conditions.specs.Statements.{NameWithList, names_with_lists, Calling, calls_in}
+use Rattle.hep_conditions.specs.Violations.{Violations, at_line, when}
+
+-- ---- functions: 15.10
+
+abbrev pub count_of : Trees → ℕ
+count_of no_trees = 0
+count_of (trees t ts) = suc (count_of ts)
+
+abbrev pub takes : PureFunction → ℕ → Bool
+takes AbsoluteValue n = nat_eq n 1
+takes Remainder n = nat_eq n 2
+takes TransferOfSign n = nat_eq n 2
+takes PositiveDifference n = nat_eq n 2
+takes Largest n = nat_le 2 n
+takes Smallest n = nat_le 2 n
+
+abbrev pub takes_list : Meaning → ℕ → Bool
+takes_list element n = true
+takes_list (pure f) n = takes f n
+takes_list (state f) n = nat_eq n 1
+takes_list unknown n = true
+
+abbrev pub is_counted : List Statement → NameWithList → Bool
+is_counted unit r = takes_list (listed_meaning unit r.occurrence.name) (count_of r.arguments)
+
+-- ---- subroutines: 15.6.2.3
+
+-- as many as the subroutine of this number has dummy arguments
+abbrev pub takes_actuals : Units → Option ℕ → ℕ → Bool
+takes_actuals program None n = true
+takes_actuals program (Some u) n = nat_eq n (length (dummies_of (unit_at program u)))
+
+abbrev pub is_call_counted : Units → Calling → Bool
+is_call_counted program c = takes_actuals program (subroutine_called program c.occurrence.name) (length c.actuals)
+
+abbrev pub count_violations : Units → List Statement → Violations
+count_violations program unit =
+    flat_map (λ (s : Statement).
+    when (not (list_all (is_counted unit) (names_with_lists s) && list_all (is_call_counted program) (calls_in s.form))) (at_line 303 s.line)) unit

@@ -1,0 +1,16 @@
+pub mod Violations
+pub mod Reported
+pub mod Known
+pub mod Statements
+pub mod Names
+pub mod Counts
+pub mod Types
+pub mod Constants
+pub mod Arguments
+pub mod Common
+pub mod Labels
+pub mod Nesting
+pub mod Data
+pub mod Conditions
+pub mod Laws
+pub mod Words

@@ -1,8 +1,0 @@
-use Rattle.hep_frames.proofs.TreeSteps.{tree-ended, wanted-ended}
-use Rattle.hep_frames.proofs.laws.activations_end.Goals as goal
-
-pub returns : goal.returns
-returns c = record {
-  tree = λ s on out nodes k n tree at. tree-ended s on out nodes k n tree at;
-  wanted = wanted-ended;
-}

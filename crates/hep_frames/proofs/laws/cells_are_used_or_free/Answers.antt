@@ -1,5 +1,0 @@
-use Rattle.hep_frames.proofs.Memory.{memory-cells}
-use Rattle.hep_frames.proofs.laws.cells_are_used_or_free.Goals as goal
-
-pub returns : goal.returns
-returns c = memory-cells

@@ -1,5 +1,0 @@
-use Rattle.hep_frames.proofs.Descriptors.{described-entered, described-left}
-use Rattle.hep_frames.proofs.laws.descriptors_stay.Goals as goal
-
-pub returns : goal.returns
-returns c = record { enters = described-entered; leaves = described-left }

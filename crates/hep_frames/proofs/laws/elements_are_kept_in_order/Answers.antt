@@ -1,5 +1,0 @@
-use Rattle.hep_frames.proofs.Storages.{dummy-runs, element-address}
-use Rattle.hep_frames.proofs.laws.elements_are_kept_in_order.Goals as goal
-
-pub returns : goal.returns
-returns c = record { element = element-address; actual = dummy-runs }

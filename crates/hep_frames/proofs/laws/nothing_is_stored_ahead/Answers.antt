@@ -1,5 +1,0 @@
-use Rattle.hep_frames.proofs.References.{unset-ahead}
-use Rattle.hep_frames.proofs.laws.nothing_is_stored_ahead.Goals as goal
-
-pub returns : goal.returns
-returns c = unset-ahead

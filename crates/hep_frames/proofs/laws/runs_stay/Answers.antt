@@ -1,5 +1,0 @@
-use Rattle.hep_frames.proofs.Runs.{runs-entered, runs-left}
-use Rattle.hep_frames.proofs.laws.runs_stay.Goals as goal
-
-pub returns : goal.returns
-returns c = record { enters = runs-entered; leaves = runs-left }

@@ -1,5 +1,0 @@
-use Rattle.hep_frames.proofs.Beginning.{rest-first, tree-same, wanted-same}
-use Rattle.hep_frames.proofs.laws.trees_begin_and_stay.Goals as goal
-
-pub returns : goal.returns
-returns c = record { begins = rest-first; tree = tree-same; wanted = wanted-same }

@@ -1,6 +1,0 @@
-use Rattle.hep_frames.proofs.Runs.{runs-value}
-use Rattle.hep_frames.proofs.Storages.{storage-common, storage-dummy, storage-local}
-use Rattle.hep_frames.proofs.laws.variables_are_kept_in_runs.Goals as goal
-
-pub returns : goal.returns
-returns c = record { local = storage-local; common = storage-common; dummy = storage-dummy; value = runs-value }

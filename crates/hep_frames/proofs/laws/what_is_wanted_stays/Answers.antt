@@ -1,5 +1,0 @@
-use Rattle.hep_frames.proofs.Wants.{wanted-entered, wanted-left}
-use Rattle.hep_frames.proofs.laws.what_is_wanted_stays.Goals as goal
-
-pub returns : goal.returns
-returns c = record { enters = wanted-entered; leaves = wanted-left }

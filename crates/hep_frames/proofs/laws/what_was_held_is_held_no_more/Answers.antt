@@ -1,5 +1,0 @@
-use Rattle.hep_frames.proofs.HeldFrames.{held-earlier}
-use Rattle.hep_frames.proofs.laws.what_was_held_is_held_no_more.Goals as goal
-
-pub returns : goal.returns
-returns c = held-earlier

@@ -1,5 +1,0 @@
-use Rattle.hep_frames.proofs.Memory.{memory-same, memory-written, written-elsewhere}
-use Rattle.hep_frames.proofs.laws.writes_change_one_cell.Goals as goal
-
-pub returns : goal.returns
-returns c = record { same = memory-same; written = memory-written; elsewhere = written-elsewhere }

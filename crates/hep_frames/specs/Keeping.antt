@@ -1,0 +1,112 @@
+-- What the frames of a state are, in the arena and in the tree: docs/MACHINE.md, "Layout" and "Variables and frames".
+use Rattle.std.specs.Prelude.{◌≡◌, ℕ, ◌+◌, ◌<◌, ◌≤◌, Bool, true, nat_eq, if◌then◌else◌, List, [], ◌∷◌, ◌++◌, length, Some, None, is_some, slice_get}
+use Rattle.std.specs.List.{filter}
+use Rattle.hep_machine.specs.Words.{Name, Units, unset_cell, Frame, Layout, dummy_at, activation_of, run, Activation, Location, State, local}
+use Rattle.hep_machine.specs.declared.slot.Slot.{Slot}
+use Rattle.hep_arena.specs.Gaps.{frame_among, gaps}
+use Rattle.hep_arena.specs.Holes.{IsOut, taken}
+use Rattle.hep_arena.specs.Space.{Space}
+use Rattle.hep_layout.specs.Words.{IsMemory, Describes, DescriptorSlots, descriptor_slots, FramePart, IsOwnedAbove, AreFramed, AreNeededBut, but, is_stacked, IsFrameTree, FrameNode, Nodes}
+
+-- ---- the frames of a state
+
+-- the arena and the nodes are those of a state in which some activations are on stacks and the frames of some are
+-- out, just those of a layout: what is stored is at its address, the nodes are the tree of the frames, nothing is
+-- left to be given back, and the other cells hold what is wanted of them
+pub record Keeps (program : Units) (s : State) (on out : ℕ → Bool) (layout : Layout) (wanted : DescriptorSlots) (arena : Space) (nodes : Nodes) : Type 0 where
+  pub memory : IsMemory program s layout arena.contents arena.holes
+  pub tree : IsFrameTree s on out nodes
+  pub rest : AreNeededBut None s on out
+  pub framed : AreFramed layout nodes
+  pub frames_are : (a : ℕ) → is_some (frame_among a layout) ≡ out a
+  pub described : Describes program s layout wanted arena.contents
+
+-- they are those of some state
+abbrev pub AreOfSomeState : Space → Nodes → Type 0
+AreOfSomeState arena nodes =
+    (program : Units) × (s : State) × (on : ℕ → Bool) × (out : ℕ → Bool) × (layout : Layout) × (wanted : DescriptorSlots) × Keeps program s on out layout wanted arena nodes
+
+-- before the main program begins: COMMON has so many cells at the arena's front, all unset, and no frame is out
+pub record IsUnused (common : ℕ) (arena : Space) (nodes : Nodes) : Type 0 where
+  pub fits : common ≤ length arena.contents
+  pub unset : (p : ℕ) → p < common → slice_get arena.contents p ≡ Some unset_cell
+  pub holes_are : arena.holes ≡ gaps (length arena.contents) common []
+  pub none : (key : ℕ) → nodes key ≡ None
+
+-- ---- an activation begins
+
+-- the lowest gap of so many cells is taken, which begins at a cell, and those cells are unset
+pub record IsTaken (cells first : ℕ) (before after : Space) : Type 0 where
+  pub holes_are : after.holes ≡ taken cells before.holes
+  pub cleared : (p : ℕ) → first ≤ p → p < first + cells → slice_get after.contents p ≡ Some unset_cell
+  pub kept : (p : ℕ) → IsOut p before.holes → slice_get after.contents p ≡ slice_get before.contents p
+  pub size : length after.contents ≡ length before.contents
+
+-- the opening of a program's run, with nothing stored yet
+pub record IsOpening (program : Units) (s : State) : Type 0 where
+  pub activations_are : s.activations ≡ (run program []).activations
+  pub processes_are : s.processes ≡ (run program []).processes
+  pub unset : (at : Location) → s.store at ≡ unset_cell
+
+-- from a state to another there is one activation more, in which nothing is stored
+pub record IsBegun (s t : State) (x : Activation) : Type 0 where
+  pub activations_are : t.activations ≡ s.activations ++ x ∷ []
+  pub store_is : t.store ≡ s.store
+  pub unset : (y : Name) (i : ℕ) → s.store (local (length t.activations) y i) ≡ unset_cell
+
+-- the cells of a new activation are unset; of the others it is wanted what was wanted
+abbrev pub with_unset : ℕ → DescriptorSlots → DescriptorSlots
+with_unset a wanted b c = if nat_eq b a then Some unset_cell else wanted b c
+
+-- ---- an activation ends
+
+-- the frames of these activations
+abbrev pub frames_of : (ℕ → Bool) → Layout → Layout
+frames_of out layout = filter (λ (f : Frame). out f.activation) layout
+
+-- what dummy arguments stand for is in COMMON or of their activation or one above it (X3.9-1978, 15.9.3)
+abbrev pub LeadUpwards : State → Type 0
+LeadUpwards s = (a k : ℕ) → IsOwnedAbove s a (dummy_at (activation_of s a).dummies k).start
+
+-- what is still out is under the key that it had, with the frame and the parent that it had
+abbrev pub KeysStay : (ℕ → Bool) → Nodes → Nodes → Type 0
+KeysStay still old new =
+    (key : ℕ) (n : FrameNode) → old key ≡ Some n → still n.activation ≡ true
+    → (m : FrameNode) × (new key ≡ Some m) × (m.activation ≡ n.activation) × (m.first ≡ n.first) × (m.cells ≡ n.cells) × (m.parent ≡ n.parent)
+
+-- the frames of a layout once those were given back that aren't wanted any more, where some activations are on stacks
+pub record HasLeft (program : Units) (s : State) (on out : ℕ → Bool) (layout : Layout) (before after : Space) (old new : Nodes) : Type 0 where
+  pub still : ℕ → Bool
+  pub keeps : Keeps program s on still (frames_of still layout) (descriptor_slots program s (frames_of still layout)) after new
+  pub fewer : (a : ℕ) → still a ≡ true → out a ≡ true
+  pub were_out : (p : ℕ) → IsOut p after.holes → IsOut p before.holes
+  pub kept : (p : ℕ) → IsOut p after.holes → slice_get after.contents p ≡ slice_get before.contents p
+  pub keys_stay : KeysStay still old new
+
+-- from a state to another activations have left their stacks, so that these are on stacks then; nothing is stored, and
+-- no more is wanted of the cells that keep no storage unit
+pub record IsEnded (program : Units) (layout : Layout) (on : ℕ → Bool) (s t : State) : Type 0 where
+  pub activations_are : t.activations ≡ s.activations
+  pub store_is : t.store ≡ s.store
+  pub stacks_are : (a : ℕ) → is_stacked t a ≡ on a
+  pub no_more : (a : ℕ) (c : FramePart × ℕ) (v : Slot) → descriptor_slots program t layout a c ≡ Some v → descriptor_slots program s layout a c ≡ Some v
+
+-- ---- several end, one after the other
+
+-- all of these but some
+abbrev pub all_but : List ℕ → (ℕ → Bool) → ℕ → Bool
+all_but [] test = test
+all_but (a ∷ ends) test = all_but ends (but a test)
+
+-- the keys are those of these activations, of which each is on a stack when its turn comes
+abbrev pub CanLeave : Nodes → (ℕ → Bool) → List ℕ → List ℕ → Type 0
+CanLeave nodes on [] [] = Unit {0}
+CanLeave nodes on [] (a ∷ ends) = ⊥
+CanLeave nodes on (key ∷ keys) [] = ⊥
+CanLeave nodes on (key ∷ keys) (a ∷ ends) = (n : FrameNode) × (nodes key ≡ Some n) × (n.activation ≡ a) × (on a ≡ true) × CanLeave nodes (but a on) keys ends
+
+-- they can leave a state's frames
+abbrev pub CanAllLeave : Space → Nodes → List ℕ → Type 0
+CanAllLeave arena nodes keys =
+    (program : Units) × (s : State) × (on : ℕ → Bool) × (out : ℕ → Bool) × (layout : Layout) × (ends : List ℕ)
+    × Keeps program s on out layout (descriptor_slots program s layout) arena nodes × CanLeave nodes on keys ends × LeadUpwards s

@@ -1,0 +1,49 @@
+-- Calls in the code are of subroutines with as many dummy arguments as they pass.
+use Rattle.std.proofs.Common.{◌≡◌, ◌<◌, ℕ, true, false, List, [], Option, Some, None, refl, sym, ap, ◌∙◌, subst, true≢false, length, slice_get}
+use Rattle.std.specs.Option.{unwrap_or}
+use Rattle.std.proofs.lemmas.Option.{slice_get_within}
+use Rattle.hep_machine.specs.Words.{Name, Statement, Units, dummies_of, is_main, is_named, subroutine_name, unit_at, no_unit, unit_called}
+use Rattle.hep_conditions.specs.Words.{IsAccepted, Calling}
+use Rattle.hep_code.specs.declared.instruction.Instruction.TheVariants.{Step}
+use Rattle.hep_code.specs.declared.instruction.Operation.TheVariants.{Call, Create}
+use Rattle.hep_conditions_laws.specs.Agreement.{CallsSubroutine}
+use Rattle.hep_conditions_laws.proofs.Agreed.{calls_agree}
+use Rattle.hep_image_laws.specs.Placed.{IsCalledWith, code_in}
+use Rattle.hep_image_laws.proofs.Coded.{AllMeet, Wish, code_meets}
+use Rattle.hep_image_laws.proofs.Facts.{Facts}
+use Rattle.hep_image_laws.proofs.Placed.{unit_of_program}
+use Rattle.hep_image_laws.proofs.Rights.{resolved, right}
+use Rattle.hep_image.proofs.Numbers.{unit-there}
+
+-- what has a name by which it is called is no main program
+pub named_subroutine : (o : Option Name) (x : Name) → is_named o x ≡ true → is_main o ≡ false
+named_subroutine None x e = absurd (true≢false (sym e))
+named_subroutine (Some y) x e = refl
+
+called : (program : Units) (unit : List Statement) (c : Calling) → CallsSubroutine program unit c → IsCalledWith program (unit_called program c.occurrence.name) (length c.actuals)
+called program unit c (v, callee, number, there, is, counted, fit) =
+    let same : callee ≡ unit_at program v = sym (ap (λ (o : Option (List Statement)). unwrap_or o []) there) in
+    let here : IsCalledWith program v (length c.actuals)
+    = (slice_get_within program v callee there, subst (λ (w : List Statement). is_main (subroutine_name w) ≡ false) same (named_subroutine (subroutine_name callee) c.occurrence.name is), counted ∙ ap (λ (w : List Statement). length (dummies_of w)) same) in
+    subst (λ o. IsCalledWith program (unwrap_or o no_unit) (length c.actuals)) (sym number) here
+
+abbrev calling : Units → Wish
+calling program = record { variable = λ x. Unit {0}; tested = λ x. Unit {0}; call = IsCalledWith program; create = Unit {0}; purge = Unit {0}; argument = λ a. Unit {0} }
+
+module _ (program : Units) (u : ℕ) (facts : Facts (unit_at program u)) (accepted : IsAccepted program) (h : u < length program) where
+  all_called : AllMeet (calling program) (code_in program u)
+  all_called =
+      code_meets (unit_of_program program u) (calling program) (resolved (unit_of_program program u) facts (calling program) (λ x a v. tt)) (
+      right (unit_of_program program u) facts (calling program) (λ p g varies. tt) (record {
+        called = λ s c g i. called program (unit_at program u) c (calls_agree program u g.0 i.0 (unit_at program u) s c accepted (unit-there program u h) g.1 i.1);
+        passed = λ s c t g i j. tt;
+        creating = λ s p ts g e. tt;
+        purging = λ s ts g e. tt;
+        purged = λ s t g i. tt;
+      }))
+
+  pub call_agrees : (i line v n next : ℕ) → slice_get (code_in program u) i ≡ Some (Step line (Call v n next)) → IsCalledWith program v n
+  call_agrees i line v n next e = all_called (Step line (Call v n next)) (i, e)
+
+  pub create_agrees : (i line v n next : ℕ) → slice_get (code_in program u) i ≡ Some (Step line (Create v n next)) → IsCalledWith program v n
+  create_agrees i line v n next e = (all_called (Step line (Create v n next)) (i, e)).0

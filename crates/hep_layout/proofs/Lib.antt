@@ -1,0 +1,23 @@
+pub mod Rows
+pub mod FrameRows
+pub mod CommonRows
+pub mod Frames
+pub mod Addresses
+pub mod Memory
+pub mod Descriptors
+pub mod Counts
+pub mod FrameTree
+pub mod FrameTreeSteps
+pub mod Runs
+pub mod Storages
+pub mod Stacks
+pub mod HeldFrames
+pub mod Passed
+pub mod References
+pub mod Beginning
+pub mod StackChanges
+pub mod Resting
+pub mod Telling
+pub mod Wants
+pub mod Worked
+mod WorkedAddresses

@@ -1,0 +1,105 @@
+-- The parts of a statement, in the order of its text: X3.9-1978, sections 6, 8 to 11, 12.8 and 15.
+use Rattle.std.specs.Prelude.{List, [], ◌∷◌, ◌++◌, option_to_list}
+use Rattle.std.specs.List.{flat_map}
+use Rattle.hep_machine.specs.Words.{Tree, CommonBlock, DataGroup, DataValue, Declarator, Dimension, NamedConstant, Target, Occurrence, DoControl, Form, PrintItem, Statement, array_occurrence, occurrences_in, occurrences_in_data_value}
+use Rattle.hep_source.specs.declared.statement.Form.TheVariants as form
+use Rattle.hep_conditions.specs.Words.{trees_in_dimension, trees_in_item}
+use Rattle.hep_names.specs.declared.parts.Part.{Part as Reference}
+use Rattle.hep_names.specs.declared.parts.Part.TheVariants as reference
+
+pub data Part : Type 0 where
+  expression : (t : Tree) → Part
+  -- a name that stands alone
+  name : (p : Occurrence) → Part
+  -- a name with subscripts that is assigned (10.1), given a value by DATA (9.1), or purged; the subscripts are the parts behind it
+  element : (p : Occurrence) → Part
+
+-- a part that lies in memory
+abbrev pub part : Reference → Part
+part (reference.Expression r) = expression r.now
+part (reference.Name p) = name p
+part (reference.Element p) = element p
+
+abbrev pub parts_in_expression : Tree → List Part
+parts_in_expression t = expression t ∷ []
+
+abbrev pub parts_in_expressions : List Tree → List Part
+parts_in_expressions ts = flat_map parts_in_expression ts
+
+abbrev pub parts_in_name : Occurrence → List Part
+parts_in_name p = name p ∷ []
+
+abbrev pub parts_in_names : List Occurrence → List Part
+parts_in_names ps = flat_map parts_in_name ps
+
+-- ---- declarators and blocks: 5.1 and 8.3
+
+abbrev pub parts_in_dimension : Dimension → List Part
+parts_in_dimension d = parts_in_expressions (trees_in_dimension d)
+
+abbrev pub parts_in_declarator : Declarator → List Part
+parts_in_declarator d = name d.occurrence ∷ flat_map parts_in_dimension d.dimensions
+
+abbrev pub parts_in_block : CommonBlock → List Part
+parts_in_block b = flat_map parts_in_declarator b.entries
+
+-- ---- PARAMETER and DATA: 8.6 and 9.1
+
+abbrev pub parts_in_constant : NamedConstant → List Part
+parts_in_constant c = name c.occurrence ∷ expression c.value ∷ []
+
+abbrev pub name_before : List Tree → Occurrence → Part
+name_before [] p = name p
+name_before (t ∷ ts) p = element p
+
+abbrev pub parts_in_target : Target → List Part
+parts_in_target x = name_before x.subscripts x.occurrence ∷ parts_in_expressions x.subscripts
+
+abbrev pub parts_in_value : DataValue → List Part
+parts_in_value v = parts_in_names (occurrences_in_data_value v)
+
+abbrev pub parts_in_group : DataGroup → List Part
+parts_in_group g = flat_map parts_in_target g.targets ++ flat_map parts_in_value g.values
+
+-- ---- DO and PRINT: 11.10 and 12.8
+
+abbrev pub parts_in_control : DoControl → List Part
+parts_in_control c = name c.variable ∷ expression c.initial ∷ expression c.limit ∷ parts_in_expressions (option_to_list c.increment)
+
+abbrev pub parts_in_item : PrintItem → List Part
+parts_in_item i = parts_in_expressions (trees_in_item i)
+
+-- ---- statements: sections 8 to 11, 12.8 and 15.6
+
+abbrev pub parts_in_form : Form → List Part
+parts_in_form (form.Subroutine p dummies) = parts_in_names dummies
+parts_in_form (form.Declare t ds) = flat_map parts_in_declarator ds
+parts_in_form (form.Dimension ds) = flat_map parts_in_declarator ds
+parts_in_form (form.Common blocks) = flat_map parts_in_block blocks
+parts_in_form (form.Parameter constants) = flat_map parts_in_constant constants
+parts_in_form (form.Data groups) = flat_map parts_in_group groups
+parts_in_form (form.Assign x t) = parts_in_target x ++ expression t ∷ []
+parts_in_form (form.ComputedGoTo labels t) = expression t ∷ []
+parts_in_form (form.ArithmeticIf t labels) = expression t ∷ []
+parts_in_form (form.IfThen t) = expression t ∷ []
+parts_in_form (form.ElseIf t) = expression t ∷ []
+parts_in_form (form.Do c) = parts_in_control c
+parts_in_form (form.Call p ts) = parts_in_expressions ts
+parts_in_form (form.Create p ts) = parts_in_expressions ts
+parts_in_form (form.Purge targets) = flat_map parts_in_target targets
+parts_in_form (form.Print items) = flat_map parts_in_item items
+parts_in_form _ = []
+
+abbrev pub parts_of : Statement → List Part
+parts_of s = parts_in_expressions s.conditions ++ parts_in_form s.form
+
+-- ---- what a part gives of its own
+
+abbrev pub tree_in : Part → List Tree
+tree_in (expression t) = t ∷ []
+tree_in _ = []
+
+abbrev pub occurrences_in_part : List Statement → Part → List Occurrence
+occurrences_in_part unit (expression t) = occurrences_in unit t
+occurrences_in_part unit (name p) = p ∷ []
+occurrences_in_part unit (element p) = array_occurrence unit p

@@ -1,0 +1,135 @@
+//! The symbol tables of a program, and its subroutines.
+ghost use Rattle.std.specs.Prelude.{◌≡◌, IfOk, OnOk};
+ghost use Rattle.std.specs.Option.{option_or, option_map, option_copied};
+ghost use Rattle.indexmap.specs.IndexMap.{get};
+ghost use Rattle.hep_source.specs.Units as units;
+ghost use Rattle.hep_source.specs.declared.name.Name.{Name as PureName};
+ghost use Rattle.hep_names.specs.Tables as tables;
+ghost use Rattle.hep_machine.specs.Words.{name_eq};
+
+use crate::symbols::Symbols;
+use crate::table::note;
+use hep_source::{Form, Name, Statement, Unit};
+use indexmap::IndexMap;
+use std::alloc::{AllocError, Global};
+use std::marker::Model;
+
+/// The symbol tables of all units of a program, and its subroutines by name. Contracts see the units.
+pub struct ProgramSymbols<'a> {
+    units: Vec<Symbols<'a>>,
+    subroutines: IndexMap<Name, usize>,
+}
+
+impl<'a> Drop for ProgramSymbols<'a> {
+    fn drop(self) {
+        let ProgramSymbols { units, subroutines } = self;
+    }
+}
+
+impl<'a> Model for ProgramSymbols<'a> {
+    ghost use Rattle.std.specs.Prelude.{◌≡◌, List};
+    ghost use Rattle.std.specs.Coded.{codes};
+    ghost use Rattle.indexmap.specs.IndexMap.{get};
+    ghost use Rattle.hep_source.specs.declared.statement.Statement.{Statement as PureStatement};
+    ghost use Rattle.hep_source.specs.declared.name.Name.{Name as PureName};
+    ghost use Rattle.hep_source.specs.Units.{subroutine_called};
+    ghost use Rattle.hep_source.specs.contracts.expression.Expr as expression;
+    ghost use Rattle.hep_source.specs.Names.{name_eq};
+
+    ghost Value = { List (List PureStatement) };
+
+    ghost coded = { Prim.hlevel (codes, expression.the_row.coded) };
+
+    ghost view = { λ a. a.units.items };
+
+    ghost invariant = { λ a. (x : PureName) → get name_eq a.subroutines x ≡ subroutine_called a.units.items x };
+}
+
+// The name by which a unit is called; a main program has none.
+fn subroutine_name(unit: &[Statement]) -> Option<Name>
+    ensures { result ≡ units.subroutine_name unit.now }
+{
+    match unit.first() {
+        Some(
+            Statement {
+                form: Form::Subroutine(occurrence, _),
+                ..
+            },
+        ) => Some(occurrence.name),
+        _ => None,
+    }
+}
+
+fn note_subroutine(
+    subroutines: &mut IndexMap<Name, usize>,
+    name: Option<Name>,
+    number: usize,
+) -> Result<(), AllocError>
+    ensures { OnOk result ((x : PureName) → get name_eq subroutines.new x
+        ≡ option_or (get name_eq subroutines.old x) (tables.given (units.is_named name x) number)) }
+{
+    if let Some(name) = name {
+        note(subroutines, name, number)?;
+    }
+    Ok(())
+}
+
+// The index of the unit that each name calls: the first of those with the name.
+fn subroutines(alloc: Global, program: &[Symbols]) -> Result<IndexMap<Name, usize>, AllocError>
+    ensures { IfOk result (λ table. (x : PureName) → get name_eq table x ≡ tables.called_from 0 x program.now) }
+{
+    let mut table = IndexMap::with_capacity(alloc, program.len())?;
+    for (number, unit) in program.iter().enumerate() {
+        note_subroutine(&mut table, subroutine_name(unit.statements()), number)?;
+    }
+    Ok(table)
+}
+
+fn tables_of<'a>(alloc: Global, program: &'a [Unit]) -> Result<Vec<Symbols<'a>>, AllocError>
+    ensures { IfOk result (λ tables. tables.items ≡ program.now) }
+{
+    let mut tables = Vec::with_capacity(alloc, program.len())?;
+    for unit in program {
+        tables.push(Symbols::new(alloc, unit.as_slice())?)?;
+    }
+    Ok(tables)
+}
+
+impl<'a> ProgramSymbols<'a> {
+    /// The symbol tables of these units.
+    ///
+    /// # Errors
+    ///
+    /// Only where memory was refused.
+    pub fn new(alloc: Global, program: &'a [Unit]) -> Result<ProgramSymbols<'a>, AllocError>
+        ensures { IfOk result (λ symbols. symbols ≡ program.now) }
+    {
+        let units = tables_of(alloc, program)?;
+        let subroutines = subroutines(alloc, &units)?;
+        Ok(ProgramSymbols { units, subroutines })
+    }
+
+    /// The tables of the units, in the order of the source.
+    pub fn units(&self) -> &[Symbols<'a>]
+        ensures { result.now ≡ self.now }
+    {
+        &self.units
+    }
+
+    /// The index of the subroutine of a name, counted from 0: the first of those with the name.
+    pub fn subroutine_called(&self, name: &Name) -> Option<usize>
+        ensures { result ≡ units.subroutine_called self.now name.now }
+    {
+        self.subroutines.get(name).copied()
+    }
+
+    /// The table of the subroutine that a name calls.
+    pub fn called(&self, name: &Name) -> Option<&Symbols<'a>>
+        ensures { option_copied result ≡ option_map (units.unit_at self.now) (units.subroutine_called self.now name.now) }
+    {
+        match self.subroutine_called(name) {
+            Some(number) => self.units.get(number),
+            None => None,
+        }
+    }
+}

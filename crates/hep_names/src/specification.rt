@@ -1,0 +1,302 @@
+//! Tables of what the specification statements of a unit say of its names (X3.9-1978, section 8).
+ghost use Rattle.std.specs.List.{list_any};
+ghost use Rattle.std.specs.Prelude.{nat_eq, ◌≡◌, ◌<◌, ℕ, None, is_some, false, get_or, IfOk, OnOk};
+ghost use Rattle.std.specs.Option.{option_or};
+ghost use Rattle.indexmap.specs.IndexMap.{get};
+ghost use Rattle.indexmap.specs.IndexSet.{contains};
+ghost use Rattle.hep_source.specs.Units as units;
+ghost use Rattle.hep_source.specs.Names as names;
+ghost use Rattle.hep_source.specs.declared.name.Name.{Name as PureName};
+ghost use Rattle.hep_machine.specs.Declarations as declarations;
+ghost use Rattle.hep_names.specs.Statements.{rest_after};
+ghost use Rattle.hep_names.specs.Tables as tables;
+ghost use Rattle.hep_machine.specs.Words.{name_eq};
+
+use crate::declarators::{array_declarators, block_of, blocks_in};
+use crate::table::{NameSet, Table, add, note, note_first};
+use hep_source::{
+    CommonBlock, Declarator, Form, ImplicitGroup, LetterRange, Name, NamedConstant, Occurrence,
+    Statement, ValueType,
+};
+use indexmap::{IndexMap, IndexSet};
+use std::alloc::{AllocError, Global};
+
+fn note_types(
+    types: &mut IndexMap<Name, ValueType>,
+    value_type: ValueType,
+    declarators: &[Declarator],
+) -> Result<(), AllocError>
+    ensures { OnOk result ((x : PureName) → get name_eq types.new x
+        ≡ option_or (get name_eq types.old x) (tables.by_declarators value_type declarators.now x)) }
+{
+    for declarator in declarators {
+        note(types, declarator.occurrence.name, value_type)?;
+    }
+    Ok(())
+}
+
+// The types that type statements give (8.4).
+pub(crate) fn declared_types(
+    alloc: Global,
+    unit: &[Statement],
+) -> Result<Table<ValueType>, AllocError>
+    ensures { IfOk result (λ types. (x : PureName) → get name_eq types.map x ≡ declarations.declared_type x unit.now) }
+{
+    let mut types = IndexMap::new(alloc);
+    for statement in unit {
+        if let Form::Declare(value_type, declarators) = &statement.form {
+            note_types(&mut types, *value_type, declarators.as_slice())?;
+        }
+    }
+    Ok(Table { map: types })
+}
+
+// Says whether all names are new.
+fn note_block(
+    blocks: &mut IndexMap<Name, Option<Name>>,
+    block: Option<Name>,
+    entries: &[Declarator],
+) -> Result<bool, AllocError>
+    ensures noted { OnOk result ((x : PureName) → get name_eq blocks.new x
+        ≡ option_or (get name_eq blocks.old x) (tables.by_declarators block entries.now x)) }
+    ensures new { IfOk result (λ are_new. are_new
+        ≡ tables.are_new (λ x. is_some (get name_eq blocks.old x)) (declarations.names_declared entries.now)) }
+{
+    let mut are_new = true;
+    for entry in entries {
+        let is_new = note_first(blocks, entry.occurrence.name, block)?;
+        are_new &= is_new;
+    }
+    Ok(are_new)
+}
+
+// Says whether all names are new.
+fn note_blocks(
+    blocks: &mut IndexMap<Name, Option<Name>>,
+    named: &[CommonBlock],
+) -> Result<bool, AllocError>
+    ensures noted { OnOk result ((x : PureName) → get name_eq blocks.new x
+        ≡ option_or (get name_eq blocks.old x) (declarations.block_holding x named.now)) }
+    ensures new { IfOk result (λ are_new. are_new ≡ tables.are_new (λ x. is_some (get name_eq blocks.old x))
+        (declarations.names_declared (declarations.entries_of_blocks named.now))) }
+{
+    let mut are_new = true;
+    for block in named {
+        let is_new = note_block(blocks, block_of(block), block.entries.as_slice())?;
+        are_new &= is_new;
+    }
+    Ok(are_new)
+}
+
+fn entry_count(blocks: &[CommonBlock]) -> usize {
+    let mut count: usize = 0;
+    for block in blocks {
+        count = count.saturating_add(block.entries.as_slice().len());
+    }
+    count
+}
+
+// How many names there are in COMMON, so that their table has room at once.
+fn common_count(unit: &[Statement]) -> usize {
+    let mut count: usize = 0;
+    for statement in unit {
+        count = count.saturating_add(entry_count(blocks_in(&statement.form)));
+    }
+    count
+}
+
+// The block in which each name of COMMON is (8.3), none for blank COMMON, and whether each name stands there once.
+pub(crate) struct CommonNames {
+    pub(crate) blocks: Table<Option<Name>>,
+    pub(crate) are_once: bool,
+}
+
+pub(crate) fn common_names(alloc: Global, unit: &[Statement]) -> Result<CommonNames, AllocError>
+    ensures blocks { IfOk result (λ names. (x : PureName)
+        → get name_eq names.blocks.map x ≡ tables.first_in (tables.block_by_form x) unit.now) }
+    ensures once { IfOk result (λ names. names.are_once ≡ tables.are_new (λ x. false) (tables.names_in_common unit.now)) }
+{
+    let mut blocks = IndexMap::with_capacity(alloc, common_count(unit))?;
+    let mut are_once = true;
+    for statement in unit {
+        let are_new = note_blocks(&mut blocks, blocks_in(&statement.form))?;
+        are_once &= are_new;
+    }
+    Ok(CommonNames {
+        blocks: Table { map: blocks },
+        are_once,
+    })
+}
+
+fn add_constants(constants: &mut IndexSet<Name>, given: &[NamedConstant]) -> Result<(), AllocError>
+    ensures { OnOk result ((x : PureName) → contains name_eq constants.new x
+        ≡ tables.either (contains name_eq constants.old x) (names.is_among x (declarations.names_of_constants given.now))) }
+{
+    for constant in given {
+        add(constants, constant.occurrence.name)?;
+    }
+    Ok(())
+}
+
+// The names of constants (8.6).
+pub(crate) fn constant_names(alloc: Global, unit: &[Statement]) -> Result<NameSet, AllocError>
+    ensures { IfOk result (λ constants. (x : PureName)
+        → contains name_eq constants.set x ≡ tables.any_in (tables.constant_by_form x) unit.now) }
+{
+    let mut constants = IndexSet::new(alloc);
+    for statement in unit {
+        if let Form::Parameter(given) = &statement.form {
+            add_constants(&mut constants, given.as_slice())?;
+        }
+    }
+    Ok(NameSet { set: constants })
+}
+
+// The index of each dummy argument, the first where it stands twice (15.6.1).
+fn numbered(alloc: Global, dummies: &[Occurrence]) -> Result<Table<usize>, AllocError>
+    ensures { IfOk result (λ table. (x : PureName) → get name_eq table.map x ≡ tables.index_from 0 x dummies.now) }
+{
+    let mut table = IndexMap::new(alloc);
+    for (index, dummy) in dummies.iter().enumerate() {
+        note(&mut table, dummy.name, index)?;
+    }
+    Ok(Table { map: table })
+}
+
+// The dummy arguments of a unit: those of its header (15.6.1).
+pub(crate) fn dummy_positions(alloc: Global, unit: &[Statement]) -> Result<Table<usize>, AllocError>
+    ensures { IfOk result (λ table. (x : PureName) → get name_eq table.map x ≡ tables.index_from 0 x (tables.dummies_in unit.now)) }
+{
+    match unit.first() {
+        Some(
+            Statement {
+                form: Form::Subroutine(_, dummies),
+                ..
+            },
+        ) => numbered(alloc, dummies.as_slice()),
+        _ => Ok(Table {
+            map: IndexMap::new(alloc),
+        }),
+    }
+}
+
+// Notes a declarator where it gives a name dimensions.
+fn note_array<'a>(
+    arrays: &mut IndexMap<Name, &'a Declarator>,
+    declarator: &'a Declarator,
+) -> Result<(), AllocError>
+    ensures { OnOk result ((x : PureName) → tables.seen (get name_eq arrays.new x)
+        ≡ option_or (tables.seen (get name_eq arrays.old x)) (tables.by_declarator declarator.now x)) }
+{
+    if !declarator.dimensions.as_slice().is_empty() {
+        note(arrays, declarator.occurrence.name, declarator)?;
+    }
+    Ok(())
+}
+
+fn note_arrays<'a>(
+    arrays: &mut IndexMap<Name, &'a Declarator>,
+    declarators: &[&'a Declarator],
+) -> Result<(), AllocError>
+    ensures { OnOk result ((x : PureName) → tables.seen (get name_eq arrays.new x)
+        ≡ option_or (tables.seen (get name_eq arrays.old x)) (declarations.declarator_among x (rest_after declarators.now))) }
+{
+    for declarator in declarators {
+        note_array(arrays, declarator)?;
+    }
+    Ok(())
+}
+
+// The declarator that gives each array its dimensions (5.1, 8.1, 8.3 and 8.4).
+
+pub(crate) fn arrays<'a>(
+    alloc: Global,
+    unit: &'a [Statement],
+) -> Result<IndexMap<Name, &'a Declarator>, AllocError>
+    ensures { IfOk result (λ arrays. (x : PureName) → tables.seen (get name_eq arrays x)
+        ≡ tables.first_in (tables.declarator_by_form x) unit.now) }
+{
+    let mut arrays = IndexMap::new(alloc);
+    for statement in unit {
+        let declarators = array_declarators(alloc, &statement.form)?;
+        note_arrays(&mut arrays, &declarators)?;
+    }
+    Ok(arrays)
+}
+
+// The type of each first letter, as IMPLICIT gives it.
+type LetterTypes = [Option<ValueType>; 256];
+
+// Gives a letter a type, unless it has one.
+fn note_letter(types: &mut LetterTypes, letter: usize, value_type: ValueType)
+    requires { letter < 256 }
+    ensures { (c : ℕ) → c < 256 → get_or types.new c None
+        ≡ option_or (get_or types.old c None) (tables.given (nat_eq c letter) value_type) }
+{
+    if types[letter].is_none() {
+        types[letter] = Some(value_type);
+    }
+}
+
+fn note_range(types: &mut LetterTypes, range: &LetterRange, value_type: ValueType)
+    ensures { (c : ℕ) → c < 256 → get_or types.new c None
+        ≡ option_or (get_or types.old c None) (tables.given (declarations.is_letter_in c range.now) value_type) }
+{
+    for letter in usize::from(range.first)..usize::from(range.last) + 1 {
+        note_letter(types, letter, value_type);
+    }
+}
+
+fn note_ranges(types: &mut LetterTypes, ranges: &[LetterRange], value_type: ValueType)
+    ensures { (c : ℕ) → c < 256 → get_or types.new c None
+        ≡ option_or (get_or types.old c None) (tables.given (list_any (declarations.is_letter_in c) ranges.now) value_type) }
+{
+    for range in ranges {
+        note_range(types, range, value_type);
+    }
+}
+
+fn note_groups(types: &mut LetterTypes, groups: &[ImplicitGroup])
+    ensures { (c : ℕ) → c < 256 → get_or types.new c None
+        ≡ option_or (get_or types.old c None) (declarations.type_by_groups c groups.now) }
+{
+    for group in groups {
+        note_ranges(types, group.letters.as_slice(), group.value_type);
+    }
+}
+
+fn implicit_types(unit: &[Statement]) -> LetterTypes
+    ensures { (c : ℕ) → c < 256 → get_or result c None ≡ declarations.implicit_type c unit.now }
+{
+    let mut types = [None; 256];
+    for statement in unit {
+        if let Form::Implicit(groups) = &statement.form {
+            note_groups(&mut types, groups.as_slice());
+        }
+    }
+    types
+}
+
+fn has_implicit(unit: &[Statement]) -> bool
+    ensures { result ≡ false → (c : ℕ) → declarations.implicit_type c unit.now ≡ None }
+{
+    for statement in unit {
+        if let Form::Implicit(_) = &statement.form {
+            return true;
+        }
+    }
+    false
+}
+
+// The types that IMPLICIT gives by first letters (8.5). Most units have no IMPLICIT, and keep nothing.
+pub(crate) fn letter_types(
+    alloc: Global,
+    unit: &[Statement],
+) -> Result<Vec<Option<ValueType>>, AllocError>
+    ensures { IfOk result (λ types. (c : ℕ) → c < 256 → get_or types.items c None ≡ declarations.implicit_type c unit.now) }
+{
+    if !has_implicit(unit) {
+        return Ok(Vec::new(alloc));
+    }
+    Vec::from_slice(alloc, &implicit_types(unit))
+}

@@ -1,0 +1,77 @@
+//! 301: a variable or named constant has no type (X3.9-1978, 4.1.2, 8.4 and 8.5).
+ghost use Rattle.std.specs.Prelude.{◌≡◌, IfOk};
+ghost use Rattle.std.specs.List.{flat_map, list_all};
+ghost use Rattle.hep_conditions.specs.Names as conditions;
+ghost use Rattle.hep_conditions.specs.Words.{first_of};
+ghost use Rattle.hep_names.specs.Passes as passes;
+
+use crate::occurrences::occurrences;
+use crate::symbols::Symbols;
+use hep_conditions::Violation;
+use hep_conditions::reported::{first_of_two, violation_by};
+use hep_source::{Name, Occurrence, Statement};
+use std::alloc::{AllocError, Global};
+
+fn untyped(symbols: &Symbols, line: u32, occurrence: &Occurrence) -> Option<Violation>
+    ensures { result ≡ first_of (passes.untyped symbols.now line occurrence.now) }
+{
+    if symbols.type_of(&occurrence.name).is_none() {
+        Some(violation_by(301, line, occurrence))
+    } else {
+        None
+    }
+}
+
+fn first_untyped(symbols: &Symbols, line: u32, occurrences: &[Occurrence]) -> Option<Violation>
+    ensures { result ≡ first_of (flat_map (passes.untyped symbols.now line) occurrences.now) }
+{
+    let mut first = None;
+    for occurrence in occurrences {
+        first = first_of_two(first, untyped(symbols, line, occurrence));
+    }
+    first
+}
+
+fn untyped_in(
+    alloc: Global,
+    symbols: &Symbols,
+    statement: &Statement,
+) -> Result<Option<Violation>, AllocError>
+    ensures { IfOk result (λ violation. violation ≡ first_of (conditions.untyped_in symbols.now statement.now)) }
+{
+    let occurrences = occurrences(alloc, symbols, statement)?;
+    Ok(first_untyped(symbols, statement.line, &occurrences))
+}
+
+// All names of a unit have types: then no statement has to be looked at.
+fn are_typed(symbols: &Symbols, names: &[Name]) -> bool
+    ensures { result ≡ list_all (passes.is_typed symbols.now) names.now }
+{
+    for name in names {
+        if symbols.type_of(name).is_none() {
+            return false;
+        }
+    }
+    true
+}
+
+/// The first violation of 301 in a unit: a variable or named constant that has no type.
+///
+/// # Errors
+///
+/// Only where memory was refused.
+pub fn type_missing_violation(
+    alloc: Global,
+    symbols: &Symbols,
+) -> Result<Option<Violation>, AllocError>
+    ensures { IfOk result (λ violation. violation ≡ first_of (conditions.type_missing_violations symbols.now)) }
+{
+    if are_typed(symbols, symbols.names().as_slice()) {
+        return Ok(None);
+    }
+    let mut first = None;
+    for statement in symbols.statements() {
+        first = first_of_two(first, untyped_in(alloc, symbols, statement)?);
+    }
+    Ok(first)
+}

@@ -1,9 +1,0 @@
-use Rattle.hep_placed.proofs.Calls.{call_agrees, create_agrees}
-use Rattle.hep_placed.proofs.Facts.{facts_of}
-use Rattle.hep_placed.proofs.laws.calls_agree.Goals as goal
-
-pub returns : goal.returns
-returns c = record {
-  call = λ program u i line v n next accepted h e. call_agrees program u (facts_of c.constants_agree.ensures program u accepted h) accepted h i line v n next e;
-  create = λ program u i line v n next accepted h e. create_agrees program u (facts_of c.constants_agree.ensures program u accepted h) accepted h i line v n next e;
-}

@@ -1,5 +1,0 @@
-use Rattle.hep_seen.proofs.Read.{common-is-read}
-use Rattle.hep_seen.proofs.laws.common_is_read.Goals as goal
-
-pub returns : goal.returns
-returns c program s on out layout arena nodes keeps = common-is-read program s layout arena.contents keeps.memory.holds

@@ -1,7 +1,0 @@
-use Rattle.std.proofs.Common.{◌∙◌, ap}
-use Rattle.hep_symbols.specs.Tables.{called_from}
-use Rattle.hep_symbols.proofs.Statements.{called-from-start}
-use Rattle.hep_symbols.proofs.program.ProgramSymbols.new.Goals as goal
-
-pub invariant_of-result : goal.invariant_of-result
-invariant_of-result c = λ x. c.in_ok-subroutines.ensures x ∙ (ap (called_from 0 x) c.deref.ensures.value ∙ called-from-start x c.in_ok-units.units.items)

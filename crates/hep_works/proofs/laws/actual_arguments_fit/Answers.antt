@@ -1,5 +1,0 @@
-use Rattle.hep_works.proofs.Actuals.{actuals-fit}
-use Rattle.hep_works.proofs.laws.actual_arguments_fit.Goals as goal
-
-pub returns : goal.returns
-returns c = actuals-fit c.constants_agree.ensures

@@ -1,5 +1,0 @@
-use Rattle.hep_works.proofs.Calls.{called-agrees, called-subroutine, called-there}
-use Rattle.hep_works.proofs.laws.subroutines_are_called.Goals as goal
-
-pub returns : goal.returns
-returns c = record { there = called-there; subroutine = called-subroutine; arguments = called-agrees }
