@@ -1,5 +1,5 @@
 //! The processes that wait for the same, and what they wait for.
-ghost use Rattle.std.specs.Prelude.{◌≡◌, ℕ, ◌≤◌, ◌-◌, ◌++◌, ◌∷◌, [], None, OnErr, OnOk, IsSome, true, length, replicate};
+ghost use Rattle.std.specs.Prelude.{◌≡◌, ℕ, ◌≤◌, ◌-◌, ◌++◌, None, OnErr, OnOk, IsSome, true, length, replicate};
 ghost use Rattle.indexmap.specs.IndexMap.{IsUnique, get};
 ghost use Rattle.hep_machine.specs.Words.{is_number_among};
 ghost use Rattle.hep_blocked.specs.declared.want.Want.{Want as PureWant};

@@ -1,5 +1,5 @@
 //! The common blocks of a program and their greatest lengths (X3.9-1978, 8.3.3).
-ghost use Rattle.std.specs.Prelude.{◌≡◌, ◌+◌, ◌<◌, ◌≤◌, ◌^◌, ◌++◌, [], ℕ, ◌&&◌, Some, None, is_some, max, map, if◌then◌else◌, IfOk, OnOk};
+ghost use Rattle.std.specs.Prelude.{◌≡◌, ◌+◌, ◌<◌, ◌^◌, ◌++◌, [], ◌&&◌, Some, None, is_some, max, map, if◌then◌else◌, IfOk, OnOk};
 ghost use Rattle.std.specs.Option.{option_eq, unwrap_or};
 ghost use Rattle.indexmap.specs.IndexMap.{get};
 ghost use Rattle.hep_machine.specs.Words.{index_where, name_eq, value_among, constant_value, cells_of_all, BlockName, same_block};

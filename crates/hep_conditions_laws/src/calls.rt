@@ -1,5 +1,5 @@
 //! Calls, references of functions and what is purged (X3.9-1978, 15.6 to 15.10, and `docs/LANGUAGE.md`, 8 and 9).
-ghost use Rattle.std.specs.Prelude.{◌≡◌, ◌⊎◌, ℕ, Bool, true, false, List, [], Some, slice_get};
+ghost use Rattle.std.specs.Prelude.{◌≡◌, ◌⊎◌, ℕ, true, false, List, [], Some, slice_get};
 ghost use Rattle.hep_machine.specs.Words.{Target, PureFunction, StateFunction, Statement, Units, is_array, is_constant_name, pure, state};
 ghost use Rattle.hep_machine.specs.Words.{listed_meaning};
 ghost use Rattle.hep_conditions.specs.Words.{IsAccepted, count_of, takes, Calling, NameWithList, calls_in, names_with_lists};

@@ -1,8 +1,8 @@
 //! What names stand for (X3.9-1978, 18.1 and 18.2).
-ghost use Rattle.std.specs.Prelude.{◌≡◌, ℕ, true, false, List, [], ◌∷◌, Some, slice_get};
+ghost use Rattle.std.specs.Prelude.{◌≡◌, ℕ, true, false, List, Some, slice_get};
 ghost use Rattle.std.specs.List.{flat_map};
 ghost use Rattle.hep_machine.specs.Words.{CommonBlock, NamedConstant, Target, Name, Statement, Units, dummies_of, subroutine_called};
-ghost use Rattle.hep_machine.specs.Words.{subroutine_name, block_of, blocks_in, is_array, is_common, is_constant_name, is_dummy};
+ghost use Rattle.hep_machine.specs.Words.{subroutine_name, block_of, blocks_in, is_array, is_constant_name};
 ghost use Rattle.hep_machine.specs.Words.{is_nonempty, named_constants, listed_meaning};
 ghost use Rattle.hep_conditions.specs.Words.{IsAccepted, bounded_names, common_names, is_unknown, typed_names, variable_names, Calling};
 ghost use Rattle.hep_conditions.specs.Words.{NameWithList, calls_in, names_with_lists, targets_assigned, targets_in_data, targets_purged};

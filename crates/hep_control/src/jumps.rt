@@ -1,9 +1,8 @@
 //! Jumps into DO ranges and IF blocks: 308 (X3.9-1978, 11.6.3, 11.7.2, 11.8.2 and 11.10.8).
 ghost use Rattle.std.specs.Prelude.{◌≡◌, ◌<◌, ◌++◌, IfOk, OnOk, length, map};
-ghost use Rattle.std.specs.List.{flat_map};
 ghost use Rattle.hep_machine.specs.Words.{role_of, index_labelled, statement_at};
 ghost use Rattle.hep_conditions.specs.Nesting as nesting;
-ghost use Rattle.hep_conditions.specs.Words.{targets_of_jump, least_line_of, first_of};
+ghost use Rattle.hep_conditions.specs.Words.{least_line_of, first_of};
 ghost use Rattle.hep_control.specs.Jumps as spec;
 
 use crate::labels::Labels;

@@ -1,5 +1,5 @@
 //! What is stored before the first step (X3.9-1978, section 9).
-ghost use Rattle.std.specs.Prelude.{◌≡◌, ℕ, List, IfOk};
+ghost use Rattle.std.specs.Prelude.{◌≡◌, ℕ, IfOk};
 ghost use Rattle.indexmap.specs.IndexMap.{get};
 ghost use Rattle.hep_machine.specs.Words.{name_eq, Units, data_groups};
 ghost use Rattle.hep_conditions.specs.Words.{IsAccepted};

@@ -4,7 +4,7 @@ ghost use Rattle.std.specs.Option.{option_map};
 ghost use Rattle.hep_machine.specs.Words.{value_among, values_given};
 ghost use Rattle.hep_data.specs.Cells.{Takes};
 ghost use Rattle.hep_data.specs.Given.{all_values};
-ghost use Rattle.hep_data.specs.Left.{AreNone, AreSame, left, left_by, repeated};
+ghost use Rattle.hep_data.specs.Left.{AreNone, AreSame, left, repeated};
 
 use hep_source::{DataValue, Value};
 use hep_values::{Constants, repeat_of, value_of_constant};

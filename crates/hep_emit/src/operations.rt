@@ -1,5 +1,5 @@
 //! The operation of a statement, with what stands behind it.
-ghost use Rattle.std.specs.Prelude.{◌≡◌, ◌++◌, ◌∷◌, [], ◌<◌, ℕ, length, OnOk, IfErr};
+ghost use Rattle.std.specs.Prelude.{◌≡◌, ◌++◌, ◌∷◌, ◌<◌, ℕ, length, OnOk, IfErr};
 ghost use Rattle.hep_code.specs.declared.instruction.Instruction.TheVariants as instruction;
 ghost use Rattle.hep_code.specs.Words.{form_code, operation_code, loop_end_code};
 ghost use Rattle.hep_emit.specs.Limits.{IsTooLong};

@@ -1,6 +1,6 @@
 //! The code of a statement.
 ghost use Rattle.std.specs.Prelude.{◌≡◌, ◌++◌, ◌<◌, length, OnOk, IfErr};
-ghost use Rattle.hep_code.specs.Words.{operands_code, form_code, conditions_code, statement_code};
+ghost use Rattle.hep_code.specs.Words.{operands_code, conditions_code, statement_code};
 ghost use Rattle.hep_emit.specs.Limits.{IsTooLong};
 ghost use Rattle.hep_emit.specs.Tables.{table_in};
 

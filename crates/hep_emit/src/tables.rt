@@ -1,5 +1,5 @@
 //! What the code of a unit is made from, beside the unit's statements.
-ghost use Rattle.std.specs.Prelude.{◌≡◌, ◌<◌, ◌≤◌, length};
+ghost use Rattle.std.specs.Prelude.{◌≡◌, ◌<◌, length};
 ghost use Rattle.hep_emit.specs.Destinations.{destination};
 ghost use Rattle.hep_emit.specs.Tables as spec;
 

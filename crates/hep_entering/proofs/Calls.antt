@@ -1,14 +1,14 @@
 -- The state after a CALL or CREATE: that the step leads to it, what is on stacks in it, and what its frames keep.
 use Rattle.std.proofs.Common.{◌≡◌, ℕ, false, List, None, Some, ap, ◌∙◌, suc, Bool, true, [], ◌∷◌, ◌++◌, length, refl, sym, arith, zero, ◌-◌, ◌<◌, ◌≤◌, Option, subst, if◌then◌else◌, nat_eq, slice_get, slice_set, length-append}
 use Rattle.hep_machine.specs.Words.{Name, Units, unit_at, dummies_of, Binding, Next, Actual, calling, creating, does, next_of, unit_of, living, with_process, activation_of, numbered, top_of, with_numbered, run, Level, Process, State, Activation, result_after_call, result_after_create, result_after_next, state_made, step, step_result_of, step_result_of_top, stepped, unit_called, entry_level, next_activation, with_activation, level_after_statement, Layout, activations_on, index_among, unset_cell}
-use Rattle.hep_entering.specs.Calling.{caller, IsPassing, state_called, state_created, IsAllWritten, called_activation, layout_with, IsWritten, unit_begun}
+use Rattle.hep_entering.specs.Calling.{caller, IsPassing, state_called, state_created, IsAllWritten, IsKeptIn, called_activation, IsWritten, unit_begun}
 use Rattle.hep_arena.specs.Space.{Space}
 use Rattle.hep_code.proofs.Moves.{after_statement_keeps}
-use Rattle.hep_layout.specs.Words.{IsLaid, level_of, descriptor_slots, DescriptorSlots, slot_by_dummy, slot_of_bounds, slot_of_dummy, slot_on_level, Nodes, also, is_stacked, FramePart, argument, bounds, header, iteration, variable, place_of_part}
+use Rattle.hep_layout.specs.Words.{IsLaid, level_of, descriptor_slots, slot_by_dummy, slot_of_bounds, slot_of_dummy, slot_on_level, Nodes, also, is_stacked, FramePart, argument, bounds, header, iteration, variable, place_of_part}
 use Rattle.hep_layout.proofs.References.{references-made}
 use Rattle.hep_layout.proofs.StackChanges.{stacks-begun, stacks-created, stacks-same}
 use Rattle.hep_layout.proofs.Stacks.{top-numbered, level-found}
-use Rattle.hep_frames.specs.Keeping.{Keeps}
+use Rattle.hep_frames.specs.Keeping.{FramesOf, frames_begun, frames_in, Keeps}
 use Rattle.hep_step.specs.Simulation.{unit_addressed}
 use Rattle.hep_entering.proofs.Entered.{keeps-entered, WereLoops, called-loops, created-loops}
 use Rattle.std.specs.Option.{unwrap_or}
@@ -16,7 +16,7 @@ use Rattle.std.proofs.lemmas.Option.{none-some, same_Some}
 use Rattle.hep_machine.specs.declared.slot.Slot.{Slot}
 use Rattle.hep_layout.proofs.HeldFrames.{run-last}
 use Rattle.hep_entering.specs.Shapes.{cells_to_bounds, cells_to_bounds_of, cells_to_locals}
-use Rattle.hep_entering.specs.Writing.{wanted_up_to}
+use Rattle.hep_entering.specs.Writing.{unit_framed, written_up_to}
 use Rattle.hep_entering.proofs.Cells.{keeps-skipped, argument-place, bounds-place, cells-ordered, to-first}
 use Rattle.hep_machine.proofs.Others.{last-numbered}
 
@@ -93,38 +93,33 @@ module _ (program : Units) (choices : List ℕ) (p : ℕ) (top : Level × Proces
   -- ---- frames
 
   module _ (layout : Layout) (first cells : ℕ) (laid : IsLaid program (run program choices) cells layout) (out : ℕ → Bool) (arena : Space) (nodes : Nodes) where
-    pub called-keeps : IsAllWritten program (run program choices) (state_called program choices p top u b) layout first out arena nodes
-        → Keeps program (state_called program choices p top u b) (is_stacked (state_called program choices p top u b)) (also (length (state_called program choices p top u b).activations) out) (layout_with program (state_called program choices p top u b) layout first) (descriptor_slots program (state_called program choices p top u b) (layout_with program (state_called program choices p top u b) layout first)) arena nodes
-    called-keeps h =
-        keeps-entered program s called x layout first cells laid refl (λ a k le. references-made program choices a k le) called-were (also n (is_stacked s)) (also n out) arena nodes h called-stacks
+    pub called-keeps : IsAllWritten program (run program choices) (state_called program choices p top u b) layout first out arena nodes → IsKeptIn program (state_called program choices p top u b) layout first out arena nodes
+    called-keeps h = keeps-entered program s called x layout first cells laid refl (λ a k le. references-made program choices a k le) called-were out arena nodes h called-stacks
 
-    pub created-keeps : IsAllWritten program (run program choices) (state_created program choices p top u b) layout first out arena nodes
-        → Keeps program (state_created program choices p top u b) (is_stacked (state_created program choices p top u b)) (also (length (state_created program choices p top u b).activations) out) (layout_with program (state_created program choices p top u b) layout first) (descriptor_slots program (state_created program choices p top u b) (layout_with program (state_created program choices p top u b) layout first)) arena nodes
-    created-keeps h =
-        keeps-entered program s created x layout first cells laid refl (λ a k le. references-made program choices a k le) created-were (also n (is_stacked s)) (also n out) arena nodes h created-stacks
+    pub created-keeps : IsAllWritten program (run program choices) (state_created program choices p top u b) layout first out arena nodes → IsKeptIn program (state_created program choices p top u b) layout first out arena nodes
+    created-keeps h = keeps-entered program s created x layout first cells laid refl (λ a k le. references-made program choices a k le) created-were out arena nodes h created-stacks
 
 -- ---- what isn't written of the new frame is unset: its variables, and its DOs, of which none was begun
 
-module _ (program : Units) (t : State) (a : ℕ) (layout : Layout) (level : Level) (found : level_of t a ≡ Some level) (none : level.loops ≡ []) where
-  unset : (d : FramePart × ℕ) (n : ℕ) (v : Slot) → place_of_part (unit_at program (unit_of t a)) d.0 d.1 ≡ Some n → cells_to_locals (unit_at program (unit_of t a)) ≤ n → n < cells_to_bounds (unit_at program (unit_of t a)) → descriptor_slots program t layout a d ≡ Some v → v ≡ unset_cell
+module _ (f : FramesOf) (a : ℕ) (level : Level) (found : level_of f.state a ≡ Some level) (none : level.loops ≡ []) where
+  unset : (d : FramePart × ℕ) (n : ℕ) (v : Slot) → place_of_part (unit_framed f a) d.0 d.1 ≡ Some n → cells_to_locals (unit_framed f a) ≤ n → n < cells_to_bounds (unit_framed f a) → descriptor_slots f.program f.state f.layout a d ≡ Some v → v ≡ unset_cell
   unset (header, i) n v at low high w = absurd (none-some v w)
   unset (variable x, i) n v at low high w = absurd (none-some v w)
   unset (iteration d, i) n v at low high w =
-      let no_loop : descriptor_slots program t layout a (iteration d, i) ≡ Some unset_cell = ap (λ o. slot_on_level o d i) found ∙ ap (λ ls. slot_on_level (Some (record level { loops = ls })) d i) none in
+      let no_loop : descriptor_slots f.program f.state f.layout a (iteration d, i) ≡ Some unset_cell = ap (λ o. slot_on_level o d i) found ∙ ap (λ ls. slot_on_level (Some (record level { loops = ls })) d i) none in
       sym (same_Some unset_cell v (sym no_loop ∙ w))
-  unset (argument x, i) n v at low high w = by_index (index_among x (dummies_of (unit_at program (unit_of t a)))) refl w where
-    by_index : (o : Option ℕ) → index_among x (dummies_of (unit_at program (unit_of t a))) ≡ o → slot_by_dummy (λ z. slot_of_dummy program t layout a z i) (activation_of t a).dummies o ≡ Some v → v ≡ unset_cell
+  unset (argument x, i) n v at low high w = by_index (index_among x (dummies_of (unit_framed f a))) refl w where
+    by_index : (o : Option ℕ) → index_among x (dummies_of (unit_framed f a)) ≡ o → slot_by_dummy (λ z. slot_of_dummy f.program f.state f.layout a z i) (activation_of f.state a).dummies o ≡ Some v → v ≡ unset_cell
     by_index None e w = absurd (none-some v w)
-    by_index (Some k) e w = absurd (omega (arith, argument-place (unit_at program (unit_of t a)) x k e i n at, low))
-  unset (bounds x, i) n v at low high w = by_index (index_among x (dummies_of (unit_at program (unit_of t a)))) refl w where
-    by_index : (o : Option ℕ) → index_among x (dummies_of (unit_at program (unit_of t a))) ≡ o → slot_by_dummy (λ z. slot_of_bounds z.shape i) (activation_of t a).dummies o ≡ Some v → v ≡ unset_cell
+    by_index (Some k) e w = absurd (omega (arith, argument-place (unit_framed f a) x k e i n at, low))
+  unset (bounds x, i) n v at low high w = by_index (index_among x (dummies_of (unit_framed f a))) refl w where
+    by_index : (o : Option ℕ) → index_among x (dummies_of (unit_framed f a)) ≡ o → slot_by_dummy (λ z. slot_of_bounds z.shape i) (activation_of f.state a).dummies o ≡ Some v → v ≡ unset_cell
     by_index None e w = absurd (none-some v w)
-    by_index (Some k) e w = absurd (omega (arith, bounds-place (unit_at program (unit_of t a)) x k e i n at, high))
+    by_index (Some k) e w = absurd (omega (arith, bounds-place (unit_framed f a) x k e i n at, high))
 
-  pub keeps-rest : (on out : ℕ → Bool) (wanted : DescriptorSlots) (arena : Space) (nodes : Nodes) → Keeps program t on out layout (wanted_up_to program t layout a (cells_to_locals (unit_at program (unit_of t a))) wanted) arena nodes
-      → Keeps program t on out layout (wanted_up_to program t layout a (cells_to_bounds (unit_at program (unit_of t a))) wanted) arena nodes
-  keeps-rest on out wanted arena nodes h =
-      keeps-skipped program t on out layout wanted a nodes t.store arena (cells_to_locals (unit_at program (unit_of t a))) (cells_to_bounds (unit_at program (unit_of t a))) (cells-ordered (unit_at program (unit_of t a))) unset h
+  pub keeps-rest : (arena : Space) (nodes : Nodes) → Keeps (written_up_to f a (cells_to_locals (unit_framed f a))) arena nodes → Keeps (written_up_to f a (cells_to_bounds (unit_framed f a))) arena nodes
+  keeps-rest arena nodes h =
+      keeps-skipped f a nodes f.state.store arena (cells_to_locals (unit_framed f a)) (cells_to_bounds (unit_framed f a)) (cells-ordered (unit_framed f a)) unset h
 
 -- ---- the level of the new activation
 
@@ -166,4 +161,4 @@ module _ (program : Units) (choices : List ℕ) (p : ℕ) (top : Level × Proces
       let s = run program choices in
       let n = length t.activations in
       subst (λ m. IsWritten program s t layout first m out arena nodes) (sym (to-first (unit_begun program t))) (
-      keeps-rest program t n (layout_with program t layout first) (entry program choices p top u b lives) level refl (also n (is_stacked s)) (also n out) (descriptor_slots program s layout) arena nodes h)
+      keeps-rest (record (frames_begun (frames_in program s out layout) t first) { wanted = descriptor_slots program s layout }) n (entry program choices p top u b lives) level refl arena nodes h)

@@ -1,7 +1,7 @@
 -- Which cells of a frame those are of which values are wanted, and that they are written one after the other.
 use Rattle.std.proofs.Common.{◌≡◌, ℕ, zero, suc, ◌+◌, ◌*◌, ◌<◌, ◌≤◌, List, [], ◌∷◌, length, take, Some, sym, ap, ◌∙◌, subst, arith, Bool, true, false, Option, None, refl, slice_get, if◌then◌else◌, nat_eq, nat_lt, take_all, eqb-true, eq-eqb, ltb-true, lt-ltb, ltb-false}
 use Rattle.std.proofs.lemmas.Option.{none-some, same_Some, slice_get_within}
-use Rattle.hep_machine.specs.Words.{Name, Statement, index_among, same_name, dummies_of, Units, unit_at, adjustable_dimensions, adjustable_dimensions_of_all, frame_cells, unset_cell, Frame, Layout, unit_of, Location, State, Store, with_cell}
+use Rattle.hep_machine.specs.Words.{Name, Statement, index_among, same_name, dummies_of, adjustable_dimensions, adjustable_dimensions_of_all, frame_cells, unset_cell, Frame, Location, Store, with_cell}
 use Rattle.hep_conditions_laws.proofs.Parts.{found_at}
 use Rattle.hep_layout.specs.Words.{argument, bounds, frame_row, place_of_part, same_part, FramePart, address, cell_in, frame_address, DescriptorSlots, is_descriptor, descriptor_slots, Nodes}
 use Rattle.hep_layout.proofs.FrameRows.{argument-first, bounds-first, equal_parts}
@@ -10,9 +10,9 @@ use Rattle.hep_entering.specs.Shapes.{cells_to_bounds, cells_to_bounds_of, cells
 use Rattle.hep_machine.specs.declared.slot.Slot.{Slot}
 use Rattle.hep_arena.specs.Gaps.{frame_among}
 use Rattle.hep_arena.specs.Space.{Space}
-use Rattle.hep_frames.specs.Keeping.{Keeps}
+use Rattle.hep_frames.specs.Keeping.{FramesOf, Keeps}
 use Rattle.hep_frames.proofs.Stays.{keeps-described, keeps-same, keeps-stored}
-use Rattle.hep_entering.specs.Writing.{IsSet, is_before, wanted_up_to, with_stored}
+use Rattle.hep_entering.specs.Writing.{IsSet, is_before, stored_in, unit_framed, wanted_up_to, written_up_to}
 
 -- ---- places
 
@@ -76,20 +76,20 @@ pub one-cell : (unit : List Statement) (c d : FramePart × ℕ) (n : ℕ) → pl
 one-cell unit c d n e f =
     same_Some c d (sym (owned-by (same_part c.0) c.0 c.1 (frame_row unit) n (equal_parts c.0) e).0 ∙ (owned-by (same_part d.0) d.0 d.1 (frame_row unit) n (equal_parts d.0) f).0)
 
-module _ (program : Units) (t : State) (on out : ℕ → Bool) (layout : Layout) (wanted : DescriptorSlots) (a : ℕ) (nodes : Nodes) where
+module _ (f : FramesOf) (a : ℕ) (nodes : Nodes) where
   abbrev unit : List Statement
-  unit = unit_at program (unit_of t a)
+  unit = unit_framed f a
 
   -- what is wanted of a cell of the frame
   abbrev of_frame : Bool → FramePart × ℕ → Option Slot
-  of_frame b c = if b then descriptor_slots program t layout a c else Some unset_cell
+  of_frame b c = if b then descriptor_slots f.program f.state f.layout a c else Some unset_cell
 
   abbrev up_to : ℕ → DescriptorSlots
-  up_to m = wanted_up_to program t layout a m wanted
+  up_to m = wanted_up_to f.program f.state f.layout a m f.wanted
 
   -- more cells, of which no value is wanted of those of the frame
   fewer : (m more : ℕ) → m ≤ more → (b : ℕ) (d : FramePart × ℕ) (v : Slot)
-      → (b ≡ a → (n : ℕ) → place_of_part unit d.0 d.1 ≡ Some n → m ≤ n → n < more → descriptor_slots program t layout a d ≡ Some v → v ≡ unset_cell)
+      → (b ≡ a → (n : ℕ) → place_of_part unit d.0 d.1 ≡ Some n → m ≤ n → n < more → descriptor_slots f.program f.state f.layout a d ≡ Some v → v ≡ unset_cell)
       → up_to more b d ≡ Some v → up_to m b d ≡ Some v
   fewer m more le b d v unset = by_number (nat_eq b a) refl where
     by_test : b ≡ a → (n : ℕ) → place_of_part unit d.0 d.1 ≡ Some n → (p q : Bool) → nat_lt n m ≡ p → nat_lt n more ≡ q → of_frame q d ≡ Some v → of_frame p d ≡ Some v
@@ -102,27 +102,27 @@ module _ (program : Units) (t : State) (on out : ℕ → Bool) (layout : Layout)
     by_place own None there w = w
     by_place own (Some n) there w = by_test own n there (nat_lt n m) (nat_lt n more) refl refl w
 
-    by_number : (x : Bool) → nat_eq b a ≡ x → (if x then of_frame (is_before more (place_of_part unit d.0 d.1)) d else wanted b d) ≡ Some v → (if x then of_frame (is_before m (place_of_part unit d.0 d.1)) d else wanted b d) ≡ Some v
+    by_number : (x : Bool) → nat_eq b a ≡ x → (if x then of_frame (is_before more (place_of_part unit d.0 d.1)) d else f.wanted b d) ≡ Some v → (if x then of_frame (is_before m (place_of_part unit d.0 d.1)) d else f.wanted b d) ≡ Some v
     by_number false e w = w
     by_number true e w = by_place (eqb-true b a e) (place_of_part unit d.0 d.1) refl w
 
-  pub keeps-skipped : (store : Store) (arena : Space) (m more : ℕ) → m ≤ more → ((d : FramePart × ℕ) (n : ℕ) (v : Slot) → place_of_part unit d.0 d.1 ≡ Some n → m ≤ n → n < more → descriptor_slots program t layout a d ≡ Some v → v ≡ unset_cell)
-      → Keeps program (with_stored t store) on out layout (up_to m) arena nodes → Keeps program (with_stored t store) on out layout (up_to more) arena nodes
+  pub keeps-skipped : (store : Store) (arena : Space) (m more : ℕ) → m ≤ more → ((d : FramePart × ℕ) (n : ℕ) (v : Slot) → place_of_part unit d.0 d.1 ≡ Some n → m ≤ n → n < more → descriptor_slots f.program f.state f.layout a d ≡ Some v → v ≡ unset_cell)
+      → Keeps (stored_in (written_up_to f a m) store) arena nodes → Keeps (stored_in (written_up_to f a more) store) arena nodes
   keeps-skipped store arena m more le unset h =
-      keeps-same program (with_stored t store) (with_stored t store) on on out layout (up_to m) (up_to more) arena nodes h refl refl (λ b. refl) (λ b d v. fewer m more le b d v (λ own n. unset d n v))
+      keeps-same (stored_in (written_up_to f a m) store) (record f.state { store = store }) f.on (up_to more) arena nodes h refl refl (λ b. refl) (λ b d v. fewer m more le b d v (λ own n. unset d n v))
 
   -- the next cell, which keeps no storage unit
-  pub keeps-written : (store : Store) (before after : Space) (m : ℕ) (f : Frame) (c : FramePart × ℕ) (slot : Slot)
-      → frame_among a layout ≡ Some f → place_of_part unit c.0 c.1 ≡ Some m → is_descriptor program t a c ≡ true → descriptor_slots program t layout a c ≡ Some slot → IsSet (f.first + m) slot before after
-      → Keeps program (with_stored t store) on out layout (up_to m) before nodes → Keeps program (with_stored t store) on out layout (up_to (suc m)) after nodes
-  keeps-written store before after m f c slot framed there is wants set h =
-      keeps-described program (with_stored t store) on out layout (up_to m) before after nodes (f.first + m) slot h set.contents_are set.holes_are (up_to (suc m)) a c is here now others where
-        here : frame_address program (with_stored t store) layout a c ≡ Some (f.first + m)
+  pub keeps-written : (store : Store) (before after : Space) (m : ℕ) (frame : Frame) (c : FramePart × ℕ) (slot : Slot)
+      → frame_among a f.layout ≡ Some frame → place_of_part unit c.0 c.1 ≡ Some m → is_descriptor f.program f.state a c ≡ true → descriptor_slots f.program f.state f.layout a c ≡ Some slot → IsSet (frame.first + m) slot before after
+      → Keeps (stored_in (written_up_to f a m) store) before nodes → Keeps (stored_in (written_up_to f a (suc m)) store) after nodes
+  keeps-written store before after m frame c slot framed there is wants set h =
+      keeps-described (stored_in (written_up_to f a m) store) before after nodes (frame.first + m) slot h set.contents_are set.holes_are (up_to (suc m)) a c is here now others where
+        here : frame_address f.program (record f.state { store = store }) f.layout a c ≡ Some (frame.first + m)
         here = λ k. cell_in (framed k) (there k)
 
         now : up_to (suc m) a c ≡ Some slot
         now =
-            ap (λ b. if b then of_frame (is_before (suc m) (place_of_part unit c.0 c.1)) c else wanted a c) (eq-eqb a a refl)
+            ap (λ b. if b then of_frame (is_before (suc m) (place_of_part unit c.0 c.1)) c else f.wanted a c) (eq-eqb a a refl)
             ∙ (ap (λ o. of_frame (is_before (suc m) o) c) there ∙ (ap (λ b. of_frame b c) (lt-ltb m (suc m) (omega arith)) ∙ wants))
 
         others : (b : ℕ) (d : FramePart × ℕ) (v : Slot) → ((a ≡ b) × (c ≡ d) → ⊥) → up_to (suc m) b d ≡ Some v → up_to m b d ≡ Some v
@@ -133,7 +133,7 @@ module _ (program : Units) (t : State) (on out : ℕ → Bool) (layout : Layout)
 
   -- a cell that keeps a storage unit
   pub keeps-given : (store : Store) (before after : Space) (m p : ℕ) (at : Location) (slot : Slot)
-      → address program t layout at ≡ Some p → IsSet p slot before after
-      → Keeps program (with_stored t store) on out layout (up_to m) before nodes → Keeps program (with_stored t (with_cell store at slot)) on out layout (up_to m) after nodes
+      → address f.program f.state f.layout at ≡ Some p → IsSet p slot before after
+      → Keeps (stored_in (written_up_to f a m) store) before nodes → Keeps (stored_in (written_up_to f a m) (with_cell store at slot)) after nodes
   keeps-given store before after m p at slot here set h =
-      keeps-stored program (with_stored t store) on out layout (up_to m) before after nodes p slot h set.contents_are set.holes_are (with_stored t (with_cell store at slot)) at here refl refl
+      keeps-stored (stored_in (written_up_to f a m) store) before after nodes p slot h set.contents_are set.holes_are (record f.state { store = with_cell store at slot }) at here refl refl

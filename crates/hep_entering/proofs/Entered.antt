@@ -2,7 +2,7 @@
 use Rattle.std.proofs.Common.{◌≡◌, inl, inr, ℕ, ◌-◌, ◌≤◌, true, false, List, [], ◌∷◌, ◌++◌, Some, refl, sym, ap, ◌∙◌, subst, arith, ◌⊎◌, suc, ◌<◌, Bool, length, Option, None, nat_eq, if◌then◌else◌, eq-eqb, eqb-true, lt-ltb, length-append}
 use Rattle.std.proofs.lemmas.Grind.{flat_map-append}
 use Rattle.hep_machine.specs.Words.{Units, unit_at, activations_on, Frame, Layout, numbered, with_numbered, activation_of, unit_of, run, Level, Process, State, Activation, Statement, unset_cell, dummy_at, frame_cells}
-use Rattle.hep_layout.specs.Words.{level_of, Describes, loop_among, slot_of_loop, slot_on_level, descriptor_slots, times, IsLaid, cell_in, frame_address, frame_from, IsMadeAt, FramePart, argument, iteration, bounds, frame_row, place_of_part, same_part, AreNeededBut, is_stacked, IsFrameTree, Nodes}
+use Rattle.hep_layout.specs.Words.{level_of, Describes, loop_among, slot_of_loop, slot_on_level, descriptor_slots, times, IsLaid, cell_in, frame_address, frame_from, IsMadeAt, FramePart, argument, iteration, bounds, frame_row, place_of_part, same_part, AreNeededBut, also, is_stacked, IsFrameTree, Nodes}
 use Rattle.hep_layout.proofs.Stacks.{once}
 use Rattle.hep_entering.proofs.Found.{IsAmong, all_levels, among-numbered, among-parts, among-set, find-among, found, times-all}
 use Rattle.std.proofs.lemmas.Option.{none-some}
@@ -14,9 +14,8 @@ use Rattle.hep_layout.proofs.FrameRows.{equal_parts, frame_row-cells}
 use Rattle.hep_layout.proofs.Memory.{one-of}
 use Rattle.hep_layout.proofs.Rows.{owned-by}
 use Rattle.hep_layout.proofs.Wants.{wanted-entered}
-use Rattle.hep_frames.specs.Keeping.{Keeps}
-use Rattle.hep_entering.specs.Calling.{layout_with}
-use Rattle.hep_entering.specs.Writing.{is_before, wanted_up_to}
+use Rattle.hep_entering.specs.Calling.{IsAllWritten, IsKeptIn, layout_with}
+use Rattle.hep_entering.specs.Writing.{is_before}
 
 -- ---- the levels of the other activations stay
 
@@ -105,14 +104,13 @@ module _ (program : Units) (s t : State) (x : Activation) (layout : Layout) (fir
 
     no-cell : (o : Option Frame) → cell_in o None ≡ Some p → ⊥
     no-cell None e = none-some p e
-    no-cell (Some f) e = none-some p e
+    no-cell (Some frame) e = none-some p e
 
     by_place : (o : Option ℕ) → place_of_part unit c.0 c.1 ≡ o → cell_in (frame_among n after) o ≡ Some p → is_before (frame_cells unit) o ≡ true
     by_place None e k = absurd (no-cell (frame_among n after) k)
     by_place (Some m) e k = lt-ltb m (frame_cells unit) (subst (λ z. m < z) (frame_row-cells unit) (owned-by (same_part c.0) c.0 c.1 (frame_row unit) m (equal_parts c.0) e).1)
 
-  module _ (on out : ℕ → Bool) (arena : Space) (nodes : Nodes) (h : Keeps program t on out after (wanted_up_to program t after n (frame_cells (unit_at program (unit_of t n))) (descriptor_slots program s layout)) arena nodes)
-      (stacks : (a : ℕ) → is_stacked t a ≡ on a) where
+  module _ (out : ℕ → Bool) (arena : Space) (nodes : Nodes) (h : IsAllWritten program s t layout first out arena nodes) (stacks : (a : ℕ) → is_stacked t a ≡ also n (is_stacked s) a) where
     described : Describes program t after (descriptor_slots program t after) arena.contents
     described a c p v is k w = h.described a c p v is k (by_number (nat_eq a n) refl) where
       unit : List Statement
@@ -131,13 +129,13 @@ module _ (program : Units) (s t : State) (x : Activation) (layout : Layout) (fir
         by_frame (inl same) = let both : true ≡ false = sym (eq-eqb a n (sym same.0)) ∙ e in absurd cc
         by_frame (inr there) = (laid.made a frame.frame there).1
 
-    pub keeps-entered : Keeps program t (is_stacked t) out (layout_with program t layout first) (descriptor_slots program t (layout_with program t layout first)) arena nodes
+    pub keeps-entered : IsKeptIn program t layout first out arena nodes
     keeps-entered =
-        let same : on ≡ is_stacked t = λ i a. sym (stacks a) i in
+        let same : also n (is_stacked s) ≡ is_stacked t = λ i a. sym (stacks a) i in
         record {
           memory = h.memory;
-          tree = subst (λ test. IsFrameTree t test out nodes) same h.tree;
-          rest = subst (λ test. AreNeededBut None t test out) same h.rest;
+          tree = subst (λ test. IsFrameTree t test (also n out) nodes) same h.tree;
+          rest = subst (λ test. AreNeededBut None t test (also n out)) same h.rest;
           framed = h.framed;
           frames_are = h.frames_are;
           described = described;

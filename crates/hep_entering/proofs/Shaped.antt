@@ -1,14 +1,14 @@
 -- The bounds of adjustable arrays are written.
-use Rattle.std.proofs.Common.{◌≡◌, ℕ, zero, suc, ◌+◌, ◌*◌, ◌<◌, ◌≤◌, Bool, [], ◌∷◌, length, get_or, Option, Some, None, refl, sym, ap, ◌∙◌, subst, arith, List, drop, ℤ, slice_get}
+use Rattle.std.proofs.Common.{◌≡◌, ℕ, zero, suc, ◌+◌, ◌*◌, ◌<◌, ◌≤◌, [], ◌∷◌, length, get_or, Option, Some, None, refl, sym, ap, ◌∙◌, subst, arith, List, drop, ℤ, slice_get}
 use Rattle.std.proofs.lemmas.Option.{none-some, same_Some, slice_get-get_or, slice_get_within}
-use Rattle.hep_machine.specs.Words.{index_among, Units, dummies_of, unit_at, unset_cell, Layout, Frame, common_cells, activation_of, unit_of, Bounds, State, Dummy, Name, Statement, adjustable_dimensions, dummy_at, adjustable_dimensions_of_all, frame_cells}
+use Rattle.hep_machine.specs.Words.{index_among, dummies_of, unset_cell, Frame, common_cells, activation_of, Bounds, Dummy, Name, Statement, adjustable_dimensions, dummy_at, adjustable_dimensions_of_all, frame_cells}
 use Rattle.hep_machine.specs.declared.shape.Bound.{Bound}
 use Rattle.hep_machine.specs.declared.slot.Slot.{Slot}
 use Rattle.hep_arena.specs.Space.{Space}
-use Rattle.hep_layout.specs.Words.{DescriptorSlots, number, slot_by_dummy, slot_of_bounds, slot_of_upper, descriptor_slots, FramePart, bounds, place_of_part, Nodes, FrameNode}
-use Rattle.hep_frames.specs.Keeping.{Keeps}
+use Rattle.hep_layout.specs.Words.{number, slot_by_dummy, slot_of_bounds, slot_of_upper, descriptor_slots, FramePart, bounds, place_of_part, Nodes, FrameNode}
+use Rattle.hep_frames.specs.Keeping.{FramesOf, Keeps}
 use Rattle.hep_entering.specs.Shapes.{IsBoundPut, IsShaping, cells_to_bounds_of, AreShaping, IsFramedBy, cells_of_shape, cells_of_shapes}
-use Rattle.hep_entering.specs.Writing.{IsSet, wanted_up_to}
+use Rattle.hep_entering.specs.Writing.{IsSet, unit_framed, written_up_to}
 use Rattle.hep_entering.proofs.Cells.{keeps-skipped, keeps-written, one-cell, place-bounds, to-next, to-end, to-first}
 use Rattle.hep_entering.proofs.Names.{index-found}
 use Rattle.hep_arena.specs.Gaps.{frame_among}
@@ -29,47 +29,44 @@ upper-slot [] j i b e same = absurd (none-some b e)
 upper-slot (c ∷ cs) zero i b e same = ap (slot_of_bounds (c ∷ cs)) same ∙ ap (λ (z : Bound). Some (slot_of_upper z.upper)) (same_Some c b e)
 upper-slot (c ∷ cs) (suc j) i b e same = ap (slot_of_bounds (c ∷ cs)) (let next : i ≡ suc (suc (2 * j + 1)) = omega (arith, same) in next) ∙ upper-slot cs j (2 * j + 1) b e refl
 
-module _ (program : Units) (s : State) (on out : ℕ → Bool) (layout : Layout) (wanted : DescriptorSlots) (a k at : ℕ) (shape : Bounds) (nodes : Nodes) (h : IsShaping program s layout a k at shape) where
+module _ (f : FramesOf) (a k at : ℕ) (shape : Bounds) (nodes : Nodes) (h : IsShaping f.program f.state f.layout a k at shape) where
   abbrev first : ℕ
-  first = cells_to_bounds_of (unit_at program (unit_of s a)) k
+  first = cells_to_bounds_of (unit_framed f a) k
 
-  abbrev up_to : ℕ → DescriptorSlots
-  up_to m = wanted_up_to program s layout a m wanted
+  index : index_among h.name (dummies_of (unit_framed f a)) ≡ Some k
+  index = index-found h.name (dummies_of (unit_framed f a)) k h.distinct h.named
 
-  index : index_among h.name (dummies_of (unit_at program (unit_of s a))) ≡ Some k
-  index = index-found h.name (dummies_of (unit_at program (unit_of s a))) k h.distinct h.named
+  wants : (i : ℕ) → descriptor_slots f.program f.state f.layout a (bounds h.name, i) ≡ slot_of_bounds shape i
+  wants i = ap (slot_by_dummy (λ d. slot_of_bounds d.shape i) (activation_of f.state a).dummies) index ∙ ap (λ bs. slot_of_bounds bs i) h.shape_is
 
-  wants : (i : ℕ) → descriptor_slots program s layout a (bounds h.name, i) ≡ slot_of_bounds shape i
-  wants i = ap (slot_by_dummy (λ d. slot_of_bounds d.shape i) (activation_of s a).dummies) index ∙ ap (λ bs. slot_of_bounds bs i) h.shape_is
-
-  place : (i m : ℕ) → i < 2 * length shape → m ≡ first + i → place_of_part (unit_at program (unit_of s a)) (bounds h.name) i ≡ Some m
-  place i m less same = place-bounds (unit_at program (unit_of s a)) h.name k index i (omega (arith, less, h.dimensions)) ∙ ap (λ n. Some n) (sym same)
+  place : (i m : ℕ) → i < 2 * length shape → m ≡ first + i → place_of_part (unit_framed f a) (bounds h.name) i ≡ Some m
+  place i m less same = place-bounds (unit_framed f a) h.name k index i (omega (arith, less, h.dimensions)) ∙ ap (λ n. Some n) (sym same)
 
   module _ (j m : ℕ) (b : Bound) (there : slice_get shape j ≡ Some b) (m_is : m ≡ first + 2 * j) where
     inside : j < length shape
     inside = slice_get_within shape j b there
 
-    keeps-lower : (before after : Space) (p : ℕ) → p ≡ at + 2 * j → IsSet p (number b.lower) before after → Keeps program s on out layout (up_to m) before nodes → Keeps program s on out layout (up_to (suc m)) after nodes
+    keeps-lower : (before after : Space) (p : ℕ) → p ≡ at + 2 * j → IsSet p (number b.lower) before after → Keeps (written_up_to f a m) before nodes → Keeps (written_up_to f a (suc m)) after nodes
     keeps-lower before after p p_is put kept =
-        keeps-written program s on out layout wanted a nodes s.store before after m h.frame (bounds h.name, 2 * j) (number b.lower) h.framed (place (2 * j) m (omega (arith, inside)) m_is) refl (wants (2 * j) ∙ lower-slot shape j (2 * j) b there refl)
+        keeps-written f a nodes f.state.store before after m h.frame (bounds h.name, 2 * j) (number b.lower) h.framed (place (2 * j) m (omega (arith, inside)) m_is) refl (wants (2 * j) ∙ lower-slot shape j (2 * j) b there refl)
         (subst (λ q. IsSet q (number b.lower) before after) (let same : p ≡ h.frame.first + m = omega (arith, p_is, m_is, h.begins) in same) put) kept
 
-    keeps-upper : (before after : Space) (p : ℕ) (u : ℤ) → b.upper ≡ Some u → p ≡ at + 2 * j + 1 → IsSet p (number u) before after → Keeps program s on out layout (up_to (suc m)) before nodes → Keeps program s on out layout (up_to (suc (suc m))) after nodes
+    keeps-upper : (before after : Space) (p : ℕ) (u : ℤ) → b.upper ≡ Some u → p ≡ at + 2 * j + 1 → IsSet p (number u) before after → Keeps (written_up_to f a (suc m)) before nodes → Keeps (written_up_to f a (suc (suc m))) after nodes
     keeps-upper before after p u upper p_is put kept =
-        keeps-written program s on out layout wanted a nodes s.store before after (suc m) h.frame (bounds h.name, 2 * j + 1) (number u) h.framed (place (2 * j + 1) (suc m) (omega (arith, inside)) (omega (arith, m_is))) refl
+        keeps-written f a nodes f.state.store before after (suc m) h.frame (bounds h.name, 2 * j + 1) (number u) h.framed (place (2 * j + 1) (suc m) (omega (arith, inside)) (omega (arith, m_is))) refl
         (wants (2 * j + 1) ∙ (upper-slot shape j (2 * j + 1) b there refl ∙ ap (λ o. Some (slot_of_upper o)) upper))
         (subst (λ q. IsSet q (number u) before after) (let same : p ≡ h.frame.first + suc m = omega (arith, p_is, m_is, h.begins) in same) put) kept
 
-    keeps-open : (after : Space) → b.upper ≡ None → Keeps program s on out layout (up_to (suc m)) after nodes → Keeps program s on out layout (up_to (suc (suc m))) after nodes
-    keeps-open after upper kept = keeps-skipped program s on out layout wanted a nodes s.store after (suc m) (suc (suc m)) (omega arith) unset kept where
-      unset : (d : FramePart × ℕ) (n : ℕ) (v : Slot) → place_of_part (unit_at program (unit_of s a)) d.0 d.1 ≡ Some n → suc m ≤ n → n < suc (suc m) → descriptor_slots program s layout a d ≡ Some v → v ≡ unset_cell
+    keeps-open : (after : Space) → b.upper ≡ None → Keeps (written_up_to f a (suc m)) after nodes → Keeps (written_up_to f a (suc (suc m))) after nodes
+    keeps-open after upper kept = keeps-skipped f a nodes f.state.store after (suc m) (suc (suc m)) (omega arith) unset kept where
+      unset : (d : FramePart × ℕ) (n : ℕ) (v : Slot) → place_of_part (unit_framed f a) d.0 d.1 ≡ Some n → suc m ≤ n → n < suc (suc m) → descriptor_slots f.program f.state f.layout a d ≡ Some v → v ≡ unset_cell
       unset d n v here low high w =
           let same : n ≡ first + (2 * j + 1) = omega (arith, low, high, m_is) in
-          let cell = one-cell (unit_at program (unit_of s a)) (bounds h.name, 2 * j + 1) d n (place (2 * j + 1) n (omega (arith, inside)) same) here in
-          let none : descriptor_slots program s layout a (bounds h.name, 2 * j + 1) ≡ Some unset_cell = wants (2 * j + 1) ∙ (upper-slot shape j (2 * j + 1) b there refl ∙ ap (λ o. Some (slot_of_upper o)) upper) in
-          sym (same_Some unset_cell v (sym none ∙ (ap (descriptor_slots program s layout a) cell ∙ w)))
+          let cell = one-cell (unit_framed f a) (bounds h.name, 2 * j + 1) d n (place (2 * j + 1) n (omega (arith, inside)) same) here in
+          let none : descriptor_slots f.program f.state f.layout a (bounds h.name, 2 * j + 1) ≡ Some unset_cell = wants (2 * j + 1) ∙ (upper-slot shape j (2 * j + 1) b there refl ∙ ap (λ o. Some (slot_of_upper o)) upper) in
+          sym (same_Some unset_cell v (sym none ∙ (ap (descriptor_slots f.program f.state f.layout a) cell ∙ w)))
 
-    pub keeps-bound : (before after : Space) (p : ℕ) (o : Option ℤ) → b.upper ≡ o → p ≡ at + 2 * j → IsBoundPut p b.lower o before after → Keeps program s on out layout (up_to m) before nodes → Keeps program s on out layout (up_to (suc (suc m))) after nodes
+    pub keeps-bound : (before after : Space) (p : ℕ) (o : Option ℤ) → b.upper ≡ o → p ≡ at + 2 * j → IsBoundPut p b.lower o before after → Keeps (written_up_to f a m) before nodes → Keeps (written_up_to f a (suc (suc m))) after nodes
     keeps-bound before after p None upper p_is put kept = keeps-open after upper (keeps-lower before after p p_is put kept)
     keeps-bound before after p (Some u) upper p_is put kept = keeps-upper put.0 after (p + 1) u upper (omega (arith, p_is)) put.2 (keeps-lower before put.0 p p_is put.1 kept)
 
@@ -78,33 +75,32 @@ module _ (program : Units) (s : State) (on out : ℕ → Bool) (layout : Layout)
 -- what is kept once they are written
 abbrev pub AreShaped : ℕ → Bounds → Space → Nodes → ℕ → Space → Nodes → Type 0
 AreShaped at shape before old j after new =
-    (program : Units) (s : State) (on out : ℕ → Bool) (layout : Layout) (wanted : DescriptorSlots) (a k : ℕ)
-    → Keeps program s on out layout (wanted_up_to program s layout a (cells_to_bounds_of (unit_at program (unit_of s a)) k) wanted) before old → IsShaping program s layout a k at shape
-    → Keeps program s on out layout (wanted_up_to program s layout a (cells_to_bounds_of (unit_at program (unit_of s a)) k + 2 * j) wanted) after new
+    (f : FramesOf) (a k : ℕ)
+    → Keeps (written_up_to f a (cells_to_bounds_of (unit_framed f a) k)) before old → IsShaping f.program f.state f.layout a k at shape
+    → Keeps (written_up_to f a (cells_to_bounds_of (unit_framed f a) k + 2 * j)) after new
 
 pub shaped-begins : (at : ℕ) (shape : Bounds) (before : Space) (old : Nodes) → AreShaped at shape before old 0 before old
-shaped-begins at shape before old program s on out layout wanted a k kept h =
-    subst (λ m. Keeps program s on out layout (wanted_up_to program s layout a m wanted) before old) (let same : cells_to_bounds_of (unit_at program (unit_of s a)) k ≡ cells_to_bounds_of (unit_at program (unit_of s a)) k + 2 * 0 = omega arith in same) kept
+shaped-begins at shape before old f a k kept h =
+    subst (λ m. Keeps (written_up_to f a m) before old) (let same : cells_to_bounds_of (unit_framed f a) k ≡ cells_to_bounds_of (unit_framed f a) k + 2 * 0 = omega arith in same) kept
 
 pub shaped-next : (at : ℕ) (shape : Bounds) (before : Space) (old : Nodes) (j p : ℕ) (default : Bound) (mid after : Space) (nodes new : Nodes)
     → j < length shape → p ≡ at + 2 * j → IsBoundPut p (get_or shape j default).lower (get_or shape j default).upper mid after → new ≡ nodes → AreShaped at shape before old j mid nodes → AreShaped at shape before old (j + 1) after new
-shaped-next at shape before old j p default mid after nodes new less p_is put same_nodes so_far program s on out layout wanted a k kept h =
+shaped-next at shape before old j p default mid after nodes new less p_is put same_nodes so_far f a k kept h =
     let b = get_or shape j default in
-    let first = cells_to_bounds_of (unit_at program (unit_of s a)) k in
-    let written = keeps-bound program s on out layout wanted a k at shape nodes h j (first + 2 * j) b (slice_get-get_or shape j default less) refl mid after p b.upper refl p_is put (so_far program s on out layout wanted a k kept h) in
+    let first = cells_to_bounds_of (unit_framed f a) k in
+    let written = keeps-bound f a k at shape nodes h j (first + 2 * j) b (slice_get-get_or shape j default less) refl mid after p b.upper refl p_is put (so_far f a k kept h) in
     let cells : suc (suc (first + 2 * j)) ≡ first + 2 * (j + 1) = omega arith in
-    subst (λ m. Keeps program s on out layout (wanted_up_to program s layout a m wanted) after new) cells (subst (Keeps program s on out layout (wanted_up_to program s layout a (suc (suc (first + 2 * j))) wanted) after) (sym same_nodes) written)
+    subst (λ m. Keeps (written_up_to f a m) after new) cells (subst (Keeps (written_up_to f a (suc (suc (first + 2 * j)))) after) (sym same_nodes) written)
 
 pub shaped-ends : (at : ℕ) (shape : Bounds) (before : Space) (old : Nodes) (j : ℕ) (after : Space) (new : Nodes) → j ≡ length shape → AreShaped at shape before old j after new
-    → (program : Units) (s : State) (on out : ℕ → Bool) (layout : Layout) (wanted : DescriptorSlots) (a k : ℕ)
-    → Keeps program s on out layout (wanted_up_to program s layout a (cells_to_bounds_of (unit_at program (unit_of s a)) k) wanted) before old → IsShaping program s layout a k at shape
-    → Keeps program s on out layout (wanted_up_to program s layout a (cells_to_bounds_of (unit_at program (unit_of s a)) (k + 1)) wanted) after new
-shaped-ends at shape before old j after new all so_far program s on out layout wanted a k kept h =
-    let unit = unit_at program (unit_of s a) in
+    → (f : FramesOf) (a k : ℕ) → Keeps (written_up_to f a (cells_to_bounds_of (unit_framed f a) k)) before old → IsShaping f.program f.state f.layout a k at shape
+    → Keeps (written_up_to f a (cells_to_bounds_of (unit_framed f a) (k + 1))) after new
+shaped-ends at shape before old j after new all so_far f a k kept h =
+    let unit = unit_framed f a in
     let next = to-next unit k h.name h.named in
     let more : cells_to_bounds_of unit (suc k) ≡ cells_to_bounds_of unit (k + 1) = ap (cells_to_bounds_of unit) (let one : suc k ≡ k + 1 = omega arith in one) in
     let cells : cells_to_bounds_of unit k + 2 * j ≡ cells_to_bounds_of unit (k + 1) = omega (arith, next, more, all, h.dimensions) in
-    subst (λ m. Keeps program s on out layout (wanted_up_to program s layout a m wanted) after new) cells (so_far program s on out layout wanted a k kept h)
+    subst (λ m. Keeps (written_up_to f a m) after new) cells (so_far f a k kept h)
 
 -- ---- those of one dummy argument after the other
 
@@ -131,58 +127,57 @@ there-is (x ∷ xs) (suc j) less = there-is xs j (omega (arith, less))
 -- what is kept once those of the first j are written, and where the next ones begin
 abbrev pub AreAllShaped : ℕ → List (Option Bounds) → Space → Nodes → ℕ → ℕ → Space → Nodes → Type 0
 AreAllShaped at shapes before old j next after new =
-    (program : Units) (s : State) (on out : ℕ → Bool) (layout : Layout) (wanted : DescriptorSlots) (a : ℕ) (frame : Frame)
-    → Keeps program s on out layout (wanted_up_to program s layout a (cells_to_bounds_of (unit_at program (unit_of s a)) 0) wanted) before old
-    → frame_among a layout ≡ Some frame → at ≡ frame.first + cells_to_bounds_of (unit_at program (unit_of s a)) 0 → AreShaping program s a shapes
-    → (next ≡ frame.first + cells_to_bounds_of (unit_at program (unit_of s a)) j)
-    × Keeps program s on out layout (wanted_up_to program s layout a (cells_to_bounds_of (unit_at program (unit_of s a)) j) wanted) after new
+    (f : FramesOf) (a : ℕ) (frame : Frame)
+    → Keeps (written_up_to f a (cells_to_bounds_of (unit_framed f a) 0)) before old
+    → frame_among a f.layout ≡ Some frame → at ≡ frame.first + cells_to_bounds_of (unit_framed f a) 0 → AreShaping f.program f.state a shapes
+    → (next ≡ frame.first + cells_to_bounds_of (unit_framed f a) j)
+    × Keeps (written_up_to f a (cells_to_bounds_of (unit_framed f a) j)) after new
 
 -- what the writing of one of them keeps
 abbrev pub IsOneShaped : ℕ → Option Bounds → Space → Nodes → Space → Nodes → Type 0
 IsOneShaped at shape before old after new =
-    (bounds : Bounds) → shape ≡ Some bounds → (program : Units) (s : State) (on out : ℕ → Bool) (layout : Layout) (wanted : DescriptorSlots) (a k : ℕ)
-    → Keeps program s on out layout (wanted_up_to program s layout a (cells_to_bounds_of (unit_at program (unit_of s a)) k) wanted) before old → IsShaping program s layout a k at bounds
-    → Keeps program s on out layout (wanted_up_to program s layout a (cells_to_bounds_of (unit_at program (unit_of s a)) (k + 1)) wanted) after new
+    (bounds : Bounds) → shape ≡ Some bounds → (f : FramesOf) (a k : ℕ)
+    → Keeps (written_up_to f a (cells_to_bounds_of (unit_framed f a) k)) before old → IsShaping f.program f.state f.layout a k at bounds
+    → Keeps (written_up_to f a (cells_to_bounds_of (unit_framed f a) (k + 1))) after new
 
 pub all-shaped-next : (at : ℕ) (shapes : List (Option Bounds)) (before : Space) (old : Nodes) (j p q : ℕ) (o : Option Bounds) (mid after : Space) (nodes new : Nodes)
     → slice_get shapes j ≡ Some o → q ≡ p + cells_of_shape o → (o ≡ None → after ≡ mid) → IsOneShaped p o mid nodes after new → new ≡ nodes
     → AreAllShaped at shapes before old j p mid nodes → AreAllShaped at shapes before old (j + 1) q after new
-all-shaped-next at shapes before old j p q o mid after nodes new e0 q_is none some same_nodes so_far program s on out layout wanted a frame kept framed begins h =
+all-shaped-next at shapes before old j p q o mid after nodes new e0 q_is none some same_nodes so_far f a frame kept framed begins h =
     by_shape o q_is none some e0 where
-      name : (x : Name) × (slice_get (dummies_of (unit_at program (unit_of s a))) j ≡ Some x)
-      name = there-is (dummies_of (unit_at program (unit_of s a))) j (omega (arith, slice_get_within shapes j o e0, h.shapes_are.as_many))
+      name : (x : Name) × (slice_get (dummies_of (unit_framed f a)) j ≡ Some x)
+      name = there-is (dummies_of (unit_framed f a)) j (omega (arith, slice_get_within shapes j o e0, h.shapes_are.as_many))
 
-      now : (p ≡ frame.first + cells_to_bounds_of (unit_at program (unit_of s a)) j) × Keeps program s on out layout (wanted_up_to program s layout a (cells_to_bounds_of (unit_at program (unit_of s a)) j) wanted) mid nodes
-      now = so_far program s on out layout wanted a frame kept framed begins h
+      now : (p ≡ frame.first + cells_to_bounds_of (unit_framed f a) j) × Keeps (written_up_to f a (cells_to_bounds_of (unit_framed f a) j)) mid nodes
+      now = so_far f a frame kept framed begins h
 
-      more : cells_to_bounds_of (unit_at program (unit_of s a)) (j + 1) ≡ cells_to_bounds_of (unit_at program (unit_of s a)) j + 2 * adjustable_dimensions (unit_at program (unit_of s a)) name.0
-      more = ap (cells_to_bounds_of (unit_at program (unit_of s a))) (let one : j + 1 ≡ suc j = omega arith in one) ∙ to-next (unit_at program (unit_of s a)) j name.0 name.1
+      more : cells_to_bounds_of (unit_framed f a) (j + 1) ≡ cells_to_bounds_of (unit_framed f a) j + 2 * adjustable_dimensions (unit_framed f a) name.0
+      more = ap (cells_to_bounds_of (unit_framed f a)) (let one : j + 1 ≡ suc j = omega arith in one) ∙ to-next (unit_framed f a) j name.0 name.1
 
       by_shape : (o : Option Bounds) → q ≡ p + cells_of_shape o → (o ≡ None → after ≡ mid) → IsOneShaped p o mid nodes after new → slice_get shapes j ≡ Some o
-          → (q ≡ frame.first + cells_to_bounds_of (unit_at program (unit_of s a)) (j + 1)) × Keeps program s on out layout (wanted_up_to program s layout a (cells_to_bounds_of (unit_at program (unit_of s a)) (j + 1)) wanted) after new
+          → (q ≡ frame.first + cells_to_bounds_of (unit_framed f a) (j + 1)) × Keeps (written_up_to f a (cells_to_bounds_of (unit_framed f a) (j + 1))) after new
       by_shape None q_is none some e =
           let zero_more = h.shapes_are.each j name.0 None name.1 e in
-          let same : cells_to_bounds_of (unit_at program (unit_of s a)) j ≡ cells_to_bounds_of (unit_at program (unit_of s a)) (j + 1) = omega (arith, more, zero_more) in (
+          let same : cells_to_bounds_of (unit_framed f a) j ≡ cells_to_bounds_of (unit_framed f a) (j + 1) = omega (arith, more, zero_more) in (
             omega (arith, q_is, now.0, same),
-            subst (λ m. Keeps program s on out layout (wanted_up_to program s layout a m wanted) after new) same
-                (subst (λ ns. Keeps program s on out layout (wanted_up_to program s layout a (cells_to_bounds_of (unit_at program (unit_of s a)) j) wanted) after ns) (sym same_nodes)
-                (subst (λ sp. Keeps program s on out layout (wanted_up_to program s layout a (cells_to_bounds_of (unit_at program (unit_of s a)) j) wanted) sp nodes) (sym (none refl)) now.1)),
+            subst (λ m. Keeps (written_up_to f a m) after new) same
+                (subst (λ ns. Keeps (written_up_to f a (cells_to_bounds_of (unit_framed f a) j)) after ns) (sym same_nodes)
+                (subst (λ sp. Keeps (written_up_to f a (cells_to_bounds_of (unit_framed f a) j)) sp nodes) (sym (none refl)) now.1)),
           )
       by_shape (Some bs) q_is none some e =
           let is = h.shapes_are.each j name.0 (Some bs) name.1 e in (
             omega (arith, q_is, now.0, more, is.0),
-            some bs refl program s on out layout wanted a j now.1 (record { frame = frame; framed = framed; begins = now.0; distinct = h.distinct; name = name.0; named = name.1; dimensions = is.0; shape_is = is.1 }),
+            some bs refl f a j now.1 (record { frame = frame; framed = framed; begins = now.0; distinct = h.distinct; name = name.0; named = name.1; dimensions = is.0; shape_is = is.1 }),
           )
 
 pub all-shaped-ends : (at : ℕ) (shapes : List (Option Bounds)) (before : Space) (old : Nodes) (j p : ℕ) (after : Space) (new : Nodes) → j ≡ length shapes → AreAllShaped at shapes before old j p after new
-    → (program : Units) (s : State) (on out : ℕ → Bool) (layout : Layout) (wanted : DescriptorSlots) (a : ℕ) (frame : Frame)
-    → Keeps program s on out layout (wanted_up_to program s layout a (cells_to_bounds_of (unit_at program (unit_of s a)) 0) wanted) before old
-    → frame_among a layout ≡ Some frame → at ≡ frame.first + cells_to_bounds_of (unit_at program (unit_of s a)) 0 → AreShaping program s a shapes
-    → Keeps program s on out layout (wanted_up_to program s layout a (frame_cells (unit_at program (unit_of s a))) wanted) after new
-all-shaped-ends at shapes before old j p after new all so_far program s on out layout wanted a frame kept framed begins h =
-    subst (λ m. Keeps program s on out layout (wanted_up_to program s layout a m wanted) after new)
-    (ap (cells_to_bounds_of (unit_at program (unit_of s a))) (all ∙ h.shapes_are.as_many) ∙ to-end (unit_at program (unit_of s a)))
-    (so_far program s on out layout wanted a frame kept framed begins h).1
+    → (f : FramesOf) (a : ℕ) (frame : Frame) → Keeps (written_up_to f a (cells_to_bounds_of (unit_framed f a) 0)) before old
+    → frame_among a f.layout ≡ Some frame → at ≡ frame.first + cells_to_bounds_of (unit_framed f a) 0 → AreShaping f.program f.state a shapes
+    → Keeps (written_up_to f a (frame_cells (unit_framed f a))) after new
+all-shaped-ends at shapes before old j p after new all so_far f a frame kept framed begins h =
+    subst (λ m. Keeps (written_up_to f a m) after new)
+    (ap (cells_to_bounds_of (unit_framed f a)) (all ∙ h.shapes_are.as_many) ∙ to-end (unit_framed f a))
+    (so_far f a frame kept framed begins h).1
 
 -- ---- the cells that they take
 
@@ -203,20 +198,19 @@ shapes-last unit ds shapes h =
     let cells = all-cells unit (dummies_of unit) shapes h.as_many (λ k x o e f. shape-cells unit x (dummy_at ds k) o (h.each k x o e f)) in
     omega (arith, cells, to-first unit)
 
-pub begins-behind : (program : Units) (s : State) (layout : Layout) (a : ℕ) (n : FrameNode) (shapes : List (Option Bounds)) (at : ℕ) → (h : IsFramedBy program s layout a n) → AreShaping program s a shapes → at + cells_of_shapes shapes ≡ n.first + n.cells
-    → at ≡ h.frame.first + cells_to_bounds_of (unit_at program (unit_of s a)) 0
-begins-behind program s layout a n shapes at h shaping is =
-    omega (arith, is, h.begins, h.sized, shapes-last (unit_at program (unit_of s a)) (activation_of s a).dummies shapes shaping.shapes_are)
+pub begins-behind : (f : FramesOf) (a : ℕ) (n : FrameNode) (shapes : List (Option Bounds)) (at : ℕ) → (h : IsFramedBy f.program f.state f.layout a n) → AreShaping f.program f.state a shapes → at + cells_of_shapes shapes ≡ n.first + n.cells
+    → at ≡ h.frame.first + cells_to_bounds_of (unit_framed f a) 0
+begins-behind f a n shapes at h shaping is =
+    omega (arith, is, h.begins, h.sized, shapes-last (unit_framed f a) (activation_of f.state a).dummies shapes shaping.shapes_are)
 
 -- ---- the cells of a frame that is kept
 
-module _ (program : Units) (s : State) (on out : ℕ → Bool) (layout : Layout) (wanted : DescriptorSlots) (arena : Space) (nodes : Nodes) (key : ℕ) (n : FrameNode)
-    (kept : Keeps program s on out layout wanted arena nodes) (there : nodes key ≡ Some n) where
+module _ (f : FramesOf) (arena : Space) (nodes : Nodes) (key : ℕ) (n : FrameNode) (kept : Keeps f arena nodes) (there : nodes key ≡ Some n) where
   abbrev frame-here : Frame
   frame-here = record { activation = n.activation; first = n.first; cells = n.cells }
 
   pub frame-inside : n.first + n.cells ≤ length arena.contents
-  frame-inside = (among (length arena.contents) (common_cells program) n.activation layout frame-here kept.memory.laid.apart (kept.framed key n there)).inside
+  frame-inside = (among (length arena.contents) (common_cells f.program) n.activation f.layout frame-here kept.memory.laid.apart (kept.framed key n there)).inside
 
   pub frame-out : (p : ℕ) → n.first ≤ p → p < n.first + n.cells → IsOut p arena.holes
-  frame-out p low high = frame-is-out program s layout arena.contents arena.holes n.activation p frame-here kept.memory (kept.framed key n there) low high
+  frame-out p low high = frame-is-out f.program f.state f.layout arena.contents arena.holes n.activation p frame-here kept.memory (kept.framed key n there) low high

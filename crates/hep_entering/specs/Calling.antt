@@ -4,7 +4,7 @@ use Rattle.hep_machine.specs.Words.{Statement, Units, dummies_of, unit_at, Bindi
 use Rattle.hep_arena.specs.Space.{Space}
 use Rattle.hep_layout.specs.Words.{frame_from, descriptor_slots, RunsFrom, Nodes, also, is_stacked}
 use Rattle.hep_layout_laws.specs.Bound.{AreKept}
-use Rattle.hep_frames.specs.Keeping.{Keeps}
+use Rattle.hep_frames.specs.Keeping.{Keeps, frames_begun, frames_in}
 use Rattle.hep_passing.specs.declared.given.Given.{Given}
 use Rattle.hep_passing.specs.declared.given.Given.TheVariants as given
 use Rattle.hep_entering.specs.Giving.{AreDistinct}
@@ -56,8 +56,11 @@ layout_with program t layout first = with_frame layout (frame_from program t (le
 -- the frame of state t's last activation has entered the layout of a state s, and its first m cells are written
 abbrev pub IsWritten : Units → State → State → Layout → ℕ → ℕ → (ℕ → Bool) → Space → Nodes → Type 0
 IsWritten program s t layout first m out arena nodes =
-    Keeps program t (also (length t.activations) (is_stacked s)) (also (length t.activations) out) (layout_with program t layout first)
-    (wanted_up_to program t (layout_with program t layout first) (length t.activations) m (descriptor_slots program s layout)) arena nodes
+    Keeps
+    (record (frames_begun (frames_in program s out layout) t first) {
+      wanted = wanted_up_to program t (layout_with program t layout first) (length t.activations) m (descriptor_slots program s layout);
+    })
+    arena nodes
 
 -- the unit of a state's last activation
 abbrev pub unit_begun : Units → State → List Statement
@@ -71,7 +74,7 @@ IsAllWritten program s t layout first out arena nodes =
 -- the frames of state t are kept, with that of its last activation, where those of some activations were out before
 abbrev pub IsKeptIn : Units → State → Layout → ℕ → (ℕ → Bool) → Space → Nodes → Type 0
 IsKeptIn program t layout first out arena nodes =
-    Keeps program t (is_stacked t) (also (length t.activations) out) (layout_with program t layout first) (descriptor_slots program t (layout_with program t layout first)) arena nodes
+    Keeps (frames_in program t (also (length t.activations) out) (layout_with program t layout first)) arena nodes
 
 -- what the dummy arguments of each activation on a stack stand for is kept in consecutive cells
 abbrev pub AreAllKept : Units → State → Layout → Type 0

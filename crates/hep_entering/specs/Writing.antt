@@ -1,10 +1,11 @@
 -- The frame of a new activation while its cells are written: docs/MACHINE.md, "Variables and frames".
 use Rattle.std.specs.Prelude.{◌≡◌, ℕ, ◌+◌, Bool, false, nat_eq, nat_lt, pos, if◌then◌else◌, List, Option, Some, None, slice_set}
-use Rattle.hep_machine.specs.Words.{Units, dummies_of, unit_at, unset_cell, Frame, Layout, activation_of, unit_of, State, Store}
+use Rattle.hep_machine.specs.Words.{Statement, Units, dummies_of, unit_at, unset_cell, Frame, Layout, activation_of, unit_of, State, Store}
 use Rattle.hep_machine.specs.declared.slot.Slot.{Slot}
 use Rattle.hep_arena.specs.Gaps.{frame_among}
 use Rattle.hep_arena.specs.Space.{Space}
 use Rattle.hep_layout.specs.Words.{DescriptorSlots, number, descriptor_slots, place_of_part}
+use Rattle.hep_frames.specs.Keeping.{FramesOf, with_unset}
 use Rattle.hep_passing.specs.declared.given.Given.{Given}
 use Rattle.hep_passing.specs.declared.given.Given.TheVariants as given
 use Rattle.hep_entering.specs.Giving.{AreDistinct, AreGiven}
@@ -20,9 +21,21 @@ abbrev pub wanted_up_to : Units → State → Layout → ℕ → ℕ → Descrip
 wanted_up_to program s layout a m wanted b c =
     if nat_eq b a then (if is_before m (place_of_part (unit_at program (unit_of s a)) c.0 c.1) then descriptor_slots program s layout a c else Some unset_cell) else wanted b c
 
--- a state with another store
-abbrev pub with_stored : State → Store → State
-with_stored s store = record s { store = store }
+-- the frames of a state, where the first m cells of activation a's are written
+abbrev pub written_up_to : FramesOf → ℕ → ℕ → FramesOf
+written_up_to f a m = record f { wanted = wanted_up_to f.program f.state f.layout a m f.wanted }
+
+-- where in another state none of activation a's is
+abbrev pub unwritten : FramesOf → State → ℕ → FramesOf
+unwritten f s a = record f { state = s; wanted = with_unset a f.wanted }
+
+-- where another store is the state's
+abbrev pub stored_in : FramesOf → Store → FramesOf
+stored_in f store = record f { state = record f.state { store = store } }
+
+-- the unit that activation a runs
+abbrev pub unit_framed : FramesOf → ℕ → List Statement
+unit_framed f a = unit_at f.program (unit_of f.state a)
 
 -- one cell is written
 pub record IsSet (p : ℕ) (slot : Slot) (before after : Space) : Type 0 where

@@ -4,9 +4,9 @@ ghost use Rattle.slab.specs.Slab.{ContainsKey, HasRoomFor};
 ghost use Rattle.hep_machine.specs.Words.{Units, Binding, Actual, Layout, common_cells, frame_of, lowest_gap, run, Level, Process, State};
 ghost use Rattle.hep_machine.specs.Words.{scope_of};
 ghost use Rattle.hep_arena.specs.Holes.{first_fit};
-ghost use Rattle.hep_layout.specs.Words.{descriptor_slots, is_stacked, new_node, with_node};
+ghost use Rattle.hep_layout.specs.Words.{new_node, with_node};
 ghost use Rattle.hep_layout.specs.FrameTree.{FrameNode};
-ghost use Rattle.hep_frames.specs.Keeping.{AreOfSomeState, Keeps};
+ghost use Rattle.hep_frames.specs.Keeping.{AreOfSomeState, Keeps, frames_in};
 ghost use Rattle.hep_frames.specs.Nodes.{CanCount, nodes_of};
 ghost use Rattle.hep_entering.specs.Calling.{ArePassed, IsPassing, IsWritten, state_begun, unit_begun};
 ghost use Rattle.hep_entering.specs.Shapes.{cells_to_locals};
@@ -40,8 +40,7 @@ pub fn begin(
     ensures cells { length frames.new.arena.contents ≡ length frames.old.arena.contents }
     ensures written { (program : Units) (choices : List ℕ) (p : ℕ) (top : Level
         × Process) (u : ℕ) (actuals : List Actual) (b : Binding) (t : State) (layout : Layout) (out : ℕ → Bool) (n : FrameNode)
-        → Keeps program (run program choices) (is_stacked (run program choices)) out layout
-        (descriptor_slots program (run program choices) layout) frames.old.arena (nodes_of frames.old.nodes)
+        → Keeps (frames_in program (run program choices) out layout) frames.old.arena (nodes_of frames.old.nodes)
         → nodes_of frames.old.nodes parent ≡ Some n → n.activation ≡ top.0.activation → IsPassing program choices p top u actuals b
         → ArePassed program (run program choices) layout (scope_of program (run program choices) top.0.activation) actuals given.now
         → t.activations ≡ (state_begun program choices top u b).activations → t.store ≡ b.store → activation ≡ length t.activations

@@ -1,14 +1,13 @@
 //! What actual arguments give is written to the cells of dummy arguments.
-ghost use Rattle.std.specs.Prelude.{◌≡◌, ◌+◌, ◌*◌, ◌<◌, ◌≤◌, ℕ, Bool, List, Some, length};
-ghost use Rattle.hep_machine.specs.Words.{Name, Units, dummies_of, unit_at, unset_cell, Layout, unit_of, State, local};
+ghost use Rattle.std.specs.Prelude.{◌≡◌, ◌+◌, ◌*◌, ◌<◌, ◌≤◌, ℕ, Some, length};
+ghost use Rattle.hep_machine.specs.Words.{Name, dummies_of, unset_cell, State, local};
 ghost use Rattle.hep_arena.specs.Holes.{IsOut};
 ghost use Rattle.hep_layout.specs.Descriptors.{number as slot_of_number};
-ghost use Rattle.hep_layout.specs.Words.{DescriptorSlots};
-ghost use Rattle.hep_frames.specs.Keeping.{Keeps, with_unset};
+ghost use Rattle.hep_frames.specs.Keeping.{FramesOf, Keeps};
 ghost use Rattle.hep_frames.specs.Nodes.{nodes_of};
 ghost use Rattle.hep_entering.specs.Giving.{with_given};
 ghost use Rattle.hep_entering.specs.Shapes.{cells_to_locals};
-ghost use Rattle.hep_entering.specs.Writing.{IsBinding, IsPut, wanted_up_to};
+ghost use Rattle.hep_entering.specs.Writing.{IsBinding, IsPut, unit_framed, unwritten, written_up_to};
 
 use hep_frames::Frames;
 use hep_machine::Slot;
@@ -57,12 +56,10 @@ pub fn bind(frames: &mut Frames, first: u32, given: &[Given])
     requires few { length frames.old.arena.contents ≤ 16777216 }
     requires inside { first + (1 + 2 * length given.now) ≤ length frames.old.arena.contents }
     requires out { (p : ℕ) → first ≤ p → p < first + (1 + 2 * length given.now) → IsOut p frames.old.arena.holes }
-    ensures bound { (program : Units) (s t : State) (on out : ℕ → Bool) (layout : Layout) (wanted : DescriptorSlots) (a : ℕ)
-        → Keeps program s on out layout (with_unset a wanted) frames.old.arena (nodes_of frames.old.nodes) → t.activations ≡ s.activations
-        → t.store ≡ with_given s.store a (dummies_of (unit_at program (unit_of t a))) given.now
-        → ((y : Name) → s.store (local a y 1) ≡ unset_cell) → IsBinding program t layout a first given.now
-        → Keeps program t on out layout (wanted_up_to program t layout a
-        (cells_to_locals (unit_at program (unit_of t a))) wanted) frames.new.arena (nodes_of frames.new.nodes) }
+    ensures bound { (f : FramesOf) (s : State) (a : ℕ) → Keeps (unwritten f s a) frames.old.arena (nodes_of frames.old.nodes)
+        → f.state.activations ≡ s.activations → f.state.store ≡ with_given s.store a (dummies_of (unit_framed f a)) given.now
+        → ((y : Name) → s.store (local a y 1) ≡ unset_cell) → IsBinding f.program f.state f.layout a first given.now
+        → Keeps (written_up_to f a (cells_to_locals (unit_framed f a))) frames.new.arena (nodes_of frames.new.nodes) }
     ensures nodes { nodes_of frames.new.nodes ≡ nodes_of frames.old.nodes }
     ensures holes { frames.new.arena.holes ≡ frames.old.arena.holes }
     ensures cells { length frames.new.arena.contents ≡ length frames.old.arena.contents }

@@ -1,47 +1,40 @@
 //! Laws of new activations: they begin with nothing stored, and once their dummy arguments are written the state that a CALL or
 //! CREATE gives is kept.
-ghost use Rattle.std.specs.Prelude.{◌≡◌, ◌+◌, ◌*◌, ◌++◌, ◌∷◌, [], ℕ, Bool, false, List, Some, length, slice_get};
+ghost use Rattle.std.specs.Prelude.{◌≡◌, ◌+◌, ◌*◌, ℕ, Bool, false, List, Some, length, slice_get};
 ghost use Rattle.hep_machine.specs.Words.{Name, Statement, index_among, Units, dummies_of, unit_at, Binding, adjustable_dimensions, Actual};
 ghost use Rattle.hep_machine.specs.Words.{calling, creating, does, next_of, Frame, Layout, dummy_at, activation_of, living, unit_of, run};
-ghost use Rattle.hep_machine.specs.Words.{Bounds, Activation, Dummy, Level, Process, State, Store, local, scope_of, step, unit_called};
+ghost use Rattle.hep_machine.specs.Words.{Bounds, Dummy, Level, Process, State, Store, local, scope_of, step, unit_called};
 ghost use Rattle.hep_machine.specs.Words.{adjustable_dimensions_of_all, frame_cells};
 ghost use Rattle.hep_machine.specs.declared.shape.Bound.{Bound};
 ghost use Rattle.hep_arena.specs.Gaps.{frame_among};
 ghost use Rattle.hep_arena.specs.Space.{Space};
-ghost use Rattle.hep_layout.specs.Words.{DescriptorSlots, IsLaid, Nodes};
-ghost use Rattle.hep_frames.specs.Keeping.{IsBegun, Keeps, with_unset};
+ghost use Rattle.hep_layout.specs.Words.{IsLaid, Nodes};
+ghost use Rattle.hep_frames.specs.Keeping.{FramesOf, IsBegun, Keeps};
 ghost use Rattle.hep_passing.specs.declared.given.Given.{Given};
 ghost use Rattle.hep_entering.specs.Calling.{AreAllKept, ArePassed, IsAllWritten, IsKeptIn, IsPassing, IsWritten, called_activation};
 ghost use Rattle.hep_entering.specs.Calling.{layout_with, state_begun, state_called, state_created, unit_begun};
 ghost use Rattle.hep_entering.specs.Giving.{IsGiven, with_given, with_one_given};
 ghost use Rattle.hep_entering.specs.Shapes.{IsBoundPut, IsShaping, cells_to_bounds_of, cells_to_locals};
-ghost use Rattle.hep_entering.specs.Writing.{IsBinding, IsPut, wanted_up_to, with_stored};
+ghost use Rattle.hep_entering.specs.Writing.{IsBinding, IsPut, stored_in, unit_framed, unwritten, written_up_to};
 
 /// The cells of a new frame are written one after the other, each by one write of a storage unit or of another cell: while none is
 /// written all are unset, and then the two cells of each dummy argument and of each dimension of an adjustable array hold what is
 /// wanted of them.
 pub fn cells_are_written_in_order()
-    ensures none { (program : Units) (s t : State) (on out : ℕ
-        → Bool) (layout : Layout) (wanted : DescriptorSlots) (a : ℕ) (arena : Space) (nodes : Nodes) → t.activations ≡ s.activations
-        → Keeps program s on out layout (with_unset a wanted) arena nodes
-        → Keeps program (with_stored t s.store) on out layout (wanted_up_to program t layout a 1 wanted) arena nodes }
-    ensures dummy { (program : Units) (t : State) (on out : ℕ
-        → Bool) (layout : Layout) (wanted : DescriptorSlots) (a : ℕ) (nodes : Nodes) (f : Frame) (k : ℕ) (x : Name) (d : Dummy)
-        (store : Store)
-        (before after : Space) (given : Given) → frame_among a layout ≡ Some f
-        → index_among x (dummies_of (unit_at program (unit_of t a))) ≡ Some k → dummy_at (activation_of t a).dummies k ≡ d
-        → IsGiven program t layout a x d given → (store (local a x 1)).full ≡ false → IsPut (f.first + (1 + 2 * k)) given before after
-        → Keeps program (with_stored t store) on out layout (wanted_up_to program t layout a (1 + 2 * k) wanted) before nodes
-        → Keeps program (with_stored t (with_one_given store a x given)) on out layout
-        (wanted_up_to program t layout a (1 + 2 * (k + 1)) wanted) after nodes }
-    ensures dimension { (program : Units) (s : State) (on out : ℕ
-        → Bool) (layout : Layout) (wanted : DescriptorSlots) (a k at j : ℕ) (shape : Bounds) (nodes : Nodes) (b : Bound)
-        (before after : Space)
-        → IsShaping program s layout a k at shape → slice_get shape j ≡ Some b → IsBoundPut (at + 2 * j) b.lower b.upper before after
-        → Keeps program s on out layout (wanted_up_to program s layout a (cells_to_bounds_of (unit_at program (unit_of s a)) k
-        + 2 * j) wanted) before nodes
-        → Keeps program s on out layout (wanted_up_to program s layout a (cells_to_bounds_of (unit_at program (unit_of s a)) k
-        + 2 * (j + 1)) wanted) after nodes }
+    ensures none { (f : FramesOf) (s : State) (a : ℕ) (arena : Space) (nodes : Nodes) → f.state.activations ≡ s.activations
+        → Keeps (unwritten f s a) arena nodes → Keeps (stored_in (written_up_to f a 1) s.store) arena nodes }
+    ensures dummy { (f : FramesOf) (a : ℕ) (nodes : Nodes) (frame : Frame) (k : ℕ) (x : Name) (d : Dummy) (store : Store)
+        (before after : Space) (given : Given) → frame_among a f.layout ≡ Some frame
+        → index_among x (dummies_of (unit_framed f a)) ≡ Some k → dummy_at (activation_of f.state a).dummies k ≡ d
+        → IsGiven f.program f.state f.layout a x d given → (store (local a x 1)).full ≡ false
+        → IsPut (frame.first + (1 + 2 * k)) given before after
+        → Keeps (stored_in (written_up_to f a (1 + 2 * k)) store) before nodes
+        → Keeps (stored_in (written_up_to f a (1 + 2 * (k + 1))) (with_one_given store a x given)) after nodes }
+    ensures dimension { (f : FramesOf) (a k at j : ℕ) (shape : Bounds) (nodes : Nodes) (b : Bound) (before after : Space)
+        → IsShaping f.program f.state f.layout a k at shape → slice_get shape j ≡ Some b
+        → IsBoundPut (at + 2 * j) b.lower b.upper before after
+        → Keeps (written_up_to f a (cells_to_bounds_of (unit_framed f a) k + 2 * j)) before nodes
+        → Keeps (written_up_to f a (cells_to_bounds_of (unit_framed f a) k + 2 * (j + 1))) after nodes }
 {}
 
 /// The activation that a CALL or CREATE makes begins with nothing stored in it. Its dummy arguments stand for what the actual

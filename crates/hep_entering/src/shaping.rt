@@ -1,16 +1,15 @@
 //! The bounds of adjustable arrays are written to the last cells of a new frame.
-ghost use Rattle.std.specs.Prelude.{◌≡◌, ◌+◌, ◌*◌, ◌<◌, ◌≤◌, ℕ, Bool, Some, None, length};
+ghost use Rattle.std.specs.Prelude.{◌≡◌, ◌+◌, ◌*◌, ◌<◌, ◌≤◌, ℕ, Some, None, length};
 ghost use Rattle.slab.specs.Slab.{ContainsKey};
-ghost use Rattle.hep_machine.specs.Words.{Bounds, Units, unit_at, Frame, Layout, unit_of, State, frame_cells};
+ghost use Rattle.hep_machine.specs.Words.{Bounds, Frame, frame_cells};
 ghost use Rattle.hep_arena.specs.Gaps.{frame_among};
 ghost use Rattle.hep_arena.specs.Holes.{IsOut};
-ghost use Rattle.hep_layout.specs.Words.{DescriptorSlots};
 ghost use Rattle.hep_layout.specs.FrameTree.{FrameNode};
-ghost use Rattle.hep_frames.specs.Keeping.{AreOfSomeState, Keeps};
+ghost use Rattle.hep_frames.specs.Keeping.{AreOfSomeState, FramesOf, Keeps};
 ghost use Rattle.hep_frames.specs.Nodes.{nodes_of};
 ghost use Rattle.hep_entering.specs.Shapes.{AreShaping, IsBoundPut, IsFramedBy, IsShaping, cells_of_shape, cells_of_shapes};
 ghost use Rattle.hep_entering.specs.Shapes.{cells_to_bounds_of};
-ghost use Rattle.hep_entering.specs.Writing.{wanted_up_to};
+ghost use Rattle.hep_entering.specs.Writing.{unit_framed, written_up_to};
 
 use crate::binding::number;
 use hep_frames::Frames;
@@ -42,12 +41,10 @@ fn shape(frames: &mut Frames, at: u32, bounds: &[Bound])
     requires few { length frames.old.arena.contents ≤ 16777216 }
     requires inside { at + 2 * length bounds.now ≤ length frames.old.arena.contents }
     requires out { (p : ℕ) → at ≤ p → p < at + 2 * length bounds.now → IsOut p frames.old.arena.holes }
-    ensures shaped { (program : Units) (s : State) (on out : ℕ → Bool) (layout : Layout) (wanted : DescriptorSlots) (a k : ℕ)
-        → Keeps program s on out layout (wanted_up_to program s layout a
-        (cells_to_bounds_of (unit_at program (unit_of s a)) k) wanted) frames.old.arena (nodes_of frames.old.nodes)
-        → IsShaping program s layout a k at bounds.now
-        → Keeps program s on out layout (wanted_up_to program s layout a
-        (cells_to_bounds_of (unit_at program (unit_of s a)) (k + 1)) wanted) frames.new.arena (nodes_of frames.new.nodes) }
+    ensures shaped { (f : FramesOf) (a k : ℕ)
+        → Keeps (written_up_to f a (cells_to_bounds_of (unit_framed f a) k)) frames.old.arena (nodes_of frames.old.nodes)
+        → IsShaping f.program f.state f.layout a k at bounds.now
+        → Keeps (written_up_to f a (cells_to_bounds_of (unit_framed f a) (k + 1))) frames.new.arena (nodes_of frames.new.nodes) }
     ensures nodes { nodes_of frames.new.nodes ≡ nodes_of frames.old.nodes }
     ensures holes { frames.new.arena.holes ≡ frames.old.arena.holes }
     ensures cells { length frames.new.arena.contents ≡ length frames.old.arena.contents }
@@ -89,13 +86,10 @@ fn shape_one(frames: &mut Frames, at: u32, shape_of_one: &Option<Shape>) -> u32
     requires out { (p : ℕ) → at ≤ p → p < at + cells_of_shape shape_of_one.now → IsOut p frames.old.arena.holes }
     ensures next { result ≡ at + cells_of_shape shape_of_one.now }
     ensures none { shape_of_one.now ≡ None → frames.new.arena ≡ frames.old.arena }
-    ensures shaped { (bounds : Bounds) → shape_of_one.now ≡ Some bounds
-        → (program : Units) (s : State) (on out : ℕ → Bool) (layout : Layout) (wanted : DescriptorSlots) (a k : ℕ)
-        → Keeps program s on out layout (wanted_up_to program s layout a
-        (cells_to_bounds_of (unit_at program (unit_of s a)) k) wanted) frames.old.arena (nodes_of frames.old.nodes)
-        → IsShaping program s layout a k at bounds
-        → Keeps program s on out layout (wanted_up_to program s layout a
-        (cells_to_bounds_of (unit_at program (unit_of s a)) (k + 1)) wanted) frames.new.arena (nodes_of frames.new.nodes) }
+    ensures shaped { (bounds : Bounds) → shape_of_one.now ≡ Some bounds → (f : FramesOf) (a k : ℕ)
+        → Keeps (written_up_to f a (cells_to_bounds_of (unit_framed f a) k)) frames.old.arena (nodes_of frames.old.nodes)
+        → IsShaping f.program f.state f.layout a k at bounds
+        → Keeps (written_up_to f a (cells_to_bounds_of (unit_framed f a) (k + 1))) frames.new.arena (nodes_of frames.new.nodes) }
     ensures nodes { nodes_of frames.new.nodes ≡ nodes_of frames.old.nodes }
     ensures holes { frames.new.arena.holes ≡ frames.old.arena.holes }
     ensures cells { length frames.new.arena.contents ≡ length frames.old.arena.contents }
@@ -114,13 +108,11 @@ fn shape_from(frames: &mut Frames, at: u32, shapes: &[Option<Shape>])
     requires few { length frames.old.arena.contents ≤ 16777216 }
     requires inside { at + cells_of_shapes shapes.now ≤ length frames.old.arena.contents }
     requires out { (p : ℕ) → at ≤ p → p < at + cells_of_shapes shapes.now → IsOut p frames.old.arena.holes }
-    ensures shaped { (program : Units) (s : State) (on out : ℕ → Bool) (layout : Layout) (wanted : DescriptorSlots) (a : ℕ) (frame : Frame)
-        → Keeps program s on out layout (wanted_up_to program s layout a
-        (cells_to_bounds_of (unit_at program (unit_of s a)) 0) wanted) frames.old.arena (nodes_of frames.old.nodes)
-        → frame_among a layout ≡ Some frame → at ≡ frame.first + cells_to_bounds_of (unit_at program (unit_of s a)) 0
-        → AreShaping program s a shapes.now
-        → Keeps program s on out layout (wanted_up_to program s layout a
-        (frame_cells (unit_at program (unit_of s a))) wanted) frames.new.arena (nodes_of frames.new.nodes) }
+    ensures shaped { (f : FramesOf) (a : ℕ) (frame : Frame)
+        → Keeps (written_up_to f a (cells_to_bounds_of (unit_framed f a) 0)) frames.old.arena (nodes_of frames.old.nodes)
+        → frame_among a f.layout ≡ Some frame → at ≡ frame.first + cells_to_bounds_of (unit_framed f a) 0
+        → AreShaping f.program f.state a shapes.now
+        → Keeps (written_up_to f a (frame_cells (unit_framed f a))) frames.new.arena (nodes_of frames.new.nodes) }
     ensures nodes { nodes_of frames.new.nodes ≡ nodes_of frames.old.nodes }
     ensures holes { frames.new.arena.holes ≡ frames.old.arena.holes }
     ensures cells { length frames.new.arena.contents ≡ length frames.old.arena.contents }
@@ -140,12 +132,11 @@ pub fn shape_all(frames: &mut Frames, key: usize, shapes: &[Option<Shape>])
     requires there { ContainsKey frames.old.nodes key }
     requires kept { AreOfSomeState frames.old.arena (nodes_of frames.old.nodes) }
     requires many { (n : FrameNode) → nodes_of frames.old.nodes key ≡ Some n → cells_of_shapes shapes.now ≤ n.cells }
-    ensures shaped { (program : Units) (s : State) (on out : ℕ → Bool) (layout : Layout) (wanted : DescriptorSlots) (a : ℕ) (n : FrameNode)
-        → Keeps program s on out layout (wanted_up_to program s layout a
-        (cells_to_bounds_of (unit_at program (unit_of s a)) 0) wanted) frames.old.arena (nodes_of frames.old.nodes)
-        → nodes_of frames.old.nodes key ≡ Some n → IsFramedBy program s layout a n → AreShaping program s a shapes.now
-        → Keeps program s on out layout (wanted_up_to program s layout a
-        (frame_cells (unit_at program (unit_of s a))) wanted) frames.new.arena (nodes_of frames.new.nodes) }
+    ensures shaped { (f : FramesOf) (a : ℕ) (n : FrameNode)
+        → Keeps (written_up_to f a (cells_to_bounds_of (unit_framed f a) 0)) frames.old.arena (nodes_of frames.old.nodes)
+        → nodes_of frames.old.nodes key ≡ Some n → IsFramedBy f.program f.state f.layout a n
+        → AreShaping f.program f.state a shapes.now
+        → Keeps (written_up_to f a (frame_cells (unit_framed f a))) frames.new.arena (nodes_of frames.new.nodes) }
     ensures nodes { nodes_of frames.new.nodes ≡ nodes_of frames.old.nodes }
     ensures holes { frames.new.arena.holes ≡ frames.old.arena.holes }
     ensures cells { length frames.new.arena.contents ≡ length frames.old.arena.contents }

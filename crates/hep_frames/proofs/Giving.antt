@@ -3,12 +3,12 @@ use Rattle.std.proofs.Common.{◌≡◌, ◌⊎◌, ℕ, ◌+◌, ◌<◌, ◌�
 use Rattle.std.specs.Option.{option_map}
 use Rattle.std.proofs.lemmas.Bool.{eqb-false, eq-eqb, ne_eqb}
 use Rattle.std.proofs.lemmas.Option.{same_Some, none-some}
-use Rattle.hep_machine.specs.Words.{Units, unit_at, Frame, Layout, common_cells, dummy_at, activation_of, parent_of, unit_of, Location, State, local, common, is_owned}
+use Rattle.hep_machine.specs.Words.{unit_at, Frame, Layout, common_cells, dummy_at, activation_of, parent_of, unit_of, Location, local, common, is_owned}
 use Rattle.hep_arena.specs.Gaps.{frame_among, gaps, without}
 use Rattle.hep_arena.specs.Holes.{IsOut, given}
 use Rattle.hep_arena.specs.Space.{Space}
 use Rattle.hep_arena.proofs.Arenas.{out-given}
-use Rattle.hep_layout.specs.Words.{AreSingle, IsMemory, cell_in, Describes, DescriptorSlots, descriptor_slots, IsOwnedAbove, FramePart, place_of_part, activation_under, AreFramed, AreNeededBut, but, is_just, IsFrameTree, FrameNode, Nodes, with_end, with_ended, with_one_less, without_node}
+use Rattle.hep_layout.specs.Words.{AreSingle, IsMemory, cell_in, Describes, descriptor_slots, IsOwnedAbove, FramePart, place_of_part, activation_under, AreFramed, AreNeededBut, but, is_just, IsFrameTree, FrameNode, Nodes, with_end, with_ended, with_one_less, without_node}
 use Rattle.hep_layout.proofs.Descriptors.{described-left}
 use Rattle.hep_layout.proofs.Frames.{among, among-without}
 use Rattle.hep_layout.proofs.Memory.{frame-is-out, memory-left}
@@ -16,24 +16,28 @@ use Rattle.hep_layout.proofs.FrameTree.{but-parts, node-wanted, parent-apart, pa
 use Rattle.hep_layout.proofs.FrameTreeSteps.{filter-without, framed-ended, framed-left, tree-ended, wanted-ended}
 use Rattle.hep_layout.proofs.Wants.{wanted-left as wanted_of-left}
 use Rattle.hep_frames.specs.Nodes.{IsCountedAbove}
-use Rattle.hep_frames.specs.Keeping.{frames_of, HasLeft, Keeps, KeysStay, LeadUpwards}
+use Rattle.hep_frames.specs.Keeping.{as_wanted, frames_of, FramesOf, HasLeft, Keeps, KeysStay, LeadUpwards}
 use Rattle.hep_source.proofs.Tests.{numbers-turned}
 
+-- where an activation is on no stack any more
+abbrev pub off_stack : FramesOf → ℕ → FramesOf
+off_stack f a = record f { on = but a f.on }
+
 -- frames went back from an activation upwards, and what is under a key is looked at next
-pub record IsGiving (program : Units) (s : State) (on out : ℕ → Bool) (layout : Layout) (wanted : DescriptorSlots) (before : Space) (old : Nodes) (now : Space) (nodes : Nodes) (next : Option ℕ) : Type 0 where
+pub record IsGiving (f : FramesOf) (before : Space) (old : Nodes) (now : Space) (nodes : Nodes) (next : Option ℕ) : Type 0 where
   pub still : ℕ → Bool
   pub cursor : Option ℕ
   pub left : Layout
-  pub left_is : left ≡ frames_of still layout
-  pub memory : IsMemory program s left now.contents now.holes
-  pub tree : IsFrameTree s on still nodes
+  pub left_is : left ≡ frames_of still f.layout
+  pub memory : IsMemory f.program f.state left now.contents now.holes
+  pub tree : IsFrameTree f.state f.on still nodes
   pub under : activation_under nodes next ≡ Some cursor
-  pub rest : AreNeededBut cursor s on still
+  pub rest : AreNeededBut cursor f.state f.on still
   pub framed : AreFramed left nodes
   pub frames_are : (a : ℕ) → is_some (frame_among a left) ≡ still a
-  pub described : Describes program s left wanted now.contents
-  pub wanted_stays : LeadUpwards s → (a : ℕ) (c : FramePart × ℕ) → still a ≡ true → descriptor_slots program s left a c ≡ descriptor_slots program s layout a c
-  pub fewer : (a : ℕ) → still a ≡ true → out a ≡ true
+  pub described : Describes f.program f.state left f.wanted now.contents
+  pub wanted_stays : LeadUpwards f.state → (a : ℕ) (c : FramePart × ℕ) → still a ≡ true → descriptor_slots f.program f.state left a c ≡ descriptor_slots f.program f.state f.layout a c
+  pub fewer : (a : ℕ) → still a ≡ true → f.out a ≡ true
   pub were_out : (p : ℕ) → IsOut p now.holes → IsOut p before.holes
   pub kept : (p : ℕ) → IsOut p now.holes → slice_get now.contents p ≡ slice_get before.contents p
   pub keys_stay : KeysStay still old nodes
@@ -64,39 +68,38 @@ ended-stays still nodes k l n e o = by_key (nat_eq l k) where
   by_key true = (with_end n, ap (option_map with_end) e, refl, refl, refl, refl)
   by_key false = (n, e, refl, refl, refl, refl)
 
-pub giving-begins : (program : Units) (s : State) (on out : ℕ → Bool) (layout : Layout) (wanted : DescriptorSlots) (arena : Space) (old new : Nodes) (k : ℕ) (n : FrameNode)
-    → Keeps program s on out layout wanted arena old → old k ≡ Some n → new ≡ with_ended old k → IsGiving program s (but n.activation on) out layout wanted arena old arena new (Some k)
-giving-begins program s on out layout wanted arena old new k n h e now =
-    subst (λ nodes. IsGiving program s (but n.activation on) out layout wanted arena old arena nodes (Some k)) (sym now) (record {
-      still = out;
+pub giving-begins : (f : FramesOf) (arena : Space) (old new : Nodes) (k : ℕ) (n : FrameNode)
+    → Keeps f arena old → old k ≡ Some n → new ≡ with_ended old k → IsGiving (off_stack f n.activation) arena old arena new (Some k)
+giving-begins f arena old new k n h e now =
+    subst (λ nodes. IsGiving (off_stack f n.activation) arena old arena nodes (Some k)) (sym now) (record {
+      still = f.out;
       cursor = Some n.activation;
-      left = layout;
-      left_is = all-kept out layout (λ a d. sym (h.frames_are a) ∙ d);
+      left = f.layout;
+      left_is = all-kept f.out f.layout (λ a d. sym (h.frames_are a) ∙ d);
       memory = h.memory;
-      tree = tree-ended s on out old k n h.tree e;
+      tree = tree-ended f.state f.on f.out old k n h.tree e;
       under = ended-under old k n e;
-      rest = wanted-ended s on out n.activation h.rest;
-      framed = framed-ended layout old k h.framed;
+      rest = wanted-ended f.state f.on f.out n.activation h.rest;
+      framed = framed-ended f.layout old k h.framed;
       frames_are = h.frames_are;
       described = h.described;
       wanted_stays = λ lead a c o. refl;
       fewer = λ a o. o;
       were_out = λ p o. o;
       kept = λ p o. refl;
-      keys_stay = ended-stays out old k;
+      keys_stay = ended-stays f.out old k;
     })
 
 -- what is looked at is there
-pub giving-there : (program : Units) (s : State) (on out : ℕ → Bool) (layout : Layout) (wanted : DescriptorSlots) (before : Space) (old : Nodes) (now : Space) (nodes : Nodes) (k : ℕ)
-    → IsGiving program s on out layout wanted before old now nodes (Some k) → nodes k ≡ None → ⊥
-giving-there program s on out layout wanted before old now nodes k g e = none-some g.cursor (sym (ap (option_map (λ (m : FrameNode). Some m.activation)) e) ∙ g.under)
+pub giving-there : (f : FramesOf) (before : Space) (old : Nodes) (now : Space) (nodes : Nodes) (next : Option ℕ) (k : ℕ) → next ≡ Some k → IsGiving f before old now nodes next → nodes k ≡ None → ⊥
+giving-there f before old now nodes next k is g e = none-some g.cursor (sym (ap (option_map (λ (m : FrameNode). Some m.activation)) e) ∙ (sym (ap (activation_under nodes) is) ∙ g.under))
 
 -- ---- a frame goes back
 
-module _ (program : Units) (s : State) (on out : ℕ → Bool) (layout : Layout) (wanted : DescriptorSlots) (before : Space) (old : Nodes) (now : Space) (nodes : Nodes) (k : ℕ) (n : FrameNode)
-    (g : IsGiving program s on out layout wanted before old now nodes (Some k)) (at : nodes k ≡ Some n) where
+module _ (f : FramesOf) (before : Space) (old : Nodes) (now : Space) (nodes : Nodes) (next : Option ℕ) (k : ℕ) (n : FrameNode)
+    (is : next ≡ Some k) (g : IsGiving f before old now nodes next) (at : nodes k ≡ Some n) where
   cursor-is : g.cursor ≡ Some n.activation
-  cursor-is = same_Some g.cursor (Some n.activation) (sym g.under ∙ ap (option_map (λ (m : FrameNode). Some m.activation)) at)
+  cursor-is = same_Some g.cursor (Some n.activation) (sym g.under ∙ (ap (activation_under nodes) is ∙ ap (option_map (λ (m : FrameNode). Some m.activation)) at))
 
   abbrev frame : Frame
   frame = record { activation = n.activation; first = n.first; cells = n.cells }
@@ -105,22 +108,22 @@ module _ (program : Units) (s : State) (on out : ℕ → Bool) (layout : Layout)
   framed-here = g.framed k n at
 
   pub giving-inside : n.first + n.cells ≤ length now.contents
-  giving-inside = (among (length now.contents) (common_cells program) n.activation g.left frame g.memory.laid.apart framed-here).inside
+  giving-inside = (among (length now.contents) (common_cells f.program) n.activation g.left frame g.memory.laid.apart framed-here).inside
 
   pub giving-block : (p : ℕ) → n.first ≤ p → p < n.first + n.cells → IsOut p now.holes
-  giving-block p low high = frame-is-out program s g.left now.contents now.holes n.activation p frame g.memory framed-here low high
+  giving-block p low high = frame-is-out f.program f.state g.left now.contents now.holes n.activation p frame g.memory framed-here low high
 
   pub giving-counted : n.children ≡ 0 → IsCountedAbove nodes k
-  giving-counted alone m above e f =
+  giving-counted alone m above e above_is =
       let it : m ≡ n = same_Some m n (sym e ∙ at) in
-      let owner : n.parent ≡ Some above = ap (λ (z : FrameNode). z.parent) (sym it) ∙ f in
-      (parent-apart s on g.still nodes k n g.tree at above alone owner, λ r d. parent-counts s on g.still nodes k n g.tree at above r owner d)
+      let owner : n.parent ≡ Some above = ap (λ (z : FrameNode). z.parent) (sym it) ∙ above_is in
+      (parent-apart f.state f.on g.still nodes k n g.tree at above alone owner, λ r d. parent-counts f.state f.on g.still nodes k n g.tree at above r owner d)
 
   -- it stops at what is wanted
-  stopped : (n.finished ≡ false) ⊎ (1 ≤ n.children) → AreNeededBut None s on g.still
-  stopped why = wanted-all s on g.still n.activation (subst (λ o. AreNeededBut o s on g.still) cursor-is g.rest) (node-wanted s on g.still nodes k n g.tree at why)
+  stopped : (n.finished ≡ false) ⊎ (1 ≤ n.children) → AreNeededBut None f.state f.on g.still
+  stopped why = wanted-all f.state f.on g.still n.activation (subst (λ o. AreNeededBut o f.state f.on g.still) cursor-is g.rest) (node-wanted f.state f.on g.still nodes k n g.tree at why)
 
-  pub giving-stops : (n.finished ≡ false) ⊎ (1 ≤ n.children) → IsGiving program s on out layout wanted before old now nodes None
+  pub giving-stops : (n.finished ≡ false) ⊎ (1 ≤ n.children) → IsGiving f before old now nodes None
   giving-stops why =
       record {
         still = g.still;
@@ -141,7 +144,7 @@ module _ (program : Units) (s : State) (on out : ℕ → Bool) (layout : Layout)
         keys_stay = g.keys_stay;
       }
 
-  module _ (after : Space) (new : Nodes) (single : AreSingle layout) (finished : n.finished ≡ true) (alone : n.children ≡ 0) (holes_are : after.holes ≡ given (n.first, n.cells) now.holes)
+  module _ (after : Space) (new : Nodes) (single : AreSingle f.layout) (finished : n.finished ≡ true) (alone : n.children ≡ 0) (holes_are : after.holes ≡ given (n.first, n.cells) now.holes)
       (kept_now : (p : ℕ) → IsOut p after.holes → slice_get after.contents p ≡ slice_get now.contents p) (size : length after.contents ≡ length now.contents) (new_is : new ≡ without_node nodes k n) where
     abbrev still_now : ℕ → Bool
     still_now = but n.activation g.still
@@ -149,12 +152,12 @@ module _ (program : Units) (s : State) (on out : ℕ → Bool) (layout : Layout)
     abbrev left_now : Layout
     left_now = without n.activation g.left
 
-    tree-now : IsFrameTree s on still_now (without_node nodes k n)
-    tree-now = tree-left s on g.still nodes k n g.tree at finished alone
+    tree-now : IsFrameTree f.state f.on still_now (without_node nodes k n)
+    tree-now = tree-left f.state f.on g.still nodes k n g.tree at finished alone
 
-    memory-now : IsMemory program s left_now after.contents after.holes
+    memory-now : IsMemory f.program f.state left_now after.contents after.holes
     memory-now =
-        subst (IsMemory program s left_now after.contents) (sym holes_are) (memory-left program s n.activation g.left frame now.contents after.contents now.holes g.memory framed-here size (λ p o. kept_now p (subst (IsOut p) (sym holes_are) o)))
+        subst (IsMemory f.program f.state left_now after.contents) (sym holes_are) (memory-left f.program f.state n.activation g.left frame now.contents after.contents now.holes g.memory framed-here size (λ p o. kept_now p (subst (IsOut p) (sym holes_are) o)))
 
     frames-now : (a : ℕ) → is_some (frame_among a left_now) ≡ still_now a
     frames-now a = ap is_some (among-without n.activation a g.left g.memory.laid.single) ∙ by_test (nat_eq n.activation a) (nat_eq a n.activation) (numbers-turned n.activation a) where
@@ -164,21 +167,21 @@ module _ (program : Units) (s : State) (on out : ℕ → Bool) (layout : Layout)
       by_test false true e = absurd cc
       by_test false false e = g.frames_are a
 
-    described-now : Describes program s left_now wanted after.contents
+    described-now : Describes f.program f.state left_now f.wanted after.contents
     described-now =
-        described-left program s n.activation g.left wanted now.contents after.contents g.memory.laid g.described
-        (λ p o. kept_now p (subst (IsOut p) (sym (memory-now.holes_are ∙ ap (λ m. gaps m (common_cells program) left_now) size)) o))
+        described-left f.program f.state n.activation g.left f.wanted now.contents after.contents g.memory.laid g.described
+        (λ p o. kept_now p (subst (IsOut p) (sym (memory-now.holes_are ∙ ap (λ m. gaps m (common_cells f.program) left_now) size)) o))
 
     -- what a dummy argument of the others stands for is not of this activation, since theirs are all still out
-    not-owned : (a : ℕ) (l : Location) → still_now a ≡ true → IsOwnedAbove s a l → is_owned n.activation l ≡ false
+    not-owned : (a : ℕ) (l : Location) → still_now a ≡ true → IsOwnedAbove f.state a l → is_owned n.activation l ≡ false
     not-owned a (local b x i) o above =
-        let there = above still_now o (λ c d e f. parent-out s on still_now (without_node nodes k n) c d tree-now e f) in
+        let there = above still_now o (λ c d. parent-out f.state f.on still_now (without_node nodes k n) c d tree-now) in
         numbers-turned n.activation b ∙ (but-parts n.activation b g.still there).0
     not-owned a (common b i) o above = refl
 
-    wanted-now : LeadUpwards s → (a : ℕ) (c : FramePart × ℕ) → still_now a ≡ true → descriptor_slots program s left_now a c ≡ descriptor_slots program s layout a c
+    wanted-now : LeadUpwards f.state → (a : ℕ) (c : FramePart × ℕ) → still_now a ≡ true → descriptor_slots f.program f.state left_now a c ≡ descriptor_slots f.program f.state f.layout a c
     wanted-now lead a c o =
-        wanted_of-left program s a n.activation (length now.contents) g.left c g.memory.laid (λ i. not-owned a (dummy_at (activation_of s a).dummies i).start o (lead a i))
+        wanted_of-left f.program f.state a n.activation (length now.contents) g.left c g.memory.laid (λ i. not-owned a (dummy_at (activation_of f.state a).dummies i).start o (lead a i))
         ∙ g.wanted_stays lead a c (but-parts n.activation a g.still o).1
 
     keys-now : KeysStay still_now old (without_node nodes k n)
@@ -198,19 +201,19 @@ module _ (program : Units) (s : State) (on out : ℕ → Bool) (layout : Layout)
     was-out : (p : ℕ) → IsOut p after.holes → IsOut p now.holes
     was-out p o = (out-given p (n.first, n.cells) now.holes (subst (IsOut p) holes_are o)).0
 
-    pub giving-goes_on : IsGiving program s on out layout wanted before old after new n.parent
+    pub giving-goes_on : IsGiving f before old after new n.parent
     giving-goes_on =
         let node = g.tree.shown k n at in
-        subst (λ z. IsGiving program s on out layout wanted before old after z n.parent) (sym new_is) (record {
+        subst (λ z. IsGiving f before old after z n.parent) (sym new_is) (record {
           still = still_now;
-          cursor = parent_of s n.activation;
+          cursor = parent_of f.state n.activation;
           left = left_now;
-          left_is = ap (without n.activation) g.left_is ∙ filter-without g.still n.activation layout single;
+          left_is = ap (without n.activation) g.left_is ∙ filter-without g.still n.activation f.layout single;
           memory = memory-now;
           tree = tree-now;
-          under = parent-kept s on g.still nodes k n g.tree at alone n.activation n.parent node.out_is node.parent_is;
-          rest = wanted-left s on g.still nodes k n g.tree at (subst (λ o. AreNeededBut o s on g.still) cursor-is g.rest);
-          framed = framed-left s on g.still g.left nodes k n g.tree at g.memory.laid.single g.framed;
+          under = parent-kept f.state f.on g.still nodes k n g.tree at alone n.activation n.parent node.out_is node.parent_is;
+          rest = wanted-left f.state f.on g.still nodes k n g.tree at (subst (λ o. AreNeededBut o f.state f.on g.still) cursor-is g.rest);
+          framed = framed-left f.state f.on g.still g.left nodes k n g.tree at g.memory.laid.single g.framed;
           frames_are = frames-now;
           described = described-now;
           wanted_stays = wanted-now;
@@ -222,24 +225,24 @@ module _ (program : Units) (s : State) (on out : ℕ → Bool) (layout : Layout)
 
 -- ---- it ends
 
-module _ (program : Units) (s : State) (on out : ℕ → Bool) (layout : Layout) (before : Space) (old : Nodes) (now : Space) (nodes : Nodes)
-    (g : IsGiving program s on out layout (descriptor_slots program s layout) before old now nodes None) (lead : LeadUpwards s) where
-  rest-now : AreNeededBut None s on g.still
-  rest-now = subst (λ o. AreNeededBut o s on g.still) (sym (same_Some None g.cursor g.under)) g.rest
+module _ (f : FramesOf) (before : Space) (old : Nodes) (now : Space) (nodes : Nodes) (next : Option ℕ)
+    (is : next ≡ None) (g : IsGiving (as_wanted f) before old now nodes next) (lead : LeadUpwards f.state) where
+  rest-now : AreNeededBut None f.state f.on g.still
+  rest-now = subst (λ o. AreNeededBut o f.state f.on g.still) (sym (same_Some None g.cursor (sym (ap (activation_under nodes) is) ∙ g.under))) g.rest
 
-  described-end : Describes program s g.left (descriptor_slots program s g.left) now.contents
+  described-end : Describes f.program f.state g.left (descriptor_slots f.program f.state g.left) now.contents
   described-end a c p slot is e w = g.described a c p slot is e (sym (g.wanted_stays lead a c there) ∙ w) where
     there : g.still a ≡ true
     there = sym (g.frames_are a) ∙ by_frame (frame_among a g.left) e where
-      by_frame : (o : Option Frame) → cell_in o (place_of_part (unit_at program (unit_of s a)) c.0 c.1) ≡ Some p → is_some o ≡ true
+      by_frame : (o : Option Frame) → cell_in o (place_of_part (unit_at f.program (unit_of f.state a)) c.0 c.1) ≡ Some p → is_some o ≡ true
       by_frame None d = absurd (none-some p d)
-      by_frame (Some f) d = refl
+      by_frame (Some here) d = refl
 
-  pub giving-ends : HasLeft program s on out layout before now old nodes
+  pub giving-ends : HasLeft f before now old nodes
   giving-ends =
       record {
         still = g.still;
-        keeps = subst (λ fs. Keeps program s on g.still fs (descriptor_slots program s fs) now nodes) g.left_is (record {
+        keeps = subst (λ fs. Keeps (as_wanted (record f { out = g.still; layout = fs })) now nodes) g.left_is (record {
           memory = g.memory;
           tree = g.tree;
           rest = rest-now;

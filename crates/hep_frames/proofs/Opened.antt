@@ -15,7 +15,7 @@ use Rattle.hep_layout.proofs.Descriptors.{described-entered}
 use Rattle.hep_layout.proofs.HeldFrames.{opening-is}
 use Rattle.hep_layout.proofs.Memory.{memory-entered, memory-fits}
 use Rattle.hep_layout.proofs.Resting.{rest-same}
-use Rattle.hep_frames.specs.Keeping.{IsOpening, IsTaken, IsUnused, Keeps}
+use Rattle.hep_frames.specs.Keeping.{frames_in, IsOpening, IsTaken, IsUnused, Keeps}
 use Rattle.hep_source.proofs.Tests.{numbers-turned}
 
 -- ---- the one activation
@@ -140,7 +140,7 @@ module _ (program : Units) (s : State) (wanted : DescriptorSlots) (before after 
     by_test true = refl
     by_test false = refl
 
-  pub opened-keeps : Keeps program s (is_stacked s) (λ a. nat_eq a 1) (frame ∷ []) wanted after new
+  pub opened-keeps : Keeps (record (frames_in program s (λ a. nat_eq a 1) (frame ∷ [])) { wanted = wanted }) after new
   opened-keeps =
       record {
         memory = memory-now;

@@ -1,9 +1,9 @@
 -- Several activations end, one after the other.
 use Rattle.std.proofs.Common.{◌≡◌, ℕ, suc, ◌+◌, ◌<◌, Bool, true, false, List, [], ◌∷◌, length, drop, get_or, Some, refl, sym, ap, ◌∙◌, subst, arith, drop-cons, if◌then◌else◌}
-use Rattle.hep_machine.specs.Words.{Units, Layout, State}
+use Rattle.hep_machine.specs.Words.{Layout}
 use Rattle.hep_arena.specs.Space.{Space}
-use Rattle.hep_layout.specs.Words.{descriptor_slots, but, FrameNode, Nodes}
-use Rattle.hep_frames.specs.Keeping.{all_but, CanLeave, frames_of, HasLeft, Keeps}
+use Rattle.hep_layout.specs.Words.{but, FrameNode, Nodes}
+use Rattle.hep_frames.specs.Keeping.{all_but, as_wanted, CanLeave, frames_left, frames_of, FramesOf, HasLeft, Keeps}
 use Rattle.hep_frames.proofs.Giving.{all-kept}
 
 -- ---- one after the other
@@ -21,23 +21,23 @@ twice-kept few many (f ∷ fs) h = by_tests (twice-kept few many fs h) (few f.ac
   by_tests rest false true d e = rw d rest
   by_tests rest false false d e = rest
 
-pub left-nothing : (program : Units) (s : State) (on out : ℕ → Bool) (layout : Layout) (arena : Space) (nodes : Nodes) → Keeps program s on out layout (descriptor_slots program s layout) arena nodes → HasLeft program s on out layout arena arena nodes nodes
-left-nothing program s on out layout arena nodes h =
+pub left-nothing : (f : FramesOf) (arena : Space) (nodes : Nodes) → Keeps (as_wanted f) arena nodes → HasLeft f arena arena nodes nodes
+left-nothing f arena nodes h =
     record {
-      still = out;
-      keeps = subst (λ fs. Keeps program s on out fs (descriptor_slots program s fs) arena nodes) (all-kept out layout (λ a d. sym (h.frames_are a) ∙ d)) h;
+      still = f.out;
+      keeps = subst (λ fs. Keeps (as_wanted (record f { layout = fs })) arena nodes) (all-kept f.out f.layout (λ a d. sym (h.frames_are a) ∙ d)) h;
       fewer = λ a o. o;
       were_out = λ p o. o;
       kept = λ p o. refl;
       keys_stay = λ key n e o. (n, e, refl, refl, refl, refl);
     }
 
-pub left-twice : (program : Units) (s : State) (on later out : ℕ → Bool) (layout : Layout) (before mid after : Space) (old between new : Nodes) (first : HasLeft program s on out layout before mid old between)
-    → HasLeft program s later first.still (frames_of first.still layout) mid after between new → HasLeft program s later out layout before after old new
-left-twice program s on later out layout before mid after old between new first second =
+pub left-twice : (f : FramesOf) (later : ℕ → Bool) (before mid after : Space) (old between new : Nodes) (first : HasLeft f before mid old between)
+    → HasLeft (record (frames_left f first.still) { on = later }) mid after between new → HasLeft (record f { on = later }) before after old new
+left-twice f later before mid after old between new first second =
     record {
       still = second.still;
-      keeps = subst (λ fs. Keeps program s later second.still fs (descriptor_slots program s fs) after new) (twice-kept second.still first.still layout second.fewer) second.keeps;
+      keeps = subst (λ fs. Keeps (as_wanted (record f { on = later; out = second.still; layout = fs })) after new) (twice-kept second.still first.still f.layout second.fewer) second.keeps;
       fewer = λ a o. first.fewer a (second.fewer a o);
       were_out = λ p o. first.were_out p (second.were_out p o);
       kept = λ p o. second.kept p o ∙ first.kept p (second.were_out p o);
@@ -50,17 +50,17 @@ left-twice program s on later out layout before mid after old between new first 
 -- ---- the loop
 
 -- these are left of the keys
-pub record AreLeaving (program : Units) (s : State) (on out : ℕ → Bool) (layout : Layout) (ends : List ℕ) (before : Space) (old : Nodes) (now : Space) (nodes : Nodes) (keys : List ℕ) : Type 0 where
+pub record AreLeaving (f : FramesOf) (ends : List ℕ) (before : Space) (old : Nodes) (now : Space) (nodes : Nodes) (keys : List ℕ) : Type 0 where
   pub on_now : ℕ → Bool
   pub ends_now : List ℕ
-  pub left : HasLeft program s on_now out layout before now old nodes
+  pub left : HasLeft (record f { on = on_now }) before now old nodes
   pub can : CanLeave old on_now keys ends_now
-  pub same : all_but ends_now on_now ≡ all_but ends on
+  pub same : all_but ends_now on_now ≡ all_but ends f.on
 
-pub leaving-begins : (program : Units) (s : State) (on out : ℕ → Bool) (layout : Layout) (ends : List ℕ) (arena : Space) (nodes : Nodes) (keys : List ℕ)
-    → Keeps program s on out layout (descriptor_slots program s layout) arena nodes → CanLeave nodes on keys ends → AreLeaving program s on out layout ends arena nodes arena nodes keys
-leaving-begins program s on out layout ends arena nodes keys h can =
-    record { on_now = on; ends_now = ends; left = left-nothing program s on out layout arena nodes h; can = can; same = refl }
+pub leaving-begins : (f : FramesOf) (ends : List ℕ) (arena : Space) (nodes : Nodes) (keys : List ℕ)
+    → Keeps (as_wanted f) arena nodes → CanLeave nodes f.on keys ends → AreLeaving f ends arena nodes arena nodes keys
+leaving-begins f ends arena nodes keys h can =
+    record { on_now = f.on; ends_now = ends; left = left-nothing f arena nodes h; can = can; same = refl }
 
 -- the activation of the next key
 pub record IsNext (old : Nodes) (on : ℕ → Bool) (key : ℕ) (keys ends : List ℕ) (nodes : Nodes) : Type 0 where
@@ -72,9 +72,9 @@ pub record IsNext (old : Nodes) (on : ℕ → Bool) (key : ℕ) (keys ends : Lis
   pub whose : node.activation ≡ activation
   pub can : CanLeave old (but activation on) keys later
 
-pub leaving-next : (program : Units) (s : State) (on out : ℕ → Bool) (layout : Layout) (ends : List ℕ) (before : Space) (old : Nodes) (now : Space) (nodes : Nodes) (key : ℕ) (keys : List ℕ)
-    (g : AreLeaving program s on out layout ends before old now nodes (key ∷ keys)) → IsNext old g.on_now key keys g.ends_now nodes
-leaving-next program s on out layout ends before old now nodes key keys g = by_ends g.ends_now g.can where
+pub leaving-next : (f : FramesOf) (ends : List ℕ) (before : Space) (old : Nodes) (now : Space) (nodes : Nodes) (key : ℕ) (keys : List ℕ)
+    (g : AreLeaving f ends before old now nodes (key ∷ keys)) → IsNext old g.on_now key keys g.ends_now nodes
+leaving-next f ends before old now nodes key keys g = by_ends g.ends_now g.can where
   by_ends : (bs : List ℕ) → CanLeave old g.on_now (key ∷ keys) bs → IsNext old g.on_now key keys bs nodes
   by_ends [] can = absurd can
   by_ends (a ∷ bs) can =
@@ -82,23 +82,23 @@ leaving-next program s on out layout ends before old now nodes key keys g = by_e
       let it = g.left.keys_stay key can.0 can.1 still in
       record { activation = a; later = bs; ends_are = refl; node = it.0; there = it.1; whose = it.2 ∙ can.2; can = can.4 }
 
-pub leaving-goes_on : (program : Units) (s : State) (on out : ℕ → Bool) (layout : Layout) (ends : List ℕ) (before : Space) (old : Nodes) (now : Space) (nodes : Nodes) (after : Space) (new : Nodes) (key : ℕ) (keys : List ℕ)
-    (g : AreLeaving program s on out layout ends before old now nodes (key ∷ keys)) (next : IsNext old g.on_now key keys g.ends_now nodes)
-    → HasLeft program s (but next.node.activation g.on_now) g.left.still (frames_of g.left.still layout) now after nodes new → AreLeaving program s on out layout ends before old after new keys
-leaving-goes_on program s on out layout ends before old now nodes after new key keys g next left =
+pub leaving-goes_on : (f : FramesOf) (ends : List ℕ) (before : Space) (old : Nodes) (now : Space) (nodes : Nodes) (after : Space) (new : Nodes) (key : ℕ) (keys : List ℕ)
+    (g : AreLeaving f ends before old now nodes (key ∷ keys)) (next : IsNext old g.on_now key keys g.ends_now nodes)
+    → HasLeft (record (frames_left f g.left.still) { on = but next.node.activation g.on_now }) now after nodes new → AreLeaving f ends before old after new keys
+leaving-goes_on f ends before old now nodes after new key keys g next left =
     record {
       on_now = but next.activation g.on_now;
       ends_now = next.later;
-      left = left-twice program s g.on_now (but next.activation g.on_now) out layout before now after old nodes new g.left (
-          subst (λ a. HasLeft program s (but a g.on_now) g.left.still (frames_of g.left.still layout) now after nodes new) next.whose left);
+      left = left-twice (record f { on = g.on_now }) (but next.activation g.on_now) before now after old nodes new g.left (
+          subst (λ a. HasLeft (record (frames_left f g.left.still) { on = but a g.on_now }) now after nodes new) next.whose left);
       can = next.can;
       same = ap (λ bs. all_but bs g.on_now) next.ends_are ∙ g.same;
     }
 
-pub leaving-ends : (program : Units) (s : State) (on out : ℕ → Bool) (layout : Layout) (ends : List ℕ) (before : Space) (old : Nodes) (now : Space) (nodes : Nodes)
-    → AreLeaving program s on out layout ends before old now nodes [] → HasLeft program s (all_but ends on) out layout before now old nodes
-leaving-ends program s on out layout ends before old now nodes g =
-    subst (λ test. HasLeft program s test out layout before now old nodes) (ap (λ bs. all_but bs g.on_now) (none g.ends_now g.can) ∙ g.same) g.left
+pub leaving-ends : (f : FramesOf) (ends : List ℕ) (before : Space) (old : Nodes) (now : Space) (nodes : Nodes)
+    → AreLeaving f ends before old now nodes [] → HasLeft (record f { on = all_but ends f.on }) before now old nodes
+leaving-ends f ends before old now nodes g =
+    subst (λ test. HasLeft (record f { on = test }) before now old nodes) (ap (λ bs. all_but bs g.on_now) (none g.ends_now g.can) ∙ g.same) g.left
   where
     none : (bs : List ℕ) → CanLeave old g.on_now [] bs → [] ≡ bs
     none [] can = refl

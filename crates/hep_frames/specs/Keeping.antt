@@ -1,30 +1,47 @@
 -- What the frames of a state are, in the arena and in the tree: docs/MACHINE.md, "Layout" and "Variables and frames".
 use Rattle.std.specs.Prelude.{◌≡◌, ℕ, ◌+◌, ◌<◌, ◌≤◌, Bool, true, nat_eq, if◌then◌else◌, List, [], ◌∷◌, ◌++◌, length, Some, None, is_some, slice_get}
 use Rattle.std.specs.List.{filter}
-use Rattle.hep_machine.specs.Words.{Name, Units, unset_cell, Frame, Layout, dummy_at, activation_of, run, Activation, Location, State, local}
+use Rattle.hep_machine.specs.Words.{Name, Units, unset_cell, Frame, Layout, dummy_at, activation_of, run, with_frame, Activation, Location, State, local}
 use Rattle.hep_machine.specs.declared.slot.Slot.{Slot}
 use Rattle.hep_arena.specs.Gaps.{frame_among, gaps}
 use Rattle.hep_arena.specs.Holes.{IsOut, taken}
 use Rattle.hep_arena.specs.Space.{Space}
-use Rattle.hep_layout.specs.Words.{IsMemory, Describes, DescriptorSlots, descriptor_slots, FramePart, IsOwnedAbove, AreFramed, AreNeededBut, but, is_stacked, IsFrameTree, FrameNode, Nodes}
+use Rattle.hep_layout.specs.Words.{IsMemory, Describes, DescriptorSlots, descriptor_slots, FramePart, IsOwnedAbove, also, AreFramed, AreNeededBut, but, frame_from, is_stacked, IsFrameTree, FrameNode, Nodes}
 
 -- ---- the frames of a state
 
--- the arena and the nodes are those of a state in which some activations are on stacks and the frames of some are
--- out, just those of a layout: what is stored is at its address, the nodes are the tree of the frames, nothing is
--- left to be given back, and the other cells hold what is wanted of them
-pub record Keeps (program : Units) (s : State) (on out : ℕ → Bool) (layout : Layout) (wanted : DescriptorSlots) (arena : Space) (nodes : Nodes) : Type 0 where
-  pub memory : IsMemory program s layout arena.contents arena.holes
-  pub tree : IsFrameTree s on out nodes
-  pub rest : AreNeededBut None s on out
-  pub framed : AreFramed layout nodes
-  pub frames_are : (a : ℕ) → is_some (frame_among a layout) ≡ out a
-  pub described : Describes program s layout wanted arena.contents
+-- whose frames there are, and where: a program, a state of it, which activations are on stacks and the frames of which are out, the layout of
+-- these, and what is wanted of the cells that keep no storage unit
+pub record FramesOf : Type 0 where
+  pub program : Units
+  pub state : State
+  pub on : ℕ → Bool
+  pub out : ℕ → Bool
+  pub layout : Layout
+  pub wanted : DescriptorSlots
+
+-- what is wanted of those cells is what the state wants
+abbrev pub as_wanted : FramesOf → FramesOf
+as_wanted f = record f { wanted = descriptor_slots f.program f.state f.layout }
+
+-- those of a state with its stacks
+abbrev pub frames_in : Units → State → (ℕ → Bool) → Layout → FramesOf
+frames_in program s out layout =
+    record { program = program; state = s; on = is_stacked s; out = out; layout = layout; wanted = descriptor_slots program s layout }
+
+-- the arena and the nodes are those of these frames, just those of the layout: what is stored is at its address, the nodes are the tree of the
+-- frames, nothing is left to be given back, and the other cells hold what is wanted of them
+pub record Keeps (f : FramesOf) (arena : Space) (nodes : Nodes) : Type 0 where
+  pub memory : IsMemory f.program f.state f.layout arena.contents arena.holes
+  pub tree : IsFrameTree f.state f.on f.out nodes
+  pub rest : AreNeededBut None f.state f.on f.out
+  pub framed : AreFramed f.layout nodes
+  pub frames_are : (a : ℕ) → is_some (frame_among a f.layout) ≡ f.out a
+  pub described : Describes f.program f.state f.layout f.wanted arena.contents
 
 -- they are those of some state
 abbrev pub AreOfSomeState : Space → Nodes → Type 0
-AreOfSomeState arena nodes =
-    (program : Units) × (s : State) × (on : ℕ → Bool) × (out : ℕ → Bool) × (layout : Layout) × (wanted : DescriptorSlots) × Keeps program s on out layout wanted arena nodes
+AreOfSomeState arena nodes = (f : FramesOf) × Keeps f arena nodes
 
 -- before the main program begins: COMMON has so many cells at the arena's front, all unset, and no frame is out
 pub record IsUnused (common : ℕ) (arena : Space) (nodes : Nodes) : Type 0 where
@@ -58,6 +75,18 @@ pub record IsBegun (s t : State) (x : Activation) : Type 0 where
 abbrev pub with_unset : ℕ → DescriptorSlots → DescriptorSlots
 with_unset a wanted b c = if nat_eq b a then Some unset_cell else wanted b c
 
+-- and its frame begins at a cell, where it is the last activation of a state
+abbrev pub frames_begun : FramesOf → State → ℕ → FramesOf
+frames_begun f t first =
+    record {
+      program = f.program;
+      state = t;
+      on = also (length t.activations) f.on;
+      out = also (length t.activations) f.out;
+      layout = with_frame f.layout (frame_from f.program t (length t.activations) first);
+      wanted = with_unset (length t.activations) f.wanted;
+    }
+
 -- ---- an activation ends
 
 -- the frames of these activations
@@ -74,11 +103,15 @@ KeysStay still old new =
     (key : ℕ) (n : FrameNode) → old key ≡ Some n → still n.activation ≡ true
     → (m : FrameNode) × (new key ≡ Some m) × (m.activation ≡ n.activation) × (m.first ≡ n.first) × (m.cells ≡ n.cells) × (m.parent ≡ n.parent)
 
--- the frames of a layout once those were given back that aren't wanted any more, where some activations are on stacks
-pub record HasLeft (program : Units) (s : State) (on out : ℕ → Bool) (layout : Layout) (before after : Space) (old new : Nodes) : Type 0 where
+-- those that are still out
+abbrev pub frames_left : FramesOf → (ℕ → Bool) → FramesOf
+frames_left f still = as_wanted (record f { out = still; layout = frames_of still f.layout })
+
+-- the frames that aren't wanted any more were given back
+pub record HasLeft (f : FramesOf) (before after : Space) (old new : Nodes) : Type 0 where
   pub still : ℕ → Bool
-  pub keeps : Keeps program s on still (frames_of still layout) (descriptor_slots program s (frames_of still layout)) after new
-  pub fewer : (a : ℕ) → still a ≡ true → out a ≡ true
+  pub keeps : Keeps (frames_left f still) after new
+  pub fewer : (a : ℕ) → still a ≡ true → f.out a ≡ true
   pub were_out : (p : ℕ) → IsOut p after.holes → IsOut p before.holes
   pub kept : (p : ℕ) → IsOut p after.holes → slice_get after.contents p ≡ slice_get before.contents p
   pub keys_stay : KeysStay still old new
@@ -105,8 +138,6 @@ CanLeave nodes on [] (a ∷ ends) = ⊥
 CanLeave nodes on (key ∷ keys) [] = ⊥
 CanLeave nodes on (key ∷ keys) (a ∷ ends) = (n : FrameNode) × (nodes key ≡ Some n) × (n.activation ≡ a) × (on a ≡ true) × CanLeave nodes (but a on) keys ends
 
--- they can leave a state's frames
+-- they can leave the frames of a state
 abbrev pub CanAllLeave : Space → Nodes → List ℕ → Type 0
-CanAllLeave arena nodes keys =
-    (program : Units) × (s : State) × (on : ℕ → Bool) × (out : ℕ → Bool) × (layout : Layout) × (ends : List ℕ)
-    × Keeps program s on out layout (descriptor_slots program s layout) arena nodes × CanLeave nodes on keys ends × LeadUpwards s
+CanAllLeave arena nodes keys = (f : FramesOf) × (ends : List ℕ) × Keeps (as_wanted f) arena nodes × CanLeave nodes f.on keys ends × LeadUpwards f.state

@@ -1,19 +1,19 @@
 //! The table of frames.
-ghost use Rattle.std.specs.Prelude.{◌≡◌, ◌+◌, ◌<◌, ◌≤◌, ◌++◌, ◌∷◌, [], ℕ, nat_eq, Bool, List, Some, None, IfOk, IsOk, IsSome, OnOk, length};
+ghost use Rattle.std.specs.Prelude.{◌≡◌, ◌+◌, ◌<◌, ◌≤◌, [], ℕ, nat_eq, Bool, List, Some, None, IfOk, IsOk, IsSome, OnOk, length};
 ghost use Rattle.std.specs.Prelude.{slice_get, slice_set, true, false};
 ghost use Rattle.std.specs.Option.{is_some};
 ghost use Rattle.slab.specs.Slab.{ContainsKey, HasRoomFor, slab_len};
 ghost use Rattle.hep_machine.specs.Words.{Units, main_unit, unset_cell, Layout, common_cells, frame_of, lowest_gap, opening_layout};
-ghost use Rattle.hep_machine.specs.Words.{with_frame, run, Activation, Location, State, with_cell};
+ghost use Rattle.hep_machine.specs.Words.{run, Activation, Location, State, with_cell};
 ghost use Rattle.hep_machine.specs.declared.slot.Slot.{Slot};
 ghost use Rattle.hep_arena.specs.Gaps.{framed_cells};
 ghost use Rattle.hep_arena.specs.Holes.{IsOut, first_fit, free_cells, given};
-ghost use Rattle.hep_layout.specs.Words.{address, frame_address, frame_from, DescriptorSlots, is_descriptor, descriptor_slots, FramePart};
-ghost use Rattle.hep_layout.specs.Words.{also, but, first_nodes, is_stacked, new_node, with_node, without_node};
+ghost use Rattle.hep_layout.specs.Words.{address, frame_address, DescriptorSlots, is_descriptor, FramePart};
+ghost use Rattle.hep_layout.specs.Words.{but, first_nodes, is_stacked, new_node, with_node, without_node};
 ghost use Rattle.hep_layout.specs.FrameTree.{FrameNode};
 ghost use Rattle.hep_frames.specs.Nodes.{CanCount, IsCountedAbove, nodes_of};
 ghost use Rattle.hep_frames.specs.Keeping.{AreOfSomeState, CanAllLeave, CanLeave, HasLeft, IsBegun, IsEnded, IsOpening, IsTaken, IsUnused};
-ghost use Rattle.hep_frames.specs.Keeping.{Keeps, LeadUpwards, all_but, with_unset};
+ghost use Rattle.hep_frames.specs.Keeping.{FramesOf, Keeps, LeadUpwards, all_but, as_wanted, frames_begun, frames_in};
 
 use crate::nodes::{self, Node};
 use hep_arena::Arena;
@@ -55,9 +55,8 @@ impl Frames {
     /// How many cells are out.
     pub fn used(&self) -> u32
         ensures cells { result + free_cells self.now.arena.holes ≡ length self.now.arena.contents }
-        ensures used { (program : Units) (s : State) (on out : ℕ → Bool) (layout : Layout) (wanted : DescriptorSlots)
-            → Keeps program s on out layout wanted self.now.arena (nodes_of self.now.nodes)
-            → result ≡ common_cells program + framed_cells layout }
+        ensures used { (f : FramesOf) → Keeps f self.now.arena (nodes_of self.now.nodes)
+            → result ≡ common_cells f.program + framed_cells f.layout }
     {
         self.arena.used()
     }
@@ -67,9 +66,8 @@ impl Frames {
         ensures fit { result ≡ is_some (first_fit cells self.now.arena.holes) }
         ensures opening { (program : Units) → IsUnused (common_cells program) self.now.arena (nodes_of self.now.nodes)
             → cells ≡ frame_of program (run program []) 1 → result ≡ is_some (opening_layout program (length self.now.arena.contents)) }
-        ensures gap { (program : Units) (s : State) (on out : ℕ → Bool) (layout : Layout) (wanted : DescriptorSlots)
-            → Keeps program s on out layout wanted self.now.arena (nodes_of self.now.nodes) → 1 ≤ cells
-            → result ≡ is_some (lowest_gap (length self.now.arena.contents) cells (common_cells program) layout) }
+        ensures gap { (f : FramesOf) → Keeps f self.now.arena (nodes_of self.now.nodes) → 1 ≤ cells
+            → result ≡ is_some (lowest_gap (length self.now.arena.contents) cells (common_cells f.program) f.layout) }
     {
         self.arena.fits(cells)
     }
@@ -102,7 +100,7 @@ impl Frames {
             → IsUnused (common_cells program) self.old.arena (nodes_of self.old.nodes) → IsOpening program s → unit ≡ main_unit program
             → cells ≡ frame_of program s 1 → ((c : FramePart × ℕ) (v : Slot) → wanted 1 c ≡ Some v → v ≡ unset_cell) → (layout : Layout)
             × (opening_layout program (length self.old.arena.contents) ≡ Some layout)
-            × Keeps program s (is_stacked s) (λ a. nat_eq a 1) layout wanted self.new.arena (nodes_of self.new.nodes) }
+            × Keeps (record (frames_in program s (λ a. nat_eq a 1) layout) { wanted = wanted }) self.new.arena (nodes_of self.new.nodes) }
     {
         self.add(1, unit, cells, None)
     }
@@ -122,15 +120,11 @@ impl Frames {
             → IsTaken cells first self.old.arena self.new.arena }
         ensures nodes { (first : ℕ) → first_fit cells self.old.arena.holes ≡ Some first
             → nodes_of self.new.nodes ≡ with_node (nodes_of self.old.nodes) result (new_node activation unit first cells parent) parent }
-        ensures begun { (program : Units) (s t : State) (x : Activation) (on out : ℕ
-            → Bool) (layout : Layout) (wanted : DescriptorSlots) (n : FrameNode)
-            → Keeps program s on out layout wanted self.old.arena (nodes_of self.old.nodes) → nodes_of self.old.nodes parent ≡ Some n
-            → IsBegun s t x → x.parent ≡ Some n.activation → activation ≡ length t.activations → unit ≡ x.unit
-            → cells ≡ frame_of program t (length t.activations) → (first : ℕ)
-            × (lowest_gap (length self.old.arena.contents) cells (common_cells program) layout ≡ Some first)
-            × Keeps program t (also (length t.activations) on) (also (length t.activations) out)
-            (with_frame layout (frame_from program t (length t.activations) first))
-            (with_unset (length t.activations) wanted) self.new.arena (nodes_of self.new.nodes) }
+        ensures begun { (f : FramesOf) (t : State) (x : Activation) (n : FrameNode) → Keeps f self.old.arena (nodes_of self.old.nodes)
+            → nodes_of self.old.nodes parent ≡ Some n → IsBegun f.state t x → x.parent ≡ Some n.activation
+            → activation ≡ length t.activations → unit ≡ x.unit → cells ≡ frame_of f.program t (length t.activations) → (first : ℕ)
+            × (lowest_gap (length self.old.arena.contents) cells (common_cells f.program) f.layout ≡ Some first)
+            × Keeps (frames_begun f t first) self.new.arena (nodes_of self.new.nodes) }
     {
         let key = self.add(activation, unit, cells, Some(parent));
         nodes::gain_child(&mut self.nodes, parent);
@@ -173,16 +167,14 @@ impl Frames {
     pub fn leave(&mut self, key: usize)
         requires there { ContainsKey self.old.nodes key }
         requires kept { AreOfSomeState self.old.arena (nodes_of self.old.nodes) }
-        ensures left { (program : Units) (s : State) (on out : ℕ → Bool) (layout : Layout) (n : FrameNode)
-            → Keeps program s on out layout (descriptor_slots program s layout) self.old.arena (nodes_of self.old.nodes)
-            → nodes_of self.old.nodes key ≡ Some n → LeadUpwards s
-            → HasLeft program s (but n.activation on) out layout self.old.arena self.new.arena (nodes_of self.old.nodes)
+        ensures left { (f : FramesOf) (n : FrameNode) → Keeps (as_wanted f) self.old.arena (nodes_of self.old.nodes)
+            → nodes_of self.old.nodes key ≡ Some n → LeadUpwards f.state
+            → HasLeft (record f { on = but n.activation f.on }) self.old.arena self.new.arena (nodes_of self.old.nodes)
             (nodes_of self.new.nodes) }
         ensures ended { (program : Units) (s t : State) (out : ℕ → Bool) (layout : Layout) (n : FrameNode)
-            → Keeps program s (is_stacked s) out layout (descriptor_slots program s layout) self.old.arena (nodes_of self.old.nodes)
-            → nodes_of self.old.nodes key ≡ Some n → IsEnded program layout (but n.activation (is_stacked s)) s t → LeadUpwards t
-            → HasLeft program t (is_stacked t) out layout self.old.arena self.new.arena (nodes_of self.old.nodes)
-            (nodes_of self.new.nodes) }
+            → Keeps (frames_in program s out layout) self.old.arena (nodes_of self.old.nodes) → nodes_of self.old.nodes key ≡ Some n
+            → IsEnded program layout (but n.activation (is_stacked s)) s t → LeadUpwards t
+            → HasLeft (frames_in program t out layout) self.old.arena self.new.arena (nodes_of self.old.nodes) (nodes_of self.new.nodes) }
         ensures cells { length self.new.arena.contents ≡ length self.old.arena.contents }
     {
         nodes::end(&mut self.nodes, key);
@@ -200,16 +192,15 @@ impl Frames {
     /// its stack on: the frames of each go back as [`Frames::leave`] says.
     pub fn leave_all(&mut self, keys: &[usize])
         requires { CanAllLeave self.old.arena (nodes_of self.old.nodes) keys.now }
-        ensures left { (program : Units) (s : State) (on out : ℕ → Bool) (layout : Layout) (ends : List ℕ)
-            → Keeps program s on out layout (descriptor_slots program s layout) self.old.arena (nodes_of self.old.nodes)
-            → CanLeave (nodes_of self.old.nodes) on keys.now ends → LeadUpwards s
-            → HasLeft program s (all_but ends on) out layout self.old.arena self.new.arena (nodes_of self.old.nodes)
+        ensures left { (f : FramesOf) (ends : List ℕ) → Keeps (as_wanted f) self.old.arena (nodes_of self.old.nodes)
+            → CanLeave (nodes_of self.old.nodes) f.on keys.now ends → LeadUpwards f.state
+            → HasLeft (record f { on = all_but ends f.on }) self.old.arena self.new.arena (nodes_of self.old.nodes)
             (nodes_of self.new.nodes) }
         ensures ended { (program : Units) (s t : State) (out : ℕ → Bool) (layout : Layout) (ends : List ℕ)
-            → Keeps program s (is_stacked s) out layout (descriptor_slots program s layout) self.old.arena (nodes_of self.old.nodes)
-            → CanLeave (nodes_of self.old.nodes) (is_stacked s) keys.now ends → IsEnded program layout (all_but ends (is_stacked s)) s t
-            → LeadUpwards t → HasLeft program t (is_stacked t) out layout self.old.arena self.new.arena (nodes_of self.old.nodes)
-            (nodes_of self.new.nodes) }
+            → Keeps (frames_in program s out layout) self.old.arena (nodes_of self.old.nodes)
+            → CanLeave (nodes_of self.old.nodes) (is_stacked s) keys.now ends
+            → IsEnded program layout (all_but ends (is_stacked s)) s t → LeadUpwards t
+            → HasLeft (frames_in program t out layout) self.old.arena self.new.arena (nodes_of self.old.nodes) (nodes_of self.new.nodes) }
         ensures cells { length self.new.arena.contents ≡ length self.old.arena.contents }
     {
         for key in keys {
@@ -287,9 +278,8 @@ impl Frames {
         requires inside { at < length self.now.arena.contents }
         requires out { IsOut at self.now.arena.holes }
         ensures slot { slice_get self.now.arena.contents at ≡ Some result }
-        ensures unit { (program : Units) (s : State) (on out : ℕ → Bool) (layout : Layout) (wanted : DescriptorSlots) (place : Location)
-            → Keeps program s on out layout wanted self.now.arena (nodes_of self.now.nodes) → address program s layout place ≡ Some at
-            → result ≡ s.store place }
+        ensures unit { (f : FramesOf) (place : Location) → Keeps f self.now.arena (nodes_of self.now.nodes)
+            → address f.program f.state f.layout place ≡ Some at → result ≡ f.state.store place }
     {
         self.arena.get(at)
     }
@@ -301,16 +291,14 @@ impl Frames {
         ensures contents { self.new.arena.contents ≡ slice_set self.old.arena.contents at slot }
         ensures holes { self.new.arena.holes ≡ self.old.arena.holes }
         ensures nodes { nodes_of self.new.nodes ≡ nodes_of self.old.nodes }
-        ensures unit { (program : Units) (s t : State) (on out : ℕ → Bool) (layout : Layout) (wanted : DescriptorSlots) (place : Location)
-            → Keeps program s on out layout wanted self.old.arena (nodes_of self.old.nodes) → address program s layout place ≡ Some at
-            → t.activations ≡ s.activations → t.store ≡ with_cell s.store place slot
-            → Keeps program t on out layout wanted self.new.arena (nodes_of self.new.nodes) }
-        ensures descriptor { (program : Units) (s : State) (on out : ℕ
-            → Bool) (layout : Layout) (wanted after : DescriptorSlots) (a : ℕ) (c : FramePart × ℕ)
-            → Keeps program s on out layout wanted self.old.arena (nodes_of self.old.nodes) → is_descriptor program s a c ≡ true
-            → frame_address program s layout a c ≡ Some at → after a c ≡ Some slot
-            → ((b : ℕ) (d : FramePart × ℕ) (v : Slot) → ((a ≡ b) × (c ≡ d) → ⊥) → after b d ≡ Some v → wanted b d ≡ Some v)
-            → Keeps program s on out layout after self.new.arena (nodes_of self.new.nodes) }
+        ensures unit { (f : FramesOf) (t : State) (place : Location) → Keeps f self.old.arena (nodes_of self.old.nodes)
+            → address f.program f.state f.layout place ≡ Some at → t.activations ≡ f.state.activations
+            → t.store ≡ with_cell f.state.store place slot → Keeps (record f { state = t }) self.new.arena (nodes_of self.new.nodes) }
+        ensures descriptor { (f : FramesOf) (after : DescriptorSlots) (a : ℕ) (c : FramePart × ℕ)
+            → Keeps f self.old.arena (nodes_of self.old.nodes) → is_descriptor f.program f.state a c ≡ true
+            → frame_address f.program f.state f.layout a c ≡ Some at → after a c ≡ Some slot
+            → ((b : ℕ) (d : FramePart × ℕ) (v : Slot) → ((a ≡ b) × (c ≡ d) → ⊥) → after b d ≡ Some v → f.wanted b d ≡ Some v)
+            → Keeps (record f { wanted = after }) self.new.arena (nodes_of self.new.nodes) }
     {
         self.arena.set(at, slot);
     }

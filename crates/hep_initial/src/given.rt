@@ -8,8 +8,7 @@ ghost use Rattle.hep_machine.specs.Words.{same_name, name_eq};
 ghost use Rattle.hep_machine.specs.Data.{Stretch as PureStretch};
 ghost use Rattle.hep_conditions.specs.Words.{share_element};
 ghost use Rattle.hep_names.specs.Tables.{either};
-ghost use Rattle.hep_initial.specs.declared.given.Element.{Element as PureElement};
-ghost use Rattle.hep_initial.specs.Given.{IsGiven, IsNamed, element_eq};
+ghost use Rattle.hep_initial.specs.Given.{IsGiven, IsNamed};
 
 use hep_source::Name;
 use indexmap::IndexSet;

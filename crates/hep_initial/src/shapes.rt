@@ -2,7 +2,7 @@
 ghost use Rattle.std.specs.Prelude.{◌≡◌, true, Some, IfOk, OnOk, is_some, length, if◌then◌else◌};
 ghost use Rattle.std.specs.Option.{option_map};
 ghost use Rattle.indexmap.specs.IndexMap.{get};
-ghost use Rattle.hep_machine.specs.Words.{trees_of, integers_of, element_number, is_within, name_eq};
+ghost use Rattle.hep_machine.specs.Words.{element_number, is_within, name_eq};
 ghost use Rattle.hep_machine.specs.Arithmetic as arithmetic;
 ghost use Rattle.hep_machine.specs.Constants as values;
 ghost use Rattle.hep_machine.specs.Declarations as declarations;

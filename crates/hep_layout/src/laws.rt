@@ -199,7 +199,8 @@ pub fn what_is_wanted_stays()
     ensures enters { (program : Units) (s t : State) (x : Activation) (layout : Layout) (first cells a : ℕ) (c : FramePart × ℕ)
         → IsLaid program s cells layout → t.activations ≡ s.activations ++ x ∷ [] → a ≤ length s.activations
         → ((k : ℕ) → IsMadeAt (length s.activations) (dummy_at (activation_of s a).dummies k).start) → level_of t a ≡ level_of s a
-        → descriptor_slots program t (with_frame layout (frame_from program t (length t.activations) first)) a c ≡ descriptor_slots program s layout a c }
+        → descriptor_slots program t (with_frame layout (frame_from program t (length t.activations) first)) a c
+        ≡ descriptor_slots program s layout a c }
     ensures leaves { (program : Units) (s : State) (a b cells : ℕ) (layout : Layout) (c : FramePart × ℕ) → IsLaid program s cells layout
         → ((k : ℕ) → is_owned b (dummy_at (activation_of s a).dummies k).start ≡ false)
         → descriptor_slots program s (without b layout) a c ≡ descriptor_slots program s layout a c }

@@ -1,5 +1,5 @@
 //! A tree of numbers.
-ghost use Rattle.std.specs.Prelude.{◌≡◌, ◌≢◌, ◌⊎◌, ℕ, ◌+◌, ◌-◌, ◌*◌, ◌/◌, ◌^◌, ◌<◌, ◌≤◌, ◌++◌, [], length, drop, replicate, slice_set};
+ghost use Rattle.std.specs.Prelude.{◌≡◌, ◌⊎◌, ℕ, ◌+◌, ◌-◌, ◌*◌, ◌/◌, ◌^◌, ◌<◌, ◌≤◌, ◌++◌, [], length, drop, replicate, slice_set};
 ghost use Rattle.std.specs.Prelude.{true, false, IfErr, IfOk, IsOk, OnOk};
 ghost use Rattle.hep_lengths.specs.Trees.{IsFirst, IsLast, IsNext, IsTop, IsTree, leaves_of, leftmost, number};
 

@@ -1,5 +1,5 @@
 //! 310: a name is no subroutine, array or function (X3.9-1978, 5.3, 15.3 and 15.6.2).
-ghost use Rattle.std.specs.Prelude.{◌≡◌, ◌++◌, map, IfOk};
+ghost use Rattle.std.specs.Prelude.{◌≡◌, map, IfOk};
 ghost use Rattle.std.specs.List.{flat_map};
 ghost use Rattle.hep_conditions.specs.Names as conditions;
 ghost use Rattle.hep_conditions.specs.Words.{first_of};

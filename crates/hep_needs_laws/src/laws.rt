@@ -1,5 +1,5 @@
 //! Laws of waiting: what the next step of a process needs, and what the steps of others change of it.
-ghost use Rattle.std.specs.Prelude.{◌≡◌, ◌≢◌, ◌≤◌, ◌++◌, ◌∷◌, ℕ, Bool, true, false, not, if◌then◌else◌, List, [], Some, None, length};
+ghost use Rattle.std.specs.Prelude.{◌≡◌, ◌≢◌, ◌≤◌, ◌++◌, ◌∷◌, ℕ, Bool, true, false, not, List, [], Some, None, length};
 ghost use Rattle.std.specs.Prelude.{slice_get};
 ghost use mathlib.Core.Bool.{beq};
 ghost use Rattle.hep_machine.specs.Words.{Units, is_purge, Layout, is_held, layout_of, living, run, Level, Location, Process, State};

@@ -10,6 +10,7 @@ use Rattle.hep_layout.specs.Words.{Describes, descriptor_slots, RunsFrom}
 use Rattle.hep_image.specs.declared.array.Array.{Array}
 use Rattle.hep_image.specs.Places.{array_of, arrays_of}
 use Rattle.hep_layout_laws.specs.Bound.{AreClosed, AreKept, IsBound}
+use Rattle.hep_step.specs.Simulation.{RunningTop}
 use Rattle.hep_passing.specs.declared.given.Given.{Given}
 use Rattle.hep_passing.specs.declared.given.Given.TheVariants as giving
 
@@ -23,6 +24,10 @@ pub record IsCaller (program : Units) (s : State) (layout : Layout) (contents : 
   pub described : Describes program s layout (descriptor_slots program s layout) contents
   pub bound : IsBound program s a
   pub kept : AreKept program s layout a
+
+-- the top activation of a process
+abbrev pub IsTopCaller : RunningTop → Type 0
+IsTopCaller r = IsCaller r.program r.top.state r.layout r.arena.contents r.top.level.activation r.frame
 
 -- the arrays of its unit
 abbrev pub arrays_at : Units → State → ℕ → List Array

@@ -1,5 +1,5 @@
 //! What a variable, an array or an element passes (X3.9-1978, 15.9.3).
-ghost use Rattle.std.specs.Prelude.{◌≡◌, ◌<◌, ◌≤◌, ◌^◌, true, Some, length};
+ghost use Rattle.std.specs.Prelude.{◌≡◌, ◌<◌, ◌^◌, true, Some, length};
 ghost use Rattle.hep_machine.specs.Words.{elements, is_shape};
 ghost use Rattle.hep_image.specs.Finding.{base_at, bounds_at, cells_in};
 ghost use Rattle.hep_image.specs.Within.{AreExtentsIn, IsStartIn};

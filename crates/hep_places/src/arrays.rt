@@ -1,7 +1,6 @@
 //! The arrays of a unit (X3.9-1978, section 5).
 ghost use Rattle.std.specs.Prelude.{◌≡◌, true, map, length, None, IfOk};
 ghost use Rattle.std.specs.List.{filter};
-ghost use Rattle.std.specs.Option.{option_map};
 ghost use Rattle.indexmap.specs.IndexMap.{get};
 ghost use Rattle.hep_machine.specs.Words.{name_eq, adjustable_dimensions, value_among, constant_value};
 ghost use Rattle.hep_machine.specs.Declarations as declarations;

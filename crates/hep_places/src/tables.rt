@@ -1,10 +1,7 @@
 //! Where the storage units of the names of a unit begin (X3.9-1978, 2.13, 8.3.2 and 15.9.3).
-ghost use Rattle.std.specs.Prelude.{◌≡◌, ◌+◌, ◌*◌, IfOk};
-ghost use Rattle.std.specs.Prelude.{length};
+ghost use Rattle.std.specs.Prelude.{◌≡◌, IfOk};
 ghost use Rattle.indexmap.specs.IndexMap.{get};
-ghost use Rattle.hep_source.specs.declared.name.Name.{Name as PureName};
-ghost use Rattle.hep_machine.specs.Words.{name_eq, dummies_of, value_among, constant_value, locals_of};
-ghost use Rattle.hep_common.specs.Starts.{narrowed};
+ghost use Rattle.hep_machine.specs.Words.{name_eq, value_among, constant_value};
 ghost use Rattle.hep_places.specs.Found as found;
 
 use crate::blocks::offset_table;

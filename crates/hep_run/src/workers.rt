@@ -1,5 +1,5 @@
 //! A source's run by workers.
-ghost use Rattle.std.specs.Prelude.{◌≡◌, IfOk};
+ghost use Rattle.std.specs.Prelude.{IfOk};
 ghost use Rattle.hep_run.specs.Delivery.{LeavesOfSource};
 ghost use Rattle.hep_run.specs.Transcripts.{outcome_of};
 ghost use Rattle.hep_run.specs.Workers.{IsImageWorked, IsWorkOutcome};

@@ -1,6 +1,5 @@
 //! Whether the arrays among the dummy arguments of a unit that is called fit what is given to them.
 ghost use Rattle.std.specs.Prelude.{◌≡◌, ◌<◌, ◌≤◌, ◌+◌, ◌++◌, ◌∷◌, [], true, length, slice_get, vec_len, vec_capacity};
-ghost use Rattle.std.specs.Option.{option_map};
 ghost use Rattle.hep_passing.specs.Shapes as passing;
 ghost use Rattle.hep_shaping.specs.Fitting as definitions;
 ghost use Rattle.hep_shaping.specs.Fitting.{AreShapable, IsShapable, are_fitting, shapes_of};

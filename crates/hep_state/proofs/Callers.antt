@@ -1,26 +1,25 @@
 -- What a process calls whose top activation is at a CALL, what its actual arguments give and bind, and what a machine reads of it there.
 use Rattle.std.proofs.Common.{◌≡◌, ℕ, ◌<◌, List, ◌∷◌, ◌++◌, drop, length, map, sym, ap, ◌∙◌, subst, ◌≢◌, suc, Bool, false, [], Option, Some, None, Result, Ok, Err, refl, arith, ◌-◌, get_or, slice_get}
 use Rattle.std.specs.List.{flat_map}
-use Rattle.hep_machine.specs.Words.{Name, Units, dummies_of, unit_at, unit_of, run, State, Dummy, Top, binding_of, next_activation, scope_of, step, unit_called, Statement, Value, Binding, binding_with_shapes, dummies_for, dummy_before, dummy_for, with_actuals, Actual, Reference, does, evaluated, next_of, referred, Frame, Layout, Scope, Bounds}
-use Rattle.hep_machine.specs.State.{Level as SourceLevel, Process as SourceProcess}
+use Rattle.hep_machine.specs.Words.{Name, Units, dummies_of, unit_at, unit_of, State, Dummy, Top, binding_of, next_activation, scope_of, step, unit_called, Statement, Value, Binding, binding_with_shapes, dummies_for, dummy_before, dummy_for, with_actuals, Actual, Reference, does, evaluated, next_of, referred, Frame, Layout, Scope, Bounds}
 use Rattle.hep_code.specs.declared.instruction.Operation.{Operation}
 use Rattle.hep_code.specs.declared.instruction.Instruction.TheVariants.{Pass, Step}
 use Rattle.hep_code.specs.declared.variable.Variable.{Variable}
-use Rattle.hep_code.specs.Words.{argument_of_actual, operands_of_actual, Passed, passed_from}
+use Rattle.hep_code.specs.Words.{table_of, argument_of_actual, operands_of_actual, Passed, passed_from}
 use Rattle.hep_image.specs.declared.array.Array.{Array}
 use Rattle.hep_image.specs.Places.{variable_of}
 use Rattle.hep_passing.specs.Agreement.{IsCaller, arrays_at, AreGiven, AreGivenAs, ArePlaced, IsGiven}
 use Rattle.hep_step.specs.Calls.{IsCallAhead, made_by, making}
-use Rattle.hep_step.specs.Simulation.{IsRunning, code_on_top, unit_arrays, unit_code, Simulates}
+use Rattle.hep_step.specs.Simulation.{IsRunning, code_on_top, unit_addressed, unit_arrays, unit_code, Simulates, RunningTop, code_ahead}
 use Rattle.hep_code_laws.specs.Works.{IsCalledBy}
 use Rattle.hep_state.specs.declared.upcoming.CallAhead.{CallAhead}
-use Rattle.hep_state.specs.Words.{IsAtCall, IsAtStep, given_of, AreRunning, IsKnown, Snapshot, snapshot_of, stack_of, frame_under, top_after, IsAfterCall, IsMaking, state_made, IsEnding, IsBehind, stack_with, IsThere, node_under}
+use Rattle.hep_state.specs.Words.{HoldsInTurn, IsAtCall, IsAtStep, IsTopRunning, TurnOf, given_of, AreRunning, IsKnown, snapshot_of, stack_of, state_before, top_before, top_frame, turn_of, IsMaking, state_made, IsEnding, IsBehind, stack_with, IsThere, running_top}
 use Rattle.hep_state.proofs.Standing.{are-on}
-use Rattle.hep_state.proofs.Moved.{standing-before, there, unit-is, top-node}
+use Rattle.hep_state.proofs.Moved.{standing-before, unit-is, top-node}
+use Rattle.hep_state.proofs.Runs.{there}
 use Rattle.hep_machine.specs.declared.event.Kind.{Kind}
 use Rattle.hep_machine.specs.declared.slot.Slot.{Slot}
 use Rattle.hep_arena.specs.Gaps.{frame_among}
-use Rattle.hep_arena.specs.Holes.{Hole}
 use Rattle.hep_code.specs.declared.instruction.Instruction.{Instruction}
 use Rattle.hep_code.specs.declared.variable.Variable.TheVariants.{Absent}
 use Rattle.hep_layout.specs.Words.{IsMemory, RunsFrom}
@@ -47,70 +46,65 @@ use Rattle.hep_state.proofs.Processes.{process-at, operands-are}
 use Rattle.hep_state.proofs.Taken.{inside}
 
 -- at any operation
-module _ {program : Units} (known : AreRunning program) {cells : ℕ} {choices : List ℕ} {p : ℕ} {m : Snapshot} {line : ℕ} {o : Operation} (at : IsAtStep program cells choices p m line o) where
-  abbrev pub state : State
-  state = run program choices
+module _ {t : TurnOf} {line : ℕ} {o : Operation} (at : IsAtStep t line o) where
+  pub ahead-on-top : drop t.level.index (code_on_top t.program (top_before t)) ≡ Step line o ∷ at.behind
+  ahead-on-top = ap (λ u. drop t.level.index (unit_code t.program u)) (unit-is at.turning) ∙ at.ahead
 
-  -- the unit of its activation is its level's
-  pub caller-unit : unit_of state at.top.0.activation ≡ at.l.unit
-  caller-unit = unit-is at.turning
+  module _ (known : AreRunning t.program) where
+    pub runs : IsTopRunning t at.turning
+    runs = known.running t refl at.turning
 
-  pub runs : IsRunning program (top_after program choices p at.top) at.turning.after.layout (frame_under m.nodes at.l.key) m.arena.contents m.arena.holes at.operands at.l.index
-  runs = known.running cells choices m p at.l at.ls at.operands at.top at.turning
-
-  pub ahead-on-top : drop at.l.index (code_on_top program (top_after program choices p at.top)) ≡ Step line o ∷ at.behind
-  ahead-on-top = ap (λ u. drop at.l.index (unit_code program u)) caller-unit ∙ at.ahead
-
-  -- the caller
-  pub calls-so : IsCaller program state at.turning.after.layout m.arena.contents at.top.0.activation (frame_under m.nodes at.l.key)
-  calls-so =
-      let made = (standing-before at.turning).0.here.made in
-      let stacked = (are-on program choices p (at.top.0 ∷ at.top.1) (there at.turning)).1 in
-      record {
-        closed = known.closed;
-        unit = known.units choices at.top.0.activation made.0 made.1;
-        framed = runs.framed;
-        described = runs.described;
-        bound = known.bound choices at.top.0.activation made.0 made.1;
-        kept = at.turning.after.shows.kept at.top.0.activation stacked;
-      }
+    -- the caller
+    pub calls-so : IsCaller t.program (state_before t) at.turning.after.layout t.machine.arena.contents t.top.0.activation (top_frame t)
+    calls-so =
+        let made = (standing-before at.turning).0.here.made in
+        let stacked = (are-on t.program t.choices t.process (t.top.0 ∷ t.top.1) (there at.turning)).1 in
+        record {
+          closed = known.closed;
+          unit = known.units t.choices t.top.0.activation made.0 made.1;
+          framed = runs.framed;
+          described = runs.described;
+          bound = known.bound t.choices t.top.0.activation made.0 made.1;
+          kept = at.turning.after.shows.kept t.top.0.activation stacked;
+        }
 
 -- at a CALL or CREATE
-module _ {program : Units} (known : IsKnown program) {cells : ℕ} {choices : List ℕ} {p : ℕ} {m : Snapshot} (call : CallAhead) (at : IsAtCall program cells choices p m call) where
+module _ {t : TurnOf} (call : CallAhead) (at : IsAtCall t call) (known : IsKnown t.program) where
   abbrev old : State
-  old = run program choices
+  old = state_before t
 
   abbrev caller : ℕ
-  caller = at.top.0.activation
+  caller = t.top.0.activation
 
   abbrev top : Top
-  top = top_after program choices p at.top
+  top = top_before t
 
   -- what is called, and by which statement
-  pub calls : IsCallAhead call.creates program top at.operands call.unit call.count call.next at.behind
-  calls = known.ahead call.creates top at.turning.after.layout (frame_under m.nodes at.l.key) m.arena.contents m.arena.holes at.operands at.l.index call.line call.unit call.count call.next at.behind (runs known.running at) (ahead-on-top known.running at)
+  pub calls : IsCallAhead call.creates t.program top t.operands call.unit call.count call.next at.behind
+  calls =
+      known.ahead call.creates (running_top t at.turning) call.line call.unit call.count call.next at.behind (runs at known.running) (ahead-on-top at)
 
-  pub from : IsCalledBy (unit_at program (unit_of old caller)) at.top.0.statement calls.name calls.actuals
-  from = known.called call.creates (unit_at program (unit_of old caller)) at.top.0.statement at.top.0.work calls.name calls.actuals (known.works choices p at.top at.turning.lives) calls.does_so
+  pub from : IsCalledBy (unit_at t.program (unit_of old caller)) t.top.0.statement calls.name calls.actuals
+  from = known.called call.creates (unit_at t.program (unit_of old caller)) t.top.0.statement t.top.0.work calls.name calls.actuals (known.works t.choices t.process t.top at.turning.lives) calls.does_so
 
-  pub called-inside : call.unit < length program
-  called-inside = subst (λ u. u < length program) (sym calls.unit) (known.subroutine (unit_of old caller) at.top.0.statement calls.name calls.actuals from)
+  pub called-inside : call.unit < length t.program
+  called-inside = subst (λ u. u < length t.program) (sym calls.unit) (known.subroutine (unit_of old caller) t.top.0.statement calls.name calls.actuals from)
 
   -- it has as many dummy arguments as are passed
-  pub as-many : length calls.actuals ≡ length (dummies_of (unit_at program call.unit))
-  as-many = known.arguments (unit_of old caller) at.top.0.statement calls.name calls.actuals from ∙ ap (λ u. length (dummies_of (unit_at program u))) (sym calls.unit)
+  pub as-many : length calls.actuals ≡ length (dummies_of (unit_at t.program call.unit))
+  as-many = known.arguments (unit_of old caller) t.top.0.statement calls.name calls.actuals from ∙ ap (λ u. length (dummies_of (unit_at t.program u))) (sym calls.unit)
 
   -- what is passed, by the entries behind the CALL and the operands
   abbrev variables : Name → Variable
-  variables = variable_of program (unit_at program (unit_of old caller))
+  variables = variable_of t.program (unit_at t.program (unit_of old caller))
 
   pub passed-by : (P : List Array → List Passed → Type 0)
-      → P (arrays_at program old caller) (passed_from (length calls.actuals) (map (λ y. Pass (argument_of_actual variables y)) calls.actuals ++ calls.more) (flat_map operands_of_actual calls.actuals))
-      → P (unit_arrays program at.l.unit) (passed_from call.count at.behind at.operands)
+      → P (arrays_at t.program old caller) (passed_from (length calls.actuals) (map (λ y. Pass (argument_of_actual variables y)) calls.actuals ++ calls.more) (flat_map operands_of_actual calls.actuals))
+      → P (unit_arrays t.program t.level.unit) (passed_from call.count at.behind t.operands)
   passed-by P h =
-      let passed : passed_from (length calls.actuals) (map (λ y. Pass (argument_of_actual variables y)) calls.actuals ++ calls.more) (flat_map operands_of_actual calls.actuals) ≡ passed_from call.count at.behind at.operands =
+      let passed : passed_from (length calls.actuals) (map (λ y. Pass (argument_of_actual variables y)) calls.actuals ++ calls.more) (flat_map operands_of_actual calls.actuals) ≡ passed_from call.count at.behind t.operands =
       λ i. passed_from (sym calls.counted i) (sym calls.entries i) (sym calls.operands_are i) in
-      subst (P (unit_arrays program at.l.unit)) passed (subst (λ u. P (unit_arrays program u) (passed_from (length calls.actuals) (map (λ y. Pass (argument_of_actual variables y)) calls.actuals ++ calls.more) (flat_map operands_of_actual calls.actuals))) (caller-unit known.running at) h)
+      subst (P (unit_arrays t.program t.level.unit)) passed (subst (λ u. P (unit_arrays t.program u) (passed_from (length calls.actuals) (map (λ y. Pass (argument_of_actual variables y)) calls.actuals ++ calls.more) (flat_map operands_of_actual calls.actuals))) (unit-is at.turning) h)
 
 -- ---- actual arguments have storage units
 
@@ -170,67 +164,64 @@ pub record IsKnownToBind (program : Units) : Type 0 where
       → IsCaller program s layout contents a f → ArePlaced (variable_of program (unit_at program (unit_of s a))) actuals → length xs ≡ length actuals
       → AreGivenAs program s layout b xs actuals (given_by (cells_in contents) f.first (arrays_at program s a) (passed_from (length actuals) (map (λ y. Pass (argument_of_actual (variable_of program (unit_at program (unit_of s a))) y)) actuals ++ more) (flat_map operands_of_actual actuals))) (dummies_for (scope_of program s a) b xs actuals)
   -- of the step
-  pub made : (creates : Bool) (choices : List ℕ) (p : ℕ) (top : SourceLevel × SourceProcess) (x : Name) (actuals : List Actual) (b : Binding) → (run program choices).halted ≡ false → IsPassing program choices p top (unit_called program x) actuals b
-      → next_of (unit_at program (unit_of (run program choices) top.0.activation)) top.0.work ≡ does (made_by creates x actuals) → step program p (run program choices) ≡ Some (state_made creates program choices p top (unit_called program x) b)
-  pub faults : (creates : Bool) (t : Top) (layout : Layout) (f : Frame) (contents : List Slot) (holes : List Hole) (operands : List Value) (index line u count next : ℕ) (behind : List Instruction)
-      → IsRunning program t layout f contents holes operands index → drop index (code_on_top program t) ≡ Step line (making creates u count next) ∷ behind
-      → (ahead : IsCallAhead creates program t operands u count next behind) (k : Kind) → binding_of program t u ahead.actuals ≡ Err k → Simulates program t layout f holes contents (fails line k)
+  pub made : (creates : Bool) (t : TurnOf) (x : Name) (actuals : List Actual) (b : Binding) → (state_before t).halted ≡ false → IsPassing t.program t.choices t.process t.top (unit_called t.program x) actuals b
+      → next_of (unit_at t.program (unit_of (state_before t) t.top.0.activation)) t.top.0.work ≡ does (made_by creates x actuals) → step t.program t.process (state_before t) ≡ Some (state_made creates t (unit_called t.program x) b)
+  pub faults : (creates : Bool) (r : RunningTop) (line u count next : ℕ) (behind : List Instruction) → IsRunning r → code_ahead r ≡ Step line (making creates u count next) ∷ behind
+      → (ahead : IsCallAhead creates r.program r.top r.operands u count next behind) (k : Kind) → binding_of r.program r.top u ahead.actuals ≡ Err k → Simulates r (fails line k)
 
-module _ {program : Units} (all : IsKnownToBind program) {cells : ℕ} {choices : List ℕ} {p : ℕ} {m : Snapshot} (call : CallAhead) (at : IsAtCall program cells choices p m call) where
+module _ {t : TurnOf} (call : CallAhead) (at : IsAtCall t call) (all : IsKnownToBind t.program) where
   abbrev before : State
-  before = run program choices
+  before = state_before t
 
   abbrev layout : Layout
   layout = at.turning.after.layout
 
   abbrev pub actuals : List Actual
-  actuals = (calls all.known call at).actuals
+  actuals = (calls call at all.known).actuals
 
   abbrev xs : List Name
-  xs = dummies_of (unit_at program call.unit)
+  xs = dummies_of (unit_at t.program call.unit)
 
   abbrev bound : Result (List Dummy) Kind
-  bound = dummies_for (scope_of program before at.top.0.activation) (next_activation before) xs actuals
+  bound = dummies_for (scope_of t.program before t.top.0.activation) (next_activation before) xs actuals
 
   abbrev pub binding : Result Binding Kind
-  binding = binding_of program (top_after program choices p at.top) call.unit actuals
+  binding = binding_of t.program (top_before t) call.unit actuals
 
-  actuals-placed : ArePlaced (variable_of program (unit_at program (unit_of before at.top.0.activation))) actuals
+  actuals-placed : ArePlaced (variable_of t.program (unit_at t.program (unit_of before t.top.0.activation))) actuals
   actuals-placed =
-      let ahead = calls all.known call at in
-      let by = from all.known call at in
-      let u = unit_of before at.top.0.activation in
-      all-placed (variable_of program (unit_at program u)) actuals (λ j r e.
-      let dummy = there-too actuals xs j (referred r) (as-many all.known call at) e in
-      let named = subst (λ v. slice_get (dummies_of (unit_at program v)) j ≡ Some dummy.0) ahead.unit dummy.1 in
-      all.placed (unit_at program u) r.0 (all.fits u at.top.0.statement j ahead.name dummy.0 actuals (referred r) by named e).variable)
+      let ahead = calls call at all.known in
+      let by = from call at all.known in
+      let u = unit_of before t.top.0.activation in
+      all-placed (variable_of t.program (unit_at t.program u)) actuals (λ j r e.
+      let dummy = there-too actuals xs j (referred r) (as-many call at all.known) e in
+      let named = subst (λ v. slice_get (dummies_of (unit_at t.program v)) j ≡ Some dummy.0) ahead.unit dummy.1 in
+      all.placed (unit_at t.program u) r.0 (all.fits u t.top.0.statement j ahead.name dummy.0 actuals (referred r) by named e).variable)
 
   -- what they give is what the dummy arguments of the new activation stand for, or there is the same fault
-  given-as : AreGivenAs program before layout (next_activation before) xs actuals (given_of program m call at) bound
+  given-as : AreGivenAs t.program before layout (next_activation before) xs actuals (given_of call at) bound
   given-as =
-      let ahead = calls all.known call at in
-      let f = frame_under m.nodes at.l.key in
-      passed-by all.known call at (λ arrays passed. AreGivenAs program before layout (next_activation before) xs actuals (given_by (cells_in m.arena.contents) f.first arrays passed) bound) (
-      all.passed before layout m.arena.contents at.top.0.activation (next_activation before) f xs actuals ahead.more (calls-so all.known.running at) actuals-placed (sym (as-many all.known call at)))
+      let ahead = calls call at all.known in
+      let f = top_frame t in
+      passed-by call at all.known (λ arrays passed. AreGivenAs t.program before layout (next_activation before) xs actuals (given_by (cells_in t.machine.arena.contents) f.first arrays passed) bound) (
+      all.passed before layout t.machine.arena.contents t.top.0.activation (next_activation before) f xs actuals ahead.more (calls-so at all.known.running) actuals-placed (sym (as-many call at all.known)))
 
   -- ---- a fault
 
-  pub range-bound : (k : Kind) → given_of program m call at ≡ Err k → binding ≡ Err k
+  pub range-bound : (k : Kind) → given_of call at ≡ Err k → binding ≡ Err k
   range-bound k e =
-      ap (binding_with_shapes (unit_at program call.unit) (next_activation before) (with_actuals before.store (next_activation before) xs actuals)) (
-      same-fault program before layout (next_activation before) xs actuals (given_of program m call at) bound k given-as e)
+      ap (binding_with_shapes (unit_at t.program call.unit) (next_activation before) (with_actuals before.store (next_activation before) xs actuals)) (
+      same-fault t.program before layout (next_activation before) xs actuals (given_of call at) bound k given-as e)
 
-  pub fault-ends : (k : Kind) → binding ≡ Err k → IsEnding program cells choices p m (fails call.line k)
+  pub fault-ends : (k : Kind) → binding ≡ Err k → IsEnding t (fails call.line k)
   fault-ends k e =
-      let ahead = calls all.known call at in
-      let simulated =
-      all.faults call.creates (top_after program choices p at.top) layout (frame_under m.nodes at.l.key) m.arena.contents m.arena.holes at.operands at.l.index call.line call.unit call.count call.next at.behind
-      (runs all.known.running at) (ahead-on-top all.known.running at) ahead k e in
-      record { l = at.l; ls = at.ls; operands = at.operands; top = at.top; turning = at.turning; simulated = simulated }
+      let ahead = calls call at all.known in
+      let simulated = all.faults call.creates (running_top t at.turning) call.line call.unit call.count call.next at.behind (runs at all.known.running) (ahead-on-top at) ahead k e in
+      record { turning = at.turning; simulated = simulated }
 
   -- ---- none
 
-  abbrev memory : IsMemory program before layout m.arena.contents m.arena.holes
+  abbrev memory : IsMemory t.program before layout t.machine.arena.contents t.machine.arena.holes
   memory = at.turning.after.shows.keeps.memory
 
   -- the new activation has no frame yet
@@ -240,35 +231,31 @@ module _ {program : Units} (all : IsKnownToBind program) {cells : ℕ} {choices 
     by_frame None e = refl
     by_frame (Some f) e = absurd (omega (arith, (memory.laid.made (next_activation before) f e).1))
 
-  pub dummies-given : (gs : List Given) → given_of program m call at ≡ Ok gs → (ds : List Dummy) × (bound ≡ Ok ds) × AreGiven program before layout (next_activation before) xs actuals gs ds
-  dummies-given gs e = given-so program before layout (next_activation before) xs actuals (given_of program m call at) bound gs given-as e
+  pub dummies-given : (gs : List Given) → given_of call at ≡ Ok gs → (ds : List Dummy) × (bound ≡ Ok ds) × AreGiven t.program before layout (next_activation before) xs actuals gs ds
+  dummies-given gs e = given-so t.program before layout (next_activation before) xs actuals (given_of call at) bound gs given-as e
 
-  pub called-so : (gs : List Given) (shapes : List (Option Bounds)) (b : Binding) → given_of program m call at ≡ Ok gs → binding ≡ Ok b → AreShapesOf (unit_at program call.unit) b.dummies shapes
-      → IsMaking (state_made call.creates) program cells choices p m call.unit call.next gs shapes
+  pub called-so : (gs : List Given) (shapes : List (Option Bounds)) (b : Binding) → given_of call at ≡ Ok gs → binding ≡ Ok b → AreShapesOf (unit_at t.program call.unit) b.dummies shapes
+      → IsMaking call.creates t call.unit call.next gs shapes
   called-so gs shapes b e bound_so shaped =
-      let ahead = calls all.known call at in
+      let ahead = calls call at all.known in
       let dummies = dummies-given gs e in
-      let passing : IsPassing program choices p at.top call.unit actuals b =
+      let passing : IsPassing t.program t.choices t.process t.top call.unit actuals b =
       record {
         lives = at.turning.lives;
         bound = bound_so;
-        as_many = as-many all.known call at;
-        distinct = all.distinct call.unit (called-inside all.known call at);
+        as_many = as-many call at all.known;
+        distinct = all.distinct call.unit (called-inside call at all.known);
       } in
-      let step_so = all.made call.creates choices p at.top ahead.name actuals b at.turning.running (subst (λ u. IsPassing program choices p at.top u actuals b) ahead.unit passing) ahead.does_so in
+      let step_so = all.made call.creates t ahead.name actuals b at.turning.running (subst (λ u. IsPassing t.program t.choices t.process t.top u actuals b) ahead.unit passing) ahead.does_so in
       record {
-        l = at.l;
-        ls = at.ls;
-        operands = at.operands;
-        top = at.top;
         turning = at.turning;
         actuals = actuals;
-        b = b;
+        binding = b;
         passing = passing;
         shaped = shaped;
-        passed = all-passed program before layout (scope_of program before at.top.0.activation) (next_activation before) xs actuals gs dummies.0 dummies.1 dummies.2;
-        made = subst (λ u. step program p before ≡ Some (state_made call.creates program choices p at.top u b)) (sym ahead.unit) step_so;
-        after = subst (λ u. IsAfterCall program u at.top.0.statement call.next) (caller-unit all.known.running at) ahead.onward;
+        passed = all-passed t.program before layout (scope_of t.program before t.top.0.activation) (next_activation before) xs actuals gs dummies.0 dummies.1 dummies.2;
+        made = subst (λ u. step t.program t.process before ≡ Some (state_made call.creates t u b)) (sym ahead.unit) step_so;
+        after = subst (λ u. call.next ≡ ((table_of (unit_addressed t.program u)).flows t.top.0.statement).next) (unit-is at.turning) ahead.onward;
       }
 
 -- ---- what is read of a machine where a process is at a CALL, CREATE or PURGE, and what its entries and operands give by that
@@ -279,34 +266,38 @@ pub record IsRead (program : Units) (m : Machine) (p : ℕ) (q : Process) (entri
   pub behind : (l : Level) (ls : List Level) (before : List Value) → stack_of q ≡ stack_with l ls before → IsBehind program (nodes_of m.frames.nodes) l entries arrays frame
   pub operands : vs ≡ q.operands.items
 
-module _ {program : Units} {cells : ℕ} {choices : List ℕ} {p : ℕ} (m : Machine) {line : ℕ} {o : Operation} (at : IsAtStep program cells choices p (snapshot_of m) line o) where
-  pub unit-inside : at.l.unit < length program
-  unit-inside = inside at.turning
+module _ {program : Units} {cells : ℕ} {choices : List ℕ} {p : ℕ} (m : Machine) {line : ℕ} {o : Operation} (at : HoldsInTurn program cells choices p (snapshot_of m) (λ t. IsAtStep t line o)) where
+  pub unit-inside : at.levels.level.unit < length program
+  unit-inside = inside at.holds.turning
 
   pub can-read : {q : Process} → q ≡ get_or m.processes.items (p - 1) q
       → (l : Level) × (ls : List Level) × (operands : List Value) × (stack_of q ≡ stack_with l ls operands) × IsThere program (nodes_of m.frames.nodes) l × (l.index < length (unit_code program l.unit))
   can-read {q} is =
-      let code = unit_code program at.l.unit in
-      let there = process-at m.processes.items p at.turning.kept is in
-      (at.l, at.ls, at.operands, there.stack, (unit-inside, top-node at.turning), slice_get_within code at.l.index _ (dropped-first code at.l.index _ at.behind at.ahead))
+      let l = at.levels.level in
+      let code = unit_code program l.unit in
+      let there = process-at m.processes.items p at.levels.kept is in
+      (l, at.levels.below, at.levels.operands, there.stack, (unit-inside, top-node at.holds.turning), slice_get_within code l.index _ (dropped-first code l.index _ at.holds.behind at.holds.ahead))
 
 -- what is said of the frame, the arrays and the actual arguments of the caller is said of what was read
 module _ {program : Units} {cells : ℕ} {choices : List ℕ} {p : ℕ} {m : Machine} {line : ℕ} {o : Operation} {q : Process} {entries : List Instruction} {arrays : List Array} {frame : CellFrame} {operands : List Value}
-    (read : IsRead program m p q entries arrays frame operands) (count : ℕ) (at : IsAtStep program cells choices p (snapshot_of m) line o) where
-  stack : stack_of q ≡ stack_with at.l at.ls at.operands
-  stack = (process-at m.processes.items p at.turning.kept read.process).stack
+    (read : IsRead program m p q entries arrays frame operands) (count : ℕ) (at : HoldsInTurn program cells choices p (snapshot_of m) (λ t. IsAtStep t line o)) where
+  abbrev t : TurnOf
+  t = turn_of at
 
-  here : IsBehind program (nodes_of m.frames.nodes) at.l entries arrays frame
-  here = read.behind at.l at.ls at.operands stack
+  stack : stack_of q ≡ stack_with t.level t.below t.operands
+  stack = (process-at m.processes.items p at.levels.kept read.process).stack
 
-  passed-there : passed_from count entries operands ≡ passed_from count at.behind at.operands
+  here : IsBehind program (nodes_of m.frames.nodes) t.level entries arrays frame
+  here = read.behind t.level t.below t.operands stack
+
+  passed-there : passed_from count entries operands ≡ passed_from count at.holds.behind t.operands
   passed-there i =
-      passed_from count ((here.behind ∙ drop_one_more (unit_code program at.l.unit) at.l.index _ at.behind at.ahead) i) ((read.operands ∙ operands-are q at.l at.ls at.operands stack) i)
+      passed_from count ((here.behind ∙ drop_one_more (unit_code program t.level.unit) t.level.index _ at.holds.behind at.holds.ahead) i) ((read.operands ∙ operands-are q t.level t.below t.operands stack) i)
 
-  pub of-read : (P : CellFrame → List Array → List Passed → Type 0) → P (frame_in_arena (frame_under (nodes_of m.frames.nodes) at.l.key)) (unit_arrays program at.l.unit) (passed_from count at.behind at.operands)
+  pub of-read : (P : CellFrame → List Array → List Passed → Type 0) → P (frame_in_arena (top_frame (turn_of at))) (unit_arrays program at.levels.level.unit) (passed_from count at.holds.behind at.levels.operands)
       → P frame arrays (passed_from count entries operands)
   of-read P = carry (λ i. P (sym here.framed i) (sym here.arrays_are i) (sym passed-there i))
 
   pub found-read : {A : Type 0} (found : ℕ → List Array → List Passed → A) (r : A) → found frame.first arrays (passed_from count entries operands) ≡ r
-      → found (node_under (nodes_of m.frames.nodes) at.l.key).first (unit_arrays program at.l.unit) (passed_from count at.behind at.operands) ≡ r
+      → found (top_frame (turn_of at)).first (unit_arrays program at.levels.level.unit) (passed_from count at.holds.behind at.levels.operands) ≡ r
   found-read found r = carry (λ i. found (here.framed i).first (here.arrays_are i) (passed-there i) ≡ r)

@@ -15,7 +15,7 @@ use Rattle.hep_layout.proofs.Memory.{address-same, laid-same}
 use Rattle.hep_layout.proofs.FrameTree.{rest-held}
 use Rattle.hep_image.specs.declared.data.DataRow.{DataRow}
 use Rattle.hep_image.specs.Data.{AreOfUnits, AreInitial, first_frames, value_in_rows}
-use Rattle.hep_frames.specs.Keeping.{IsOpening, Keeps, IsUnused}
+use Rattle.hep_frames.specs.Keeping.{IsOpening, Keeps, IsUnused, frames_in}
 use Rattle.hep_step.specs.Simulation.{unit_addressed}
 use Rattle.hep_arena.specs.Space.{Space}
 use Rattle.hep_state.specs.Words.{IsEntered, IsGiven, snapshot_opened, unset_opening, IsStack, Stack, IsAfter, AreOut}
@@ -110,7 +110,7 @@ module _ (program : Units) (cells key entry : ℕ) (rows : List DataRow) (before
         let unit = units p v e in
         absurd (descriptor-apart program s (length before.contents) h.layout unit.0 a p c h.keeps.memory.laid (opening-address program cells h.layout h.laid unit.0 ∙ unit.1) here is)
 
-  keeps-opened : Keeps program t (is_stacked t) (λ a. nat_eq a 1) h.layout (descriptor_slots program t h.layout) after nodes
+  keeps-opened : Keeps (frames_in program t (λ a. nat_eq a 1) h.layout) after nodes
   keeps-opened =
       let k = h.keeps in
       record {
@@ -125,8 +125,8 @@ module _ (program : Units) (cells key entry : ℕ) (rows : List DataRow) (before
   held : (λ (a : ℕ). nat_eq a 1) ≡ is_held t
   held = λ i a. rest-held program [] (λ b. nat_eq b 1) nodes a (record { tree = keeps-opened.tree; wanted = keeps-opened.rest }) i
 
-  keeps-held : Keeps program t (is_stacked t) (is_held t) h.layout (descriptor_slots program t h.layout) after nodes
-  keeps-held = subst (λ out. Keeps program t (is_stacked t) out h.layout (descriptor_slots program t h.layout) after nodes) held keeps-opened
+  keeps-held : Keeps (frames_in program t (is_held t) h.layout) after nodes
+  keeps-held = subst (λ out. Keeps (frames_in program t out h.layout) after nodes) held keeps-opened
 
   module _ (inside : main_unit program < length program) (entry_is : entry ≡ entry_index (unit_addressed program (main_unit program))) where
     standing : AreStanding program t nodes [] (record { key = key; unit = main_unit program; index = entry } ∷ []) (entry_level (unit_at program (main_unit program)) 1 ∷ [])
@@ -178,14 +178,14 @@ pub unset-opens : (program : Units) → IsOpening program (unset_opening program
 unset-opens program = record { activations_are = refl; processes_are = refl; unset = λ at. refl }
 
 pub is-entered : (program : Units) (cells key : ℕ) (layout : Layout) (arena : Space) (nodes : Nodes) (node : FrameNode) → opening_layout program cells ≡ Some layout → length arena.contents ≡ cells
-    → Keeps program (unset_opening program) (is_stacked (unset_opening program)) (λ a. nat_eq a 1) layout (descriptor_slots program (unset_opening program) (first_frames program)) arena nodes → nodes key ≡ Some node → node.activation ≡ 1 → IsEntered program cells key arena nodes
+    → Keeps (record (frames_in program (unset_opening program) (λ a. nat_eq a 1) layout) { wanted = descriptor_slots program (unset_opening program) (first_frames program) }) arena nodes → nodes key ≡ Some node → node.activation ≡ 1 → IsEntered program cells key arena nodes
 is-entered program cells key layout arena nodes node laid size keeps there first =
     let s = unset_opening program in
     record {
       layout = layout;
       laid = laid;
       size = size;
-      keeps = subst (λ fs. Keeps program s (is_stacked s) (λ a. nat_eq a 1) layout (descriptor_slots program s fs) arena nodes) (sym (frames-first program cells layout laid)) keeps;
+      keeps = subst (λ fs. Keeps (record (frames_in program s (λ a. nat_eq a 1) layout) { wanted = descriptor_slots program s fs }) arena nodes) (sym (frames-first program cells layout laid)) keeps;
       node = node;
       there = there;
       first = first;

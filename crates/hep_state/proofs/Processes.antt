@@ -110,11 +110,11 @@ levels-by (x ∷ xs) n e =
     ap has-levels (reverse-append (x ∷ []) xs) ∙ (levels-append (reverse xs) x ∙ ap not (sym some))
 
 pub some-levels-of : (qs : List Process) (p : ℕ) (q : Process) → numbered (map stack_of qs) p ≡ Some (stack_of q) → has-levels (reverse q.levels.items) ≡ true
-    → (l : Level) × (ls : List Level) × (operands : List Value) × (numbered (map stack_of qs) p ≡ Some (stack_with l ls operands))
+    → (l : Level) × (ls : List Level) × (numbered (map stack_of qs) p ≡ Some (stack_with l ls q.operands.items))
 some-levels-of qs p q there some = by_levels (reverse q.levels.items) refl some where
-  by_levels : (ks : List Level) → reverse q.levels.items ≡ ks → has-levels ks ≡ true → (l : Level) × (ls : List Level) × (operands : List Value) × (numbered (map stack_of qs) p ≡ Some (stack_with l ls operands))
+  by_levels : (ks : List Level) → reverse q.levels.items ≡ ks → has-levels ks ≡ true → (l : Level) × (ls : List Level) × (numbered (map stack_of qs) p ≡ Some (stack_with l ls q.operands.items))
   by_levels [] e h = absurd cc
-  by_levels (l ∷ ls) e h = (l, ls, q.operands.items, there ∙ (λ i. Some (record { levels = e i; operands = q.operands.items })))
+  by_levels (l ∷ ls) e h = (l, ls, there ∙ (λ i. Some (record { levels = e i; operands = q.operands.items })))
 
 -- ---- room for operands
 

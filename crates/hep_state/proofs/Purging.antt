@@ -2,10 +2,9 @@
 use Rattle.std.proofs.Common.{◌≡◌, ℕ, suc, ◌+◌, ◌<◌, true, false, List, [], ◌∷◌, length, Option, Some, None, refl, sym, ap, ◌∙◌, subst, true≢false, arith, Result, Ok, Err, slice_get}
 use Rattle.std.specs.Option.{unwrap_or}
 use Rattle.std.proofs.lemmas.Option.{none-some, same_Some, slice_get-get_or, slice_get_within}
-use Rattle.hep_machine.specs.Words.{Value, Units, purged_cell, unset_cell, Layout, is_held, layout_of, unit_of, run, Location, Process, State, state_with_store}
+use Rattle.hep_machine.specs.Words.{purged_cell, unset_cell, Layout, is_held, layout_of, Location, State, state_with_store}
 use Rattle.hep_machine.specs.declared.event.Kind.{Kind}
 use Rattle.hep_machine.specs.declared.slot.Slot.{Slot}
-use Rattle.hep_machine.specs.State.{Level as SourceLevel}
 use Rattle.hep_arena.specs.Holes.{IsOut}
 use Rattle.hep_arena.specs.Space.{Space}
 use Rattle.hep_code.specs.declared.instruction.Argument.TheVariants.{Referred}
@@ -24,12 +23,10 @@ use Rattle.hep_purging.specs.Purged.{effect_of_purge, effect_of_ranges, have_cel
 use Rattle.hep_purging.specs.Ranges.{ranges_of}
 use Rattle.hep_purging.specs.Ready.{AreReached}
 use Rattle.hep_step.specs.Effects.{Effect, fails, moves}
-use Rattle.hep_step.specs.Simulation.{Simulates, arrays_on_top, unit_arrays}
+use Rattle.hep_step.specs.Simulation.{arrays_on_top, unit_arrays}
 use Rattle.hep_state.specs.declared.upcoming.PurgeAhead.{PurgeAhead}
-use Rattle.hep_state.specs.declared.machine.Level.{Level}
-use Rattle.hep_state.specs.Words.{IsAtPurge, ranges_ahead, AreRunning, HasPurged, node_under, Snapshot, IsEnding, IsTurning, frame_under, snapshot_moved, top_after, HasGaps, HasStepped}
-use Rattle.hep_state.proofs.Callers.{caller-unit}
-use Rattle.hep_state.proofs.Moved.{moved-shown, next-is}
+use Rattle.hep_state.specs.Words.{IsAtPurge, ranges_ahead, HasPurged, IsEffectOf, IsEnding, IsTurning, TurnOf, snapshot_moved, state_before, top_before, top_frame, HasGaps, HasMadeTurn}
+use Rattle.hep_state.proofs.Moved.{moved-shown, next-is, unit-is}
 use Rattle.hep_state.proofs.Taken.{inside}
 use Rattle.hep_state.proofs.Tops.{dropped-behind}
 
@@ -63,84 +60,81 @@ reached-alike a b (r ∷ rs) size holes h =
 
 -- ---- its step
 
-module _ {program : Units} {cells : ℕ} {choices : List ℕ} {p : ℕ} {m : Snapshot} {l : Level} {ls : List Level} {vs : List Value} {top : SourceLevel × Process} (turning : IsTurning program cells choices m p l ls vs top) where
+module _ {t : TurnOf} (turning : IsTurning t) where
   abbrev old : State
-  old = run program choices
+  old = state_before t
 
   abbrev Does : Effect → Type 0
-  Does effect = Simulates program (top_after program choices p top) turning.after.layout (frame_under m.nodes l.key) m.arena.holes m.arena.contents effect
+  Does = IsEffectOf t turning
 
-  same-layout : (layout : Layout) → layout_of program cells is_held choices ≡ Some layout → turning.after.layout ≡ layout
+  same-layout : (layout : Layout) → layout_of t.program t.cells is_held t.choices ≡ Some layout → turning.after.layout ≡ layout
   same-layout layout laid = same_Some turning.after.layout layout (sym turning.after.laid ∙ laid)
 
   -- a fault empties nothing
-  pub nothing-purged : (line : ℕ) (kind : Kind) → Does (fails line kind) → HasPurged program cells choices p []
+  pub nothing-purged : (line : ℕ) (kind : Kind) → Does (fails line kind) → HasPurged t.program t.cells t.choices t.process []
   nothing-purged line kind sim =
       let next = next-is turning _ sim.0 in
       record { emptied = λ layout at c laid found e. absurd (true≢false (sym e)); others = λ layout at c laid found e. ap (λ (s : State). (s.store at).full) next }
 
   -- the cells of ranges are emptied
-  module _ (within : Within) (elsewhere : Elsewhere) (same : SameLength) (ranges : List ClosedRange) (index : ℕ) (sim : Does (moves (purged ranges m.arena.contents) [] index)) where
+  module _ (within : Within) (elsewhere : Elsewhere) (same : SameLength) (ranges : List ClosedRange) (index : ℕ) (sim : Does (moves (purged ranges t.machine.arena.contents) [] index)) where
     abbrev after : State
-    after = state_with_store (top_after program choices p top) sim.0 sim.1
+    after = state_with_store (top_before t) sim.0 sim.1
 
-    holds-after : (at : Location) (c : ℕ) → address program old turning.after.layout at ≡ Some c → cells_in (purged ranges m.arena.contents) c ≡ after.store at
-    holds-after at c found = ap (λ (z : Option Slot). unwrap_or z unset_cell) (sim.3.memory.holds at c (address-same program old after turning.after.layout at refl ∙ found))
+    holds-after : (at : Location) (c : ℕ) → address t.program old turning.after.layout at ≡ Some c → cells_in (purged ranges t.machine.arena.contents) c ≡ after.store at
+    holds-after at c found = ap (λ (z : Option Slot). unwrap_or z unset_cell) (sim.3.memory.holds at c (address-same t.program old after turning.after.layout at refl ∙ found))
 
-    holds-before : (at : Location) (c : ℕ) → address program old turning.after.layout at ≡ Some c → cells_in m.arena.contents c ≡ old.store at
+    holds-before : (at : Location) (c : ℕ) → address t.program old turning.after.layout at ≡ Some c → cells_in t.machine.arena.contents c ≡ old.store at
     holds-before at c found = ap (λ (z : Option Slot). unwrap_or z unset_cell) (turning.after.shows.keeps.memory.holds at c found)
 
-    pub ranges-purged : HasPurged program cells choices p ranges
+    pub ranges-purged : HasPurged t.program t.cells t.choices t.process ranges
     ranges-purged =
         record {
           emptied = λ layout at c laid found e.
-              let here = subst (λ (fs : Layout). address program old fs at ≡ Some c) (sym (same-layout layout laid)) found in
-              ap (λ (s : State). (s.store at).full) (next-is turning after sim.2) ∙ (ap (λ (slot : Slot). slot.full) (sym (holds-after at c here)) ∙ cell-emptied within same ranges m.arena.contents c e);
+              let here = subst (λ (fs : Layout). address t.program old fs at ≡ Some c) (sym (same-layout layout laid)) found in
+              ap (λ (s : State). (s.store at).full) (next-is turning after sim.2) ∙ (ap (λ (slot : Slot). slot.full) (sym (holds-after at c here)) ∙ cell-emptied within same ranges t.machine.arena.contents c e);
           others = λ layout at c laid found e.
-              let here = subst (λ (fs : Layout). address program old fs at ≡ Some c) (sym (same-layout layout laid)) found in
+              let here = subst (λ (fs : Layout). address t.program old fs at ≡ Some c) (sym (same-layout layout laid)) found in
               ap (λ (s : State). (s.store at).full) (next-is turning after sim.2)
               ∙ (ap (λ (slot : Slot). slot.full) (sym (holds-after at c here))
-              ∙ (ap (λ (z : Option Slot). (unwrap_or z unset_cell).full) (elsewhere ranges m.arena.contents c e)
+              ∙ (ap (λ (z : Option Slot). (unwrap_or z unset_cell).full) (elsewhere ranges t.machine.arena.contents c e)
               ∙ ap (λ (slot : Slot). slot.full) (holds-before at c here)));
         }
 
-    pub ranges-stepped : HasStepped program cells choices p (snapshot_moved m p l ls (purged ranges m.arena.contents) [] index)
-    ranges-stepped = moved-shown turning (purged ranges m.arena.contents) [] index (same ranges m.arena.contents) sim
+    pub ranges-stepped : HasMadeTurn t (snapshot_moved t (purged ranges t.machine.arena.contents) [] index)
+    ranges-stepped = moved-shown turning (purged ranges t.machine.arena.contents) [] index (same ranges t.machine.arena.contents) sim
 
 -- ---- the PURGE that is ahead
 
-module _ {program : Units} (known : AreRunning program) {cells : ℕ} {choices : List ℕ} {p : ℕ} {m : Snapshot} (purge : PurgeAhead) (at : IsAtPurge program cells choices p m purge) where
-  abbrev unit-here : unit_of (run program choices) at.top.0.activation ≡ at.l.unit
-  unit-here = caller-unit known at
-
+module _ {t : TurnOf} (purge : PurgeAhead) (at : IsAtPurge t purge) where
   -- what is so of the arrays of its unit
-  pub of-arrays : (P : List Array → Type 0) → P (arrays_on_top program (top_after program choices p at.top)) → P (unit_arrays program at.l.unit)
-  of-arrays P = subst (λ u. P (unit_arrays program u)) unit-here
+  pub of-arrays : (P : List Array → Type 0) → P (arrays_on_top t.program (top_before t)) → P (unit_arrays t.program t.level.unit)
+  of-arrays P = subst (λ u. P (unit_arrays t.program u)) (unit-is at.turning)
 
   -- the variables of its entries have storage units
-  pub entries-placed : ((i : ℕ) (x : Instruction) → at.l.unit < length program → slice_get (code_in program at.l.unit) i ≡ Some x → ArePlaced (variables_in x)) → AreEntriesPlaced purge.count at.behind
+  pub entries-placed : ((i : ℕ) (x : Instruction) → t.level.unit < length t.program → slice_get (code_in t.program t.level.unit) i ≡ Some x → ArePlaced (variables_in x)) → AreEntriesPlaced purge.count at.behind
   entries-placed placed i n x less is =
-      let there = dropped-behind (code_in program at.l.unit) at.l.index i _ at.behind (Pass (Referred x n)) at.ahead is in
-      placed (suc (at.l.index + i)) (Pass (Referred x n)) (inside at.turning) there 0 x refl
+      let there = dropped-behind (code_in t.program t.level.unit) t.level.index i _ at.behind (Pass (Referred x n)) at.ahead is in
+      placed (suc (t.level.index + i)) (Pass (Referred x n)) (inside at.turning) there 0 x refl
 
   abbrev Doing : Effect → Type 0
-  Doing effect = Simulates program (top_after program choices p at.top) at.turning.after.layout (frame_under m.nodes at.l.key) m.arena.holes m.arena.contents effect
+  Doing = IsEffectOf t at.turning
 
   -- what it does, by what its targets name
-  pub does-so : Doing (effect_of_purge (arrays_on_top program (top_after program choices p at.top)) (node_under m.nodes at.l.key).first purge.line purge.next (passed_from purge.count at.behind at.operands) m.arena.contents)
-      → (r : Result (List ClosedRange) Kind) → ranges_ahead program m purge at ≡ r → Doing (effect_of_ranges purge.line purge.next m.arena.contents r)
+  pub does-so : Doing (effect_of_purge (arrays_on_top t.program (top_before t)) (top_frame t).first purge.line purge.next (passed_from purge.count at.behind t.operands) t.machine.arena.contents)
+      → (r : Result (List ClosedRange) Kind) → ranges_ahead purge at ≡ r → Doing (effect_of_ranges purge.line purge.next t.machine.arena.contents r)
   does-so sim r e =
-      subst (λ (q : Result (List ClosedRange) Kind). Doing (effect_of_ranges purge.line purge.next m.arena.contents q))
-      (ap (λ u. ranges_of (cells_in m.arena.contents) (node_under m.nodes at.l.key).first (unit_arrays program u) (passed_from purge.count at.behind at.operands)) unit-here ∙ e) sim
+      subst (λ (q : Result (List ClosedRange) Kind). Doing (effect_of_ranges purge.line purge.next t.machine.arena.contents q))
+      (ap (λ u. ranges_of (cells_in t.machine.arena.contents) (top_frame t).first (unit_arrays t.program u) (passed_from purge.count at.behind t.operands)) (unit-is at.turning) ∙ e) sim
 
-  pub fault-ends : (kind : Kind) → Doing (fails purge.line kind) → IsEnding program cells choices p m (fails purge.line kind)
-  fault-ends kind sim = record { l = at.l; ls = at.ls; operands = at.operands; top = at.top; turning = at.turning; simulated = sim }
+  pub fault-ends : (kind : Kind) → Doing (fails purge.line kind) → IsEnding t (fails purge.line kind)
+  fault-ends kind sim = record { turning = at.turning; simulated = sim }
 
   -- each frame has its gap then
-  pub gaps-there : ((kind : Kind) → IsEnding program cells choices p m (fails purge.line kind) → HasGaps program cells choices p)
-      → ((ranges : List ClosedRange) → ranges_ahead program m purge at ≡ Ok ranges → HasStepped program cells choices p (snapshot_moved m p at.l at.ls (purged ranges m.arena.contents) [] purge.next))
-      → ((kind : Kind) → ranges_ahead program m purge at ≡ Err kind → IsEnding program cells choices p m (fails purge.line kind)) → HasGaps program cells choices p
-  gaps-there by_fault by_step ends = by_ranges (ranges_ahead program m purge at) refl where
-    by_ranges : (r : Result (List ClosedRange) Kind) → ranges_ahead program m purge at ≡ r → HasGaps program cells choices p
+  pub gaps-there : ((kind : Kind) → IsEnding t (fails purge.line kind) → HasGaps t.program t.cells t.choices t.process)
+      → ((ranges : List ClosedRange) → ranges_ahead purge at ≡ Ok ranges → HasMadeTurn t (snapshot_moved t (purged ranges t.machine.arena.contents) [] purge.next))
+      → ((kind : Kind) → ranges_ahead purge at ≡ Err kind → IsEnding t (fails purge.line kind)) → HasGaps t.program t.cells t.choices t.process
+  gaps-there by_fault by_step ends = by_ranges (ranges_ahead purge at) refl where
+    by_ranges : (r : Result (List ClosedRange) Kind) → ranges_ahead purge at ≡ r → HasGaps t.program t.cells t.choices t.process
     by_ranges (Ok ranges) e none = none-some _ (sym none ∙ (by_step ranges e).after.laid)
     by_ranges (Err kind) e none = by_fault kind (ends kind e) none

@@ -7,14 +7,15 @@ use Rattle.std.proofs.lemmas.Bool.Decides.{nat_tests}
 use Rattle.hep_machine.specs.Words.{Units, IsSameOrOneMore, Frame, Layout, Placing, common_cells, frame_of, is_held, layout_after_step, layout_after_turn, layout_of, layout_with_activation, lowest_gap, opening_layout, placing_from, placing_turn, remaining_layout, with_frame, opening, run, run_from, state_after_turn, State, Process, step, numbered, with_numbered}
 use Rattle.hep_machine.proofs.Others.{activations_after, other_numbered}
 use Rattle.hep_arena.specs.Gaps.{frame_among}
-use Rattle.hep_layout.specs.Words.{frame_from, descriptor_slots, IsAtRest, is_stacked, FrameNode, Nodes}
+use Rattle.hep_layout.specs.Words.{frame_from, IsAtRest, is_stacked, FrameNode, Nodes}
 use Rattle.hep_layout.proofs.HeldFrames.{run-last}
-use Rattle.hep_frames.specs.Keeping.{frames_of, Keeps}
+use Rattle.hep_frames.specs.Keeping.{frames_of, Keeps, frames_in}
 use Rattle.std.proofs.lemmas.Option.{same_Some, none-some}
 use Rattle.hep_arena.specs.Space.{Space}
 use Rattle.hep_layout_laws.specs.Bound.{AreKept}
 use Rattle.hep_layout.proofs.FrameTree.{rest-held}
-use Rattle.hep_state.specs.Words.{IsStack, Shows, Snapshot, Stack, HasStepped}
+use Rattle.hep_state.specs.Words.{HasMadeTurn, HoldsInTurn, IsStack, IsTurning, Shows, Snapshot, Stack, TurnOf, state_before}
+use Rattle.hep_layout.proofs.Stacks.{top-numbered}
 use Rattle.hep_state.proofs.Standing.{AreOn, are-on, AreMade, AreStanding, stack-again, stack-standing, standing-still}
 use Rattle.hep_entering.proofs.Calls.{set-numbered}
 
@@ -152,41 +153,53 @@ pub from-one : {A : Type 0} (xs : List A) (p : ℕ) (x : A) → numbered xs p �
 from-one xs zero x e = absurd (none-some x e)
 from-one xs (suc i) x e = omega arith
 
-module _ (program : Units) (cells : ℕ) (choices : List ℕ) (p : ℕ) (t : State) (next : run program (choices ++ p ∷ []) ≡ t) where
-  -- ---- of runs
+-- ---- a turn
 
-  on-after : (n : ℕ) (q : Process) → numbered t.processes n ≡ Some q → AreOn t q
-  on-after n q = subst (λ (z : State). numbered z.processes n ≡ Some q → AreOn z q) next (are-on program (choices ++ p ∷ []) n q)
+-- its process
+pub there : {t : TurnOf} → IsTurning t → numbered (state_before t).processes t.process ≡ Some (t.top.0 ∷ t.top.1)
+there {t} h = top-numbered (state_before t) t.process t.top h.lives
 
-  module _ (layout : Layout) (out : ℕ → Bool) (arena : Space) (nodes : Nodes) (keeps : Keeps program t (is_stacked t) out layout (descriptor_slots program t layout) arena nodes) where
-    pub held-after : (a : ℕ) → out a ≡ is_held t a
+-- what is so in it is so in the turn of that process
+pub in-turn : {t : TurnOf} → IsTurning t → (IsSo : TurnOf → Type 0) → IsSo t → HoldsInTurn t.program t.cells t.choices t.process t.machine IsSo
+in-turn {t} h IsSo so = record { levels = record { level = t.level; below = t.below; operands = t.operands; kept = h.kept }; top = t.top; holds = so }
+
+-- where its step leads to a state
+module _ (t : TurnOf) (later : State) (made : step t.program t.process (state_before t) ≡ Some later) where
+  pub next : run t.program (t.choices ++ t.process ∷ []) ≡ later
+  next = turned t.program t.choices t.process later made
+
+  on-after : (n : ℕ) (q : Process) → numbered later.processes n ≡ Some q → AreOn later q
+  on-after n q = subst (λ (s : State). numbered s.processes n ≡ Some q → AreOn s q) next (are-on t.program (t.choices ++ t.process ∷ []) n q)
+
+  module _ (layout : Layout) (out : ℕ → Bool) (arena : Space) (nodes : Nodes) (keeps : Keeps (frames_in t.program later out layout) arena nodes) where
+    pub held-after : (a : ℕ) → out a ≡ is_held later a
     held-after a =
-        subst (λ (z : State). IsAtRest z out nodes → out a ≡ is_held z a) next (rest-held program (choices ++ p ∷ []) out nodes a) (record { tree = keeps.tree; wanted = keeps.rest })
+        subst (λ (s : State). IsAtRest s out nodes → out a ≡ is_held s a) next (rest-held t.program (t.choices ++ t.process ∷ []) out nodes a) (record { tree = keeps.tree; wanted = keeps.rest })
 
-    pub keeps-after : Keeps program t (is_stacked t) (is_held t) layout (descriptor_slots program t layout) arena nodes
-    keeps-after = subst (λ test. Keeps program t (is_stacked t) test layout (descriptor_slots program t layout) arena nodes) (λ i a. held-after a i) keeps
+    keeps-after : Keeps (frames_in t.program later (is_held later) layout) arena nodes
+    keeps-after = subst (λ test. Keeps (frames_in t.program later test layout) arena nodes) (λ i a. held-after a i) keeps
 
-    pub remaining-after : (before : Layout) → frames_of out before ≡ remaining_layout is_held t before
+    pub remaining-after : (before : Layout) → frames_of out before ≡ remaining_layout is_held later before
     remaining-after before = ap (λ (test : ℕ → Bool). filter (λ (f : Frame). test f.activation) before) (λ i a. held-after a i)
 
     -- nothing leaves the layout
-    pub all-remain : Some (remaining_layout is_held t layout) ≡ Some layout
+    pub all-remain : Some (remaining_layout is_held later layout) ≡ Some layout
     all-remain = ap (λ (fs : Layout). Some fs) (sym (remaining-after layout) ∙ frames-all out layout keeps.frames_are)
 
   -- ---- the state is shown, and a step was made
 
-  module _ (new : Snapshot) (layout : Layout) (out : ℕ → Bool) (keeps : Keeps program t (is_stacked t) out layout (descriptor_slots program t layout) new.arena new.nodes)
-      (kept : (a : ℕ) → is_stacked t a ≡ true → AreKept program t layout a) (count : length new.processes ≡ length t.processes)
-      (standing : (n : ℕ) (k : Stack) (q : Process) → numbered new.processes n ≡ Some k → numbered t.processes n ≡ Some q → AreOn t q → AreStanding program t new.nodes k.operands k.levels q) where
-    stacks : (n : ℕ) (k : Stack) (q : Process) → numbered new.processes n ≡ Some k → numbered t.processes n ≡ Some q → IsStack program t new.arena.contents new.nodes k q
+  module _ (new : Snapshot) (layout : Layout) (out : ℕ → Bool) (keeps : Keeps (frames_in t.program later out layout) new.arena new.nodes)
+      (kept : (a : ℕ) → is_stacked later a ≡ true → AreKept t.program later layout a) (count : length new.processes ≡ length later.processes)
+      (standing : (n : ℕ) (k : Stack) (q : Process) → numbered new.processes n ≡ Some k → numbered later.processes n ≡ Some q → AreOn later q → AreStanding t.program later new.nodes k.operands k.levels q) where
+    stacks : (n : ℕ) (k : Stack) (q : Process) → numbered new.processes n ≡ Some k → numbered later.processes n ≡ Some q → IsStack t.program later new.arena.contents new.nodes k q
     stacks n k q there here =
         let on = on-after n q here in
-        stack-again program t new.nodes new.arena.contents layout keeps.described keeps.framed k q (standing n k q there here on) on
+        stack-again t.program later new.nodes new.arena.contents layout keeps.described keeps.framed k q (standing n k q there here on) on
 
-    pub stepped-after : step program p (run program choices) ≡ Some t → layout_of program cells is_held (choices ++ p ∷ []) ≡ Some layout → length new.arena.contents ≡ cells
-        → new.activations ≡ length t.activations → new.records ≡ t.records → new.faults ≡ t.faults → new.halted ≡ t.halted → HasStepped program cells choices p new
-    stepped-after made laid size activations records faults halted =
-        let shows : Shows program t layout new =
+    pub stepped-after : layout_of t.program t.cells is_held (t.choices ++ t.process ∷ []) ≡ Some layout → length new.arena.contents ≡ t.cells
+        → new.activations ≡ length later.activations → new.records ≡ later.records → new.faults ≡ later.faults → new.halted ≡ later.halted → HasMadeTurn t new
+    stepped-after laid size activations records faults halted =
+        let shows : Shows t.program later layout new =
         record {
           keeps = keeps-after layout out new.arena new.nodes keeps;
           kept = kept;
@@ -198,27 +211,33 @@ module _ (program : Units) (cells : ℕ) (choices : List ℕ) (p : ℕ) (t : Sta
           halted = halted;
         } in
         record {
-          stepped = λ none. none-some t (sym none ∙ made);
-          after = record { layout = layout; laid = laid; size = size; shows = subst (λ (z : State). Shows program z layout new) (sym next) shows };
+          stepped = λ none. none-some later (sym none ∙ made);
+          after = record { layout = layout; laid = laid; size = size; shows = subst (λ (s : State). Shows t.program s layout new) (sym next) shows };
         }
 
--- ---- one process has another stack
+-- ---- its process has another stack
 
-module _ (program : Units) (s t : State) (layout : Layout) (m : Snapshot) (nodes : Nodes) (shows : Shows program s layout m) (p : ℕ) (old k : Stack) (before q : Process)
-    (kept : numbered m.processes p ≡ Some old) (there : numbered s.processes p ≡ Some before) (made : AreMade s t)
-    (stay : (key : ℕ) (n : FrameNode) → m.nodes key ≡ Some n → is_stacked t n.activation ≡ true → (l : FrameNode) × (nodes key ≡ Some l) × (l.activation ≡ n.activation))
-    (top : AreOn t q → AreStanding program t nodes k.operands k.levels q) where
-  pub standing-changed : (n : ℕ) (j : Stack) (r : Process) → numbered (with_numbered m.processes p k) n ≡ Some j → numbered (with_numbered s.processes p q) n ≡ Some r → AreOn t r → AreStanding program t nodes j.operands j.levels r
-  standing-changed n j r here on-it on = by_number (nat_eq p n) refl where
-    by_number : (b : Bool) → nat_eq p n ≡ b → AreStanding program t nodes j.operands j.levels r
+module _ {t : TurnOf} (h : IsTurning t) (later : State) (nodes : Nodes) (k : Stack) (q : Process) (made : AreMade (state_before t) later)
+    (stay : (key : ℕ) (n : FrameNode) → t.machine.nodes key ≡ Some n → is_stacked later n.activation ≡ true → (l : FrameNode) × (nodes key ≡ Some l) × (l.activation ≡ n.activation))
+    (top : AreOn later q → AreStanding t.program later nodes k.operands k.levels q) where
+  abbrev stacks-before : List Stack
+  stacks-before = t.machine.processes
+
+  abbrev processes-before : List Process
+  processes-before = (state_before t).processes
+
+  pub standing-changed : (n : ℕ) (j : Stack) (r : Process) → numbered (with_numbered t.machine.processes t.process k) n ≡ Some j → numbered (with_numbered (state_before t).processes t.process q) n ≡ Some r → AreOn later r
+      → AreStanding t.program later nodes j.operands j.levels r
+  standing-changed n j r here on-it on = by_number (nat_eq t.process n) refl where
+    by_number : (b : Bool) → nat_eq t.process n ≡ b → AreStanding t.program later nodes j.operands j.levels r
     by_number true e =
-        let number = eqb-true p n e in
-        let stack : k ≡ j = same_Some k j (sym (set-numbered m.processes p old k kept) ∙ ap (numbered (with_numbered m.processes p k)) number ∙ here) in
-        let process : q ≡ r = same_Some q r (sym (set-numbered s.processes p before q there) ∙ ap (numbered (with_numbered s.processes p q)) number ∙ on-it) in
-        subst (λ (x : Stack). AreStanding program t nodes x.operands x.levels r) stack (subst (λ z. AreStanding program t nodes k.operands k.levels z) process (top (subst (AreOn t) (sym process) on)))
+        let number = eqb-true t.process n e in
+        let stack : k ≡ j = same_Some k j (sym (set-numbered stacks-before t.process _ k h.kept) ∙ ap (numbered (with_numbered stacks-before t.process k)) number ∙ here) in
+        let process : q ≡ r = same_Some q r (sym (set-numbered processes-before t.process _ q (there h)) ∙ ap (numbered (with_numbered processes-before t.process q)) number ∙ on-it) in
+        subst (λ (x : Stack). AreStanding t.program later nodes x.operands x.levels r) stack (subst (λ z. AreStanding t.program later nodes k.operands k.levels z) process (top (subst (AreOn later) (sym process) on)))
     by_number false e =
-        let other = eqb-false p n e in
-        let one = from-one s.processes p before there in
-        let kept-here = sym (other_numbered m.processes p n k one other) ∙ here in
-        let kept-there = sym (other_numbered s.processes p n q one other) ∙ on-it in
-        standing-still program s t m.nodes nodes made stay j.operands j.levels r (stack-standing program s m.nodes m.arena.contents j r (shows.stacks n j r kept-here kept-there)) on
+        let other = eqb-false t.process n e in
+        let one = from-one processes-before t.process _ (there h) in
+        let kept-here = sym (other_numbered stacks-before t.process n k one other) ∙ here in
+        let kept-there = sym (other_numbered processes-before t.process n q one other) ∙ on-it in
+        standing-still t.program (state_before t) later t.machine.nodes nodes made stay j.operands j.levels r (stack-standing t.program (state_before t) t.machine.nodes t.machine.arena.contents j r (h.after.shows.stacks n j r kept-here kept-there)) on

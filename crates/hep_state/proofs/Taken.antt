@@ -2,9 +2,8 @@
 use Rattle.std.proofs.Common.{◌≡◌, ℕ, ◌+◌, ◌<◌, ◌≤◌, Bool, true, false, List, [], ◌∷◌, ◌++◌, drop, length, Option, Some, None, refl, sym, ap, ◌∙◌, subst, arith, true≢false, ◌≢◌, if◌then◌else◌, slice_get}
 use Rattle.std.specs.Option.{unwrap_or}
 use Rattle.std.proofs.lemmas.Option.{same_Some, none-some}
-use Rattle.hep_machine.specs.Words.{Value, Units, unit_at, unset_cell, Layout, is_held, layout_of, unit_of, run, state_after_turn, Location, State, Store, step, Top, Wanted, state_made, step_result_of, waiting, is_purge}
+use Rattle.hep_machine.specs.Words.{unit_at, unset_cell, Layout, is_held, layout_of, unit_of, run, state_after_turn, Location, State, Store, step, Top, Wanted, state_made, step_result_of, waiting, is_purge}
 use Rattle.hep_machine.specs.declared.slot.Slot.{Slot}
-use Rattle.hep_machine.specs.State.{Level as SourceLevel, Process as SourceProcess}
 use Rattle.hep_code.specs.Words.{IsPastPushes, values_ahead, deepest}
 use Rattle.hep_code.proofs.Depths.{room_for}
 use Rattle.hep_layout_laws.specs.Within.{ArePlacedArrays}
@@ -19,14 +18,13 @@ use Rattle.hep_step.specs.Effects.{effect_at, fails, moves, prints, returns, sto
 use Rattle.hep_step.specs.Performed as performed
 use Rattle.hep_step.specs.Performed.{performed as done, snapshot, state_named}
 use Rattle.hep_step.specs.Ready.{IsReady, frame_in_arena}
-use Rattle.hep_step.specs.Simulation.{IsNotLeftOut, IsRunning, Simulates, unit_addressed, unit_arrays, unit_code, addressed_on_top, arrays_on_top, code_on_top, is_left_out}
+use Rattle.hep_step.specs.Simulation.{IsNotLeftOut, unit_addressed, unit_arrays, unit_code, addressed_on_top, arrays_on_top, code_on_top, is_left_out}
 use Rattle.hep_step.proofs.Operations.{operation_simulated}
 use Rattle.hep_step.proofs.Ready.{is_ready}
-use Rattle.hep_state.specs.declared.machine.Level.{Level}
-use Rattle.hep_state.specs.Words.{IsInState, Touches, node_under, Snapshot, IsEnding, IsLeft, stack_with, IsTurning, frame_under, snapshot_stopped, top_after, with_contents, with_stack, HasStepped, HasWaited}
+use Rattle.hep_state.specs.Words.{IsInState, Touches, Snapshot, IsEnding, IsLeft, IsToEnd, stack_with, IsEffectOf, IsTopRunning, IsTurning, TurnOf, snapshot_moved, snapshot_stopped, state_before, top_before, top_frame, HasMadeTurn, HasWaited, running_top}
 use Rattle.hep_state.proofs.Unchanged.{carry}
 use Rattle.hep_state.proofs.Moved.{next-is, moved-shown, printed-shown, standing-before, stopped-shown, unit-is, waited-shown}
-use Rattle.hep_state.proofs.Runs.{layout-stays, set-same}
+use Rattle.hep_state.proofs.Runs.{in-turn, layout-stays, set-same}
 use Rattle.hep_machine.proofs.Others.{step-is}
 use Rattle.hep_code.specs.declared.instruction.Instruction.{Instruction}
 use Rattle.hep_code.specs.declared.instruction.Instruction.TheVariants.{Step}
@@ -37,158 +35,159 @@ use Rattle.hep_needs_laws.specs.Needs.{touched_by}
 use Rattle.hep_touched.specs.Touched.{touched_at}
 use Rattle.std.proofs.lemmas.Bool.{false_from_ne_true}
 
-module _ {program : Units} {cells : ℕ} {choices : List ℕ} {m : Snapshot} {p : ℕ} {l : Level} {ls : List Level} {vs : List Value} {top : SourceLevel × SourceProcess} (turning : IsTurning program cells choices m p l ls vs top) where
+module _ {t : TurnOf} (turning : IsTurning t) where
   abbrev old : State
-  old = run program choices
+  old = state_before t
 
-  abbrev t : Top
-  t = top_after program choices p top
+  abbrev top : Top
+  top = top_before t
 
   abbrev layout : Layout
   layout = turning.after.layout
 
-  unit-here : unit_of old top.0.activation ≡ l.unit
+  unit-here : unit_of old t.top.0.activation ≡ t.level.unit
   unit-here = unit-is turning
 
   abbrev Runs : Type 0
-  Runs = IsRunning program t layout (frame_under m.nodes l.key) m.arena.contents m.arena.holes vs l.index
+  Runs = IsTopRunning t turning
 
   abbrev Does : effects.Effect → Type 0
-  Does = Simulates program t layout (frame_under m.nodes l.key) m.arena.holes m.arena.contents
+  Does = IsEffectOf t turning
 
-  pub inside : l.unit < length program
+  pub inside : t.level.unit < length t.program
   inside = (standing-before turning).0.here.inside
 
   -- there is room for the values that stand ahead
-  pub room-ahead : length vs + values_ahead (drop l.index (unit_code program l.unit)) ≤ deepest (unit_code program l.unit)
-  room-ahead = room_for (unit_addressed program l.unit) top.0.statement top.0.work vs l.index (standing-before turning).0.stands
+  pub room-ahead : length t.operands + values_ahead (drop t.level.index (unit_code t.program t.level.unit)) ≤ deepest (unit_code t.program t.level.unit)
+  room-ahead = room_for (unit_addressed t.program t.level.unit) t.top.0.statement t.top.0.work t.operands t.level.index (standing-before turning).0.stands
 
   -- ---- an operation stands ahead
 
-  pub ready : Runs → (capacity : ℕ) → ArePlacedArrays program (unit_at program l.unit) → cells ≤ most_cells → deepest (unit_code program l.unit) ≤ capacity
-      → IsReady (unit_code program l.unit) (unit_arrays program l.unit) m.arena (frame_in_arena (frame_under m.nodes l.key)) vs capacity l.index
+  pub ready : Runs → (capacity : ℕ) → ArePlacedArrays t.program (unit_at t.program t.level.unit) → t.cells ≤ most_cells → deepest (unit_code t.program t.level.unit) ≤ capacity
+      → IsReady (unit_code t.program t.level.unit) (unit_arrays t.program t.level.unit) t.machine.arena (frame_in_arena (top_frame t)) t.operands capacity t.level.index
   ready runs capacity placed few =
-      subst (λ u. ArePlacedArrays program (unit_at program u) → deepest (unit_code program u) ≤ capacity → IsReady (unit_code program u) (unit_arrays program u) m.arena (frame_in_arena (frame_under m.nodes l.key)) vs capacity l.index) unit-here
-      (λ all room. is_ready program t layout (frame_under m.nodes l.key) m.arena.contents m.arena.holes vs l.index runs all capacity room (omega (arith, few, turning.after.size))) placed
+      subst (λ u. ArePlacedArrays t.program (unit_at t.program u) → deepest (unit_code t.program u) ≤ capacity → IsReady (unit_code t.program u) (unit_arrays t.program u) t.machine.arena (frame_in_arena (top_frame t)) t.operands capacity t.level.index) unit-here
+      (λ all room. is_ready (running_top t turning) runs all capacity room (omega (arith, few, turning.after.size))) placed
 
-  pub ahead-simulated : Runs → IsPastPushes (unit_code program l.unit) l.index → IsNotLeftOut (unit_code program l.unit) l.index
-      → Does (effect_at (unit_code program l.unit) (unit_arrays program l.unit) (node_under m.nodes l.key).first m.arena.contents vs l.index)
+  pub ahead-simulated : Runs → IsPastPushes (unit_code t.program t.level.unit) t.level.index → IsNotLeftOut (unit_code t.program t.level.unit) t.level.index
+      → Does (effect_at (unit_code t.program t.level.unit) (unit_arrays t.program t.level.unit) (top_frame t).first t.machine.arena.contents t.operands t.level.index)
   ahead-simulated runs =
-      subst (λ u. IsPastPushes (unit_code program u) l.index → IsNotLeftOut (unit_code program u) l.index → Does (effect_at (unit_code program u) (unit_arrays program u) (node_under m.nodes l.key).first m.arena.contents vs l.index)) unit-here
-      (λ past others. operation_simulated program t layout (frame_under m.nodes l.key) m.arena.contents m.arena.holes vs l.index runs others past)
+      subst (λ u. IsPastPushes (unit_code t.program u) t.level.index → IsNotLeftOut (unit_code t.program u) t.level.index → Does (effect_at (unit_code t.program u) (unit_arrays t.program u) (top_frame t).first t.machine.arena.contents t.operands t.level.index)) unit-here
+      (λ past others. operation_simulated (running_top t turning) runs others past)
 
   -- ---- and was performed
 
   -- the process stands elsewhere, and cells have changed
   abbrev pub with_performed : performed.Snapshot → Snapshot
-  with_performed x = with_stack (with_contents m x.contents) p (record l { index = x.index } ∷ ls) x.operands
+  with_performed x = snapshot_moved t x.contents x.operands x.index
 
   abbrev IsDone : Effect × performed.Snapshot → Type 0
-  IsDone x = IsLeft program cells choices p (with_performed x.1) x.0
+  IsDone x = IsLeft t.program t.cells t.choices t.process (with_performed x.1) x.0
 
   abbrev before : performed.Snapshot
-  before = snapshot m.arena.contents vs l.index
+  before = snapshot t.machine.arena.contents t.operands t.level.index
 
   -- nothing was performed
-  pub unperformed : with_performed (snapshot m.arena.contents vs l.index) ≡ m
-  unperformed = λ i. record m { processes = sym (set-same m.processes p (stack_with l ls vs) turning.kept) i }
+  pub unperformed : with_performed before ≡ t.machine
+  unperformed = λ i. record t.machine { processes = sym (set-same t.machine.processes t.process (stack_with t.level t.below t.operands) turning.kept) i }
 
   -- a state that is named is the one that is meant
   state-is : (full : Bool) → is_full_state (state_named full) ≡ full
   state-is true = refl
   state-is false = refl
 
-  ends-so : (e : effects.Effect) → Does e → IsEnding program cells choices p (with_performed (snapshot m.arena.contents vs l.index)) e
-  ends-so e sim = subst (λ (n : Snapshot). IsEnding program cells choices p n e) (sym unperformed) (record { l = l; ls = ls; operands = vs; top = top; turning = turning; simulated = sim })
+  ends-so : (e : effects.Effect) → Does e → IsToEnd t.program t.cells t.choices t.process (with_performed before) e
+  ends-so e sim =
+      subst (λ (n : Snapshot). IsToEnd t.program t.cells t.choices t.process n e) (sym unperformed) (in-turn turning (λ t. IsEnding t e) (record { turning = turning; simulated = sim }))
 
-  done-by : (e : effects.Effect) → Does e → length (done e before).1.contents ≡ length m.arena.contents → IsDone (done e before)
+  done-by : (e : effects.Effect) → Does e → length (done e before).1.contents ≡ length t.machine.arena.contents → IsDone (done e before)
   done-by (moves contents new next) sim size = moved-shown turning contents new next size sim
   done-by (prints items next) sim size = printed-shown turning items next sim
   done-by (fails line kind) sim size = ends-so (fails line kind) sim
-  done-by (waits at full) sim size = carry (λ i. HasWaited program cells choices p at (sym (state-is full) i) (sym unperformed i)) (waited-shown turning at full sim)
+  done-by (waits at full) sim size = carry (λ i. HasWaited t.program t.cells t.choices t.process at (sym (state-is full) i) (sym unperformed i)) (waited-shown turning at full sim)
   done-by returns sim size = ends-so returns sim
-  done-by stops sim size = subst (λ (n : Snapshot). HasStepped program cells choices p (snapshot_stopped n)) (sym unperformed) (stopped-shown turning sim)
+  done-by stops sim size = subst (λ (n : Snapshot). HasMadeTurn t (snapshot_stopped n)) (sym unperformed) (stopped-shown turning sim)
   done-by left_out sim size = absurd sim
 
-  pub left-over : (e : effects.Effect) (effect : Effect) (after : performed.Snapshot) → Does e → length after.contents ≡ length m.arena.contents → (effect, after) ≡ done e before → IsLeft program cells choices p (with_performed after) effect
+  pub left-over : (e : effects.Effect) (effect : Effect) (after : performed.Snapshot) → Does e → length after.contents ≡ length t.machine.arena.contents → (effect, after) ≡ done e before → IsLeft t.program t.cells t.choices t.process (with_performed after) effect
   left-over e effect after sim size is =
-      subst IsDone (sym is) (done-by e sim (subst (λ (x : Effect × performed.Snapshot). length x.1.contents ≡ length m.arena.contents) is size))
+      subst IsDone (sym is) (done-by e sim (subst (λ (x : Effect × performed.Snapshot). length x.1.contents ≡ length t.machine.arena.contents) is size))
 
   -- ---- the storage unit that is kept in a cell
 
   -- the store after the step, whatever its effect, and what is in the cell then
   abbrev AreAlike : Effect × performed.Snapshot → Type 0
-  AreAlike x = (at : Location) (c : ℕ) → address program old layout at ≡ Some c → ((run program (choices ++ p ∷ [])).store at).full ≡ (cells_in x.1.contents c).full
+  AreAlike x = (at : Location) (c : ℕ) → address t.program old layout at ≡ Some c → ((run t.program (t.choices ++ t.process ∷ [])).store at).full ≡ (cells_in x.1.contents c).full
 
   -- a cell that holds what is stored there is as full as that
   full-there : (store : Store) (contents : List Slot) (at : Location) (c : ℕ) → slice_get contents c ≡ Some (store at) → (store at).full ≡ (cells_in contents c).full
   full-there store contents at c e = ap (λ o. (unwrap_or o unset_cell).full) (sym e)
 
   -- no state is made where it waits
-  unmade : (w : Wanted) → step_result_of program p old ≡ waiting w → step program p old ≡ None
-  unmade w is = ap (λ b. if b then None else state_made (step_result_of program p old)) turning.running ∙ ap state_made is
+  unmade : (w : Wanted) → step_result_of t.program t.process old ≡ waiting w → step t.program t.process old ≡ None
+  unmade w is = ap (λ b. if b then None else state_made (step_result_of t.program t.process old)) turning.running ∙ ap state_made is
 
-  stored-same : (s : State) → run program (choices ++ p ∷ []) ≡ s → s.store ≡ old.store → (at : Location) (c : ℕ) → address program old layout at ≡ Some c → ((run program (choices ++ p ∷ [])).store at).full ≡ (cells_in m.arena.contents c).full
+  stored-same : (s : State) → run t.program (t.choices ++ t.process ∷ []) ≡ s → s.store ≡ old.store → (at : Location) (c : ℕ) → address t.program old layout at ≡ Some c → ((run t.program (t.choices ++ t.process ∷ [])).store at).full ≡ (cells_in t.machine.arena.contents c).full
   stored-same s next same at c there =
-      ap (λ (z : State). (z.store at).full) next ∙ (ap (λ (store : Store). (store at).full) same ∙ full-there old.store m.arena.contents at c (turning.after.shows.keeps.memory.holds at c there))
+      ap (λ (z : State). (z.store at).full) next ∙ (ap (λ (store : Store). (store at).full) same ∙ full-there old.store t.machine.arena.contents at c (turning.after.shows.keeps.memory.holds at c there))
 
   alike-by : (e : effects.Effect) → Does e → AreAlike (done e before)
   alike-by (moves contents new next) sim = λ at c there. ap (λ (z : State). (z.store at).full) (next-is turning _ sim.2) ∙ full-there sim.0 contents at c (sim.3.memory.holds at c there)
   alike-by (prints items next) sim = stored-same _ (next-is turning _ sim.1) refl
   alike-by (fails line kind) sim = stored-same _ (next-is turning _ sim.0) refl
-  alike-by (waits cell full) sim = stored-same old (run-last program choices p ∙ ap (λ o. unwrap_or o old) (unmade _ sim.1)) refl
+  alike-by (waits cell full) sim = stored-same old (run-last t.program t.choices t.process ∙ ap (λ o. unwrap_or o old) (unmade _ sim.1)) refl
   alike-by returns sim = stored-same _ (next-is turning _ sim) refl
   alike-by stops sim = stored-same _ (next-is turning _ sim) refl
   alike-by left_out sim = absurd sim
 
-  pub alike : (e : effects.Effect) (effect : Effect) (after : performed.Snapshot) → Does e → (effect, after) ≡ done e before → (cell : Option ℕ) → IsInState program cells choices p cell (with_performed after)
+  pub alike : (e : effects.Effect) (effect : Effect) (after : performed.Snapshot) → Does e → (effect, after) ≡ done e before → (cell : Option ℕ) → IsInState t.program t.cells t.choices t.process cell (with_performed after)
   alike e effect after sim is cell c fs at told laid there =
-      subst AreAlike (sym is) (alike-by e sim) at c (subst (λ (fs : Layout). address program old fs at ≡ Some c) (same_Some fs layout (sym laid ∙ turning.after.laid)) there)
+      subst AreAlike (sym is) (alike-by e sim) at c (subst (λ (fs : Layout). address t.program old fs at ≡ Some c) (same_Some fs layout (sym laid ∙ turning.after.laid)) there)
 
   -- ---- what it may fill or empty is what its next step may
 
   -- by the laws of what operations touch
   abbrev pub TellsCell : Type 0
-  TellsCell = (at : Location) → Runs → IsPastPushes (code_on_top program t) l.index → touched_by program p old ≡ Some at
-      → (cell : ℕ) × (touched_at (code_on_top program t) (arrays_on_top program t) (node_under m.nodes l.key).first m.arena.contents vs l.index ≡ Some cell) × (address program old layout at ≡ Some cell)
+  TellsCell = (at : Location) → Runs → IsPastPushes (code_on_top t.program top) t.level.index → touched_by t.program t.process old ≡ Some at
+      → (cell : ℕ) × (touched_at (code_on_top t.program top) (arrays_on_top t.program top) (top_frame t).first t.machine.arena.contents t.operands t.level.index ≡ Some cell) × (address t.program old layout at ≡ Some cell)
 
   abbrev pub TellsPurge : Type 0
-  TellsPurge = (line : ℕ) (o : Operation) (behind : List Instruction) → Runs → drop l.index (code_on_top program t) ≡ Step line o ∷ behind → is_purge program old p ≡ true → (count next : ℕ) × (o ≡ Purge count next)
+  TellsPurge = (line : ℕ) (o : Operation) (behind : List Instruction) → Runs → drop t.level.index (code_on_top t.program top) ≡ Step line o ∷ behind → is_purge t.program old t.process ≡ true → (count next : ℕ) × (o ≡ Purge count next)
 
-  module _ (runs : Runs) (past : IsPastPushes (unit_code program l.unit) l.index) (others : IsNotLeftOut (unit_code program l.unit) l.index) where
-    past-here : IsPastPushes (code_on_top program t) l.index
-    past-here = subst (λ u. IsPastPushes (unit_code program u) l.index) (sym unit-here) past
+  module _ (runs : Runs) (past : IsPastPushes (unit_code t.program t.level.unit) t.level.index) (others : IsNotLeftOut (unit_code t.program t.level.unit) t.level.index) where
+    past-here : IsPastPushes (code_on_top t.program top) t.level.index
+    past-here = subst (λ u. IsPastPushes (unit_code t.program u) t.level.index) (sym unit-here) past
 
-    no-purge : TellsPurge → is_purge program old p ≡ false
+    no-purge : TellsPurge → is_purge t.program old t.process ≡ false
     no-purge tells = false_from_ne_true _ (λ is.
-        let s = step_is_ahead (addressed_on_top program t) top.0.statement top.0.work vs l.index runs.stands past-here in
+        let s = step_is_ahead (addressed_on_top t.program top) t.top.0.statement t.top.0.work t.operands t.level.index runs.stands past-here in
         let told = tells _ s.0 s.1 runs s.2 is in
-        let out : is_left_out s.0 ≡ false = others _ s.0 s.1 (ap (λ u. drop l.index (unit_code program u)) (sym unit-here) ∙ s.2) in
+        let out : is_left_out s.0 ≡ false = others _ s.0 s.1 (ap (λ u. drop t.level.index (unit_code t.program u)) (sym unit-here) ∙ s.2) in
         true≢false (sym (ap is_left_out told.2) ∙ out))
 
-    pub touches-only : TellsCell → TellsPurge → (cell : Option ℕ) → cell ≡ touched_at (unit_code program l.unit) (unit_arrays program l.unit) (node_under m.nodes l.key).first m.arena.contents vs l.index → Touches program cells choices p cell
+    pub touches-only : TellsCell → TellsPurge → (cell : Option ℕ) → cell ≡ touched_at (unit_code t.program t.level.unit) (unit_arrays t.program t.level.unit) (top_frame t).first t.machine.arena.contents t.operands t.level.index → Touches t.program t.cells t.choices t.process cell
     touches-only cell-told purge-told cell is =
         record {
           plain = no-purge purge-told;
           told = λ fs at laid touched.
               let told = cell-told at runs past-here touched in
-              let found = is ∙ (ap (λ u. touched_at (unit_code program u) (unit_arrays program u) (node_under m.nodes l.key).first m.arena.contents vs l.index) (sym unit-here) ∙ told.1) in
-              (told.0, found, subst (λ fs. address program old fs at ≡ Some told.0) (same_Some layout fs (sym turning.after.laid ∙ laid)) told.2);
+              let found = is ∙ (ap (λ u. touched_at (unit_code t.program u) (unit_arrays t.program u) (top_frame t).first t.machine.arena.contents t.operands t.level.index) (sym unit-here) ∙ told.1) in
+              (told.0, found, subst (λ fs. address t.program old fs at ≡ Some told.0) (same_Some layout fs (sym turning.after.laid ∙ laid)) told.2);
         }
 
     -- ---- it makes no activation, and so each frame has its gap after the turn
 
-    stay : (o : Option State) → step program p old ≡ o → (unwrap_or o old).activations ≡ old.activations → (state_after_turn program p old).activations ≡ old.activations
+    stay : (o : Option State) → step t.program t.process old ≡ o → (unwrap_or o old).activations ≡ old.activations → (state_after_turn t.program t.process old).activations ≡ old.activations
     stay o made same = ap (λ o. (unwrap_or o old).activations) made ∙ same
 
-    activations-stay : (e : effects.Effect) → Does e → (state_after_turn program p old).activations ≡ old.activations
-    activations-stay (moves new operands index) (store, after, is, reaches) = stay _ (step-is program p old _ turning.running is) refl
-    activations-stay (prints items index) (after, is, reaches) = stay _ (step-is program p old _ turning.running is) refl
-    activations-stay (fails line k) (is, at) = stay _ (step-is program p old _ turning.running is) refl
+    activations-stay : (e : effects.Effect) → Does e → (state_after_turn t.program t.process old).activations ≡ old.activations
+    activations-stay (moves new operands index) (store, after, is, reaches) = stay _ (step-is t.program t.process old _ turning.running is) refl
+    activations-stay (prints items index) (after, is, reaches) = stay _ (step-is t.program t.process old _ turning.running is) refl
+    activations-stay (fails line k) (is, at) = stay _ (step-is t.program t.process old _ turning.running is) refl
     activations-stay (waits cell full) (at, is, found) = stay None (unmade _ is) refl
-    activations-stay returns is = stay _ (step-is program p old _ turning.running is) refl
-    activations-stay stops is = stay _ (step-is program p old _ turning.running is) refl
+    activations-stay returns is = stay _ (step-is t.program t.process old _ turning.running is) refl
+    activations-stay stops is = stay _ (step-is t.program t.process old _ turning.running is) refl
     activations-stay left_out h = absurd h
 
-    pub gap-kept : layout_of program cells is_held (choices ++ p ∷ []) ≢ None
-    gap-kept none = none-some _ (sym none ∙ layout-stays program cells choices p layout turning.after.laid (activations-stay _ (ahead-simulated runs past others)))
+    pub gap-kept : layout_of t.program t.cells is_held (t.choices ++ t.process ∷ []) ≢ None
+    gap-kept none = none-some _ (sym none ∙ layout-stays t.program t.cells t.choices t.process layout turning.after.laid (activations-stay _ (ahead-simulated runs past others)))

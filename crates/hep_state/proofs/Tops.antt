@@ -26,15 +26,15 @@ use Rattle.hep_image.specs.declared.array.Start.{Start}
 use Rattle.hep_image.proofs.Numbers.{unit-there}
 use Rattle.hep_image_laws.specs.Instructions.{variables_in_operation}
 use Rattle.hep_image_laws.specs.Placed.{ArePlaced, code_in}
-use Rattle.hep_step.specs.Simulation.{IsRunning, counts_in, found_in, unit_addressed, unit_code, variable_in}
+use Rattle.hep_step.specs.Simulation.{counts_in, found_in, unit_addressed, unit_code, variable_in}
 use Rattle.hep_state.specs.declared.machine.Level.{Level}
-use Rattle.hep_state.specs.Words.{Snapshot, Stack, IsTurning, frame_under, top_after, with_stack, Shows, IsAbsent, IsAfter}
-use Rattle.hep_state.proofs.Moved.{top-activation, top-node, standing-before, there, unit-is}
+use Rattle.hep_state.specs.Words.{HasLevels, Snapshot, Stack, IsTopRunning, IsTurning, TurnOf, stack_with, state_before, top_before, top_frame, turn_settled, turn_with, Shows, IsAbsent, IsAfter}
+use Rattle.hep_state.proofs.Moved.{top-activation, top-node, standing-before, unit-is}
 use Rattle.hep_entering.proofs.Found.{all_levels, among-numbered, found, times-all}
 use Rattle.hep_image.proofs.Distinct.{index_of}
 use Rattle.hep_entering.proofs.Calls.{set-numbered}
 use Rattle.hep_state.proofs.Standing.{are-on, AreStanding, made-same, stack-again, stack-standing, top-stands}
-use Rattle.hep_state.proofs.Runs.{set-same, standing-changed}
+use Rattle.hep_state.proofs.Runs.{set-same, standing-changed, there}
 
 -- what is known of each unit of an accepted program that has a main program, and of the activations in its runs
 pub record IsKnown (program : Units) : Type 0 where
@@ -79,119 +79,116 @@ own-shaped program closed u inside x none array = let shape = closed u (unit_at 
 
 -- ---- the top activation
 
-module _ {program : Units} (known : IsKnown program) {cells : ℕ} {choices : List ℕ} {m : Snapshot} {p : ℕ} {l : Level} {ls : List Level} {vs : List Value} {top : SourceLevel × Process} (h : IsTurning program cells choices m p l ls vs top) where
+module _ {t : TurnOf} (h : IsTurning t) (known : IsKnown t.program) where
   abbrev old : State
-  old = run program choices
+  old = state_before t
 
-  abbrev t : Top
-  t = top_after program choices p top
+  abbrev top : Top
+  top = top_before t
 
   abbrev layout : Layout
   layout = h.after.layout
 
   abbrev number : ℕ
-  number = unit_of old top.0.activation
+  number = unit_of old t.top.0.activation
 
-  inside : number < length program
-  inside = subst (λ u. u < length program) (sym (unit-is h)) (standing-before h).0.here.inside
+  inside : number < length t.program
+  inside = subst (λ u. u < length t.program) (sym (unit-is h)) (standing-before h).0.here.inside
 
-  framed : frame_among top.0.activation layout ≡ Some (frame_under m.nodes l.key)
-  framed = ap (λ a. frame_among a layout) (sym (top-activation h)) ∙ h.after.shows.keeps.framed l.key _ (top-node h)
+  framed : frame_among t.top.0.activation layout ≡ Some (top_frame t)
+  framed = ap (λ a. frame_among a layout) (sym (top-activation h)) ∙ h.after.shows.keeps.framed t.level.key _ (top-node h)
 
   -- another level of the activation is found by it
-  itself : (after : SourceLevel) → after.activation ≡ top.0.activation → level_of (state_with_level t after) top.0.activation ≡ Some after
-  itself after same = found a (all_levels qs) after few (among-numbered after qs p (after ∷ top.1) (set-numbered old.processes p (top.0 ∷ top.1) (after ∷ top.1) there_is) (inl refl)) same where
+  itself : (after : SourceLevel) → after.activation ≡ t.top.0.activation → level_of (state_with_level top after) t.top.0.activation ≡ Some after
+  itself after same = found a (all_levels qs) after few (among-numbered after qs t.process (after ∷ t.top.1) (set-numbered old.processes t.process (t.top.0 ∷ t.top.1) (after ∷ t.top.1) there_is) (inl refl)) same where
     a : ℕ
-    a = top.0.activation
+    a = t.top.0.activation
 
     qs : List Process
-    qs = with_numbered old.processes p (after ∷ top.1)
+    qs = with_numbered old.processes t.process (after ∷ t.top.1)
 
-    there_is : numbered old.processes p ≡ Some (top.0 ∷ top.1)
+    there_is : numbered old.processes t.process ≡ Some (t.top.0 ∷ t.top.1)
     there_is = there h
 
     few : times a (activations_on (all_levels qs)) ≤ 1
     few =
-        let alike : times a (activations_on (after ∷ top.1)) ≡ times a (activations_on (top.0 ∷ top.1)) = ap (λ b. times a (b ∷ activations_on top.1)) same in
-        omega (arith, times-all a qs, times_on-numbered a old.processes p (top.0 ∷ top.1) (after ∷ top.1) there_is, alike, (once program choices a).0)
+        let alike : times a (activations_on (after ∷ t.top.1)) ≡ times a (activations_on (t.top.0 ∷ t.top.1)) = ap (λ b. times a (b ∷ activations_on t.top.1)) same in
+        omega (arith, times-all a qs, times_on-numbered a old.processes t.process (t.top.0 ∷ t.top.1) (after ∷ t.top.1) there_is, alike, (once t.program t.choices a).0)
 
-  bound : IsBound program old top.0.activation
-  bound = let here = (standing-before h).0.here in known.bound choices top.0.activation here.made.0 here.made.1
+  bound : IsBound t.program old t.top.0.activation
+  bound = let here = (standing-before h).0.here in known.bound t.choices t.top.0.activation here.made.0 here.made.1
 
-  on-top : is_stacked old top.0.activation ≡ true
+  on-top : is_stacked old t.top.0.activation ≡ true
   on-top =
-      let a = top.0.activation in
-      on-stacked old a (p, top.0 ∷ top.1, there h, ap (λ b. b || is_number_among a (activations_on top.1)) (eq-eqb a a refl))
+      let a = t.top.0.activation in
+      on-stacked old a (t.process, t.top.0 ∷ t.top.1, there h, ap (λ b. b || is_number_among a (activations_on t.top.1)) (eq-eqb a a refl))
 
-  addressed : (x : Name) (ss : List Value) → variable_of program (unit_on_top program t) x ≢ Absent
-      → IsAddressed (address program old layout) (scope_of program old top.0.activation) (found_in program number m.arena.contents (frame_under m.nodes l.key).first) (variable_of program (unit_on_top program t)) x ss
+  addressed : (x : Name) (ss : List Value) → variable_of t.program (unit_on_top t.program top) x ≢ Absent
+      → IsAddressed (address t.program old layout) (scope_of t.program old t.top.0.activation) (found_in t.program number t.machine.arena.contents (top_frame t).first) (variable_of t.program (unit_on_top t.program top)) x ss
   addressed x ss =
-      any-addressed program old layout m.arena.contents top.0.activation (frame_under m.nodes l.key) x ss h.after.shows.keeps.described framed (unit-there program number inside) bound
-      (h.after.shows.kept top.0.activation on-top) (own-shaped program known.closed number inside x)
+      any-addressed t.program old layout t.machine.arena.contents t.top.0.activation (top_frame t) x ss h.after.shows.keeps.described framed (unit-there t.program number inside) bound
+      (h.after.shows.kept t.top.0.activation on-top) (own-shaped t.program known.closed number inside x)
 
-  counts : (s : State) (after : SourceLevel) (slots : List Slot) → s.activations ≡ old.activations → Describes program s layout (descriptor_slots program s layout) slots → level_of s top.0.activation ≡ Some after
-      → HoldsLoops (unit_on_top program t) (counts_in (unit_on_top program t) slots (frame_under m.nodes l.key).first) after.loops
+  counts : (s : State) (after : SourceLevel) (slots : List Slot) → s.activations ≡ old.activations → Describes t.program s layout (descriptor_slots t.program s layout) slots → level_of s t.top.0.activation ≡ Some after
+      → HoldsLoops (unit_on_top t.program top) (counts_in (unit_on_top t.program top) slots (top_frame t).first) after.loops
   counts s after slots same described on =
-      let one : unit_of s top.0.activation ≡ number = ap (λ (xs : List Activation). unit_of (record old { activations = xs }) top.0.activation) same in
-      subst (λ u. HoldsLoops (unit_at program u) (counts_in (unit_at program u) slots (frame_under m.nodes l.key).first) after.loops) one (
-      counted program s layout slots top.0.activation (frame_under m.nodes l.key) after described framed on)
+      let one : unit_of s t.top.0.activation ≡ number = ap (λ (xs : List Activation). unit_of (record old { activations = xs }) t.top.0.activation) same in
+      subst (λ u. HoldsLoops (unit_at t.program u) (counts_in (unit_at t.program u) slots (top_frame t).first) after.loops) one (
+      counted t.program s layout slots t.top.0.activation (top_frame t) after described framed on)
 
-  pub top-runs : IsRunning program t layout (frame_under m.nodes l.key) m.arena.contents m.arena.holes vs l.index
+  pub top-runs : IsTopRunning t h
   top-runs =
       let k = h.after.shows.keeps in
       record {
         running = h.running;
         lives = h.lives;
-        level = level-found program choices p top h.lives;
-        others = λ after b same other. levels-stay old (state_with_level t after) p top after b h.lives refl same other;
+        level = level-found t.program t.choices t.process t.top h.lives;
+        others = λ after b same other. levels-stay old (state_with_level top after) t.process t.top after b h.lives refl same other;
         itself = itself;
         memory = k.memory;
         described = k.described;
         framed = framed;
-        stands = subst (λ u. Stands (unit_addressed program u) top.0.statement top.0.work vs l.index) (sym (unit-is h)) (standing-before h).0.stands;
-        placed = λ i line o behind ahead. none_absent line o (known.placed number i line o inside (dropped-first (unit_code program number) i (Step line o) behind ahead));
+        stands = subst (λ u. Stands (unit_addressed t.program u) t.top.0.statement t.top.0.work t.operands t.level.index) (sym (unit-is h)) (standing-before h).0.stands;
+        placed = λ i line o behind ahead. none_absent line o (known.placed number i line o inside (dropped-first (unit_code t.program number) i (Step line o) behind ahead));
         addressed = addressed;
-        looped = λ d i is less. loop-at program old layout top.0.activation d i (frame_under m.nodes l.key) framed is less;
+        looped = λ d i is less. loop-at t.program old layout t.top.0.activation d i (top_frame t) framed is less;
         counted = counts;
       }
 
-  pub arrays-placed : ArePlacedArrays program (unit_at program l.unit)
+  pub arrays-placed : ArePlacedArrays t.program (unit_at t.program t.level.unit)
   arrays-placed =
-      subst (λ u. ArePlacedArrays program (unit_at program u)) (unit-is h) (λ x array.
-      let listed = index_of x (arrays_of (unit_at program number)) (array-listed x (unit_at program number) array) in
+      subst (λ u. ArePlacedArrays t.program (unit_at t.program u)) (unit-is h) (λ x array.
+      let listed = index_of x (arrays_of (unit_at t.program number)) (array-listed x (unit_at t.program number) array) in
       let begun = known.begun number listed.0 x inside listed.1 in
       record {
         begins = λ none. none-some begun.0 (sym none ∙ begun.2);
-        dimensions = few-dimensions program old top.0.activation x bound array (own-shaped program known.closed number inside x);
-        own = own-shaped program known.closed number inside x;
+        dimensions = few-dimensions t.program old t.top.0.activation x bound array (own-shaped t.program known.closed number inside x);
+        own = own-shaped t.program known.closed number inside x;
       })
 
 -- ---- the values that stand ahead are put behind the operands
 
-module _ {program : Units} {cells : ℕ} {choices : List ℕ} {m : Snapshot} {p : ℕ} {l : Level} {ls : List Level} {vs : List Value} {top : SourceLevel × Process} (h : IsTurning program cells choices m p l ls vs top) where
+module _ {t : TurnOf} (h : IsTurning t) where
   pub settled : (operands : List Value) (index : ℕ)
-      → ((k : ℕ) (work : Work) → Stands (unit_addressed program l.unit) k work vs l.index → Stands (unit_addressed program l.unit) k work operands index)
-      → IsTurning program cells choices (with_stack m p (record l { index = index } ∷ ls) operands) p (record l { index = index }) ls operands top
+      → ((k : ℕ) (work : Work) → Stands (unit_addressed t.program t.level.unit) k work t.operands t.level.index → Stands (unit_addressed t.program t.level.unit) k work operands index)
+      → IsTurning (turn_settled t operands index)
   settled operands index stands =
-      let old = run program choices in
+      let old = state_before t in
       let s = h.after.shows in
       let layout = h.after.layout in
-      let k : Stack = record { levels = record l { index = index } ∷ ls; operands = operands } in
-      let before : Stack = record { levels = l ∷ ls; operands = vs } in
-      let new = with_stack m p (record l { index = index } ∷ ls) operands in
-      let q : Process = top.0 ∷ top.1 in
-      let there_is = there h in
+      let k = stack_with (record t.level { index = index }) t.below operands in
+      let q : Process = t.top.0 ∷ t.top.1 in
       let s0 = standing-before h in
-      let moved = top-stands program old m.nodes vs operands l ls top.0 top.0 top.1 index s0 refl (stands top.0.statement top.0.work s0.0.stands) in
-      let shown : Shows program old layout new =
+      let moved = top-stands t.program old t.machine.nodes t.operands operands t.level t.below t.top.0 t.top.0 t.top.1 index s0 refl (stands t.top.0.statement t.top.0.work s0.0.stands) in
+      let shown : Shows t.program old layout (turn_settled t operands index).machine =
       record {
         keeps = s.keeps;
         kept = s.kept;
-        processes = length-set m.processes _ k ∙ s.processes;
+        processes = length-set t.machine.processes _ k ∙ s.processes;
         stacks = λ i j r here on-it.
-            let on = are-on program choices i r on-it in
-            stack-again program old m.nodes m.arena.contents layout s.keeps.described s.keeps.framed j r (
-            standing-changed program old old layout m m.nodes s p before k q q h.kept there_is (made-same old old refl) (λ key x e on. (x, e, refl)) (λ on. moved) i j r here (sym (ap (λ qs. numbered qs i) (set-same old.processes p q there_is)) ∙ on-it) on) on;
+            let on = are-on t.program t.choices i r on-it in
+            stack-again t.program old t.machine.nodes t.machine.arena.contents layout s.keeps.described s.keeps.framed j r (
+            standing-changed h old t.machine.nodes k q (made-same old old refl) (λ key x e on. (x, e, refl)) (λ on. moved) i j r here (sym (ap (λ qs. numbered qs i) (set-same old.processes t.process q (there h))) ∙ on-it) on) on;
         activations = s.activations;
         records = s.records;
         faults = s.faults;
@@ -200,7 +197,7 @@ module _ {program : Units} {cells : ℕ} {choices : List ℕ} {m : Snapshot} {p 
       record {
         after = record { layout = layout; laid = h.after.laid; size = h.after.size; shows = shown };
         running = h.running;
-        kept = set-numbered m.processes p before k h.kept;
+        kept = set-numbered t.machine.processes t.process (stack_with t.level t.below t.operands) k h.kept;
         lives = h.lives;
       }
 
@@ -223,15 +220,16 @@ module _ {program : Units} {cells : ℕ} {choices : List ℕ} {m : Snapshot} (p 
   standing-of : (k : Stack) (q : Process) → numbered m.processes p ≡ Some k → numbered (run program choices).processes p ≡ Some q → AreStanding program (run program choices) m.nodes k.operands k.levels q
   standing-of k q kept there = stack-standing program (run program choices) m.nodes m.arena.contents k q (h.shows.stacks p k q kept there)
 
-  pub turning : (l : Level) (ls : List Level) (vs : List Value) → m.halted ≡ false → numbered m.processes p ≡ Some (record { levels = l ∷ ls; operands = vs }) → (top : SourceLevel × Process) × IsTurning program cells choices m p l ls vs top
-  turning l ls vs running kept =
-      let k : Stack = record { levels = l ∷ ls; operands = vs } in
-      let q = numbered-there m.processes (run program choices).processes p k h.shows.processes kept in
-      by_process q.0 q.1 (standing-of k q.0 kept q.1)
+  pub turning : (levels : HasLevels m p) → m.halted ≡ false → (top : SourceLevel × Process) × IsTurning (turn_with program cells choices levels top)
+  turning levels running =
+      let k = stack_with levels.level levels.below levels.operands in
+      let q = numbered-there m.processes (run program choices).processes p k h.shows.processes levels.kept in
+      by_process q.0 q.1 (standing-of k q.0 levels.kept q.1)
     where
-      by_process : (q : Process) → numbered (run program choices).processes p ≡ Some q → AreStanding program (run program choices) m.nodes vs (l ∷ ls) q → (top : SourceLevel × Process) × IsTurning program cells choices m p l ls vs top
+      by_process : (q : Process) → numbered (run program choices).processes p ≡ Some q → AreStanding program (run program choices) m.nodes levels.operands (levels.level ∷ levels.below) q
+          → (top : SourceLevel × Process) × IsTurning (turn_with program cells choices levels top)
       by_process [] on-it standing = absurd standing
-      by_process (level ∷ levels) on-it standing = ((level, levels), record { after = h; running = sym h.shows.halted ∙ running; kept = kept; lives = ap top_of on-it })
+      by_process (level ∷ levels_there) on-it standing = ((level, levels_there), record { after = h; running = sym h.shows.halted ∙ running; kept = levels.kept; lives = ap top_of on-it })
 
   pub absent-halted : m.halted ≡ true → IsAbsent program cells choices p m
   absent-halted e = record { none = inl (sym h.shows.halted ∙ e); after = h }

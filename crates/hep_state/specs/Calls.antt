@@ -1,7 +1,6 @@
 -- What a core keeps after a CALL or CREATE: docs/MACHINE.md, "Steps" and "Layout".
 use Rattle.std.specs.Prelude.{◌≡◌, ℕ, ◌+◌, ◌<◌, List, [], ◌∷◌, ◌++◌, Bool, true, false, length, Option, Some, None}
-use Rattle.hep_machine.specs.Words.{Value, Units, unit_at, Binding, Actual, Layout, common_cells, frame_of, is_held, lowest_gap, with_numbered, run, Process, State, scope_of, step, Bounds, frame_cells}
-use Rattle.hep_machine.specs.State.{Level as SourceLevel}
+use Rattle.hep_machine.specs.Words.{Units, unit_at, Binding, Actual, common_cells, frame_of, is_held, lowest_gap, with_numbered, State, scope_of, step, Bounds, frame_cells}
 use Rattle.hep_arena.specs.Space.{Space}
 use Rattle.hep_code.specs.Words.{entry_index, table_of}
 use Rattle.hep_layout_laws.specs.Bound.{AreKept}
@@ -13,44 +12,44 @@ use Rattle.hep_state.specs.declared.calling.Called.{Called}
 use Rattle.hep_state.specs.declared.machine.Level.{Level}
 use Rattle.hep_state.specs.declared.machine.Machine.{Machine}
 use Rattle.hep_state.specs.Snapshots.{Snapshot, snapshot_of}
-use Rattle.hep_state.specs.Tops.{IsTurning, with_stack}
+use Rattle.hep_state.specs.Tops.{HoldsInTurn, IsTurning, TurnOf, state_before, with_stack}
 use Rattle.hep_entering.specs.Calling.{ArePassed, IsAllWritten, IsPassing, layout_with, state_called, state_created}
 
 -- the level of a new activation of unit u, whose node is under a key, at its first executable statement
 abbrev pub entered_level : Units → ℕ → ℕ → Level
 entered_level program u key = record { key = key; unit = u; index = entry_index (unit_addressed program u) }
 
--- process p calls unit u: its top activation is to go on at an index, and has the new one above it
-abbrev pub snapshot_called : Units → Snapshot → ℕ → Level → List Level → ℕ → ℕ → ℕ → Space → Nodes → Snapshot
-snapshot_called program m p l ls u key index arena nodes =
-    record (with_stack (record m { arena = arena; nodes = nodes }) p (entered_level program u key ∷ (record l { index = index } ∷ ls)) []) { activations = m.activations + 1 }
+-- the process calls unit u: its top activation is to go on at an index, and has the new one above it
+abbrev pub snapshot_called : TurnOf → ℕ → ℕ → ℕ → Space → Nodes → Snapshot
+snapshot_called t u key index arena nodes =
+    record (with_stack (record t.machine { arena = arena; nodes = nodes }) t.process (entered_level t.program u key ∷ (record t.level { index = index } ∷ t.below)) []) { activations = t.machine.activations + 1 }
 
 -- it makes a process of unit u, and goes on
-abbrev pub snapshot_created : Units → Snapshot → ℕ → Level → List Level → ℕ → ℕ → ℕ → Space → Nodes → Snapshot
-snapshot_created program m p l ls u key index arena nodes =
-    record m {
+abbrev pub snapshot_created : TurnOf → ℕ → ℕ → ℕ → Space → Nodes → Snapshot
+snapshot_created t u key index arena nodes =
+    record t.machine {
       arena = arena;
       nodes = nodes;
-      processes = with_numbered m.processes p (record { levels = record l { index = index } ∷ ls; operands = [] }) ++ record { levels = entered_level program u key ∷ []; operands = [] } ∷ [];
-      activations = m.activations + 1;
+      processes = with_numbered t.machine.processes t.process (record { levels = record t.level { index = index } ∷ t.below; operands = [] }) ++ record { levels = entered_level t.program u key ∷ []; operands = [] } ∷ [];
+      activations = t.machine.activations + 1;
     }
 
--- the step of process p leads to a state, whose last activation runs unit u; its frame has entered the lowest gap, its cells are
--- written, what its dummy arguments stand for is in consecutive cells, and its node is under a key, a child of the node under another one
-pub record HasEntered (program : Units) (cells : ℕ) (choices : List ℕ) (p : ℕ) (layout : Layout) (old : Nodes) (u key parent : ℕ) (t : State) (arena : Space) (nodes : Nodes) : Type 0 where
-  pub made : step program p (run program choices) ≡ Some t
-  pub inside : u < length program
+-- the step leads to a state s, whose last activation runs unit u; its frame has entered the lowest gap, its cells are written, what its
+-- dummy arguments stand for is in consecutive cells, and its node is under a key, a child of that of the top level
+pub record HasEntered (t : TurnOf) (turning : IsTurning t) (u key : ℕ) (s : State) (arena : Space) (nodes : Nodes) : Type 0 where
+  pub made : step t.program t.process (state_before t) ≡ Some s
+  pub inside : u < length t.program
   pub first : ℕ
-  pub gap : lowest_gap cells (frame_of program t (length t.activations)) (common_cells program) layout ≡ Some first
-  pub written : IsAllWritten program (run program choices) t layout first (is_held (run program choices)) arena nodes
-  pub kept : AreKept program t (layout_with program t layout first) (length t.activations)
-  pub size : length arena.contents ≡ cells
-  pub vacant : old key ≡ None
-  pub nodes_are : nodes ≡ with_node old key (new_node (length t.activations) u first (frame_of program t (length t.activations)) parent) parent
+  pub gap : lowest_gap t.cells (frame_of t.program s (length s.activations)) (common_cells t.program) turning.after.layout ≡ Some first
+  pub written : IsAllWritten t.program (state_before t) s turning.after.layout first (is_held (state_before t)) arena nodes
+  pub kept : AreKept t.program s (layout_with t.program s turning.after.layout first) (length s.activations)
+  pub size : length arena.contents ≡ t.cells
+  pub vacant : t.machine.nodes key ≡ None
+  pub nodes_are : nodes ≡ with_node t.machine.nodes key (new_node (length s.activations) u first (frame_of t.program s (length s.activations)) t.level.key) t.level.key
 
--- the index is that of the statement after the one at an index of unit u
-abbrev pub IsAfterCall : Units → ℕ → ℕ → ℕ → Type 0
-IsAfterCall program u statement index = index ≡ ((table_of (unit_addressed program u)).flows statement).next
+-- the index is that of the statement after the one at which the top activation is
+abbrev pub IsAfterCall : TurnOf → ℕ → Type 0
+IsAfterCall t index = index ≡ ((table_of (unit_addressed t.program t.level.unit)).flows t.top.0.statement).next
 
 -- ---- a CALL or CREATE of a unit
 
@@ -60,28 +59,24 @@ pub record IsUnit (program : Units) (u cells entry : ℕ) : Type 0 where
   pub cells_are : cells ≡ frame_cells (unit_at program u)
   pub entry_is : entry ≡ entry_index (unit_addressed program u)
 
--- it is the turn of process p, whose step makes an activation of such a unit and leads to a state, and this is given to its dummy
--- arguments, and these are the shapes of the adjustable arrays among them; the one that makes it is to go on at an index
-pub record IsMaking (leads : Units → List ℕ → ℕ → SourceLevel × Process → ℕ → Binding → State) (program : Units) (cells : ℕ) (choices : List ℕ) (p : ℕ) (m : Snapshot) (u index : ℕ) (given : List Given) (shapes : List (Option Bounds)) : Type 0 where
-  pub l : Level
-  pub ls : List Level
-  pub operands : List Value
-  pub top : SourceLevel × Process
-  pub turning : IsTurning program cells choices m p l ls operands top
-  pub actuals : List Actual
-  pub b : Binding
-  pub passing : IsPassing program choices p top u actuals b
-  pub passed : ArePassed program (run program choices) turning.after.layout (scope_of program (run program choices) top.0.activation) actuals given
-  pub shaped : AreShapesOf (unit_at program u) b.dummies shapes
-  pub made : step program p (run program choices) ≡ Some (leads program choices p top u b)
-  pub after : IsAfterCall program l.unit top.0.statement index
-
 -- the state to which CALL, or CREATE, leads
-abbrev pub state_made : Bool → Units → List ℕ → ℕ → SourceLevel × Process → ℕ → Binding → State
-state_made false = state_called
-state_made true = state_created
+abbrev pub state_made : Bool → TurnOf → ℕ → Binding → State
+state_made false t u b = state_called t.program t.choices t.process t.top u b
+state_made true t u b = state_created t.program t.choices t.process t.top u b
 
--- so it is in a machine, where just this is given, and this is called
+-- the step makes an activation of unit u by CALL or by CREATE, and this is given to its dummy arguments, and these are the shapes of the
+-- adjustable arrays among them; the one that makes it is to go on at an index
+pub record IsMaking (creates : Bool) (t : TurnOf) (u index : ℕ) (given : List Given) (shapes : List (Option Bounds)) : Type 0 where
+  pub turning : IsTurning t
+  pub actuals : List Actual
+  pub binding : Binding
+  pub passing : IsPassing t.program t.choices t.process t.top u actuals binding
+  pub passed : ArePassed t.program (state_before t) turning.after.layout (scope_of t.program (state_before t) t.top.0.activation) actuals given
+  pub shaped : AreShapesOf (unit_at t.program u) binding.dummies shapes
+  pub made : step t.program t.process (state_before t) ≡ Some (state_made creates t u binding)
+  pub after : IsAfterCall t index
+
+-- the step of process p does so in a machine where just this is given, and this is called
 pub record Makes (creates : Bool) (program : Units) (cells : ℕ) (choices : List ℕ) (p : ℕ) (m : Machine) (called : Called) (index : ℕ) : Type 0 where
-  pub making : IsMaking (state_made creates) program cells choices p (snapshot_of m) called.unit index m.passing.given.items m.passing.shapes.items
+  pub making : HoldsInTurn program cells choices p (snapshot_of m) (λ t. IsMaking creates t called.unit index m.passing.given.items m.passing.shapes.items)
   pub unit : IsUnit program called.unit called.cells called.entry

@@ -1,8 +1,7 @@
 -- A CALL, CREATE or PURGE that stands ahead of a process: X3.9-1978, 15.6.2, and docs/MACHINE.md, "Steps".
-use Rattle.std.specs.Prelude.{◌≡◌, ℕ, List, ◌∷◌, drop, Some, Result}
-use Rattle.hep_machine.specs.Words.{Value, Units, numbered}
+use Rattle.std.specs.Prelude.{◌≡◌, ℕ, List, ◌∷◌, drop, Result}
+use Rattle.hep_machine.specs.Words.{Units}
 use Rattle.hep_machine.specs.declared.event.Kind.{Kind}
-use Rattle.hep_machine.specs.State.{Level as SourceLevel, Process as SourceProcess}
 use Rattle.hep_code.specs.declared.instruction.Instruction.{Instruction}
 use Rattle.hep_code.specs.declared.instruction.Instruction.TheVariants.{Step}
 use Rattle.hep_code.specs.declared.instruction.Operation.{Operation}
@@ -15,17 +14,14 @@ use Rattle.hep_purging.specs.declared.range.ClosedRange.{ClosedRange}
 use Rattle.hep_purging.specs.Ranges.{ranges_of}
 use Rattle.hep_step.specs.Calls.{making}
 use Rattle.hep_step.specs.Simulation.{IsNotLeftOut, unit_arrays, unit_code}
-use Rattle.hep_state.specs.declared.machine.Level.{Level}
 use Rattle.hep_state.specs.declared.machine.Machine.{Machine}
 use Rattle.hep_state.specs.declared.upcoming.StepAhead.{StepAhead}
 use Rattle.hep_state.specs.declared.upcoming.StepAhead.TheVariants as ahead
 use Rattle.hep_state.specs.declared.upcoming.CallAhead.{CallAhead}
 use Rattle.hep_state.specs.declared.upcoming.PurgeAhead.{PurgeAhead}
 use Rattle.hep_state.specs.Rooms.{IsMachineAfter}
-use Rattle.hep_state.specs.Showing.{node_under}
 use Rattle.hep_state.specs.Snapshots.{Snapshot}
-use Rattle.hep_state.specs.Taking.{stack_with}
-use Rattle.hep_state.specs.Tops.{IsTurning}
+use Rattle.hep_state.specs.Tops.{HasLevels, HoldsInTurn, IsTurning, TurnOf, top_frame}
 
 -- ---- in front of instructions
 
@@ -48,46 +44,44 @@ IsInFront instructions ahead.Other = HasNone instructions
 
 -- ---- ahead of a process
 
--- it is the turn of process p, whose top activation is at an operation, with what stands behind it in the code
-pub record IsAtStep (program : Units) (cells : ℕ) (choices : List ℕ) (p : ℕ) (m : Snapshot) (line : ℕ) (operation : Operation) : Type 0 where
-  pub l : Level
-  pub ls : List Level
-  pub operands : List Value
-  pub top : SourceLevel × SourceProcess
-  pub turning : IsTurning program cells choices m p l ls operands top
+-- the top activation is at an operation, with what stands behind it in the code
+pub record IsAtStep (t : TurnOf) (line : ℕ) (operation : Operation) : Type 0 where
+  pub turning : IsTurning t
   pub behind : List Instruction
-  pub ahead : drop l.index (unit_code program l.unit) ≡ Step line operation ∷ behind
+  pub ahead : drop t.level.index (unit_code t.program t.level.unit) ≡ Step line operation ∷ behind
 
 -- at a CALL or CREATE, and at a PURGE
-abbrev pub IsAtCall : Units → ℕ → List ℕ → ℕ → Snapshot → CallAhead → Type 0
-IsAtCall program cells choices p m call = IsAtStep program cells choices p m call.line (operation_of call)
+abbrev pub IsAtCall : TurnOf → CallAhead → Type 0
+IsAtCall t call = IsAtStep t call.line (operation_of call)
 
-abbrev pub IsAtPurge : Units → ℕ → List ℕ → ℕ → Snapshot → PurgeAhead → Type 0
-IsAtPurge program cells choices p m purge = IsAtStep program cells choices p m purge.line (Purge purge.count purge.next)
+abbrev pub IsAtPurge : TurnOf → PurgeAhead → Type 0
+IsAtPurge t purge = IsAtStep t purge.line (Purge purge.count purge.next)
+
+-- that of process p is so
+abbrev pub HasCallAhead : Units → ℕ → List ℕ → ℕ → Snapshot → CallAhead → Type 0
+HasCallAhead program cells choices p m call = HoldsInTurn program cells choices p m (λ t. IsAtCall t call)
+
+abbrev pub HasPurgeAhead : Units → ℕ → List ℕ → ℕ → Snapshot → PurgeAhead → Type 0
+HasPurgeAhead program cells choices p m purge = HoldsInTurn program cells choices p m (λ t. IsAtPurge t purge)
 
 -- the values that stand ahead of the top activation of process p are operands, and what stands there then calls, creates and purges nothing
 pub record IsWithoutCall (program : Units) (p : ℕ) (m : Snapshot) : Type 0 where
-  pub l : Level
-  pub ls : List Level
-  pub operands : List Value
-  pub there : numbered m.processes p ≡ Some (stack_with l ls operands)
-  pub past : IsPastPushes (unit_code program l.unit) l.index
-  pub plain : IsNotLeftOut (unit_code program l.unit) l.index
+  pub levels : HasLevels m p
+  pub past : IsPastPushes (unit_code program levels.level.unit) levels.level.index
+  pub plain : IsNotLeftOut (unit_code program levels.level.unit) levels.level.index
 
 -- what was found ahead of process p, of what a machine kept, once the values in front of it are operands
 abbrev pub IsAhead : Units → ℕ → Machine → Snapshot → StepAhead → Type 0
-IsAhead program p old m (ahead.Call call) = (cells : ℕ) (choices : List ℕ) → IsMachineAfter program cells choices old → IsAtCall program cells choices p m call
-IsAhead program p old m (ahead.Purge purge) = (cells : ℕ) (choices : List ℕ) → IsMachineAfter program cells choices old → IsAtPurge program cells choices p m purge
+IsAhead program p old m (ahead.Call call) = (cells : ℕ) (choices : List ℕ) → IsMachineAfter program cells choices old → HasCallAhead program cells choices p m call
+IsAhead program p old m (ahead.Purge purge) = (cells : ℕ) (choices : List ℕ) → IsMachineAfter program cells choices old → HasPurgeAhead program cells choices p m purge
 IsAhead program p old m ahead.Other = IsWithoutCall program p m
 
 -- ---- what it is given
 
 -- what its actual arguments give, by the cells of the arena, the operands and the entries behind it
-abbrev pub given_of : (program : Units) {cells : ℕ} {choices : List ℕ} {p : ℕ} (m : Snapshot) (call : CallAhead) → IsAtCall program cells choices p m call → Result (List Given) Kind
-given_of program m call at =
-    given_by (cells_in m.arena.contents) (node_under m.nodes at.l.key).first (unit_arrays program at.l.unit) (passed_from call.count at.behind at.operands)
+abbrev pub given_of : {t : TurnOf} (call : CallAhead) → IsAtCall t call → Result (List Given) Kind
+given_of {t} call at = given_by (cells_in t.machine.arena.contents) (top_frame t).first (unit_arrays t.program t.level.unit) (passed_from call.count at.behind t.operands)
 
 -- the cells that its targets name
-abbrev pub ranges_ahead : (program : Units) {cells : ℕ} {choices : List ℕ} {p : ℕ} (m : Snapshot) (purge : PurgeAhead) → IsAtPurge program cells choices p m purge → Result (List ClosedRange) Kind
-ranges_ahead program m purge at =
-    ranges_of (cells_in m.arena.contents) (node_under m.nodes at.l.key).first (unit_arrays program at.l.unit) (passed_from purge.count at.behind at.operands)
+abbrev pub ranges_ahead : {t : TurnOf} (purge : PurgeAhead) → IsAtPurge t purge → Result (List ClosedRange) Kind
+ranges_ahead {t} purge at = ranges_of (cells_in t.machine.arena.contents) (top_frame t).first (unit_arrays t.program t.level.unit) (passed_from purge.count at.behind t.operands)

@@ -3,10 +3,10 @@ use Rattle.std.specs.Prelude.{◌≡◌, ℕ, false, List, [], ◌∷◌, length
 use Rattle.std.specs.Option.{option_map}
 use Rattle.hep_machine.specs.Words.{Units, main_unit, unset_cell, Layout, opening_layout, cell_given, run, State}
 use Rattle.hep_arena.specs.Space.{Space}
-use Rattle.hep_layout.specs.Words.{descriptor_slots, FrameNode, Nodes, is_stacked}
+use Rattle.hep_layout.specs.Words.{FrameNode, Nodes}
 use Rattle.hep_image.specs.declared.data.DataRow.{DataRow}
 use Rattle.hep_image.specs.Data.{value_in_rows}
-use Rattle.hep_frames.specs.Keeping.{Keeps}
+use Rattle.hep_frames.specs.Keeping.{Keeps, frames_in}
 use Rattle.hep_state.specs.Snapshots.{Snapshot}
 
 -- the opening before DATA gives values
@@ -24,7 +24,7 @@ pub record IsEntered (program : Units) (cells key : ℕ) (arena : Space) (nodes 
   pub layout : Layout
   pub laid : opening_layout program cells ≡ Some layout
   pub size : length arena.contents ≡ cells
-  pub keeps : Keeps program (unset_opening program) (is_stacked (unset_opening program)) (λ a. nat_eq a 1) layout (descriptor_slots program (unset_opening program) layout) arena nodes
+  pub keeps : Keeps (frames_in program (unset_opening program) (λ a. nat_eq a 1) layout) arena nodes
   pub node : FrameNode
   pub there : nodes key ≡ Some node
   pub first : node.activation ≡ 1

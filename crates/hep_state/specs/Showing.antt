@@ -4,10 +4,10 @@ use Rattle.std.specs.Option.{unwrap_or}
 use Rattle.hep_machine.specs.Words.{Value, Units, unit_at, Layout, is_held, numbered, Process, State}
 use Rattle.hep_machine.specs.declared.slot.Slot.{Slot}
 use Rattle.hep_code.specs.Words.{AreLevels, CodeLevel}
-use Rattle.hep_layout.specs.Words.{descriptor_slots, is_stacked, FrameNode, Nodes}
+use Rattle.hep_layout.specs.Words.{is_stacked, FrameNode, Nodes}
 use Rattle.hep_image.specs.Places.{addresses_of}
 use Rattle.hep_layout_laws.specs.Bound.{AreKept}
-use Rattle.hep_frames.specs.Keeping.{Keeps}
+use Rattle.hep_frames.specs.Keeping.{Keeps, frames_in}
 use Rattle.hep_step.specs.Simulation.{counts_in}
 use Rattle.hep_state.specs.declared.machine.Level.{Level}
 use Rattle.hep_state.specs.Snapshots.{Snapshot, Stack}
@@ -59,7 +59,7 @@ pub record IsStack (program : Units) (s : State) (contents : List Slot) (nodes :
 -- what a core keeps is a state whose held activations have the frames of a layout: their storage units and their nodes, where
 -- each process stands, ended ones too, and what was written; and what dummy arguments on stacks stand for is in consecutive cells
 pub record Shows (program : Units) (s : State) (layout : Layout) (m : Snapshot) : Type 0 where
-  pub keeps : Keeps program s (is_stacked s) (is_held s) layout (descriptor_slots program s layout) m.arena m.nodes
+  pub keeps : Keeps (frames_in program s (is_held s) layout) m.arena m.nodes
   pub kept : (a : ℕ) → is_stacked s a ≡ true → AreKept program s layout a
   pub processes : length m.processes ≡ length s.processes
   pub stacks : (p : ℕ) (k : Stack) (q : Process) → numbered m.processes p ≡ Some k → numbered s.processes p ≡ Some q → IsStack program s m.arena.contents m.nodes k q

@@ -1,7 +1,6 @@
 -- One turn of a process in what a core keeps, in its parts: docs/MACHINE.md, "Steps".
 use Rattle.std.specs.Prelude.{◌≡◌, ◌<◌, ◌+◌, ℕ, List, [], ◌∷◌, ◌++◌, drop, length, Some, OnErr, IfOk, Result}
-use Rattle.hep_machine.specs.Words.{Value, Units, numbered, Work}
-use Rattle.hep_machine.specs.State.{Level as SourceLevel, Process as SourceProcess}
+use Rattle.hep_machine.specs.Words.{Value, Units, Work}
 use Rattle.hep_arena.specs.Space.{Space}
 use Rattle.hep_code.specs.declared.instruction.Instruction.{Instruction}
 use Rattle.hep_code.specs.Words.{IsPastPushes, Stands}
@@ -16,23 +15,13 @@ use Rattle.hep_step.specs.declared.effect.Effect.TheVariants.{Moved, Printed, Fa
 use Rattle.hep_step.specs.Effects as effects
 use Rattle.hep_step.specs.Performed.{IsPerformed, snapshot}
 use Rattle.hep_step.specs.Ready.{IsReady, frame_in_arena}
-use Rattle.hep_step.specs.Simulation.{Simulates, unit_addressed, unit_arrays, unit_code}
+use Rattle.hep_step.specs.Simulation.{unit_addressed, unit_arrays, unit_code}
 use Rattle.hep_state.specs.declared.advancing.Advanced.{Advanced}
 use Rattle.hep_state.specs.declared.machine.Level.{Level}
 use Rattle.hep_state.specs.Showing.{node_under}
 use Rattle.hep_state.specs.Snapshots.{Snapshot, Stack}
-use Rattle.hep_state.specs.Tops.{IsTurning, frame_under, snapshot_stopped, top_after}
+use Rattle.hep_state.specs.Tops.{HoldsInTurn, IsEffectOf, IsTurning, TurnOf, frame_under, snapshot_stopped, stack_with}
 use Rattle.hep_state.specs.Turns.{HasStepped, HasWaited}
-
--- ---- stacks
-
--- one with a top level
-abbrev pub stack_with : Level → List Level → List Value → Stack
-stack_with l ls operands = record { levels = l ∷ ls; operands = operands }
-
--- process p has activations
-abbrev pub HasLevels : Snapshot → ℕ → Type 0
-HasLevels m p = (l : Level) × (ls : List Level) × (operands : List Value) × (numbered m.processes p ≡ Some (stack_with l ls operands))
 
 -- ---- where the top activation of a process is
 
@@ -75,23 +64,23 @@ pub record IsAdvanced {E : Type 0} (program : Units) (nodes : Nodes) (l : Level)
 
 -- ---- what is left of a turn then
 
--- the top activation of process p ends with this effect, which is that of the source machine's step
-pub record IsEnding (program : Units) (cells : ℕ) (choices : List ℕ) (p : ℕ) (m : Snapshot) (effect : effects.Effect) : Type 0 where
-  pub l : Level
-  pub ls : List Level
-  pub operands : List Value
-  pub top : SourceLevel × SourceProcess
-  pub turning : IsTurning program cells choices m p l ls operands top
-  pub simulated : Simulates program (top_after program choices p top) turning.after.layout (frame_under m.nodes l.key) m.arena.holes m.arena.contents effect
+-- the top activation ends with this effect, which is that of the source machine's step
+pub record IsEnding (t : TurnOf) (effect : effects.Effect) : Type 0 where
+  pub turning : IsTurning t
+  pub simulated : IsEffectOf t turning effect
+
+-- that of process p does so
+abbrev pub IsToEnd : Units → ℕ → List ℕ → ℕ → Snapshot → effects.Effect → Type 0
+IsToEnd program cells choices p m effect = HoldsInTurn program cells choices p m (λ t. IsEnding t effect)
 
 -- once the operation was performed: the state after the turn is shown, with the record or the stop; or the process waits; or an activation
 -- is to end
 abbrev pub IsLeft : Units → ℕ → List ℕ → ℕ → Snapshot → Effect → Type 0
 IsLeft program cells choices p m Moved = HasStepped program cells choices p m
 IsLeft program cells choices p m (Printed items) = HasStepped program cells choices p (record m { records = m.records ++ items ∷ [] })
-IsLeft program cells choices p m (Failed line kind) = IsEnding program cells choices p m (effects.fails line kind)
+IsLeft program cells choices p m (Failed line kind) = IsToEnd program cells choices p m (effects.fails line kind)
 IsLeft program cells choices p m (Waits at state) = HasWaited program cells choices p at (is_full_state state) m
-IsLeft program cells choices p m Returned = IsEnding program cells choices p m effects.returns
+IsLeft program cells choices p m Returned = IsToEnd program cells choices p m effects.returns
 IsLeft program cells choices p m Stopped = HasStepped program cells choices p (snapshot_stopped m)
 IsLeft program cells choices p m LeftOut = ⊥
 

@@ -1,6 +1,6 @@
 -- A process whose turn it is, and what a turn changes in what a core keeps: docs/MACHINE.md, "Steps".
 use Rattle.std.specs.Prelude.{◌≡◌, ℕ, false, true, List, [], ◌∷◌, ◌++◌, map, Some}
-use Rattle.hep_machine.specs.Words.{Value, Units, Frame, living, numbered, with_numbered, with_process, run, Process, State, Top, fault_of, stack_after_return}
+use Rattle.hep_machine.specs.Words.{Value, Units, Frame, is_held, living, numbered, with_numbered, with_process, run, Process, State, Top, fault_of, stack_after_return}
 use Rattle.hep_machine.specs.declared.event.Fault.{Fault}
 use Rattle.hep_machine.specs.declared.event.Kind.{Kind}
 use Rattle.hep_machine.specs.declared.record.Item.{Item}
@@ -8,36 +8,130 @@ use Rattle.hep_machine.specs.declared.slot.Slot.{Slot}
 use Rattle.hep_machine.specs.State.{Level as SourceLevel}
 use Rattle.hep_arena.specs.Space.{Space}
 use Rattle.hep_layout.specs.Words.{Nodes}
+use Rattle.hep_frames.specs.Keeping.{HasLeft, frames_in}
+use Rattle.hep_step.specs.Effects.{Effect}
+use Rattle.hep_step.specs.Simulation.{IsRunning, RunningTop, Simulates}
 use Rattle.hep_state.specs.declared.machine.Level.{Level}
 use Rattle.hep_state.specs.Showing.{node_under}
-use Rattle.hep_state.specs.Snapshots.{Snapshot}
-use Rattle.hep_state.specs.Turns.{IsAfter}
+use Rattle.hep_state.specs.Snapshots.{Snapshot, Stack}
+use Rattle.hep_state.specs.Turns.{HasStepped, IsAfter}
+
+-- ---- levels
 
 -- the frame of the node under a key
 abbrev pub frame_under : Nodes → ℕ → Frame
 frame_under nodes key = record { activation = (node_under nodes key).activation; first = (node_under nodes key).first; cells = (node_under nodes key).cells }
 
--- a process with its top activation, after turns of these processes
-abbrev pub top_after : Units → List ℕ → ℕ → SourceLevel × Process → Top
-top_after program choices p top = record { state = run program choices; process = p; level = top.0; below = top.1 }
+abbrev pub keys_of : List Level → List ℕ
+keys_of ls = map (λ (l : Level). l.key) ls
 
--- the state once its top activation has ended
-abbrev pub state_returned : Units → List ℕ → ℕ → SourceLevel × Process → State
-state_returned program choices p top = with_process (run program choices) p (stack_after_return program (run program choices) top.1)
+-- a stack with a top level
+abbrev pub stack_with : Level → List Level → List Value → Stack
+stack_with l ls operands = record { levels = l ∷ ls; operands = operands }
 
--- and once a fault has ended it
-abbrev pub state_failed : Units → List ℕ → ℕ → SourceLevel × Process → Kind → State
-state_failed program choices p top k =
-    with_process (record (run program choices) { faults = (run program choices).faults ++ fault_of program (top_after program choices p top) k ∷ [] }) p []
+-- process p has activations: the top level, those below it, and its operands
+pub record HasLevels (m : Snapshot) (p : ℕ) : Type 0 where
+  pub level : Level
+  pub below : List Level
+  pub operands : List Value
+  pub kept : numbered m.processes p ≡ Some (stack_with level below operands)
 
--- process p lives after those turns, and these are its levels and its operands
-pub record IsTurning (program : Units) (cells : ℕ) (choices : List ℕ) (m : Snapshot) (p : ℕ) (l : Level) (ls : List Level) (operands : List Value) (top : SourceLevel × Process) : Type 0 where
-  pub after : IsAfter program cells choices m
-  pub running : (run program choices).halted ≡ false
-  pub kept : numbered m.processes p ≡ Some (record { levels = l ∷ ls; operands = operands })
-  pub lives : living (run program choices) p ≡ Some top
+-- ---- turns
 
--- ---- what a turn changes
+-- a process whose turn it is, in a machine after turns of these processes: the program, the arena's cells, those turns, the machine, the
+-- process, its levels, the top one first, its operands, and its levels in the source machine
+pub record TurnOf : Type 0 where
+  pub program : Units
+  pub cells : ℕ
+  pub choices : List ℕ
+  pub machine : Snapshot
+  pub process : ℕ
+  pub level : Level
+  pub below : List Level
+  pub operands : List Value
+  pub top : SourceLevel × Process
+
+-- that of a process with these levels
+abbrev pub turn_with : Units → ℕ → List ℕ → {m : Snapshot} {p : ℕ} → HasLevels m p → SourceLevel × Process → TurnOf
+turn_with program cells choices {m} {p} levels top =
+    record {
+      program = program;
+      cells = cells;
+      choices = choices;
+      machine = m;
+      process = p;
+      level = levels.level;
+      below = levels.below;
+      operands = levels.operands;
+      top = top;
+    }
+
+-- the state before it, the process in that state with its top activation, and the frame of this
+abbrev pub state_before : TurnOf → State
+state_before t = run t.program t.choices
+
+abbrev pub top_before : TurnOf → Top
+top_before t = record { state = state_before t; process = t.process; level = t.top.0; below = t.top.1 }
+
+abbrev pub top_frame : TurnOf → Frame
+top_frame t = frame_under t.machine.nodes t.level.key
+
+-- the process lives after those turns, and these are its levels and its operands
+pub record IsTurning (t : TurnOf) : Type 0 where
+  pub after : IsAfter t.program t.cells t.choices t.machine
+  pub running : (state_before t).halted ≡ false
+  pub kept : numbered t.machine.processes t.process ≡ Some (stack_with t.level t.below t.operands)
+  pub lives : living (state_before t) t.process ≡ Some t.top
+
+-- it is so in the turn of process p, in a machine after turns of these processes
+pub record HoldsInTurn (program : Units) (cells : ℕ) (choices : List ℕ) (p : ℕ) (m : Snapshot) (IsSo : TurnOf → Type 0) : Type 0 where
+  pub levels : HasLevels m p
+  pub top : SourceLevel × Process
+  pub holds : IsSo (turn_with program cells choices levels top)
+
+abbrev pub turn_of : {program : Units} {cells : ℕ} {choices : List ℕ} {p : ℕ} {m : Snapshot} {IsSo : TurnOf → Type 0} → HoldsInTurn program cells choices p m IsSo → TurnOf
+turn_of {program} {cells} {choices} at = turn_with program cells choices at.levels at.top
+
+-- its top activation, in the arena and in the code
+abbrev pub running_top : (t : TurnOf) → IsTurning t → RunningTop
+running_top t turning =
+    record {
+      program = t.program;
+      top = top_before t;
+      layout = turning.after.layout;
+      frame = top_frame t;
+      arena = t.machine.arena;
+      operands = t.operands;
+      index = t.level.index;
+    }
+
+-- it runs as the laws of steps ask
+abbrev pub IsTopRunning : (t : TurnOf) → IsTurning t → Type 0
+IsTopRunning t turning = IsRunning (running_top t turning)
+
+-- an effect is that of the source machine's step
+abbrev pub IsEffectOf : (t : TurnOf) → IsTurning t → Effect → Type 0
+IsEffectOf t turning effect = Simulates (running_top t turning) effect
+
+-- ---- what they lead to
+
+-- the state once the top activation has ended
+abbrev pub state_returned : TurnOf → State
+state_returned t = with_process (state_before t) t.process (stack_after_return t.program (state_before t) t.top.1)
+
+-- and once a fault has ended the process
+abbrev pub state_failed : TurnOf → Kind → State
+state_failed t kind = with_process (record (state_before t) { faults = (state_before t).faults ++ fault_of t.program (top_before t) kind ∷ [] }) t.process []
+
+-- the frames that aren't wanted any more in a state to which it led were given back
+abbrev pub HaveLeft : (t : TurnOf) → IsTurning t → State → Space → Nodes → Type 0
+HaveLeft t turning s arena nodes = HasLeft (frames_in t.program s (is_held (state_before t)) turning.after.layout) t.machine.arena arena t.machine.nodes nodes
+
+-- a step was made, and this is kept then
+abbrev pub HasMadeTurn : TurnOf → Snapshot → Type 0
+HasMadeTurn t new = HasStepped t.program t.cells t.choices t.process new
+
+-- ---- what they change
 
 -- the stack of process p
 abbrev pub with_stack : Snapshot → ℕ → List Level → List Value → Snapshot
@@ -47,25 +141,34 @@ with_stack m p levels operands = record m { processes = with_numbered m.processe
 abbrev pub with_contents : Snapshot → List Slot → Snapshot
 with_contents m contents = record m { arena = record { contents = contents; holes = m.arena.holes } }
 
--- the top activation of process p, which has these others below it, is at another index
-abbrev pub snapshot_moved : Snapshot → ℕ → Level → List Level → List Slot → List Value → ℕ → Snapshot
-snapshot_moved m p l ls contents operands index = with_stack (with_contents m contents) p (record l { index = index } ∷ ls) operands
+-- the values that stood ahead were put behind the operands
+abbrev pub turn_settled : TurnOf → List Value → ℕ → TurnOf
+turn_settled t operands index =
+    record t {
+      machine = with_stack t.machine t.process (record t.level { index = index } ∷ t.below) operands;
+      level = record t.level { index = index };
+      operands = operands;
+    }
+
+-- the top activation is at another index
+abbrev pub snapshot_moved : TurnOf → List Slot → List Value → ℕ → Snapshot
+snapshot_moved t contents operands index = with_stack (with_contents t.machine contents) t.process (record t.level { index = index } ∷ t.below) operands
 
 -- a record was printed
-abbrev pub snapshot_printed : Snapshot → ℕ → Level → List Level → List Item → ℕ → Snapshot
-snapshot_printed m p l ls items index = with_stack (record m { records = m.records ++ items ∷ [] }) p (record l { index = index } ∷ ls) []
+abbrev pub snapshot_printed : TurnOf → List Item → ℕ → Snapshot
+snapshot_printed t items index = with_stack (record t.machine { records = t.machine.records ++ items ∷ [] }) t.process (record t.level { index = index } ∷ t.below) []
 
 -- all processes were stopped
 abbrev pub snapshot_stopped : Snapshot → Snapshot
 snapshot_stopped m = record m { halted = true }
 
 -- the top activation has ended, and its frame went back, if that was so
-abbrev pub snapshot_returned : Snapshot → ℕ → List Level → Space → Nodes → Snapshot
-snapshot_returned m p ls arena nodes = with_stack (record m { arena = arena; nodes = nodes }) p ls []
+abbrev pub snapshot_returned : TurnOf → Space → Nodes → Snapshot
+snapshot_returned t arena nodes = with_stack (record t.machine { arena = arena; nodes = nodes }) t.process t.below []
 
--- a fault has ended the process
-abbrev pub snapshot_failed : Snapshot → ℕ → Fault → Space → Nodes → Snapshot
-snapshot_failed m p fault arena nodes = with_stack (record m { arena = arena; nodes = nodes; faults = m.faults ++ fault ∷ [] }) p [] []
+-- a fault has ended the process, in the statement with this initial line
+abbrev pub fault_at : TurnOf → ℕ → Kind → Fault
+fault_at t line kind = record { process = t.process; unit = t.level.unit; line = line; kind = kind }
 
-abbrev pub keys_of : List Level → List ℕ
-keys_of ls = map (λ (l : Level). l.key) ls
+abbrev pub snapshot_failed : TurnOf → ℕ → Kind → Space → Nodes → Snapshot
+snapshot_failed t line kind arena nodes = with_stack (record t.machine { arena = arena; nodes = nodes; faults = t.machine.faults ++ fault_at t line kind ∷ [] }) t.process [] []

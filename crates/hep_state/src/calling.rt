@@ -1,5 +1,5 @@
 //! CALL and CREATE: an activation that begins, with its frame (X3.9-1978, 15.6.2).
-ghost use Rattle.std.specs.Prelude.{◌≡◌, ◌<◌, ◌≤◌, ◌+◌, ◌-◌, ◌^◌, ◌++◌, ◌∷◌, ℕ, Bool, true, false, List, [], Some, IsSome, length};
+ghost use Rattle.std.specs.Prelude.{◌≡◌, ◌<◌, ◌≤◌, ◌+◌, ◌-◌, ◌^◌, ◌∷◌, ℕ, Bool, true, false, List, [], Some, IsSome, length};
 ghost use Rattle.std.specs.Prelude.{slice_get, vec_len, vec_capacity};
 ghost use Rattle.slab.specs.Slab.{HasRoomFor};
 ghost use Rattle.hep_source.specs.declared.value.Value.{Value as OperandValue};
@@ -7,7 +7,8 @@ ghost use Rattle.hep_machine.specs.Words.{Units};
 ghost use Rattle.hep_arena.specs.Holes.{first_fit};
 ghost use Rattle.hep_state.specs.declared.machine.Level.{Level as ALevel};
 ghost use Rattle.hep_state.specs.declared.machine.Process.{Process as AProcess};
-ghost use Rattle.hep_state.specs.Words.{snapshot_of, stack_of, stack_with, HasStepped, HasEntered, Makes, state_made, HasRoomAt, HaveRoom};
+ghost use Rattle.hep_state.specs.Words.{HasEntered, HasRoomAt, HasStepped, HaveRoom, Makes, snapshot_of, stack_of, stack_with};
+ghost use Rattle.hep_state.specs.Words.{state_made, turn_of};
 ghost use Rattle.hep_code.specs.Words.{deepest};
 ghost use Rattle.hep_frames.specs.Nodes.{nodes_of};
 ghost use Rattle.hep_step.specs.Simulation.{unit_code};
@@ -63,9 +64,8 @@ impl Machine {
         requires node { HasRoomFor self.old.frames.nodes 1 }
         ensures entered { (creates : Bool) (program : Units) (cells : ℕ) (choices : List ℕ) (index : ℕ)
             → (e : Makes creates program cells choices p self.old called index)
-            → HasEntered program cells choices p e.making.turning.after.layout
-            (nodes_of self.old.frames.nodes) called.unit result.key e.making.l.key
-            (state_made creates program choices p e.making.top called.unit e.making.b)
+            → HasEntered (turn_of e.making) e.making.holds.turning called.unit result.key
+            (state_made creates (turn_of e.making) called.unit e.making.holds.binding)
             self.new.frames.arena (nodes_of self.new.frames.nodes) }
         ensures level { result ≡ record { key = result.key; unit = called.unit; index = called.entry } }
         ensures others { self.new ≡ record self.old { frames = self.new.frames; activations = self.old.activations + 1 } }

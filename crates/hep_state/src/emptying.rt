@@ -1,15 +1,13 @@
 //! A PURGE: the cells that its targets name are found, and then all of them are emptied (docs/LANGUAGE.md, 9).
-ghost use Rattle.std.specs.Prelude.{◌≡◌, ◌<◌, ◌≤◌, ℕ, List, [], Some, Ok, IfErr, OnOk, length, vec_len, vec_capacity};
-ghost use Rattle.hep_source.specs.declared.value.Value.{Value as OperandValue};
-ghost use Rattle.hep_machine.specs.Words.{Units, numbered};
+ghost use Rattle.std.specs.Prelude.{◌≡◌, ◌<◌, ◌≤◌, ◌∷◌, ℕ, List, [], Ok, IfErr, OnOk, length, vec_len, vec_capacity};
+ghost use Rattle.hep_machine.specs.Words.{Units};
 ghost use Rattle.hep_image.specs.Image.{most_cells};
 ghost use Rattle.hep_purging.specs.Purged.{purged};
 ghost use Rattle.hep_purging.specs.Ready.{AreReached};
 ghost use Rattle.hep_step.specs.Effects.{fails};
-ghost use Rattle.hep_state.specs.declared.machine.Level.{Level as ALevel};
 ghost use Rattle.hep_state.specs.declared.turn.Turned.TheVariants.{Purged};
-ghost use Rattle.hep_state.specs.Words.{IsAtPurge, ranges_ahead, HasTurned, HaveRoom, IsMachineAfter, snapshot_of, HasLevels, IsEnding};
-ghost use Rattle.hep_state.specs.Words.{stack_with, snapshot_moved};
+ghost use Rattle.hep_state.specs.Words.{HasPurgeAhead, ranges_ahead, HasTurned, HaveRoom, IsMachineAfter, snapshot_of, HasLevels, IsToEnd};
+ghost use Rattle.hep_state.specs.Words.{with_contents, with_stack};
 
 use crate::calling::go_on;
 use crate::laws;
@@ -25,14 +23,14 @@ impl Machine {
     // Fails with Range where one of them isn't there. Nothing but `passing` changes.
     fn find_targets(&mut self, image: &Image, p: u64, purge: PurgeAhead) -> Result<(), Kind>
         requires at { (cells : ℕ) × (choices : List ℕ) × IsMachineAfter image.now cells choices self.old
-            × IsAtPurge image.now cells choices p (snapshot_of self.old) purge }
+            × HasPurgeAhead image.now cells choices p (snapshot_of self.old) purge }
         ensures found { OnOk result ((cells : ℕ) (choices : List ℕ)
-            → (at : IsAtPurge image.now cells choices p (snapshot_of self.old) purge)
-            → ranges_ahead image.now (snapshot_of self.old) purge at ≡ Ok self.new.passing.ranges.items) }
+            → (at : HasPurgeAhead image.now cells choices p (snapshot_of self.old) purge)
+            → ranges_ahead purge at.holds ≡ Ok self.new.passing.ranges.items) }
         ensures reached { OnOk result (AreReached self.old.frames.arena self.new.passing.ranges.items) }
         ensures fault { IfErr result (λ kind. (cells : ℕ) (choices : List ℕ)
-            → IsAtPurge image.now cells choices p (snapshot_of self.old) purge
-            → IsEnding image.now cells choices p (snapshot_of self.old) (fails purge.line kind)) }
+            → HasPurgeAhead image.now cells choices p (snapshot_of self.old) purge
+            → IsToEnd image.now cells choices p (snapshot_of self.old) (fails purge.line kind)) }
         ensures others { self.new ≡ record self.old { passing = self.new.passing } }
         ensures rooms { (cells : ℕ) → HaveRoom image.now cells self.old → HaveRoom image.now cells self.new }
     {
@@ -57,10 +55,9 @@ impl Machine {
         requires living { HasLevels (snapshot_of self.old) p }
         requires reached { AreReached self.old.frames.arena self.old.passing.ranges.items }
         requires few { length self.old.frames.arena.contents ≤ most_cells }
-        ensures moved { (l : ALevel) (ls : List ALevel) (operands : List OperandValue)
-            → numbered (snapshot_of self.old).processes p ≡ Some (stack_with l ls operands)
-            → snapshot_of self.new ≡ snapshot_moved (snapshot_of self.old) p l ls
-            (purged self.old.passing.ranges.items self.old.frames.arena.contents) [] index }
+        ensures moved { (levels : HasLevels (snapshot_of self.old) p) → snapshot_of self.new ≡ with_stack (with_contents
+            (snapshot_of self.old) (purged self.old.passing.ranges.items self.old.frames.arena.contents))
+            p (record levels.level { index = index } ∷ levels.below) [] }
         ensures passing { self.new.passing ≡ self.old.passing }
         ensures rooms { (program : Units) (cells : ℕ) → HaveRoom program cells self.old → HaveRoom program cells self.new }
         ensures processes { length self.new.processes.items ≡ length self.old.processes.items }
@@ -72,10 +69,10 @@ impl Machine {
     // Makes the PURGE ahead of process p, or ends the process with a fault. The cells that were emptied are in `passing`.
     pub(crate) fn purge(&mut self, image: &Image, p: u64, purge: PurgeAhead)
         requires at { (cells : ℕ) × (choices : List ℕ) × IsMachineAfter image.now cells choices self.old
-            × IsAtPurge image.now cells choices p (snapshot_of self.old) purge }
+            × HasPurgeAhead image.now cells choices p (snapshot_of self.old) purge }
         requires room { vec_len self.old.faults < vec_capacity self.old.faults }
         ensures purged { (cells : ℕ) (choices : List ℕ) → IsMachineAfter image.now cells choices self.old
-            → IsAtPurge image.now cells choices p (snapshot_of self.old) purge → HasTurned image.now cells choices p Purged self.new }
+            → HasPurgeAhead image.now cells choices p (snapshot_of self.old) purge → HasTurned image.now cells choices p Purged self.new }
         ensures processes { length self.new.processes.items ≡ length self.old.processes.items }
     {
         image.is_runnable();

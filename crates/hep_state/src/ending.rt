@@ -2,12 +2,12 @@
 ghost use Rattle.std.specs.Prelude.{◌≡◌, ◌<◌, ◌++◌, ◌∷◌, ℕ, Bool, List, [], MatchOption, Some, length, reverse, vec_len, vec_capacity};
 ghost use Rattle.hep_source.specs.declared.value.Value.{Value as OperandValue};
 ghost use Rattle.hep_machine.specs.Words.{Units, Layout, State};
-ghost use Rattle.hep_layout.specs.Words.{descriptor_slots, is_stacked};
-ghost use Rattle.hep_frames.specs.Keeping.{CanAllLeave, CanLeave, HasLeft, IsEnded, Keeps, LeadUpwards, all_but};
+ghost use Rattle.hep_layout.specs.Words.{is_stacked};
+ghost use Rattle.hep_frames.specs.Keeping.{CanAllLeave, CanLeave, HasLeft, IsEnded, Keeps, LeadUpwards, all_but, frames_in};
 ghost use Rattle.hep_frames.specs.Nodes.{nodes_of};
 ghost use Rattle.hep_step.specs.Effects.{fails, returns};
 ghost use Rattle.hep_state.specs.declared.machine.Level.{Level as ALevel};
-ghost use Rattle.hep_state.specs.Words.{HaveRoom, snapshot_of, stack_of, IsEnding, IsLeft, stack_with, keys_of, HasStepped, HasWaited};
+ghost use Rattle.hep_state.specs.Words.{HaveRoom, snapshot_of, stack_of, IsToEnd, IsLeft, stack_with, keys_of, HasStepped, HasWaited};
 
 use crate::machine::{Level, Machine, Process, append};
 use hep_blocked::Want;
@@ -20,10 +20,10 @@ use hep_step::Effect;
 fn leave_all(frames: &mut Frames, levels: &mut Vec<Level>)
     requires { CanAllLeave frames.old.arena (nodes_of frames.old.nodes) (keys_of (reverse levels.old.items)) }
     ensures ended { (program : Units) (s t : State) (out : ℕ → Bool) (layout : Layout) (ends : List ℕ)
-        → Keeps program s (is_stacked s) out layout (descriptor_slots program s layout) frames.old.arena (nodes_of frames.old.nodes)
+        → Keeps (frames_in program s out layout) frames.old.arena (nodes_of frames.old.nodes)
         → CanLeave (nodes_of frames.old.nodes) (is_stacked s) (keys_of (reverse levels.old.items)) ends
         → IsEnded program layout (all_but ends (is_stacked s)) s t → LeadUpwards t
-        → HasLeft program t (is_stacked t) out layout frames.old.arena frames.new.arena (nodes_of frames.old.nodes)
+        → HasLeft (frames_in program t out layout) frames.old.arena frames.new.arena (nodes_of frames.old.nodes)
         (nodes_of frames.new.nodes) }
     ensures cells { length frames.new.arena.contents ≡ length frames.old.arena.contents }
     ensures none { levels.new.items ≡ [] }
@@ -52,8 +52,8 @@ impl Process {
 impl Machine {
     // The top activation of process p has ended, by RETURN or END of its unit.
     fn finish(&mut self, p: u64)
-        requires { (program : Units) × (cells : ℕ) × (choices : List ℕ) × IsEnding program cells choices p (snapshot_of self.old) returns }
-        ensures stepped { (program : Units) (cells : ℕ) (choices : List ℕ) → IsEnding program cells choices p (snapshot_of self.old) returns
+        requires { (program : Units) × (cells : ℕ) × (choices : List ℕ) × IsToEnd program cells choices p (snapshot_of self.old) returns }
+        ensures stepped { (program : Units) (cells : ℕ) (choices : List ℕ) → IsToEnd program cells choices p (snapshot_of self.old) returns
             → HasStepped program cells choices p (snapshot_of self.new) }
         ensures rooms { (program : Units) (cells : ℕ) → HaveRoom program cells self.old → HaveRoom program cells self.new }
         ensures processes { length self.new.processes.items ≡ length self.old.processes.items }
@@ -65,10 +65,10 @@ impl Machine {
     // A fault has ended process p, in the statement with this initial line.
     pub(crate) fn fail(&mut self, p: u64, line: u32, kind: Kind)
         requires ending { (program : Units) × (cells : ℕ) × (choices : List ℕ)
-            × IsEnding program cells choices p (snapshot_of self.old) (fails line kind) }
+            × IsToEnd program cells choices p (snapshot_of self.old) (fails line kind) }
         requires room { vec_len self.old.faults < vec_capacity self.old.faults }
         ensures stepped { (program : Units) (cells : ℕ) (choices : List ℕ)
-            → IsEnding program cells choices p (snapshot_of self.old) (fails line kind)
+            → IsToEnd program cells choices p (snapshot_of self.old) (fails line kind)
             → HasStepped program cells choices p (snapshot_of self.new) }
         ensures passing { self.new.passing ≡ self.old.passing }
         ensures rooms { (program : Units) (cells : ℕ) → HaveRoom program cells self.old → HaveRoom program cells self.new }

@@ -1,8 +1,8 @@
 //! Laws of what a core keeps: what a turn changes in it is what the source machine's step changes in the state.
-ghost use Rattle.std.specs.Prelude.{◌≡◌, ◌<◌, ◌≤◌, ◌+◌, ◌∷◌, ℕ, Bool, true, false, List, Option, Some, None, Ok, Err, IsSome, [], drop};
+ghost use Rattle.std.specs.Prelude.{◌≡◌, ◌<◌, ◌≤◌, ◌+◌, ◌∷◌, ℕ, Bool, true, false, List, Option, Some, None, Ok, Err, IsSome, []};
 ghost use Rattle.std.specs.Prelude.{is_some, length, nat_eq};
 ghost use Rattle.hep_machine.specs.Words.{Value, Units, dummies_of, main_among, main_unit, unit_at, Binding, Layout, activations_on};
-ghost use Rattle.hep_machine.specs.Words.{is_held, opening_layout, numbered, run, Work, Bounds};
+ghost use Rattle.hep_machine.specs.Words.{opening_layout, numbered, Work, Bounds};
 ghost use Rattle.hep_machine.specs.declared.event.Kind.{Kind};
 ghost use Rattle.hep_machine.specs.declared.record.Item.{Item};
 ghost use Rattle.hep_machine.specs.declared.slot.Slot.{Slot};
@@ -10,16 +10,13 @@ ghost use Rattle.hep_machine.specs.State.{Level as SourceLevel, Process as Sourc
 ghost use Rattle.hep_machine.specs.declared.event.Kind.TheVariants.{Shape};
 ghost use Rattle.hep_conditions.specs.Words.{IsAccepted};
 ghost use Rattle.hep_arena.specs.Space.{Space};
-ghost use Rattle.hep_code.specs.declared.instruction.Instruction.{Instruction};
 ghost use Rattle.hep_code.specs.Words.{entry_index, Stands, passed_from};
 ghost use Rattle.hep_layout.specs.Words.{descriptor_slots, FrameNode, Nodes, but, is_stacked};
 ghost use Rattle.hep_layout_laws.specs.Within.{ArePlacedArrays};
 ghost use Rattle.hep_image.specs.declared.data.DataRow.{DataRow};
 ghost use Rattle.hep_image.specs.Data.{AreInitial, AreOfUnits, first_frames};
-ghost use Rattle.hep_frames.specs.Keeping.{AreOfSomeState, CanAllLeave, CanLeave, HasLeft, IsEnded, IsOpening, Keeps, LeadUpwards, all_but};
+ghost use Rattle.hep_frames.specs.Keeping.{AreOfSomeState, CanAllLeave, CanLeave, IsEnded, IsOpening, Keeps, LeadUpwards, all_but};
 ghost use Rattle.hep_arena.specs.Holes.{first_fit};
-ghost use Rattle.hep_code.specs.declared.instruction.Instruction.TheVariants.{Step};
-ghost use Rattle.hep_code.specs.declared.instruction.Operation.{Operation};
 ghost use Rattle.hep_image.specs.Dummies.{dummy_arguments};
 ghost use Rattle.hep_image.specs.Image.{most_cells};
 ghost use Rattle.hep_passing.specs.declared.given.Given.{Given};
@@ -30,27 +27,25 @@ ghost use Rattle.hep_purging.specs.Ready.{AreOut};
 ghost use Rattle.hep_shaping.specs.Fitting.{AreShapable, are_fitting, longest_code, shapes_of};
 ghost use Rattle.hep_step.specs.Cells.{HasFrame};
 ghost use Rattle.hep_step.specs.Ready.{frame_in_arena};
-ghost use Rattle.hep_step.specs.Calls.{making};
 ghost use Rattle.hep_step.specs.Effects.{fails, moves, prints, returns, stops, waits};
-ghost use Rattle.hep_step.specs.Simulation.{IsRunning, Simulates, is_left_out, unit_addressed, unit_arrays, unit_code};
-ghost use Rattle.hep_state.specs.declared.machine.Level.{Level};
+ghost use Rattle.hep_step.specs.Simulation.{unit_addressed, unit_arrays};
 ghost use Rattle.hep_entering.specs.Calling.{state_called, state_created};
-ghost use Rattle.hep_state.specs.Words.{HasEntered, IsAfterCall, IsMaking, IsUnit, snapshot_called, snapshot_created, state_made, IsKnown};
-ghost use Rattle.hep_state.specs.Words.{IsEntered, IsGiven, snapshot_opened, unset_opening, node_under, Snapshot, IsEnding, IsTurning};
-ghost use Rattle.hep_state.specs.Words.{frame_under, keys_of, snapshot_failed, snapshot_moved, snapshot_printed, snapshot_returned};
-ghost use Rattle.hep_state.specs.Words.{snapshot_stopped, state_failed, state_returned, top_after, with_stack, IsAtCall, IsAtPurge};
-ghost use Rattle.hep_state.specs.Words.{IsWithoutCall, given_of, ranges_ahead, HasPurged, Touches, HasGaps, HasNoGap, HasStepped};
-ghost use Rattle.hep_state.specs.Words.{HasWaited, IsAbsent, IsAfter};
+ghost use Rattle.hep_state.specs.Words.{HasEntered, HasGaps, HasLevels, HasMadeTurn, HasNoGap, HasPurged, HasWaited, HaveLeft, IsAbsent};
+ghost use Rattle.hep_state.specs.Words.{IsAfter, IsAfterCall, IsAtCall, IsAtPurge, IsEffectOf, IsEnding, IsEntered, IsGiven, IsKnown};
+ghost use Rattle.hep_state.specs.Words.{IsMaking, IsTopRunning, IsTurning, IsUnit, IsWithoutCall, Snapshot, Touches, TurnOf, given_of};
+ghost use Rattle.hep_state.specs.Words.{keys_of, node_under, ranges_ahead, snapshot_called, snapshot_created, snapshot_failed};
+ghost use Rattle.hep_state.specs.Words.{snapshot_moved, snapshot_opened, snapshot_printed, snapshot_returned, snapshot_stopped};
+ghost use Rattle.hep_state.specs.Words.{state_before, state_failed, state_returned, top_frame, turn_settled, turn_with, unset_opening};
 ghost use Rattle.hep_state.specs.declared.upcoming.CallAhead.{CallAhead};
 ghost use Rattle.hep_state.specs.declared.upcoming.PurgeAhead.{PurgeAhead};
+ghost use Rattle.hep_frames.specs.Keeping.{frames_in};
 
 /// A process that has levels lives, and it is its turn where the processes weren't stopped; one that has none, or that isn't
 /// there, doesn't live.
 pub fn turns_are_taken()
-    ensures turning { (program : Units) (cells : ℕ) (choices : List ℕ) (m : Snapshot) (p : ℕ) (l : Level) (ls : List Level)
-        (operands : List Value) → IsAfter program cells choices m → m.halted ≡ false
-        → numbered m.processes p ≡ Some (record { levels = l ∷ ls; operands = operands }) → (top : SourceLevel × SourceProcess)
-        × IsTurning program cells choices m p l ls operands top }
+    ensures turning { (program : Units) (cells : ℕ) (choices : List ℕ) (m : Snapshot) (p : ℕ) (levels : HasLevels m p)
+        → IsAfter program cells choices m → m.halted ≡ false
+        → (top : SourceLevel × SourceProcess) × IsTurning (turn_with program cells choices levels top) }
     ensures halted { (program : Units) (cells : ℕ) (choices : List ℕ) (m : Snapshot) (p : ℕ) → IsAfter program cells choices m
         → m.halted ≡ true → IsAbsent program cells choices p m }
     ensures ended { (program : Units) (cells : ℕ) (choices : List ℕ) (m : Snapshot) (p : ℕ) (operands : List Value)
@@ -63,14 +58,10 @@ pub fn turns_are_taken()
 /// The top activation of a process whose turn it is runs as the laws of steps ask, and each array of its unit begins
 /// somewhere, in each accepted program with a main program.
 pub fn tops_are_running()
-    ensures running { (program : Units) (cells : ℕ) (choices : List ℕ) (m : Snapshot) (p : ℕ) (l : Level) (ls : List Level)
-        (operands : List Value) (top : SourceLevel × SourceProcess) → IsAccepted program → is_some (main_among program) ≡ true
-        → (turning : IsTurning program cells choices m p l ls operands top)
-        → IsRunning program (top_after program choices p top) turning.after.layout
-        (frame_under m.nodes l.key) m.arena.contents m.arena.holes operands l.index }
-    ensures arrays { (program : Units) (cells : ℕ) (choices : List ℕ) (m : Snapshot) (p : ℕ) (l : Level) (ls : List Level)
-        (operands : List Value) (top : SourceLevel × SourceProcess) → IsAccepted program → is_some (main_among program) ≡ true
-        → IsTurning program cells choices m p l ls operands top → ArePlacedArrays program (unit_at program l.unit) }
+    ensures running { (t : TurnOf) → IsAccepted t.program → is_some (main_among t.program) ≡ true → (turning : IsTurning t)
+        → IsTopRunning t turning }
+    ensures arrays { (t : TurnOf) → IsAccepted t.program → is_some (main_among t.program) ≡ true → IsTurning t
+        → ArePlacedArrays t.program (unit_at t.program t.level.unit) }
 {
     hep_image_laws::laws::variables_of_the_code_are_placed();
     hep_image_laws::laws::arrays_are_there();
@@ -86,100 +77,63 @@ pub fn activations_are_few()
 
 /// Where the values that stand ahead are put behind the operands, the same state is shown.
 pub fn settled_machines_show_the_same()
-    ensures { (program : Units) (cells : ℕ) (choices : List ℕ) (m : Snapshot) (p : ℕ) (l : Level) (ls : List Level)
-        (operands new : List Value) (index : ℕ) (top : SourceLevel × SourceProcess)
-        → IsTurning program cells choices m p l ls operands top
-        → ((k : ℕ) (work : Work) → Stands (unit_addressed program l.unit) k work operands l.index
-        → Stands (unit_addressed program l.unit) k work new index)
-        → IsTurning program cells choices (with_stack m p (record l { index = index } ∷ ls) new) p (record l { index = index }) ls new top }
+    ensures { (t : TurnOf) (operands : List Value) (index : ℕ) → IsTurning t
+        → ((k : ℕ) (work : Work) → Stands (unit_addressed t.program t.level.unit) k work t.operands t.level.index
+        → Stands (unit_addressed t.program t.level.unit) k work operands index) → IsTurning (turn_settled t operands index) }
 {}
 
 /// Where an operation moves the top activation, the state after the turn is shown once the cells are changed, with
 /// the activation at its index and its operands.
 pub fn moves_are_shown()
-    ensures { (program : Units) (cells : ℕ) (choices : List ℕ) (m : Snapshot) (p : ℕ) (l : Level) (ls : List Level) (operands : List Value)
-        (top : SourceLevel × SourceProcess) (contents : List Slot) (new : List Value) (index : ℕ)
-        → (turning : IsTurning program cells choices m p l ls operands top) → length contents ≡ length m.arena.contents
-        → Simulates program (top_after program choices p top) turning.after.layout
-        (frame_under m.nodes l.key) m.arena.holes m.arena.contents (moves contents new index)
-        → HasStepped program cells choices p (snapshot_moved m p l ls contents new index) }
+    ensures { (t : TurnOf) (contents : List Slot) (operands : List Value) (index : ℕ) → (turning : IsTurning t)
+        → length contents ≡ length t.machine.arena.contents → IsEffectOf t turning (moves contents operands index)
+        → HasMadeTurn t (snapshot_moved t contents operands index) }
 {}
 
 /// Where it prints, the record stands behind the others.
 pub fn records_are_shown()
-    ensures { (program : Units) (cells : ℕ) (choices : List ℕ) (m : Snapshot) (p : ℕ) (l : Level) (ls : List Level) (operands : List Value)
-        (top : SourceLevel × SourceProcess) (items : List Item) (index : ℕ)
-        → (turning : IsTurning program cells choices m p l ls operands top)
-        → Simulates program (top_after program choices p top) turning.after.layout
-        (frame_under m.nodes l.key) m.arena.holes m.arena.contents (prints items index)
-        → HasStepped program cells choices p (snapshot_printed m p l ls items index) }
+    ensures { (t : TurnOf) (items : List Item) (index : ℕ) → (turning : IsTurning t) → IsEffectOf t turning (prints items index)
+        → HasMadeTurn t (snapshot_printed t items index) }
 {}
 
 /// Where it stops all processes, the machine is halted.
 pub fn stops_are_shown()
-    ensures { (program : Units) (cells : ℕ) (choices : List ℕ) (m : Snapshot) (p : ℕ) (l : Level) (ls : List Level) (operands : List Value)
-        (top : SourceLevel × SourceProcess) → (turning : IsTurning program cells choices m p l ls operands top)
-        → Simulates program (top_after program choices p top) turning.after.layout
-        (frame_under m.nodes l.key) m.arena.holes m.arena.contents stops → HasStepped program cells choices p (snapshot_stopped m) }
+    ensures { (t : TurnOf) → (turning : IsTurning t) → IsEffectOf t turning stops → HasMadeTurn t (snapshot_stopped t.machine) }
 {}
 
 /// Where it waits, nothing has changed.
 pub fn waiting_is_shown()
-    ensures { (program : Units) (cells : ℕ) (choices : List ℕ) (m : Snapshot) (p : ℕ) (l : Level) (ls : List Level) (operands : List Value)
-        (top : SourceLevel × SourceProcess) (cell : ℕ) (full : Bool) → (turning : IsTurning program cells choices m p l ls operands top)
-        → Simulates program (top_after program choices p top) turning.after.layout
-        (frame_under m.nodes l.key) m.arena.holes m.arena.contents (waits cell full) → HasWaited program cells choices p cell full m }
+    ensures { (t : TurnOf) (cell : ℕ) (full : Bool) → (turning : IsTurning t) → IsEffectOf t turning (waits cell full)
+        → HasWaited t.program t.cells t.choices t.process cell full t.machine }
 {}
 
 /// The frames of the top activation, or of all activations of a process, can leave.
 pub fn frames_can_leave()
-    ensures kept { (program : Units) (cells : ℕ) (choices : List ℕ) (m : Snapshot) (p : ℕ) (l : Level) (ls : List Level)
-        (operands : List Value) (top : SourceLevel × SourceProcess) → IsTurning program cells choices m p l ls operands top
-        → AreOfSomeState m.arena m.nodes }
-    ensures there { (program : Units) (cells : ℕ) (choices : List ℕ) (m : Snapshot) (p : ℕ) (l : Level) (ls : List Level)
-        (operands : List Value) (top : SourceLevel × SourceProcess) → IsTurning program cells choices m p l ls operands top
-        → m.nodes l.key ≡ Some (node_under m.nodes l.key) }
-    ensures returned { (program : Units) (cells : ℕ) (choices : List ℕ) (m : Snapshot) (p : ℕ) (l : Level) (ls : List Level)
-        (operands : List Value) (top : SourceLevel × SourceProcess) → (turning : IsTurning program cells choices m p l ls operands top)
-        → IsEnded program turning.after.layout (but (node_under m.nodes l.key).activation (is_stacked (run program choices)))
-        (run program choices) (state_returned program choices p top) × LeadUpwards (state_returned program choices p top) }
-    ensures all { (program : Units) (cells : ℕ) (choices : List ℕ) (m : Snapshot) (p : ℕ) (l : Level) (ls : List Level)
-        (operands : List Value) (top : SourceLevel × SourceProcess) → IsTurning program cells choices m p l ls operands top
-        → CanAllLeave m.arena m.nodes (keys_of (l ∷ ls))
-        × CanLeave m.nodes (is_stacked (run program choices)) (keys_of (l ∷ ls)) (activations_on (top.0 ∷ top.1)) }
-    ensures failed { (program : Units) (cells : ℕ) (choices : List ℕ) (m : Snapshot) (p : ℕ) (l : Level) (ls : List Level)
-        (operands : List Value) (top : SourceLevel × SourceProcess) (kind : Kind)
-        → (turning : IsTurning program cells choices m p l ls operands top)
-        → IsEnded program turning.after.layout (all_but (activations_on (top.0 ∷ top.1)) (is_stacked (run program choices)))
-        (run program choices) (state_failed program choices p top kind) × LeadUpwards (state_failed program choices p top kind) }
+    ensures kept { (t : TurnOf) → IsTurning t → AreOfSomeState t.machine.arena t.machine.nodes }
+    ensures there { (t : TurnOf) → IsTurning t → t.machine.nodes t.level.key ≡ Some (node_under t.machine.nodes t.level.key) }
+    ensures returned { (t : TurnOf) → (turning : IsTurning t)
+        → IsEnded t.program turning.after.layout (but (top_frame t).activation (is_stacked (state_before t)))
+        (state_before t) (state_returned t) × LeadUpwards (state_returned t) }
+    ensures all { (t : TurnOf) → IsTurning t → CanAllLeave t.machine.arena t.machine.nodes (keys_of (t.level ∷ t.below))
+        × CanLeave t.machine.nodes (is_stacked (state_before t)) (keys_of (t.level ∷ t.below)) (activations_on (t.top.0 ∷ t.top.1)) }
+    ensures failed { (t : TurnOf) (kind : Kind) → (turning : IsTurning t)
+        → IsEnded t.program turning.after.layout (all_but (activations_on (t.top.0 ∷ t.top.1)) (is_stacked (state_before t)))
+        (state_before t) (state_failed t kind) × LeadUpwards (state_failed t kind) }
 {}
 
 /// Where the top activation has ended and its frame has left, its caller goes on, or the process has ended.
 pub fn ends_are_shown()
-    ensures { (program : Units) (cells : ℕ) (choices : List ℕ) (m : Snapshot) (p : ℕ) (l : Level) (ls : List Level) (operands : List Value)
-        (top : SourceLevel × SourceProcess) (arena : Space) (nodes : Nodes)
-        → (turning : IsTurning program cells choices m p l ls operands top)
-        → HasLeft program (state_returned program choices p top) (is_stacked (state_returned program choices p top))
-        (is_held (run program choices)) turning.after.layout m.arena arena m.nodes nodes
-        → length arena.contents ≡ length m.arena.contents
-        → Simulates program (top_after program choices p top) turning.after.layout
-        (frame_under m.nodes l.key) m.arena.holes m.arena.contents returns
-        → HasStepped program cells choices p (snapshot_returned m p ls arena nodes) }
+    ensures { (t : TurnOf) (arena : Space) (nodes : Nodes) → (turning : IsTurning t) → HaveLeft t turning (state_returned t) arena nodes
+        → length arena.contents ≡ length t.machine.arena.contents → IsEffectOf t turning returns
+        → HasMadeTurn t (snapshot_returned t arena nodes) }
 {}
 
 /// Where a fault has ended the process and the frames of all its activations have left, the fault stands behind the
 /// others.
 pub fn faults_are_shown()
-    ensures { (program : Units) (cells : ℕ) (choices : List ℕ) (m : Snapshot) (p : ℕ) (l : Level) (ls : List Level) (operands : List Value)
-        (top : SourceLevel × SourceProcess) (arena : Space) (nodes : Nodes) (line : ℕ) (kind : Kind)
-        → (turning : IsTurning program cells choices m p l ls operands top)
-        → HasLeft program (state_failed program choices p top kind) (is_stacked (state_failed program choices p top kind))
-        (is_held (run program choices)) turning.after.layout m.arena arena m.nodes nodes
-        → length arena.contents ≡ length m.arena.contents
-        → Simulates program (top_after program choices p top) turning.after.layout
-        (frame_under m.nodes l.key) m.arena.holes m.arena.contents (fails line kind)
-        → HasStepped program cells choices p (snapshot_failed m p
-        (record { process = p; unit = l.unit; line = line; kind = kind }) arena nodes) }
+    ensures { (t : TurnOf) (arena : Space) (nodes : Nodes) (line : ℕ) (kind : Kind) → (turning : IsTurning t)
+        → HaveLeft t turning (state_failed t kind) arena nodes → length arena.contents ≡ length t.machine.arena.contents
+        → IsEffectOf t turning (fails line kind) → HasMadeTurn t (snapshot_failed t line kind arena nodes) }
 {}
 
 // What the laws of other crates say of an accepted program with a main program.
@@ -199,18 +153,15 @@ fn programs_are_known()
 /// A process that is at a CALL or CREATE makes an activation of a subroutine of the program, with as many actual arguments
 /// as this has dummy arguments, and what its operands and the entries behind the CALL name can be passed.
 pub fn calls_can_be_made()
-    ensures inside { (program : Units) (cells : ℕ) (choices : List ℕ) (m : Snapshot) (p : ℕ) (call : CallAhead) → IsAccepted program
-        → is_some (main_among program) ≡ true → IsAtCall program cells choices p m call → call.unit < length program }
-    ensures counted { (program : Units) (cells : ℕ) (choices : List ℕ) (m : Snapshot) (p : ℕ) (call : CallAhead) → IsAccepted program
-        → is_some (main_among program) ≡ true → IsAtCall program cells choices p m call
-        → call.count ≡ length (dummies_of (unit_at program call.unit)) }
-    ensures framed { (program : Units) (cells : ℕ) (choices : List ℕ) (m : Snapshot) (p : ℕ) (call : CallAhead) → IsAccepted program
-        → is_some (main_among program) ≡ true → length m.arena.contents ≤ most_cells → (at : IsAtCall program cells choices p m call)
-        → HasFrame m.arena (frame_in_arena (frame_under m.nodes at.l.key)) }
-    ensures passable { (program : Units) (cells : ℕ) (choices : List ℕ) (m : Snapshot) (p : ℕ) (call : CallAhead) → IsAccepted program
-        → is_some (main_among program) ≡ true → (at : IsAtCall program cells choices p m call)
-        → ArePassable m.arena (unit_arrays program at.l.unit) (frame_in_arena (frame_under m.nodes at.l.key))
-        (passed_from call.count at.behind at.operands) }
+    ensures inside { (t : TurnOf) (call : CallAhead) → IsAccepted t.program → is_some (main_among t.program) ≡ true → IsAtCall t call
+        → call.unit < length t.program }
+    ensures counted { (t : TurnOf) (call : CallAhead) → IsAccepted t.program → is_some (main_among t.program) ≡ true → IsAtCall t call
+        → call.count ≡ length (dummies_of (unit_at t.program call.unit)) }
+    ensures framed { (t : TurnOf) (call : CallAhead) → IsAccepted t.program → is_some (main_among t.program) ≡ true
+        → length t.machine.arena.contents ≤ most_cells → IsAtCall t call → HasFrame t.machine.arena (frame_in_arena (top_frame t)) }
+    ensures passable { (t : TurnOf) (call : CallAhead) → IsAccepted t.program → is_some (main_among t.program) ≡ true
+        → (at : IsAtCall t call) → ArePassable t.machine.arena (unit_arrays t.program t.level.unit) (frame_in_arena (top_frame t))
+        (passed_from call.count at.behind t.operands) }
 {
     hep_passing::laws::callers_can_pass();
     programs_are_known();
@@ -219,17 +170,14 @@ pub fn calls_can_be_made()
 
 /// Where a PURGE stands ahead of a process, its frame is there, what its targets name can be found, and is out.
 pub fn purges_can_be_made()
-    ensures framed { (program : Units) (cells : ℕ) (choices : List ℕ) (m : Snapshot) (p : ℕ) (purge : PurgeAhead) → IsAccepted program
-        → is_some (main_among program) ≡ true → length m.arena.contents ≤ most_cells → (at : IsAtPurge program cells choices p m purge)
-        → HasFrame m.arena (frame_in_arena (frame_under m.nodes at.l.key)) }
-    ensures passable { (program : Units) (cells : ℕ) (choices : List ℕ) (m : Snapshot) (p : ℕ) (purge : PurgeAhead) → IsAccepted program
-        → is_some (main_among program) ≡ true → (at : IsAtPurge program cells choices p m purge)
-        → ArePassable m.arena (unit_arrays program at.l.unit) (frame_in_arena (frame_under m.nodes at.l.key))
-        (passed_from purge.count at.behind at.operands) }
-    ensures out { (program : Units) (cells : ℕ) (choices : List ℕ) (m : Snapshot) (p : ℕ) (purge : PurgeAhead) → IsAccepted program
-        → is_some (main_among program) ≡ true → (at : IsAtPurge program cells choices p m purge)
-        → AreOut m.arena (unit_arrays program at.l.unit) (frame_in_arena (frame_under m.nodes at.l.key))
-        (passed_from purge.count at.behind at.operands) }
+    ensures framed { (t : TurnOf) (purge : PurgeAhead) → IsAccepted t.program → is_some (main_among t.program) ≡ true
+        → length t.machine.arena.contents ≤ most_cells → IsAtPurge t purge → HasFrame t.machine.arena (frame_in_arena (top_frame t)) }
+    ensures passable { (t : TurnOf) (purge : PurgeAhead) → IsAccepted t.program → is_some (main_among t.program) ≡ true
+        → (at : IsAtPurge t purge) → ArePassable t.machine.arena (unit_arrays t.program t.level.unit) (frame_in_arena (top_frame t))
+        (passed_from purge.count at.behind t.operands) }
+    ensures out { (t : TurnOf) (purge : PurgeAhead) → IsAccepted t.program → is_some (main_among t.program) ≡ true
+        → (at : IsAtPurge t purge) → AreOut t.machine.arena (unit_arrays t.program t.level.unit) (frame_in_arena (top_frame t))
+        (passed_from purge.count at.behind t.operands) }
 {
     hep_purging::laws::purges_are_ready();
     programs_are_known();
@@ -240,22 +188,18 @@ pub fn purges_can_be_made()
 /// storage units in these cells are empty, and the others as full as before. Where a target isn't there, a fault ends the process, and
 /// nothing is emptied. In either case each frame has its gap.
 pub fn purges_are_shown()
-    ensures stepped { (program : Units) (cells : ℕ) (choices : List ℕ) (m : Snapshot) (p : ℕ) (purge : PurgeAhead)
-        (ranges : List ClosedRange)
-        → IsAccepted program → is_some (main_among program) ≡ true → (at : IsAtPurge program cells choices p m purge)
-        → ranges_ahead program m purge at ≡ Ok ranges
-        → HasStepped program cells choices p (snapshot_moved m p at.l at.ls (purged ranges m.arena.contents) [] purge.next) }
-    ensures purged { (program : Units) (cells : ℕ) (choices : List ℕ) (m : Snapshot) (p : ℕ) (purge : PurgeAhead)
-        (ranges : List ClosedRange)
-        → IsAccepted program → is_some (main_among program) ≡ true → (at : IsAtPurge program cells choices p m purge)
-        → ranges_ahead program m purge at ≡ Ok ranges → HasPurged program cells choices p ranges }
-    ensures range { (program : Units) (cells : ℕ) (choices : List ℕ) (m : Snapshot) (p : ℕ) (purge : PurgeAhead) (kind : Kind)
-        → IsAccepted program → is_some (main_among program) ≡ true → (at : IsAtPurge program cells choices p m purge)
-        → ranges_ahead program m purge at ≡ Err kind → IsEnding program cells choices p m (fails purge.line kind) }
-    ensures nothing { (program : Units) (cells : ℕ) (choices : List ℕ) (m : Snapshot) (p line : ℕ) (kind : Kind)
-        → IsEnding program cells choices p m (fails line kind) → HasPurged program cells choices p [] }
-    ensures gaps { (program : Units) (cells : ℕ) (choices : List ℕ) (m : Snapshot) (p : ℕ) (purge : PurgeAhead) → IsAccepted program
-        → is_some (main_among program) ≡ true → IsAtPurge program cells choices p m purge → HasGaps program cells choices p }
+    ensures stepped { (t : TurnOf) (purge : PurgeAhead) (ranges : List ClosedRange) → IsAccepted t.program
+        → is_some (main_among t.program) ≡ true → (at : IsAtPurge t purge) → ranges_ahead purge at ≡ Ok ranges
+        → HasMadeTurn t (snapshot_moved t (purged ranges t.machine.arena.contents) [] purge.next) }
+    ensures purged { (t : TurnOf) (purge : PurgeAhead) (ranges : List ClosedRange) → IsAccepted t.program
+        → is_some (main_among t.program) ≡ true → (at : IsAtPurge t purge) → ranges_ahead purge at ≡ Ok ranges
+        → HasPurged t.program t.cells t.choices t.process ranges }
+    ensures range { (t : TurnOf) (purge : PurgeAhead) (kind : Kind) → IsAccepted t.program → is_some (main_among t.program) ≡ true
+        → (at : IsAtPurge t purge) → ranges_ahead purge at ≡ Err kind → IsEnding t (fails purge.line kind) }
+    ensures nothing { (t : TurnOf) (line : ℕ) (kind : Kind) → IsEnding t (fails line kind)
+        → HasPurged t.program t.cells t.choices t.process [] }
+    ensures gaps { (t : TurnOf) (purge : PurgeAhead) → IsAccepted t.program → is_some (main_among t.program) ≡ true → IsAtPurge t purge
+        → HasGaps t.program t.cells t.choices t.process }
 {
     hep_image_laws::laws::variables_of_the_code_are_placed();
     hep_purging::laws::purges_do_what_the_machine_does();
@@ -266,8 +210,8 @@ pub fn purges_are_shown()
 
 /// CALL and CREATE fill and empty nothing.
 pub fn calls_touch_nothing()
-    ensures { (program : Units) (cells : ℕ) (choices : List ℕ) (m : Snapshot) (p : ℕ) (call : CallAhead) → IsAccepted program
-        → is_some (main_among program) ≡ true → IsAtCall program cells choices p m call → Touches program cells choices p None }
+    ensures { (t : TurnOf) (call : CallAhead) → IsAccepted t.program → is_some (main_among t.program) ≡ true → IsAtCall t call
+        → Touches t.program t.cells t.choices t.process None }
 {
     hep_touched::laws::calls_and_purges_never_wait();
     hep_touched::laws::purges_stand_ahead();
@@ -278,22 +222,21 @@ pub fn calls_touch_nothing()
 /// can be read, and these have the shapes that are found; and where one of them is no
 /// element, or a dummy argument has no shape or more elements than it is given, a fault ends the process (X3.9-1978, 5.5.1 and 15.9.3).
 pub fn calls_give_what_is_bound()
-    ensures shapable { (program : Units) (cells : ℕ) (choices : List ℕ) (m : Snapshot) (p : ℕ) (call : CallAhead) (given : List Given)
-        (room : ℕ) → IsAccepted program → is_some (main_among program) ≡ true → (at : IsAtCall program cells choices p m call)
-        → given_of program m call at ≡ Ok given → longest_code (dummy_arguments program (unit_at program call.unit)) ≤ room
-        → AreShapable m.arena given room (dummy_arguments program (unit_at program call.unit)) }
-    ensures making { (program : Units) (cells : ℕ) (choices : List ℕ) (m : Snapshot) (p : ℕ) (call : CallAhead) (given : List Given)
-        → IsAccepted program → is_some (main_among program) ≡ true → (at : IsAtCall program cells choices p m call)
-        → given_of program m call at ≡ Ok given → are_fitting m.arena.contents given (dummy_arguments program (unit_at program call.unit))
-        ≡ true → IsMaking (state_made call.creates) program cells choices p m call.unit call.next given
-        (shapes_of m.arena.contents given (dummy_arguments program (unit_at program call.unit))) }
-    ensures range { (program : Units) (cells : ℕ) (choices : List ℕ) (m : Snapshot) (p : ℕ) (call : CallAhead) (kind : Kind)
-        → IsAccepted program → is_some (main_among program) ≡ true → (at : IsAtCall program cells choices p m call)
-        → given_of program m call at ≡ Err kind → IsEnding program cells choices p m (fails call.line kind) }
-    ensures shape { (program : Units) (cells : ℕ) (choices : List ℕ) (m : Snapshot) (p : ℕ) (call : CallAhead) (given : List Given)
-        → IsAccepted program → is_some (main_among program) ≡ true → (at : IsAtCall program cells choices p m call)
-        → given_of program m call at ≡ Ok given → are_fitting m.arena.contents given (dummy_arguments program (unit_at program call.unit))
-        ≡ false → IsEnding program cells choices p m (fails call.line Shape) }
+    ensures shapable { (t : TurnOf) (call : CallAhead) (given : List Given) (room : ℕ) → IsAccepted t.program
+        → is_some (main_among t.program) ≡ true → (at : IsAtCall t call) → given_of call at ≡ Ok given
+        → longest_code (dummy_arguments t.program (unit_at t.program call.unit)) ≤ room
+        → AreShapable t.machine.arena given room (dummy_arguments t.program (unit_at t.program call.unit)) }
+    ensures making { (t : TurnOf) (call : CallAhead) (given : List Given) → IsAccepted t.program → is_some (main_among t.program) ≡ true
+        → (at : IsAtCall t call) → given_of call at ≡ Ok given
+        → are_fitting t.machine.arena.contents given (dummy_arguments t.program (unit_at t.program call.unit)) ≡ true
+        → IsMaking call.creates t call.unit call.next given
+        (shapes_of t.machine.arena.contents given (dummy_arguments t.program (unit_at t.program call.unit))) }
+    ensures range { (t : TurnOf) (call : CallAhead) (kind : Kind) → IsAccepted t.program → is_some (main_among t.program) ≡ true
+        → (at : IsAtCall t call) → given_of call at ≡ Err kind → IsEnding t (fails call.line kind) }
+    ensures shape { (t : TurnOf) (call : CallAhead) (given : List Given) → IsAccepted t.program → is_some (main_among t.program) ≡ true
+        → (at : IsAtCall t call) → given_of call at ≡ Ok given
+        → are_fitting t.machine.arena.contents given (dummy_arguments t.program (unit_at t.program call.unit)) ≡ false
+        → IsEnding t (fails call.line Shape) }
 {
     hep_code_laws::laws::actual_arguments_fit();
     hep_code_laws::laws::variables_are_placed();
@@ -309,16 +252,14 @@ pub fn calls_give_what_is_bound()
 /// Where the arena has no gap as long as the frame of the unit that is called, the step's frame has none; and where it has one, or
 /// where a fault ends the process, each frame has its gap.
 pub fn gaps_are_told()
-    ensures none { (creates : Bool) (program : Units) (cells : ℕ) (choices : List ℕ) (m : Snapshot)
-        (p u n entry index : ℕ) (given : List Given) (shapes : List (Option Bounds))
-        → IsMaking (state_made creates) program cells choices p m u index given shapes → IsUnit program u n entry
-        → first_fit n m.arena.holes ≡ None → HasNoGap program cells choices p }
-    ensures some { (creates : Bool) (program : Units) (cells : ℕ) (choices : List ℕ) (m : Snapshot)
-        (p u n entry index : ℕ) (given : List Given) (shapes : List (Option Bounds))
-        → IsMaking (state_made creates) program cells choices p m u index given shapes → IsUnit program u n entry
-        → IsSome (first_fit n m.arena.holes) → HasGaps program cells choices p }
-    ensures fault { (program : Units) (cells : ℕ) (choices : List ℕ) (m : Snapshot) (p line : ℕ) (kind : Kind)
-        → IsEnding program cells choices p m (fails line kind) → HasGaps program cells choices p }
+    ensures none { (creates : Bool) (t : TurnOf) (u n entry index : ℕ) (given : List Given) (shapes : List (Option Bounds))
+        → IsMaking creates t u index given shapes → IsUnit t.program u n entry → first_fit n t.machine.arena.holes ≡ None
+        → HasNoGap t.program t.cells t.choices t.process }
+    ensures some { (creates : Bool) (t : TurnOf) (u n entry index : ℕ) (given : List Given) (shapes : List (Option Bounds))
+        → IsMaking creates t u index given shapes → IsUnit t.program u n entry → IsSome (first_fit n t.machine.arena.holes)
+        → HasGaps t.program t.cells t.choices t.process }
+    ensures fault { (t : TurnOf) (line : ℕ) (kind : Kind) → IsEnding t (fails line kind)
+        → HasGaps t.program t.cells t.choices t.process }
 {}
 
 /// Where what stands ahead of a process calls, creates and purges nothing, its step makes no activation, and so each frame has its
@@ -336,18 +277,12 @@ pub fn other_steps_find_gaps()
 /// Where the frame of the activation that a CALL or CREATE makes has entered and its cells are written, a step was made: the new
 /// activation is shown on top of its caller or as a process of its own, and the caller or creator goes on behind the statement.
 pub fn calls_are_shown()
-    ensures called { (program : Units) (cells : ℕ) (choices : List ℕ) (m : Snapshot) (p : ℕ) (l : Level) (ls : List Level)
-        (operands : List Value) (top : SourceLevel × SourceProcess) (u key index : ℕ) (b : Binding) (arena : Space) (nodes : Nodes)
-        → (turning : IsTurning program cells choices m p l ls operands top)
-        → HasEntered program cells choices p turning.after.layout m.nodes u key l.key (state_called program choices p top u b) arena nodes
-        → IsAfterCall program l.unit top.0.statement index
-        → HasStepped program cells choices p (snapshot_called program m p l ls u key index arena nodes) }
-    ensures created { (program : Units) (cells : ℕ) (choices : List ℕ) (m : Snapshot) (p : ℕ) (l : Level) (ls : List Level)
-        (operands : List Value) (top : SourceLevel × SourceProcess) (u key index : ℕ) (b : Binding) (arena : Space) (nodes : Nodes)
-        → (turning : IsTurning program cells choices m p l ls operands top)
-        → HasEntered program cells choices p turning.after.layout m.nodes u key l.key (state_created program choices p top u b) arena nodes
-        → IsAfterCall program l.unit top.0.statement index
-        → HasStepped program cells choices p (snapshot_created program m p l ls u key index arena nodes) }
+    ensures called { (t : TurnOf) (u key index : ℕ) (b : Binding) (arena : Space) (nodes : Nodes) → (turning : IsTurning t)
+        → HasEntered t turning u key (state_called t.program t.choices t.process t.top u b) arena nodes → IsAfterCall t index
+        → HasMadeTurn t (snapshot_called t u key index arena nodes) }
+    ensures created { (t : TurnOf) (u key index : ℕ) (b : Binding) (arena : Space) (nodes : Nodes) → (turning : IsTurning t)
+        → HasEntered t turning u key (state_created t.program t.choices t.process t.top u b) arena nodes → IsAfterCall t index
+        → HasMadeTurn t (snapshot_created t u key index arena nodes) }
 {}
 
 /// Where the frame of the main program has entered and DATA has given the cells their values, the opening is shown, with process
@@ -356,8 +291,9 @@ pub fn openings_are_shown()
     ensures opening { (program : Units) → IsOpening program (unset_opening program) }
     ensures entered { (program : Units) (cells key : ℕ) (layout : Layout) (arena : Space) (nodes : Nodes) (node : FrameNode)
         → opening_layout program cells ≡ Some layout → length arena.contents ≡ cells
-        → Keeps program (unset_opening program) (is_stacked (unset_opening program)) (λ a. nat_eq a 1) layout
-        (descriptor_slots program (unset_opening program) (first_frames program)) arena nodes → nodes key ≡ Some node → node.activation ≡ 1
+        → Keeps (record (frames_in program (unset_opening program) (λ a. nat_eq a 1) layout) {
+          wanted = descriptor_slots program (unset_opening program) (first_frames program);
+        }) arena nodes → nodes key ≡ Some node → node.activation ≡ 1
         → IsEntered program cells key arena nodes }
     ensures shown { (program : Units) (cells key entry : ℕ) (rows : List DataRow) (before after : Space) (nodes : Nodes)
         → IsEntered program cells key before nodes → IsGiven rows before after → AreInitial program rows → AreOfUnits program rows

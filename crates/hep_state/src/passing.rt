@@ -1,7 +1,7 @@
 //! What the actual arguments of a CALL or CREATE give (X3.9-1978, 15.6.2 and 15.9.3).
 ghost use Rattle.std.specs.Prelude.{◌≡◌, ℕ, List, IfErr, OnOk};
 ghost use Rattle.hep_step.specs.Effects.{fails};
-ghost use Rattle.hep_state.specs.Words.{IsMaking, state_made, IsAtCall, HaveRoom, IsMachineAfter, snapshot_of, IsEnding};
+ghost use Rattle.hep_state.specs.Words.{IsMaking, HasCallAhead, HoldsInTurn, HaveRoom, IsMachineAfter, snapshot_of, IsToEnd};
 
 use crate::laws;
 use crate::machine::{Machine, Passing};
@@ -19,14 +19,14 @@ impl Machine {
     // Nothing but `passing` changes.
     pub(crate) fn give(&mut self, image: &Image, p: u64, call: CallAhead) -> Result<(), Kind>
         requires at { (cells : ℕ) × (choices : List ℕ) × IsMachineAfter image.now cells choices self.old
-            × IsAtCall image.now cells choices p (snapshot_of self.old) call }
+            × HasCallAhead image.now cells choices p (snapshot_of self.old) call }
         ensures given { OnOk result ((cells : ℕ) (choices : List ℕ) → IsMachineAfter image.now cells choices self.old
-            → IsAtCall image.now cells choices p (snapshot_of self.old) call
-            → IsMaking (state_made call.creates) image.now cells choices p
-            (snapshot_of self.old) call.unit call.next self.new.passing.given.items self.new.passing.shapes.items) }
+            → HasCallAhead image.now cells choices p (snapshot_of self.old) call
+            → HoldsInTurn image.now cells choices p (snapshot_of self.old)
+            (λ t. IsMaking call.creates t call.unit call.next self.new.passing.given.items self.new.passing.shapes.items)) }
         ensures fault { IfErr result (λ kind. (cells : ℕ) (choices : List ℕ) → IsMachineAfter image.now cells choices self.old
-            → IsAtCall image.now cells choices p (snapshot_of self.old) call
-            → IsEnding image.now cells choices p (snapshot_of self.old) (fails call.line kind)) }
+            → HasCallAhead image.now cells choices p (snapshot_of self.old) call
+            → IsToEnd image.now cells choices p (snapshot_of self.old) (fails call.line kind)) }
         ensures others { self.new ≡ record self.old { passing = self.new.passing } }
         ensures rooms { (cells : ℕ) → HaveRoom image.now cells self.old → HaveRoom image.now cells self.new }
     {

@@ -1,5 +1,5 @@
 //! One turn of a process.
-ghost use Rattle.std.specs.Prelude.{◌≡◌, ◌≢◌, ◌<◌, ◌≤◌, ◌+◌, ◌^◌, ◌++◌, ◌∷◌, ◌-◌, ℕ, true, false, List, [], None, Some, IfOk, IfErr};
+ghost use Rattle.std.specs.Prelude.{◌≡◌, ◌<◌, ◌≤◌, ◌+◌, ◌^◌, ◌-◌, ℕ, true, false, List, [], None, Some, IfOk, IfErr};
 ghost use Rattle.std.specs.Prelude.{IfSome, OnErr, OnOk, length, slice_get, vec_len, vec_capacity};
 ghost use Rattle.std.specs.Option.{is_some};
 ghost use Rattle.slab.specs.Slab.{HasRoomFor};
@@ -7,7 +7,7 @@ ghost use Rattle.hep_machine.specs.Words.{Units, living, run};
 ghost use Rattle.hep_arena.specs.Holes.{IsOut};
 ghost use Rattle.hep_image.specs.Image.{most_cells};
 ghost use Rattle.hep_state.specs.declared.machine.Process.{Process as AProcess};
-ghost use Rattle.hep_state.specs.Words.{IsAtCall, IsWithoutCall, HaveRoom, IsMachineAfter, snapshot_of, HasLevels, IsLeft, IsSeenSame};
+ghost use Rattle.hep_state.specs.Words.{HasCallAhead, IsWithoutCall, HaveRoom, IsMachineAfter, snapshot_of, HasLevels, IsLeft, IsSeenSame};
 ghost use Rattle.hep_state.specs.Words.{HasTurned, IsInState, IsTold, Touches, cell_wanted, IsAfter, IsUnturned};
 
 use crate::advancing::{Advanced, advance};
@@ -244,13 +244,13 @@ impl Machine {
         ready: &mut Ready,
     ) -> Result<Turned, TurnFault>
         requires at { (cells : ℕ) × (choices : List ℕ) × IsMachineAfter image.now cells choices self.old
-            × IsAtCall image.now cells choices p (snapshot_of self.old) call }
+            × HasCallAhead image.now cells choices p (snapshot_of self.old) call }
         requires countable { self.old.activations + 1 < 2 ^ 64 }
         requires numbers { length self.old.processes.items ≤ ready.old.room }
         ensures turned { IfOk result (λ turned. (cells : ℕ) (choices : List ℕ) → IsMachineAfter image.now cells choices self.old
-            → IsAtCall image.now cells choices p (snapshot_of self.old) call → HasTurned image.now cells choices p turned self.new) }
+            → HasCallAhead image.now cells choices p (snapshot_of self.old) call → HasTurned image.now cells choices p turned self.new) }
         ensures unturned { IfErr result (λ e. (cells : ℕ) (choices : List ℕ) → IsMachineAfter image.now cells choices self.old
-            → IsAtCall image.now cells choices p (snapshot_of self.old) call → IsUnturned e image.now cells choices p) }
+            → HasCallAhead image.now cells choices p (snapshot_of self.old) call → IsUnturned e image.now cells choices p) }
         ensures refused { OnErr result ((cells : ℕ) (choices : List ℕ) → IsMachineAfter image.now cells choices self.old
             → IsMachineAfter image.now cells choices self.new) }
         ensures same { OnErr result (IsSeenSame (snapshot_of self.old) (snapshot_of self.new)) }

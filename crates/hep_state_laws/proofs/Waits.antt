@@ -1,27 +1,25 @@
 -- What a process is seen to wait for is what the source machine's process waits for.
 use Rattle.std.proofs.Common.{◌≡◌, ℕ, zero, suc, ◌+◌, List, [], ◌∷◌, ◌++◌, drop, Some, refl, sym, ap, ◌∙◌, subst, arith, Bool, true, false, true≢false, inl, inr, Option, None, slice_get}
 use Rattle.std.proofs.lemmas.Option.{same_Some}
-use Rattle.hep_machine.specs.Words.{Value, Units, Frame, Layout, numbered, unit_of, run, Location, Process, State, Work, Top, wanted_by}
+use Rattle.hep_machine.specs.Words.{Value, Units, Frame, numbered, run, Location, Process, State, Work, wanted_by}
 use Rattle.hep_machine.specs.declared.slot.Slot.{Slot}
 use Rattle.hep_code.specs.declared.instruction.Instruction.{Instruction}
 use Rattle.hep_code.specs.declared.instruction.Instruction.TheVariants.{Push, Step}
 use Rattle.hep_code.specs.Words.{Stands, IsPastPushes}
 use Rattle.hep_image.specs.declared.array.Array.{Array}
 use Rattle.hep_step.specs.Effects.{effect_ahead, effect_at, Effect, effect_of, fails, moves, prints, returns, stops, left_out, waits}
-use Rattle.hep_step.specs.Simulation.{unit_addressed, unit_code, IsNotLeftOut, IsRunning, Simulates, arrays_on_top, code_on_top, is_left_out, unit_arrays}
-use Rattle.hep_state.specs.Words.{IsSettled, Shows, Snapshot, Stack, IsTurning, frame_under, top_after, with_stack, IsAbsent, IsAfter}
+use Rattle.hep_step.specs.Simulation.{unit_addressed, unit_code, IsNotLeftOut, IsRunning, RunningTop, Simulates, arrays_running, code_running, is_left_out, unit_arrays}
+use Rattle.hep_state.specs.Words.{HasLevels, IsEffectOf, IsSettled, IsTopRunning, Shows, Snapshot, Stack, IsTurning, TurnOf, state_before, top_frame, turn_settled, turn_with, IsAbsent, IsAfter, running_top}
 use Rattle.hep_code.proofs.Ahead.{drop_one_more, pushed}
 use Rattle.hep_state_laws.specs.Waited.{effect_behind, wanted_by_levels, wanted_by_stack, wanted_for, wanted_on, wanted_seen}
 use Rattle.std.specs.Option.{option_map}
 use Rattle.hep_machine.specs.State.{Level as SourceLevel}
 use Rattle.hep_machine.specs.Step.{wanted_of}
-use Rattle.hep_arena.specs.Holes.{Hole}
 use Rattle.hep_code.specs.declared.instruction.Operation.{Operation}
 use Rattle.hep_code.specs.declared.instruction.Operation.TheVariants.{Call, Create, Purge}
 use Rattle.hep_layout.specs.Words.{address}
-use Rattle.hep_layout.proofs.Stacks.{top-numbered}
 use Rattle.hep_state.specs.declared.machine.Level.{Level}
-use Rattle.hep_state.proofs.Standing.{stack-standing}
+use Rattle.hep_state.proofs.Moved.{unit-is}
 use Rattle.hep_state_laws.proofs.Cells.{kept-told}
 use Rattle.hep_state_laws.proofs.Stopped.{going_again, seen-halted, shown-going, stop-of}
 use Rattle.hep_state_laws.proofs.Wants.{absent-waits-not, left-out-waits-not, wanted-halted}
@@ -79,24 +77,18 @@ module _ (program : Units) (u : ℕ) where
 
 -- what laws say of all runs of a program
 pub record IsKnown (program : Units) (cells : ℕ) : Type 0 where
-  pub turning : (choices : List ℕ) (m : Snapshot) (p : ℕ) (l : Level) (ls : List Level) (operands : List Value)
-      → IsAfter program cells choices m → m.halted ≡ false → numbered m.processes p ≡ Some (record { levels = l ∷ ls; operands = operands })
-      → (top : SourceLevel × Process) × IsTurning program cells choices m p l ls operands top
+  pub turning : (choices : List ℕ) (m : Snapshot) (p : ℕ) (levels : HasLevels m p) → IsAfter program cells choices m → m.halted ≡ false
+      → (top : SourceLevel × Process) × IsTurning (turn_with program cells choices levels top)
   pub ended : (choices : List ℕ) (m : Snapshot) (p : ℕ) (operands : List Value) → IsAfter program cells choices m
       → numbered m.processes p ≡ Some (record { levels = []; operands = operands }) → IsAbsent program cells choices p m
   pub none : (choices : List ℕ) (m : Snapshot) (p : ℕ) → IsAfter program cells choices m → numbered m.processes p ≡ None
       → IsAbsent program cells choices p m
-  pub settled : (choices : List ℕ) (m : Snapshot) (p : ℕ) (l : Level) (ls : List Level) (operands new : List Value) (index : ℕ) (top : SourceLevel × Process)
-      → IsTurning program cells choices m p l ls operands top
-      → ((k : ℕ) (work : Work) → Stands (unit_addressed program l.unit) k work operands l.index → Stands (unit_addressed program l.unit) k work new index)
-      → IsTurning program cells choices (with_stack m p (record l { index = index } ∷ ls) new) p (record l { index = index }) ls new top
-  pub running : (choices : List ℕ) (m : Snapshot) (p : ℕ) (l : Level) (ls : List Level) (operands : List Value) (top : SourceLevel × Process)
-      → (turning : IsTurning program cells choices m p l ls operands top)
-      → IsRunning program (top_after program choices p top) turning.after.layout (frame_under m.nodes l.key) m.arena.contents m.arena.holes operands l.index
-  pub simulated : (t : Top) (layout : Layout) (f : Frame) (contents : List Slot) (holes : List Hole) (operands : List Value) (index : ℕ)
-      → IsRunning program t layout f contents holes operands index → IsPastPushes (code_on_top program t) index
-      → IsNotLeftOut (code_on_top program t) index
-      → Simulates program t layout f holes contents (effect_at (code_on_top program t) (arrays_on_top program t) f.first contents operands index)
+  pub settled : (t : TurnOf) (operands : List Value) (index : ℕ) → IsTurning t
+      → ((k : ℕ) (work : Work) → Stands (unit_addressed t.program t.level.unit) k work t.operands t.level.index → Stands (unit_addressed t.program t.level.unit) k work operands index)
+      → IsTurning (turn_settled t operands index)
+  pub running : (t : TurnOf) → t.program ≡ program → (turning : IsTurning t) → IsTopRunning t turning
+  pub simulated : (r : RunningTop) → IsRunning r → IsPastPushes (code_running r) r.index → IsNotLeftOut (code_running r) r.index
+      → Simulates r (effect_at (code_running r) (arrays_running r) r.frame.first r.arena.contents r.operands r.index)
 
 -- ---- the operation ahead
 
@@ -120,55 +112,47 @@ none-left-out code index is e h line o behind f = sym (ap left-out-ahead (sym e 
 
 -- ---- a process that lives
 
-module _ (program : Units) (cells : ℕ) (known : IsKnown program cells) (choices : List ℕ) (m : Snapshot) (p : ℕ) (l : Level)
-    (ls : List Level) (operands : List Value) (top : SourceLevel × Process) (h : IsTurning program cells choices m p l ls operands top) where
+module _ {t : TurnOf} (h : IsTurning t) (known : IsKnown t.program t.cells) where
   abbrev s : State
-  s = run program choices
-
-  abbrev t : Top
-  t = top_after program choices p top
+  s = state_before t
 
   abbrev f : Frame
-  f = frame_under m.nodes l.key
+  f = top_frame t
 
   abbrev code : List Instruction
-  code = unit_code program l.unit
+  code = unit_code t.program t.level.unit
 
   -- where the values that stand ahead are operands
-  ahead : Settles program l.unit (drop l.index code) operands l.index
-  ahead = settles-by program l.unit (drop l.index code) operands l.index refl
+  ahead : Settles t.program t.level.unit (drop t.level.index code) t.operands t.level.index
+  ahead = settles-by t.program t.level.unit (drop t.level.index code) t.operands t.level.index refl
 
   abbrev j : ℕ
   j = ahead.after
 
-  next : IsTurning program cells choices (with_stack m p (record l { index = j } ∷ ls) ahead.new) p (record l { index = j }) ls ahead.new top
-  next = known.settled choices m p l ls operands ahead.new j top h ahead.settles.stands
+  abbrev later : TurnOf
+  later = turn_settled t ahead.new j
 
-  runs : IsRunning program t next.after.layout f m.arena.contents m.arena.holes ahead.new j
-  runs = known.running choices (with_stack m p (record l { index = j } ∷ ls) ahead.new) p (record l { index = j }) ls ahead.new top next
+  next : IsTurning later
+  next = known.settled t ahead.new j h ahead.settles.stands
 
-  unit-is : unit_of s top.0.activation ≡ l.unit
-  unit-is =
-      let k : Stack = record { levels = l ∷ ls; operands = operands } in
-      let q : Process = top.0 ∷ top.1 in
-      (stack-standing program s m.nodes m.arena.contents k q (h.after.shows.stacks p k q h.kept (top-numbered s p top h.lives))).0.here.unit
+  runs : IsTopRunning later next
+  runs = known.running later refl next
 
   abbrev effect : Effect
-  effect = effect_at code (unit_arrays program l.unit) f.first m.arena.contents ahead.new j
+  effect = effect_at code (unit_arrays t.program t.level.unit) f.first t.machine.arena.contents ahead.new j
 
   abbrev IsSeen : Type 0
-  IsSeen = wanted_by program p s ≡ wanted_for program m effect
+  IsSeen = wanted_by t.program t.process s ≡ wanted_for t.program t.machine effect
 
   -- the storage unit that is waited for is that which the cell keeps
-  unit-kept : (at : Location) (cell : ℕ) (full : Bool) → address program s next.after.layout at ≡ Some cell
-      → wanted_for program m (waits cell full) ≡ Some (record { at = at; full = full })
+  unit-kept : (at : Location) (cell : ℕ) (full : Bool) → address t.program s next.after.layout at ≡ Some cell
+      → wanted_for t.program t.machine (waits cell full) ≡ Some (record { at = at; full = full })
   unit-kept at cell full found =
       let layouts : next.after.layout ≡ h.after.layout = same_Some next.after.layout h.after.layout (sym next.after.laid ∙ h.after.laid) in
-      let there = ap (λ layout. address program s layout at) (sym layouts) ∙ found in
-      ap (option_map (λ at. record { at = at; full = full })) (kept-told program cells choices m h.after at cell there)
+      let there = ap (λ layout. address t.program s layout at) (sym layouts) ∙ found in
+      ap (option_map (λ at. record { at = at; full = full })) (kept-told t.program t.cells t.choices t.machine h.after at cell there)
 
-  by-effect : (e : Effect) → Simulates program t next.after.layout f m.arena.holes m.arena.contents e
-      → wanted_by program p s ≡ wanted_for program m e
+  by-effect : (e : Effect) → IsEffectOf later next e → wanted_by t.program t.process s ≡ wanted_for t.program t.machine e
   by-effect (moves contents new index) (store, after, is, reaches) = ap wanted_of is
   by-effect (prints items index) (after, is, reaches) = ap wanted_of is
   by-effect (fails line k) (is, at) = ap wanted_of is
@@ -180,17 +164,17 @@ module _ (program : Units) (cells : ℕ) (known : IsKnown program cells) (choice
   by-operation : IsNotLeftOut code j → IsSeen
   by-operation others =
       by-effect effect (
-      subst (λ u. Simulates program t next.after.layout f m.arena.holes m.arena.contents (effect_at (unit_code program u) (unit_arrays program u) f.first m.arena.contents ahead.new j)) unit-is (
-      known.simulated t next.after.layout f m.arena.contents m.arena.holes ahead.new j runs
-      (subst (λ u. IsPastPushes (unit_code program u) j) (sym unit-is) ahead.settles.past) (subst (λ u. IsNotLeftOut (unit_code program u) j) (sym unit-is) others)))
+      subst (λ u. IsEffectOf later next (effect_at (unit_code t.program u) (unit_arrays t.program u) f.first t.machine.arena.contents ahead.new j)) (unit-is h) (
+      known.simulated (running_top later next) runs
+      (subst (λ u. IsPastPushes (unit_code t.program u) j) (sym (unit-is h)) ahead.settles.past) (subst (λ u. IsNotLeftOut (unit_code t.program u) j) (sym (unit-is h)) others)))
 
   by-left-out : (line : ℕ) (o : Operation) (behind : List Instruction) → drop j code ≡ Step line o ∷ behind → is_left_out o ≡ true → IsSeen
   by-left-out line o behind e left =
-      let there = subst (λ u. drop j (unit_code program u) ≡ Step line o ∷ behind) (sym unit-is) e in
+      let there = subst (λ u. drop j (unit_code t.program u) ≡ Step line o ∷ behind) (sym (unit-is h)) e in
       let none : effect ≡ left_out =
-      ap (λ is. effect_ahead code (unit_arrays program l.unit) f.first is m.arena.contents ahead.new j) e
-      ∙ left-out-seen code (unit_arrays program l.unit) f.first line o behind m.arena.contents ahead.new j left in
-      left-out-waits-not program t next.after.layout f m.arena.contents m.arena.holes ahead.new j runs line o behind there left ∙ sym (ap (wanted_for program m) none)
+      ap (λ is. effect_ahead code (unit_arrays t.program t.level.unit) f.first is t.machine.arena.contents ahead.new j) e
+      ∙ left-out-seen code (unit_arrays t.program t.level.unit) f.first line o behind t.machine.arena.contents ahead.new j left in
+      left-out-waits-not (running_top later next) runs line o behind there left ∙ sym (ap (wanted_for t.program t.machine) none)
 
   by-test : (line : ℕ) (o : Operation) (behind : List Instruction) → drop j code ≡ Step line o ∷ behind → (b : Bool) → is_left_out o ≡ b
       → IsSeen
@@ -204,8 +188,8 @@ module _ (program : Units) (cells : ℕ) (known : IsKnown program cells) (choice
   by-ahead (other ∷ behind) e = by-operation (none-left-out code j (other ∷ behind) e refl)
   by-ahead [] e = by-operation (none-left-out code j [] e refl)
 
-  seen-of-turning : wanted_by program p s ≡ wanted_on program m l operands
-  seen-of-turning = by-ahead (drop j code) refl ∙ sym (ap (wanted_for program m) (ahead.effect (unit_arrays program l.unit) f.first m.arena.contents))
+  seen-of-turning : wanted_by t.program t.process s ≡ wanted_on t.program t.machine t.level t.operands
+  seen-of-turning = by-ahead (drop j code) refl ∙ sym (ap (wanted_for t.program t.machine) (ahead.effect (unit_arrays t.program t.level.unit) f.first t.machine.arena.contents))
 
 -- ---- each process
 
@@ -223,9 +207,7 @@ module _ (program : Units) (cells : ℕ) (known : IsKnown program cells) where
     by-levels : (ls : List Level) (operands : List Value) → numbered m.processes p ≡ Some (record { levels = ls; operands = operands })
         → wanted_by program p now ≡ wanted_by_levels program m ls operands
     by-levels [] operands e = of-absent (known.ended choices m p operands after e)
-    by-levels (l ∷ ls) operands e =
-        let found = known.turning choices m p l ls operands after going e in
-        seen-of-turning program cells known choices m p l ls operands found.0 found.1
+    by-levels (l ∷ ls) operands e = seen-of-turning (known.turning choices m p (record { level = l; below = ls; operands = operands; kept = e }) after going).1 known
 
     by-stack : (o : Option Stack) → numbered m.processes p ≡ o → wanted_by program p now ≡ wanted_by_stack program m o
     by-stack None e = of-absent (known.none choices m p after e)

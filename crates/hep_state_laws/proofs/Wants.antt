@@ -1,18 +1,16 @@
 -- What a step waits for, which goes by its statement and by what is stored, and that one which stops all processes changes no more than that.
-use Rattle.std.proofs.Common.{◌≡◌, ℕ, Bool, true, true≢false, List, [], ◌∷◌, drop, refl, sym, ap, ◌∙◌, Option, Some, None, ◌⊎◌, inl, inr, false, Result, Ok, Err, ℤ, ◌+ℤ◌}
-use Rattle.hep_machine.specs.Words.{Value, Units, unit_at, integer_of, integer_or_overflow, Binding, variable_of, Action, Next, wants, does, next_of, assigning, entering_loop, ending_loop, calling, creating, purging, stopping, Frame, Layout, Scope, location_of_name, living, loop_at, unit_of, Level, Location, Loop}
+use Rattle.std.proofs.Common.{◌≡◌, ℕ, Bool, true, true≢false, List, [], ◌∷◌, refl, sym, ap, ◌∙◌, Option, Some, None, ◌⊎◌, inl, inr, false, Result, Ok, Err, ℤ, ◌+ℤ◌}
+use Rattle.hep_machine.specs.Words.{Value, Units, unit_at, integer_of, integer_or_overflow, Binding, variable_of, Action, Next, wants, does, next_of, assigning, entering_loop, ending_loop, calling, creating, purging, stopping, Scope, location_of_name, living, loop_at, unit_of, Level, Location, Loop}
 use Rattle.hep_machine.specs.Words.{Process, State, Store, Work, Answer, StepResult, Top, Wanted, answer_of, answer_at, binding_of, iterations, fails, written, result_after_action, result_after_answer, result_after_assignment, result_after_call, result_after_create, result_after_do, result_after_increment}
 use Rattle.hep_machine.specs.Words.{result_after_loop_end, result_after_loop_variable, result_after_next, result_after_purge, result_after_write, scope_of, step_result_of, step_result_of_top, store_after_purge, unit_called, unit_on_top, wanted_by, wanted_of, step}
 use Rattle.hep_machine.specs.declared.event.Kind.{Kind}
-use Rattle.hep_machine.specs.declared.slot.Slot.{Slot}
 use Rattle.hep_machine.specs.Step.{gives, waits}
-use Rattle.hep_arena.specs.Holes.{Hole}
 use Rattle.hep_code.specs.declared.instruction.Instruction.{Instruction}
 use Rattle.hep_code.specs.declared.instruction.Instruction.TheVariants.{Step}
 use Rattle.hep_code.specs.declared.instruction.Operation.{Operation}
 use Rattle.hep_code.specs.Words.{IsNext, AddressedUnit}
-use Rattle.hep_step.specs.Simulation.{IsRunning, addressed_on_top, code_on_top, is_left_out}
-use Rattle.hep_step.proofs.Running.{step_is, next_is}
+use Rattle.hep_step.specs.Simulation.{IsRunning, RunningTop, addressed_on_top, code_ahead, is_left_out, step_result_running}
+use Rattle.hep_step.proofs.Running.{coming, next_is, scope_running, step_is}
 use Rattle.hep_machine.proofs.Changes.{Makes, by_step, next_on, top_in}
 
 -- ---- what is waited for, by the parts
@@ -128,13 +126,10 @@ waitless-operation addressed k work operands index o behind names store left (wa
 waitless-operation addressed k work operands index o behind names store left (does (assigning r v)) h = absurd (true≢false (sym left ∙ ap is_left_out h.operation))
 waitless-operation addressed k work operands index o behind names store left (does _) h = refl
 
-pub left-out-waits-not : (program : Units) (t : Top) (layout : Layout) (f : Frame) (contents : List Slot) (holes : List Hole) (operands : List Value) (index : ℕ) → IsRunning program t layout f contents holes operands index
-    → (line : ℕ) (o : Operation) (behind : List Instruction) → drop index (code_on_top program t) ≡ Step line o ∷ behind → is_left_out o ≡ true → wanted_of (step_result_of program t.process t.state) ≡ None
-left-out-waits-not program t layout f contents holes operands index running line o behind ahead left =
-    let n = next_of (unit_on_top program t) t.level.work in
-    ap wanted_of (step_is program t layout f contents holes operands index running) ∙ (comes program t n).0
-    ∙ waitless-operation (addressed_on_top program t) t.level.statement t.level.work operands index o behind (scope_of program t.state t.level.activation) t.state.store left n (
-    next_is program t layout f contents holes operands index running line o behind ahead)
+pub left-out-waits-not : (r : RunningTop) → IsRunning r → (line : ℕ) (o : Operation) (behind : List Instruction) → code_ahead r ≡ Step line o ∷ behind → is_left_out o ≡ true → wanted_of (step_result_running r) ≡ None
+left-out-waits-not r running line o behind ahead left =
+    ap wanted_of (step_is r running) ∙ (comes r.program r.top (coming r)).0
+    ∙ waitless-operation (addressed_on_top r.program r.top) r.top.level.statement r.top.level.work r.operands r.index o behind (scope_running r) r.top.state.store left (coming r) (next_is r running line o behind ahead)
 
 -- a process that doesn't live
 pub absent-waits-not : (program : Units) (s : State) (p : ℕ) → living s p ≡ None → wanted_by program p s ≡ None

@@ -1,5 +1,5 @@
 //! Laws of what is seen: it is what is seen of the source machine's state.
-ghost use Rattle.std.specs.Prelude.{◌≡◌, ◌≤◌, ◌<◌, ◌+◌, ◌-◌, ℕ, true, List, Some, None, is_some};
+ghost use Rattle.std.specs.Prelude.{◌≡◌, ◌≤◌, ◌<◌, ◌+◌, ◌-◌, ℕ, true, List, Some, is_some};
 ghost use Rattle.hep_machine.specs.Words.{Name, Units, main_among, unit_at, BlockName, Frame, Layout, common_cells, frame_of, is_held};
 ghost use Rattle.hep_machine.specs.Words.{unit_of, run, Location, State, common, local, wanted_by, view_of};
 ghost use Rattle.hep_arena.specs.Gaps.{frame_among};

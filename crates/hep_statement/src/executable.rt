@@ -1,5 +1,5 @@
 //! Reading the forms of executable statements, each after its word or as a whole.
-ghost use Rattle.std.specs.Prelude.{◌≡◌, option_map};
+ghost use Rattle.std.specs.Prelude.{◌≡◌};
 ghost use Rattle.hep_expression.specs.Reading.{Gives};
 ghost use Rattle.hep_statement.specs.ReadingExecutable as reading;
 

@@ -1,5 +1,5 @@
 //! Reading statements: the form that a statement's text has.
-ghost use Rattle.std.specs.Prelude.{◌≡◌, Some, length, option_map};
+ghost use Rattle.std.specs.Prelude.{◌≡◌, Some, length};
 ghost use Rattle.hep_source.specs.Units as units;
 ghost use Rattle.hep_expression.specs.Reading.{Gives};
 ghost use Rattle.hep_statement.specs.ReadingStatement as reading;

@@ -1,9 +1,7 @@
 //! Laws of steps: what an operation does to the arena and to the operands is what the source machine does.
-ghost use Rattle.std.specs.Prelude.{◌≡◌, ◌≤◌, ◌∷◌, ℕ, Bool, List, Err, drop, length};
-ghost use Rattle.hep_machine.specs.Words.{Value, Units, Frame, Layout, Top, binding_of, unit_on_top};
+ghost use Rattle.std.specs.Prelude.{◌≡◌, ◌≤◌, ◌∷◌, ℕ, Bool, List, Err, length};
+ghost use Rattle.hep_machine.specs.Words.{binding_of};
 ghost use Rattle.hep_machine.specs.declared.event.Kind.{Kind};
-ghost use Rattle.hep_machine.specs.declared.slot.Slot.{Slot};
-ghost use Rattle.hep_arena.specs.Holes.{Hole};
 ghost use Rattle.hep_code.specs.declared.instruction.Evaluation.{Evaluation};
 ghost use Rattle.hep_code.specs.declared.instruction.Instruction.{Instruction};
 ghost use Rattle.hep_code.specs.declared.instruction.Instruction.TheVariants.{Step};
@@ -16,7 +14,8 @@ ghost use Rattle.hep_layout_laws.specs.Within.{ArePlacedArrays};
 ghost use Rattle.hep_step.specs.Calls.{IsCallAhead, making};
 ghost use Rattle.hep_step.specs.Effects.{effect_at, fails};
 ghost use Rattle.hep_step.specs.Ready.{IsReady, frame_in_arena};
-ghost use Rattle.hep_step.specs.Simulation.{IsNotLeftOut, IsRunning, IsSimulated, Simulates, arrays_on_top, code_on_top};
+ghost use Rattle.hep_step.specs.Simulation.{IsNotLeftOut, IsRunning, IsSimulated, RunningTop, Simulates, arrays_running, code_ahead};
+ghost use Rattle.hep_step.specs.Simulation.{code_running, unit_running};
 
 /// An operation that gives a value does what the source machine does with the redex that comes next: the value is
 /// in the place of the operands, a cell that was emptied is so in the arena, and a fault or what is waited for
@@ -71,35 +70,26 @@ pub fn runs_stop()
 /// CALL (15.6.2) and CREATE: where one stands ahead, the source machine calls or creates its subroutine, with the actual arguments
 /// that the operands and the entries behind it pass; and where these bind no dummy arguments, there is the same fault.
 pub fn calls_are_ahead()
-    ensures ahead { (creates : Bool) (program : Units) (t : Top) (layout : Layout) (f : Frame) (contents : List Slot) (holes : List Hole)
-        (operands : List Value) (index line u count next : ℕ) (behind : List Instruction)
-        → IsRunning program t layout f contents holes operands index
-        → drop index (code_on_top program t) ≡ Step line (making creates u count next) ∷ behind
-        → IsCallAhead creates program t operands u count next behind }
-    ensures fails { (creates : Bool) (program : Units) (t : Top) (layout : Layout) (f : Frame) (contents : List Slot) (holes : List Hole)
-        (operands : List Value) (index line u count next : ℕ) (behind : List Instruction)
-        → IsRunning program t layout f contents holes operands index
-        → drop index (code_on_top program t) ≡ Step line (making creates u count next) ∷ behind
-        → (calls : IsCallAhead creates program t operands u count next behind) (k : Kind) → binding_of program t u calls.actuals ≡ Err k
-        → Simulates program t layout f holes contents (fails line k) }
+    ensures ahead { (creates : Bool) (r : RunningTop) (line u count next : ℕ) (behind : List Instruction)
+        → IsRunning r → code_ahead r ≡ Step line (making creates u count next) ∷ behind
+        → IsCallAhead creates r.program r.top r.operands u count next behind }
+    ensures fails { (creates : Bool) (r : RunningTop) (line u count next : ℕ) (behind : List Instruction)
+        → IsRunning r → code_ahead r ≡ Step line (making creates u count next) ∷ behind
+        → (calls : IsCallAhead creates r.program r.top r.operands u count next behind) (k : Kind)
+        → binding_of r.program r.top u calls.actuals ≡ Err k → Simulates r (fails line k) }
 {}
 
 /// Where no value stands ahead that is to be put behind the operands, whatever operation stands there does what
 /// the source machine does, if it isn't CALL, CREATE or PURGE.
 pub fn operations_do_what_the_machine_does()
-    ensures { (program : Units) (t : Top) (layout : Layout) (f : Frame) (contents : List Slot) (holes : List Hole) (operands : List Value)
-        (index : ℕ) → IsRunning program t layout f contents holes operands index → IsPastPushes (code_on_top program t) index
-        → IsNotLeftOut (code_on_top program t) index
-        → Simulates program t layout f holes contents
-        (effect_at (code_on_top program t) (arrays_on_top program t) f.first contents operands index) }
+    ensures { (r : RunningTop) → IsRunning r → IsPastPushes (code_running r) r.index → IsNotLeftOut (code_running r) r.index
+        → Simulates r (effect_at (code_running r) (arrays_running r) r.frame.first r.arena.contents r.operands r.index) }
 {}
 
 /// An activation that runs can do the operation ahead, where its unit's arrays begin somewhere and its operands
 /// have room for the unit's deepest stack.
 pub fn activations_are_ready()
-    ensures { (program : Units) (t : Top) (layout : Layout) (f : Frame) (contents : List Slot) (holes : List Hole) (operands : List Value)
-        (index capacity : ℕ) → IsRunning program t layout f contents holes operands index
-        → ArePlacedArrays program (unit_on_top program t) → length contents ≤ most_cells → deepest (code_on_top program t) ≤ capacity
-        → IsReady (code_on_top program t) (arrays_on_top program t) (record { contents = contents; holes = holes })
-        (frame_in_arena f) operands capacity index }
+    ensures { (r : RunningTop) (capacity : ℕ) → IsRunning r → ArePlacedArrays r.program (unit_running r)
+        → length r.arena.contents ≤ most_cells → deepest (code_running r) ≤ capacity
+        → IsReady (code_running r) (arrays_running r) r.arena (frame_in_arena r.frame) r.operands capacity r.index }
 {}

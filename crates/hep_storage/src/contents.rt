@@ -1,7 +1,7 @@
 //! What a unit has in a common block, as far as it is known (X3.9-1978, 8.3).
-ghost use Rattle.std.specs.Prelude.{◌≡◌, ◌+◌, ◌++◌, ◌∷◌, [], List, Bool, true, false, not, ◌&&◌, ◌||◌, Option, Some, None, if◌then◌else◌};
+ghost use Rattle.std.specs.Prelude.{◌≡◌, ◌+◌, ◌++◌, ◌∷◌, [], List, true, false, not, ◌&&◌, Option, Some, None};
 ghost use Rattle.std.specs.Prelude.{IfOk, OnOk, IfSome};
-ghost use Rattle.std.specs.Option.{option_eq, option_map, option_map_or, option_and_then};
+ghost use Rattle.std.specs.Option.{option_and_then};
 ghost use Rattle.indexmap.specs.IndexSet.{contains};
 ghost use Rattle.hep_machine.specs.Words.{name_eq, same_name, BlockName, same_block, names_declared, elements};
 ghost use Rattle.hep_source.specs.declared.name.Name.{Name as PureName};

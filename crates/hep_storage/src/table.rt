@@ -1,6 +1,5 @@
 //! The common blocks of a program (X3.9-1978, 8.3), in a table that serves for one unit after the other.
 ghost use Rattle.std.specs.Prelude.{◌≡◌, ℕ, List, [], true, false, None, Some, Option, if◌then◌else◌};
-ghost use Rattle.std.specs.Option.{option_map};
 ghost use Rattle.hep_source.specs.declared.name.Name.{Name as PureName};
 ghost use Rattle.hep_source.specs.declared.statement.Statement.{Statement as PureStatement};
 ghost use Rattle.hep_machine.specs.Words.{BlockName, same_block};

@@ -1,5 +1,5 @@
 //! The statements of a source text.
-ghost use Rattle.std.specs.Prelude.{◌≡◌, ◌↔◌, ◌+◌, ◌≤◌, ℕ, false, List, [], ◌∷◌, length, OnOk, IfOk, IfErr, None, Some, Ok};
+ghost use Rattle.std.specs.Prelude.{◌≡◌, ◌↔◌, ◌+◌, ◌≤◌, false, List, [], ◌∷◌, length, OnOk, IfOk, IfErr, None, Some, Ok};
 ghost use Rattle.std.specs.List.{All};
 ghost use Rattle.hep_text.specs.Characters.{first_text_column, text_columns};
 ghost use Rattle.hep_text.specs.Constant.{Character};
@@ -9,7 +9,7 @@ ghost use Rattle.hep_text.specs.Line.{initial, continuation};
 ghost use Rattle.hep_text.specs.Reading as reading;
 ghost use Rattle.hep_text.specs.Reading.{statements_of, columns, most_bytes, Reports};
 ghost use Rattle.hep_text.specs.WellFormed.{IsWellFormed};
-ghost use Rattle.hep_text.specs.Progress.{started, longer, over, pending_of, done_of, with_last, GoesOn, Fails};
+ghost use Rattle.hep_text.specs.Progress.{started, longer, pending_of, done_of, with_last, GoesOn, Fails};
 ghost use Rattle.hep_base.specs.declared.refusal.Refusal.TheVariants.{NoMemory};
 
 use crate::constant::Scanner;

@@ -6,7 +6,6 @@ ghost use Rattle.hep_source.specs.declared.name.Name.{Name as PureName};
 ghost use Rattle.hep_conditions.specs.Constants as conditions;
 ghost use Rattle.hep_names.specs.Statements.{rest_after};
 ghost use Rattle.hep_machine.specs.Words.{name_eq};
-ghost use Rattle.hep_names.specs.Tables.{by_name};
 ghost use Rattle.hep_types.specs.Shapes as tables;
 ghost use Rattle.hep_types.specs.Known.{known};
 

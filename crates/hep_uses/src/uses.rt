@@ -1,5 +1,5 @@
 //! The names that statements use, by what they use them for (X3.9-1978, 18.1 and 18.2).
-ghost use Rattle.std.specs.Prelude.{◌≡◌, [], ◌∷◌, ◌++◌, option_to_list, IfOk, OnOk};
+ghost use Rattle.std.specs.Prelude.{◌≡◌, [], ◌++◌, option_to_list, IfOk, OnOk};
 ghost use Rattle.std.specs.List.{flat_map};
 ghost use Rattle.hep_source.specs.declared.declaration.CommonBlock.{CommonBlock as PureBlock};
 ghost use Rattle.hep_source.specs.Units as units;

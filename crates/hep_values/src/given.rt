@@ -1,5 +1,5 @@
 //! The constants that a unit gives values (X3.9-1978, 8.6).
-ghost use Rattle.std.specs.Prelude.{◌≡◌, [], IfOk, OnOk};
+ghost use Rattle.std.specs.Prelude.{◌≡◌, IfOk, OnOk};
 ghost use Rattle.hep_machine.specs.Words.{value_among, value_of, with_constant, given_by, constant_value};
 
 use crate::constants::Constants;

@@ -15,7 +15,7 @@ use Rattle.hep_needs_laws.proofs.Waiting.{waits-unmet}
 use Rattle.hep_frames.specs.Nodes.{nodes_of}
 use Rattle.hep_state.specs.declared.machine.Level.{Level}
 use Rattle.hep_state.specs.declared.machine.Machine.{Machine}
-use Rattle.hep_state.specs.Words.{IsMachineAfter, Stack, snapshot_of, stack_with}
+use Rattle.hep_state.specs.Words.{HasLevels, IsMachineAfter, Stack, snapshot_of}
 use Rattle.hep_state.proofs.Standing.{AreStanding, stack-standing}
 use Rattle.hep_step.specs.Simulation.{unit_addressed, unit_code}
 use Rattle.hep_blocked_laws.specs.Listing.{IsBlocked}
@@ -63,14 +63,11 @@ top-there (Some (level ∷ levels)) top e =
 
 -- what a machine keeps of the top activation of process p
 pub record IsTop (program : Units) (s : State) (m : Machine) (p : ℕ) (top : SourceLevel × Process) : Type 0 where
-  pub l : Level
-  pub ls : List Level
-  pub operands : List Value
-  pub kept : numbered (snapshot_of m).processes p ≡ Some (stack_with l ls operands)
-  pub inside : l.unit < length program
-  pub there : (n : FrameNode) × (nodes_of m.frames.nodes l.key ≡ Some n) × (top.0.activation ≡ n.activation)
-  pub unit : unit_of s top.0.activation ≡ l.unit
-  pub line : line_ahead (drop l.index (unit_code program l.unit)) ≡ line_at (unit_at program (unit_of s top.0.activation)) top.0.statement
+  pub levels : HasLevels (snapshot_of m) p
+  pub inside : levels.level.unit < length program
+  pub there : (n : FrameNode) × (nodes_of m.frames.nodes levels.level.key ≡ Some n) × (top.0.activation ≡ n.activation)
+  pub unit : unit_of s top.0.activation ≡ levels.level.unit
+  pub line : line_ahead (drop levels.level.index (unit_code program levels.level.unit)) ≡ line_at (unit_at program (unit_of s top.0.activation)) top.0.statement
 
 module _ (program : Units) (cells : ℕ) (choices : List ℕ) (m : Machine) (h : IsMachineAfter program cells choices m) where
   abbrev s : State
@@ -85,10 +82,7 @@ module _ (program : Units) (cells : ℕ) (choices : List ℕ) (m : Machine) (h :
   top-by p top k kept (l ∷ ls) is stands =
       let here = stands.0.here in
       record {
-        l = l;
-        ls = ls;
-        operands = k.operands;
-        kept = kept ∙ (λ i. Some (record { levels = is i; operands = k.operands }));
+        levels = record { level = l; below = ls; operands = k.operands; kept = kept ∙ (λ i. Some (record { levels = is i; operands = k.operands })) };
         inside = here.inside;
         there = (here.node, here.there, here.activation);
         unit = here.unit;
@@ -121,7 +115,7 @@ module _ (program : Units) (cells : ℕ) (choices : List ℕ) (m : Machine) (h :
     pub top : SourceLevel × Process
     pub lives : living s p ≡ Some top
     pub is_top : IsTop program s m p top
-    pub sought : IsSought program cells choices m is_top.l.key want.cell wanted.at
+    pub sought : IsSought program cells choices m is_top.levels.level.key want.cell wanted.at
 
   pub blocked-waits : (p : ℕ) (want : Want) → IsBlocked program cells choices p want
       → Waits p want
@@ -149,7 +143,7 @@ module _ (program : Units) (cells : ℕ) (choices : List ℕ) (m : Machine) (h :
 
   -- ---- as it is listed
 
-  pub listed-is : (p : ℕ) (want : Want) (w : Waits p want) (level : Level) (line : ℕ) (place : Place) → level ≡ w.is_top.l
+  pub listed-is : (p : ℕ) (want : Want) (w : Waits p want) (level : Level) (line : ℕ) (place : Place) → level ≡ w.is_top.levels.level
       → line ≡ line_ahead (drop level.index (unit_code program level.unit)) → place ≡ place_of program s w.wanted.at
       → listed_by program p s ≡ Some (record { process = p; unit = level.unit; line = line; full = want.full; owner = place.owner; name = place.name; element = place.element })
   listed-is p want w level line place level_is line_is place_is =

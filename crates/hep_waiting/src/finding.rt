@@ -1,14 +1,13 @@
 //! From the cell for which a process waits to the storage unit that is kept there.
-ghost use Rattle.std.specs.Prelude.{◌≡◌, ◌+◌, ◌-◌, ◌<◌, ◌≤◌, ◌&&◌, ℕ, if◌then◌else◌, nat_le, nat_lt, IsSome, List, Some, drop, length};
+ghost use Rattle.std.specs.Prelude.{◌≡◌, ◌+◌, ◌-◌, ◌<◌, ◌&&◌, ℕ, IsSome, List, Some, drop, length};
 ghost use Rattle.slab.specs.Slab.{ContainsKey};
-ghost use Rattle.hep_machine.specs.Words.{Name, Value, unit_at, BlockName, numbered, run, Location};
+ghost use Rattle.hep_machine.specs.Words.{Name, unit_at, BlockName, run, Location};
 ghost use Rattle.hep_code.specs.Depths as depths;
 ghost use Rattle.hep_layout.specs.Words.{FrameNode};
 ghost use Rattle.hep_image.specs.Image.{most_cells};
 ghost use Rattle.hep_image.specs.Owners.{IsBlockTold, IsTold};
 ghost use Rattle.hep_frames.specs.Nodes.{nodes_of};
-ghost use Rattle.hep_state.specs.declared.machine.Level.{Level as ALevel};
-ghost use Rattle.hep_state.specs.Words.{IsMachineAfter, snapshot_of, HasLevels, stack_with};
+ghost use Rattle.hep_state.specs.Words.{IsMachineAfter, snapshot_of, HasLevels};
 ghost use Rattle.hep_blocked_laws.specs.Listing.{IsBlocked};
 ghost use Rattle.hep_waiting.specs.Listed.{block_place, listed_by, place_of, variable_place};
 ghost use Rattle.hep_waiting.specs.Sought.{IsSought, has_cell as frame_has_cell, holder_above};
@@ -24,8 +23,7 @@ use hep_state::{Level, Machine};
 // The level of the top activation of process p.
 fn top(machine: &Machine, p: u64) -> Level
     requires { HasLevels (snapshot_of machine.now) p }
-    ensures { (l : ALevel) (ls : List ALevel) (operands : List Value)
-        → numbered (snapshot_of machine.now).processes p ≡ Some (stack_with l ls operands) → result ≡ l }
+    ensures { (levels : HasLevels (snapshot_of machine.now) p) → result ≡ levels.level }
 {
     let levels = &machine.processes[(p - 1) as usize].levels;
     levels[levels.len() - 1]

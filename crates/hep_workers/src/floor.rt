@@ -1,5 +1,5 @@
 //! The workers at their work: threads that share a core under a lock.
-ghost use Rattle.std.specs.Prelude.{◌≡◌, ◌≤◌, IfErr, IfOk};
+ghost use Rattle.std.specs.Prelude.{◌≤◌, IfErr, IfOk};
 ghost use Rattle.hep_workers.specs.Reports.{IsReport, IsWorkFault};
 
 use crate::crossing::{cores_cross, images_cross};

@@ -1,11 +1,11 @@
 use Rattle.std.proofs.Common.{◌≡◌, Bool, ℕ, List, length, Some, refl, sym, ap, ◌∙◌, subst, arith}
-use Rattle.hep_machine.specs.Words.{Units, Layout, frame_of, with_frame, run, Activation, State}
+use Rattle.hep_machine.specs.Words.{Units, Layout, frame_of, run, Activation, State}
 use Rattle.hep_arena.specs.Space.{Space}
 use Rattle.hep_arena.specs.Holes.{first_fit}
-use Rattle.hep_layout.specs.Words.{frame_from, descriptor_slots, Nodes, also, is_stacked, new_node, with_node}
+use Rattle.hep_layout.specs.Words.{descriptor_slots, Nodes, new_node, with_node}
 use Rattle.hep_layout.proofs.Memory.{memory-fits}
 use Rattle.hep_layout.proofs.References.{unset-ahead}
-use Rattle.hep_frames.specs.Keeping.{Keeps, with_unset}
+use Rattle.hep_frames.specs.Keeping.{frames_begun, frames_in, Keeps}
 use Rattle.hep_frames.specs.Nodes.{nodes_of}
 use Rattle.hep_frames.proofs.Slabs.{some-value}
 use Rattle.hep_entering.specs.Calling.{called_activation, layout_with, state_begun}
@@ -18,7 +18,7 @@ use Rattle.hep_frames.proofs.Begun.{fit-there}
 -- the frame has entered, where the activations are these
 abbrev HasBegun : Units → State → Layout → (ℕ → Bool) → ℕ → List Activation → Space → Nodes → Type 0
 HasBegun program s layout out first xs arena nodes =
-    Keeps program (record s { activations = xs }) (also (length xs) (is_stacked s)) (also (length xs) out) (with_frame layout (frame_from program (record s { activations = xs }) (length xs) first)) (with_unset (length xs) (descriptor_slots program s layout)) arena nodes
+    Keeps (frames_begun (frames_in program s out layout) (record s { activations = xs }) first) arena nodes
 
 -- the new node is under its key
 node-there : (old new : Nodes) (key a u first cells parent : ℕ) → new ≡ with_node old key (new_node a u first cells parent) parent → new key ≡ Some (new_node a u first cells parent)
@@ -39,7 +39,7 @@ bind-requires-clause-inside c =
     let new = nodes_of c.enter-key.new.self.nodes in
     let first = c.first-first.ensures (new_node c.args.activation c.args.unit fit.0 c.args.cells c.args.parent) (node-there old new c.enter-key.result c.args.activation c.args.unit fit.0 c.args.cells c.args.parent (c.enter-key.ensures.nodes fit.0 fit.1)) in
     let k = c.requires.kept in
-    let inside = block-inside k.0 k.1 k.4 c.args.frames.now.arena c.enter-key.new.self.arena c.args.cells fit.0 (omega (arith, c.requires.many)) k.6.memory fit.1 (c.enter-key.ensures.taken fit.0 fit.1) in
+    let inside = block-inside k.0 c.args.frames.now.arena c.enter-key.new.self.arena c.args.cells fit.0 (omega (arith, c.requires.many)) k.1.memory fit.1 (c.enter-key.ensures.taken fit.0 fit.1) in
     omega (arith, first, inside, c.requires.many)
 
 pub bind-requires-clause-out : goal.bind-requires-clause-out
@@ -49,7 +49,7 @@ bind-requires-clause-out c p low high =
     let new = nodes_of c.enter-key.new.self.nodes in
     let first = c.first-first.ensures (new_node c.args.activation c.args.unit fit.0 c.args.cells c.args.parent) (node-there old new c.enter-key.result c.args.activation c.args.unit fit.0 c.args.cells c.args.parent (c.enter-key.ensures.nodes fit.0 fit.1)) in
     let k = c.requires.kept in
-    block-out k.0 k.1 k.4 c.args.frames.now.arena c.enter-key.new.self.arena c.args.cells fit.0 (omega (arith, c.requires.many)) k.6.memory fit.1 (c.enter-key.ensures.taken fit.0 fit.1) p (omega (arith, first, low)) (omega (arith, first, high, c.requires.many))
+    block-out k.0 c.args.frames.now.arena c.enter-key.new.self.arena c.args.cells fit.0 (omega (arith, c.requires.many)) k.1.memory fit.1 (c.enter-key.ensures.taken fit.0 fit.1) p (omega (arith, first, low)) (omega (arith, first, high, c.requires.many))
 
 pub returns-clause-nodes : goal.returns-clause-nodes
 returns-clause-nodes c first fit = c.bind.ensures.nodes ∙ c.enter-key.ensures.nodes first fit
@@ -60,8 +60,7 @@ returns-clause-written c program choices p top u actuals b t layout out n keeps 
     let x = called_activation u top b in
     let old = nodes_of c.args.frames.now.nodes in
     let new = nodes_of c.enter-key.new.self.nodes in
-    let wanted = descriptor_slots program s layout in
-    let begun = c.enter-key.ensures.begun program s (state_begun program choices top u b) x (is_stacked s) out layout wanted n keeps at (begins program choices p top u actuals b pass) (ap (λ z. Some z) (sym same)) (act ∙ ap (λ (xs : List Activation). length xs) more) unit (cells ∙ ap (λ (xs : List Activation). frame_of program (record s { activations = xs }) (length xs)) more) in
+    let begun = c.enter-key.ensures.begun (frames_in program s out layout) (state_begun program choices top u b) x n keeps at (begins program choices p top u actuals b pass) (ap (λ z. Some z) (sym same)) (act ∙ ap (λ (xs : List Activation). length xs) more) unit (cells ∙ ap (λ (xs : List Activation). frame_of program (record s { activations = xs }) (length xs)) more) in
     let first = begun.0 in
     let fit : first_fit c.args.cells c.args.frames.now.arena.holes ≡ Some first = memory-fits program s layout c.args.frames.now.arena.contents c.args.frames.now.arena.holes c.args.cells keeps.memory (omega (arith, c.requires.many)) ∙ begun.1 in
     let result = c.first-first.ensures (new_node c.args.activation c.args.unit first c.args.cells c.args.parent) (node-there old new c.enter-key.result c.args.activation c.args.unit first c.args.cells c.args.parent (c.enter-key.ensures.nodes first fit)) in
@@ -70,6 +69,6 @@ returns-clause-written c program choices p top u actuals b t layout out n keeps 
       first,
       fit,
       begun.1,
-      c.bind.ensures.bound program (record s { activations = t.activations }) t (also (length t.activations) (is_stacked s)) (also (length t.activations) out) (layout_with program t layout first) wanted (length t.activations) entered refl
+      c.bind.ensures.bound (record (frames_begun (frames_in program s out layout) t first) { wanted = descriptor_slots program s layout }) (record s { activations = t.activations }) (length t.activations) entered refl
           (stored program choices p top u actuals b pass t more layout c.args.given.now passed store) (λ y. unset-ahead program choices (length t.activations) y 1 (let more_than = long program choices p top u actuals b pass t more in omega (arith, more_than))) bound,
     )

@@ -14,7 +14,7 @@ ends : (c : After-cells) → c.first.result + c.cells.result ≤ length c.args.f
 ends c =
     let n = here c in
     let k = c.requires.kept in
-    let inside = frame-inside k.0 k.1 k.2 k.3 k.4 k.5 c.args.frames.now.arena (nodes_of c.args.frames.now.nodes) c.args.key n.0 k.6 n.1 in
+    let inside = frame-inside k.0 c.args.frames.now.arena (nodes_of c.args.frames.now.nodes) c.args.key n.0 k.1 n.1 in
     omega (arith, inside, c.first.ensures n.0 n.1, c.cells.ensures n.0 n.1)
 
 pub overflow_add-end : goal.overflow_add-end
@@ -42,13 +42,13 @@ shape_from-requires-clause-out c p low high =
     let at = (goal.at.shape_from-requires-clause-out c).After-cells in
     let n = here at in
     let k = c.requires.kept in
-    frame-out k.0 k.1 k.2 k.3 k.4 k.5 c.args.frames.now.arena (nodes_of c.args.frames.now.nodes) c.args.key n.0 k.6 n.1 p
+    frame-out k.0 c.args.frames.now.arena (nodes_of c.args.frames.now.nodes) c.args.key n.0 k.1 n.1 p
     (omega (arith, low, c.cells_of_all.ensures, c.requires.many n.0 n.1, c.first.ensures n.0 n.1, c.cells.ensures n.0 n.1))
     (omega (arith, high, c.cells_of_all.ensures, c.requires.many n.0 n.1, c.first.ensures n.0 n.1, c.cells.ensures n.0 n.1))
 
 pub returns-clause-shaped : goal.returns-clause-shaped
-returns-clause-shaped c program s on out layout wanted a n kept there framed shaping =
-    c.shape_from.ensures.shaped program s on out layout wanted a framed.frame kept framed.framed
-    (begins-behind program s layout a n c.args.shapes.now _ framed shaping
+returns-clause-shaped c f a n kept there framed shaping =
+    c.shape_from.ensures.shaped f a framed.frame kept framed.framed
+    (begins-behind f a n c.args.shapes.now _ framed shaping
     (omega (arith, c.cells_of_all.ensures, c.requires.many n there, c.first.ensures n there, c.cells.ensures n there)))
     shaping

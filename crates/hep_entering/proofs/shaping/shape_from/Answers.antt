@@ -11,7 +11,7 @@ there : (shapes : List (Option Bounds)) (j : ℕ) (o : Option Bounds) → j < le
 there shapes j o less is = slice_get-get_or shapes j o less ∙ ap (λ z. Some z) (sym is)
 
 pub loop-one-init : goal.loop-one-init
-loop-one-init c = record { left = refl; behind = omega arith; cells = refl; holes = refl; nodes = refl; shaped = λ program s on out layout wanted a frame kept framed begins h. (begins, kept) }
+loop-one-init c = record { left = refl; behind = omega arith; cells = refl; holes = refl; nodes = refl; shaped = λ f a frame kept framed begins h. (begins, kept) }
 
 pub shape_one-next-requires-clause-inside : goal.shape_one-next-requires-clause-inside
 shape_one-next-requires-clause-inside c = cells-within c.args.shapes.now c.loop-one.one-index c.loop-one.next _ _ _ (there c.args.shapes.now c.loop-one.one-index _ c.loop-one-test.true c.one-item.is) c.loop-one.invariant.left (omega (arith, c.requires.inside, c.loop-one.invariant.cells))

@@ -5,6 +5,6 @@ use Rattle.hep_frames_laws.proofs.laws.frames_are_read.Goals as goal
 
 pub returns : goal.returns
 returns c = record {
-  one = λ program s on out layout arena nodes a f keeps framed has. frame-is-read program s layout arena.contents keeps.memory.holds keeps.described a f framed has;
-  all = λ program s on layout arena nodes keeps dummies. frames-are-read program s layout arena.contents keeps.memory.holds keeps.described (is_held s) keeps.frames_are is_held (λ a. refl) dummies;
+  one = λ f arena nodes a frame keeps framed has. frame-is-read f.program f.state f.layout arena.contents keeps.memory.holds keeps.described a frame framed has;
+  all = λ f arena nodes keeps dummies. frames-are-read f.program f.state f.layout arena.contents keeps.memory.holds keeps.described (is_held f.state) keeps.frames_are is_held (λ a. refl) dummies;
 }

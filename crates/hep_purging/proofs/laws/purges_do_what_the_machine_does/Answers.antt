@@ -2,5 +2,4 @@ use Rattle.hep_purging.proofs.Purges.{purge_simulated}
 use Rattle.hep_purging.proofs.laws.purges_do_what_the_machine_does.Goals as goal
 
 pub returns : goal.returns
-returns c = λ program t layout f contents holes operands index line count next behind running calls placed ahead.
-    purge_simulated program t layout f contents holes operands index line count next behind running ahead calls placed
+returns c = λ r line count next behind running calls placed ahead. purge_simulated r line count next behind running ahead calls placed

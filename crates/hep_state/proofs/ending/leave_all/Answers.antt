@@ -1,7 +1,7 @@
 use Rattle.std.proofs.Common.{◌≡◌, List, [], ◌∷◌, ◌++◌, length, reverse, refl, sym, ap, ◌∙◌, subst, arith}
 use Rattle.std.proofs.lemmas.List.{reverse-append}
-use Rattle.hep_layout.specs.Words.{descriptor_slots, is_stacked}
-use Rattle.hep_frames.specs.Keeping.{all_but, frames_of}
+use Rattle.hep_layout.specs.Words.{is_stacked}
+use Rattle.hep_frames.specs.Keeping.{all_but, frames_in, frames_left}
 use Rattle.hep_frames.specs.Nodes.{nodes_of}
 use Rattle.hep_frames.proofs.Several.{AreLeaving, leaving-begins, leaving-ends, leaving-goes_on, leaving-next}
 use Rattle.hep_frames.proofs.Slabs.{some-value}
@@ -20,36 +20,35 @@ no-levels (l ∷ ls) e = absurd (omega (arith, e))
 
 pub loop-level-init : goal.loop-level-init
 loop-level-init c =
-    ((λ program s on out layout ends h can lead. leaving-begins program s on out layout ends c.args.frames.now.arena (nodes_of c.args.frames.now.nodes) (keys_of (reverse c.args.levels.now.items)) h can), refl)
+    ((λ f ends h can lead. leaving-begins f ends c.args.frames.now.arena (nodes_of c.args.frames.now.nodes) (keys_of (reverse c.args.levels.now.items)) h can), refl)
 
 pub leave-requires-clause-there : goal.leave-requires-clause-there
 leave-requires-clause-there c =
-    let f = c.requires in
+    let (f, ends, keeps, can, lead) = c.requires in
     let l = c.in-Some.level in
-    let rest = keys_of (reverse c.pop.new.self.items) in
     let old = nodes_of c.args.frames.now.nodes in
     let nodes = nodes_of c.loop-level.frames.nodes in
-    let g = subst (AreLeaving f.0 f.1 f.2 f.3 f.4 f.5 c.args.frames.now.arena old c.loop-level.frames.arena nodes) (popped c.loop-level.levels.items c.pop.new.self.items l c.in-Some.ensures.items) (c.loop-level.invariant.0 f.0 f.1 f.2 f.3 f.4 f.5 f.6 f.7 f.8) in
-    let next = leaving-next f.0 f.1 f.2 f.3 f.4 f.5 c.args.frames.now.arena old c.loop-level.frames.arena nodes l.key rest g in
+    let g = subst (AreLeaving f ends c.args.frames.now.arena old c.loop-level.frames.arena nodes) (popped c.loop-level.levels.items c.pop.new.self.items l c.in-Some.ensures.items) (c.loop-level.invariant.0 f ends keeps can lead) in
+    let next = leaving-next f ends c.args.frames.now.arena old c.loop-level.frames.arena nodes l.key (keys_of (reverse c.pop.new.self.items)) g in
     some-value c.loop-level.frames.nodes l.key next.node next.there
 
 pub leave-requires-clause-kept : goal.leave-requires-clause-kept
 leave-requires-clause-kept c =
-    let f = c.requires in
-    let g = c.loop-level.invariant.0 f.0 f.1 f.2 f.3 f.4 f.5 f.6 f.7 f.8 in
-    (f.0, f.1, g.on_now, g.left.still, frames_of g.left.still f.4, descriptor_slots f.0 f.1 (frames_of g.left.still f.4), g.left.keeps)
+    let (f, ends, keeps, can, lead) = c.requires in
+    let g = c.loop-level.invariant.0 f ends keeps can lead in
+    (frames_left (record f { on = g.on_now }) g.left.still, g.left.keeps)
 
 pub loop-level-preserved : goal.loop-level-preserved
 loop-level-preserved c = (
-  (λ program s on out layout ends h can lead.
+  (λ f ends h can lead.
       let l = c.in-Some.level in
       let rest = keys_of (reverse c.pop.new.self.items) in
       let old = nodes_of c.args.frames.now.nodes in
       let nodes = nodes_of c.loop-level.frames.nodes in
-      let g = subst (AreLeaving program s on out layout ends c.args.frames.now.arena old c.loop-level.frames.arena nodes) (popped c.loop-level.levels.items c.pop.new.self.items l c.in-Some.ensures.items) (c.loop-level.invariant.0 program s on out layout ends h can lead) in
-      let next = leaving-next program s on out layout ends c.args.frames.now.arena old c.loop-level.frames.arena nodes l.key rest g in
-      leaving-goes_on program s on out layout ends c.args.frames.now.arena old c.loop-level.frames.arena nodes c.leave.new.self.arena (nodes_of c.leave.new.self.nodes) l.key rest g next (
-      c.leave.ensures.left program s g.on_now g.left.still (frames_of g.left.still layout) next.node g.left.keeps next.there lead)),
+      let g = subst (AreLeaving f ends c.args.frames.now.arena old c.loop-level.frames.arena nodes) (popped c.loop-level.levels.items c.pop.new.self.items l c.in-Some.ensures.items) (c.loop-level.invariant.0 f ends h can lead) in
+      let next = leaving-next f ends c.args.frames.now.arena old c.loop-level.frames.arena nodes l.key rest g in
+      leaving-goes_on f ends c.args.frames.now.arena old c.loop-level.frames.arena nodes c.leave.new.self.arena (nodes_of c.leave.new.self.nodes) l.key rest g next (
+      c.leave.ensures.left (frames_left (record f { on = g.on_now }) g.left.still) next.node g.left.keeps next.there lead)),
   c.leave.ensures.cells ∙ c.loop-level.invariant.1,
 )
 
@@ -57,10 +56,11 @@ pub returns-clause-ended : goal.returns-clause-ended
 returns-clause-ended c program s t out layout ends h can =
     let old = nodes_of c.args.frames.now.nodes in
     let nodes = nodes_of c.loop-level.frames.nodes in
+    let f = record (frames_in program t out layout) { on = is_stacked s } in
     let none = no-levels c.loop-level.levels.items (sym c.loop-level.levels.ok.0 ∙ c.in_default.ensures.cases.0) in
     ended-left program s t (all_but ends (is_stacked s)) out layout c.args.frames.now.arena c.loop-level.frames.arena old nodes
     (λ k lead.
-    leaving-ends program t (is_stacked s) out layout ends c.args.frames.now.arena old c.loop-level.frames.arena nodes (
-    subst (λ (xs : List Level). AreLeaving program t (is_stacked s) out layout ends c.args.frames.now.arena old c.loop-level.frames.arena nodes (keys_of (reverse xs))) none
-    (c.loop-level.invariant.0 program t (is_stacked s) out layout ends k can lead)))
+    leaving-ends f ends c.args.frames.now.arena old c.loop-level.frames.arena nodes (
+    subst (λ (xs : List Level). AreLeaving f ends c.args.frames.now.arena old c.loop-level.frames.arena nodes (keys_of (reverse xs))) none
+    (c.loop-level.invariant.0 f ends k can lead)))
     h

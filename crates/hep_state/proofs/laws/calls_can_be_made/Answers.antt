@@ -1,30 +1,30 @@
 use Rattle.std.proofs.Common.{sym, subst, ◌∙◌}
-use Rattle.hep_machine.specs.Words.{unit_at, run}
+use Rattle.hep_machine.specs.Words.{unit_at}
 use Rattle.hep_layout_laws.specs.Within.{ArePlacedArrays}
 use Rattle.hep_passing.specs.Ready.{ArePassable}
 use Rattle.hep_step.specs.Ready.{frame_in_arena}
-use Rattle.hep_state.specs.Words.{frame_under}
-use Rattle.hep_state.proofs.Callers.{as-many, called-inside, caller-unit, calls, calls-so, passed-by}
+use Rattle.hep_state.specs.Words.{state_before, top_frame}
+use Rattle.hep_state.proofs.Callers.{as-many, called-inside, calls, calls-so, passed-by}
+use Rattle.hep_state.proofs.Moved.{unit-is}
 use Rattle.hep_state.proofs.laws.calls_can_be_made.Goals as goal
 
 pub returns-clause-inside : goal.returns-clause-inside
-returns-clause-inside c program cells choices m p call accepted main at = called-inside (c.programs_are_known.ensures program accepted main) call at
+returns-clause-inside c t call accepted main at = called-inside call at (c.programs_are_known.ensures t.program accepted main)
 
 pub returns-clause-counted : goal.returns-clause-counted
-returns-clause-counted c program cells choices m p call accepted main at =
-    (calls (c.programs_are_known.ensures program accepted main) call at).counted ∙ as-many (c.programs_are_known.ensures program accepted main) call at
+returns-clause-counted c t call accepted main at =
+    let k = c.programs_are_known.ensures t.program accepted main in
+    (calls call at k).counted ∙ as-many call at k
 
 pub returns-clause-framed : goal.returns-clause-framed
-returns-clause-framed c program cells choices m p call accepted main few at =
-    c.callers_can_pass.ensures.frame program (run program choices) at.turning.after.layout m.arena.contents m.arena.holes at.top.0.activation (frame_under m.nodes at.l.key) (calls-so (c.programs_are_known.ensures program accepted main).running at) at.turning.after.shows.keeps.memory few
+returns-clause-framed c t call accepted main few at =
+    let k = c.programs_are_known.ensures t.program accepted main in
+    c.callers_can_pass.ensures.frame t.program (state_before t) at.turning.after.layout t.machine.arena.contents t.machine.arena.holes t.top.0.activation (top_frame t) (calls-so at k.running) at.turning.after.shows.keeps.memory few
 
 pub returns-clause-passable : goal.returns-clause-passable
-returns-clause-passable c program cells choices m p call accepted main at =
-    let k = c.programs_are_known.ensures program accepted main in
-    let s = run program choices in
-    let f = frame_under m.nodes at.l.key in
-    let ahead = calls k call at in
-    let arrays = c.tops_are_running.ensures.arrays program cells choices m p at.l at.ls at.operands at.top accepted main at.turning in
-    let placed = subst (λ u. ArePlacedArrays program (unit_at program u)) (sym (caller-unit k.running at)) arrays in
-    passed-by k call at (λ xs ps. ArePassable m.arena xs (frame_in_arena f) ps) (
-    c.callers_can_pass.ensures.actuals program s at.turning.after.layout m.arena.contents m.arena.holes at.top.0.activation f ahead.actuals ahead.more (calls-so k.running at) at.turning.after.shows.keeps.memory placed)
+returns-clause-passable c t call accepted main at =
+    let k = c.programs_are_known.ensures t.program accepted main in
+    let ahead = calls call at k in
+    let placed = subst (λ u. ArePlacedArrays t.program (unit_at t.program u)) (sym (unit-is at.turning)) (c.tops_are_running.ensures.arrays t accepted main at.turning) in
+    passed-by call at k (λ xs ps. ArePassable t.machine.arena xs (frame_in_arena (top_frame t)) ps) (
+    c.callers_can_pass.ensures.actuals t.program (state_before t) at.turning.after.layout t.machine.arena.contents t.machine.arena.holes t.top.0.activation (top_frame t) ahead.actuals ahead.more (calls-so at k.running) at.turning.after.shows.keeps.memory placed)

@@ -1,10 +1,9 @@
-use Rattle.std.proofs.Common.{◌≡◌, ℕ, Bool, List, Some, false, true, is_some}
-use Rattle.hep_machine.specs.Words.{Name, Units, main_among, unit_at, Actual, does, next_of, Process, run, Binding, unit_of, next_activation, scope_of, step, unit_called}
-use Rattle.hep_machine.specs.State.{Level as SourceLevel}
+use Rattle.std.proofs.Common.{◌≡◌, Bool, List, Some, false, true, is_some}
+use Rattle.hep_machine.specs.Words.{Name, Units, main_among, unit_at, Actual, does, next_of, Binding, unit_of, next_activation, scope_of, step, unit_called}
 use Rattle.hep_step.specs.Calls.{made_by}
 use Rattle.hep_machine.specs.declared.event.Kind.TheVariants.{Shape}
 use Rattle.hep_entering.specs.Calling.{IsPassing}
-use Rattle.hep_state.specs.Words.{state_made}
+use Rattle.hep_state.specs.Words.{TurnOf, state_before, state_made}
 use Rattle.hep_conditions.specs.Words.{IsAccepted}
 use Rattle.hep_image.specs.Dummies.{dummy_arguments}
 use Rattle.hep_shaping.specs.Fitting.{shapes_of}
@@ -12,10 +11,10 @@ use Rattle.hep_state.proofs.Callers.{IsKnownToBind, actuals, called-so, dummies-
 use Rattle.hep_image.proofs.Numbers.{unit-there}
 use Rattle.hep_state.proofs.laws.calls_give_what_is_bound.Goals as goal
 
-steps-made : goal.After-programs_are_known → (program : Units) (creates : Bool) (choices : List ℕ) (p : ℕ) (top : SourceLevel × Process) (x : Name) (actuals : List Actual) (b : Binding) → (run program choices).halted ≡ false → IsPassing program choices p top (unit_called program x) actuals b
-    → next_of (unit_at program (unit_of (run program choices) top.0.activation)) top.0.work ≡ does (made_by creates x actuals) → step program p (run program choices) ≡ Some (state_made creates program choices p top (unit_called program x) b)
-steps-made c program false = c.calls_make_activations.ensures.called program
-steps-made c program true = c.calls_make_activations.ensures.created program
+steps-made : goal.After-programs_are_known → (creates : Bool) (t : TurnOf) (x : Name) (actuals : List Actual) (b : Binding) → (state_before t).halted ≡ false → IsPassing t.program t.choices t.process t.top (unit_called t.program x) actuals b
+    → next_of (unit_at t.program (unit_of (state_before t) t.top.0.activation)) t.top.0.work ≡ does (made_by creates x actuals) → step t.program t.process (state_before t) ≡ Some (state_made creates t (unit_called t.program x) b)
+steps-made c false t = c.calls_make_activations.ensures.called t.program t.choices t.process t.top
+steps-made c true t = c.calls_make_activations.ensures.created t.program t.choices t.process t.top
 
 all-known : goal.After-programs_are_known → (program : Units) → IsAccepted program → is_some (main_among program) ≡ true → IsKnownToBind program
 all-known c program accepted main =
@@ -25,38 +24,38 @@ all-known c program accepted main =
       fits = λ u k j x y actuals a. c.actual_arguments_fit.ensures program u k j x y actuals a accepted;
       placed = λ unit x. c.variables_are_placed.ensures program unit x;
       passed = c.all_actuals_are_passed.ensures.entries program;
-      made = steps-made c program;
-      faults = λ creates. c.calls_are_ahead.ensures.fails creates program;
+      made = steps-made c;
+      faults = c.calls_are_ahead.ensures.fails;
     }
 
 pub returns-clause-shapable : goal.returns-clause-shapable
-returns-clause-shapable c program cells choices m p call given room accepted main at gives few =
-    let all = all-known c program accepted main in
-    let s = run program choices in
-    let dummies = dummies-given all call at given gives in
-    c.calls_are_shapable.ensures program s at.turning.after.layout m.arena.contents m.arena.holes call.unit (next_activation s) room (actuals all call at) given dummies.0 accepted (called-inside all.known call at)
+returns-clause-shapable c t call given room accepted main at gives few =
+    let all = all-known c t.program accepted main in
+    let s = state_before t in
+    let dummies = dummies-given call at all given gives in
+    c.calls_are_shapable.ensures t.program s at.turning.after.layout t.machine.arena.contents t.machine.arena.holes call.unit (next_activation s) room (actuals call at all) given dummies.0 accepted (called-inside call at all.known)
     at.turning.after.shows.keeps.memory dummies.2 few
 
 pub returns-clause-making : goal.returns-clause-making
-returns-clause-making c program cells choices m p call given accepted main at gives fit =
-    let all = all-known c program accepted main in
-    let s = run program choices in
-    let dummies = dummies-given all call at given gives in
+returns-clause-making c t call given accepted main at gives fit =
+    let all = all-known c t.program accepted main in
+    let s = state_before t in
+    let dummies = dummies-given call at all given gives in
     let bound =
-    c.shapes_decide_bindings.ensures.fit program s at.turning.after.layout m.arena.contents call.unit (next_activation s) (scope_of program s at.top.0.activation) (actuals all call at) given dummies.0 accepted (called-inside all.known call at)
-    (frameless all call at) at.turning.after.shows.keeps.memory.holds dummies.2 dummies.1 fit in
-    called-so all call at given (shapes_of m.arena.contents given (dummy_arguments program (unit_at program call.unit))) bound.0 gives bound.1 bound.2
+    c.shapes_decide_bindings.ensures.fit t.program s at.turning.after.layout t.machine.arena.contents call.unit (next_activation s) (scope_of t.program s t.top.0.activation) (actuals call at all) given dummies.0 accepted (called-inside call at all.known)
+    (frameless call at all) at.turning.after.shows.keeps.memory.holds dummies.2 dummies.1 fit in
+    called-so call at all given (shapes_of t.machine.arena.contents given (dummy_arguments t.program (unit_at t.program call.unit))) bound.0 gives bound.1 bound.2
 
 pub returns-clause-range : goal.returns-clause-range
-returns-clause-range c program cells choices m p call kind accepted main at gives =
-    let all = all-known c program accepted main in
-    fault-ends all call at kind (range-bound all call at kind gives)
+returns-clause-range c t call kind accepted main at gives =
+    let all = all-known c t.program accepted main in
+    fault-ends call at all kind (range-bound call at all kind gives)
 
 pub returns-clause-shape : goal.returns-clause-shape
-returns-clause-shape c program cells choices m p call given accepted main at gives unfit =
-    let all = all-known c program accepted main in
-    let s = run program choices in
-    let dummies = dummies-given all call at given gives in
-    fault-ends all call at Shape (
-    c.shapes_decide_bindings.ensures.unfit program s at.turning.after.layout m.arena.contents call.unit (next_activation s) (scope_of program s at.top.0.activation) (actuals all call at) given dummies.0 accepted (called-inside all.known call at)
-    (frameless all call at) at.turning.after.shows.keeps.memory.holds dummies.2 dummies.1 unfit)
+returns-clause-shape c t call given accepted main at gives unfit =
+    let all = all-known c t.program accepted main in
+    let s = state_before t in
+    let dummies = dummies-given call at all given gives in
+    fault-ends call at all Shape (
+    c.shapes_decide_bindings.ensures.unfit t.program s at.turning.after.layout t.machine.arena.contents call.unit (next_activation s) (scope_of t.program s t.top.0.activation) (actuals call at all) given dummies.0 accepted (called-inside call at all.known)
+    (frameless call at all) at.turning.after.shows.keeps.memory.holds dummies.2 dummies.1 unfit)

@@ -2,4 +2,4 @@ use Rattle.hep_state.proofs.Moved.{returned-shown}
 use Rattle.hep_state.proofs.laws.ends_are_shown.Goals as goal
 
 pub returns : goal.returns
-returns c program cells choices m p l ls operands top arena nodes turning left size sim = returned-shown turning arena nodes left size sim
+returns c t arena nodes turning left size sim = returned-shown turning arena nodes left size sim

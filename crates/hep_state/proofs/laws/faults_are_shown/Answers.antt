@@ -2,4 +2,4 @@ use Rattle.hep_state.proofs.Moved.{failed-shown}
 use Rattle.hep_state.proofs.laws.faults_are_shown.Goals as goal
 
 pub returns : goal.returns
-returns c program cells choices m p l ls operands top arena nodes line kind turning left size sim = failed-shown turning arena nodes line kind left size sim
+returns c t arena nodes line kind turning left size sim = failed-shown turning arena nodes line kind left size sim

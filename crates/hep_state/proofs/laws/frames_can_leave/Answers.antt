@@ -4,19 +4,16 @@ use Rattle.hep_state.proofs.Moved.{can-all-leave, can-leave, failed-ended, kept-
 use Rattle.hep_state.proofs.laws.frames_can_leave.Goals as goal
 
 pub returns-clause-kept : goal.returns-clause-kept
-returns-clause-kept c program cells choices m p l ls operands top turning = kept-now turning
+returns-clause-kept c t turning = kept-now turning
 
 pub returns-clause-there : goal.returns-clause-there
-returns-clause-there c program cells choices m p l ls operands top turning = top-node turning
+returns-clause-there c t turning = top-node turning
 
 pub returns-clause-returned : goal.returns-clause-returned
-returns-clause-returned c program cells choices m p l ls operands top turning =
-    (returned-ended turning, lead-upwards program choices (state_returned program choices p top) refl)
+returns-clause-returned c t turning = (returned-ended turning, lead-upwards t.program t.choices (state_returned t) refl)
 
 pub returns-clause-all : goal.returns-clause-all
-returns-clause-all c program cells choices m p l ls operands top turning =
-    (can-all-leave turning, can-leave turning)
+returns-clause-all c t turning = (can-all-leave turning, can-leave turning)
 
 pub returns-clause-failed : goal.returns-clause-failed
-returns-clause-failed c program cells choices m p l ls operands top kind turning =
-    (failed-ended turning kind, lead-upwards program choices (state_failed program choices p top kind) refl)
+returns-clause-failed c t kind turning = (failed-ended turning kind, lead-upwards t.program t.choices (state_failed t kind) refl)

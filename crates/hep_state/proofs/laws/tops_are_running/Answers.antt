@@ -15,7 +15,7 @@ known c program accepted main =
     }
 
 pub returns-clause-running : goal.returns-clause-running
-returns-clause-running c program cells choices m p l ls operands top accepted main turning = top-runs (known c program accepted main) turning
+returns-clause-running c t accepted main turning = top-runs turning (known c t.program accepted main)
 
 pub returns-clause-arrays : goal.returns-clause-arrays
-returns-clause-arrays c program cells choices m p l ls operands top accepted main turning = arrays-placed (known c program accepted main) turning
+returns-clause-arrays c t accepted main turning = arrays-placed turning (known c t.program accepted main)

@@ -2,7 +2,7 @@ use Rattle.hep_state.proofs.Tops.{absent-ended, absent-halted, absent-none, turn
 use Rattle.hep_state.proofs.laws.turns_are_taken.Goals as goal
 
 pub returns-clause-turning : goal.returns-clause-turning
-returns-clause-turning c program cells choices m p l ls operands after running kept = turning p after l ls operands running kept
+returns-clause-turning c program cells choices m p levels after running = turning p after levels running
 
 pub returns-clause-halted : goal.returns-clause-halted
 returns-clause-halted c program cells choices m p after halted = absent-halted p after halted

@@ -2,5 +2,4 @@ use Rattle.hep_step.proofs.Ready.{is_ready}
 use Rattle.hep_step.proofs.laws.activations_are_ready.Goals as goal
 
 pub returns : goal.returns
-returns c = λ program t layout f contents holes operands index capacity running placed few room.
-    is_ready program t layout f contents holes operands index running placed capacity room few
+returns c = λ r capacity running placed few room. is_ready r running placed capacity room few

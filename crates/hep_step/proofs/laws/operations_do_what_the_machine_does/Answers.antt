@@ -2,4 +2,4 @@ use Rattle.hep_step.proofs.Operations.{operation_simulated}
 use Rattle.hep_step.proofs.laws.operations_do_what_the_machine_does.Goals as goal
 
 pub returns : goal.returns
-returns c = λ program t layout f contents holes operands index running past done. operation_simulated program t layout f contents holes operands index running done past
+returns c = λ r running past done. operation_simulated r running done past

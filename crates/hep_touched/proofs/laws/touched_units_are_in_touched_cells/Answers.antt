@@ -2,5 +2,4 @@ use Rattle.hep_touched.proofs.Kept.{touched_kept}
 use Rattle.hep_touched.proofs.laws.touched_units_are_in_touched_cells.Goals as goal
 
 pub returns : goal.returns
-returns c = λ program t layout f contents holes operands index at running past touches.
-    touched_kept program t layout f contents holes operands index running at past touches
+returns c = touched_kept

@@ -4,17 +4,17 @@ use Rattle.hep_waiting.proofs.finding.top.Goals as goal
 
 pub overflow_sub-len : goal.overflow_sub-len
 overflow_sub-len c =
-    let some = some-levels-at (process-at c.args.machine.now.processes.items c.args.p c.requires.3 c.index.ensures) in
+    let some = some-levels-at (process-at c.args.machine.now.processes.items c.args.p c.requires.kept c.index.ensures) in
     omega (arith, some, c.len.ensures)
 
 pub index-requires-2 : goal.index-requires-2
 index-requires-2 c =
-    let some = some-levels-at (process-at c.args.machine.now.processes.items c.args.p c.requires.3 c.index.ensures) in
+    let some = some-levels-at (process-at c.args.machine.now.processes.items c.args.p c.requires.kept c.index.ensures) in
     omega (arith, some, c.len.ensures)
 
 pub returns : goal.returns
-returns c l ls operands kept =
+returns c levels =
     let q = c.index.result.now in
-    let it = process-at c.args.machine.now.processes.items c.args.p kept c.index.ensures in
+    let it = process-at c.args.machine.now.processes.items c.args.p levels.kept c.index.ensures in
     c.index-2.ensures
-    ∙ (ap (λ n. get_or q.levels.items (n - 1) c.index-2.result.now) c.len.ensures ∙ last-is q l ls operands it.stack c.index-2.result.now)
+    ∙ (ap (λ n. get_or q.levels.items (n - 1) c.index-2.result.now) c.len.ensures ∙ last-is q levels.level levels.below levels.operands it.stack c.index-2.result.now)

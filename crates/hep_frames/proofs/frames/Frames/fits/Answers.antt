@@ -7,4 +7,4 @@ pub returns-clause-opening : goal.returns-clause-opening
 returns-clause-opening c program h size = c.fits.ensures ∙ unused-fits program c.args.self.now.arena (nodes_of c.args.self.now.nodes) c.args.cells h size
 
 pub returns-clause-gap : goal.returns-clause-gap
-returns-clause-gap c program s on out layout wanted h one = c.fits.ensures ∙ keeps-fits program s on out layout wanted c.args.self.now.arena (nodes_of c.args.self.now.nodes) c.args.cells h one
+returns-clause-gap c f h one = c.fits.ensures ∙ keeps-fits f c.args.self.now.arena (nodes_of c.args.self.now.nodes) c.args.cells h one

@@ -3,6 +3,6 @@ use Rattle.hep_layout.proofs.Memory.{memory-cells}
 use Rattle.hep_frames.proofs.frames.Frames.used.Goals as goal
 
 pub returns-clause-used : goal.returns-clause-used
-returns-clause-used c program s on out layout wanted h =
-    let all = memory-cells program s layout c.args.self.now.arena.contents c.args.self.now.arena.holes h.memory in
+returns-clause-used c f h =
+    let all = memory-cells f.program f.state f.layout c.args.self.now.arena.contents c.args.self.now.arena.holes h.memory in
     omega (arith, c.used.ensures.used, all)

@@ -11,7 +11,7 @@ use Rattle.std.specs.Vec.{with_item}
 use Rattle.hep_state.specs.declared.machine.Level.{Level}
 use Rattle.hep_state.specs.declared.machine.Machine.{Machine}
 use Rattle.hep_state.specs.declared.machine.Process.{Process}
-use Rattle.hep_state.specs.Words.{node_under, Snapshot, snapshot_of, stack_of, IsLeft, stack_with, frame_under, top_after, with_contents, with_stack, IsAfter}
+use Rattle.hep_state.specs.Words.{node_under, Snapshot, snapshot_of, stack_of, IsLeft, stack_with, turn_with, with_contents, with_stack, IsAfter, running_top}
 use Rattle.hep_state.proofs.Moved.{top-node}
 use Rattle.hep_state.proofs.Processes.{process-at, room-moved, stacks-set, last-there}
 use Rattle.hep_state.proofs.Tops.{turning}
@@ -22,29 +22,27 @@ use Rattle.hep_state.proofs.machine.Machine.advance.Goals as goal
 pub advance-requires : goal.advance-requires
 advance-requires c =
     let program = c.args.image.now in
-    let m = snapshot_of c.args.self.now in
     let p = c.args.p in
     let q = c.index_mut-process.result.now in
     let e = c.requires.plain in
-    let cells = c.requires.after.0 in
-    let choices = c.requires.after.1 in
+    let l = e.levels in
     let h = c.requires.after.2 in
     let laws = c.tops_are_running.ensures in
     let accepted = c.is_runnable.ensures.accepted in
     let main = c.is_runnable.ensures.main in
-    let it = process-at c.args.self.now.processes.items p e.there c.index_mut-process.ensures.value in
-    let turn = turning p h.after e.l e.ls e.operands c.requires.running e.there in
-    let runs = laws.running program cells choices m p e.l e.ls e.operands turn.0 accepted main turn.1 in
+    let it = process-at c.args.self.now.processes.items p l.kept c.index_mut-process.ensures.value in
+    let turn = turning p h.after l c.requires.running in
+    let t = turn_with program c.requires.after.0 c.requires.after.1 l turn.0 in
     record {
-      l = e.l;
-      ls = e.ls;
-      operands = e.operands;
+      l = l.level;
+      ls = l.below;
+      operands = l.operands;
       stack = it.stack;
       inside = inside turn.1;
       there = top-node turn.1;
       ready =
-          ready turn.1 runs (vec_capacity q.operands) (laws.arrays program cells choices m p e.l e.ls e.operands turn.0 accepted main turn.1) h.few
-          (h.room (p - 1) q it.there _ e.l (last-there q e.l e.ls e.operands it.stack));
+          ready turn.1 (laws.running t accepted main turn.1) (vec_capacity q.operands) (laws.arrays t accepted main turn.1) h.few
+          (h.room (p - 1) q it.there _ l.level (last-there q l.level l.below l.operands it.stack));
     }
 
 -- what the machine shows, where a process has another stack and cells of the arena have changed
@@ -69,13 +67,13 @@ returns c =
     let r = c.advance.new.process in
     let done = c.advance.ensures in
     let e = c.requires.plain in
-    let l = e.l in
-    let ls = e.ls in
-    let vs = e.operands in
+    let l = e.levels.level in
+    let ls = e.levels.below in
+    let vs = e.levels.operands in
     let law = c.tops_are_running.ensures.running in
     let accepted = c.is_runnable.ensures.accepted in
     let main = c.is_runnable.ensures.main in
-    let it = process-at old.processes.items p e.there c.index_mut-process.ensures.value in
+    let it = process-at old.processes.items p e.levels.kept c.index_mut-process.ensures.value in
     let a = done.advanced l ls vs it.stack in
     let k = stack_with (record l { index = a.next }) ls a.left in
     let after = performed.snapshot c.advance.new.frames.arena.contents a.left a.next in
@@ -83,27 +81,26 @@ returns c =
     let shown = shown-now old p r c.advance.new.frames l ls a.left a.next a.stack done.holes done.nodes in
     record {
       left = IfOk-weaker c.advance.result _ _ (λ advanced is cells choices h.
-          let turn = turning p h.after l ls vs c.requires.running e.there in
-          let simulated = ahead-simulated turn.1 (law program cells choices m p l ls vs turn.0 accepted main turn.1) e.past e.plain in
+          let turn = turning p h.after e.levels c.requires.running in
+          let simulated = ahead-simulated turn.1 (law (turn_with program cells choices e.levels turn.0) accepted main turn.1) e.past e.plain in
           subst (λ (n : Snapshot). IsLeft program cells choices p n advanced.effect) (sym shown) (left-over turn.1 ahead advanced.effect after simulated done.cells is)) a.performed;
       touched = IfOk-weaker c.advance.result _ _ (λ advanced is cells choices h.
-          let turn = turning p h.after l ls vs c.requires.running e.there in
-          let t = top_after program choices p turn.0 in
-          let f = frame_under m.nodes l.key in
-          let layout = turn.1.after.layout in
-          touches-only turn.1 (law program cells choices m p l ls vs turn.0 accepted main turn.1) e.past e.plain
-          (c.touched_units_are_in_touched_cells.ensures program t layout f m.arena.contents m.arena.holes vs l.index)
-          (c.purges_stand_ahead.ensures program t layout f m.arena.contents m.arena.holes vs l.index)
+          let turn = turning p h.after e.levels c.requires.running in
+          let t = turn_with program cells choices e.levels turn.0 in
+          let top = running_top t turn.1 in
+          touches-only turn.1 (law t accepted main turn.1) e.past e.plain
+          (c.touched_units_are_in_touched_cells.ensures top)
+          (c.purges_stand_ahead.ensures top)
           advanced.touched (is l ls vs it.stack)) done.touched;
       state = IfOk-weaker c.advance.result _ _ (λ advanced is cells choices h.
-          let turn = turning p h.after l ls vs c.requires.running e.there in
-          let simulated = ahead-simulated turn.1 (law program cells choices m p l ls vs turn.0 accepted main turn.1) e.past e.plain in
+          let turn = turning p h.after e.levels c.requires.running in
+          let simulated = ahead-simulated turn.1 (law (turn_with program cells choices e.levels turn.0) accepted main turn.1) e.past e.plain in
           alike turn.1 ahead advanced.effect after simulated is advanced.touched) a.performed;
       inside = IfOk-weaker c.advance.result _ _ (λ advanced inside. within advanced.touched inside done.cells) done.inside;
       out = IfOk-weaker c.advance.result _ _ (λ advanced out. subst (λ holes. IfSome advanced.touched (λ cell. IsOut cell holes)) (sym done.holes) out) done.out;
       cells = done.cells;
       refused = on_err_weaker c.advance.result (λ is cells choices h.
-          let turn = turning p h l ls vs c.requires.running e.there in
+          let turn = turning p h e.levels c.requires.running in
           let same = shown ∙ (ap (with_performed turn.1) is ∙ unperformed turn.1) in
           subst (IsAfter program cells choices) (sym same) h) a.refused;
       same = on_err_weaker c.advance.result (λ is. record {

@@ -6,7 +6,7 @@ use Rattle.hep_frames.specs.Nodes.{nodes_of}
 use Rattle.hep_step.specs.Simulation.{unit_code}
 use Rattle.hep_state.specs.declared.machine.Level.{Level}
 use Rattle.hep_state.specs.declared.machine.Machine.{Machine}
-use Rattle.hep_state.specs.Words.{entered_level, snapshot_called, Stack, snapshot_of, stack_of, HasStepped}
+use Rattle.hep_state.specs.Words.{HasMadeTurn, Stack, entered_level, snapshot_called, snapshot_of, stack_of, turn_of}
 use Rattle.hep_state.proofs.Begun.{called-shown}
 use Rattle.hep_state.proofs.Processes.{process-still, room-more, stacks-set, some-levels-at}
 use Rattle.hep_state.proofs.Unchanged.{rooms-begun, rooms-set}
@@ -18,7 +18,7 @@ begin_activation-level-requires-clause-making c = let r = c.requires.calling in 
 pub put_above-requires : goal.put_above-requires
 put_above-requires c =
     let same = ap (λ (m : Machine). m.processes.items) c.begin_activation-level.ensures.others in
-    let it = process-still c.args.self.now.processes.items c.begin_activation-level.new.self.processes.items c.args.p same c.requires.calling.3.making.turning.kept c.index_mut.ensures.value in
+    let it = process-still c.args.self.now.processes.items c.begin_activation-level.new.self.processes.items c.args.p same c.requires.calling.3.making.levels.kept c.index_mut.ensures.value in
     record { some = some-levels-at it; room = c.requires.level c.index_mut.result.now (ap (λ qs. slice_get qs (c.args.p - 1)) (sym same) ∙ it.there) }
 
 pub returns : goal.returns
@@ -37,23 +37,24 @@ returns c =
     let same = ap (λ (n : Machine). n.processes.items) begun.others in
     record {
       stepped = λ program cells choices makes.
-          let e = makes.making in
-          let it = process-still old.processes.items new.processes.items p same e.turning.kept c.index_mut.ensures.value in
-          let k : Stack = record { levels = entered_level program u level.key ∷ (record e.l { index = c.args.index } ∷ e.ls); operands = [] } in
+          let t = turn_of makes.making in
+          let e = makes.making.holds in
+          let it = process-still old.processes.items new.processes.items p same makes.making.levels.kept c.index_mut.ensures.value in
+          let k : Stack = record { levels = entered_level program u level.key ∷ (record t.level { index = c.args.index } ∷ t.below); operands = [] } in
           let entered : level ≡ entered_level program u level.key = begun.level ∙ (λ i. record { key = level.key; unit = u; index = makes.unit.entry_is i }) in
-          let stack = c.put_above.ensures.stack e.l e.ls e.operands it.stack ∙ (λ i. record { levels = entered i ∷ (record e.l { index = c.args.index } ∷ e.ls); operands = [] }) in
+          let stack = c.put_above.ensures.stack t.level t.below t.operands it.stack ∙ (λ i. record { levels = entered i ∷ (record t.level { index = c.args.index } ∷ t.below); operands = [] }) in
           let stacks = stacks-set new.processes.items p r k stack ∙ ap (λ qs. with_numbered (map stack_of qs) p k) same in
-          let shown = ap (λ (n : Machine). snapshot_of (record n { processes = with_item new.processes (p - 1) r })) begun.others ∙ (λ i. record (snapshot_called program m p e.l e.ls u level.key c.args.index arena nodes) { processes = stacks i }) in
-          subst (HasStepped program cells choices p) (sym shown) (
-          called-shown u e.b e.turning level.key c.args.index arena nodes (begun.entered false program cells choices c.args.index makes) e.after);
+          let shown = ap (λ (n : Machine). snapshot_of (record n { processes = with_item new.processes (p - 1) r })) begun.others ∙ (λ i. record (snapshot_called t u level.key c.args.index arena nodes) { processes = stacks i }) in
+          subst (HasMadeTurn t) (sym shown) (
+          called-shown e.turning u e.binding level.key c.args.index arena nodes (begun.entered false program cells choices c.args.index makes) e.after);
       rooms = λ program cells h deep.
-          let e = c.requires.calling.3.making in
-          let it = process-still old.processes.items new.processes.items p same e.turning.kept c.index_mut.ensures.value in
+          let e = c.requires.calling.3.making.levels in
+          let it = process-still old.processes.items new.processes.items p same e.kept c.index_mut.ensures.value in
           let had = rooms-begun program cells old new begun.others h in
           let capacity = c.put_above.ensures.operands in
           let unit = ap (λ (l : Level). deepest (unit_code program l.unit)) begun.level in
           let enough : deepest (unit_code program level.unit) ≤ vec_capacity r.operands = omega (arith, unit, capacity, deep q (ap (λ qs. slice_get qs (p - 1)) (sym same) ∙ it.there)) in
           rooms-set program cells new _ (p - 1) r refl refl (
-          room-more program q r e.l level c.args.index e.ls e.operands [] it.stack (c.put_above.ensures.stack e.l e.ls e.operands it.stack) (omega (arith, capacity)) enough (had.room (p - 1) q it.there)) had;
+          room-more program q r e.level level c.args.index e.below e.operands [] it.stack (c.put_above.ensures.stack e.level e.below e.operands it.stack) (omega (arith, capacity)) enough (had.room (p - 1) q it.there)) had;
       processes = length-set new.processes.items (p - 1) r ∙ ap length same;
     }

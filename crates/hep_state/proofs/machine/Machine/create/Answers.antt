@@ -7,7 +7,7 @@ use Rattle.hep_step.specs.Simulation.{unit_code}
 use Rattle.hep_state.specs.declared.machine.Level.{Level}
 use Rattle.hep_state.specs.declared.machine.Machine.{Machine}
 use Rattle.hep_state.specs.declared.machine.Process.{Process}
-use Rattle.hep_state.specs.Words.{entered_level, snapshot_created, HasRoom, Stack, snapshot_of, stack_of, HasStepped}
+use Rattle.hep_state.specs.Words.{HasMadeTurn, HasRoom, Stack, entered_level, snapshot_created, snapshot_of, stack_of, turn_of}
 use Rattle.hep_state.proofs.Begun.{created-shown}
 use Rattle.hep_state.proofs.Processes.{all-more, all-set, process-still, room-alone, room-moved, stacks-set, some-levels-at}
 use Rattle.hep_state.proofs.Unchanged.{rooms-begun}
@@ -19,7 +19,7 @@ begin_activation-level-requires-clause-making c = let r = c.requires.creating in
 pub go_on-requires : goal.go_on-requires
 go_on-requires c =
     let same = ap (λ (m : Machine). m.processes.items) c.begin_activation-level.ensures.others in
-    some-levels-at (process-still c.args.self.now.processes.items c.begin_activation-level.new.self.processes.items c.args.p same c.requires.creating.3.making.turning.kept c.index_mut.ensures.value)
+    some-levels-at (process-still c.args.self.now.processes.items c.begin_activation-level.new.self.processes.items c.args.p same c.requires.creating.3.making.levels.kept c.index_mut.ensures.value)
 
 pub returns : goal.returns
 returns c =
@@ -39,21 +39,22 @@ returns c =
     let alone : made.levels.items ≡ level ∷ [] = c.append.ensures ∙ ap (λ (ls : List Level). ls ++ level ∷ []) c.requires.empty.0 in
     record {
       stepped = λ program cells choices makes.
-          let e = makes.making in
-          let it = process-still old.processes.items new.processes.items p same e.turning.kept c.index_mut.ensures.value in
-          let k : Stack = record { levels = record e.l { index = c.args.index } ∷ e.ls; operands = [] } in
-          let own = stacks-set new.processes.items p r k (c.go_on.ensures.stack e.l e.ls e.operands it.stack) ∙ ap (λ qs. with_numbered (map stack_of qs) p k) same in
+          let t = turn_of makes.making in
+          let e = makes.making.holds in
+          let it = process-still old.processes.items new.processes.items p same makes.making.levels.kept c.index_mut.ensures.value in
+          let k : Stack = record { levels = record t.level { index = c.args.index } ∷ t.below; operands = [] } in
+          let own = stacks-set new.processes.items p r k (c.go_on.ensures.stack t.level t.below t.operands it.stack) ∙ ap (λ qs. with_numbered (map stack_of qs) p k) same in
           let entered : level ≡ entered_level program u level.key = begun.level ∙ (λ i. record { key = level.key; unit = u; index = makes.unit.entry_is i }) in
           let fresh : stack_of made ≡ record { levels = entered_level program u level.key ∷ []; operands = [] } = λ i. record { levels = (ap reverse alone ∙ ap (λ l. l ∷ []) entered) i; operands = c.requires.empty.1 i } in
           let stacks = ap (map stack_of) c.append-2.ensures ∙ (map-append stack_of (slice_set new.processes.items (p - 1) r) (made ∷ []) ∙ (λ i. own i ++ fresh i ∷ [])) in
-          let shown = ap (λ (n : Machine). snapshot_of (record n { processes = c.append-2.new.items })) begun.others ∙ (λ i. record (snapshot_created program m p e.l e.ls u level.key c.args.index arena nodes) { processes = stacks i }) in
-          subst (HasStepped program cells choices p) (sym shown) (
-          created-shown u e.b e.turning level.key c.args.index arena nodes (begun.entered true program cells choices c.args.index makes) e.after);
+          let shown = ap (λ (n : Machine). snapshot_of (record n { processes = c.append-2.new.items })) begun.others ∙ (λ i. record (snapshot_created t u level.key c.args.index arena nodes) { processes = stacks i }) in
+          subst (HasMadeTurn t) (sym shown) (
+          created-shown e.turning u e.binding level.key c.args.index arena nodes (begun.entered true program cells choices c.args.index makes) e.after);
       rooms = λ program cells h deep.
-          let e = c.requires.creating.3.making in
-          let it = process-still old.processes.items new.processes.items p same e.turning.kept c.index_mut.ensures.value in
+          let e = c.requires.creating.3.making.levels in
+          let it = process-still old.processes.items new.processes.items p same e.kept c.index_mut.ensures.value in
           let had = rooms-begun program cells old new begun.others h in
-          let others = all-set (HasRoom program) new.processes.items (p - 1) r had.room (room-moved program q r e.l c.args.index e.ls e.operands [] it.stack (c.go_on.ensures.stack e.l e.ls e.operands it.stack) (omega (arith, c.go_on.ensures.operands)) (had.room (p - 1) q it.there)) in
+          let others = all-set (HasRoom program) new.processes.items (p - 1) r had.room (room-moved program q r e.level c.args.index e.below e.operands [] it.stack (c.go_on.ensures.stack e.level e.below e.operands it.stack) (omega (arith, c.go_on.ensures.operands)) (had.room (p - 1) q it.there)) in
           let unit = ap (λ (l : Level). deepest (unit_code program l.unit)) begun.level in
           let enough : deepest (unit_code program level.unit) ≤ vec_capacity made.operands = omega (arith, unit, deep) in
           record {

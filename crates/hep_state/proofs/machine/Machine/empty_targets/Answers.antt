@@ -6,12 +6,12 @@ use Rattle.hep_state.proofs.Unchanged.{rooms-set}
 use Rattle.hep_state.proofs.machine.Machine.empty_targets.Goals as goal
 
 pub go_on-requires : goal.go_on-requires
-go_on-requires c = some-levels-at (process-at c.args.self.now.processes.items c.args.p c.requires.living.3 c.index_mut.ensures.value)
+go_on-requires c = some-levels-at (process-at c.args.self.now.processes.items c.args.p c.requires.living.kept c.index_mut.ensures.value)
 
 pub returns-clause-moved : goal.returns-clause-moved
-returns-clause-moved c l ls vs there =
-    let it = process-at c.args.self.now.processes.items c.args.p there c.index_mut.ensures.value in
-    let stacks = stacks-set c.args.self.now.processes.items c.args.p c.go_on.new.process (stack_with (record l { index = c.args.index }) ls []) (c.go_on.ensures.stack l ls vs it.stack) in
+returns-clause-moved c levels =
+    let it = process-at c.args.self.now.processes.items c.args.p levels.kept c.index_mut.ensures.value in
+    let stacks = stacks-set c.args.self.now.processes.items c.args.p c.go_on.new.process (stack_with (record levels.level { index = c.args.index }) levels.below []) (c.go_on.ensures.stack levels.level levels.below levels.operands it.stack) in
     let contents = c.purge.ensures.contents ∙ ap (λ rs. purged rs c.args.self.now.frames.arena.contents) c.deref.ensures.value in
     λ i. record (snapshot_of c.args.self.now) { arena = record { contents = contents i; holes = c.purge.ensures.holes i }; processes = stacks i }
 
@@ -19,6 +19,6 @@ pub returns-clause-rooms : goal.returns-clause-rooms
 returns-clause-rooms c program cells h =
     let e = c.requires.living in
     let q = c.index_mut.result.now in
-    let it = process-at c.args.self.now.processes.items c.args.p e.3 c.index_mut.ensures.value in
+    let it = process-at c.args.self.now.processes.items c.args.p e.kept c.index_mut.ensures.value in
     rooms-set program cells c.args.self.now _ (c.args.p - 1) c.go_on.new.process refl refl (
-    room-moved program q c.go_on.new.process e.0 c.args.index e.1 e.2 [] it.stack (c.go_on.ensures.stack e.0 e.1 e.2 it.stack) (omega (arith, c.go_on.ensures.operands)) (h.room (c.args.p - 1) q it.there)) h
+    room-moved program q c.go_on.new.process e.level c.args.index e.below e.operands [] it.stack (c.go_on.ensures.stack e.level e.below e.operands it.stack) (omega (arith, c.go_on.ensures.operands)) (h.room (c.args.p - 1) q it.there)) h

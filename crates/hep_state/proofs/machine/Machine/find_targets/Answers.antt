@@ -6,7 +6,7 @@ use Rattle.hep_passing.specs.Ready.{ArePassable}
 use Rattle.hep_purging.specs.Ranges.{ranges_of}
 use Rattle.hep_purging.specs.Ready.{AreOut}
 use Rattle.hep_step.specs.Cells.{HasFrame}
-use Rattle.hep_state.specs.Words.{snapshot_of}
+use Rattle.hep_state.specs.Words.{snapshot_of, turn_of}
 use Rattle.hep_state.proofs.Callers.{IsRead, can-read, found-read, of-read, unit-inside}
 use Rattle.hep_state.proofs.Tops.{dropped-first}
 use Rattle.hep_state.proofs.machine.Machine.find_targets.Goals.{After-deref}
@@ -26,16 +26,17 @@ find_ranges-requires c =
     let r = c.requires.at in
     let purge = c.args.purge in
     let m = snapshot_of c.args.self.now in
+    let t = turn_of r.3 in
     let law = c.purges_can_be_made.ensures in
     let accepted = c.is_runnable.ensures.accepted in
     let main = c.is_runnable.ensures.main in
     let here = read (goal.at.find_ranges-requires c).After-deref in
     let few : length m.arena.contents ≤ most_cells = omega (arith, r.2.few, r.2.after.size) in
     record {
-      frame = of-read here purge.count r.3 (λ f xs ps. HasFrame m.arena f) (law.framed c.args.image.now r.0 r.1 m c.args.p purge accepted main few r.3);
-      passable = of-read here purge.count r.3 (λ f xs ps. ArePassable m.arena xs f ps) (law.passable c.args.image.now r.0 r.1 m c.args.p purge accepted main r.3);
-      out = of-read here purge.count r.3 (λ f xs ps. AreOut m.arena xs f ps) (law.out c.args.image.now r.0 r.1 m c.args.p purge accepted main r.3);
-      room = r.2.to_pass.ranges r.3.l.unit r.3.l.index purge.line purge.count purge.next (unit-inside c.args.self.now r.3) (dropped-first _ r.3.l.index _ r.3.behind r.3.ahead);
+      frame = of-read here purge.count r.3 (λ f xs ps. HasFrame m.arena f) (law.framed t purge accepted main few r.3.holds);
+      passable = of-read here purge.count r.3 (λ f xs ps. ArePassable m.arena xs f ps) (law.passable t purge accepted main r.3.holds);
+      out = of-read here purge.count r.3 (λ f xs ps. AreOut m.arena xs f ps) (law.out t purge accepted main r.3.holds);
+      room = r.2.to_pass.ranges t.level.unit t.level.index purge.line purge.count purge.next (unit-inside c.args.self.now r.3) (dropped-first _ t.level.index _ r.3.holds.behind r.3.holds.ahead);
     }
 
 -- ---- what comes of it
@@ -53,5 +54,5 @@ pub returns-clause-fault : goal.returns-clause-fault
 returns-clause-fault c =
     let before = (goal.at.returns-clause-fault c).After-deref in
     IfErr-weaker c.find_ranges.result _ _ (λ kind is cells choices at.
-    c.purges_are_shown.ensures.range c.args.image.now cells choices (snapshot_of c.args.self.now) c.args.p c.args.purge kind c.is_runnable.ensures.accepted c.is_runnable.ensures.main at (
-    found-read (read before) c.args.purge.count at (ranges_of (cells_in c.args.self.now.frames.arena.contents)) (Err kind) is)) c.find_ranges.ensures.fault
+    let ranges = found-read (read before) c.args.purge.count at (ranges_of (cells_in c.args.self.now.frames.arena.contents)) (Err kind) is in
+    record { levels = at.levels; top = at.top; holds = c.purges_are_shown.ensures.range (turn_of at) c.args.purge kind c.is_runnable.ensures.accepted c.is_runnable.ensures.main at.holds ranges }) c.find_ranges.ensures.fault

@@ -1,26 +1,27 @@
 use Rattle.std.proofs.Common.{[], ◌-◌, refl, sym, ap, ◌∙◌, subst, arith}
 use Rattle.slab.specs.Slab.{ContainsKey}
-use Rattle.hep_machine.specs.Words.{is_held, run}
+use Rattle.hep_machine.specs.Words.{is_held}
 use Rattle.hep_frames.specs.Nodes.{nodes_of}
 use Rattle.hep_frames.proofs.Slabs.{some-value}
 use Rattle.hep_state.specs.declared.machine.Level.{Level}
-use Rattle.hep_state.specs.Words.{node_under, snapshot_of, snapshot_returned, state_returned, HasStepped}
+use Rattle.hep_state.specs.Words.{HasMadeTurn, node_under, snapshot_of, snapshot_returned, state_before, state_returned, turn_of}
 use Rattle.hep_state.proofs.Moved.{kept-now, lead-upwards, returned-ended, returned-shown, top-node}
 use Rattle.hep_state.proofs.Processes.{process-at, room-fewer, stacks-set, some-levels-at}
 use Rattle.hep_state.proofs.Unchanged.{rooms-set}
 use Rattle.hep_state.proofs.machine.Machine.finish.Goals as goal
 
 pub end_top-ended-requires : goal.end_top-ended-requires
-end_top-ended-requires c = some-levels-at (process-at c.args.self.now.processes.items c.args.p c.requires.3.turning.kept c.index_mut.ensures.value)
+end_top-ended-requires c = some-levels-at (process-at c.args.self.now.processes.items c.args.p c.requires.3.levels.kept c.index_mut.ensures.value)
 
 pub leave-requires : goal.leave-requires
 leave-requires c =
     let e = c.requires.3 in
     let slab = c.args.self.now.frames.nodes in
-    let it = process-at c.args.self.now.processes.items c.args.p e.turning.kept c.index_mut.ensures.value in
+    let t = turn_of e in
+    let it = process-at c.args.self.now.processes.items c.args.p e.levels.kept c.index_mut.ensures.value in
     record {
-      there = subst (λ (l : Level). ContainsKey slab l.key) (sym (c.end_top-ended.ensures.level e.l e.ls e.operands it.stack)) (some-value slab e.l.key _ (top-node e.turning));
-      kept = kept-now e.turning;
+      there = subst (λ (l : Level). ContainsKey slab l.key) (sym (c.end_top-ended.ensures.level t.level t.below t.operands it.stack)) (some-value slab t.level.key _ (top-node e.holds.turning));
+      kept = kept-now e.holds.turning;
     }
 
 pub returns-clause-stepped : goal.returns-clause-stepped
@@ -29,20 +30,22 @@ returns-clause-stepped c program cells choices e =
     let m = snapshot_of c.args.self.now in
     let arena = c.leave.new.self.arena in
     let nodes = nodes_of c.leave.new.self.nodes in
-    let it = process-at c.args.self.now.processes.items p e.turning.kept c.index_mut.ensures.value in
-    let same = c.end_top-ended.ensures.level e.l e.ls e.operands it.stack in
-    let there = ap (λ (l : Level). m.nodes l.key) same ∙ top-node e.turning in
-    let left = c.leave.ensures.ended program (run program choices) (state_returned program choices p e.top) (is_held (run program choices)) e.turning.after.layout (node_under m.nodes e.l.key) e.turning.after.shows.keeps there
-    (returned-ended e.turning) (lead-upwards program choices (state_returned program choices p e.top) refl) in
-    let shown = returned-shown e.turning arena nodes left c.leave.ensures.cells e.simulated in
-    let stacks = stacks-set c.args.self.now.processes.items p c.end_top-ended.new.self (record { levels = e.ls; operands = [] }) (c.end_top-ended.ensures.stack e.l e.ls e.operands it.stack) in
-    subst (HasStepped program cells choices p) (λ i. record (snapshot_returned m p e.ls arena nodes) { processes = sym stacks i }) shown
+    let t = turn_of e in
+    let turning = e.holds.turning in
+    let it = process-at c.args.self.now.processes.items p e.levels.kept c.index_mut.ensures.value in
+    let same = c.end_top-ended.ensures.level t.level t.below t.operands it.stack in
+    let there = ap (λ (l : Level). m.nodes l.key) same ∙ top-node turning in
+    let left = c.leave.ensures.ended program (state_before t) (state_returned t) (is_held (state_before t)) turning.after.layout (node_under m.nodes t.level.key) turning.after.shows.keeps there
+    (returned-ended turning) (lead-upwards program choices (state_returned t) refl) in
+    let shown = returned-shown turning arena nodes left c.leave.ensures.cells e.holds.simulated in
+    let stacks = stacks-set c.args.self.now.processes.items p c.end_top-ended.new.self (record { levels = t.below; operands = [] }) (c.end_top-ended.ensures.stack t.level t.below t.operands it.stack) in
+    subst (HasMadeTurn t) (λ i. record (snapshot_returned t arena nodes) { processes = sym stacks i }) shown
 
 pub returns-clause-rooms : goal.returns-clause-rooms
 returns-clause-rooms c program cells h =
     let p = c.args.p in
     let q = c.index_mut.result.now in
     let r = c.end_top-ended.new.self in
-    let it = process-at c.args.self.now.processes.items p c.requires.3.turning.kept c.index_mut.ensures.value in
+    let it = process-at c.args.self.now.processes.items p c.requires.3.levels.kept c.index_mut.ensures.value in
     rooms-set program cells c.args.self.now _ (p - 1) r refl refl (
     room-fewer program q r c.end_top-ended.result c.end_top-ended.ensures.fewer (omega (arith, c.end_top-ended.ensures.capacity)) (h.room (p - 1) q it.there)) h

@@ -4,7 +4,7 @@ use Rattle.hep_purging.specs.Purged.{purged}
 use Rattle.hep_purging.specs.Ready.{AreReached}
 use Rattle.hep_step.specs.Effects.{fails}
 use Rattle.hep_state.specs.declared.machine.Passing.{Passing}
-use Rattle.hep_state.specs.Words.{HasPurged, HasRoomToPass, Snapshot, snapshot_of, IsEnding, stack_with, snapshot_moved, HasStepped}
+use Rattle.hep_state.specs.Words.{HasLevels, HasMadeTurn, HasPurged, HasRoomToPass, Snapshot, snapshot_of, IsToEnd, stack_with, snapshot_moved, turn_of}
 use Rattle.hep_state.proofs.Purging.{reached-alike}
 use Rattle.hep_state.proofs.Unchanged.{machine-of, rooms-of}
 use Rattle.hep_state.proofs.machine.Machine.purge.Goals as goal
@@ -22,12 +22,14 @@ returns-in-Ok-clause-purged c cells choices h at =
     let main = c.is_runnable.ensures.main in
     let found = c.in-Ok.ensures.found cells choices at in
     let same : snapshot_of between ≡ m = ap snapshot_of c.in-Ok.ensures.others in
-    let kept = subst (λ (n : Snapshot). numbered n.processes p ≡ Some (stack_with at.l at.ls at.operands)) (sym same) at.turning.kept in
-    let shown : snapshot_of new ≡ snapshot_moved m p at.l at.ls (purged ranges m.arena.contents) [] c.args.purge.next =
-    c.empty_targets.ensures.moved at.l at.ls at.operands kept ∙ (λ i. snapshot_moved (same i) p at.l at.ls (purged ranges (same i).arena.contents) [] c.args.purge.next) in
-    let stepped = subst (HasStepped program cells choices p) (sym shown) (c.purges_are_shown.ensures.stepped program cells choices m p c.args.purge ranges accepted main at found) in
+    let t = turn_of at in
+    let levels : HasLevels (snapshot_of between) p =
+    record { level = t.level; below = t.below; operands = t.operands; kept = subst (λ (n : Snapshot). numbered n.processes p ≡ Some (stack_with t.level t.below t.operands)) (sym same) at.levels.kept } in
+    let shown : snapshot_of new ≡ snapshot_moved t (purged ranges m.arena.contents) [] c.args.purge.next =
+    c.empty_targets.ensures.moved levels ∙ (λ i. snapshot_moved (record t { machine = same i }) (purged ranges (same i).arena.contents) [] c.args.purge.next) in
+    let stepped = subst (HasMadeTurn t) (sym shown) (c.purges_are_shown.ensures.stepped t c.args.purge ranges accepted main at.holds found) in
     let rooms = c.empty_targets.ensures.rooms program cells (c.in-Ok.ensures.rooms cells (rooms-of program cells choices old h)) in
-    let purges = c.purges_are_shown.ensures.purged program cells choices m p c.args.purge ranges accepted main at found in
+    let purges = c.purges_are_shown.ensures.purged t c.args.purge ranges accepted main at.holds found in
     let size : length new.frames.arena.contents ≡ length old.frames.arena.contents = stepped.after.size ∙ sym h.after.size in
     let holes = ap (λ (n : Snapshot). n.arena.holes) shown in (
       stepped.stepped,
@@ -47,7 +49,7 @@ returns-in-Err-clause-purged c cells choices h at =
     let kind = c.in-Err.kind in
     let ends = c.in-Err.ensures.fault cells choices at in
     let same : snapshot_of between ≡ snapshot_of old = ap snapshot_of c.in-Err.ensures.others in
-    let stepped = c.fail.ensures.stepped program cells choices (subst (λ (n : Snapshot). IsEnding program cells choices p n (fails line kind)) (sym same) ends) in
+    let stepped = c.fail.ensures.stepped program cells choices (subst (λ (n : Snapshot). IsToEnd program cells choices p n (fails line kind)) (sym same) ends) in
     let had = c.in-Err.ensures.rooms cells (rooms-of program cells choices old h) in
     let to_pass : HasRoomToPass program (record between.passing { ranges = c.clear.new.self }) =
     record {
@@ -60,6 +62,6 @@ returns-in-Err-clause-purged c cells choices h at =
     let none = ap (λ (ps : Passing). ps.ranges.items) c.fail.ensures.passing ∙ c.clear.ensures.items in (
       stepped.stepped,
       machine-of program cells (choices ++ p ∷ []) new stepped.after rooms,
-      subst (HasPurged program cells choices p) (sym none) (c.purges_are_shown.ensures.nothing program cells choices (snapshot_of old) p line kind ends),
+      subst (HasPurged program cells choices p) (sym none) (c.purges_are_shown.ensures.nothing (turn_of ends) line kind ends.holds),
       subst (AreReached new.frames.arena) (sym none) tt,
     )

@@ -24,5 +24,5 @@ pub returns-clause-rooms : goal.returns-clause-rooms
 returns-clause-rooms c program cells h =
     let m = c.args.self.now in
     let q = c.index_mut.result.now in
-    let it = process-at m.processes.items c.args.p c.requires.3 c.index_mut.ensures.value in
+    let it = process-at m.processes.items c.args.p c.requires.kept c.index_mut.ensures.value in
     rooms-set program cells m _ (c.args.p - 1) c.reserve-3.new.self refl refl (room-reserved program q c.reserve-3.new.self c.reserve-3.ensures.same.0 c.reserve-3.ensures.capacity (h.room (c.args.p - 1) q it.there)) h

@@ -1,6 +1,6 @@
-use Rattle.std.proofs.Common.{◌≡◌, ℕ, ◌-◌, ◌<◌, ◌≤◌, false, List, ◌∷◌, drop, length, Some, refl, sym, ap, ◌∙◌, subst, arith, vec_capacity, length-set}
+use Rattle.std.proofs.Common.{◌≡◌, ℕ, ◌-◌, ◌<◌, ◌≤◌, false, List, ◌∷◌, drop, length, refl, sym, ap, ◌∙◌, subst, arith, vec_capacity, length-set}
 use Rattle.std.specs.Vec.{with_item}
-use Rattle.hep_machine.specs.Words.{Value, Units, numbered}
+use Rattle.hep_machine.specs.Words.{Units}
 use Rattle.hep_machine.specs.State.{Level as SourceLevel, Process as SourceProcess}
 use Rattle.hep_code.specs.declared.instruction.Instruction.{Instruction}
 use Rattle.hep_code.specs.declared.instruction.Instruction.TheVariants.{Step}
@@ -12,7 +12,7 @@ use Rattle.hep_state.specs.declared.machine.Level.{Level}
 use Rattle.hep_state.specs.declared.upcoming.StepAhead.{StepAhead}
 use Rattle.hep_state.specs.declared.upcoming.StepAhead.TheVariants as ahead
 use Rattle.hep_state.specs.declared.machine.Machine.{Machine}
-use Rattle.hep_state.specs.Words.{HasNone, IsAhead, IsInFront, IsMachineAfter, Snapshot, Stack, snapshot_of, stack_with, IsTurning, with_stack, IsAfter}
+use Rattle.hep_state.specs.Words.{HasLevels, HasNone, IsAhead, IsInFront, IsMachineAfter, Snapshot, snapshot_of, stack_with, IsTurning, turn_with, with_stack, IsAfter}
 use Rattle.hep_state.proofs.Processes.{process-at, room-moved, stacks-set, last-there, some-levels, some-levels-at}
 use Rattle.hep_state.proofs.Tops.{settled, turning}
 use Rattle.hep_state.proofs.Taken.{inside, room-ahead}
@@ -30,51 +30,51 @@ none-left-out code index none line o behind ahead = by_operation o (subst HasNon
   by_operation _ h = refl
 
 pub top-unit-requires : goal.top-unit-requires
-top-unit-requires c = some-levels-at (process-at c.args.self.now.processes.items c.args.p c.requires.living.3 c.index_mut-process.ensures.value)
+top-unit-requires c = some-levels-at (process-at c.args.self.now.processes.items c.args.p c.requires.living.kept c.index_mut-process.ensures.value)
 
 pub unit-requires : goal.unit-requires
 unit-requires c =
     let e = c.requires.living in
-    let it = process-at c.args.self.now.processes.items c.args.p e.3 c.index_mut-process.ensures.value in
-    let turn = turning c.args.p c.requires.after.2.after e.0 e.1 e.2 c.requires.running e.3 in
-    subst (λ (l : Level). l.unit < length c.args.image.now) (sym (c.top-unit.ensures e.0 e.1 e.2 it.stack)) (inside turn.1)
+    let it = process-at c.args.self.now.processes.items c.args.p e.kept c.index_mut-process.ensures.value in
+    let turn = turning c.args.p c.requires.after.2.after e c.requires.running in
+    subst (λ (l : Level). l.unit < length c.args.image.now) (sym (c.top-unit.ensures e.level e.below e.operands it.stack)) (inside turn.1)
 
 pub settle-requires : goal.settle-requires
 settle-requires c =
     let program = c.args.image.now in
     let e = c.requires.living in
-    let l = e.0 in
+    let l = e.level in
     let h = c.requires.after in
     let q = c.index_mut-process.result.now in
-    let it = process-at c.args.self.now.processes.items c.args.p e.3 c.index_mut-process.ensures.value in
-    let turn = turning c.args.p h.2.after l e.1 e.2 c.requires.running e.3 in
-    let code : c.as_slice-code.result.now ≡ unit_code program l.unit = c.as_slice-code.ensures ∙ (c.unit.ensures.code ∙ ap (λ (k : Level). unit_code program k.unit) (c.top-unit.ensures l e.1 e.2 it.stack)) in
+    let it = process-at c.args.self.now.processes.items c.args.p e.kept c.index_mut-process.ensures.value in
+    let turn = turning c.args.p h.2.after e c.requires.running in
+    let code : c.as_slice-code.result.now ≡ unit_code program l.unit = c.as_slice-code.ensures ∙ (c.unit.ensures.code ∙ ap (λ (k : Level). unit_code program k.unit) (c.top-unit.ensures l e.below e.operands it.stack)) in
     let ahead = ap (λ is. values_ahead (drop l.index is)) code in
-    let room : deepest (unit_code program l.unit) ≤ vec_capacity q.operands = h.2.room (c.args.p - 1) q it.there _ l (last-there q l e.1 e.2 it.stack) in
-    (l, e.1, e.2, it.stack, omega (arith, ahead, room, room-ahead turn.1))
+    let room : deepest (unit_code program l.unit) ≤ vec_capacity q.operands = h.2.room (c.args.p - 1) q it.there _ l (last-there q l e.below e.operands it.stack) in
+    (l, e.below, e.operands, it.stack, omega (arith, ahead, room, room-ahead turn.1))
 
 pub top-requires : goal.top-requires
 top-requires c =
     let program = c.args.image.now in
     let e = c.requires.living in
-    let it = process-at c.args.self.now.processes.items c.args.p e.3 c.index_mut-process.ensures.value in
-    let code : c.as_slice-code.result.now ≡ unit_code program e.0.unit = c.as_slice-code.ensures ∙ (c.unit.ensures.code ∙ ap (λ (k : Level). unit_code program k.unit) (c.top-unit.ensures e.0 e.1 e.2 it.stack)) in
-    let s = c.settle.ensures.settled program e.0 e.1 e.2 code it.stack in
-    some-levels c.settle.new.self (record e.0 { index = s.0 }) e.1 s.1 s.2
+    let it = process-at c.args.self.now.processes.items c.args.p e.kept c.index_mut-process.ensures.value in
+    let code : c.as_slice-code.result.now ≡ unit_code program e.level.unit = c.as_slice-code.ensures ∙ (c.unit.ensures.code ∙ ap (λ (k : Level). unit_code program k.unit) (c.top-unit.ensures e.level e.below e.operands it.stack)) in
+    let s = c.settle.ensures.settled program e.level e.below e.operands code it.stack in
+    some-levels c.settle.new.self (record e.level { index = s.0 }) e.below s.1 s.2
 
 -- what stands in front of the instructions that are ahead, once the values in front of it are operands
-found-ahead : (program : Units) (old : Machine) (m : Snapshot) (p : ℕ) (l : Level) (ls : List Level) (vs : List Value)
-    → ((cells : ℕ) (choices : List ℕ) → IsMachineAfter program cells choices old → (top : SourceLevel × SourceProcess) × IsTurning program cells choices m p l ls vs top)
-    → numbered m.processes p ≡ Some (stack_with l ls vs) → IsPastPushes (unit_code program l.unit) l.index
-    → (ahead : StepAhead) → IsInFront (drop l.index (unit_code program l.unit)) ahead → IsAhead program p old m ahead
-found-ahead program old m p l ls vs turns there past (ahead.Call call) found = λ cells choices after.
+found-ahead : (program : Units) (old : Machine) {m : Snapshot} {p : ℕ} (levels : HasLevels m p)
+    → ((cells : ℕ) (choices : List ℕ) → IsMachineAfter program cells choices old → (top : SourceLevel × SourceProcess) × IsTurning (turn_with program cells choices levels top))
+    → IsPastPushes (unit_code program levels.level.unit) levels.level.index
+    → (ahead : StepAhead) → IsInFront (drop levels.level.index (unit_code program levels.level.unit)) ahead → IsAhead program p old m ahead
+found-ahead program old levels turns past (ahead.Call call) found = λ cells choices after.
     let turn = turns cells choices after in
-    record { l = l; ls = ls; operands = vs; top = turn.0; turning = turn.1; behind = found.0; ahead = found.1 }
-found-ahead program old m p l ls vs turns there past (ahead.Purge purge) found = λ cells choices after.
+    record { levels = levels; top = turn.0; holds = record { turning = turn.1; behind = found.0; ahead = found.1 } }
+found-ahead program old levels turns past (ahead.Purge purge) found = λ cells choices after.
     let turn = turns cells choices after in
-    record { l = l; ls = ls; operands = vs; top = turn.0; turning = turn.1; behind = found.0; ahead = found.1 }
-found-ahead program old m p l ls vs turns there past ahead.Other none =
-    record { l = l; ls = ls; operands = vs; there = there; past = past; plain = none-left-out (unit_code program l.unit) l.index none }
+    record { levels = levels; top = turn.0; holds = record { turning = turn.1; behind = found.0; ahead = found.1 } }
+found-ahead program old levels turns past ahead.Other none =
+    record { levels = levels; past = past; plain = none-left-out (unit_code program levels.level.unit) levels.level.index none }
 
 pub returns : goal.returns
 returns c =
@@ -85,10 +85,10 @@ returns c =
     let q = c.index_mut-process.result.now in
     let r = c.settle.new.self in
     let e = c.requires.living in
-    let l = e.0 in
-    let ls = e.1 in
-    let vs = e.2 in
-    let it = process-at old.processes.items p e.3 c.index_mut-process.ensures.value in
+    let l = e.level in
+    let ls = e.below in
+    let vs = e.operands in
+    let it = process-at old.processes.items p e.kept c.index_mut-process.ensures.value in
     let code : c.as_slice-code.result.now ≡ unit_code program l.unit = c.as_slice-code.ensures ∙ (c.unit.ensures.code ∙ ap (λ (k : Level). unit_code program k.unit) (c.top-unit.ensures l ls vs it.stack)) in
     let s = c.settle.ensures.settled program l ls vs code it.stack in
     let later = record l { index = s.0 } in
@@ -96,20 +96,20 @@ returns c =
     let top : c.top.result ≡ later = c.top.ensures later ls s.1 s.2 in
     let stacks = stacks-set old.processes.items p r k s.2 in
     let shown : snapshot_of (record old { processes = with_item old.processes (p - 1) r }) ≡ with_stack m p (later ∷ ls) s.1 = λ i. record m { processes = stacks i } in
-    let there = set-numbered m.processes p (stack_with l ls vs) k e.3 in
+    let levels : HasLevels (with_stack m p (later ∷ ls) s.1) p = record { level = later; below = ls; operands = s.1; kept = set-numbered m.processes p (stack_with l ls vs) k e.kept } in
     let here : drop c.top.result.index c.as_slice-code.result.now ≡ drop s.0 (unit_code program l.unit) = (λ i. drop (top i).index (code i)) in
     record {
       ahead =
           subst (λ (n : Snapshot). IsAhead program p old n c.ahead_at.result) (sym shown) (
-          found-ahead program old (with_stack m p (later ∷ ls) s.1) p later ls s.1
+          found-ahead program old levels
           (λ cells choices after.
-          let turn = turning p after.after l ls vs c.requires.running e.3 in
+          let turn = turning p after.after e c.requires.running in
           (turn.0, settled turn.1 s.1 s.0 s.3.stands))
-          there s.3.past c.ahead_at.result (subst (λ is. IsInFront is c.ahead_at.result) here c.ahead_at.ensures));
+          s.3.past c.ahead_at.result (subst (λ is. IsInFront is c.ahead_at.result) here c.ahead_at.ensures));
       after = λ cells choices h.
-          let turn = turning p h.after l ls vs c.requires.running e.3 in
+          let turn = turning p h.after e c.requires.running in
           machine-of program cells choices _ (subst (IsAfter program cells choices) (sym shown) (settled turn.1 s.1 s.0 s.3.stands).after) (
           rooms-set program cells old _ (p - 1) r refl refl (room-moved program q r l s.0 ls vs s.1 it.stack s.2 c.settle.ensures.capacity (h.room (p - 1) q it.there)) (rooms-of program cells choices old h));
       same = record { arena = refl; nodes = refl; processes = ap length stacks ∙ length-set m.processes (p - 1) k; activations = refl; records = refl; faults = refl; halted = refl };
-      living = (later, ls, s.1, ap (λ (ks : List Stack). numbered ks p) stacks ∙ there);
+      living = subst (λ (n : Snapshot). HasLevels n p) (sym shown) levels;
     }

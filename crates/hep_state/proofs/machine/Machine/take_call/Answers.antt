@@ -9,7 +9,7 @@ use Rattle.hep_state.specs.declared.machine.Machine.{Machine}
 use Rattle.hep_state.specs.declared.upcoming.CallAhead.{CallAhead}
 use Rattle.hep_state.specs.declared.turn.Turned.TheVariants.{Stepped}
 use Rattle.hep_state.specs.declared.turn.TurnFault.{TurnFault}
-use Rattle.hep_state.specs.Words.{IsMaking, IsUnit, Makes, state_made, IsAtCall, HasTurned, Touches, HaveRoom, IsMachineAfter, Snapshot, snapshot_of, IsEnding, HasGaps, HasStepped, IsUnturned}
+use Rattle.hep_state.specs.Words.{HasCallAhead, HoldsInTurn, IsMaking, IsUnit, Makes, HasTurned, Touches, HaveRoom, IsMachineAfter, Snapshot, snapshot_of, IsToEnd, HasGaps, HasStepped, IsUnturned, turn_of}
 use Rattle.hep_state.proofs.Unchanged.{carry, machine-of, machine-reserved, machine-written, on-err, rooms-of, shown-written, without-memory}
 use Rattle.hep_state.proofs.machine.Machine.take_call.Goals.{After-fits}
 use Rattle.hep_state.proofs.machine.Machine.take_call.Goals as goal
@@ -17,7 +17,7 @@ use Rattle.hep_source.proofs.Tests.{none-from-not}
 
 -- why a turn was not taken, wherever a process is at a CALL
 abbrev unturned-at : Units → ℕ → CallAhead → Machine → TurnFault → Type 0
-unturned-at program p call m e = (cells : ℕ) (choices : List ℕ) → IsMachineAfter program cells choices m → IsAtCall program cells choices p (snapshot_of m) call → IsUnturned e program cells choices p
+unturned-at program p call m e = (cells : ℕ) (choices : List ℕ) → IsMachineAfter program cells choices m → HasCallAhead program cells choices p (snapshot_of m) call → IsUnturned e program cells choices p
 
 -- a step that touched nothing
 turned-so : (program : Units) (cells : ℕ) (choices : List ℕ) (p : ℕ) (new : Machine) → Touches program cells choices p None → HasStepped program cells choices p (snapshot_of new) → HaveRoom program cells new → HasTurned program cells choices p (Stepped None) new
@@ -30,7 +30,8 @@ pub returns-in_err-reserve-clause-unturned : goal.returns-in_err-reserve-clause-
 returns-in_err-reserve-clause-unturned c =
     let program = c.args.image.now in
     without-memory (unturned-at program c.args.p c.args.call c.args.self.now) c.from_residual.result c.from_residual.ensures.1 (λ cells choices h at.
-    c.gaps_are_told.ensures.fault program cells choices (snapshot_of c.args.self.now) c.args.p c.args.call.line c.in-Err.kind (c.in-Err.ensures.fault cells choices h at))
+    let ends = c.in-Err.ensures.fault cells choices h at in
+    c.gaps_are_told.ensures.fault (turn_of ends) c.args.call.line c.in-Err.kind ends.holds)
 
 pub returns-in_err-reserve-clause-refused : goal.returns-in_err-reserve-clause-refused
 returns-in_err-reserve-clause-refused c =
@@ -42,11 +43,11 @@ returns-in_err-reserve-clause-refused c =
 pub returns-in-Err-clause-turned : goal.returns-in-Err-clause-turned
 returns-in-Err-clause-turned c cells choices h at =
     let program = c.args.image.now in
-    let untouched = c.calls_touch_nothing.ensures program cells choices (snapshot_of c.args.self.now) c.args.p c.args.call c.is_runnable.ensures.accepted c.is_runnable.ensures.main at in
+    let untouched = c.calls_touch_nothing.ensures (turn_of at) c.args.call c.is_runnable.ensures.accepted c.is_runnable.ensures.main at.holds in
     let had = machine-written program cells choices c.give.new.self c.reserve.new.self c.reserve.ensures.others c.reserve.ensures.written.0 c.reserve.ensures.written.1 (
     machine-reserved program cells choices c.args.self.now c.give.new.self (ap snapshot_of c.give.ensures.others) (c.give.ensures.rooms cells) h) in
     let shown = shown-written c.give.new.self c.reserve.new.self c.reserve.ensures.others c.reserve.ensures.written.0 c.reserve.ensures.written.1 ∙ ap snapshot_of c.give.ensures.others in
-    let ending = subst (λ (n : Snapshot). IsEnding program cells choices c.args.p n (fails c.args.call.line c.in-Err.kind)) (sym shown) (c.in-Err.ensures.fault cells choices h at) in
+    let ending = subst (λ (n : Snapshot). IsToEnd program cells choices c.args.p n (fails c.args.call.line c.in-Err.kind)) (sym shown) (c.in-Err.ensures.fault cells choices h at) in
     turned-so program cells choices c.args.p c.fail.new.self untouched (c.fail.ensures.stepped program cells choices ending) (c.fail.ensures.rooms program cells (rooms-of program cells choices c.reserve.new.self had))
 
 -- ---- none
@@ -54,7 +55,7 @@ returns-in-Err-clause-turned c cells choices h at =
 pub unit-unit-requires : goal.unit-unit-requires
 unit-unit-requires c =
     let h = c.requires.at in
-    c.calls_can_be_made.ensures.inside c.args.image.now h.0 h.1 (snapshot_of c.args.self.now) c.args.p c.args.call c.is_runnable.ensures.accepted c.is_runnable.ensures.main h.3
+    c.calls_can_be_made.ensures.inside (turn_of h.3) c.args.call c.is_runnable.ensures.accepted c.is_runnable.ensures.main h.3.holds
 
 -- room was made for it
 reserved-after : (c : After-fits) (new : Machine) → snapshot_of new ≡ snapshot_of c.give.new.self → ((cells : ℕ) → HaveRoom c.args.image.now cells c.give.new.self → HaveRoom c.args.image.now cells new)
@@ -62,7 +63,7 @@ reserved-after : (c : After-fits) (new : Machine) → snapshot_of new ≡ snapsh
 reserved-after c new shown rooms cells choices h =
     machine-reserved c.args.image.now cells choices c.args.self.now new (shown ∙ ap snapshot_of c.give.ensures.others) (λ had. rooms cells (c.give.ensures.rooms cells had)) h
 
-module _ (c : After-fits) (cells : ℕ) (choices : List ℕ) (h : IsMachineAfter c.args.image.now cells choices c.args.self.now) (at : IsAtCall c.args.image.now cells choices c.args.p (snapshot_of c.args.self.now) c.args.call) where
+module _ (c : After-fits) (cells : ℕ) (choices : List ℕ) (h : IsMachineAfter c.args.image.now cells choices c.args.self.now) (at : HasCallAhead c.args.image.now cells choices c.args.p (snapshot_of c.args.self.now) c.args.call) where
   abbrev program : Units
   program = c.args.image.now
 
@@ -70,13 +71,13 @@ module _ (c : After-fits) (cells : ℕ) (choices : List ℕ) (h : IsMachineAfter
   u = c.args.call.unit
 
   untouched : Touches program cells choices c.args.p None
-  untouched = c.calls_touch_nothing.ensures program cells choices (snapshot_of c.args.self.now) c.args.p c.args.call c.is_runnable.ensures.accepted c.is_runnable.ensures.main at
+  untouched = c.calls_touch_nothing.ensures (turn_of at) c.args.call c.is_runnable.ensures.accepted c.is_runnable.ensures.main at.holds
 
   -- what is called
   called : IsUnit program u c.unit-unit.result.now.cells c.unit-unit.result.now.entry
   called =
       record {
-        inside = c.calls_can_be_made.ensures.inside program cells choices (snapshot_of c.args.self.now) c.args.p c.args.call c.is_runnable.ensures.accepted c.is_runnable.ensures.main at;
+        inside = c.calls_can_be_made.ensures.inside (turn_of at) c.args.call c.is_runnable.ensures.accepted c.is_runnable.ensures.main at.holds;
         cells_are = c.unit-unit.ensures.cells;
         entry_is = c.unit-unit.ensures.entry;
       }
@@ -87,8 +88,8 @@ module _ (c : After-fits) (cells : ℕ) (choices : List ℕ) (h : IsMachineAfter
 
   gaps-there : c.fits.result ≡ true → HasGaps program cells choices c.args.p
   gaps-there fits =
-      c.gaps_are_told.ensures.some c.args.call.creates program cells choices (snapshot_of c.args.self.now) c.args.p u c.unit-unit.result.now.cells c.unit-unit.result.now.entry c.args.call.next c.give.new.self.passing.given.items c.give.new.self.passing.shapes.items
-      (c.in_default.ensures.given cells choices h at) called (sym fits-so ∙ fits)
+      let made = c.in_default.ensures.given cells choices h at in
+      c.gaps_are_told.ensures.some c.args.call.creates (turn_of made) u c.unit-unit.result.now.cells c.unit-unit.result.now.entry c.args.call.next c.give.new.self.passing.given.items c.give.new.self.passing.shapes.items made.holds called (sym fits-so ∙ fits)
 
   given : IsMachineAfter program cells choices c.give.new.self
   given = machine-reserved program cells choices c.args.self.now c.give.new.self (ap snapshot_of c.give.ensures.others) (c.give.ensures.rooms cells) h
@@ -99,7 +100,7 @@ module _ (c : After-fits) (cells : ℕ) (choices : List ℕ) (h : IsMachineAfter
   making b new is shown passing =
       let same = sym (shown ∙ ap snapshot_of c.give.ensures.others) in
       record {
-        making = carry (λ i. IsMaking (state_made (is i)) program cells choices c.args.p (same i) u c.args.call.next (sym passing i).given.items (sym passing i).shapes.items) (c.in_default.ensures.given cells choices h at);
+        making = carry (λ i. HoldsInTurn program cells choices c.args.p (same i) (λ t. IsMaking (is i) t u c.args.call.next (sym passing i).given.items (sym passing i).shapes.items)) (c.in_default.ensures.given cells choices h at);
         unit = called;
       }
 
@@ -107,8 +108,8 @@ pub returns-then-not-fits-clause-unturned : goal.returns-then-not-fits-clause-un
 returns-then-not-fits-clause-unturned c cells choices h at =
     let before = (goal.at.returns-then-not-fits-clause-unturned c).After-fits in
     let unit = c.unit-unit.result.now in
-    c.gaps_are_told.ensures.none c.args.call.creates c.args.image.now cells choices (snapshot_of c.args.self.now) c.args.p c.args.call.unit unit.cells unit.entry c.args.call.next c.give.new.self.passing.given.items c.give.new.self.passing.shapes.items
-    (c.in_default.ensures.given cells choices h at) (called before cells choices h at) (none-from-not (first_fit unit.cells c.args.self.now.frames.arena.holes) (sym (fits-so before cells choices h at) ∙ c.if-not-fits.true))
+    let made = c.in_default.ensures.given cells choices h at in
+    c.gaps_are_told.ensures.none c.args.call.creates (turn_of made) c.args.call.unit unit.cells unit.entry c.args.call.next c.give.new.self.passing.given.items c.give.new.self.passing.shapes.items made.holds (called before cells choices h at) (none-from-not (first_fit unit.cells c.args.self.now.frames.arena.holes) (sym (fits-so before cells choices h at) ∙ c.if-not-fits.true))
 
 -- ---- CALL
 

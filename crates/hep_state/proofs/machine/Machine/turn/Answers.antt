@@ -2,7 +2,7 @@ use Rattle.std.proofs.Common.{ℕ, List, sym, ◌∙◌, subst}
 use Rattle.std.proofs.lemmas.Result.{IfOk-weaker, on_err_weaker}
 use Rattle.hep_machine.specs.Words.{Units}
 use Rattle.hep_state.specs.declared.turn.TurnFault.{TurnFault}
-use Rattle.hep_state.specs.Words.{IsAtPurge, IsMachineAfter, Snapshot, snapshot_of, IsUnturned}
+use Rattle.hep_state.specs.Words.{HasPurgeAhead, IsMachineAfter, Snapshot, snapshot_of, IsUnturned, turn_of}
 use Rattle.hep_state.proofs.Unchanged.{machine-written, on-err, shown-written, without-memory}
 use Rattle.hep_state.proofs.machine.Machine.turn.Goals.{After-reserve}
 use Rattle.hep_state.proofs.machine.Machine.turn.Goals as goal
@@ -12,13 +12,13 @@ abbrev unturned-by : Units → ℕ → (ℕ → List ℕ → Type 0) → TurnFau
 unturned-by program p there e = (cells : ℕ) (choices : List ℕ) → there cells choices → IsUnturned e program cells choices p
 
 -- it is at a PURGE still where room was made
-reserved-at : (c : After-reserve) (cells : ℕ) (choices : List ℕ) → IsMachineAfter c.args.image.now cells choices c.step_ahead.new.self → IsAtPurge c.args.image.now cells choices c.args.p (snapshot_of c.step_ahead.new.self) c.in-Purge.purge
-    → IsMachineAfter c.args.image.now cells choices c.reserve.new.self × IsAtPurge c.args.image.now cells choices c.args.p (snapshot_of c.reserve.new.self) c.in-Purge.purge
+reserved-at : (c : After-reserve) (cells : ℕ) (choices : List ℕ) → IsMachineAfter c.args.image.now cells choices c.step_ahead.new.self → HasPurgeAhead c.args.image.now cells choices c.args.p (snapshot_of c.step_ahead.new.self) c.in-Purge.purge
+    → IsMachineAfter c.args.image.now cells choices c.reserve.new.self × HasPurgeAhead c.args.image.now cells choices c.args.p (snapshot_of c.reserve.new.self) c.in-Purge.purge
 reserved-at c cells choices h at =
     let program = c.args.image.now in
     let made = c.reserve.ensures in
     let shown = shown-written c.step_ahead.new.self c.reserve.new.self made.others made.written.0 made.written.1 in
-    (machine-written program cells choices c.step_ahead.new.self c.reserve.new.self made.others made.written.0 made.written.1 h, subst (λ (n : Snapshot). IsAtPurge program cells choices c.args.p n c.in-Purge.purge) (sym shown) at)
+    (machine-written program cells choices c.step_ahead.new.self c.reserve.new.self made.others made.written.0 made.written.1 h, subst (λ (n : Snapshot). HasPurgeAhead program cells choices c.args.p n c.in-Purge.purge) (sym shown) at)
 
 pub take_call-requires-clause-at : goal.take_call-requires-clause-at
 take_call-requires-clause-at c =
@@ -61,7 +61,8 @@ pub returns-in_err-reserve-in-Purge-clause-unturned : goal.returns-in_err-reserv
 returns-in_err-reserve-in-Purge-clause-unturned c =
     let program = c.args.image.now in
     without-memory (unturned-by program c.args.p (λ cells choices. IsMachineAfter program cells choices c.args.self.now)) c.from_residual.result c.from_residual.ensures.1 (λ cells choices h.
-    c.purges_are_shown.ensures.gaps program cells choices (snapshot_of c.step_ahead.new.self) c.args.p c.in-Purge.purge c.is_runnable.ensures.accepted c.is_runnable.ensures.main (c.in-Purge.ensures.ahead cells choices h))
+    let at = c.in-Purge.ensures.ahead cells choices h in
+    c.purges_are_shown.ensures.gaps (turn_of at) c.in-Purge.purge c.is_runnable.ensures.accepted c.is_runnable.ensures.main at.holds)
 
 pub returns-in_err-reserve-in-Purge-clause-refused : goal.returns-in_err-reserve-in-Purge-clause-refused
 returns-in_err-reserve-in-Purge-clause-refused c =
