@@ -10,9 +10,10 @@ ghost use Rattle.hep_calls.specs.Actuals.{class};
 ghost use Rattle.hep_calls.specs.Passes as passes;
 
 use crate::actuals::{ActualClass, actual_class};
+use hep_conditions::types::same_declared;
 use hep_names::{ProgramSymbols, Symbols};
 use hep_source::{Expr, Form, Name, Occurrence, ValueType};
-use hep_types::types::{agree, same_declared};
+use hep_types::types::agree;
 
 // Both are asynchronous or neither is, and both have one type.
 fn are_alike(

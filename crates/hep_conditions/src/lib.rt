@@ -8,6 +8,7 @@
 pub mod checked;
 pub mod laws;
 pub mod reported;
+pub mod types;
 pub mod violation;
 
 pub use checked::Checked;

@@ -1,14 +1,14 @@
 -- The activation that a CALL or CREATE makes, and what its dummy arguments stand for.
-use Rattle.std.proofs.Common.{◌≡◌, ℕ, ◌+◌, ◌-◌, ◌<◌, Bool, true, false, List, [], ◌∷◌, length, Option, Some, None, Result, Ok, Err, refl, sym, ap, ◌∙◌, subst, arith, zero, suc, ◌++◌, ◌≤◌, if◌then◌else◌, nat_eq, eqb-true, eq-eqb, length-append}
+use Rattle.std.proofs.Common.{◌≡◌, ℕ, ◌+◌, ◌-◌, ◌<◌, Bool, true, false, List, [], ◌∷◌, length, Option, Some, None, Result, Ok, Err, refl, sym, ap, ◌∙◌, subst, arith, zero, suc, ◌++◌, if◌then◌else◌, nat_eq, eqb-true, eq-eqb, length-append}
 use Rattle.hep_machine.specs.Words.{Name, Statement, Units, dummies_of, unit_at, Binding, binding_for, binding_with_shapes, bound_values, dummies_for, dummy_before, dummy_for, dummy_with_shape, first_element, from_element, with_actuals, with_shape, with_shapes, with_store, shape_by, is_array, Actual, evaluated}
-use Rattle.hep_machine.specs.Words.{referred, Layout, Scope, storage_of, dummy_at, Bounds, fits, Dummy, State, Store, local, Activation, Level, Process, further, with_value, activation_of, unit_of, run, is_owned, next_activation, scope_of}
+use Rattle.hep_machine.specs.Words.{referred, Layout, Scope, storage_of, dummy_at, Bounds, fits, Dummy, State, Store, local, Activation, further, with_value, activation_of, unit_of, is_owned, next_activation, scope_of}
 use Rattle.hep_machine.specs.declared.event.Kind.{Kind}
 use Rattle.hep_machine.specs.declared.event.Kind.TheVariants.{Shape}
-use Rattle.hep_layout.specs.Words.{RunsFrom, IsLaid, frame_from, is_stacked}
+use Rattle.hep_layout.specs.Words.{RunsFrom, IsLaid, also, frame_from, is_stacked}
 use Rattle.hep_layout.proofs.Passed.{IsMadeScope, made-further, made-storage}
 use Rattle.hep_passing.specs.declared.given.Given.{Given}
 use Rattle.hep_passing.specs.declared.given.Given.TheVariants as given
-use Rattle.hep_entering.specs.Calling.{ArePassed, IsPassed, layout_with, IsPassing, called_activation, state_begun}
+use Rattle.hep_entering.specs.Calling.{AreActualsPassed, AreAllKept, ArePassed, CallOf, IsPassed, layout_with, IsPassing, called_activation, state_before_call, state_begun, unit_begun}
 use Rattle.hep_entering.specs.Giving.{AreGiven, IsGiven, with_given, AreDistinct}
 use Rattle.hep_layout.proofs.Storages.{same-ok}
 use Rattle.hep_layout_laws.proofs.Activations.{not-owned}
@@ -26,7 +26,7 @@ use Rattle.hep_entering.specs.Writing.{IsBinding}
 
 -- ---- what a binding stores
 
-pub given-stored : (program : Units) (s : State) (layout : Layout) (scope : Scope) (store : Store) (a : ℕ) (xs : List Name) (ys : List Actual) (gs : List Given) → ArePassed program s layout scope ys gs → with_actuals store a xs ys ≡ with_given store a xs gs
+pub given-stored : (program : Units) (s : State) (layout : Layout) (scope : Scope) (store : Store) (a : ℕ) (xs : List Name) (ys : List Actual) (gs : List Given) → AreActualsPassed program s layout scope ys gs → with_actuals store a xs ys ≡ with_given store a xs gs
 given-stored program s layout scope store a [] ys gs h = refl
 given-stored program s layout scope store a (x ∷ xs) [] [] h = refl
 given-stored program s layout scope store a (x ∷ xs) (evaluated v ∷ ys) (given.Value w ∷ gs) h =
@@ -77,7 +77,7 @@ module _ (program : Units) (s : State) (layout : Layout) (scope : Scope) (n a : 
   one-given x (evaluated v) (given.Units first count) h = absurd h
   one-given x (referred r) (given.Value w) h = absurd h
 
-  all-given : (xs : List Name) (ys : List Actual) (gs : List Given) → length ys ≡ length xs → ArePassed program s layout scope ys gs → IfGiven xs gs (dummies_for scope a xs ys)
+  all-given : (xs : List Name) (ys : List Actual) (gs : List Given) → length ys ≡ length xs → AreActualsPassed program s layout scope ys gs → IfGiven xs gs (dummies_for scope a xs ys)
   all-given [] [] [] e h = tt
   all-given (x ∷ xs) (y ∷ ys) (g ∷ gs) e h =
       one-before x xs g gs (dummy_for scope a x y) (dummies_for scope a xs ys) (one-given x y g h.0) (all-given xs ys gs (omega (arith, e)) h.1)
@@ -110,7 +110,7 @@ module _ (program : Units) (s : State) (layout : Layout) (scope : Scope) (n a : 
   with-shapes new store _ _ _ h = absurd h
 
   -- those of a binding
-  pub bound-given : (store : Store) (unit : List Statement) (ys : List Actual) (gs : List Given) (b : Binding) → length ys ≡ length (dummies_of unit) → ArePassed program s layout scope ys gs → binding_for scope store unit a ys ≡ Ok b
+  pub bound-given : (store : Store) (unit : List Statement) (ys : List Actual) (gs : List Given) (b : Binding) → length ys ≡ length (dummies_of unit) → AreActualsPassed program s layout scope ys gs → binding_for scope store unit a ys ≡ Ok b
       → AreGiven program s layout a (dummies_of unit) b.dummies gs
   bound-given store unit ys gs b many h = by_dummies (dummies_for scope a (dummies_of unit) ys) (all-given (dummies_of unit) ys gs many h) where
     by_shapes : (new : Store) (ds : Result (List Dummy) Kind) → IfGiven (dummies_of unit) gs ds → with_store new ds ≡ Ok b → AreGiven program s layout a (dummies_of unit) b.dummies gs
@@ -143,10 +143,16 @@ kept-given program s layout a (x ∷ xs) (d ∷ ds) (g ∷ gs) zero h other = ke
 kept-given program s layout a (x ∷ xs) (d ∷ ds) (g ∷ gs) (suc k) h other = kept-given program s layout a xs ds gs k h.1 other
 kept-given program s layout a _ _ _ k h other = absurd h
 
-module _ (program : Units) (choices : List ℕ) (t : State) (x : Activation) (layout : Layout) (first cells : ℕ) (laid : IsLaid program (run program choices) cells layout) (more : t.activations ≡ (run program choices).activations ++ x ∷ [])
-    (new : activation_of t (length t.activations) ≡ x) (kept : (a : ℕ) → is_stacked (run program choices) a ≡ true → AreKept program (run program choices) layout a) where
+module _ (call : CallOf) (t : State) (layout : Layout) (first cells : ℕ) (laid : IsLaid call.program (state_before_call call) cells layout) (more : t.activations ≡ (state_begun call).activations)
+    (new : activation_of t (length t.activations) ≡ called_activation call) (kept : AreAllKept call.program (state_before_call call) layout) where
+  abbrev program : Units
+  program = call.program
+
   abbrev s : State
-  s = run program choices
+  s = state_before_call call
+
+  abbrev x : Activation
+  x = called_activation call
 
   entered : (d : Dummy) → KeptSomewhere program s layout d → KeptSomewhere program t (layout_with program t layout first) d
   entered d h = (h.0, runs-entered program s t x layout first cells d.start d.rest h.0 laid more h.1)
@@ -154,7 +160,8 @@ module _ (program : Units) (choices : List ℕ) (t : State) (x : Activation) (la
   abbrev KeptAs : ℕ → List Dummy → Type 0
   KeptAs a ds = (k : ℕ) → is_owned a (dummy_at ds k).start ≡ false → KeptSomewhere program t (layout_with program t layout first) (dummy_at ds k)
 
-  pub kept-entered : (xs : List Name) (gs : List Given) → AreGiven program s layout (length t.activations) xs x.dummies gs → (a : ℕ) → (if nat_eq a (length t.activations) then true else is_stacked s a) ≡ true → AreKept program t (layout_with program t layout first) a
+  pub kept-entered : (xs : List Name) (gs : List Given) → AreGiven call.program (state_before_call call) layout (length t.activations) xs call.binding.dummies gs
+      → (a : ℕ) → also (length t.activations) (is_stacked (state_before_call call)) a ≡ true → AreKept call.program t (layout_with call.program t layout first) a
   kept-entered xs gs given_are a = by_number (nat_eq a (length t.activations)) refl where
     by_number : (b : Bool) → nat_eq a (length t.activations) ≡ b → (if b then true else is_stacked s a) ≡ true → AreKept program t (layout_with program t layout first) a
     by_number true e on =
@@ -162,7 +169,7 @@ module _ (program : Units) (choices : List ℕ) (t : State) (x : Activation) (la
         subst (λ z. AreKept program t (layout_with program t layout first) z) (sym (eqb-true a n e)) (
         subst (λ (z : Activation). KeptAs n z.dummies) (sym new) (λ k other. entered (dummy_at x.dummies k) (kept-given program s layout n xs x.dummies gs k given_are other)))
     by_number false e on =
-        let le = (on_stack_made s a (aged program choices) (stacked-on s a on)).1 in
+        let le = (on_stack_made s a (aged program call.choices) (stacked-on s a on)).1 in
         subst (λ (z : Activation). KeptAs a z.dummies) (sym (activation-kept s t x a more le)) (λ k other. entered (dummy_at (activation_of s a).dummies k) (kept a on k other))
 
 -- ---- the new activation: it begins with nothing stored, and its dummy arguments stand for what is given
@@ -178,68 +185,71 @@ module _ (program : Units) (s t : State) (x : Activation) (layout : Layout) (fir
   all-stay (y ∷ ys) (d ∷ ds) (g ∷ gs) h = (given-stays y d g h.0, all-stay ys ds gs h.1)
   all-stay _ _ _ h = absurd h
 
-module _ (program : Units) (choices : List ℕ) (p : ℕ) (top : Level × Process) (u : ℕ) (actuals : List Actual) (b : Binding) (h : IsPassing program choices p top u actuals b) where
+module _ (call : CallOf) where
   abbrev pub old : State
-  old = run program choices
+  old = state_before_call call
 
   abbrev pub made : Activation
-  made = called_activation u top b
+  made = called_activation call
 
-  pub one-more : length (old.activations ++ made ∷ []) ≡ suc (length old.activations)
+  abbrev scope : Scope
+  scope = scope_of call.program old call.top.0.activation
+
+  abbrev unit : List Statement
+  unit = unit_at call.program call.unit
+
+  pub one-more : length (state_begun call).activations ≡ suc (length (state_before_call call).activations)
   one-more = length-append old.activations (made ∷ []) ∙ omega arith
 
-  pub begins : IsBegun old (state_begun program choices top u b) made
-  begins = record { activations_are = refl; store_is = refl; unset = λ y i. unset-ahead program choices (length (old.activations ++ made ∷ [])) y i (omega (arith, one-more)) }
+  pub begins : IsBegun (state_before_call call) (state_begun call) (called_activation call)
+  begins = record { activations_are = refl; store_is = refl; unset = λ y i. unset-ahead call.program call.choices (length (state_begun call).activations) y i (omega (arith, one-more)) }
 
-  caller-made : (1 ≤ top.0.activation) × (top.0.activation ≤ length old.activations)
-  caller-made = on_stack_made old top.0.activation (aged program choices) (stacked-top old p top (top-numbered old p top h.lives))
-
-  scope-made : IsMadeScope (length old.activations) (scope_of program old top.0.activation)
-  scope-made = (caller-made.1, λ k. references-made program choices top.0.activation k caller-made.1)
+  scope-made : IsPassing call → IsMadeScope (length old.activations) scope
+  scope-made h =
+      let made = on_stack_made old call.top.0.activation (aged call.program call.choices) (stacked-top old call.process call.top (top-numbered old call.process call.top h.lives)) in
+      (made.1, λ k. references-made call.program call.choices call.top.0.activation k made.1)
 
   number : next_activation old ≡ suc (length old.activations)
   number = omega arith
 
   -- ---- in a state that has it
 
-  module _ (t : State) (more : t.activations ≡ old.activations ++ made ∷ []) where
-    pub long : length t.activations ≡ suc (length old.activations)
+  module _ (t : State) (more : t.activations ≡ (state_begun call).activations) where
+    pub long : length t.activations ≡ suc (length (state_before_call call).activations)
     long = ap (λ (xs : List Activation). length xs) more ∙ one-more
 
     last : length t.activations ≡ next_activation old
     last = long ∙ sym number
 
-    pub activation-is : activation_of t (length t.activations) ≡ made
+    pub activation-is : activation_of t (length t.activations) ≡ called_activation call
     activation-is = ap (activation_of t) long ∙ activation-last old t made more
 
-    pub unit-is : unit_of t (length t.activations) ≡ u
+    pub unit-is : unit_of t (length t.activations) ≡ call.unit
     unit-is = ap (λ (z : Activation). z.unit) activation-is
 
-    module _ (layout : Layout) (gs : List Given) (passed : ArePassed program old layout (scope_of program old top.0.activation) actuals gs) where
-      pub stored : t.store ≡ b.store → t.store ≡ with_given old.store (length t.activations) (dummies_of (unit_at program (unit_of t (length t.activations)))) gs
+    module _ (h : IsPassing call) (layout : Layout) (gs : List Given) (passed : ArePassed call layout gs) where
+      pub stored : t.store ≡ call.binding.store → t.store ≡ with_given (state_before_call call).store (length t.activations) (dummies_of (unit_begun call.program t)) gs
       stored e =
-          let scope = scope_of program old top.0.activation in
-          let names = dummies_of (unit_at program u) in
           e
-          ∙ (bound-store scope old.store (unit_at program u) (next_activation old) actuals b h.bound
-          ∙ (given-stored program old layout scope old.store (next_activation old) names actuals gs passed
-          ∙ (λ i. with_given old.store (sym last i) (dummies_of (unit_at program (sym unit-is i))) gs)))
+          ∙ (bound-store scope old.store unit (next_activation old) call.actuals call.binding h.bound
+          ∙ (given-stored call.program old layout scope old.store (next_activation old) (dummies_of unit) call.actuals gs passed
+          ∙ (λ i. with_given old.store (sym last i) (dummies_of (unit_at call.program (sym unit-is i))) gs)))
 
-      pub given-before : AreGiven program old layout (length t.activations) (dummies_of (unit_at program u)) b.dummies gs
+      pub given-before : AreGiven call.program (state_before_call call) layout (length t.activations) (dummies_of (unit_at call.program call.unit)) call.binding.dummies gs
       given-before =
-          subst (λ n. AreGiven program old layout n (dummies_of (unit_at program u)) b.dummies gs) (sym last)
-          (bound-given program old layout (scope_of program old top.0.activation) (length old.activations) (next_activation old) scope-made (omega arith) old.store (unit_at program u) actuals gs b h.as_many passed h.bound)
+          subst (λ n. AreGiven call.program old layout n (dummies_of unit) call.binding.dummies gs) (sym last)
+          (bound-given call.program old layout scope (length old.activations) (next_activation old) (scope-made h) (omega arith) old.store unit call.actuals gs call.binding h.as_many passed h.bound)
 
-      pub binding : (first cells : ℕ) → IsLaid program old cells layout → IsBinding program t (layout_with program t layout first) (length t.activations) first gs
+      pub binding : (first cells : ℕ) → IsLaid call.program (state_before_call call) cells layout → IsBinding call.program t (layout_with call.program t layout first) (length t.activations) first gs
       binding first cells laid =
           let n = length t.activations in
-          let frame = frame_from program t n first in
+          let frame = frame_from call.program t n first in
           record {
             frame = frame;
-            framed = among-with_frame n layout frame (unmade program old t made layout first more laid) ∙ ap (λ c. if c then Some frame else frame_among n layout) (eq-eqb n n refl);
+            framed = among-with_frame n layout frame (unmade call.program old t made layout first more laid) ∙ ap (λ c. if c then Some frame else frame_among n layout) (eq-eqb n n refl);
             begins = refl;
-            distinct = subst (λ v. AreDistinct (dummies_of (unit_at program v))) (sym unit-is) h.distinct;
+            distinct = subst (λ v. AreDistinct (dummies_of (unit_at call.program v))) (sym unit-is) h.distinct;
             given_are =
-                subst (λ (z : Activation). AreGiven program t (layout_with program t layout first) n (dummies_of (unit_at program z.unit)) z.dummies gs) (sym activation-is)
-                (all-stay program old t made layout first cells laid more n (dummies_of (unit_at program u)) b.dummies gs given-before);
+                subst (λ (z : Activation). AreGiven call.program t (layout_with call.program t layout first) n (dummies_of (unit_at call.program z.unit)) z.dummies gs) (sym activation-is)
+                (all-stay call.program old t made layout first cells laid more n (dummies_of unit) call.binding.dummies gs given-before);
           }

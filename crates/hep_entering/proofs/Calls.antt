@@ -1,16 +1,16 @@
 -- The state after a CALL or CREATE: that the step leads to it, what is on stacks in it, and what its frames keep.
-use Rattle.std.proofs.Common.{◌≡◌, ℕ, false, List, None, Some, ap, ◌∙◌, suc, Bool, true, [], ◌∷◌, ◌++◌, length, refl, sym, arith, zero, ◌-◌, ◌<◌, ◌≤◌, Option, subst, if◌then◌else◌, nat_eq, slice_get, slice_set, length-append}
-use Rattle.hep_machine.specs.Words.{Name, Units, unit_at, dummies_of, Binding, Next, Actual, calling, creating, does, next_of, unit_of, living, with_process, activation_of, numbered, top_of, with_numbered, run, Level, Process, State, Activation, result_after_call, result_after_create, result_after_next, state_made, step, step_result_of, step_result_of_top, stepped, unit_called, entry_level, next_activation, with_activation, level_after_statement, Layout, activations_on, index_among, unset_cell}
-use Rattle.hep_entering.specs.Calling.{caller, IsPassing, state_called, state_created, IsAllWritten, IsKeptIn, called_activation, IsWritten, unit_begun}
+use Rattle.std.proofs.Common.{◌≡◌, ℕ, false, List, None, Some, ap, ◌∙◌, suc, Bool, true, [], ◌∷◌, ◌++◌, length, refl, sym, arith, zero, ◌-◌, ◌<◌, ◌≤◌, Option, Result, Ok, subst, if◌then◌else◌, nat_eq, slice_get, slice_set, length-append}
+use Rattle.hep_machine.specs.Words.{Name, dummies_of, Binding, binding_of, Next, calling, creating, does, next_of, unit_of, unit_on_top, living, with_process, activation_of, numbered, top_of, with_numbered, run, Level, Process, State, result_after_call, result_after_create, result_after_next, state_made, step, step_result_of, step_result_of_top, stepped, unit_called, next_activation, with_activation, Layout, activations_on, index_among, unset_cell}
+use Rattle.hep_machine.specs.declared.event.Kind.{Kind}
+use Rattle.hep_step.specs.Calls.{made_by}
+use Rattle.hep_entering.specs.Calling.{CallOf, caller, frames_before_call, frames_with, IsPassing, level_behind, level_called, state_before_call, state_begun, state_called, state_created, state_made_by, called_activation, IsWritten, unit_begun}
 use Rattle.hep_arena.specs.Space.{Space}
 use Rattle.hep_code.proofs.Moves.{after_statement_keeps}
-use Rattle.hep_layout.specs.Words.{IsLaid, level_of, descriptor_slots, slot_by_dummy, slot_of_bounds, slot_of_dummy, slot_on_level, Nodes, also, is_stacked, FramePart, argument, bounds, header, iteration, variable, place_of_part}
-use Rattle.hep_layout.proofs.References.{references-made}
+use Rattle.hep_layout.specs.Words.{level_of, descriptor_slots, slot_by_dummy, slot_of_bounds, slot_of_dummy, slot_on_level, Nodes, also, is_stacked, FramePart, argument, bounds, header, iteration, variable, place_of_part}
 use Rattle.hep_layout.proofs.StackChanges.{stacks-begun, stacks-created, stacks-same}
 use Rattle.hep_layout.proofs.Stacks.{top-numbered, level-found}
-use Rattle.hep_frames.specs.Keeping.{FramesOf, frames_begun, frames_in, Keeps}
+use Rattle.hep_frames.specs.Keeping.{FramesOf, Keeps}
 use Rattle.hep_step.specs.Simulation.{unit_addressed}
-use Rattle.hep_entering.proofs.Entered.{keeps-entered, WereLoops, called-loops, created-loops}
 use Rattle.std.specs.Option.{unwrap_or}
 use Rattle.std.proofs.lemmas.Option.{none-some, same_Some}
 use Rattle.hep_machine.specs.declared.slot.Slot.{Slot}
@@ -22,82 +22,59 @@ use Rattle.hep_machine.proofs.Others.{last-numbered}
 
 -- ---- the step
 
-module _ (program : Units) (choices : List ℕ) (p : ℕ) (top : Level × Process) (x : Name) (actuals : List Actual) (b : Binding) (on : (run program choices).halted ≡ false) (h : IsPassing program choices p top (unit_called program x) actuals b) where
+module _ (call : CallOf) (x : Name) (on : (state_before_call call).halted ≡ false) (called : call.unit ≡ unit_called call.program x) (h : IsPassing call) where
   -- what comes next makes a state
-  made-step : (t : State) → step_result_of program p (run program choices) ≡ stepped t → step program p (run program choices) ≡ Some t
-  made-step t made = ap (λ c. if c then None else state_made (step_result_of program p (run program choices))) on ∙ ap state_made made
+  made-step : (t : State) → step_result_of call.program call.process (state_before_call call) ≡ stepped t → step call.program call.process (state_before_call call) ≡ Some t
+  made-step t made = ap (λ c. if c then None else state_made (step_result_of call.program call.process (state_before_call call))) on ∙ ap state_made made
 
-  result-of : (n : Next) → next_of (unit_at program (unit_of (run program choices) top.0.activation)) top.0.work ≡ n → step_result_of program p (run program choices) ≡ result_after_next program (caller program choices p top) n
+  result-of : (n : Next) → next_of (unit_on_top call.program (caller call)) call.top.0.work ≡ n → step_result_of call.program call.process (state_before_call call) ≡ result_after_next call.program (caller call) n
   unfolding step_result_of
-  result-of n next = ap (step_result_of_top program (run program choices) p) h.lives ∙ ap (result_after_next program (caller program choices p top)) next
+  result-of n next = ap (step_result_of_top call.program (state_before_call call) call.process) h.lives ∙ ap (result_after_next call.program (caller call)) next
 
-  pub called-step : next_of (unit_at program (unit_of (run program choices) top.0.activation)) top.0.work ≡ does (calling x actuals) → step program p (run program choices) ≡ Some (state_called program choices p top (unit_called program x) b)
-  called-step next =
-      made-step (state_called program choices p top (unit_called program x) b) (result-of (does (calling x actuals)) next ∙ ap (result_after_call program (caller program choices p top) (unit_called program x)) h.bound)
+  -- which is that of the unit that is called, with its binding
+  bound : {A : Type 0} (f : ℕ → Result Binding Kind → A) → f (unit_called call.program x) (binding_of call.program (caller call) (unit_called call.program x) call.actuals) ≡ f call.unit (Ok call.binding)
+  bound f = ap (λ u. f u (binding_of call.program (caller call) u call.actuals)) (sym called) ∙ ap (f call.unit) h.bound
 
-  pub created-step : next_of (unit_at program (unit_of (run program choices) top.0.activation)) top.0.work ≡ does (creating x actuals) → step program p (run program choices) ≡ Some (state_created program choices p top (unit_called program x) b)
-  created-step next =
-      made-step (state_created program choices p top (unit_called program x) b) (result-of (does (creating x actuals)) next ∙ ap (result_after_create program (caller program choices p top) (unit_called program x)) h.bound)
+  pub step-made : (creates : Bool) → next_of (unit_on_top call.program (caller call)) call.top.0.work ≡ does (made_by creates x call.actuals) → step call.program call.process (state_before_call call) ≡ Some (state_made_by creates call)
+  step-made false next = made-step (state_called call) (result-of (does (calling x call.actuals)) next ∙ bound (result_after_call call.program (caller call)))
+  step-made true next = made-step (state_created call) (result-of (does (creating x call.actuals)) next ∙ bound (result_after_create call.program (caller call)))
 
 -- ---- the state after it
 
-module _ (program : Units) (choices : List ℕ) (p : ℕ) (top : Level × Process) (u : ℕ) (b : Binding) (lives : living (run program choices) p ≡ Some top) where
+-- it has one activation more
+pub made-begun : (creates : Bool) (call : CallOf) → (state_made_by creates call).activations ≡ (state_begun call).activations
+made-begun false call = refl
+made-begun true call = refl
+
+pub made-store : (creates : Bool) (call : CallOf) → (state_made_by creates call).store ≡ call.binding.store
+made-store false call = refl
+made-store true call = refl
+
+pub entry-number : (call : CallOf) → (level_called call).activation ≡ length (state_begun call).activations
+entry-number call =
+    let s = state_before_call call in
+    let next : next_activation s ≡ suc (length s.activations) = omega arith in
+    let long : length (state_begun call).activations ≡ suc (length s.activations) = length-append s.activations (called_activation call ∷ []) ∙ omega arith in
+    next ∙ sym long
+
+pub behind-keeps : (call : CallOf) → ((level_behind call).loops ≡ call.top.0.loops) × ((level_behind call).activation ≡ call.top.0.activation)
+behind-keeps call = after_statement_keeps (unit_addressed call.program (unit_of (state_before_call call) call.top.0.activation)) call.top.0
+
+module _ (call : CallOf) (lives : living (state_before_call call) call.process ≡ Some call.top) where
   abbrev s : State
-  s = run program choices
-
-  abbrev x : Activation
-  x = called_activation u top b
-
-  abbrev pub entry : Level
-  entry = entry_level (unit_at program u) (next_activation (run program choices))
-
-  abbrev pub after : Level
-  after = level_after_statement (unit_at program (unit_of (run program choices) top.0.activation)) top.0
-
-  abbrev called : State
-  called = state_called program choices p top u b
-
-  abbrev created : State
-  created = state_created program choices p top u b
+  s = state_before_call call
 
   abbrev n : ℕ
-  n = length (s.activations ++ x ∷ [])
+  n = length (state_begun call).activations
 
-  pub entry-number : (entry_level (unit_at program u) (next_activation (run program choices))).activation ≡ length ((run program choices).activations ++ called_activation u top b ∷ [])
-  entry-number = let next : next_activation s ≡ suc (length s.activations) = omega arith in next ∙ sym long where
-    long : length (s.activations ++ x ∷ []) ≡ suc (length s.activations)
-    long = length-append s.activations (x ∷ []) ∙ omega arith
-
-  pub after-keeps : (after.loops ≡ top.0.loops) × (after.activation ≡ top.0.activation)
-  after-keeps = after_statement_keeps (unit_addressed program (unit_of s top.0.activation)) top.0
-
-  -- ---- stacks
-
-  pub called-stacks : (a : ℕ) → is_stacked (state_called program choices p top u b) a ≡ also (length (state_called program choices p top u b).activations) (is_stacked (run program choices)) a
-  called-stacks a = stacks-begun s called p top (entry ∷ (top.0 ∷ top.1)) lives refl a n (ap (λ c. c ∷ activations_on (top.0 ∷ top.1)) entry-number)
-
-  pub created-stacks : (a : ℕ) → is_stacked (state_created program choices p top u b) a ≡ also (length (state_created program choices p top u b).activations) (is_stacked (run program choices)) a
-  created-stacks a =
-      let mid = with_process (with_activation (caller program choices p top) u b) p (after ∷ top.1) in
-      stacks-created mid created a n (entry ∷ []) refl (ap (λ c. c ∷ []) entry-number)
-      ∙ ap (λ z. if nat_eq a n then true else z) (stacks-same s mid p top (after ∷ top.1) lives refl a (ap (λ c. c ∷ activations_on top.1) after-keeps.1))
-
-  -- ---- the DOs of the others
-
-  called-were : (a : ℕ) → nat_eq a n ≡ false → (y : Level) → level_of called a ≡ Some y → WereLoops s a y
-  called-were a other = called-loops program choices a p n top.0 after entry top.1 (top-numbered s p top lives) other entry-number called refl
-
-  created-were : (a : ℕ) → nat_eq a n ≡ false → (y : Level) → level_of created a ≡ Some y → WereLoops s a y
-  created-were a other = created-loops program choices a p n top.0 after entry top.1 (top-numbered s p top lives) other entry-number created refl after-keeps.1 after-keeps.0
-
-  -- ---- frames
-
-  module _ (layout : Layout) (first cells : ℕ) (laid : IsLaid program (run program choices) cells layout) (out : ℕ → Bool) (arena : Space) (nodes : Nodes) where
-    pub called-keeps : IsAllWritten program (run program choices) (state_called program choices p top u b) layout first out arena nodes → IsKeptIn program (state_called program choices p top u b) layout first out arena nodes
-    called-keeps h = keeps-entered program s called x layout first cells laid refl (λ a k le. references-made program choices a k le) called-were out arena nodes h called-stacks
-
-    pub created-keeps : IsAllWritten program (run program choices) (state_created program choices p top u b) layout first out arena nodes → IsKeptIn program (state_created program choices p top u b) layout first out arena nodes
-    created-keeps h = keeps-entered program s created x layout first cells laid refl (λ a k le. references-made program choices a k le) created-were out arena nodes h created-stacks
+  -- it is on a stack, with those that were
+  pub made-stacks : (creates : Bool) (a : ℕ) → is_stacked (state_made_by creates call) a ≡ also (length (state_made_by creates call).activations) (is_stacked (state_before_call call)) a
+  made-stacks false a =
+      stacks-begun s (state_called call) call.process call.top (level_called call ∷ (call.top.0 ∷ call.top.1)) lives refl a n (ap (λ c. c ∷ activations_on (call.top.0 ∷ call.top.1)) (entry-number call))
+  made-stacks true a =
+      let mid = with_process (with_activation (caller call) call.unit call.binding) call.process (level_behind call ∷ call.top.1) in
+      stacks-created mid (state_created call) a n (level_called call ∷ []) refl (ap (λ c. c ∷ []) (entry-number call))
+      ∙ ap (λ z. if nat_eq a n then true else z) (stacks-same s mid call.process call.top (level_behind call ∷ call.top.1) lives refl a (ap (λ c. c ∷ activations_on call.top.1) (behind-keeps call).1))
 
 -- ---- what isn't written of the new frame is unset: its variables, and its DOs, of which none was begun
 
@@ -131,34 +108,28 @@ set-numbered xs (suc i) x y e = let same : suc i - 1 ≡ i = omega arith in rw s
   at (z ∷ zs) zero e = refl
   at (z ∷ zs) (suc i) e = at zs i e
 
-module _ (program : Units) (choices : List ℕ) (p : ℕ) (top : Level × Process) (u : ℕ) (b : Binding) (lives : living (run program choices) p ≡ Some top) where
+module _ (call : CallOf) (lives : living (state_before_call call) call.process ≡ Some call.top) where
   -- it is found where its process has it on top
-  on-top : (t : State) (q : ℕ) (below : Process) → step program p (run program choices) ≡ Some t → numbered t.processes q ≡ Some (entry program choices p top u b lives ∷ below)
-      → level_of t (length ((run program choices).activations ++ called_activation u top b ∷ [])) ≡ Some (entry program choices p top u b lives)
+  on-top : (t : State) (q : ℕ) (below : Process) → step call.program call.process (state_before_call call) ≡ Some t → numbered t.processes q ≡ Some (level_called call ∷ below) → level_of t (length (state_begun call).activations) ≡ Some (level_called call)
   on-top t q below made there =
-      let new = entry program choices p top u b lives in
-      let next : run program (choices ++ p ∷ []) ≡ t = run-last program choices p ∙ ap (λ o. unwrap_or o (run program choices)) made in
-      ap (level_of t) (sym (entry-number program choices p top u b lives))
-      ∙ subst (λ (z : State). living z q ≡ Some (new, below) → level_of z new.activation ≡ Some new) next (level-found program (choices ++ p ∷ []) q (new, below)) (ap top_of there)
+      let new = level_called call in
+      let next : run call.program (call.choices ++ call.process ∷ []) ≡ t = run-last call.program call.choices call.process ∙ ap (λ o. unwrap_or o (state_before_call call)) made in
+      ap (level_of t) (sym (entry-number call))
+      ∙ subst (λ (z : State). living z q ≡ Some (new, below) → level_of z new.activation ≡ Some new) next (level-found call.program (call.choices ++ call.process ∷ []) q (new, below)) (ap top_of there)
 
-  pub called-level : step program p (run program choices) ≡ Some (state_called program choices p top u b) → level_of (state_called program choices p top u b) (length (state_called program choices p top u b).activations) ≡ Some (entry program choices p top u b lives)
-  called-level made =
-      let s = run program choices in
-      let t = state_called program choices p top u b in
-      let stack = top.0 ∷ top.1 in
-      on-top t p stack made (set-numbered s.processes p stack (entry program choices p top u b lives ∷ stack) (top-numbered s p top lives))
+  made-level : (creates : Bool) → step call.program call.process (state_before_call call) ≡ Some (state_made_by creates call) → level_of (state_made_by creates call) (length (state_made_by creates call).activations) ≡ Some (level_called call)
+  made-level false made =
+      let stack = call.top.0 ∷ call.top.1 in
+      on-top (state_called call) call.process stack made (set-numbered (state_before_call call).processes call.process stack (level_called call ∷ stack) (top-numbered (state_before_call call) call.process call.top lives))
+  made-level true made =
+      let front = with_numbered (state_before_call call).processes call.process (level_behind call ∷ call.top.1) in
+      on-top (state_created call) (suc (length front)) [] made (last-numbered front (level_called call ∷ []))
 
-  pub created-level : step program p (run program choices) ≡ Some (state_created program choices p top u b) → level_of (state_created program choices p top u b) (length (state_created program choices p top u b).activations) ≡ Some (entry program choices p top u b lives)
-  created-level made =
-      let t = state_created program choices p top u b in
-      let front = with_numbered (run program choices).processes p (after program choices p top u b lives ∷ top.1) in
-      on-top t (suc (length front)) [] made (last-numbered front (entry program choices p top u b lives ∷ []))
-
-  -- in a state that has it on top
-  pub rest-unset : (t : State) (layout : Layout) (first : ℕ) (out : ℕ → Bool) (arena : Space) (nodes : Nodes) → level_of t (length t.activations) ≡ Some (entry program choices p top u b lives)
-      → IsWritten program (run program choices) t layout first (cells_to_locals (unit_begun program t)) out arena nodes → IsWritten program (run program choices) t layout first (cells_to_bounds_of (unit_begun program t) 0) out arena nodes
-  rest-unset t layout first out arena nodes level h =
-      let s = run program choices in
-      let n = length t.activations in
-      subst (λ m. IsWritten program s t layout first m out arena nodes) (sym (to-first (unit_begun program t))) (
-      keeps-rest (record (frames_begun (frames_in program s out layout) t first) { wanted = descriptor_slots program s layout }) n (entry program choices p top u b lives) level refl arena nodes h)
+  pub rest-unset : (creates : Bool) (layout : Layout) (first : ℕ) (out : ℕ → Bool) (arena : Space) (nodes : Nodes) → step call.program call.process (state_before_call call) ≡ Some (state_made_by creates call)
+      → IsWritten (frames_before_call call out layout) (state_made_by creates call) first (cells_to_locals (unit_begun call.program (state_made_by creates call))) arena nodes
+      → IsWritten (frames_before_call call out layout) (state_made_by creates call) first (cells_to_bounds_of (unit_begun call.program (state_made_by creates call)) 0) arena nodes
+  rest-unset creates layout first out arena nodes made h =
+      let t = state_made_by creates call in
+      let f = frames_before_call call out layout in
+      subst (λ m. IsWritten f t first m arena nodes) (sym (to-first (unit_begun call.program t))) (
+      keeps-rest (frames_with f t first) (length t.activations) (level_called call) (made-level creates made) refl arena nodes h)

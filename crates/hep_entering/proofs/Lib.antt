@@ -3,7 +3,7 @@ mod Names
 pub mod Dummies
 pub mod Begun
 pub mod Found
-pub mod Entered
 pub mod Calls
+pub mod Entered
 pub mod Shaped
 pub mod Nodes

@@ -1,14 +1,12 @@
 //! The frame of a new activation enters, and its dummy arguments are written.
-ghost use Rattle.std.specs.Prelude.{◌≡◌, ◌+◌, ◌*◌, ◌≤◌, ℕ, Bool, List, Some, None, IsSome, length};
+ghost use Rattle.std.specs.Prelude.{◌≡◌, ◌+◌, ◌*◌, ◌≤◌, ℕ, Bool, Some, None, IsSome, length};
 ghost use Rattle.slab.specs.Slab.{ContainsKey, HasRoomFor};
-ghost use Rattle.hep_machine.specs.Words.{Units, Binding, Actual, Layout, common_cells, frame_of, lowest_gap, run, Level, Process, State};
-ghost use Rattle.hep_machine.specs.Words.{scope_of};
+ghost use Rattle.hep_machine.specs.Words.{Layout, common_cells, frame_of, lowest_gap, State};
 ghost use Rattle.hep_arena.specs.Holes.{first_fit};
-ghost use Rattle.hep_layout.specs.Words.{new_node, with_node};
-ghost use Rattle.hep_layout.specs.FrameTree.{FrameNode};
-ghost use Rattle.hep_frames.specs.Keeping.{AreOfSomeState, Keeps, frames_in};
+ghost use Rattle.hep_layout.specs.Words.{new_node, with_node, FrameNode};
+ghost use Rattle.hep_frames.specs.Keeping.{AreOfSomeState, Keeps};
 ghost use Rattle.hep_frames.specs.Nodes.{CanCount, nodes_of};
-ghost use Rattle.hep_entering.specs.Calling.{ArePassed, IsPassing, IsWritten, state_begun, unit_begun};
+ghost use Rattle.hep_entering.specs.Calling.{ArePassed, CallOf, IsPassing, IsWritten, frames_before_call, state_begun, unit_begun};
 ghost use Rattle.hep_entering.specs.Shapes.{cells_to_locals};
 
 use crate::binding::bind;
@@ -38,15 +36,14 @@ pub fn begin(
     ensures nodes { (first : ℕ) → first_fit cells frames.old.arena.holes ≡ Some first
         → nodes_of frames.new.nodes ≡ with_node (nodes_of frames.old.nodes) result (new_node activation unit first cells parent) parent }
     ensures cells { length frames.new.arena.contents ≡ length frames.old.arena.contents }
-    ensures written { (program : Units) (choices : List ℕ) (p : ℕ) (top : Level
-        × Process) (u : ℕ) (actuals : List Actual) (b : Binding) (t : State) (layout : Layout) (out : ℕ → Bool) (n : FrameNode)
-        → Keeps (frames_in program (run program choices) out layout) frames.old.arena (nodes_of frames.old.nodes)
-        → nodes_of frames.old.nodes parent ≡ Some n → n.activation ≡ top.0.activation → IsPassing program choices p top u actuals b
-        → ArePassed program (run program choices) layout (scope_of program (run program choices) top.0.activation) actuals given.now
-        → t.activations ≡ (state_begun program choices top u b).activations → t.store ≡ b.store → activation ≡ length t.activations
-        → unit ≡ u → cells ≡ frame_of program t (length t.activations) → (first : ℕ) × (first_fit cells frames.old.arena.holes ≡ Some first)
-        × (lowest_gap (length frames.old.arena.contents) cells (common_cells program) layout ≡ Some first)
-        × IsWritten program (run program choices) t layout first (cells_to_locals (unit_begun program t)) out frames.new.arena
+    ensures written { (call : CallOf) (t : State) (layout : Layout) (out : ℕ → Bool) (n : FrameNode)
+        → Keeps (frames_before_call call out layout) frames.old.arena (nodes_of frames.old.nodes)
+        → nodes_of frames.old.nodes parent ≡ Some n → n.activation ≡ call.top.0.activation → IsPassing call
+        → ArePassed call layout given.now → t.activations ≡ (state_begun call).activations → t.store ≡ call.binding.store
+        → activation ≡ length t.activations → unit ≡ call.unit → cells ≡ frame_of call.program t (length t.activations)
+        → (first : ℕ) × (first_fit cells frames.old.arena.holes ≡ Some first)
+        × (lowest_gap (length frames.old.arena.contents) cells (common_cells call.program) layout ≡ Some first)
+        × IsWritten (frames_before_call call out layout) t first (cells_to_locals (unit_begun call.program t)) frames.new.arena
         (nodes_of frames.new.nodes) }
 {
     let key = frames.enter(activation, unit, cells, parent);

@@ -4,12 +4,12 @@ ghost use Rattle.slab.specs.Slab.{ContainsKey};
 ghost use Rattle.hep_machine.specs.Words.{Bounds, Frame, frame_cells};
 ghost use Rattle.hep_arena.specs.Gaps.{frame_among};
 ghost use Rattle.hep_arena.specs.Holes.{IsOut};
-ghost use Rattle.hep_layout.specs.FrameTree.{FrameNode};
 ghost use Rattle.hep_frames.specs.Keeping.{AreOfSomeState, FramesOf, Keeps};
 ghost use Rattle.hep_frames.specs.Nodes.{nodes_of};
 ghost use Rattle.hep_entering.specs.Shapes.{AreShaping, IsBoundPut, IsFramedBy, IsShaping, cells_of_shape, cells_of_shapes};
 ghost use Rattle.hep_entering.specs.Shapes.{cells_to_bounds_of};
 ghost use Rattle.hep_entering.specs.Writing.{unit_framed, written_up_to};
+ghost use Rattle.hep_layout.specs.Words.{FrameNode};
 
 use crate::binding::number;
 use hep_frames::Frames;

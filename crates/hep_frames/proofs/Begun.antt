@@ -7,14 +7,14 @@ use Rattle.hep_arena.specs.Gaps.{frame_among}
 use Rattle.hep_arena.specs.Holes.{IsOut, first_fit}
 use Rattle.hep_arena.specs.Space.{Space}
 use Rattle.hep_layout.specs.Words.{IsMemory, frame_from, Describes, DescriptorSlots, FramePart, also, AreFramed, IsFrameTree, Nodes, new_node, with_node}
-use Rattle.hep_layout.specs.FrameTree.{FrameNode}
 use Rattle.hep_layout.proofs.Addresses.{framed}
 use Rattle.hep_layout.proofs.Descriptors.{described-entered}
 use Rattle.hep_layout.proofs.Frames.{among-with_frame}
 use Rattle.hep_layout.proofs.Memory.{memory-entered, memory-fits, unmade}
-use Rattle.hep_layout.proofs.FrameTreeSteps.{framed-entered, tree-entered, wanted-entered}
+use Rattle.hep_layout.proofs.FrameTreeSteps.{framed-entered, tree-entered, needed-entered}
 use Rattle.hep_frames.specs.Keeping.{FramesOf, frames_begun, IsBegun, IsTaken, Keeps, with_unset}
 use Rattle.hep_source.proofs.Tests.{numbers-turned}
+use Rattle.hep_layout.specs.Words.{FrameNode}
 
 -- the cells of the new one are unset
 unset-wanted : (a : ℕ) (wanted : DescriptorSlots) (c : FramePart × ℕ) (v : Slot) → with_unset a wanted a c ≡ Some v → v ≡ unset_cell
@@ -68,7 +68,7 @@ module _ (f : FramesOf) (t : State) (x : Activation) (before after : Space) (old
       record {
         memory = subst (λ hs. IsMemory f.program t (with_frame f.layout frame) after.contents hs) (sym took.holes_are) (memory-entered f.program f.state t x f.layout first begun.activations_are before.contents after.contents before.holes kept.memory begun.store_is begun.unset fit took.size took.kept took.cleared);
         tree = subst (IsFrameTree t (also a f.on) (also a f.out)) (sym nodes) (tree-entered f.state t x f.on f.out old first (frame_of f.program t a) v k n kept.tree free at begun.activations_are owner);
-        rest = wanted-entered f.state t x f.on f.out old k n kept.tree at begun.activations_are owner kept.rest;
+        rest = needed-entered f.state t x f.on f.out old k n kept.tree at begun.activations_are owner kept.rest;
         framed = subst (AreFramed (with_frame f.layout frame)) (sym nodes) (framed-entered f.state t x f.on f.out old first (frame_of f.program t a) v k n kept.tree free at begun.activations_are owner f.layout none kept.framed);
         frames_are = now-framed;
         described = described-now;

@@ -12,9 +12,9 @@ use Rattle.hep_layout.specs.Words.{AreSingle, IsMemory, cell_in, Describes, desc
 use Rattle.hep_layout.proofs.Descriptors.{described-left}
 use Rattle.hep_layout.proofs.Frames.{among, among-without}
 use Rattle.hep_layout.proofs.Memory.{frame-is-out, memory-left}
-use Rattle.hep_layout.proofs.FrameTree.{but-parts, node-wanted, parent-apart, parent-counts, parent-kept, parent-out, tree-left, wanted-all, wanted-left}
-use Rattle.hep_layout.proofs.FrameTreeSteps.{filter-without, framed-ended, framed-left, tree-ended, wanted-ended}
-use Rattle.hep_layout.proofs.Wants.{wanted-left as wanted_of-left}
+use Rattle.hep_layout.proofs.FrameTree.{but-parts, node-needed, parent-apart, parent-counts, parent-kept, parent-out, tree-left, needed-all, needed-left}
+use Rattle.hep_layout.proofs.FrameTreeSteps.{filter-without, framed-ended, framed-left, tree-ended, needed-ended}
+use Rattle.hep_layout.proofs.Wants.{wanted-left}
 use Rattle.hep_frames.specs.Nodes.{IsCountedAbove}
 use Rattle.hep_frames.specs.Keeping.{as_wanted, frames_of, FramesOf, HasLeft, Keeps, KeysStay, LeadUpwards}
 use Rattle.hep_source.proofs.Tests.{numbers-turned}
@@ -79,7 +79,7 @@ giving-begins f arena old new k n h e now =
       memory = h.memory;
       tree = tree-ended f.state f.on f.out old k n h.tree e;
       under = ended-under old k n e;
-      rest = wanted-ended f.state f.on f.out n.activation h.rest;
+      rest = needed-ended f.state f.on f.out n.activation h.rest;
       framed = framed-ended f.layout old k h.framed;
       frames_are = h.frames_are;
       described = h.described;
@@ -119,9 +119,9 @@ module _ (f : FramesOf) (before : Space) (old : Nodes) (now : Space) (nodes : No
       let owner : n.parent ≡ Some above = ap (λ (z : FrameNode). z.parent) (sym it) ∙ above_is in
       (parent-apart f.state f.on g.still nodes k n g.tree at above alone owner, λ r d. parent-counts f.state f.on g.still nodes k n g.tree at above r owner d)
 
-  -- it stops at what is wanted
+  -- it stops at what is needed
   stopped : (n.finished ≡ false) ⊎ (1 ≤ n.children) → AreNeededBut None f.state f.on g.still
-  stopped why = wanted-all f.state f.on g.still n.activation (subst (λ o. AreNeededBut o f.state f.on g.still) cursor-is g.rest) (node-wanted f.state f.on g.still nodes k n g.tree at why)
+  stopped why = needed-all f.state f.on g.still n.activation (subst (λ o. AreNeededBut o f.state f.on g.still) cursor-is g.rest) (node-needed f.state f.on g.still nodes k n g.tree at why)
 
   pub giving-stops : (n.finished ≡ false) ⊎ (1 ≤ n.children) → IsGiving f before old now nodes None
   giving-stops why =
@@ -181,7 +181,7 @@ module _ (f : FramesOf) (before : Space) (old : Nodes) (now : Space) (nodes : No
 
     wanted-now : LeadUpwards f.state → (a : ℕ) (c : FramePart × ℕ) → still_now a ≡ true → descriptor_slots f.program f.state left_now a c ≡ descriptor_slots f.program f.state f.layout a c
     wanted-now lead a c o =
-        wanted_of-left f.program f.state a n.activation (length now.contents) g.left c g.memory.laid (λ i. not-owned a (dummy_at (activation_of f.state a).dummies i).start o (lead a i))
+        wanted-left f.program f.state a n.activation (length now.contents) g.left c g.memory.laid (λ i. not-owned a (dummy_at (activation_of f.state a).dummies i).start o (lead a i))
         ∙ g.wanted_stays lead a c (but-parts n.activation a g.still o).1
 
     keys-now : KeysStay still_now old (without_node nodes k n)
@@ -212,7 +212,7 @@ module _ (f : FramesOf) (before : Space) (old : Nodes) (now : Space) (nodes : No
           memory = memory-now;
           tree = tree-now;
           under = parent-kept f.state f.on g.still nodes k n g.tree at alone n.activation n.parent node.out_is node.parent_is;
-          rest = wanted-left f.state f.on g.still nodes k n g.tree at (subst (λ o. AreNeededBut o f.state f.on g.still) cursor-is g.rest);
+          rest = needed-left f.state f.on g.still nodes k n g.tree at (subst (λ o. AreNeededBut o f.state f.on g.still) cursor-is g.rest);
           framed = framed-left f.state f.on g.still g.left nodes k n g.tree at g.memory.laid.single g.framed;
           frames_are = frames-now;
           described = described-now;

@@ -8,7 +8,6 @@ use Rattle.hep_arena.specs.Gaps.{frame_among}
 use Rattle.hep_arena.specs.Holes.{IsOut, first_fit}
 use Rattle.hep_arena.specs.Space.{Space}
 use Rattle.hep_layout.specs.Words.{IsLaid, IsMemory, address, frame_from, Describes, DescriptorSlots, FramePart, AreFramed, first_nodes, is_stacked, IsAtRest, IsFrameTree, Nodes}
-use Rattle.hep_layout.specs.FrameTree.{FrameNode}
 use Rattle.hep_layout.proofs.Addresses.{IsCommon, IsLocal, framed, in-common, located}
 use Rattle.hep_layout.proofs.Beginning.{rest-first}
 use Rattle.hep_layout.proofs.Descriptors.{described-entered}
@@ -17,6 +16,7 @@ use Rattle.hep_layout.proofs.Memory.{memory-entered, memory-fits}
 use Rattle.hep_layout.proofs.Resting.{rest-same}
 use Rattle.hep_frames.specs.Keeping.{frames_in, IsOpening, IsTaken, IsUnused, Keeps}
 use Rattle.hep_source.proofs.Tests.{numbers-turned}
+use Rattle.hep_layout.specs.Words.{FrameNode}
 
 -- ---- the one activation
 
@@ -145,7 +145,7 @@ module _ (program : Units) (s : State) (wanted : DescriptorSlots) (before after 
       record {
         memory = memory-now;
         tree = subst (IsFrameTree s (is_stacked s) (λ a. nat_eq a 1)) (sym nodes) rest-now.tree;
-        rest = rest-now.wanted;
+        rest = rest-now.needed;
         framed = subst (AreFramed (frame ∷ [])) (sym nodes) framed-now;
         frames_are = frames-now;
         described = described-now;

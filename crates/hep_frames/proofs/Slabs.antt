@@ -4,8 +4,7 @@ use Rattle.std.specs.Option.{option_map}
 use Rattle.std.proofs.lemmas.Bool.{eqb-true, eqb-false}
 use Rattle.std.proofs.lemmas.Option.{same_Some, none-some}
 use Rattle.slab.specs.Slab.{Slab, get, Updates}
-use Rattle.hep_layout.specs.FrameTree.{FrameNode}
-use Rattle.hep_layout.specs.Words.{first_nodes, is_just, Nodes, with_node, with_one_less, with_one_more, without_node}
+use Rattle.hep_layout.specs.Words.{first_nodes, is_just, Nodes, with_node, with_one_less, with_one_more, without_node, FrameNode}
 use Rattle.hep_frames.specs.declared.nodes.Node.{Node}
 use Rattle.hep_frames.specs.Nodes.{HasChildren, IsCountedAbove, nodes_of, shown, with_more}
 

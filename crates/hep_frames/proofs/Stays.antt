@@ -7,7 +7,7 @@ use Rattle.hep_arena.specs.Holes.{first_fit}
 use Rattle.hep_arena.specs.Space.{Space}
 use Rattle.hep_arena.proofs.Gaps.{fit-gaps}
 use Rattle.hep_layout.specs.Words.{IsMemory, address, frame_address, Describes, DescriptorSlots, is_descriptor, descriptor_slots, FramePart, AreNeededBut, is_stacked, IsFrameTree, Nodes}
-use Rattle.hep_layout.proofs.Beginning.{tree-same, wanted-same}
+use Rattle.hep_layout.proofs.Beginning.{tree-same, needed-same}
 use Rattle.hep_layout.proofs.Descriptors.{described-same, described-set, described-written, memory-described}
 use Rattle.hep_layout.proofs.Memory.{memory-fits, memory-same, memory-written}
 use Rattle.hep_layout.proofs.FrameTree.{rest-held}
@@ -23,7 +23,7 @@ keeps-same f t now after arena nodes h e st stacks fewer =
     record {
       memory = memory-same f.program f.state t f.layout arena.contents arena.holes h.memory e st;
       tree = subst (λ p. IsFrameTree t p f.out nodes) same (tree-same f.state t f.on f.out nodes e h.tree);
-      rest = subst (λ p. AreNeededBut None t p f.out) same (wanted-same f.state t f.on f.out None e h.rest);
+      rest = subst (λ p. AreNeededBut None t p f.out) same (needed-same f.state t f.on f.out None e h.rest);
       framed = h.framed;
       frames_are = h.frames_are;
       described = described-same f.program f.state t f.layout f.wanted after arena.contents h.described e fewer;
@@ -47,7 +47,7 @@ module _ (f : FramesOf) (before after : Space) (nodes : Nodes) (p : ℕ) (slot :
       record {
         memory = subst (λ c. IsMemory f.program t f.layout c after.holes) (sym contents_are) (subst (IsMemory f.program t f.layout (slice_set before.contents p slot)) (sym holes_are) (memory-written f.program f.state t f.layout before.contents before.holes at p slot h.memory here e st));
         tree = tree-same f.state t f.on f.out nodes e h.tree;
-        rest = wanted-same f.state t f.on f.out None e h.rest;
+        rest = needed-same f.state t f.on f.out None e h.rest;
         framed = h.framed;
         frames_are = h.frames_are;
         described = subst (Describes f.program t f.layout f.wanted) (sym contents_are) (
@@ -83,7 +83,7 @@ unused-fits program arena nodes n h size =
 
 pub keeps-held : (program : Units) (processes : List ℕ) (out : ℕ → Bool) (layout : Layout) (wanted : DescriptorSlots) (arena : Space) (nodes : Nodes) (a : ℕ)
     → Keeps (record (frames_in program (run program processes) out layout) { wanted = wanted }) arena nodes → out a ≡ is_held (run program processes) a
-keeps-held program processes out layout wanted arena nodes a h = rest-held program processes out nodes a (record { tree = h.tree; wanted = h.rest })
+keeps-held program processes out layout wanted arena nodes a h = rest-held program processes out nodes a (record { tree = h.tree; needed = h.rest })
 
 pub keeps-remaining : (program : Units) (processes : List ℕ) (out : ℕ → Bool) (layout before : Layout) (wanted : DescriptorSlots) (arena : Space) (nodes : Nodes)
     → Keeps (record (frames_in program (run program processes) out layout) { wanted = wanted }) arena nodes → frames_of out before ≡ remaining_layout is_held (run program processes) before

@@ -107,7 +107,7 @@ KeysStay still old new =
 abbrev pub frames_left : FramesOf → (ℕ → Bool) → FramesOf
 frames_left f still = as_wanted (record f { out = still; layout = frames_of still f.layout })
 
--- the frames that aren't wanted any more were given back
+-- the frames that aren't needed any more were given back
 pub record HasLeft (f : FramesOf) (before after : Space) (old new : Nodes) : Type 0 where
   pub still : ℕ → Bool
   pub keeps : Keeps (frames_left f still) after new

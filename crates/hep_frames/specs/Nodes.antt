@@ -2,8 +2,7 @@
 use Rattle.std.specs.Prelude.{◌≡◌, ℕ, ◌≤◌, ◌+◌, ◌<◌, ◌^◌, false, nat_eq, if◌then◌else◌, Some}
 use Rattle.std.specs.Option.{option_map}
 use Rattle.slab.specs.Slab.{Slab, get}
-use Rattle.hep_layout.specs.FrameTree.{FrameNode}
-use Rattle.hep_layout.specs.Words.{Nodes, with_one_less, with_one_more}
+use Rattle.hep_layout.specs.Words.{Nodes, with_one_less, with_one_more, FrameNode}
 use Rattle.hep_frames.specs.declared.nodes.Node.{Node}
 
 abbrev pub shown : Node → FrameNode

@@ -8,9 +8,8 @@ ghost use Rattle.hep_machine.specs.Words.{run, Activation, Location, State, with
 ghost use Rattle.hep_machine.specs.declared.slot.Slot.{Slot};
 ghost use Rattle.hep_arena.specs.Gaps.{framed_cells};
 ghost use Rattle.hep_arena.specs.Holes.{IsOut, first_fit, free_cells, given};
-ghost use Rattle.hep_layout.specs.Words.{address, frame_address, DescriptorSlots, is_descriptor, FramePart};
+ghost use Rattle.hep_layout.specs.Words.{address, frame_address, DescriptorSlots, is_descriptor, FramePart, FrameNode};
 ghost use Rattle.hep_layout.specs.Words.{but, first_nodes, is_stacked, new_node, with_node, without_node};
-ghost use Rattle.hep_layout.specs.FrameTree.{FrameNode};
 ghost use Rattle.hep_frames.specs.Nodes.{CanCount, IsCountedAbove, nodes_of};
 ghost use Rattle.hep_frames.specs.Keeping.{AreOfSomeState, CanAllLeave, CanLeave, HasLeft, IsBegun, IsEnded, IsOpening, IsTaken, IsUnused};
 ghost use Rattle.hep_frames.specs.Keeping.{FramesOf, Keeps, LeadUpwards, all_but, as_wanted, frames_begun, frames_in};

@@ -62,7 +62,7 @@ rest-first program v first cells =
         stacked = λ a e. sym (opening-on program a) ∙ e;
         made = λ a e. let same = eqb-true a 1 e in (omega (arith, same), omega (arith, same, opening-single program));
       };
-      wanted = λ a e none. inl (opening-on program a ∙ e);
+      needed = λ a e none. inl (opening-on program a ∙ e);
     }
 
 -- ---- the same activations
@@ -86,8 +86,8 @@ tree-same s t on out nodes e tree =
     children-same : (a : ℕ) → children_out t out a ≡ children_out s out a
     children-same a = ap (λ (xs : List Activation). children_out (record s { activations = xs }) out a) e
 
-pub wanted-same : (s t : State) (on out : ℕ → Bool) (exception : Option ℕ) → t.activations ≡ s.activations → AreNeededBut exception s on out → AreNeededBut exception t on out
-wanted-same s t on out exception e wanted a h other = by_want (wanted a h other) where
+pub needed-same : (s t : State) (on out : ℕ → Bool) (exception : Option ℕ) → t.activations ≡ s.activations → AreNeededBut exception s on out → AreNeededBut exception t on out
+needed-same s t on out exception e wanted a h other = by_want (wanted a h other) where
   by_want : IsNeeded s on out a → IsNeeded t on out a
   by_want (inl there) = inl there
   by_want (inr some) = inr (subst (λ (xs : List Activation). 1 ≤ children_out (record s { activations = xs }) out a) (sym e) some)

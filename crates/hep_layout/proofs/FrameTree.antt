@@ -81,7 +81,7 @@ IsHeldSo s = (a : ℕ) → (is_held s a ≡ true) ↔ (IsOnStack s a ⊎ HasHeld
 -- both by how many activations were made after this one
 out-held : (s : State) (out : ℕ → Bool) (nodes : Nodes) (m a : ℕ) → IsHeldSo s → IsAged s → IsAtRest s out nodes → length s.activations < m + a → out a ≡ true → is_held s a ≡ true
 out-held s out nodes zero a held old rest few e = absurd (omega (arith, (rest.tree.made a e).1))
-out-held s out nodes (suc m) a held old rest few e = elim (rest.wanted a e refl) [
+out-held s out nodes (suc m) a held old rest few e = elim (rest.needed a e refl) [
   | inl on ↦ (held a).1 (inl (stacked-on s a on))
   | inr some ↦
       let child = a-child s out a some in
@@ -216,21 +216,21 @@ module _ (s : State) (on out : ℕ → Bool) (nodes : Nodes) (k : ℕ) (n : Fram
             }
 
   -- the parent is the next to look at
-  pub wanted-left : AreNeededBut (Some n.activation) s on out → AreNeededBut (parent_of s n.activation) s on (but n.activation out)
-  wanted-left wanted a e other =
+  pub needed-left : AreNeededBut (Some n.activation) s on out → AreNeededBut (parent_of s n.activation) s on (but n.activation out)
+  needed-left wanted a e other =
       let parts = but-parts n.activation a out e in
       elim (wanted a parts.1 (grind (arith, nat_tests, parts.0))) [
         | inl there ↦ inl there
         | inr some ↦ inr (rw (children-stay s out n.activation a other) some)
       ]
 
-  pub node-wanted : (n.finished ≡ false) ⊎ (1 ≤ n.children) → IsNeeded s on out n.activation
-  node-wanted (inl going) = inl (not-false (on n.activation) (sym (tree.shown k n at).finished_is ∙ going))
-  node-wanted (inr some) = inr (omega (arith, (tree.shown k n at).children_are))
+  pub node-needed : (n.finished ≡ false) ⊎ (1 ≤ n.children) → IsNeeded s on out n.activation
+  node-needed (inl going) = inl (not-false (on n.activation) (sym (tree.shown k n at).finished_is ∙ going))
+  node-needed (inr some) = inr (omega (arith, (tree.shown k n at).children_are))
 
--- where the exception is wanted, all are
-pub wanted-all : (s : State) (on out : ℕ → Bool) (x : ℕ) → AreNeededBut (Some x) s on out → IsNeeded s on out x → AreNeededBut None s on out
-wanted-all s on out x wanted it a e none = elim (cases_Bool (nat_eq x a)) [
+-- where the exception is needed, all are
+pub needed-all : (s : State) (on out : ℕ → Bool) (x : ℕ) → AreNeededBut (Some x) s on out → IsNeeded s on out x → AreNeededBut None s on out
+needed-all s on out x wanted it a e none = elim (cases_Bool (nat_eq x a)) [
   | inl k ↦ subst (IsNeeded s on out) (eqb-true x a k) it
   | inr k ↦ wanted a e k
 ]

@@ -55,9 +55,9 @@ module _ (s : State) (on out : ℕ → Bool) (nodes : Nodes) (k : ℕ) (n : Fram
         made = tree.made;
       }
 
--- it alone may not be wanted any more
-pub wanted-ended : (s : State) (on out : ℕ → Bool) (x : ℕ) → AreNeededBut None s on out → AreNeededBut (Some x) s (but x on) out
-wanted-ended s on out x wanted a e other = elim (wanted a e refl) [
+-- it alone may not be needed any more
+pub needed-ended : (s : State) (on out : ℕ → Bool) (x : ℕ) → AreNeededBut None s on out → AreNeededBut (Some x) s (but x on) out
+needed-ended s on out x wanted a e other = elim (wanted a e refl) [
   | inl there ↦ inl (grind (arith, nat_tests, there, other))
   | inr some ↦ inr some
 ]
@@ -106,9 +106,9 @@ module _ (s t : State) (x : Activation) (on out : ℕ → Bool) (nodes : Nodes) 
         | inr none ↦ children-more c ∙ rw other (omega arith)
       ]
 
-  -- what was wanted is, and the new one is on a stack
-  pub wanted-entered : AreNeededBut None s on out → AreNeededBut None t (also c on) (also c out)
-  wanted-entered wanted a e none = elim (also-parts c a out e) [
+  -- what was needed is, and the new one is on a stack
+  pub needed-entered : AreNeededBut None s on out → AreNeededBut None t (also c on) (also c out)
+  needed-entered wanted a e none = elim (also-parts c a out e) [
     | inl same ↦ inl (ap (also c on) same ∙ also-itself c on)
     | inr there ↦ elim (wanted a there.1 refl) [ inl on_stack ↦ inl (rw there.0 on_stack) | inr some ↦ inr (omega (arith, children-more a)) ]
   ]

@@ -1,4 +1,4 @@
--- The frames that are out as a tree, and which of them are still wanted: docs/MACHINE.md, "Layout".
+-- The frames that are out as a tree, and which of them are still needed: docs/MACHINE.md, "Layout".
 use Rattle.std.specs.Prelude.{◌≡◌, ◌⊎◌, ℕ, zero, suc, ◌+◌, ◌-◌, ◌≤◌, Bool, true, false, not, ◌&&◌, nat_eq, if◌then◌else◌, length, Option, Some, None}
 use Rattle.std.specs.List.{flat_map}
 use Rattle.std.specs.Option.{option_map}
@@ -79,14 +79,14 @@ AreFramed layout nodes = (k : ℕ) (n : FrameNode) → nodes k ≡ Some n → fr
 abbrev pub IsNeeded : State → (ℕ → Bool) → (ℕ → Bool) → ℕ → Type 0
 IsNeeded s on out a = (on a ≡ true) ⊎ (1 ≤ children_out s out a)
 
--- whatever is out is wanted, with one exception or none
+-- whatever is out is needed, with one exception or none
 abbrev pub AreNeededBut : Option ℕ → State → (ℕ → Bool) → (ℕ → Bool) → Type 0
 AreNeededBut exception s on out = (a : ℕ) → out a ≡ true → is_just a exception ≡ false → IsNeeded s on out a
 
 -- nothing is left to be given back
 pub record IsAtRest (s : State) (out : ℕ → Bool) (nodes : Nodes) : Type 0 where
   pub tree : IsFrameTree s (is_stacked s) out nodes
-  pub wanted : AreNeededBut None s (is_stacked s) out
+  pub needed : AreNeededBut None s (is_stacked s) out
 
 -- ---- what changes
 

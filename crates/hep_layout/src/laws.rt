@@ -263,7 +263,7 @@ pub fn trees_begin_and_stay()
         → IsAtRest (run program []) (λ a. nat_eq a 1) (first_nodes v (main_unit program) first cells) }
     ensures tree { (s t : State) (on out : ℕ → Bool) (nodes : Nodes) → t.activations ≡ s.activations → IsFrameTree s on out nodes
         → IsFrameTree t on out nodes }
-    ensures wanted { (s t : State) (on out : ℕ → Bool) (exception : Option ℕ) → t.activations ≡ s.activations
+    ensures needed { (s t : State) (on out : ℕ → Bool) (exception : Option ℕ) → t.activations ≡ s.activations
         → AreNeededBut exception s on out → AreNeededBut exception t on out }
 {}
 
@@ -292,11 +292,11 @@ pub fn frames_out_are_held()
 {}
 
 /// An activation that has ended and has no child out is given back: the tree is one without it, and then
-/// its parent alone may not be wanted any more, whose node is another one and has counted it.
+/// its parent alone may not be needed any more, whose node is another one and has counted it.
 pub fn frames_are_given_back_upwards()
     ensures tree { (s : State) (on out : ℕ → Bool) (nodes : Nodes) (k : ℕ) (n : FrameNode) → IsFrameTree s on out nodes → nodes k ≡ Some n
         → n.finished ≡ true → n.children ≡ 0 → IsFrameTree s on (but n.activation out) (without_node nodes k n) }
-    ensures wanted { (s : State) (on out : ℕ → Bool) (nodes : Nodes) (k : ℕ) (n : FrameNode) → IsFrameTree s on out nodes → nodes k ≡ Some n
+    ensures needed { (s : State) (on out : ℕ → Bool) (nodes : Nodes) (k : ℕ) (n : FrameNode) → IsFrameTree s on out nodes → nodes k ≡ Some n
         → AreNeededBut (Some n.activation) s on out → AreNeededBut (parent_of s n.activation) s on (but n.activation out) }
     ensures parent { (s : State) (on out : ℕ → Bool) (nodes : Nodes) (k : ℕ) (n : FrameNode) → IsFrameTree s on out nodes → nodes k ≡ Some n
         → n.children ≡ 0 → activation_under (without_node nodes k n) n.parent ≡ Some (parent_of s n.activation) }
@@ -308,19 +308,19 @@ pub fn frames_are_given_back_upwards()
         → n.parent ≡ Some l → nodes l ≡ Some m → 1 ≤ m.children }
 {}
 
-/// What has not ended, or has a child out, is wanted; where that was the exception, all that is out is wanted.
+/// What has not ended, or has a child out, is needed; where that was the exception, all that is out is needed.
 pub fn giving_back_stops()
     ensures node { (s : State) (on out : ℕ → Bool) (nodes : Nodes) (k : ℕ) (n : FrameNode) → IsFrameTree s on out nodes → nodes k ≡ Some n
         → (n.finished ≡ false) ⊎ (1 ≤ n.children) → IsNeeded s on out n.activation }
-    ensures wanted { (s : State) (on out : ℕ → Bool) (a : ℕ) → AreNeededBut (Some a) s on out → IsNeeded s on out a
+    ensures needed { (s : State) (on out : ℕ → Bool) (a : ℕ) → AreNeededBut (Some a) s on out → IsNeeded s on out a
         → AreNeededBut None s on out }
 {}
 
-/// An activation that ends stays out until it is given back, and it alone may not be wanted any more.
+/// An activation that ends stays out until it is given back, and it alone may not be needed any more.
 pub fn activations_end()
     ensures tree { (s : State) (on out : ℕ → Bool) (nodes : Nodes) (k : ℕ) (n : FrameNode) → IsFrameTree s on out nodes → nodes k ≡ Some n
         → IsFrameTree s (but n.activation on) out (with_ended nodes k) }
-    ensures wanted { (s : State) (on out : ℕ → Bool) (a : ℕ) → AreNeededBut None s on out → AreNeededBut (Some a) s (but a on) out }
+    ensures needed { (s : State) (on out : ℕ → Bool) (a : ℕ) → AreNeededBut None s on out → AreNeededBut (Some a) s (but a on) out }
 {}
 
 /// A new activation is a child of the one that makes it.
@@ -330,7 +330,7 @@ pub fn activations_begin()
         → x.parent ≡ Some n.activation
         → IsFrameTree t (also (length t.activations) on) (also (length t.activations) out)
         (with_node nodes v (new_node (length t.activations) x.unit first cells k) k) }
-    ensures wanted { (s t : State) (x : Activation) (on out : ℕ → Bool) (nodes : Nodes) (k : ℕ) (n : FrameNode) → IsFrameTree s on out nodes
+    ensures needed { (s t : State) (x : Activation) (on out : ℕ → Bool) (nodes : Nodes) (k : ℕ) (n : FrameNode) → IsFrameTree s on out nodes
         → nodes k ≡ Some n → t.activations ≡ s.activations ++ x ∷ [] → x.parent ≡ Some n.activation → AreNeededBut None s on out
         → AreNeededBut None t (also (length t.activations) on) (also (length t.activations) out) }
 {}
@@ -449,7 +449,7 @@ pub fn nothing_is_stored_ahead()
         → (run program processes).store (local a x i) ≡ unset_cell }
 {}
 
-/// What was made and isn't held is never held again, so a frame that was given back is never wanted.
+/// What was made and isn't held is never held again, so a frame that was given back is never needed.
 pub fn what_was_held_is_held_no_more()
     ensures { (program : Units) (processes : List ℕ) (p a : ℕ) → a ≤ length (run program processes).activations
         → is_held (run program (processes ++ p ∷ [])) a ≡ true → is_held (run program processes) a ≡ true }

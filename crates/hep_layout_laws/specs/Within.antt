@@ -1,4 +1,4 @@
--- Which cells of its activation's frame the code of a unit reads to find a variable: docs/MACHINE.md, "Variables and frames".
+-- Arrays that begin somewhere, and have bounds by which their elements are found: docs/MACHINE.md, "Variables and frames".
 use Rattle.std.specs.Prelude.{◌≡◌, ◌≢◌, ◌≤◌, true, List, None}
 use Rattle.hep_machine.specs.Words.{Name, Statement, index_among, Units, dummies_of, adjustable_dimensions, is_array}
 use Rattle.hep_image.specs.Places.{start_of}

@@ -2,7 +2,7 @@
 use Rattle.std.proofs.Common.{◌≡◌, ◌≢◌, ℕ, ◌+◌, ◌-◌, ◌<◌, ◌≤◌, Bool, true, false, List, [], ◌∷◌, Option, Some, None, Result, Ok, Err, refl, sym, ap, ◌∙◌, subst, arith, length, ℤ, if◌then◌else◌, nat_le, not, ◌&&◌, map}
 use Rattle.std.specs.Option.{unwrap_or}
 use Rattle.std.proofs.lemmas.Bool.Decides.{nat_tests}
-use Rattle.hep_machine.specs.Words.{Name, Statement, Value, index_among, Units, dummies_of, unit_at, integers_of, dummy_for, first_element, from_element, dummies_for, dummy_before, is_array, is_nonempty, referred, Actual, evaluated, Frame, Layout, Scope, StorageSequence, element_in, element_of, storage_of, unit_of, Bounds, counted_element, element_number, elements, is_most, most_elements, State, Dummy, scope_of, further}
+use Rattle.hep_machine.specs.Words.{Name, Statement, Value, index_among, Units, dummies_of, integers_of, dummy_for, first_element, from_element, dummies_for, dummy_before, is_array, is_nonempty, referred, Actual, evaluated, Layout, Scope, StorageSequence, element_in, element_of, storage_of, unit_of, Bounds, counted_element, element_number, elements, is_most, most_elements, State, Dummy, further}
 use Rattle.hep_machine.specs.declared.event.Kind.{Kind}
 use Rattle.hep_machine.specs.declared.event.Kind.TheVariants.{Range}
 use Rattle.hep_machine.specs.declared.slot.Slot.{Slot}
@@ -12,16 +12,15 @@ use Rattle.hep_layout.proofs.Storages.{dummy-runs, element-counted}
 use Rattle.hep_image.specs.declared.array.Start.{Start}
 use Rattle.hep_image.specs.declared.array.Start.TheVariants as start
 use Rattle.hep_image.specs.Finding.{base_at, bounds_at, cells_in, rest_at}
-use Rattle.hep_image.specs.Places.{array_of, arrays_of, extents_of, scalar, variable_of}
+use Rattle.hep_image.specs.Places.{array_of, arrays_of, extents_of, scalar}
 use Rattle.hep_layout_laws.specs.Constant.{HasConstantShape}
 use Rattle.hep_layout_laws.proofs.Activations.{scope-sized}
 use Rattle.hep_layout_laws.proofs.Found.{IsFound}
 use Rattle.hep_layout_laws.proofs.Named.{array-listed, at-index, by-kind}
 use Rattle.hep_layout_laws.proofs.Variables.{any-found}
-use Rattle.hep_passing.specs.Agreement.{IsCaller, IsPassedAs, arrays_at, AreGivenAs, ArePlaced, IsGiven}
-use Rattle.hep_passing.specs.Passing.{count_of, passed_at, passed_from_element, passed_of_array, passed_of_scalar, given_by, given_for, given_units, made_before}
-use Rattle.hep_code.specs.declared.variable.Variable.{Variable}
-use Rattle.hep_code.specs.Words.{Passed, passed_actual}
+use Rattle.hep_passing.specs.Agreement.{CallerOf, IsCaller, IsPassedAs, AreGivenAs, ArePlaced, IsGiven, arrays_calling, given_passed, scope_calling, storage_passed, unit_calling, variables_calling}
+use Rattle.hep_passing.specs.Passing.{count_of, passed_at, passed_from_element, passed_of_array, passed_of_scalar, given_for, given_units, made_before}
+use Rattle.hep_code.specs.Words.{passed_actual}
 use Rattle.hep_passing.specs.declared.given.Given.{Given}
 
 -- ---- elements by their numbers
@@ -49,18 +48,28 @@ numbers-same e base ss few = by_number (element_number e.shape ss) where
 
 -- ---- variables that are found
 
-module _ (program : Units) (s : State) (layout : Layout) (cells : ℕ → Slot) (a : ℕ) (f : Frame) (x : Name) (at : Start) (found : IsFound program s layout cells a f x at) where
+-- a variable of the caller is, by the cells of the arena
+abbrev pub IsFoundBy : CallerOf → Name → Start → Type 0
+IsFoundBy c = IsFound c.program c.state c.layout (cells_in c.arena.contents) c.activation c.frame
+
+module _ (c : CallerOf) (x : Name) (at : Start) (found : IsFoundBy c x at) where
   abbrev unit : List Statement
-  unit = unit_at program (unit_of s a)
+  unit = unit_calling c
 
   abbrev scope : Scope
-  scope = scope_of program s a
+  scope = scope_calling c
 
   abbrev e : StorageSequence
   e = storage_of scope x
 
+  abbrev cells : ℕ → Slot
+  cells = cells_in c.arena.contents
+
+  abbrev first : ℕ
+  first = c.frame.first
+
   abbrev base : ℕ
-  base = base_at cells f.first at
+  base = base_at cells first at
 
   -- what x passes by the source machine
   abbrev Same : Result (ℕ × ℕ) Kind → List Value → Type 0
@@ -79,13 +88,13 @@ module _ (program : Units) (s : State) (layout : Layout) (cells : ℕ → Slot) 
   scalar-same : (vs : List Value) → is_array unit x ≡ false → Same (passed_of_scalar base vs) vs
   scalar-same vs is = let one = found.scalar is in one-element vs e.rest e.shape one.0 one.1 ∙ ap (from_first base e.rest) (sym (element-first vs false is))
 
-  array-same : (vs : List Value) → is_array unit x ≡ true → Same (passed_of_array cells f.first (Some (array_of program unit x)) vs) vs
+  array-same : (vs : List Value) → is_array unit x ≡ true → Same (passed_of_array cells first (Some (array_of c.program unit x)) vs) vs
   array-same vs is = by_values vs where
-    starts : (array_of program unit x).start ≡ at
+    starts : (array_of c.program unit x).start ≡ at
     starts = ap (λ o. unwrap_or o (start.Local 0)) found.starts
 
-    count : count_of cells f.first (array_of program unit x) ≡ e.rest
-    count = ap (λ (z : Start). unwrap_or (elements (bounds_at cells f.first (extents_of unit x))) (rest_at cells f.first z)) starts ∙ found.counted is
+    count : count_of cells first (array_of c.program unit x) ≡ e.rest
+    count = ap (λ (z : Start). unwrap_or (elements (bounds_at cells first (extents_of unit x))) (rest_at cells first z)) starts ∙ found.counted is
 
     whole : ◌≡◌ {A = Result (ℕ × ℕ) Kind} (Ok (base, e.rest)) (Ok (base + (1 - 1), (e.rest + 1) - 1))
     whole =
@@ -93,19 +102,19 @@ module _ (program : Units) (s : State) (layout : Layout) (cells : ℕ → Slot) 
         let all : e.rest ≡ (e.rest + 1) - 1 = omega arith in
         (λ i. Ok (there i, all i))
 
-    by_values : (vs : List Value) → Same (passed_of_array cells f.first (Some (array_of program unit x)) vs) vs
-    by_values [] = (λ i. Ok (base_at cells f.first (starts i), count i)) ∙ (whole ∙ ap (from_first base e.rest) (sym (element-first [] true is)))
+    by_values : (vs : List Value) → Same (passed_of_array cells first (Some (array_of c.program unit x)) vs) vs
+    by_values [] = (λ i. Ok (base_at cells first (starts i), count i)) ∙ (whole ∙ ap (from_first base e.rest) (sym (element-first [] true is)))
     by_values (v ∷ vs) =
-        (λ i. passed_from_element (base_at cells f.first (starts i)) (count i) (counted_element (found.shaped is i) (integers_of (v ∷ vs))))
+        (λ i. passed_from_element (base_at cells first (starts i)) (count i) (counted_element (found.shaped is i) (integers_of (v ∷ vs))))
         ∙ (numbers-same e base (integers_of (v ∷ vs)) found.few ∙ ap (from_first base e.rest) (sym (element-first (v ∷ vs) true is)))
 
-  passed-same : (vs : List Value) → Same (passed_at cells f.first (arrays_at program s a) (variable_of program unit x) vs) vs
+  passed-same : (vs : List Value) → Same (storage_passed c x vs) vs
   passed-same vs =
-      by-kind program unit x at (λ v. Same (passed_at cells f.first (arrays_at program s a) v vs) vs) found.starts
-      (λ is. ap (λ o. passed_of_array cells f.first o vs) (at-index x (array_of program unit) (arrays_of unit) (array-listed x unit is)) ∙ array-same vs is)
+      by-kind c.program unit x at (λ v. Same (passed_at cells first (arrays_calling c) v vs) vs) found.starts
+      (λ is. ap (λ o. passed_of_array cells first o vs) (at-index x (array_of c.program unit) (arrays_of unit) (array-listed x unit is)) ∙ array-same vs is)
       (λ is. of_scalar x.asynchronous at ∙ scalar-same vs is)
     where
-      of_scalar : (b : Bool) (z : Start) → passed_at cells f.first (arrays_at program s a) (scalar b z) vs ≡ passed_of_scalar (base_at cells f.first z) vs
+      of_scalar : (b : Bool) (z : Start) → passed_at cells first (arrays_calling c) (scalar b z) vs ≡ passed_of_scalar (base_at cells first z) vs
       of_scalar b (start.Local c) = refl
       of_scalar b (start.Common c) = refl
       of_scalar b (start.Dummy c) = refl
@@ -117,34 +126,34 @@ module _ (program : Units) (s : State) (layout : Layout) (cells : ℕ → Slot) 
     by_test true h = let one : 1 ≡ n = cc in omega (arith, one, some)
     by_test false h = (element-counted e vs n h).1
 
-  found-passed : (vs : List Value) (b : ℕ) (y : Name) → 1 ≤ e.rest → IsPassedAs program s layout (passed_at cells f.first (arrays_at program s a) (variable_of program unit x) vs) (dummy_for scope b y (referred (x, vs)))
-  found-passed vs b y some = subst (λ r. IsPassedAs program s layout r (from_element e (first_element scope (x, vs)))) (sym (passed-same vs)) (by_first (first_element scope (x, vs)) refl) where
-    by_first : (r : Result ℕ Kind) → first_element scope (x, vs) ≡ r → IsPassedAs program s layout (from_first base e.rest r) (from_element e r)
+  found-passed : (vs : List Value) (b : ℕ) (y : Name) → 1 ≤ e.rest → IsPassedAs c.program c.state c.layout (storage_passed c x vs) (dummy_for scope b y (referred (x, vs)))
+  found-passed vs b y some = subst (λ r. IsPassedAs c.program c.state c.layout r (from_element e (first_element scope (x, vs)))) (sym (passed-same vs)) (by_first (first_element scope (x, vs)) refl) where
+    by_first : (r : Result ℕ Kind) → first_element scope (x, vs) ≡ r → IsPassedAs c.program c.state c.layout (from_first base e.rest r) (from_element e r)
     by_first (Err k) h = refl
     by_first (Ok n) h =
-        let runs = dummy-runs program s layout scope b y (x, vs) (record { start = further e.start (n - 1); rest = (e.rest + 1) - n; shape = [] }) base found.runs (ap (from_element e) h) in
+        let runs = dummy-runs c.program c.state c.layout scope b y (x, vs) (record { start = further e.start (n - 1); rest = (e.rest + 1) - n; shape = [] }) base found.runs (ap (from_element e) h) in
         let same : runs.0 ≡ n = cc in
         record {
           some = omega (arith, first-there vs n some h);
           rest = refl;
           shape = refl;
-          run = subst (λ m. RunsFrom program s layout (further e.start (n - 1)) ((e.rest + 1) - n) (base + (m - 1))) same runs.2;
+          run = subst (λ m. RunsFrom c.program c.state c.layout (further e.start (n - 1)) ((e.rest + 1) - n) (base + (m - 1))) same runs.2;
         }
 
 -- ---- variables of a caller
 
-module _ (program : Units) (s : State) (layout : Layout) (contents : List Slot) (a : ℕ) (f : Frame) (calls : IsCaller program s layout contents a f) where
-  own-shape : (x : Name) → index_among x (dummies_of (unit_at program (unit_of s a))) ≡ None → HasConstantShape (unit_at program (unit_of s a)) x
-  own-shape x none = λ is. let known = calls.closed (unit_of s a) (unit_at program (unit_of s a)) x calls.unit is none in (known.0, known.1)
+module _ (c : CallerOf) (calls : IsCaller c) where
+  own-shape : (x : Name) → index_among x (dummies_of (unit_calling c)) ≡ None → HasConstantShape (unit_calling c) x
+  own-shape x none = λ is. let known = calls.closed (unit_of c.state c.activation) (unit_calling c) x calls.unit is none in (known.0, known.1)
 
-  pub caller-found : (x : Name) → variable_of program (unit_at program (unit_of s a)) x ≢ Absent → (at : Start) × IsFound program s layout (cells_in contents) a f x at
-  caller-found x there = any-found program s layout contents a f x calls.described calls.framed calls.unit calls.bound calls.kept (own-shape x) there
+  pub caller-found : (x : Name) → variables_calling c x ≢ Absent → (at : Start) × IsFoundBy c x at
+  caller-found x there = any-found c.program c.state c.layout c.arena.contents c.activation c.frame x calls.described calls.framed calls.unit calls.bound calls.kept (own-shape x) there
 
-  pub reference-passed : (x : Name) (vs : List Value) (b : ℕ) (y : Name) → variable_of program (unit_at program (unit_of s a)) x ≢ Absent
-      → IsPassedAs program s layout (passed_at (cells_in contents) f.first (arrays_at program s a) (variable_of program (unit_at program (unit_of s a)) x) vs) (dummy_for (scope_of program s a) b y (referred (x, vs)))
+  pub reference-passed : (x : Name) (vs : List Value) (b : ℕ) (y : Name) → variables_calling c x ≢ Absent
+      → IsPassedAs c.program c.state c.layout (storage_passed c x vs) (dummy_for (scope_calling c) b y (referred (x, vs)))
   reference-passed x vs b y there =
       let found = caller-found x there in
-      found-passed program s layout (cells_in contents) a f x found.0 found.1 vs b y (scope-sized program s a calls.closed calls.bound x).0
+      found-passed c x found.0 found.1 vs b y (scope-sized c.program c.state c.activation calls.closed calls.bound x).0
 
 -- ---- all actual arguments
 
@@ -168,20 +177,25 @@ module _ (program : Units) (s : State) (layout : Layout) (b : ℕ) where
   given-before x y xs ys (Ok g) (Ok d) _ _ h hs = absurd hs
   given-before x y xs ys _ _ gs ds h hs = absurd h
 
-module _ (program : Units) (s : State) (layout : Layout) (contents : List Slot) (a : ℕ) (f : Frame) (calls : IsCaller program s layout contents a f) (b : ℕ) where
-  abbrev unit_variables : Name → Variable
-  unit_variables = variable_of program (unit_at program (unit_of s a))
+module _ (c : CallerOf) (calls : IsCaller c) (b : ℕ) where
+  abbrev given : Actual → Result Given Kind
+  given y = given_for (cells_in c.arena.contents) c.frame.first (arrays_calling c) (passed_actual (variables_calling c) y)
 
-  abbrev given : List Passed → Result (List Given) Kind
-  given = given_by (cells_in contents) f.first (arrays_at program s a)
+  abbrev all_given : List Actual → Result (List Given) Kind
+  all_given ys = given_passed c (map (passed_actual (variables_calling c)) ys)
 
-  pub all-given : (xs : List Name) (actuals : List Actual) → ArePlaced unit_variables actuals → length xs ≡ length actuals → AreGivenAs program s layout b xs actuals (given (map (passed_actual unit_variables) actuals)) (dummies_for (scope_of program s a) b xs actuals)
+  abbrev one : Name → Actual → Result Dummy Kind
+  one = dummy_for (scope_calling c) b
+
+  abbrev all : List Name → List Actual → Result (List Dummy) Kind
+  all = dummies_for (scope_calling c) b
+
+  pub all-given : (xs : List Name) (actuals : List Actual) → ArePlaced (variables_calling c) actuals → length xs ≡ length actuals → AreGivenAs c.program c.state c.layout b xs actuals (all_given actuals) (all xs actuals)
   all-given [] [] placed e = tt
   all-given (x ∷ xs) (evaluated v ∷ ys) placed e =
-      given-before program s layout b x (evaluated v) xs ys (given_for (cells_in contents) f.first (arrays_at program s a) (passed_actual unit_variables (evaluated v))) (dummy_for (scope_of program s a) b x (evaluated v)) (given (map (passed_actual unit_variables) ys)) (dummies_for (scope_of program s a) b xs ys) (refl, refl) (
-      all-given xs ys placed (omega (arith, e)))
+      given-before c.program c.state c.layout b x (evaluated v) xs ys (given (evaluated v)) (one x (evaluated v)) (all_given ys) (all xs ys) (refl, refl) (all-given xs ys placed (omega (arith, e)))
   all-given (x ∷ xs) (referred r ∷ ys) placed e =
-      given-before program s layout b x (referred r) xs ys (given_for (cells_in contents) f.first (arrays_at program s a) (passed_actual unit_variables (referred r))) (dummy_for (scope_of program s a) b x (referred r)) (given (map (passed_actual unit_variables) ys)) (dummies_for (scope_of program s a) b xs ys)
-      (units-given program s layout b x r _ (dummy_for (scope_of program s a) b x (referred r)) (reference-passed program s layout contents a f calls r.0 r.1 b x placed.0))
+      given-before c.program c.state c.layout b x (referred r) xs ys (given (referred r)) (one x (referred r)) (all_given ys) (all xs ys)
+      (units-given c.program c.state c.layout b x r _ (one x (referred r)) (reference-passed c calls r.0 r.1 b x placed.0))
       (all-given xs ys placed.1 (omega (arith, e)))
   all-given _ _ placed e = absurd (omega (arith, e))

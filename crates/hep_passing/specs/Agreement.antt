@@ -1,37 +1,88 @@
 -- That what is given is what the source machine's dummy arguments stand for: X3.9-1978, 15.9.3, and docs/MACHINE.md, "Binding".
-use Rattle.std.specs.Prelude.{◌≡◌, ◌≢◌, ℕ, ◌≤◌, List, [], ◌∷◌, map, Some, Result, Ok, Err, slice_get}
-use Rattle.hep_machine.specs.Words.{Name, Units, unit_at, Actual, evaluated, referred, Frame, Layout, unit_of, Dummy, State, local}
+use Rattle.std.specs.Prelude.{◌≡◌, ◌≢◌, ℕ, ◌≤◌, List, [], ◌∷◌, ◌++◌, length, map, Some, Result, Ok, Err, slice_get}
+use Rattle.std.specs.List.{flat_map}
+use Rattle.hep_machine.specs.Words.{Name, Statement, Value, Units, unit_at, Actual, evaluated, referred, Frame, Layout, unit_of, Dummy, Scope, State, local, scope_of}
 use Rattle.hep_machine.specs.declared.event.Kind.{Kind}
-use Rattle.hep_machine.specs.declared.slot.Slot.{Slot}
 use Rattle.hep_arena.specs.Gaps.{frame_among}
+use Rattle.hep_arena.specs.Space.{Space}
+use Rattle.hep_code.specs.declared.instruction.Instruction.{Instruction}
+use Rattle.hep_code.specs.declared.instruction.Instruction.TheVariants.{Pass}
 use Rattle.hep_code.specs.declared.variable.Variable.{Variable}
 use Rattle.hep_code.specs.declared.variable.Variable.TheVariants.{Absent}
+use Rattle.hep_code.specs.Words.{Passed, argument_of_actual, operands_of_actual, passed_from}
 use Rattle.hep_layout.specs.Words.{Describes, descriptor_slots, RunsFrom}
 use Rattle.hep_image.specs.declared.array.Array.{Array}
-use Rattle.hep_image.specs.Places.{array_of, arrays_of}
+use Rattle.hep_image.specs.Finding.{cells_in}
+use Rattle.hep_image.specs.Places.{variable_of}
 use Rattle.hep_layout_laws.specs.Bound.{AreClosed, AreKept, IsBound}
-use Rattle.hep_step.specs.Simulation.{RunningTop}
+use Rattle.hep_step.specs.Simulation.{RunningTop, unit_arrays}
 use Rattle.hep_passing.specs.declared.given.Given.{Given}
 use Rattle.hep_passing.specs.declared.given.Given.TheVariants as giving
+use Rattle.hep_passing.specs.Passing.{given_by, passed_at}
 
 -- ---- who calls
 
--- an activation with its frame: the arena says what its dummy arguments and DOs are, and what they stand for is kept
-pub record IsCaller (program : Units) (s : State) (layout : Layout) (contents : List Slot) (a : ℕ) (f : Frame) : Type 0 where
-  pub closed : AreClosed program
-  pub unit : slice_get program (unit_of s a) ≡ Some (unit_at program (unit_of s a))
-  pub framed : frame_among a layout ≡ Some f
-  pub described : Describes program s layout (descriptor_slots program s layout) contents
-  pub bound : IsBound program s a
-  pub kept : AreKept program s layout a
+-- an activation that passes actual arguments: the program, a state of it, where frames are, the arena, the activation, and its frame
+pub record CallerOf : Type 0 where
+  pub program : Units
+  pub state : State
+  pub layout : Layout
+  pub arena : Space
+  pub activation : ℕ
+  pub frame : Frame
 
 -- the top activation of a process
-abbrev pub IsTopCaller : RunningTop → Type 0
-IsTopCaller r = IsCaller r.program r.top.state r.layout r.arena.contents r.top.level.activation r.frame
+abbrev pub caller_running : RunningTop → CallerOf
+caller_running r =
+    record {
+      program = r.program;
+      state = r.top.state;
+      layout = r.layout;
+      arena = r.arena;
+      activation = r.top.level.activation;
+      frame = r.frame;
+    }
 
--- the arrays of its unit
-abbrev pub arrays_at : Units → State → ℕ → List Array
-arrays_at program s a = map (array_of program (unit_at program (unit_of s a))) (arrays_of (unit_at program (unit_of s a)))
+-- its unit, where the unit's variables are found, the unit's arrays, and the storage units of its names
+abbrev pub unit_calling : CallerOf → List Statement
+unit_calling c = unit_at c.program (unit_of c.state c.activation)
+
+abbrev pub variables_calling : CallerOf → Name → Variable
+variables_calling c = variable_of c.program (unit_calling c)
+
+abbrev pub arrays_calling : CallerOf → List Array
+arrays_calling c = unit_arrays c.program (unit_of c.state c.activation)
+
+abbrev pub scope_calling : CallerOf → Scope
+scope_calling c = scope_of c.program c.state c.activation
+
+-- the arena says what its dummy arguments and DOs are, and what they stand for is kept
+pub record IsCaller (c : CallerOf) : Type 0 where
+  pub closed : AreClosed c.program
+  pub unit : slice_get c.program (unit_of c.state c.activation) ≡ Some (unit_calling c)
+  pub framed : frame_among c.activation c.layout ≡ Some c.frame
+  pub described : Describes c.program c.state c.layout (descriptor_slots c.program c.state c.layout) c.arena.contents
+  pub bound : IsBound c.program c.state c.activation
+  pub kept : AreKept c.program c.state c.layout c.activation
+
+-- the top activation of a process is one
+abbrev pub IsTopCaller : RunningTop → Type 0
+IsTopCaller r = IsCaller (caller_running r)
+
+-- ---- what it passes
+
+-- storage units: those of a variable, of a whole array or of the element with these subscripts
+abbrev pub storage_passed : CallerOf → Name → List Value → Result (ℕ × ℕ) Kind
+storage_passed c x subscripts = passed_at (cells_in c.arena.contents) c.frame.first (arrays_calling c) (variables_calling c x) subscripts
+
+-- actual arguments, by the entries behind its operation, which have more instructions behind them, and by its operands
+abbrev pub passed_by_entries : CallerOf → List Actual → List Instruction → List Passed
+passed_by_entries c actuals more =
+    passed_from (length actuals) (map (λ y. Pass (argument_of_actual (variables_calling c) y)) actuals ++ more) (flat_map operands_of_actual actuals)
+
+-- and what is given by what is passed
+abbrev pub given_passed : CallerOf → List Passed → Result (List Given) Kind
+given_passed c = given_by (cells_in c.arena.contents) c.frame.first (arrays_calling c)
 
 -- each variable, array or element among actual arguments has storage units
 abbrev pub ArePlaced : (Name → Variable) → List Actual → Type 0

@@ -14,5 +14,5 @@ pub mod passing;
 pub use entry::Passed;
 pub use given::Given;
 pub use giving::give_actuals;
-pub use making::{FromPassed, make_from_entries};
+pub use making::{AllPassed, FromPassed, make_from_entries};
 pub use passing::passed;

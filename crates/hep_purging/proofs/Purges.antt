@@ -12,14 +12,13 @@ use Rattle.hep_code.specs.Words.{referred_argument, passed_from, passed_referenc
 use Rattle.hep_code.proofs.Leads.{operation_leads}
 use Rattle.hep_code.proofs.Moves.{after_statement_keeps}
 use Rattle.hep_code.proofs.Entries.{references_passed}
-use Rattle.hep_layout.specs.Words.{descriptor_slots}
 use Rattle.hep_layout.proofs.Addresses.{address-out}
 use Rattle.hep_layout.proofs.Memory.{memory-same}
 use Rattle.hep_layout_laws.specs.Within.{ArePlacedArrays}
 use Rattle.hep_layout_laws.proofs.Named.{absent-or}
 use Rattle.hep_image.specs.Finding.{cells_in}
 use Rattle.hep_image.specs.Places.{variable_of}
-use Rattle.hep_passing.specs.Agreement.{IsPassedAs, IsTopCaller}
+use Rattle.hep_passing.specs.Agreement.{IsPassedAs, IsTopCaller, caller_running, storage_passed}
 use Rattle.hep_passing.specs.Passing.{passed_at}
 use Rattle.hep_passing.specs.Ready.{ArePassable}
 use Rattle.hep_passing.proofs.Ready.{variable-passable}
@@ -75,7 +74,7 @@ module _ (r : RunningTop) (line count next : ℕ) (behind : List Instruction) (r
     targets-passable placed = let p = purge_ahead in subst (ArePassable r.arena (arrays_running r) (frame_in_arena r.frame)) (sym (named_so p)) (each p.targets) where
       each : (qs : List Reference) → ArePassable r.arena (arrays_running r) (frame_in_arena r.frame) (map (passed_reference variables) qs)
       each [] = tt
-      each (q ∷ qs) = (variable-passable r.program r.top.state r.layout r.arena.contents r.arena.holes r.top.level.activation r.frame calls running.memory placed q.0 q.1, each qs)
+      each (q ∷ qs) = (variable-passable (caller_running r) calls running.memory placed q.0 q.1, each qs)
 
     units-out : (units : Result (ℕ × ℕ) Kind) (d : Result Dummy Kind) → IsPassedAs r.program r.top.state r.layout units d → AreUnitsOut r.arena.holes units
     units-out (Err k) d h = tt
@@ -86,11 +85,10 @@ module _ (r : RunningTop) (line count next : ℕ) (behind : List Instruction) (r
         let kept = h.run (p - units.0) (omega (arith, rest, from, to)) ∙ ap (λ n. Some n) same in
         subst (IsOut p) (sym running.memory.holes_are) (address-out r.program r.top.state (length r.arena.contents) r.layout _ p running.memory.laid kept).1
 
-    variable-out : (x : Name) (vs : List Value) → AreUnitsOut r.arena.holes (passed_at (cells_in r.arena.contents) r.frame.first (arrays_running r) (variables x) vs)
+    variable-out : (x : Name) (vs : List Value) → AreUnitsOut r.arena.holes (storage_passed (caller_running r) x vs)
     variable-out x vs =
         absent-or (variables x) (λ v. AreUnitsOut r.arena.holes (passed_at (cells_in r.arena.contents) r.frame.first (arrays_running r) v vs)) tt (λ there.
-        units-out (passed_at (cells_in r.arena.contents) r.frame.first (arrays_running r) (variables x) vs) (dummy_for (scope_running r) 0 x (referred (x, vs))) (
-        reference-passed r.program r.top.state r.layout r.arena.contents r.top.level.activation r.frame calls x vs 0 x there))
+        units-out (storage_passed (caller_running r) x vs) (dummy_for (scope_running r) 0 x (referred (x, vs))) (reference-passed (caller_running r) calls x vs 0 x there))
 
     pub targets-out : AreOut r.arena (arrays_running r) (frame_in_arena r.frame) (passed_from count behind r.operands)
     targets-out = let p = purge_ahead in subst (AreOut r.arena (arrays_running r) (frame_in_arena r.frame)) (sym (named_so p)) (each p.targets) where
@@ -100,7 +98,7 @@ module _ (r : RunningTop) (line count next : ℕ) (behind : List Instruction) (r
 
     -- ---- it is done
 
-    purge_done : (p : IsPurgeAhead) (ranges : Result (List ClosedRange) Kind) → AreAllPurged r.program r.top.state r.layout r.arena.contents r.top.level.activation r.frame calls r.arena.holes (descriptor_slots r.program r.top.state r.layout) ranges (store_after_purge (scope_running r) p.targets)
+    purge_done : (p : IsPurgeAhead) (ranges : Result (List ClosedRange) Kind) → AreAllPurged (caller_running r) ranges (store_after_purge (scope_running r) p.targets)
         → Simulates r (effect_of_ranges line next r.arena.contents ranges)
     purge_done p (Err k) h =
         fault_is r running line (Purge count next) behind ahead k (
@@ -125,4 +123,4 @@ module _ (r : RunningTop) (line count next : ℕ) (behind : List Instruction) (r
         let here = targets-placed p.targets p.more behind p.entries (subst (λ n. AreEntriesPlaced n behind) p.counted placed) in
         subst (λ ps. Simulates r (effect_of_purge (arrays_running r) r.frame.first line next ps r.arena.contents)) (sym (named_so p)) (
         purge_done p (ranges_of (cells_in r.arena.contents) r.frame.first (arrays_running r) (map (passed_reference variables) p.targets)) (
-        targets-purged r.program r.top.state r.layout r.arena.contents r.top.level.activation r.frame calls r.arena.holes (descriptor_slots r.program r.top.state r.layout) p.targets here))
+        targets-purged (caller_running r) calls p.targets here))

@@ -1,19 +1,17 @@
 //! Which cells a PURGE empties (`docs/LANGUAGE.md`, 9).
 ghost use Rattle.std.specs.Prelude.{◌≡◌, ◌≤◌, Ok, Err, IfOk, IfErr, vec_capacity};
-ghost use Rattle.hep_code.specs.Words.{passed_from};
-ghost use Rattle.hep_image.specs.Finding.{cells_in};
-ghost use Rattle.hep_passing.specs.Ready.{ArePassable};
+ghost use Rattle.hep_passing.specs.All.{AreAllPassable, all_passed, made_of_all};
 ghost use Rattle.hep_step.specs.Cells.{HasFrame};
 ghost use Rattle.hep_purging.specs.Ranges as definitions;
-ghost use Rattle.hep_purging.specs.Ranges.{range_for, ranges_of};
+ghost use Rattle.hep_purging.specs.Ranges.{range_for};
 ghost use Rattle.hep_purging.specs.Ready.{AreOut, AreReached};
 
 use crate::range::ClosedRange;
 use hep_arena::Arena;
-use hep_code::{Instruction, Variable};
+use hep_code::Variable;
 use hep_image::Array;
 use hep_machine::Kind;
-use hep_passing::{FromPassed, Given, Passed, make_from_entries, passed};
+use hep_passing::{AllPassed, FromPassed, Given, Passed, make_from_entries, passed};
 use hep_source::Value;
 use hep_step::Frame;
 
@@ -57,33 +55,23 @@ impl FromPassed for ClosedRange {
     }
 }
 
-/// The cells that a PURGE empties, from left to right, by so many entries behind it and by its operands. There is room for
-/// the ranges, so that no memory is taken. What was there before is gone.
+/// The cells that a PURGE empties, from left to right, by all that is passed. There is room for the ranges, so that no memory
+/// is taken. What was there before is gone.
 ///
 /// # Errors
 ///
 /// `Range` where an element that is to be purged isn't there, and where a scalar has subscripts.
 #[tactic(auto, using(crate::proofs::Reached::ranges_reached))]
-pub fn find_ranges(
-    entries: &[Instruction],
-    count: usize,
-    operands: &[Value],
-    arrays: &[Array],
-    arena: &Arena,
-    frame: Frame,
-    ranges: &mut Vec<ClosedRange>,
-) -> Result<(), Kind>
-    requires frame { HasFrame arena.now frame }
+pub fn find_ranges(all: &AllPassed<'_>, ranges: &mut Vec<ClosedRange>) -> Result<(), Kind>
+    requires frame { HasFrame all.now.arena.now all.now.frame }
     // Where an activation purges, these two are so: `laws::purges_are_ready`.
-    requires passable { ArePassable arena.now arrays.now frame (passed_from count entries.now operands.now) }
-    requires out { AreOut arena.now arrays.now frame (passed_from count entries.now operands.now) }
-    requires room { count ≤ vec_capacity ranges.old }
-    ensures ranges { IfOk result (λ _. ranges_of (cells_in arena.now.contents) frame.first arrays.now
-        (passed_from count entries.now operands.now) ≡ Ok ranges.new.items) }
-    ensures fault { IfErr result (λ kind. ranges_of (cells_in arena.now.contents) frame.first arrays.now
-        (passed_from count entries.now operands.now) ≡ Err kind) }
-    ensures reached { IfOk result (λ _. AreReached arena.now ranges.new.items) }
+    requires passable { AreAllPassable all.now }
+    requires out { AreOut all.now.arena.now all.now.arrays.now all.now.frame (all_passed all.now) }
+    requires room { all.now.count ≤ vec_capacity ranges.old }
+    ensures ranges { IfOk result (λ _. made_of_all range_for all.now ≡ Ok ranges.new.items) }
+    ensures fault { IfErr result (λ kind. made_of_all range_for all.now ≡ Err kind) }
+    ensures reached { IfOk result (λ _. AreReached all.now.arena.now ranges.new.items) }
     ensures capacity { vec_capacity ranges.old ≤ vec_capacity ranges.new }
 {
-    make_from_entries(entries, count, operands, arrays, arena, frame, ranges)
+    make_from_entries(all, ranges)
 }

@@ -4,8 +4,8 @@ ghost use Rattle.hep_runs.specs.Spread.{agree_as_far};
 ghost use Rattle.hep_runs.specs.Runs as places;
 ghost use Rattle.hep_runs.specs.Runs.{positions_in, alike};
 
+use hep_conditions::types::same_declared;
 use hep_source::ValueType;
-use hep_types::types::same_declared;
 
 /// What a place of a list has: whether its name is asynchronous, and its type; none where it is real.
 #[derive(Clone, Copy, Debug, PartialEq, Eq)]

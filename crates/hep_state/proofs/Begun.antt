@@ -1,28 +1,29 @@
 -- What a core keeps after a CALL or CREATE shows the state then; the activation that it makes, and whether its frame has a gap.
-use Rattle.std.proofs.Common.{◌≡◌, ◌⊎◌, inl, inr, ℕ, zero, suc, ◌+◌, ◌≤◌, Bool, true, false, List, [], ◌∷◌, ◌++◌, length, Some, refl, sym, ap, ◌∙◌, subst, arith, Option, None, if◌then◌else◌, nat_eq, slice_get, is_some, IsSome, eqb-true, eq-eqb, length-append, length-set}
+use Rattle.std.proofs.Common.{◌≡◌, ◌⊎◌, inl, inr, ℕ, zero, suc, ◌+◌, ◌≤◌, Bool, true, false, List, [], ◌∷◌, ◌++◌, length, Some, refl, sym, ap, ◌∙◌, subst, arith, Option, None, if◌then◌else◌, nat_eq, slice_get, is_some, IsSome, eqb-true, length-append, length-set}
 use Rattle.std.proofs.lemmas.Option.{same_Some, none-some, slice_get_within}
-use Rattle.hep_machine.specs.Words.{Units, executable_from, unit_at, Binding, level_after_statement, Layout, frame_of, is_held, layout_of, common_cells, lowest_gap, remaining_layout, with_frame, numbered, unit_of, with_numbered, activation_of, living, Activation, Process, State, Actual, Scope, Bounds, frame_cells}
-use Rattle.hep_machine.specs.State.{Level as SourceLevel}
+use Rattle.hep_machine.specs.Words.{Units, executable_from, unit_at, Binding, level_after_statement, Layout, frame_of, is_held, layout_of, common_cells, lowest_gap, remaining_layout, with_frame, numbered, unit_of, with_numbered, activation_of, Activation, Process, State, Actual, Scope, Bounds, frame_cells}
 use Rattle.hep_arena.specs.Space.{Space}
 use Rattle.hep_code.specs.Words.{Stands}
 use Rattle.hep_code.proofs.Moves.{StandsAt, after_statement_stands, entry_stands}
 use Rattle.hep_layout_laws.specs.Bound.{AreKept}
-use Rattle.hep_layout.specs.Words.{descriptor_slots, FrameNode, Nodes, also, is_stacked, new_node, frame_from}
-use Rattle.hep_layout.proofs.Memory.{activation-last, memory-fits}
-use Rattle.hep_frames.specs.Keeping.{AreOfSomeState as ArenaKept, frames_in, frames_begun}
+use Rattle.hep_layout.specs.Words.{FrameNode, Nodes, also, is_stacked, new_node, frame_from}
+use Rattle.hep_layout.proofs.Memory.{memory-fits}
+use Rattle.hep_frames.specs.Keeping.{AreOfSomeState as ArenaKept}
 use Rattle.hep_step.specs.Simulation.{unit_addressed}
-use Rattle.hep_state.specs.Words.{Snapshot, Stack, IsTurning, TurnOf, state_before, state_failed, HasMadeTurn, HasGaps, HasNoGap, HasEntered, IsAfterCall, entered_level, snapshot_called, snapshot_created, state_made, IsMaking, IsUnit, IsEnding}
+use Rattle.hep_state.specs.Words.{Snapshot, Stack, IsTurning, TurnOf, call_in, frames_before, state_before, state_failed, HasMadeTurn, HasGaps, HasNoGap, HasEntered, IsAfterCall, entered_level, snapshot_made_by, stacks_made_by, state_made, IsMaking, IsUnit, IsEnding}
 use Rattle.hep_state.proofs.Leaving.{kept-entered}
 use Rattle.hep_state.proofs.Standing.{AreOn, AreMade, AreStanding, AreStandingBelow, IsHere, StandsOnTop, below-still, here-at, here-still, made-more}
 use Rattle.hep_state.proofs.Moved.{standing-before}
 use Rattle.hep_state.proofs.Runs.{layout-more, all-remain, standing-changed, stepped-after, layout-left}
-use Rattle.hep_entering.specs.Calling.{IsKeptIn, called_activation, layout_with, state_called, state_created, ArePassed, IsWritten, unit_begun}
-use Rattle.hep_entering.proofs.Calls.{after, after-keeps, called-keeps, called-stacks, created-keeps, created-stacks, entry, entry-number}
+use Rattle.hep_entering.specs.Calling.{AreActualsPassed, CallOf, IsKeptIn, called_activation, frames_with, layout_with, level_behind, level_called, state_begun, state_called, state_created, state_made_by, IsWritten, unit_begun}
+use Rattle.hep_entering.proofs.Begun.{long, unit-is}
+use Rattle.hep_entering.proofs.Calls.{behind-keeps, entry-number, made-begun, made-stacks}
+use Rattle.hep_entering.proofs.Entered.{made-keeps}
 use Rattle.hep_entering.proofs.Nodes.{node-new, node-stays}
 use Rattle.hep_arena.specs.Holes.{first_fit}
 use Rattle.hep_passing.specs.declared.given.Given.{Given}
 use Rattle.hep_entering.specs.Shapes.{AreShaping, IsFramedBy, cells_of_shapes, cells_to_locals}
-use Rattle.hep_entering.specs.Writing.{wanted_up_to}
+use Rattle.hep_entering.specs.Writing.{written_up_to}
 use Rattle.hep_entering.proofs.Shaped.{shapes-last}
 use Rattle.std.specs.Option.{option_map}
 use Rattle.hep_machine.specs.declared.event.Kind.{Kind}
@@ -45,35 +46,40 @@ numbered-within : {A : Type 0} (xs : List A) (j : ℕ) (z : A) → numbered xs j
 numbered-within xs zero z e = omega arith
 numbered-within xs (suc j) z e = omega (arith, slice_get_within xs j z e)
 
-module _ {t : TurnOf} (h : IsTurning t) (u : ℕ) (b : Binding) where
+module _ {t : TurnOf} (h : IsTurning t) (u : ℕ) (actuals : List Actual) (b : Binding) where
+  abbrev call : CallOf
+  call = call_in t u actuals b
+
   abbrev old : State
   old = state_before t
-
-  abbrev x : Activation
-  x = called_activation u t.top b
-
-  abbrev first-level : SourceLevel
-  first-level = entry t.program t.choices t.process t.top u b h.lives
 
   abbrev layout : Layout
   layout = h.after.layout
 
-  -- ---- in a state with one activation more
+  -- ---- in the state to which a CALL or CREATE leads
 
-  module _ (later : State) (more : later.activations ≡ old.activations ++ x ∷ []) (key : ℕ) (arena : Space) (nodes : Nodes) (e : HasEntered t h u key later arena nodes)
-      (keeps : IsKeptIn t.program later layout e.first (is_held old) arena nodes) where
+  module _ (creates : Bool) (key : ℕ) (arena : Space) (nodes : Nodes) (e : HasEntered t h u key (state_made_by creates (call_in t u actuals b)) arena nodes) where
+    abbrev later : State
+    later = state_made_by creates call
+
     abbrev n : ℕ
     n = length later.activations
 
     abbrev now : Layout
     now = layout_with t.program later layout e.first
 
-    long : length later.activations ≡ suc (length old.activations)
-    long = ap (λ (xs : List Activation). length xs) more ∙ length-append old.activations (x ∷ []) ∙ omega arith
+    begun : later.activations ≡ (state_begun call).activations
+    begun = made-begun creates call
+
+    number : n ≡ suc (length old.activations)
+    number = long call later begun
+
+    keeps : IsKeptIn (frames_before t h) later e.first arena nodes
+    keeps = made-keeps creates call h.lives layout e.first (length t.machine.arena.contents) h.after.shows.keeps.memory.laid (is_held old) arena nodes e.written
 
     laid : layout_of t.program t.cells is_held (t.choices ++ t.process ∷ []) ≡ Some now
     laid =
-        layout-more t.program t.cells t.choices t.process layout later (Some e.first) h.after.laid e.made long e.gap
+        layout-more t.program t.cells t.choices t.process layout later (Some e.first) h.after.laid e.made number e.gap
         ∙ all-remain t later e.made now (also n (is_held old)) arena nodes keeps
 
     stay : (k : ℕ) (q : FrameNode) → t.machine.nodes k ≡ Some q → is_stacked later q.activation ≡ true → (r : FrameNode) × (nodes k ≡ Some r) × (r.activation ≡ q.activation)
@@ -82,12 +88,12 @@ module _ {t : TurnOf} (h : IsTurning t) (u : ℕ) (b : Binding) where
         (kept.0, ap (λ (z : Nodes). z k) e.nodes_are ∙ kept.1, kept.2)
 
     made : AreMade old later
-    made = made-more old later x more
+    made = made-more old later (called_activation call) begun
 
     -- the new activation
-    new-stands : (level : SourceLevel) → level.activation ≡ length later.activations → Stands (unit_addressed t.program u) level.statement level.work [] (entered_level t.program u key).index → StandsOnTop t.program later nodes [] (entered_level t.program u key) level
-    new-stands level is stands =
-        let unit_is : unit_of later n ≡ u = ap (unit_of later) long ∙ ap (λ (z : Activation). z.unit) (activation-last old later x more) in
+    new-stands : StandsOnTop t.program later nodes [] (entered_level t.program u key) (level_called call)
+    new-stands =
+        let is = entry-number call ∙ ap (λ (xs : List Activation). length xs) (sym begun) in
         record {
           here =
               record {
@@ -95,10 +101,10 @@ module _ {t : TurnOf} (h : IsTurning t) (u : ℕ) (b : Binding) where
                 node = new_node n u e.first (frame_of t.program later n) t.level.key;
                 there = ap (λ (z : Nodes). z key) e.nodes_are ∙ node-new t.machine.nodes key (new_node n u e.first (frame_of t.program later n) t.level.key) t.level.key;
                 activation = is;
-                made = (omega (arith, is, long), omega (arith, is));
-                unit = ap (unit_of later) is ∙ unit_is;
+                made = (omega (arith, is, number), omega (arith, is));
+                unit = ap (unit_of later) is ∙ unit-is call later begun;
               };
-          stands = stands;
+          stands = entry_stands (unit_addressed t.program u) (level_called call) (executable_from (unit_at t.program u) 0);
         }
 
     -- the one that made it
@@ -129,115 +135,66 @@ module _ {t : TurnOf} (h : IsTurning t) (u : ℕ) (b : Binding) where
           by_places (inr f) (inr g) = subst (λ (z : Stack). AreStanding t.program later nodes z.operands z.levels r) f.1 (subst (λ z. AreStanding t.program later nodes last.operands last.levels z) g.1 new)
 
     -- what the dummy arguments of each activation stand for, that of the new one and of those that were there
-    kept-then : ((a : ℕ) → is_stacked later a ≡ also n (is_stacked old) a) → (a : ℕ) → is_stacked later a ≡ true → AreKept t.program later now a
-    kept-then stacks a on = by_number (nat_eq a n) refl (sym (stacks a) ∙ on) where
+    kept-then : (a : ℕ) → is_stacked later a ≡ true → AreKept t.program later now a
+    kept-then a on = by_number (nat_eq a n) refl (sym (made-stacks call h.lives creates a) ∙ on) where
       by_number : (c : Bool) → nat_eq a n ≡ c → (if c then true else is_stacked old a) ≡ true → AreKept t.program later now a
       by_number true is on = subst (AreKept t.program later now) (sym (eqb-true a n is)) e.kept
       by_number false is on =
           let s = h.after.shows in
-          kept-entered t.program old later x layout (length t.machine.arena.contents) e.first a s.keeps.memory.laid more (s.keeps.tree.made a (s.keeps.tree.stacked a on)).1 (s.kept a on)
+          kept-entered t.program old later (called_activation call) layout (length t.machine.arena.contents) e.first a s.keeps.memory.laid begun (s.keeps.tree.made a (s.keeps.tree.stacked a on)).1 (s.kept a on)
 
-    shown : (processes : List Stack) → ((a : ℕ) → is_stacked later a ≡ also n (is_stacked old) a) → length processes ≡ length later.processes
+    shown : (processes : List Stack) → length processes ≡ length later.processes
         → ((i : ℕ) (k : Stack) (q : Process) → numbered processes i ≡ Some k → numbered later.processes i ≡ Some q → AreOn later q → AreStanding t.program later nodes k.operands k.levels q)
         → later.records ≡ old.records → later.faults ≡ old.faults → later.halted ≡ old.halted → HasMadeTurn t (record t.machine { arena = arena; nodes = nodes; processes = processes; activations = t.machine.activations + 1 })
-    shown processes on_stacks count standing records faults halted =
+    shown processes count standing records faults halted =
         let s = h.after.shows in
         let new : Snapshot = record t.machine { arena = arena; nodes = nodes; processes = processes; activations = t.machine.activations + 1 } in
-        let made_so_far : t.machine.activations + 1 ≡ length later.activations = omega (arith, s.activations, long) in
-        stepped-after t later e.made new now (also n (is_held old)) keeps (kept-then on_stacks) count standing laid e.size made_so_far (s.records ∙ sym records) (s.faults ∙ sym faults) (s.halted ∙ sym halted)
+        let made_so_far : t.machine.activations + 1 ≡ length later.activations = omega (arith, s.activations, number) in
+        stepped-after t later e.made new now (also n (is_held old)) keeps kept-then count standing laid e.size made_so_far (s.records ∙ sym records) (s.faults ∙ sym faults) (s.halted ∙ sym halted)
 
-  -- ---- CALL
+  -- as many processes have stacks, once that of the turn has another one
+  set-many : (k : Stack) (q : Process) → length (with_numbered t.machine.processes t.process k) ≡ length (with_numbered (state_before t).processes t.process q)
+  set-many k q = length-set t.machine.processes _ k ∙ (h.after.shows.processes ∙ sym (length-set old.processes _ q))
 
-  pub called-shown : (key index : ℕ) (arena : Space) (nodes : Nodes) → HasEntered t h u key (state_called t.program t.choices t.process t.top u b) arena nodes → IsAfterCall t index
-      → HasMadeTurn t (snapshot_called t u key index arena nodes)
-  called-shown key index arena nodes e at =
-      let later = state_called t.program t.choices t.process t.top u b in
-      let keeps = called-keeps t.program t.choices t.process t.top u b h.lives layout e.first (length t.machine.arena.contents) h.after.shows.keeps.memory.laid (is_held old) arena nodes e.written in
+  -- the new one is on top of its caller, or a process of its own
+  pub made-shown : (creates : Bool) (key index : ℕ) (arena : Space) (nodes : Nodes) → HasEntered t h u key (state_made_by creates (call_in t u actuals b)) arena nodes → IsAfterCall t index
+      → HasMadeTurn t (snapshot_made_by creates t u key index arena nodes)
+  made-shown false key index arena nodes e at =
+      let later = state_called call in
       let k : Stack = record { levels = entered_level t.program u key ∷ (record t.level { index = index } ∷ t.below); operands = [] } in
-      let q : Process = first-level ∷ (t.top.0 ∷ t.top.1) in
-      let count : length (with_numbered t.machine.processes t.process k) ≡ length (with_numbered old.processes t.process q) = length-set t.machine.processes _ k ∙ (h.after.shows.processes ∙ sym (length-set old.processes _ q)) in
+      let q : Process = level_called call ∷ (t.top.0 ∷ t.top.1) in
       let own : AreOn later q → AreStanding t.program later nodes [] k.levels q =
-      λ on. (
-        new-stands later refl key arena nodes e keeps first-level (entry-number t.program t.choices t.process t.top u b h.lives) (entry_stands (unit_addressed t.program u) first-level (executable_from (unit_at t.program u) 0)),
-        (record { here = maker-here later refl key arena nodes e keeps index t.top.0.activation refl on.2.1; index = at }, below-stand later refl key arena nodes e keeps on.2.2),
-      ) in
-      shown later refl key arena nodes e keeps (with_numbered t.machine.processes t.process k) (called-stacks t.program t.choices t.process t.top u b h.lives) count (all-stand later refl key arena nodes e keeps k q own) refl refl refl
-
-  -- ---- CREATE
-
-  pub created-shown : (key index : ℕ) (arena : Space) (nodes : Nodes) → HasEntered t h u key (state_created t.program t.choices t.process t.top u b) arena nodes → IsAfterCall t index
-      → HasMadeTurn t (snapshot_created t u key index arena nodes)
-  created-shown key index arena nodes e at =
-      let later = state_created t.program t.choices t.process t.top u b in
-      let keeps = created-keeps t.program t.choices t.process t.top u b h.lives layout e.first (length t.machine.arena.contents) h.after.shows.keeps.memory.laid (is_held old) arena nodes e.written in
+      λ on. (new-stands false key arena nodes e, (record { here = maker-here false key arena nodes e index t.top.0.activation refl on.2.1; index = at }, below-stand false key arena nodes e on.2.2)) in
+      shown false key arena nodes e (stacks_made_by false t (entered_level t.program u key) (record t.level { index = index })) (set-many k q) (all-stand false key arena nodes e k q own) refl refl refl
+  made-shown true key index arena nodes e at =
+      let later = state_created call in
       let k : Stack = record { levels = record t.level { index = index } ∷ t.below; operands = [] } in
-      let q : Process = after t.program t.choices t.process t.top u b h.lives ∷ t.top.1 in
+      let q : Process = level_behind call ∷ t.top.1 in
       let k2 : Stack = record { levels = entered_level t.program u key ∷ []; operands = [] } in
-      let q2 : Process = first-level ∷ [] in
-      let set : length (with_numbered t.machine.processes t.process k) ≡ length (with_numbered old.processes t.process q) = length-set t.machine.processes _ k ∙ (h.after.shows.processes ∙ sym (length-set old.processes _ q)) in
+      let q2 : Process = level_called call ∷ [] in
       let count : length (with_numbered t.machine.processes t.process k ++ k2 ∷ []) ≡ length (with_numbered old.processes t.process q ++ q2 ∷ []) =
-      length-append (with_numbered t.machine.processes t.process k) (k2 ∷ []) ∙ (ap (λ z. z + 1) set ∙ sym (length-append (with_numbered old.processes t.process q) (q2 ∷ []))) in
+      length-append (with_numbered t.machine.processes t.process k) (k2 ∷ []) ∙ (ap (λ z. z + 1) (set-many k q) ∙ sym (length-append (with_numbered old.processes t.process q) (q2 ∷ []))) in
       let addressed = unit_addressed t.program t.level.unit in
       let unit_is = (standing-before h).0.here.unit in
       let own : AreOn later q → AreStanding t.program later nodes [] k.levels q =
       λ on. (
         record {
-          here = maker-here later refl key arena nodes e keeps index (after t.program t.choices t.process t.top u b h.lives).activation (after-keeps t.program t.choices t.process t.top u b h.lives).1 on.1;
+          here = maker-here true key arena nodes e index (level_behind call).activation (behind-keeps call).1 on.1;
           stands =
               subst (λ v. Stands addressed (level_after_statement (unit_at t.program v) t.top.0).statement (level_after_statement (unit_at t.program v) t.top.0).work [] index) (sym unit_is) (
               subst (StandsAt addressed (level_after_statement (unit_at t.program t.level.unit) t.top.0)) (sym at) (after_statement_stands addressed t.top.0));
         },
-        below-stand later refl key arena nodes e keeps on.2,
+        below-stand true key arena nodes e on.2,
       ) in
-      let newest : AreStanding t.program later nodes [] k2.levels q2 = (
-        new-stands later refl key arena nodes e keeps first-level (entry-number t.program t.choices t.process t.top u b h.lives) (entry_stands (unit_addressed t.program u) first-level (executable_from (unit_at t.program u) 0)),
-        tt,
-      ) in
-      shown later refl key arena nodes e keeps (with_numbered t.machine.processes t.process k ++ k2 ∷ []) (created-stacks t.program t.choices t.process t.top u b h.lives) count (more-stand later refl key arena nodes e keeps k k2 q q2 set own newest) refl refl refl
+      shown true key arena nodes e (stacks_made_by true t (entered_level t.program u key) (record t.level { index = index })) count (more-stand true key arena nodes e k k2 q q2 (set-many k q) own (new-stands true key arena nodes e, tt)) refl refl refl
 
 -- ---- the activation that is made, and what it is given
 
 -- as many are given as are passed
-pub passed-many : (program : Units) (s : State) (frames : Layout) (scope : Scope) (ys : List Actual) (gs : List Given) → ArePassed program s frames scope ys gs → length gs ≡ length ys
+pub passed-many : (program : Units) (s : State) (frames : Layout) (scope : Scope) (ys : List Actual) (gs : List Given) → AreActualsPassed program s frames scope ys gs → length gs ≡ length ys
 passed-many program s frames scope [] [] h = refl
 passed-many program s frames scope (y ∷ ys) (g ∷ gs) h = ap suc (passed-many program s frames scope ys gs h.1)
 passed-many program s frames scope _ _ h = absurd h
-
--- ---- the state to which a CALL or CREATE leads
-
--- what holds of it after both
-pub of-made : (creates : Bool) (t : TurnOf) (u : ℕ) (b : Binding) (P : State → Type 0) → P (state_called t.program t.choices t.process t.top u b) → P (state_created t.program t.choices t.process t.top u b) → P (state_made creates t u b)
-of-made false t u b P called created = called
-of-made true t u b P called created = created
-
-module _ (creates : Bool) (t : TurnOf) (u : ℕ) (b : Binding) where
-  abbrev reached : State
-  reached = state_made creates t u b
-
-  -- it has one activation more
-  pub made-begun : reached.activations ≡ (state_before t).activations ++ called_activation u t.top b ∷ []
-  made-begun = of-made creates t u b (λ s. s.activations ≡ (state_before t).activations ++ called_activation u t.top b ∷ []) refl refl
-
-  pub made-number : length reached.activations ≡ length (state_before t).activations + 1
-  made-number = ap length made-begun ∙ (length-append (state_before t).activations (called_activation u t.top b ∷ []) ∙ omega arith)
-
-  made-last : activation_of reached (length reached.activations) ≡ called_activation u t.top b
-  made-last =
-      let number : length reached.activations ≡ suc (length (state_before t).activations) = omega (arith, made-number) in
-      ap (activation_of reached) number ∙ activation-last (state_before t) reached (called_activation u t.top b) made-begun
-
-  pub made-unit : unit_of reached (length reached.activations) ≡ u
-  made-unit = ap (λ (x : Activation). x.unit) made-last
-
-  pub made-dummies : (activation_of reached (length reached.activations)).dummies ≡ b.dummies
-  made-dummies = ap (λ (x : Activation). x.dummies) made-last
-
-  -- which is on a stack
-  pub made-stacked : living (state_before t) t.process ≡ Some t.top → is_stacked reached (length reached.activations) ≡ true
-  made-stacked lives =
-      let n = length reached.activations in
-      of-made creates t u b (λ s. is_stacked s n ≡ also (length s.activations) (is_stacked (state_before t)) n) (called-stacks t.program t.choices t.process t.top u b lives n) (created-stacks t.program t.choices t.process t.top u b lives n)
-      ∙ ap (λ c. if c then true else is_stacked (state_before t) n) (eq-eqb n n refl)
 
 -- ---- its frame, with the cells of its dummy arguments written
 
@@ -246,7 +203,7 @@ pub record IsBegunIn (t : TurnOf) (turning : IsTurning t) (later : State) (n key
   pub node : FrameNode
   pub fit : first_fit n t.machine.arena.holes ≡ Some first
   pub gap : lowest_gap (length t.machine.arena.contents) n (common_cells t.program) turning.after.layout ≡ Some first
-  pub written : IsWritten t.program (state_before t) later turning.after.layout first (cells_to_locals (unit_begun t.program later)) (is_held (state_before t)) arena nodes
+  pub written : IsWritten (frames_before t turning) later first (cells_to_locals (unit_begun t.program later)) arena nodes
   pub there : nodes key ≡ Some node
   pub framed : IsFramedBy t.program later (layout_with t.program later turning.after.layout first) (length later.activations) node
   pub shaping : AreShaping t.program later (length later.activations) shapes
@@ -260,17 +217,16 @@ module _ {t : TurnOf} {turning : IsTurning t} {later : State} {n key : ℕ} {sha
       omega (arith, same, h.framed.sized, shapes-last (unit_at t.program (unit_of later a)) (activation_of later a).dummies shapes h.shaping.shapes_are)
 
   pub begun-kept : ArenaKept arena nodes
-  begun-kept =
-      let a = length later.activations in
-      let s = state_before t in
-      let wanted = wanted_up_to t.program later (layout_with t.program later turning.after.layout h.first) a (cells_to_locals (unit_begun t.program later)) (descriptor_slots t.program s turning.after.layout) in
-      (record (frames_begun (frames_in t.program s (is_held s) turning.after.layout) later h.first) { wanted = wanted }, h.written)
+  begun-kept = (written_up_to (frames_with (frames_before t turning) later h.first) (length later.activations) (cells_to_locals (unit_begun t.program later)), h.written)
 
 -- ---- whether its frame has a gap
 
 module _ {creates : Bool} {t : TurnOf} {u n entry index : ℕ} {given : List Given} {shapes : List (Option Bounds)} (h : IsMaking creates t u index given shapes) (unit : IsUnit t.program u n entry) where
   abbrev called : State
-  called = state_made creates t u h.binding
+  called = state_made h
+
+  abbrev calling : CallOf
+  calling = call_in t u h.actuals h.binding
 
   abbrev laid-out : Layout
   laid-out = h.turning.after.layout
@@ -278,13 +234,13 @@ module _ {creates : Bool} {t : TurnOf} {u n entry index : ℕ} {given : List Giv
   -- the gaps of the arena are those of the layout
   gap-is : first_fit n t.machine.arena.holes ≡ lowest_gap t.cells (frame_of t.program called (length called.activations)) (common_cells t.program) laid-out
   gap-is =
-      let size : n ≡ frame_of t.program called (length called.activations) = unit.cells_are ∙ ap (λ v. frame_cells (unit_at t.program v)) (sym (made-unit creates t u h.binding)) in
+      let size : n ≡ frame_of t.program called (length called.activations) = unit.cells_are ∙ ap (λ v. frame_cells (unit_at t.program v)) (sym (unit-is calling called (made-begun creates calling))) in
       memory-fits t.program (state_before t) laid-out t.machine.arena.contents t.machine.arena.holes n h.turning.after.shows.keeps.memory (omega (arith, unit.cells_are))
       ∙ (λ i. lowest_gap (h.turning.after.size i) (size i) (common_cells t.program) laid-out)
 
   laid-by : (gap : Option ℕ) → first_fit n t.machine.arena.holes ≡ gap
       → layout_of t.program t.cells is_held (t.choices ++ t.process ∷ []) ≡ option_map (remaining_layout is_held called) (option_map (λ first. with_frame laid-out (frame_from t.program called (length called.activations) first)) gap)
-  laid-by gap e = layout-more t.program t.cells t.choices t.process laid-out called gap h.turning.after.laid h.made (omega (arith, made-number creates t u h.binding)) (sym gap-is ∙ e)
+  laid-by gap e = layout-more t.program t.cells t.choices t.process laid-out called gap h.turning.after.laid h.made (long calling called (made-begun creates calling)) (sym gap-is ∙ e)
 
   pub called-no-gap : first_fit n t.machine.arena.holes ≡ None → HasNoGap t.program t.cells t.choices t.process
   called-no-gap none = record { stepped = λ e. none-some called (sym e ∙ h.made); full = laid-by None none }

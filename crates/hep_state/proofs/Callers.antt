@@ -1,24 +1,22 @@
 -- What a process calls whose top activation is at a CALL, what its actual arguments give and bind, and what a machine reads of it there.
-use Rattle.std.proofs.Common.{◌≡◌, ℕ, ◌<◌, List, ◌∷◌, ◌++◌, drop, length, map, sym, ap, ◌∙◌, subst, ◌≢◌, suc, Bool, false, [], Option, Some, None, Result, Ok, Err, refl, arith, ◌-◌, get_or, slice_get}
-use Rattle.std.specs.List.{flat_map}
-use Rattle.hep_machine.specs.Words.{Name, Units, dummies_of, unit_at, unit_of, State, Dummy, Top, binding_of, next_activation, scope_of, step, unit_called, Statement, Value, Binding, binding_with_shapes, dummies_for, dummy_before, dummy_for, with_actuals, Actual, Reference, does, evaluated, next_of, referred, Frame, Layout, Scope, Bounds}
+use Rattle.std.proofs.Common.{◌≡◌, ℕ, ◌<◌, List, ◌∷◌, drop, length, sym, ap, ◌∙◌, subst, ◌≢◌, suc, Bool, false, [], Option, Some, None, Result, Ok, Err, refl, arith, ◌-◌, get_or, slice_get}
+use Rattle.hep_machine.specs.Words.{Name, Units, dummies_of, unit_at, unit_of, State, Dummy, Top, binding_of, next_activation, scope_of, step, unit_called, unit_on_top, Statement, Value, Binding, binding_with_shapes, dummies_for, dummy_before, dummy_for, with_actuals, Actual, Reference, does, evaluated, next_of, referred, Frame, Layout, Scope, Bounds}
 use Rattle.hep_code.specs.declared.instruction.Operation.{Operation}
-use Rattle.hep_code.specs.declared.instruction.Instruction.TheVariants.{Pass, Step}
+use Rattle.hep_code.specs.declared.instruction.Instruction.TheVariants.{Step}
 use Rattle.hep_code.specs.declared.variable.Variable.{Variable}
-use Rattle.hep_code.specs.Words.{table_of, argument_of_actual, operands_of_actual, Passed, passed_from}
+use Rattle.hep_code.specs.Words.{table_of, Passed, passed_from}
 use Rattle.hep_image.specs.declared.array.Array.{Array}
 use Rattle.hep_image.specs.Places.{variable_of}
-use Rattle.hep_passing.specs.Agreement.{IsCaller, arrays_at, AreGiven, AreGivenAs, ArePlaced, IsGiven}
+use Rattle.hep_passing.specs.Agreement.{CallerOf, IsCaller, AreGiven, AreGivenAs, ArePlaced, IsGiven, arrays_calling, caller_running, given_passed, passed_by_entries, scope_calling, variables_calling}
 use Rattle.hep_step.specs.Calls.{IsCallAhead, made_by, making}
 use Rattle.hep_step.specs.Simulation.{IsRunning, code_on_top, unit_addressed, unit_arrays, unit_code, Simulates, RunningTop, code_ahead}
 use Rattle.hep_code_laws.specs.Works.{IsCalledBy}
 use Rattle.hep_state.specs.declared.upcoming.CallAhead.{CallAhead}
-use Rattle.hep_state.specs.Words.{HoldsInTurn, IsAtCall, IsAtStep, IsTopRunning, TurnOf, given_of, AreRunning, IsKnown, snapshot_of, stack_of, state_before, top_before, top_frame, turn_of, IsMaking, state_made, IsEnding, IsBehind, stack_with, IsThere, running_top}
+use Rattle.hep_state.specs.Words.{HoldsInTurn, IsAtCall, IsAtStep, IsTopRunning, TurnOf, given_of, AreRunning, IsKnown, snapshot_of, stack_of, state_before, top_before, top_frame, turn_of, IsMaking, call_in, IsEnding, IsBehind, stack_with, IsThere, running_top}
 use Rattle.hep_state.proofs.Standing.{are-on}
 use Rattle.hep_state.proofs.Moved.{standing-before, unit-is, top-node}
 use Rattle.hep_state.proofs.Runs.{there}
 use Rattle.hep_machine.specs.declared.event.Kind.{Kind}
-use Rattle.hep_machine.specs.declared.slot.Slot.{Slot}
 use Rattle.hep_arena.specs.Gaps.{frame_among}
 use Rattle.hep_code.specs.declared.instruction.Instruction.{Instruction}
 use Rattle.hep_code.specs.declared.variable.Variable.TheVariants.{Absent}
@@ -30,7 +28,7 @@ use Rattle.hep_passing.specs.Passing.{given_by}
 use Rattle.hep_passing.specs.Shapes.{AreShapesOf}
 use Rattle.hep_step.specs.Effects.{fails}
 use Rattle.hep_code_laws.specs.Actuals.{FitsDummy, IsVariableOf}
-use Rattle.hep_entering.specs.Calling.{ArePassed, IsPassed, IsPassing}
+use Rattle.hep_entering.specs.Calling.{AreActualsPassed, CallOf, IsPassed, IsPassing, caller, state_before_call, state_made_by}
 use Rattle.hep_entering.specs.Giving.{AreDistinct}
 use Rattle.hep_state.proofs.Tops.{there-too, dropped-first}
 use Rattle.std.proofs.lemmas.Option.{slice_get_within}
@@ -50,12 +48,15 @@ module _ {t : TurnOf} {line : ℕ} {o : Operation} (at : IsAtStep t line o) wher
   pub ahead-on-top : drop t.level.index (code_on_top t.program (top_before t)) ≡ Step line o ∷ at.behind
   ahead-on-top = ap (λ u. drop t.level.index (unit_code t.program u)) (unit-is at.turning) ∙ at.ahead
 
+  -- the caller
+  abbrev pub caller_at : CallerOf
+  caller_at = caller_running (running_top t at.turning)
+
   module _ (known : AreRunning t.program) where
     pub runs : IsTopRunning t at.turning
     runs = known.running t refl at.turning
 
-    -- the caller
-    pub calls-so : IsCaller t.program (state_before t) at.turning.after.layout t.machine.arena.contents t.top.0.activation (top_frame t)
+    pub calls-so : IsCaller caller_at
     calls-so =
         let made = (standing-before at.turning).0.here.made in
         let stacked = (are-on t.program t.choices t.process (t.top.0 ∷ t.top.1) (there at.turning)).1 in
@@ -73,9 +74,6 @@ module _ {t : TurnOf} (call : CallAhead) (at : IsAtCall t call) (known : IsKnown
   abbrev old : State
   old = state_before t
 
-  abbrev caller : ℕ
-  caller = t.top.0.activation
-
   abbrev top : Top
   top = top_before t
 
@@ -84,27 +82,21 @@ module _ {t : TurnOf} (call : CallAhead) (at : IsAtCall t call) (known : IsKnown
   calls =
       known.ahead call.creates (running_top t at.turning) call.line call.unit call.count call.next at.behind (runs at known.running) (ahead-on-top at)
 
-  pub from : IsCalledBy (unit_at t.program (unit_of old caller)) t.top.0.statement calls.name calls.actuals
-  from = known.called call.creates (unit_at t.program (unit_of old caller)) t.top.0.statement t.top.0.work calls.name calls.actuals (known.works t.choices t.process t.top at.turning.lives) calls.does_so
+  pub from : IsCalledBy (unit_at t.program (unit_of old t.top.0.activation)) t.top.0.statement calls.name calls.actuals
+  from = known.called call.creates (unit_at t.program (unit_of old t.top.0.activation)) t.top.0.statement t.top.0.work calls.name calls.actuals (known.works t.choices t.process t.top at.turning.lives) calls.does_so
 
   pub called-inside : call.unit < length t.program
-  called-inside = subst (λ u. u < length t.program) (sym calls.unit) (known.subroutine (unit_of old caller) t.top.0.statement calls.name calls.actuals from)
+  called-inside = subst (λ u. u < length t.program) (sym calls.unit) (known.subroutine (unit_of old t.top.0.activation) t.top.0.statement calls.name calls.actuals from)
 
   -- it has as many dummy arguments as are passed
   pub as-many : length calls.actuals ≡ length (dummies_of (unit_at t.program call.unit))
-  as-many = known.arguments (unit_of old caller) t.top.0.statement calls.name calls.actuals from ∙ ap (λ u. length (dummies_of (unit_at t.program u))) (sym calls.unit)
+  as-many = known.arguments (unit_of old t.top.0.activation) t.top.0.statement calls.name calls.actuals from ∙ ap (λ u. length (dummies_of (unit_at t.program u))) (sym calls.unit)
 
   -- what is passed, by the entries behind the CALL and the operands
-  abbrev variables : Name → Variable
-  variables = variable_of t.program (unit_at t.program (unit_of old caller))
-
-  pub passed-by : (P : List Array → List Passed → Type 0)
-      → P (arrays_at t.program old caller) (passed_from (length calls.actuals) (map (λ y. Pass (argument_of_actual variables y)) calls.actuals ++ calls.more) (flat_map operands_of_actual calls.actuals))
-      → P (unit_arrays t.program t.level.unit) (passed_from call.count at.behind t.operands)
+  pub passed-by : (P : List Array → List Passed → Type 0) → P (arrays_calling (caller_at at)) (passed_by_entries (caller_at at) calls.actuals calls.more) → P (unit_arrays t.program t.level.unit) (passed_from call.count at.behind t.operands)
   passed-by P h =
-      let passed : passed_from (length calls.actuals) (map (λ y. Pass (argument_of_actual variables y)) calls.actuals ++ calls.more) (flat_map operands_of_actual calls.actuals) ≡ passed_from call.count at.behind t.operands =
-      λ i. passed_from (sym calls.counted i) (sym calls.entries i) (sym calls.operands_are i) in
-      subst (P (unit_arrays t.program t.level.unit)) passed (subst (λ u. P (unit_arrays t.program u) (passed_from (length calls.actuals) (map (λ y. Pass (argument_of_actual variables y)) calls.actuals ++ calls.more) (flat_map operands_of_actual calls.actuals))) (unit-is at.turning) h)
+      let passed : passed_by_entries (caller_at at) calls.actuals calls.more ≡ passed_from call.count at.behind t.operands = λ i. passed_from (sym calls.counted i) (sym calls.entries i) (sym calls.operands_are i) in
+      subst (P (unit_arrays t.program t.level.unit)) passed (subst (λ u. P (unit_arrays t.program u) (passed_by_entries (caller_at at) calls.actuals calls.more)) (unit-is at.turning) h)
 
 -- ---- actual arguments have storage units
 
@@ -129,7 +121,7 @@ module _ (program : Units) (s : State) (layout : Layout) (scope : Scope) (b : �
   one-passed x (referred r) (giving.Value w) d e h = absurd h
 
   -- what is given is what is passed
-  all-passed : (xs : List Name) (ys : List Actual) (gs : List Given) (ds : List Dummy) → dummies_for scope b xs ys ≡ Ok ds → AreGiven program s layout b xs ys gs ds → ArePassed program s layout scope ys gs
+  all-passed : (xs : List Name) (ys : List Actual) (gs : List Given) (ds : List Dummy) → dummies_for scope b xs ys ≡ Ok ds → AreGiven program s layout b xs ys gs ds → AreActualsPassed program s layout scope ys gs
   all-passed [] [] [] [] e h = tt
   all-passed (x ∷ xs) (y ∷ ys) (g ∷ gs) (d ∷ ds) e h =
       let both = both-bound (dummy_for scope b x y) (dummies_for scope b xs ys) d ds e in
@@ -160,12 +152,11 @@ pub record IsKnownToBind (program : Units) : Type 0 where
       → FitsDummy (unit_at program u) (unit_at program (unit_called program x)) y a
   pub placed : (unit : List Statement) (x : Name) → IsVariableOf unit x → variable_of program unit x ≢ Absent
   -- of what they give
-  pub passed : (s : State) (layout : Layout) (contents : List Slot) (a b : ℕ) (f : Frame) (xs : List Name) (actuals : List Actual) (more : List Instruction)
-      → IsCaller program s layout contents a f → ArePlaced (variable_of program (unit_at program (unit_of s a))) actuals → length xs ≡ length actuals
-      → AreGivenAs program s layout b xs actuals (given_by (cells_in contents) f.first (arrays_at program s a) (passed_from (length actuals) (map (λ y. Pass (argument_of_actual (variable_of program (unit_at program (unit_of s a))) y)) actuals ++ more) (flat_map operands_of_actual actuals))) (dummies_for (scope_of program s a) b xs actuals)
+  pub passed : (c : CallerOf) (b : ℕ) (xs : List Name) (actuals : List Actual) (more : List Instruction) → IsCaller c → ArePlaced (variables_calling c) actuals → length xs ≡ length actuals
+      → AreGivenAs c.program c.state c.layout b xs actuals (given_passed c (passed_by_entries c actuals more)) (dummies_for (scope_calling c) b xs actuals)
   -- of the step
-  pub made : (creates : Bool) (t : TurnOf) (x : Name) (actuals : List Actual) (b : Binding) → (state_before t).halted ≡ false → IsPassing t.program t.choices t.process t.top (unit_called t.program x) actuals b
-      → next_of (unit_at t.program (unit_of (state_before t) t.top.0.activation)) t.top.0.work ≡ does (made_by creates x actuals) → step t.program t.process (state_before t) ≡ Some (state_made creates t (unit_called t.program x) b)
+  pub made : (creates : Bool) (call : CallOf) (x : Name) → (state_before_call call).halted ≡ false → call.unit ≡ unit_called call.program x → IsPassing call
+      → next_of (unit_on_top call.program (caller call)) call.top.0.work ≡ does (made_by creates x call.actuals) → step call.program call.process (state_before_call call) ≡ Some (state_made_by creates call)
   pub faults : (creates : Bool) (r : RunningTop) (line u count next : ℕ) (behind : List Instruction) → IsRunning r → code_ahead r ≡ Step line (making creates u count next) ∷ behind
       → (ahead : IsCallAhead creates r.program r.top r.operands u count next behind) (k : Kind) → binding_of r.program r.top u ahead.actuals ≡ Err k → Simulates r (fails line k)
 
@@ -201,10 +192,8 @@ module _ {t : TurnOf} (call : CallAhead) (at : IsAtCall t call) (all : IsKnownTo
   -- what they give is what the dummy arguments of the new activation stand for, or there is the same fault
   given-as : AreGivenAs t.program before layout (next_activation before) xs actuals (given_of call at) bound
   given-as =
-      let ahead = calls call at all.known in
-      let f = top_frame t in
-      passed-by call at all.known (λ arrays passed. AreGivenAs t.program before layout (next_activation before) xs actuals (given_by (cells_in t.machine.arena.contents) f.first arrays passed) bound) (
-      all.passed before layout t.machine.arena.contents t.top.0.activation (next_activation before) f xs actuals ahead.more (calls-so at all.known.running) actuals-placed (sym (as-many call at all.known)))
+      passed-by call at all.known (λ arrays passed. AreGivenAs t.program before layout (next_activation before) xs actuals (given_by (cells_in t.machine.arena.contents) (top_frame t).first arrays passed) bound) (
+      all.passed (caller_at at) (next_activation before) xs actuals (calls call at all.known).more (calls-so at all.known.running) actuals-placed (sym (as-many call at all.known)))
 
   -- ---- a fault
 
@@ -239,14 +228,14 @@ module _ {t : TurnOf} (call : CallAhead) (at : IsAtCall t call) (all : IsKnownTo
   called-so gs shapes b e bound_so shaped =
       let ahead = calls call at all.known in
       let dummies = dummies-given gs e in
-      let passing : IsPassing t.program t.choices t.process t.top call.unit actuals b =
+      let it = call_in t call.unit actuals b in
+      let passing : IsPassing it =
       record {
         lives = at.turning.lives;
         bound = bound_so;
         as_many = as-many call at all.known;
         distinct = all.distinct call.unit (called-inside call at all.known);
       } in
-      let step_so = all.made call.creates t ahead.name actuals b at.turning.running (subst (λ u. IsPassing t.program t.choices t.process t.top u actuals b) ahead.unit passing) ahead.does_so in
       record {
         turning = at.turning;
         actuals = actuals;
@@ -254,7 +243,7 @@ module _ {t : TurnOf} (call : CallAhead) (at : IsAtCall t call) (all : IsKnownTo
         passing = passing;
         shaped = shaped;
         passed = all-passed t.program before layout (scope_of t.program before t.top.0.activation) (next_activation before) xs actuals gs dummies.0 dummies.1 dummies.2;
-        made = subst (λ u. step t.program t.process before ≡ Some (state_made call.creates t u b)) (sym ahead.unit) step_so;
+        made = all.made call.creates it ahead.name at.turning.running ahead.unit passing ahead.does_so;
         after = subst (λ u. call.next ≡ ((table_of (unit_addressed t.program u)).flows t.top.0.statement).next) (unit-is at.turning) ahead.onward;
       }
 

@@ -7,8 +7,8 @@ use Rattle.hep_machine.specs.State.{Level as SourceLevel}
 use Rattle.hep_machine.specs.Step.{wanted_of}
 use Rattle.hep_code.specs.Words.{Stands}
 use Rattle.hep_layout.specs.Words.{descriptor_slots, AreNeededBut, is_stacked, IsFrameTree, but, FrameNode, Nodes, IsAbove, IsOwnedAbove, times}
-use Rattle.hep_layout.proofs.Beginning.{tree-same, wanted-same}
-use Rattle.hep_layout.proofs.Descriptors.{described-same, wanted-same as wanted-alike}
+use Rattle.hep_layout.proofs.Beginning.{tree-same, needed-same}
+use Rattle.hep_layout.proofs.Descriptors.{described-same, wanted-same}
 use Rattle.hep_layout.proofs.Memory.{memory-same}
 use Rattle.hep_layout.proofs.StackChanges.{stacks-same, stacks-emptied, stacks-ended}
 use Rattle.hep_layout.proofs.Stacks.{once, times_on-numbered}
@@ -16,7 +16,7 @@ use Rattle.hep_frames.specs.Keeping.{Keeps, AreOfSomeState, CanAllLeave, CanLeav
 use Rattle.hep_step.specs.Effects.{moves, prints, waits, fails, returns, stops}
 use Rattle.hep_step.specs.Simulation.{state_with_record, Reaches, unit_addressed}
 use Rattle.hep_state.specs.declared.machine.Level.{Level}
-use Rattle.hep_state.specs.Words.{Snapshot, Stack, HasMadeTurn, HaveLeft, IsEffectOf, IsStack, IsTurning, TurnOf, fault_at, snapshot_moved, snapshot_printed, snapshot_stopped, top_before, top_frame, keys_of, snapshot_failed, snapshot_returned, stack_with, state_before, state_failed, state_returned, HasWaited, node_under, running_top}
+use Rattle.hep_state.specs.Words.{frames_before, Snapshot, Stack, HasMadeTurn, HaveLeft, IsEffectOf, IsStack, IsTurning, TurnOf, fault_at, snapshot_moved, snapshot_printed, snapshot_stopped, top_before, top_frame, keys_of, snapshot_failed, snapshot_returned, stack_with, state_before, state_failed, state_returned, HasWaited, node_under, running_top}
 use Rattle.hep_state.proofs.Leaving.{kept-same, all-fewer, but-fewer, kept-left, still-above, all_but-is, caller-of, no-more, none-of}
 use Rattle.hep_state.proofs.Runs.{layout-left, next, there, all-remain, set-same, standing-changed, stepped-after, held-after, remaining-after}
 use Rattle.hep_state.proofs.Standing.{AreStanding, made-same, stack-standing, standing-still, top-stands, AreOn, AreStandingBelow, IsHere, caller-stands}
@@ -128,7 +128,7 @@ module _ {t : TurnOf} (h : IsTurning t) where
         record {
           memory = r.memory;
           tree = subst (λ on. IsFrameTree later on (is_held old) t.machine.nodes) on-same (tree-same old later (is_stacked old) (is_held old) t.machine.nodes same k.tree);
-          rest = subst (λ on. AreNeededBut None later on (is_held old)) on-same (wanted-same old later (is_stacked old) (is_held old) None same k.rest);
+          rest = subst (λ on. AreNeededBut None later on (is_held old)) on-same (needed-same old later (is_stacked old) (is_held old) None same k.rest);
           framed = k.framed;
           frames_are = k.frames_are;
           described = r.described;
@@ -175,7 +175,7 @@ module _ {t : TurnOf} (h : IsTurning t) where
       record {
         activation = refl;
         memory = memory-same t.program old later layout t.machine.arena.contents t.machine.arena.holes k.memory refl refl;
-        described = described-same t.program old later layout (descriptor_slots t.program old layout) (descriptor_slots t.program later layout) t.machine.arena.contents k.described refl (λ a c v w. sym (wanted-alike t.program old later layout a c refl (λ d i is. refl)) ∙ w);
+        described = described-same t.program old later layout (descriptor_slots t.program old layout) (descriptor_slots t.program later layout) t.machine.arena.contents k.described refl (λ a c v w. sym (wanted-same t.program old later layout a c refl (λ d i is. refl)) ∙ w);
         stands = subst (λ u. Stands (unit_addressed t.program u) t.top.0.statement t.top.0.work t.operands t.level.index) (sym unit-is) standing-before.0.stands;
       } in
       subst (λ (ks : List Stack). HasMadeTurn t (record t.machine { processes = ks; halted = true })) (sym (set-same t.machine.processes t.process stack h.kept)) (
@@ -188,7 +188,7 @@ module _ {t : TurnOf} (h : IsTurning t) where
       record { running = h.running; wanted = record { at = sim.0; full = full }; waits = ap wanted_of sim.1; after = h.after; found = sim.2; state = refl }
 
   pub kept-now : AreOfSomeState t.machine.arena t.machine.nodes
-  kept-now = (frames_in t.program old (is_held old) layout, h.after.shows.keeps)
+  kept-now = (frames_before t h, h.after.shows.keeps)
 
   pub top-node : t.machine.nodes t.level.key ≡ Some (node_under t.machine.nodes t.level.key)
   top-node = shown-before.there.0.1
@@ -283,4 +283,4 @@ module _ {t : TurnOf} (h : IsTurning t) where
       few a = omega (arith, times_on-numbered a old.processes t.process (t.top.0 ∷ t.top.1) [] (there h), (once t.program t.choices a).0)
 
   pub can-all-leave : CanAllLeave t.machine.arena t.machine.nodes (keys_of (t.level ∷ t.below))
-  can-all-leave = (frames_in t.program old (is_held old) layout, activations_on (t.top.0 ∷ t.top.1), h.after.shows.keeps, can-leave, lead-upwards t.program t.choices old refl)
+  can-all-leave = (frames_before t h, activations_on (t.top.0 ∷ t.top.1), h.after.shows.keeps, can-leave, lead-upwards t.program t.choices old refl)

@@ -8,8 +8,8 @@ use Rattle.hep_code.specs.Words.{entry_index}
 use Rattle.hep_code.proofs.Moves.{StandsAt, entry_stands}
 use Rattle.hep_arena.specs.Gaps.{gaps}
 use Rattle.hep_layout.specs.Words.{Holds, IsLaid, IsMemory, address, Describes, descriptor_slots, is_stacked, FrameNode, Nodes, first_nodes}
-use Rattle.hep_layout.proofs.Beginning.{tree-same, wanted-same}
-use Rattle.hep_layout.proofs.Descriptors.{descriptor-apart, described-same, wanted-same as wanted-alike}
+use Rattle.hep_layout.proofs.Beginning.{tree-same, needed-same}
+use Rattle.hep_layout.proofs.Descriptors.{descriptor-apart, described-same, wanted-same}
 use Rattle.hep_layout.proofs.HeldFrames.{opening-is}
 use Rattle.hep_layout.proofs.Memory.{address-same, laid-same}
 use Rattle.hep_layout.proofs.FrameTree.{rest-held}
@@ -116,14 +116,14 @@ module _ (program : Units) (cells key entry : ℕ) (rows : List DataRow) (before
       record {
         memory = memory;
         tree = tree-same s t (is_stacked t) (λ a. nat_eq a 1) nodes refl k.tree;
-        rest = wanted-same s t (is_stacked t) (λ a. nat_eq a 1) None refl k.rest;
+        rest = needed-same s t (is_stacked t) (λ a. nat_eq a 1) None refl k.rest;
         framed = k.framed;
         frames_are = k.frames_are;
-        described = described-same program s t h.layout (descriptor_slots program s h.layout) (descriptor_slots program t h.layout) after.contents described refl (λ a c v w. sym (wanted-alike program s t h.layout a c refl (λ d i is. refl)) ∙ w);
+        described = described-same program s t h.layout (descriptor_slots program s h.layout) (descriptor_slots program t h.layout) after.contents described refl (λ a c v w. sym (wanted-same program s t h.layout a c refl (λ d i is. refl)) ∙ w);
       }
 
   held : (λ (a : ℕ). nat_eq a 1) ≡ is_held t
-  held = λ i a. rest-held program [] (λ b. nat_eq b 1) nodes a (record { tree = keeps-opened.tree; wanted = keeps-opened.rest }) i
+  held = λ i a. rest-held program [] (λ b. nat_eq b 1) nodes a (record { tree = keeps-opened.tree; needed = keeps-opened.rest }) i
 
   keeps-held : Keeps (frames_in program t (is_held t) h.layout) after nodes
   keeps-held = subst (λ out. Keeps (frames_in program t out h.layout) after nodes) held keeps-opened

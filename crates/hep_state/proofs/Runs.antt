@@ -174,7 +174,7 @@ module _ (t : TurnOf) (later : State) (made : step t.program t.process (state_be
   module _ (layout : Layout) (out : ℕ → Bool) (arena : Space) (nodes : Nodes) (keeps : Keeps (frames_in t.program later out layout) arena nodes) where
     pub held-after : (a : ℕ) → out a ≡ is_held later a
     held-after a =
-        subst (λ (s : State). IsAtRest s out nodes → out a ≡ is_held s a) next (rest-held t.program (t.choices ++ t.process ∷ []) out nodes a) (record { tree = keeps.tree; wanted = keeps.rest })
+        subst (λ (s : State). IsAtRest s out nodes → out a ≡ is_held s a) next (rest-held t.program (t.choices ++ t.process ∷ []) out nodes a) (record { tree = keeps.tree; needed = keeps.rest })
 
     keeps-after : Keeps (frames_in t.program later (is_held later) layout) arena nodes
     keeps-after = subst (λ test. Keeps (frames_in t.program later test layout) arena nodes) (λ i a. held-after a i) keeps

@@ -1,6 +1,6 @@
 -- What a core keeps after a CALL or CREATE: docs/MACHINE.md, "Steps" and "Layout".
 use Rattle.std.specs.Prelude.{◌≡◌, ℕ, ◌+◌, ◌<◌, List, [], ◌∷◌, ◌++◌, Bool, true, false, length, Option, Some, None}
-use Rattle.hep_machine.specs.Words.{Units, unit_at, Binding, Actual, common_cells, frame_of, is_held, lowest_gap, with_numbered, State, scope_of, step, Bounds, frame_cells}
+use Rattle.hep_machine.specs.Words.{Units, unit_at, Binding, Actual, common_cells, frame_of, lowest_gap, with_numbered, State, step, Bounds, frame_cells}
 use Rattle.hep_arena.specs.Space.{Space}
 use Rattle.hep_code.specs.Words.{entry_index, table_of}
 use Rattle.hep_layout_laws.specs.Bound.{AreKept}
@@ -11,26 +11,27 @@ use Rattle.hep_step.specs.Simulation.{unit_addressed}
 use Rattle.hep_state.specs.declared.calling.Called.{Called}
 use Rattle.hep_state.specs.declared.machine.Level.{Level}
 use Rattle.hep_state.specs.declared.machine.Machine.{Machine}
-use Rattle.hep_state.specs.Snapshots.{Snapshot, snapshot_of}
-use Rattle.hep_state.specs.Tops.{HoldsInTurn, IsTurning, TurnOf, state_before, with_stack}
-use Rattle.hep_entering.specs.Calling.{ArePassed, IsAllWritten, IsPassing, layout_with, state_called, state_created}
+use Rattle.hep_state.specs.Snapshots.{Snapshot, Stack, snapshot_of}
+use Rattle.hep_state.specs.Tops.{HoldsInTurn, IsTurning, TurnOf, frames_before, state_before}
+use Rattle.hep_entering.specs.Calling.{ArePassed, CallOf, IsAllWritten, IsPassing, layout_with, state_made_by}
 
 -- the level of a new activation of unit u, whose node is under a key, at its first executable statement
 abbrev pub entered_level : Units → ℕ → ℕ → Level
 entered_level program u key = record { key = key; unit = u; index = entry_index (unit_addressed program u) }
 
--- the process calls unit u: its top activation is to go on at an index, and has the new one above it
-abbrev pub snapshot_called : TurnOf → ℕ → ℕ → ℕ → Space → Nodes → Snapshot
-snapshot_called t u key index arena nodes =
-    record (with_stack (record t.machine { arena = arena; nodes = nodes }) t.process (entered_level t.program u key ∷ (record t.level { index = index } ∷ t.below)) []) { activations = t.machine.activations + 1 }
+-- the stacks with a new level: above the top one of the process, which calls, or as a process of its own; that one is at another index
+abbrev pub stacks_made_by : Bool → TurnOf → Level → Level → List Stack
+stacks_made_by false t new behind = with_numbered t.machine.processes t.process (record { levels = new ∷ (behind ∷ t.below); operands = [] })
+stacks_made_by true t new behind =
+    with_numbered t.machine.processes t.process (record { levels = behind ∷ t.below; operands = [] }) ++ record { levels = new ∷ []; operands = [] } ∷ []
 
--- it makes a process of unit u, and goes on
-abbrev pub snapshot_created : TurnOf → ℕ → ℕ → ℕ → Space → Nodes → Snapshot
-snapshot_created t u key index arena nodes =
+-- the process calls unit u, or makes a process of it, and its top activation is to go on at an index
+abbrev pub snapshot_made_by : Bool → TurnOf → ℕ → ℕ → ℕ → Space → Nodes → Snapshot
+snapshot_made_by creates t u key index arena nodes =
     record t.machine {
       arena = arena;
       nodes = nodes;
-      processes = with_numbered t.machine.processes t.process (record { levels = record t.level { index = index } ∷ t.below; operands = [] }) ++ record { levels = entered_level t.program u key ∷ []; operands = [] } ∷ [];
+      processes = stacks_made_by creates t (entered_level t.program u key) (record t.level { index = index });
       activations = t.machine.activations + 1;
     }
 
@@ -41,7 +42,7 @@ pub record HasEntered (t : TurnOf) (turning : IsTurning t) (u key : ℕ) (s : St
   pub inside : u < length t.program
   pub first : ℕ
   pub gap : lowest_gap t.cells (frame_of t.program s (length s.activations)) (common_cells t.program) turning.after.layout ≡ Some first
-  pub written : IsAllWritten t.program (state_before t) s turning.after.layout first (is_held (state_before t)) arena nodes
+  pub written : IsAllWritten (frames_before t turning) s first arena nodes
   pub kept : AreKept t.program s (layout_with t.program s turning.after.layout first) (length s.activations)
   pub size : length arena.contents ≡ t.cells
   pub vacant : t.machine.nodes key ≡ None
@@ -59,10 +60,10 @@ pub record IsUnit (program : Units) (u cells entry : ℕ) : Type 0 where
   pub cells_are : cells ≡ frame_cells (unit_at program u)
   pub entry_is : entry ≡ entry_index (unit_addressed program u)
 
--- the state to which CALL, or CREATE, leads
-abbrev pub state_made : Bool → TurnOf → ℕ → Binding → State
-state_made false t u b = state_called t.program t.choices t.process t.top u b
-state_made true t u b = state_created t.program t.choices t.process t.top u b
+-- that of a turn, of unit u
+abbrev pub call_in : TurnOf → ℕ → List Actual → Binding → CallOf
+call_in t u actuals b =
+    record { program = t.program; choices = t.choices; process = t.process; top = t.top; unit = u; actuals = actuals; binding = b }
 
 -- the step makes an activation of unit u by CALL or by CREATE, and this is given to its dummy arguments, and these are the shapes of the
 -- adjustable arrays among them; the one that makes it is to go on at an index
@@ -70,11 +71,15 @@ pub record IsMaking (creates : Bool) (t : TurnOf) (u index : ℕ) (given : List 
   pub turning : IsTurning t
   pub actuals : List Actual
   pub binding : Binding
-  pub passing : IsPassing t.program t.choices t.process t.top u actuals binding
-  pub passed : ArePassed t.program (state_before t) turning.after.layout (scope_of t.program (state_before t) t.top.0.activation) actuals given
+  pub passing : IsPassing (call_in t u actuals binding)
+  pub passed : ArePassed (call_in t u actuals binding) turning.after.layout given
   pub shaped : AreShapesOf (unit_at t.program u) binding.dummies shapes
-  pub made : step t.program t.process (state_before t) ≡ Some (state_made creates t u binding)
+  pub made : step t.program t.process (state_before t) ≡ Some (state_made_by creates (call_in t u actuals binding))
   pub after : IsAfterCall t index
+
+-- the state to which it leads
+abbrev pub state_made : {creates : Bool} {t : TurnOf} {u index : ℕ} {given : List Given} {shapes : List (Option Bounds)} → IsMaking creates t u index given shapes → State
+state_made {creates} {t} {u} h = state_made_by creates (call_in t u h.actuals h.binding)
 
 -- the step of process p does so in a machine where just this is given, and this is called
 pub record Makes (creates : Bool) (program : Units) (cells : ℕ) (choices : List ℕ) (p : ℕ) (m : Machine) (called : Called) (index : ℕ) : Type 0 where

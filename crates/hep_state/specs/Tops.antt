@@ -8,7 +8,7 @@ use Rattle.hep_machine.specs.declared.slot.Slot.{Slot}
 use Rattle.hep_machine.specs.State.{Level as SourceLevel}
 use Rattle.hep_arena.specs.Space.{Space}
 use Rattle.hep_layout.specs.Words.{Nodes}
-use Rattle.hep_frames.specs.Keeping.{HasLeft, frames_in}
+use Rattle.hep_frames.specs.Keeping.{FramesOf, HasLeft, frames_in}
 use Rattle.hep_step.specs.Effects.{Effect}
 use Rattle.hep_step.specs.Simulation.{IsRunning, RunningTop, Simulates}
 use Rattle.hep_state.specs.declared.machine.Level.{Level}
@@ -92,6 +92,10 @@ pub record HoldsInTurn (program : Units) (cells : ℕ) (choices : List ℕ) (p :
 abbrev pub turn_of : {program : Units} {cells : ℕ} {choices : List ℕ} {p : ℕ} {m : Snapshot} {IsSo : TurnOf → Type 0} → HoldsInTurn program cells choices p m IsSo → TurnOf
 turn_of {program} {cells} {choices} at = turn_with program cells choices at.levels at.top
 
+-- the frames of the state before it
+abbrev pub frames_before : (t : TurnOf) → IsTurning t → FramesOf
+frames_before t turning = frames_in t.program (state_before t) (is_held (state_before t)) turning.after.layout
+
 -- its top activation, in the arena and in the code
 abbrev pub running_top : (t : TurnOf) → IsTurning t → RunningTop
 running_top t turning =
@@ -123,7 +127,7 @@ state_returned t = with_process (state_before t) t.process (stack_after_return t
 abbrev pub state_failed : TurnOf → Kind → State
 state_failed t kind = with_process (record (state_before t) { faults = (state_before t).faults ++ fault_of t.program (top_before t) kind ∷ [] }) t.process []
 
--- the frames that aren't wanted any more in a state to which it led were given back
+-- the frames that aren't needed any more in a state to which it led were given back
 abbrev pub HaveLeft : (t : TurnOf) → IsTurning t → State → Space → Nodes → Type 0
 HaveLeft t turning s arena nodes = HasLeft (frames_in t.program s (is_held (state_before t)) turning.after.layout) t.machine.arena arena t.machine.nodes nodes
 

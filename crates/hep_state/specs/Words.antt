@@ -7,9 +7,9 @@ unfoldable pub use Rattle.hep_state.specs.Turns.{HasGaps}
 pub use Rattle.hep_state.specs.Turns.{HasNoGap, HasStepped, HasWaited, IsAbsent, IsAfter}
 unfoldable pub use Rattle.hep_state.specs.Tops.{fault_at, frame_under, keys_of, snapshot_failed, snapshot_moved, snapshot_printed, snapshot_returned}
 unfoldable pub use Rattle.hep_state.specs.Tops.{snapshot_stopped, stack_with, state_before, state_failed, state_returned, top_before, top_frame}
-unfoldable pub use Rattle.hep_state.specs.Tops.{HasMadeTurn, HaveLeft, IsEffectOf, IsTopRunning, running_top, turn_of, turn_settled, turn_with, with_contents, with_stack}
+unfoldable pub use Rattle.hep_state.specs.Tops.{frames_before, HasMadeTurn, HaveLeft, IsEffectOf, IsTopRunning, running_top, turn_of, turn_settled, turn_with, with_contents, with_stack}
 pub use Rattle.hep_state.specs.Tops.{HasLevels, HoldsInTurn, IsTurning, TurnOf}
-unfoldable pub use Rattle.hep_state.specs.Calls.{entered_level, IsAfterCall, snapshot_called, snapshot_created, state_made}
+unfoldable pub use Rattle.hep_state.specs.Calls.{call_in, entered_level, IsAfterCall, snapshot_made_by, stacks_made_by, state_made}
 pub use Rattle.hep_state.specs.Calls.{HasEntered, IsMaking, IsUnit, Makes}
 unfoldable pub use Rattle.hep_state.specs.Openings.{snapshot_opened, unset_opening}
 pub use Rattle.hep_state.specs.Openings.{IsEntered, IsGiven}

@@ -64,8 +64,7 @@ impl Machine {
         requires node { HasRoomFor self.old.frames.nodes 1 }
         ensures entered { (creates : Bool) (program : Units) (cells : ℕ) (choices : List ℕ) (index : ℕ)
             → (e : Makes creates program cells choices p self.old called index)
-            → HasEntered (turn_of e.making) e.making.holds.turning called.unit result.key
-            (state_made creates (turn_of e.making) called.unit e.making.holds.binding)
+            → HasEntered (turn_of e.making) e.making.holds.turning called.unit result.key (state_made e.making.holds)
             self.new.frames.arena (nodes_of self.new.frames.nodes) }
         ensures level { result ≡ record { key = result.key; unit = called.unit; index = called.entry } }
         ensures others { self.new ≡ record self.old { frames = self.new.frames; activations = self.old.activations + 1 } }

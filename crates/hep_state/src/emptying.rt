@@ -15,6 +15,7 @@ use crate::machine::Machine;
 use crate::upcoming::PurgeAhead;
 use hep_image::Image;
 use hep_machine::Kind;
+use hep_passing::AllPassed;
 use hep_purging::find_ranges;
 
 impl Machine {
@@ -39,15 +40,15 @@ impl Machine {
         laws::purges_are_shown();
         let process = &self.processes[(p - 1) as usize];
         let (entries, arrays, frame) = process.behind(&self.frames, image);
-        find_ranges(
+        let all = AllPassed {
             entries,
-            purge.count as usize,
-            &process.operands,
+            count: purge.count as usize,
+            operands: &process.operands,
             arrays,
-            &self.frames.arena,
+            arena: &self.frames.arena,
             frame,
-            &mut self.passing.ranges,
-        )
+        };
+        find_ranges(&all, &mut self.passing.ranges)
     }
 
     // Process p empties the cells in `passing` and is to go on at an index.

@@ -2,7 +2,7 @@
 ghost use Rattle.std.specs.Prelude.{◌≡◌, ◌<◌, ◌≤◌, ◌+◌, ◌∷◌, ℕ, Bool, true, false, List, Option, Some, None, Ok, Err, IsSome, []};
 ghost use Rattle.std.specs.Prelude.{is_some, length, nat_eq};
 ghost use Rattle.hep_machine.specs.Words.{Value, Units, dummies_of, main_among, main_unit, unit_at, Binding, Layout, activations_on};
-ghost use Rattle.hep_machine.specs.Words.{opening_layout, numbered, Work, Bounds};
+ghost use Rattle.hep_machine.specs.Words.{opening_layout, numbered, Work, Actual, Bounds};
 ghost use Rattle.hep_machine.specs.declared.event.Kind.{Kind};
 ghost use Rattle.hep_machine.specs.declared.record.Item.{Item};
 ghost use Rattle.hep_machine.specs.declared.slot.Slot.{Slot};
@@ -29,11 +29,11 @@ ghost use Rattle.hep_step.specs.Cells.{HasFrame};
 ghost use Rattle.hep_step.specs.Ready.{frame_in_arena};
 ghost use Rattle.hep_step.specs.Effects.{fails, moves, prints, returns, stops, waits};
 ghost use Rattle.hep_step.specs.Simulation.{unit_addressed, unit_arrays};
-ghost use Rattle.hep_entering.specs.Calling.{state_called, state_created};
+ghost use Rattle.hep_entering.specs.Calling.{state_made_by};
 ghost use Rattle.hep_state.specs.Words.{HasEntered, HasGaps, HasLevels, HasMadeTurn, HasNoGap, HasPurged, HasWaited, HaveLeft, IsAbsent};
 ghost use Rattle.hep_state.specs.Words.{IsAfter, IsAfterCall, IsAtCall, IsAtPurge, IsEffectOf, IsEnding, IsEntered, IsGiven, IsKnown};
 ghost use Rattle.hep_state.specs.Words.{IsMaking, IsTopRunning, IsTurning, IsUnit, IsWithoutCall, Snapshot, Touches, TurnOf, given_of};
-ghost use Rattle.hep_state.specs.Words.{keys_of, node_under, ranges_ahead, snapshot_called, snapshot_created, snapshot_failed};
+ghost use Rattle.hep_state.specs.Words.{call_in, keys_of, node_under, ranges_ahead, snapshot_failed, snapshot_made_by};
 ghost use Rattle.hep_state.specs.Words.{snapshot_moved, snapshot_opened, snapshot_printed, snapshot_returned, snapshot_stopped};
 ghost use Rattle.hep_state.specs.Words.{state_before, state_failed, state_returned, top_frame, turn_settled, turn_with, unset_opening};
 ghost use Rattle.hep_state.specs.declared.upcoming.CallAhead.{CallAhead};
@@ -277,12 +277,9 @@ pub fn other_steps_find_gaps()
 /// Where the frame of the activation that a CALL or CREATE makes has entered and its cells are written, a step was made: the new
 /// activation is shown on top of its caller or as a process of its own, and the caller or creator goes on behind the statement.
 pub fn calls_are_shown()
-    ensures called { (t : TurnOf) (u key index : ℕ) (b : Binding) (arena : Space) (nodes : Nodes) → (turning : IsTurning t)
-        → HasEntered t turning u key (state_called t.program t.choices t.process t.top u b) arena nodes → IsAfterCall t index
-        → HasMadeTurn t (snapshot_called t u key index arena nodes) }
-    ensures created { (t : TurnOf) (u key index : ℕ) (b : Binding) (arena : Space) (nodes : Nodes) → (turning : IsTurning t)
-        → HasEntered t turning u key (state_created t.program t.choices t.process t.top u b) arena nodes → IsAfterCall t index
-        → HasMadeTurn t (snapshot_created t u key index arena nodes) }
+    ensures { (creates : Bool) (t : TurnOf) (u key index : ℕ) (actuals : List Actual) (b : Binding) (arena : Space) (nodes : Nodes)
+        → (turning : IsTurning t) → HasEntered t turning u key (state_made_by creates (call_in t u actuals b)) arena nodes
+        → IsAfterCall t index → HasMadeTurn t (snapshot_made_by creates t u key index arena nodes) }
 {}
 
 /// Where the frame of the main program has entered and DATA has given the cells their values, the opening is shown, with process

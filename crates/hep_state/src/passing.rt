@@ -8,7 +8,7 @@ use crate::machine::{Machine, Passing};
 use crate::upcoming::CallAhead;
 use hep_image::Image;
 use hep_machine::Kind;
-use hep_passing::give_actuals;
+use hep_passing::{AllPassed, give_actuals};
 use hep_shaping::find_shapes;
 
 impl Machine {
@@ -41,15 +41,15 @@ impl Machine {
             values,
             ..
         } = &mut self.passing;
-        give_actuals(
+        let all = AllPassed {
             entries,
-            call.count as usize,
-            &process.operands,
+            count: call.count as usize,
+            operands: &process.operands,
             arrays,
-            &self.frames.arena,
+            arena: &self.frames.arena,
             frame,
-            given,
-        )?;
+        };
+        give_actuals(&all, given)?;
         let called = image.unit(call.unit as usize);
         let dummies = called.dummies.as_slice();
         if find_shapes(dummies, &self.frames.arena, given, values, shapes) {

@@ -10,8 +10,8 @@ use Rattle.hep_state_laws.proofs.Wants.{stopped-only}
 use Rattle.hep_machine.specs.declared.slot.Slot.{Slot}
 use Rattle.hep_code.specs.Words.{AreBelow, AreLevels, CodeLevel, IsOf}
 use Rattle.hep_layout.specs.Words.{Describes, descriptor_slots, is_stacked}
-use Rattle.hep_layout.proofs.Beginning.{tree-same, wanted-same}
-use Rattle.hep_layout.proofs.Descriptors.{described-same, wanted-same as wanted-alike}
+use Rattle.hep_layout.proofs.Beginning.{tree-same, needed-same}
+use Rattle.hep_layout.proofs.Descriptors.{described-same, wanted-same}
 use Rattle.hep_layout.proofs.Memory.{address-same, memory-same}
 use Rattle.hep_layout_laws.specs.Bound.{AreKept}
 use Rattle.hep_image.specs.Places.{addresses_of}
@@ -149,7 +149,7 @@ module _ (program : Units) (s : State) where
         → Describes program s layout (descriptor_slots program s layout) contents
     described-going contents h =
         described-same program stopped s layout (descriptor_slots program stopped layout) (descriptor_slots program s layout) contents h refl
-        (λ a c v w. sym (wanted-alike program stopped s layout a c refl (λ d i is. refl)) ∙ w)
+        (λ a c v w. sym (wanted-same program stopped s layout a c refl (λ d i is. refl)) ∙ w)
 
     pub shown-going : (m : Snapshot) → s.halted ≡ false → Shows program stopped layout m → Shows program s layout (going_again m)
     shown-going m going h =
@@ -158,7 +158,7 @@ module _ (program : Units) (s : State) where
           keeps = record {
             memory = memory-same program stopped s layout m.arena.contents m.arena.holes k.memory refl refl;
             tree = tree-same stopped s (is_stacked s) (is_held s) m.nodes refl k.tree;
-            rest = wanted-same stopped s (is_stacked s) (is_held s) None refl k.rest;
+            rest = needed-same stopped s (is_stacked s) (is_held s) None refl k.rest;
             framed = k.framed;
             frames_are = k.frames_are;
             described = described-going m.arena.contents k.described;

@@ -5,6 +5,7 @@ ghost use Rattle.hep_conditions.specs.Types as types;
 ghost use Rattle.hep_names.specs.Meanings.{meaning};
 ghost use Rattle.hep_types.specs.Types as walks;
 
+use hep_conditions::types::same_declared;
 use hep_names::{Meaning, Symbols};
 use hep_source::{Expr, Name, Node, Operator, StateFunction, Value, ValueType};
 
@@ -26,26 +27,6 @@ impl Operand {
         ensures { result ≡ walks.is_typed_by self.is_typed value_type self.known_type }
     {
         self.is_typed && is_of(value_type, self.known_type)
-    }
-}
-
-fn same_type(first: ValueType, second: ValueType) -> bool
-    ensures { result ≡ types.same_type first second }
-{
-    match (first, second) {
-        (ValueType::Integer, ValueType::Integer) | (ValueType::Logical, ValueType::Logical) => true,
-        _ => false,
-    }
-}
-
-/// Two names have one type.
-pub fn same_declared(first: Option<ValueType>, second: Option<ValueType>) -> bool
-    ensures { result ≡ types.same_declared first second }
-{
-    match (first, second) {
-        (None, None) => true,
-        (Some(first), Some(second)) => same_type(first, second),
-        _ => false,
     }
 }
 

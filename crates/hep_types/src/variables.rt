@@ -4,7 +4,7 @@ ghost use Rattle.hep_machine.specs.Declarations as declarations;
 ghost use Rattle.hep_conditions.specs.Types as types;
 ghost use Rattle.hep_types.specs.Types as walks;
 
-use crate::types::same_declared;
+use hep_conditions::types::same_declared;
 use hep_names::Symbols;
 use hep_source::{Form, Name, ValueType};
 use std::alloc::{AllocError, Global};

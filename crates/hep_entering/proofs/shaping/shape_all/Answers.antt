@@ -1,10 +1,10 @@
 use Rattle.std.proofs.Common.{◌≡◌, ◌+◌, ◌≤◌, length, Some, arith}
-use Rattle.hep_layout.specs.FrameTree.{FrameNode}
 use Rattle.hep_frames.specs.Nodes.{nodes_of}
 use Rattle.hep_frames.proofs.Slabs.{node-there}
 use Rattle.hep_entering.proofs.Shaped.{begins-behind, frame-inside, frame-out}
 use Rattle.hep_entering.proofs.shaping.shape_all.Goals.{After-cells}
 use Rattle.hep_entering.proofs.shaping.shape_all.Goals as goal
+use Rattle.hep_layout.specs.Words.{FrameNode}
 
 -- the node, and the cells of its frame
 here : (c : After-cells) → (n : FrameNode) × (nodes_of c.args.frames.now.nodes c.args.key ≡ Some n)

@@ -1,19 +1,18 @@
 use Rattle.std.proofs.Common.{sym, subst}
-use Rattle.hep_machine.specs.Words.{unit_at, unit_of}
 use Rattle.hep_code.proofs.Entries.{actuals_passed}
-use Rattle.hep_image.specs.Places.{variable_of}
-use Rattle.hep_passing.specs.Agreement.{arrays_at}
+use Rattle.hep_passing.specs.Agreement.{arrays_calling, variables_calling}
 use Rattle.hep_passing.specs.Ready.{ArePassable}
 use Rattle.hep_passing.proofs.Ready.{actuals-passable, caller-framed, variable-passable}
+use Rattle.hep_step.specs.Ready.{frame_in_arena}
 use Rattle.hep_passing.proofs.laws.callers_can_pass.Goals as goal
 
 pub returns-clause-frame : goal.returns-clause-frame
-returns-clause-frame c program s layout contents holes a f calls memory few = caller-framed program s layout contents holes a f calls memory few
+returns-clause-frame c = caller-framed
 
 pub returns-clause-variable : goal.returns-clause-variable
-returns-clause-variable c program s layout contents holes a f x vs calls memory placed = variable-passable program s layout contents holes a f calls memory placed x vs
+returns-clause-variable c = λ caller x vs calls memory placed. variable-passable caller calls memory placed x vs
 
 pub returns-clause-actuals : goal.returns-clause-actuals
-returns-clause-actuals c program s layout contents holes a f actuals more calls memory placed =
-    subst (ArePassable (record { contents = contents; holes = holes }) (arrays_at program s a) (record { first = f.first; cells = f.cells })) (sym (actuals_passed (variable_of program (unit_at program (unit_of s a))) actuals more)) (
-    actuals-passable program s layout contents holes a f calls memory placed actuals)
+returns-clause-actuals c = λ caller actuals more calls memory placed.
+    subst (ArePassable caller.arena (arrays_calling caller) (frame_in_arena caller.frame)) (sym (actuals_passed (variables_calling caller) actuals more)) (
+    actuals-passable caller calls memory placed actuals)

@@ -1,9 +1,10 @@
+use Rattle.hep_passing.specs.Agreement.{caller_running}
 use Rattle.hep_passing.proofs.Ready.{caller-framed}
 use Rattle.hep_purging.proofs.Purges.{targets-out, targets-passable}
 use Rattle.hep_purging.proofs.laws.purges_are_ready.Goals as goal
 
 pub returns-clause-frame : goal.returns-clause-frame
-returns-clause-frame c = λ r running calls few. caller-framed r.program r.top.state r.layout r.arena.contents r.arena.holes r.top.level.activation r.frame calls running.memory few
+returns-clause-frame c = λ r running calls few. caller-framed (caller_running r) calls running.memory few
 
 pub returns-clause-passable : goal.returns-clause-passable
 returns-clause-passable c = λ r line count next behind running calls placed ahead. targets-passable r line count next behind running ahead calls placed

@@ -3,8 +3,8 @@ use Rattle.hep_machine.specs.Words.{unit_at}
 use Rattle.hep_layout_laws.specs.Within.{ArePlacedArrays}
 use Rattle.hep_passing.specs.Ready.{ArePassable}
 use Rattle.hep_step.specs.Ready.{frame_in_arena}
-use Rattle.hep_state.specs.Words.{state_before, top_frame}
-use Rattle.hep_state.proofs.Callers.{as-many, called-inside, calls, calls-so, passed-by}
+use Rattle.hep_state.specs.Words.{top_frame}
+use Rattle.hep_state.proofs.Callers.{as-many, called-inside, caller_at, calls, calls-so, passed-by}
 use Rattle.hep_state.proofs.Moved.{unit-is}
 use Rattle.hep_state.proofs.laws.calls_can_be_made.Goals as goal
 
@@ -19,7 +19,7 @@ returns-clause-counted c t call accepted main at =
 pub returns-clause-framed : goal.returns-clause-framed
 returns-clause-framed c t call accepted main few at =
     let k = c.programs_are_known.ensures t.program accepted main in
-    c.callers_can_pass.ensures.frame t.program (state_before t) at.turning.after.layout t.machine.arena.contents t.machine.arena.holes t.top.0.activation (top_frame t) (calls-so at k.running) at.turning.after.shows.keeps.memory few
+    c.callers_can_pass.ensures.frame (caller_at at) (calls-so at k.running) at.turning.after.shows.keeps.memory few
 
 pub returns-clause-passable : goal.returns-clause-passable
 returns-clause-passable c t call accepted main at =
@@ -27,4 +27,4 @@ returns-clause-passable c t call accepted main at =
     let ahead = calls call at k in
     let placed = subst (λ u. ArePlacedArrays t.program (unit_at t.program u)) (sym (unit-is at.turning)) (c.tops_are_running.ensures.arrays t accepted main at.turning) in
     passed-by call at k (λ xs ps. ArePassable t.machine.arena xs (frame_in_arena (top_frame t)) ps) (
-    c.callers_can_pass.ensures.actuals t.program (state_before t) at.turning.after.layout t.machine.arena.contents t.machine.arena.holes t.top.0.activation (top_frame t) ahead.actuals ahead.more (calls-so at k.running) at.turning.after.shows.keeps.memory placed)
+    c.callers_can_pass.ensures.actuals (caller_at at) ahead.actuals ahead.more (calls-so at k.running) at.turning.after.shows.keeps.memory placed)

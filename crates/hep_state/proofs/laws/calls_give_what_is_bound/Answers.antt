@@ -1,20 +1,13 @@
-use Rattle.std.proofs.Common.{◌≡◌, Bool, List, Some, false, true, is_some}
-use Rattle.hep_machine.specs.Words.{Name, Units, main_among, unit_at, Actual, does, next_of, Binding, unit_of, next_activation, scope_of, step, unit_called}
-use Rattle.hep_step.specs.Calls.{made_by}
+use Rattle.std.proofs.Common.{◌≡◌, true, is_some}
+use Rattle.hep_machine.specs.Words.{Units, main_among, unit_at, next_activation, scope_of}
 use Rattle.hep_machine.specs.declared.event.Kind.TheVariants.{Shape}
-use Rattle.hep_entering.specs.Calling.{IsPassing}
-use Rattle.hep_state.specs.Words.{TurnOf, state_before, state_made}
+use Rattle.hep_state.specs.Words.{state_before}
 use Rattle.hep_conditions.specs.Words.{IsAccepted}
 use Rattle.hep_image.specs.Dummies.{dummy_arguments}
 use Rattle.hep_shaping.specs.Fitting.{shapes_of}
 use Rattle.hep_state.proofs.Callers.{IsKnownToBind, actuals, called-so, dummies-given, fault-ends, frameless, range-bound, called-inside}
 use Rattle.hep_image.proofs.Numbers.{unit-there}
 use Rattle.hep_state.proofs.laws.calls_give_what_is_bound.Goals as goal
-
-steps-made : goal.After-programs_are_known → (creates : Bool) (t : TurnOf) (x : Name) (actuals : List Actual) (b : Binding) → (state_before t).halted ≡ false → IsPassing t.program t.choices t.process t.top (unit_called t.program x) actuals b
-    → next_of (unit_at t.program (unit_of (state_before t) t.top.0.activation)) t.top.0.work ≡ does (made_by creates x actuals) → step t.program t.process (state_before t) ≡ Some (state_made creates t (unit_called t.program x) b)
-steps-made c false t = c.calls_make_activations.ensures.called t.program t.choices t.process t.top
-steps-made c true t = c.calls_make_activations.ensures.created t.program t.choices t.process t.top
 
 all-known : goal.After-programs_are_known → (program : Units) → IsAccepted program → is_some (main_among program) ≡ true → IsKnownToBind program
 all-known c program accepted main =
@@ -23,8 +16,8 @@ all-known c program accepted main =
       distinct = λ u inside i j x. c.names_are_given_once.ensures.dummies program u i j (unit_at program u) x accepted (unit-there program u inside);
       fits = λ u k j x y actuals a. c.actual_arguments_fit.ensures program u k j x y actuals a accepted;
       placed = λ unit x. c.variables_are_placed.ensures program unit x;
-      passed = c.all_actuals_are_passed.ensures.entries program;
-      made = steps-made c;
+      passed = c.all_actuals_are_passed.ensures.entries;
+      made = c.calls_make_activations.ensures;
       faults = c.calls_are_ahead.ensures.fails;
     }
 

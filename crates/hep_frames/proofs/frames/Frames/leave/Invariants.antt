@@ -1,10 +1,10 @@
 use Rattle.std.proofs.Common.{◌≡◌, Some, length}
 use Rattle.slab.specs.Slab.{slab_len}
-use Rattle.hep_layout.specs.FrameTree.{FrameNode}
 use Rattle.hep_frames.specs.Nodes.{nodes_of}
 use Rattle.hep_frames.specs.Keeping.{FramesOf, Keeps}
 use Rattle.hep_frames.proofs.Giving.{IsGiving, off_stack}
 use Rattle.hep_frames.proofs.frames.Frames.leave.Given as goal
+use Rattle.hep_layout.specs.Words.{FrameNode}
 
 abbrev pub invariant-loop-next : goal.invariant-loop-next
 invariant-loop-next l =

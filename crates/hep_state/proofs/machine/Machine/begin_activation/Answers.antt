@@ -1,22 +1,23 @@
-use Rattle.std.proofs.Common.{◌≡◌, ℕ, ◌+◌, ◌≤◌, Bool, List, length, Option, Some, refl, sym, ap, ◌∙◌, subst, arith}
-use Rattle.hep_machine.specs.Words.{Units, unit_at, Layout, common_cells, frame_of, is_held, lowest_gap, Bounds, State, scope_of, step, frame_cells}
-use Rattle.hep_layout.specs.Words.{descriptor_slots, FrameNode, Nodes, new_node, with_node}
+use Rattle.std.proofs.Common.{◌≡◌, ℕ, ◌+◌, ◌≤◌, Bool, true, List, length, Option, Some, if◌then◌else◌, refl, sym, ap, ◌∙◌, subst, arith, eq-eqb}
+use Rattle.hep_machine.specs.Words.{Units, unit_at, Layout, common_cells, frame_of, is_held, lowest_gap, Activation, Bounds, State, scope_of, frame_cells}
+use Rattle.hep_layout.specs.Words.{FrameNode, Nodes, is_stacked, new_node, with_node}
+use Rattle.hep_layout_laws.specs.Bound.{AreKept}
 use Rattle.slab.specs.Slab.{ContainsKey}
 use Rattle.hep_frames.specs.Nodes.{nodes_of}
 use Rattle.hep_frames.proofs.Slabs.{some-value}
 use Rattle.hep_passing.specs.Shapes.{AreShapesOf}
-use Rattle.hep_entering.specs.Calling.{AreAllKept, ArePassed, IsWritten, layout_with, unit_begun}
-use Rattle.hep_entering.specs.Shapes.{AreShaping, cells_of_shapes, cells_to_bounds_of, cells_to_locals}
+use Rattle.hep_entering.specs.Calling.{ArePassed, CallOf, IsWritten, frames_with, layout_with, state_begun, unit_begun}
+use Rattle.hep_entering.proofs.Begun.{activation-is, long, unit-is}
+use Rattle.hep_entering.proofs.Calls.{made-begun, made-stacks, made-store}
+use Rattle.hep_entering.specs.Shapes.{AreShaping, cells_of_shapes, cells_to_bounds_of}
 use Rattle.hep_entering.proofs.Nodes.{node-new}
 use Rattle.hep_state.specs.declared.machine.Level.{Level}
-use Rattle.hep_state.specs.Words.{IsMaking, Makes, TurnOf, node_under, snapshot_of, state_before, state_made, turn_of}
+use Rattle.hep_state.specs.Words.{IsMaking, Makes, TurnOf, call_in, frames_before, node_under, snapshot_of, state_before, state_made, turn_of}
 use Rattle.hep_state.proofs.Moved.{kept-now, top-activation, top-node}
-use Rattle.hep_state.proofs.Unchanged.{carry}
-use Rattle.hep_state.proofs.Begun.{IsBegunIn, begun-kept, made-begun, made-dummies, made-number, made-stacked, made-unit, of-made, passed-many, shapes-inside}
+use Rattle.hep_state.proofs.Begun.{IsBegunIn, begun-kept, passed-many, shapes-inside}
 use Rattle.hep_state.proofs.Processes.{process-at, some-levels-at}
 use Rattle.hep_state.proofs.machine.Machine.begin_activation.Goals.{After-begin-key}
 use Rattle.hep_state.proofs.machine.Machine.begin_activation.Goals as goal
-use Rattle.hep_frames.specs.Keeping.{frames_in, frames_begun}
 
 -- ---- the caller or creator
 
@@ -33,10 +34,10 @@ begin-key-requires c =
     let slab = c.args.self.now.frames.nodes in
     let layout = e.turning.after.layout in
     let shows = e.turning.after.shows in
-    let scope = scope_of r.1 s t.top.0.activation in
     let it = process-at c.args.self.now.processes.items c.args.p r.5.making.levels.kept c.index.ensures in
     let same = c.top-parent.ensures t.level t.below t.operands it.stack in
-    let many = passed-many r.1 s layout scope e.actuals c.deref.result.now (subst (ArePassed r.1 s layout scope e.actuals) (sym c.deref.ensures.value) e.passed) in
+    let call = call_in t c.args.called.unit e.actuals e.binding in
+    let many = passed-many r.1 s layout (scope_of r.1 s t.top.0.activation) e.actuals c.deref.result.now (subst (ArePassed call layout) (sym c.deref.ensures.value) e.passed) in
     record {
       room = c.requires.node;
       few = c.requires.few;
@@ -44,7 +45,7 @@ begin-key-requires c =
       gap = c.requires.gap;
       there = subst (λ (l : Level). ContainsKey slab l.key) (sym same) (some-value slab t.level.key (node_under m.nodes t.level.key) (top-node e.turning));
       kept = kept-now e.turning;
-      children = c.children_are_activations.ensures (frames_in r.1 s (is_held s) layout) m.arena m.nodes c.top-parent.result.key shows.keeps (omega (arith, c.requires.countable, shows.activations));
+      children = c.children_are_activations.ensures (frames_before t e.turning) m.arena m.nodes c.top-parent.result.key shows.keeps (omega (arith, c.requires.countable, shows.activations));
     }
 
 -- ---- the frame with the cells of its dummy arguments written
@@ -59,8 +60,11 @@ module _ (c : After-begin-key) (creates : Bool) (program : Units) (cells : ℕ) 
   abbrev s : State
   s = state_before t
 
+  abbrev call : CallOf
+  call = call_in t c.args.called.unit e.actuals e.binding
+
   abbrev later : State
-  later = state_made creates t c.args.called.unit e.binding
+  later = state_made e
 
   abbrev n : ℕ
   n = length later.activations
@@ -73,29 +77,29 @@ module _ (c : After-begin-key) (creates : Bool) (program : Units) (cells : ℕ) 
       let it = process-at c.args.self.now.processes.items c.args.p makes.making.levels.kept c.index.ensures in
       ap (λ (l : Level). l.key) (c.top-parent.ensures t.level t.below t.operands it.stack)
 
+  more : later.activations ≡ (state_begun call).activations
+  more = made-begun creates call
+
   number : c.args.self.now.activations + 1 ≡ n
-  number = omega (arith, e.turning.after.shows.activations, made-number creates t c.args.called.unit e.binding)
+  number = omega (arith, e.turning.after.shows.activations, long call later more)
 
   size : c.args.called.cells ≡ frame_of program later n
-  size = makes.unit.cells_are ∙ ap (λ v. frame_cells (unit_at program v)) (sym (made-unit creates t c.args.called.unit e.binding))
+  size = makes.unit.cells_are ∙ ap (λ v. frame_cells (unit_at program v)) (sym (unit-is call later more))
 
-  passed : ArePassed program s layout (scope_of program s t.top.0.activation) e.actuals c.deref.result.now
-  passed = subst (ArePassed program s layout (scope_of program s t.top.0.activation) e.actuals) (sym c.deref.ensures.value) e.passed
+  passed : ArePassed call layout c.deref.result.now
+  passed = subst (ArePassed call layout) (sym c.deref.ensures.value) e.passed
 
   begun : IsBegunIn t e.turning later c.args.called.cells c.begin-key.result c.args.self.now.passing.shapes.items c.begin-key.new.frames.arena (nodes_of c.begin-key.new.frames.nodes)
   begun =
-      let p = c.args.p in
       let u = c.args.called.unit in
       let m = t.machine in
       let key = c.begin-key.result in
       let h = e.turning in
-      let begins = made-begun creates t u e.binding in
       let there = ap m.nodes parent ∙ top-node h in
-      let stored = of-made creates t u e.binding (λ z. z.store ≡ e.binding.store) refl refl in
-      let written = c.begin-key.ensures.written program choices p t.top u e.actuals e.binding later layout (is_held s) (node_under m.nodes t.level.key) h.after.shows.keeps there (top-activation h) e.passing passed begins stored number refl size in
+      let written = c.begin-key.ensures.written call later layout (is_held s) (node_under m.nodes t.level.key) h.after.shows.keeps there (top-activation h) e.passing passed more (made-store creates call) number refl size in
       let first = written.0 in
       let node = new_node (m.activations + 1) u first c.args.called.cells c.top-parent.result.key in
-      let binding = c.dummies_are_bound.ensures.binding program choices p t.top u e.actuals e.binding later layout first (length m.arena.contents) c.deref.result.now e.passing passed begins h.after.shows.keeps.memory.laid in
+      let binding = c.dummies_are_bound.ensures.binding call later layout first (length m.arena.contents) c.deref.result.now e.passing passed more h.after.shows.keeps.memory.laid in
       record {
         first = first;
         node = node;
@@ -105,35 +109,23 @@ module _ (c : After-begin-key) (creates : Bool) (program : Units) (cells : ℕ) 
         there = ap (λ (z : Nodes). z key) (c.begin-key.ensures.nodes first written.1) ∙ node-new m.nodes key node c.top-parent.result.key;
         framed = record { frame = binding.frame; framed = binding.framed; begins = sym binding.begins; sized = size };
         shaping =
-            let unit = sym (made-unit creates t u e.binding) in
-            let dummies = sym (made-dummies creates t u e.binding) in
-            record { distinct = binding.distinct; shapes_are = carry (λ i. AreShapesOf (unit_at program (unit i)) (dummies i) c.args.self.now.passing.shapes.items) e.shaped };
+            record {
+              distinct = binding.distinct;
+              shapes_are = subst (λ (x : Activation). AreShapesOf (unit_at program x.unit) x.dummies c.args.self.now.passing.shapes.items) (sym (activation-is call later more)) e.shaped;
+            };
       }
 
   -- its other cells are unset, up to the bounds of adjustable arrays
-  unset : IsWritten program s later layout begun.first (cells_to_bounds_of (unit_begun program later) 0) (is_held s) c.begin-key.new.frames.arena (nodes_of c.begin-key.new.frames.nodes)
+  unset : IsWritten (frames_before t e.turning) later begun.first (cells_to_bounds_of (unit_begun program later) 0) c.begin-key.new.frames.arena (nodes_of c.begin-key.new.frames.nodes)
   unset =
-      let p = c.args.p in
-      let u = c.args.called.unit in
-      let arena = c.begin-key.new.frames.arena in
-      let nodes = nodes_of c.begin-key.new.frames.nodes in
-      let law = c.other_cells_are_unset.ensures in
-      of-made creates t u e.binding
-      (λ z. step program p s ≡ Some z → IsWritten program s z layout begun.first (cells_to_locals (unit_begun program z)) (is_held s) arena nodes → IsWritten program s z layout begun.first (cells_to_bounds_of (unit_begun program z) 0) (is_held s) arena nodes)
-      (law.called program choices p t.top u e.binding layout begun.first (is_held s) arena nodes e.turning.lives)
-      (law.created program choices p t.top u e.binding layout begun.first (is_held s) arena nodes e.turning.lives)
-      e.made begun.written
+      c.other_cells_are_unset.ensures.made creates call layout begun.first (is_held s) c.begin-key.new.frames.arena (nodes_of c.begin-key.new.frames.nodes) e.turning.lives e.made begun.written
 
-  -- what dummy arguments stand for is kept
-  kept : AreAllKept program later (layout_with program later layout begun.first)
+  -- what its dummy arguments stand for is kept
+  kept : AreKept program later (layout_with program later layout begun.first) n
   kept =
-      let p = c.args.p in
-      let u = c.args.called.unit in
       let held = e.turning.after.shows in
-      let law = c.references_are_kept.ensures in
-      of-made creates t u e.binding (λ z. AreAllKept program z (layout_with program z layout begun.first))
-      (law.called program choices p t.top u e.actuals e.binding layout begun.first (length c.args.self.now.frames.arena.contents) c.deref.result.now e.passing passed held.keeps.memory.laid held.kept)
-      (law.created program choices p t.top u e.actuals e.binding layout begun.first (length c.args.self.now.frames.arena.contents) c.deref.result.now e.passing passed held.keeps.memory.laid held.kept)
+      let on = made-stacks call e.turning.lives creates n ∙ ap (λ b. if b then true else is_stacked s n) (eq-eqb n n refl) in
+      c.references_are_kept.ensures creates call layout begun.first (length c.args.self.now.frames.arena.contents) c.deref.result.now e.passing passed held.keeps.memory.laid held.kept n on
 
 -- ---- the shapes
 
@@ -156,7 +148,7 @@ returns-clause-entered c creates program cells choices index makes =
     let e = makes.making.holds in
     let u = c.args.called.unit in
     let s = state_before t in
-    let later = state_made creates t u e.binding in
+    let later = state_made e in
     let n = length later.activations in
     let h = e.turning in
     let layout = h.after.layout in
@@ -172,8 +164,8 @@ returns-clause-entered c creates program cells choices index makes =
       first = b.first;
       gap = (λ i. lowest_gap (sym h.after.size i) (sym big i) (common_cells program) layout) ∙ b.gap;
       written =
-          c.shape_all.ensures.shaped (record (frames_begun (frames_in program s (is_held s) layout) later b.first) { wanted = descriptor_slots program s layout }) n b.node (unset before creates program cells choices index makes) b.there b.framed shaping;
-      kept = kept before creates program cells choices index makes n (made-stacked creates t u e.binding h.lives);
+          c.shape_all.ensures.shaped (frames_with (frames_before t h) later b.first) n b.node (unset before creates program cells choices index makes) b.there b.framed shaping;
+      kept = kept before creates program cells choices index makes;
       size = c.shape_all.ensures.cells ∙ (c.begin-key.ensures.cells ∙ h.after.size);
       vacant = c.begin-key.ensures.vacant;
       nodes_are = c.shape_all.ensures.nodes ∙ (c.begin-key.ensures.nodes b.first b.fit ∙ (λ i. with_node (snapshot_of c.args.self.now).nodes c.begin-key.result (new_node (act i) u b.first (big i) (above i)) (above i)));

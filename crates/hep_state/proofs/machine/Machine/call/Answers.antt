@@ -6,8 +6,8 @@ use Rattle.hep_frames.specs.Nodes.{nodes_of}
 use Rattle.hep_step.specs.Simulation.{unit_code}
 use Rattle.hep_state.specs.declared.machine.Level.{Level}
 use Rattle.hep_state.specs.declared.machine.Machine.{Machine}
-use Rattle.hep_state.specs.Words.{HasMadeTurn, Stack, entered_level, snapshot_called, snapshot_of, stack_of, turn_of}
-use Rattle.hep_state.proofs.Begun.{called-shown}
+use Rattle.hep_state.specs.Words.{HasMadeTurn, Stack, entered_level, snapshot_made_by, snapshot_of, stack_of, turn_of}
+use Rattle.hep_state.proofs.Begun.{made-shown}
 use Rattle.hep_state.proofs.Processes.{process-still, room-more, stacks-set, some-levels-at}
 use Rattle.hep_state.proofs.Unchanged.{rooms-begun, rooms-set}
 use Rattle.hep_state.proofs.machine.Machine.call.Goals as goal
@@ -44,9 +44,9 @@ returns c =
           let entered : level ≡ entered_level program u level.key = begun.level ∙ (λ i. record { key = level.key; unit = u; index = makes.unit.entry_is i }) in
           let stack = c.put_above.ensures.stack t.level t.below t.operands it.stack ∙ (λ i. record { levels = entered i ∷ (record t.level { index = c.args.index } ∷ t.below); operands = [] }) in
           let stacks = stacks-set new.processes.items p r k stack ∙ ap (λ qs. with_numbered (map stack_of qs) p k) same in
-          let shown = ap (λ (n : Machine). snapshot_of (record n { processes = with_item new.processes (p - 1) r })) begun.others ∙ (λ i. record (snapshot_called t u level.key c.args.index arena nodes) { processes = stacks i }) in
+          let shown = ap (λ (n : Machine). snapshot_of (record n { processes = with_item new.processes (p - 1) r })) begun.others ∙ (λ i. record (snapshot_made_by false t u level.key c.args.index arena nodes) { processes = stacks i }) in
           subst (HasMadeTurn t) (sym shown) (
-          called-shown e.turning u e.binding level.key c.args.index arena nodes (begun.entered false program cells choices c.args.index makes) e.after);
+          made-shown e.turning u e.actuals e.binding false level.key c.args.index arena nodes (begun.entered false program cells choices c.args.index makes) e.after);
       rooms = λ program cells h deep.
           let e = c.requires.calling.3.making.levels in
           let it = process-still old.processes.items new.processes.items p same e.kept c.index_mut.ensures.value in

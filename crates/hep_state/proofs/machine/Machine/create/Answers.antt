@@ -7,8 +7,8 @@ use Rattle.hep_step.specs.Simulation.{unit_code}
 use Rattle.hep_state.specs.declared.machine.Level.{Level}
 use Rattle.hep_state.specs.declared.machine.Machine.{Machine}
 use Rattle.hep_state.specs.declared.machine.Process.{Process}
-use Rattle.hep_state.specs.Words.{HasMadeTurn, HasRoom, Stack, entered_level, snapshot_created, snapshot_of, stack_of, turn_of}
-use Rattle.hep_state.proofs.Begun.{created-shown}
+use Rattle.hep_state.specs.Words.{HasMadeTurn, HasRoom, Stack, entered_level, snapshot_made_by, snapshot_of, stack_of, turn_of}
+use Rattle.hep_state.proofs.Begun.{made-shown}
 use Rattle.hep_state.proofs.Processes.{all-more, all-set, process-still, room-alone, room-moved, stacks-set, some-levels-at}
 use Rattle.hep_state.proofs.Unchanged.{rooms-begun}
 use Rattle.hep_state.proofs.machine.Machine.create.Goals as goal
@@ -47,9 +47,9 @@ returns c =
           let entered : level ≡ entered_level program u level.key = begun.level ∙ (λ i. record { key = level.key; unit = u; index = makes.unit.entry_is i }) in
           let fresh : stack_of made ≡ record { levels = entered_level program u level.key ∷ []; operands = [] } = λ i. record { levels = (ap reverse alone ∙ ap (λ l. l ∷ []) entered) i; operands = c.requires.empty.1 i } in
           let stacks = ap (map stack_of) c.append-2.ensures ∙ (map-append stack_of (slice_set new.processes.items (p - 1) r) (made ∷ []) ∙ (λ i. own i ++ fresh i ∷ [])) in
-          let shown = ap (λ (n : Machine). snapshot_of (record n { processes = c.append-2.new.items })) begun.others ∙ (λ i. record (snapshot_created t u level.key c.args.index arena nodes) { processes = stacks i }) in
+          let shown = ap (λ (n : Machine). snapshot_of (record n { processes = c.append-2.new.items })) begun.others ∙ (λ i. record (snapshot_made_by true t u level.key c.args.index arena nodes) { processes = stacks i }) in
           subst (HasMadeTurn t) (sym shown) (
-          created-shown e.turning u e.binding level.key c.args.index arena nodes (begun.entered true program cells choices c.args.index makes) e.after);
+          made-shown e.turning u e.actuals e.binding true level.key c.args.index arena nodes (begun.entered true program cells choices c.args.index makes) e.after);
       rooms = λ program cells h deep.
           let e = c.requires.creating.3.making.levels in
           let it = process-still old.processes.items new.processes.items p same e.kept c.index_mut.ensures.value in
