@@ -7,27 +7,8 @@ ghost use Rattle.hep_code.specs.Moves as moves_words;
 ghost use Rattle.hep_code.specs.Words.{Counts, IsAt, AddressedUnit, code_of};
 
 use crate::instruction::{Instruction, Operation};
+use hep_machine::values::{integer_of, logical_of};
 use hep_source::Value;
-
-// The integer that a value is; no accepted program has another one here.
-fn integer_of(value: Value) -> i64
-    ensures { result ≡ arithmetic.integer_of value }
-{
-    match value {
-        Value::Int(integer) => integer,
-        Value::Truth(_) => 0,
-    }
-}
-
-// The logical value that a value is; no accepted program has another one here.
-fn logical_of(value: Value) -> bool
-    ensures { result ≡ arithmetic.logical_of value }
-{
-    match value {
-        Value::Int(_) => false,
-        Value::Truth(truth) => truth,
-    }
-}
 
 fn first_operand(operands: &[Value]) -> Value
     ensures { result ≡ moves_words.first_operand operands.now }

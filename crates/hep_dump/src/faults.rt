@@ -5,9 +5,9 @@ ghost use Rattle.hep_scheduler.specs.Value.{state_of};
 ghost use Rattle.hep_dump.specs.Faults as words;
 ghost use Rattle.hep_dump.specs.Names.{name_found};
 
-use crate::number::append_number;
 use hep_image::Image;
 use hep_machine::{Fault, Kind};
+use hep_output::append_number;
 use hep_scheduler::Core;
 use hep_source::MAIN_NAME;
 use std::alloc::{AllocError, Global};

@@ -2,7 +2,6 @@
 #![tactic(auto)]
 
 pub mod faults;
-mod number;
 pub mod waiting;
 
 pub use faults::{append_fault, append_faults, fault_text};

@@ -5,8 +5,8 @@ ghost use Rattle.hep_scheduler.specs.Value.{state_of};
 ghost use Rattle.hep_dump.specs.Waiting as words;
 
 use crate::faults::name_of;
-use crate::number::append_number;
 use hep_image::Image;
+use hep_output::append_number;
 use hep_scheduler::{Core, Listed};
 use std::alloc::AllocError;
 

@@ -6,9 +6,10 @@ ghost use Rattle.hep_history.specs.Lines.{AreLines, IsRefusedText, ReportsLine};
 ghost use Rattle.hep_history.specs.Histories.{entry_text, history_text, IsAllowed};
 
 use crate::lines::{FromLine, read_lines};
-use crate::number::{append_number, number_before};
+use crate::number::number_before;
 use hep_base::{Refusal as HistoryFault, Sequence};
 use hep_machine::Entry;
+use hep_output::append_number;
 use std::alloc::{AllocError, Global};
 
 /// The most bytes of a text of a history or of choices.

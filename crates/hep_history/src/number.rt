@@ -1,24 +1,9 @@
 //! Numbers in a text: shortest decimals, each with a byte after it that is no digit.
-ghost use Rattle.std.specs.Prelude.{◌≡◌, ◌≢◌, ℕ, ◌^◌, ◌<◌, ◌≤◌, List, ◌++◌, ◌∷◌, slice_index, EachIndex, OnOk, IfSome, IfNone};
+ghost use Rattle.std.specs.Prelude.{◌≡◌, ◌≢◌, ℕ, ◌^◌, ◌<◌, ◌≤◌, List, ◌++◌, ◌∷◌, slice_index, EachIndex, IfSome, IfNone};
 ghost use Rattle.std.specs.Char.{IsAsciiDigit, is_ascii_digit};
 ghost use Rattle.std.specs.Fmt.{decimal};
 ghost use Rattle.std.specs.List.{prefix_len};
 ghost use Rattle.std.specs.Str.Parse.{digits_value};
-
-use itoa::{Buffer, Integer};
-use std::alloc::AllocError;
-
-/// Appends a number in decimal.
-///
-/// # Errors
-///
-/// Only where memory was refused.
-pub fn append_number<I: Integer>(text: &mut Vec<u8>, number: I) -> Result<(), AllocError>
-    ensures { OnOk result (text.new.items ≡ text.old.items ++ I.text number) }
-{
-    let mut buffer = Buffer::new();
-    text.extend_from_slice(buffer.format(number).as_bytes())
-}
 
 // How many digits stand at the front of a text.
 fn digit_count(text: &[u8]) -> usize
