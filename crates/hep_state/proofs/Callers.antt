@@ -252,7 +252,7 @@ module _ {t : TurnOf} (call : CallAhead) (at : IsAtCall t call) (all : IsKnownTo
 -- what is read of process p of a machine
 pub record IsRead (program : Units) (m : Machine) (p : ℕ) (q : Process) (entries : List Instruction) (arrays : List Array) (frame : CellFrame) (vs : List Value) : Type 0 where
   pub process : q ≡ get_or m.processes.items (p - 1) q
-  pub behind : (l : Level) (ls : List Level) (before : List Value) → stack_of q ≡ stack_with l ls before → IsBehind program (nodes_of m.frames.nodes) l entries arrays frame
+  pub behind : (l : Level) (ls : List Level) (before pending : List Value) → stack_of q ≡ stack_with l ls before pending → IsBehind program (nodes_of m.frames.nodes) l entries arrays frame
   pub operands : vs ≡ q.operands.items
 
 module _ {program : Units} {cells : ℕ} {choices : List ℕ} {p : ℕ} (m : Machine) {line : ℕ} {o : Operation} (at : HoldsInTurn program cells choices p (snapshot_of m) (λ t. IsAtStep t line o)) where
@@ -260,12 +260,12 @@ module _ {program : Units} {cells : ℕ} {choices : List ℕ} {p : ℕ} (m : Mac
   unit-inside = inside at.holds.turning
 
   pub can-read : {q : Process} → q ≡ get_or m.processes.items (p - 1) q
-      → (l : Level) × (ls : List Level) × (operands : List Value) × (stack_of q ≡ stack_with l ls operands) × IsThere program (nodes_of m.frames.nodes) l × (l.index < length (unit_code program l.unit))
+      → (l : Level) × (ls : List Level) × (operands : List Value) × (pending : List Value) × (stack_of q ≡ stack_with l ls operands pending) × IsThere program (nodes_of m.frames.nodes) l × (l.index < length (unit_code program l.unit))
   can-read {q} is =
       let l = at.levels.level in
       let code = unit_code program l.unit in
       let there = process-at m.processes.items p at.levels.kept is in
-      (l, at.levels.below, at.levels.operands, there.stack, (unit-inside, top-node at.holds.turning), slice_get_within code l.index _ (dropped-first code l.index _ at.holds.behind at.holds.ahead))
+      (l, at.levels.below, at.levels.operands, at.levels.pending, there.stack, (unit-inside, top-node at.holds.turning), slice_get_within code l.index _ (dropped-first code l.index _ at.holds.behind at.holds.ahead))
 
 -- what is said of the frame, the arrays and the actual arguments of the caller is said of what was read
 module _ {program : Units} {cells : ℕ} {choices : List ℕ} {p : ℕ} {m : Machine} {line : ℕ} {o : Operation} {q : Process} {entries : List Instruction} {arrays : List Array} {frame : CellFrame} {operands : List Value}
@@ -273,15 +273,15 @@ module _ {program : Units} {cells : ℕ} {choices : List ℕ} {p : ℕ} {m : Mac
   abbrev t : TurnOf
   t = turn_of at
 
-  stack : stack_of q ≡ stack_with t.level t.below t.operands
+  stack : stack_of q ≡ stack_with t.level t.below t.operands t.pending
   stack = (process-at m.processes.items p at.levels.kept read.process).stack
 
   here : IsBehind program (nodes_of m.frames.nodes) t.level entries arrays frame
-  here = read.behind t.level t.below t.operands stack
+  here = read.behind t.level t.below t.operands t.pending stack
 
   passed-there : passed_from count entries operands ≡ passed_from count at.holds.behind t.operands
   passed-there i =
-      passed_from count ((here.behind ∙ drop_one_more (unit_code program t.level.unit) t.level.index _ at.holds.behind at.holds.ahead) i) ((read.operands ∙ operands-are q t.level t.below t.operands stack) i)
+      passed_from count ((here.behind ∙ drop_one_more (unit_code program t.level.unit) t.level.index _ at.holds.behind at.holds.ahead) i) ((read.operands ∙ operands-are q t.level t.below t.operands t.pending stack) i)
 
   pub of-read : (P : CellFrame → List Array → List Passed → Type 0) → P (frame_in_arena (top_frame (turn_of at))) (unit_arrays program at.levels.level.unit) (passed_from count at.holds.behind at.levels.operands)
       → P frame arrays (passed_from count entries operands)

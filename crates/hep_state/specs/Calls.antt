@@ -17,13 +17,15 @@ use Rattle.hep_entering.specs.Calling.{ArePassed, CallOf, IsAllWritten, IsPassin
 
 -- the level of a new activation of unit u, whose node is under a key, at its first executable statement
 abbrev pub entered_level : Units → ℕ → ℕ → Level
-entered_level program u key = record { key = key; unit = u; index = entry_index (unit_addressed program u) }
+entered_level program u key = record { key = key; unit = u; kept = 0; index = entry_index (unit_addressed program u) }
 
--- the stacks with a new level: above the top one of the process, which calls, or as a process of its own; that one is at another index
+-- the stacks with a new level: above the top one of the process, which calls and keeps no operands, or as a process of its own; that one
+-- is at another index
 abbrev pub stacks_made_by : Bool → TurnOf → Level → Level → List Stack
-stacks_made_by false t new behind = with_numbered t.machine.processes t.process (record { levels = new ∷ (behind ∷ t.below); operands = [] })
+stacks_made_by false t new behind = with_numbered t.machine.processes t.process (record { levels = new ∷ (record behind { kept = 0 } ∷ t.below); operands = []; pending = t.pending })
 stacks_made_by true t new behind =
-    with_numbered t.machine.processes t.process (record { levels = behind ∷ t.below; operands = [] }) ++ record { levels = new ∷ []; operands = [] } ∷ []
+    with_numbered t.machine.processes t.process (record { levels = behind ∷ t.below; operands = []; pending = t.pending })
+    ++ record { levels = new ∷ []; operands = []; pending = [] } ∷ []
 
 -- the process calls unit u, or makes a process of it, and its top activation is to go on at an index
 abbrev pub snapshot_made_by : Bool → TurnOf → ℕ → ℕ → ℕ → Space → Nodes → Snapshot

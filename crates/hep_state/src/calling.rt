@@ -28,8 +28,9 @@ pub struct Called {
 // Its top activation is to go on at an index.
 pub(crate) fn go_on(process: &mut Process, index: usize)
     requires { 0 < vec_len process.old.levels }
-    ensures stack { (l : ALevel) (ls : List ALevel) (operands : List OperandValue) → stack_of process.old ≡ stack_with l ls operands
-        → stack_of process.new ≡ stack_with (record l { index = index }) ls [] }
+    ensures stack { (l : ALevel) (ls : List ALevel) (operands pending : List OperandValue)
+        → stack_of process.old ≡ stack_with l ls operands pending
+        → stack_of process.new ≡ stack_with (record l { index = index }) ls [] pending }
     ensures count { vec_len process.new.levels ≡ vec_len process.old.levels }
     ensures capacity { vec_capacity process.new.levels ≡ vec_capacity process.old.levels }
     ensures operands { vec_capacity process.new.operands ≡ vec_capacity process.old.operands }
@@ -38,15 +39,22 @@ pub(crate) fn go_on(process: &mut Process, index: usize)
     process.operands.clear();
 }
 
-// Its top activation is to go on at an index, and a new one is above it.
+// Its top activation keeps no operands and is to go on at an index, and a new one is above it.
 fn put_above(process: &mut Process, index: usize, level: Level)
     requires some { 0 < vec_len process.old.levels }
     requires room { vec_len process.old.levels < vec_capacity process.old.levels }
-    ensures stack { (l : ALevel) (ls : List ALevel) (operands : List OperandValue) → stack_of process.old ≡ stack_with l ls operands
-        → stack_of process.new ≡ record { levels = level ∷ (record l { index = index } ∷ ls); operands = [] } }
+    ensures stack { (l : ALevel) (ls : List ALevel) (operands pending : List OperandValue)
+        → stack_of process.old ≡ stack_with l ls operands pending
+        → stack_of process.new ≡ stack_with level (record l { kept = 0; index = index } ∷ ls) [] pending }
     ensures operands { vec_capacity process.new.operands ≡ vec_capacity process.old.operands }
 {
-    go_on(process, index);
+    let below = Level {
+        kept: 0,
+        index,
+        ..process.top()
+    };
+    process.put_top(below);
+    process.operands.clear();
     append(&mut process.levels, level);
 }
 
@@ -66,7 +74,7 @@ impl Machine {
             → (e : Makes creates program cells choices p self.old called index)
             → HasEntered (turn_of e.making) e.making.holds.turning called.unit result.key (state_made e.making.holds)
             self.new.frames.arena (nodes_of self.new.frames.nodes) }
-        ensures level { result ≡ record { key = result.key; unit = called.unit; index = called.entry } }
+        ensures level { result ≡ record { key = result.key; unit = called.unit; kept = 0; index = called.entry } }
         ensures others { self.new ≡ record self.old { frames = self.new.frames; activations = self.old.activations + 1 } }
     {
         hep_frames::laws::children_are_activations();
@@ -89,6 +97,7 @@ impl Machine {
         Level {
             key,
             unit,
+            kept: 0,
             index: entry,
         }
     }
@@ -127,7 +136,7 @@ impl Machine {
         requires countable { self.old.activations + 1 < 2 ^ 64 }
         requires gap { IsSome (first_fit called.cells self.old.frames.arena.holes) }
         requires node { HasRoomFor self.old.frames.nodes 1 }
-        requires empty { (process.levels.items ≡ []) × (process.operands.items ≡ []) }
+        requires empty { (process.levels.items ≡ []) × (process.operands.items ≡ []) × (process.pending.items ≡ []) }
         requires level { vec_len process.levels < vec_capacity process.levels }
         requires process { vec_len self.old.processes < vec_capacity self.old.processes }
         ensures stepped { (program : Units) (cells : ℕ) (choices : List ℕ)

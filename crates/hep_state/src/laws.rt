@@ -48,8 +48,9 @@ pub fn turns_are_taken()
         → (top : SourceLevel × SourceProcess) × IsTurning (turn_with program cells choices levels top) }
     ensures halted { (program : Units) (cells : ℕ) (choices : List ℕ) (m : Snapshot) (p : ℕ) → IsAfter program cells choices m
         → m.halted ≡ true → IsAbsent program cells choices p m }
-    ensures ended { (program : Units) (cells : ℕ) (choices : List ℕ) (m : Snapshot) (p : ℕ) (operands : List Value)
-        → IsAfter program cells choices m → numbered m.processes p ≡ Some (record { levels = []; operands = operands })
+    ensures ended { (program : Units) (cells : ℕ) (choices : List ℕ) (m : Snapshot) (p : ℕ) (operands pending : List Value)
+        → IsAfter program cells choices m
+        → numbered m.processes p ≡ Some (record { levels = []; operands = operands; pending = pending })
         → IsAbsent program cells choices p m }
     ensures none { (program : Units) (cells : ℕ) (choices : List ℕ) (m : Snapshot) (p : ℕ) → IsAfter program cells choices m
         → numbered m.processes p ≡ None → IsAbsent program cells choices p m }

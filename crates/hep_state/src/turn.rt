@@ -59,7 +59,8 @@ impl Process {
     fn reserve(&mut self, operands: u32) -> Result<(), AllocError>
         ensures level { OnOk result (vec_len self.new.levels < vec_capacity self.new.levels) }
         ensures operands { OnOk result (operands ≤ vec_capacity self.new.operands) }
-        ensures same { (self.new.levels.items ≡ self.old.levels.items) × (self.new.operands.items ≡ self.old.operands.items) }
+        ensures same { (self.new.levels.items ≡ self.old.levels.items) × (self.new.operands.items ≡ self.old.operands.items)
+            × (self.new.pending.items ≡ self.old.pending.items) }
         ensures capacity { vec_capacity self.old.operands ≤ vec_capacity self.new.operands }
     {
         self.levels.reserve(1)?;
@@ -132,7 +133,8 @@ impl Machine {
     ) -> Result<Process, AllocError>
         ensures node { OnOk result (HasRoomFor self.new.frames.nodes 1) }
         ensures process { OnOk result (vec_len self.new.processes < vec_capacity self.new.processes) }
-        ensures empty { IfOk result (λ process. (process.levels.items ≡ []) × (process.operands.items ≡ [])) }
+        ensures empty { IfOk result (λ process. (process.levels.items ≡ []) × (process.operands.items ≡ [])
+            × (process.pending.items ≡ [])) }
         ensures level { IfOk result (λ process. vec_len process.levels < vec_capacity process.levels) }
         ensures operands { IfOk result (λ process. operands ≤ vec_capacity process.operands) }
         ensures entry { OnOk result (vec_len history.new < vec_capacity history.new) }
@@ -152,6 +154,7 @@ impl Machine {
         Ok(Process {
             levels: Vec::with_capacity(alloc, 1)?,
             operands: Vec::with_capacity(alloc, operands as usize)?,
+            pending: Vec::new(alloc),
         })
     }
 

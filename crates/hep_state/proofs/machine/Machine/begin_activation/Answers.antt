@@ -35,7 +35,7 @@ begin-key-requires c =
     let layout = e.turning.after.layout in
     let shows = e.turning.after.shows in
     let it = process-at c.args.self.now.processes.items c.args.p r.5.making.levels.kept c.index.ensures in
-    let same = c.top-parent.ensures t.level t.below t.operands it.stack in
+    let same = c.top-parent.ensures t.level t.below t.operands t.pending it.stack in
     let call = call_in t c.args.called.unit e.actuals e.binding in
     let many = passed-many r.1 s layout (scope_of r.1 s t.top.0.activation) e.actuals c.deref.result.now (subst (ArePassed call layout) (sym c.deref.ensures.value) e.passed) in
     record {
@@ -75,7 +75,7 @@ module _ (c : After-begin-key) (creates : Bool) (program : Units) (cells : ℕ) 
   parent : c.top-parent.result.key ≡ t.level.key
   parent =
       let it = process-at c.args.self.now.processes.items c.args.p makes.making.levels.kept c.index.ensures in
-      ap (λ (l : Level). l.key) (c.top-parent.ensures t.level t.below t.operands it.stack)
+      ap (λ (l : Level). l.key) (c.top-parent.ensures t.level t.below t.operands t.pending it.stack)
 
   more : later.activations ≡ (state_begun call).activations
   more = made-begun creates call
