@@ -9,6 +9,9 @@ use Rattle.hep_layout_laws.specs.Bound.{AreKept}
 use Rattle.hep_layout.specs.Words.{FrameNode, Nodes, also, is_stacked, new_node, frame_from}
 use Rattle.hep_layout.proofs.Memory.{memory-fits}
 use Rattle.hep_frames.specs.Keeping.{AreOfSomeState as ArenaKept}
+use Rattle.hep_step.specs.declared.way.Way.{Way}
+use Rattle.hep_step.specs.declared.way.Way.TheVariants.{Calls, Creates}
+use Rattle.hep_step.specs.Calls.{is_creation}
 use Rattle.hep_step.specs.Simulation.{unit_addressed}
 use Rattle.hep_state.specs.declared.machine.Level.{Level}
 use Rattle.hep_state.specs.Words.{Snapshot, Stack, IsTurning, TurnOf, call_in, frames_before, state_before, state_failed, HasMadeTurn, HasGaps, HasNoGap, HasEntered, IsAfterCall, entered_level, snapshot_made_by, stacks_made_by, state_made, IsMaking, IsUnit, IsEnding}
@@ -59,9 +62,9 @@ module _ {t : TurnOf} (h : IsTurning t) (u : ℕ) (actuals : List Actual) (b : B
 
   -- ---- in the state to which a CALL or CREATE leads
 
-  module _ (creates : Bool) (key : ℕ) (arena : Space) (nodes : Nodes) (e : HasEntered t h u key (state_made_by creates (call_in t u actuals b)) arena nodes) where
+  module _ (way : Way) (key : ℕ) (arena : Space) (nodes : Nodes) (e : HasEntered t h u key (state_made_by (is_creation way) (call_in t u actuals b)) arena nodes) where
     abbrev later : State
-    later = state_made_by creates call
+    later = state_made_by (is_creation way) call
 
     abbrev n : ℕ
     n = length later.activations
@@ -70,13 +73,13 @@ module _ {t : TurnOf} (h : IsTurning t) (u : ℕ) (actuals : List Actual) (b : B
     now = layout_with t.program later layout e.first
 
     begun : later.activations ≡ (state_begun call).activations
-    begun = made-begun creates call
+    begun = made-begun (is_creation way) call
 
     number : n ≡ suc (length old.activations)
     number = long call later begun
 
     keeps : IsKeptIn (frames_before t h) later e.first arena nodes
-    keeps = made-keeps creates call h.lives layout e.first (length t.machine.arena.contents) h.after.shows.keeps.memory.laid (is_held old) arena nodes e.written
+    keeps = made-keeps (is_creation way) call h.lives layout e.first (length t.machine.arena.contents) h.after.shows.keeps.memory.laid (is_held old) arena nodes e.written
 
     laid : layout_of t.program t.cells is_held (t.choices ++ t.process ∷ []) ≡ Some now
     laid =
@@ -137,7 +140,7 @@ module _ {t : TurnOf} (h : IsTurning t) (u : ℕ) (actuals : List Actual) (b : B
 
     -- what the dummy arguments of each activation stand for, that of the new one and of those that were there
     kept-then : (a : ℕ) → is_stacked later a ≡ true → AreKept t.program later now a
-    kept-then a on = by_number (nat_eq a n) refl (sym (made-stacks call h.lives creates a) ∙ on) where
+    kept-then a on = by_number (nat_eq a n) refl (sym (made-stacks call h.lives (is_creation way) a) ∙ on) where
       by_number : (c : Bool) → nat_eq a n ≡ c → (if c then true else is_stacked old a) ≡ true → AreKept t.program later now a
       by_number true is on = subst (AreKept t.program later now) (sym (eqb-true a n is)) e.kept
       by_number false is on =
@@ -158,24 +161,24 @@ module _ {t : TurnOf} (h : IsTurning t) (u : ℕ) (actuals : List Actual) (b : B
   set-many k q = length-set t.machine.processes _ k ∙ (h.after.shows.processes ∙ sym (length-set old.processes _ q))
 
   -- the new one is on top of its caller, or a process of its own
-  pub made-shown : (creates : Bool) (key index : ℕ) (arena : Space) (nodes : Nodes) → HasEntered t h u key (state_made_by creates (call_in t u actuals b)) arena nodes → IsAfterCall t index
-      → HasMadeTurn t (snapshot_made_by creates t u key index arena nodes)
-  made-shown false key index arena nodes e at =
+  pub made-shown : (way : Way) (key index : ℕ) (arena : Space) (nodes : Nodes) → HasEntered t h u key (state_made_by (is_creation way) (call_in t u actuals b)) arena nodes → IsAfterCall t index
+      → HasMadeTurn t (snapshot_made_by way t u key index arena nodes)
+  made-shown Calls key index arena nodes e at =
       let later = state_called call in
       let k : Stack = record { levels = entered_level t.program u key ∷ (record t.level { kept = 0; index = index } ∷ t.below); operands = []; pending = t.pending } in
       let q : Process = level_called call ∷ (t.top.0 ∷ t.top.1) in
       let own : AreOn later q → AreStanding t.program later nodes [] t.pending k.levels q =
       λ on.
       let keeps = keeps-none t.pending 0 refl in (
-        new-stands false key arena nodes e,
+        new-stands Calls key arena nodes e,
         (
-          record { here = maker-here false key arena nodes e (record t.level { kept = 0; index = index }) t.top.0.activation refl refl refl on.2.1; index = at; operands = keeps.0 },
-          subst (λ rest. AreStandingBelow t.program later nodes rest t.below t.top.1) (sym keeps.1) (below-stand false key arena nodes e on.2.2),
+          record { here = maker-here Calls key arena nodes e (record t.level { kept = 0; index = index }) t.top.0.activation refl refl refl on.2.1; index = at; operands = keeps.0 },
+          subst (λ rest. AreStandingBelow t.program later nodes rest t.below t.top.1) (sym keeps.1) (below-stand Calls key arena nodes e on.2.2),
         ),
         omega (arith, (standing-before h).2),
       ) in
-      shown false key arena nodes e (stacks_made_by false t (entered_level t.program u key) (record t.level { index = index })) (set-many k q) (all-stand false key arena nodes e k q own) refl refl refl
-  made-shown true key index arena nodes e at =
+      shown Calls key arena nodes e (stacks_made_by Calls t (entered_level t.program u key) (record t.level { index = index })) (set-many k q) (all-stand Calls key arena nodes e k q own) refl refl refl
+  made-shown Creates key index arena nodes e at =
       let later = state_created call in
       let k : Stack = record { levels = record t.level { index = index } ∷ t.below; operands = []; pending = t.pending } in
       let q : Process = level_behind call ∷ t.top.1 in
@@ -188,15 +191,15 @@ module _ {t : TurnOf} (h : IsTurning t) (u : ℕ) (actuals : List Actual) (b : B
       let own : AreOn later q → AreStanding t.program later nodes [] t.pending k.levels q =
       λ on. (
         record {
-          here = maker-here true key arena nodes e (record t.level { index = index }) (level_behind call).activation refl refl (behind-keeps call).1 on.1;
+          here = maker-here Creates key arena nodes e (record t.level { index = index }) (level_behind call).activation refl refl (behind-keeps call).1 on.1;
           stands =
               subst (λ v. Stands addressed (level_after_statement (unit_at t.program v) t.top.0).statement (level_after_statement (unit_at t.program v) t.top.0).work [] index) (sym unit_is) (
               subst (StandsAt addressed (level_after_statement (unit_at t.program t.level.unit) t.top.0)) (sym at) (after_statement_stands addressed t.top.0));
         },
-        below-stand true key arena nodes e on.2,
+        below-stand Creates key arena nodes e on.2,
         (standing-before h).2,
       ) in
-      shown true key arena nodes e (stacks_made_by true t (entered_level t.program u key) (record t.level { index = index })) count (more-stand true key arena nodes e k k2 q q2 (set-many k q) own (new-stands true key arena nodes e, tt, refl)) refl refl refl
+      shown Creates key arena nodes e (stacks_made_by Creates t (entered_level t.program u key) (record t.level { index = index })) count (more-stand Creates key arena nodes e k k2 q q2 (set-many k q) own (new-stands Creates key arena nodes e, tt, refl)) refl refl refl
 
 -- ---- the activation that is made, and what it is given
 
@@ -231,7 +234,7 @@ module _ {t : TurnOf} {turning : IsTurning t} {later : State} {n key : ℕ} {sha
 
 -- ---- whether its frame has a gap
 
-module _ {creates : Bool} {t : TurnOf} {u n entry index : ℕ} {given : List Given} {shapes : List (Option Bounds)} (h : IsMaking creates t u index given shapes) (unit : IsUnit t.program u n entry) where
+module _ {way : Way} {t : TurnOf} {u n entry index : ℕ} {given : List Given} {shapes : List (Option Bounds)} (h : IsMaking way t u index given shapes) (unit : IsUnit t.program u n entry) where
   abbrev called : State
   called = state_made h
 
@@ -244,13 +247,13 @@ module _ {creates : Bool} {t : TurnOf} {u n entry index : ℕ} {given : List Giv
   -- the gaps of the arena are those of the layout
   gap-is : first_fit n t.machine.arena.holes ≡ lowest_gap t.cells (frame_of t.program called (length called.activations)) (common_cells t.program) laid-out
   gap-is =
-      let size : n ≡ frame_of t.program called (length called.activations) = unit.cells_are ∙ ap (λ v. frame_cells (unit_at t.program v)) (sym (unit-is calling called (made-begun creates calling))) in
+      let size : n ≡ frame_of t.program called (length called.activations) = unit.cells_are ∙ ap (λ v. frame_cells (unit_at t.program v)) (sym (unit-is calling called (made-begun (is_creation way) calling))) in
       memory-fits t.program (state_before t) laid-out t.machine.arena.contents t.machine.arena.holes n h.turning.after.shows.keeps.memory (omega (arith, unit.cells_are))
       ∙ (λ i. lowest_gap (h.turning.after.size i) (size i) (common_cells t.program) laid-out)
 
   laid-by : (gap : Option ℕ) → first_fit n t.machine.arena.holes ≡ gap
       → layout_of t.program t.cells is_held (t.choices ++ t.process ∷ []) ≡ option_map (remaining_layout is_held called) (option_map (λ first. with_frame laid-out (frame_from t.program called (length called.activations) first)) gap)
-  laid-by gap e = layout-more t.program t.cells t.choices t.process laid-out called gap h.turning.after.laid h.made (long calling called (made-begun creates calling)) (sym gap-is ∙ e)
+  laid-by gap e = layout-more t.program t.cells t.choices t.process laid-out called gap h.turning.after.laid h.made (long calling called (made-begun (is_creation way) calling)) (sym gap-is ∙ e)
 
   pub called-no-gap : first_fit n t.machine.arena.holes ≡ None → HasNoGap t.program t.cells t.choices t.process
   called-no-gap none = record { stepped = λ e. none-some called (sym e ∙ h.made); full = laid-by None none }

@@ -19,6 +19,7 @@ use hep_blocked::Want;
 use hep_image::Image;
 use hep_machine::Entry;
 use hep_ready::Ready;
+use hep_step::Way;
 use hep_touched::laws::{purges_stand_ahead, touched_units_are_in_touched_cells};
 use std::alloc::{AllocError, Global};
 
@@ -282,12 +283,15 @@ impl Machine {
             cells: unit.cells,
             entry: unit.entry as usize,
         };
-        if call.creates {
-            let process = self.reserve_process(alloc, unit.operands, history, ready)?;
-            self.create(p, called, call.next as usize, process);
-        } else {
-            self.reserve_activation(p, unit.operands, history)?;
-            self.call(p, called, call.next as usize);
+        match call.way {
+            Way::Calls => {
+                self.reserve_activation(p, unit.operands, history)?;
+                self.call(p, called, call.next as usize);
+            }
+            Way::Creates => {
+                let process = self.reserve_process(alloc, unit.operands, history, ready)?;
+                self.create(p, called, call.next as usize, process);
+            }
         }
         Ok(Turned::Stepped { changed: None })
     }

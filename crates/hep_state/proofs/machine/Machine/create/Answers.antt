@@ -1,9 +1,10 @@
-use Rattle.std.proofs.Common.{◌≡◌, ◌+◌, ◌-◌, ◌≤◌, true, List, [], ◌∷◌, ◌++◌, length, map, reverse, sym, ap, ◌∙◌, subst, arith, slice_get, slice_set, vec_capacity}
+use Rattle.std.proofs.Common.{◌≡◌, ◌+◌, ◌-◌, ◌≤◌, List, [], ◌∷◌, ◌++◌, length, map, reverse, sym, ap, ◌∙◌, subst, arith, slice_get, slice_set, vec_capacity}
 use Rattle.std.proofs.lemmas.List.{length-append, length-set, map-append}
 use Rattle.hep_machine.specs.Words.{with_numbered}
 use Rattle.hep_code.specs.Words.{deepest}
 use Rattle.hep_frames.specs.Nodes.{nodes_of}
 use Rattle.hep_step.specs.Simulation.{unit_code}
+use Rattle.hep_step.specs.declared.way.Way.TheVariants.{Creates}
 use Rattle.hep_state.specs.declared.machine.Level.{Level}
 use Rattle.hep_state.specs.declared.machine.Machine.{Machine}
 use Rattle.hep_state.specs.declared.machine.Process.{Process}
@@ -14,7 +15,7 @@ use Rattle.hep_state.proofs.Unchanged.{rooms-begun}
 use Rattle.hep_state.proofs.machine.Machine.create.Goals as goal
 
 pub begin_activation-level-requires-clause-making : goal.begin_activation-level-requires-clause-making
-begin_activation-level-requires-clause-making c = let r = c.requires.creating in (true, r.0, r.1, r.2, c.args.index, r.3)
+begin_activation-level-requires-clause-making c = let r = c.requires.creating in (Creates, r.0, r.1, r.2, c.args.index, r.3)
 
 pub index_mut-requires : goal.index_mut-requires
 index_mut-requires c =
@@ -52,9 +53,9 @@ returns c =
           let entered : level ≡ entered_level program u level.key = begun.level ∙ (λ i. record { key = level.key; unit = u; kept = 0; index = makes.unit.entry_is i }) in
           let fresh : stack_of made ≡ record { levels = entered_level program u level.key ∷ []; operands = []; pending = [] } = λ i. record { levels = (ap reverse alone ∙ ap (λ l. l ∷ []) entered) i; operands = c.requires.empty.1 i; pending = c.requires.empty.2 i } in
           let stacks = ap (map stack_of) c.append-2.ensures ∙ (map-append stack_of (slice_set new.processes.items (p - 1) r) (made ∷ []) ∙ (λ i. own i ++ fresh i ∷ [])) in
-          let shown = ap (λ (n : Machine). snapshot_of (record n { processes = c.append-2.new.items })) begun.others ∙ (λ i. record (snapshot_made_by true t u level.key c.args.index arena nodes) { processes = stacks i }) in
+          let shown = ap (λ (n : Machine). snapshot_of (record n { processes = c.append-2.new.items })) begun.others ∙ (λ i. record (snapshot_made_by Creates t u level.key c.args.index arena nodes) { processes = stacks i }) in
           subst (HasMadeTurn t) (sym shown) (
-          made-shown e.turning u e.actuals e.binding true level.key c.args.index arena nodes (begun.entered true program cells choices c.args.index makes) e.after);
+          made-shown e.turning u e.actuals e.binding Creates level.key c.args.index arena nodes (begun.entered Creates program cells choices c.args.index makes) e.after);
       rooms = λ program cells h deep.
           let e = c.requires.creating.3.making.levels in
           let it = process-still old.processes.items new.processes.items p same e.kept c.index_mut.ensures.value in
