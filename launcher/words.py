@@ -130,12 +130,13 @@ class Job:
 
     command: str = ""
     operands: list = field(default_factory=list)
-    options: dict = field(default_factory=dict)
+    # With what each is given.
+    options: list = field(default_factory=list)
 
     def words_from(self, folder, form):
         """The words with each path as it is from the root."""
         words = [str(folder / it) if kind in FILES else it for it, kind in zip(self.operands, form.operands)]
-        for name, value in self.options.items():
+        for name, value in self.options:
             words.append(f"{name}={folder / value if form.options[name] in FILES else value}")
         return [self.command, *words]
 
@@ -163,7 +164,7 @@ def taken(command, form, words):
         elif not has_value and not left:
             raise Mistake(f"error: {name} wants {form.options[name]}\n")
         else:
-            job.options[name] = value if has_value else left.pop(0)
+            job.options.append((name, value if has_value else left.pop(0)))
     return job
 
 
@@ -173,14 +174,15 @@ def judge(manual, job, form):
     if lacking or len(job.operands) > len(form.operands):
         wrong = f"lacks {' '.join(lacking)}" if lacking else f"doesn't take {job.operands[len(form.operands)]}"
         raise Mistake(f"error: {job.command} {wrong}\n\nUsage: {form.line}\n")
-    for name, value in job.options.items():
+    for name, value in job.options:
         if form.options[name] == "N":
             least, most = re.search(r"(\d+) to (\d+)", of_tag(manual["OPTIONS"], name)[1]).groups()
             checked_number(name, value, int(least), int(most))
-    choices, history = job.options.get("--choices"), job.options.get("--history")
+    given = dict(job.options)
+    choices, history = given.get("--choices"), given.get("--history")
     if history is not None and history in (choices, *job.operands):
         raise Mistake(constant("words.rt", "SAME_FILE"))
-    if choices is not None and "--workers" in job.options:
+    if choices is not None and "--workers" in given:
         raise Mistake(constant("words.rt", "TWO_ORDERS"))
 
 
