@@ -45,4 +45,4 @@ _hepf() {
     esac
 }
 
-complete -o filenames -F _hepf hepf ./hepf
+complete -o filenames -F _hepf hepf ./hepf ./hepf-unproved

@@ -1,0 +1,210 @@
+"""What can be said of words without the program: help, the version, what a refusal means, and mistakes.
+
+Nothing of it stands here: commands, options and their numbers are read from the manual page, docs/hepf.1, refusals from
+docs/REFUSALS.md, and the version and two mistakes from the crate hep_command. A word that may have a meaning is left to the
+program.
+"""
+import re
+import shlex
+import textwrap
+from dataclasses import dataclass, field
+from pathlib import Path
+
+ROOT = Path(__file__).resolve().parent.parent
+COMMAND = ROOT / "crates" / "hep_command" / "src"
+COLUMNS = 80
+# What stands for a file in the manual page.
+FILES = ("FILE", "HISTORY")
+
+
+class Mistake(Exception):
+    """What is wrong with words."""
+
+
+# ---- the manual page
+
+
+def plain(row):
+    """The text of a line of the manual page, and of its request where it has one that sets fonts."""
+    request, _, rest = row.partition(" ")
+    if re.fullmatch(r"\.[BIR]{1,2}", request):
+        parts = shlex.split(rest.replace("\\", "\\\\"))
+        row = (" " if len(request) == 2 else "").join(parts)
+    return re.sub(r"\\f.", "", row).replace("\\-", "-")
+
+
+def sections():
+    """By name, the sections of the manual page: a list of paragraphs, each with what it is of, or nothing, and its lines."""
+    found, wants_tag = {}, False
+    for row in (ROOT / "docs" / "hepf.1").read_text().splitlines():
+        if row.startswith(".SH "):
+            paragraphs = found[row[4:]] = [("", [])]
+        elif row in (".TP", ".PP", ".br"):
+            wants_tag = row == ".TP"
+            paragraphs.append(("", []))
+        elif wants_tag:
+            paragraphs[-1] = (plain(row), [])
+            wants_tag = False
+        elif found and not row.startswith((".nf", ".fi")):
+            paragraphs[-1][1].append(plain(row))
+    return found
+
+
+def of_tag(section, name):
+    """What the paragraph of a section says that is of this command or option."""
+    for tag, rows in section:
+        if name in re.split(r"[ ,]+", tag):
+            return tag, " ".join(rows)
+    raise LookupError(name)
+
+
+@dataclass
+class Form:
+    """A command as the synopsis has it: its line, what it has to be given, and by option what that is given."""
+
+    line: str
+    operands: list
+    options: dict
+
+
+def forms(manual):
+    """By command, its form."""
+    found = {}
+    for _, rows in manual["SYNOPSIS"]:
+        line = " ".join(rows)
+        name, *operands = re.sub(r"\[.*", "", line).split()[1:]
+        if name != "<":
+            found[name] = Form(line, operands, dict(re.findall(r"\[(--\w+) (\w+)\]", line)))
+    return found
+
+
+# ---- texts
+
+
+def shown(tag, text):
+    return f"  {tag}\n" + textwrap.fill(text, COLUMNS, initial_indent="      ", subsequent_indent="      ") + "\n"
+
+
+def help_of(manual, names):
+    """The help of these commands."""
+    found = forms(manual)
+    of_all = len(names) > 1
+    lines = ["hepf < FILE"] * of_all + [found[name].line for name in names]
+    options = dict.fromkeys(it for name in names for it in found[name].options)
+    tags = [*options, "--help", "--version"] if of_all else [*options, "--help"]
+    text = "".join(textwrap.fill(it, COLUMNS, subsequent_indent="    ") + "\n" for it in lines) + "\n"
+    text += "".join(shown(*of_tag(manual["COMMANDS"], name)) for name in names)
+    return text + "\n" + "".join(shown(*of_tag(manual["OPTIONS"], it)) for it in tags)
+
+
+def text_in(file, pattern):
+    """A text that stands in the crate hep_command, behind what the pattern begins with."""
+    return re.search(pattern, (COMMAND / file).read_text(), re.S)[1].replace("\\n", "\n")
+
+
+def constant(file, name):
+    return text_in(file, rf'const {name}: &str = "(.*?)";')
+
+
+def version(of):
+    """The version, with what it is of behind its number."""
+    number, _, kit = constant("program.rt", "VERSION").partition(", ")
+    return f"hepf {number}, {of}, {kit}\n"
+
+
+def explanation(number):
+    """What a refusal means, and what to do."""
+    text = (ROOT / "docs" / "REFUSALS.md").read_text()
+    row = re.search(rf"^\| {number} \| .* \| (.*) \| (.*) \|$", text, re.M)
+    if not row:
+        raise Mistake(text_in("refusals.rt", r'None => Usage::of_text\(alloc, 2, "(.*?)"\)'))
+    return "".join(textwrap.fill(it, COLUMNS) + "\n" for it in row.groups())
+
+
+# ---- words
+
+
+@dataclass
+class Job:
+    """Words that ask for more than a text."""
+
+    command: str = ""
+    operands: list = field(default_factory=list)
+    # With what each is given.
+    options: list = field(default_factory=list)
+
+    def words_from(self, folder, form):
+        """The words with each path as it is from the root."""
+        words = [str(folder / it) if kind in FILES else it for it, kind in zip(self.operands, form.operands)]
+        for name, value in self.options:
+            words.append(f"{name}={folder / value if form.options[name] in FILES else value}")
+        return [self.command, *words]
+
+
+def checked_number(name, text, least, most):
+    if not re.fullmatch(r"\+?\d+", text) or not least <= int(text) <= most:
+        raise Mistake(f"error: {name} takes a number, {least} to {most}, and not {text}\n")
+
+
+def taken(command, form, words):
+    """The operands and options among the words of a command, or nothing where they ask for help."""
+    job, left = Job(command), list(words)
+    while left:
+        word = left.pop(0)
+        name, has_value, value = word.partition("=")
+        if word in ("-h", "--help"):
+            return None
+        if word == "--":
+            job.operands += left
+            break
+        if not word.startswith("-") or word == "-":
+            job.operands.append(word)
+        elif name not in form.options:
+            raise Mistake(f"error: {command} has no option {name}\n")
+        elif not has_value and not left:
+            raise Mistake(f"error: {name} wants {form.options[name]}\n")
+        else:
+            job.options.append((name, value if has_value else left.pop(0)))
+    return job
+
+
+def judge(manual, job, form):
+    """Raises the mistake that a job has, if it has one."""
+    lacking = form.operands[len(job.operands) :]
+    if lacking or len(job.operands) > len(form.operands):
+        wrong = f"lacks {' '.join(lacking)}" if lacking else f"doesn't take {job.operands[len(form.operands)]}"
+        raise Mistake(f"error: {job.command} {wrong}\n\nUsage: {form.line}\n")
+    for name, value in job.options:
+        if form.options[name] == "N":
+            least, most = re.search(r"(\d+) to (\d+)", of_tag(manual["OPTIONS"], name)[1]).groups()
+            checked_number(name, value, int(least), int(most))
+    given = dict(job.options)
+    choices, history = given.get("--choices"), given.get("--history")
+    if history is not None and history in (choices, *job.operands):
+        raise Mistake(constant("words.rt", "SAME_FILE"))
+    if choices is not None and "--workers" in given:
+        raise Mistake(constant("words.rt", "TWO_ORDERS"))
+
+
+def read(manual, words, of):
+    """The text that words ask for, or the job that they are."""
+    found = forms(manual)
+    if not words:
+        return Job()
+    first, *rest = words
+    if first == "help" and not rest or first in ("-h", "--help"):
+        return help_of(manual, [*found])
+    if first in ("-V", "--version"):
+        return version(of)
+    if first == "help" and rest[0] in found:
+        return help_of(manual, rest[:1])
+    if first not in found:
+        raise Mistake(f"error: {first} is no command: they are {', '.join(found)}\n")
+    job = taken(first, found[first], rest)
+    if job is None:
+        return help_of(manual, [first])
+    judge(manual, job, found[first])
+    if first == "explain":
+        checked_number("explain", job.operands[0], 0, 65535)
+        return explanation(job.operands[0])
+    return job
