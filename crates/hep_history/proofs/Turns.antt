@@ -1,5 +1,5 @@
 -- Turns of a core, and entries made again, one after the other.
-use Rattle.std.proofs.Common.{◌≡◌, ◌≢◌, ℕ, zero, suc, ◌+◌, ◌-◌, ◌<◌, ◌≤◌, Bool, true, false, true≢false, List, [], ◌∷◌, ◌++◌, Some, None, Ok, Err, length, length-append, replicate, refl, sym, ap, ◌∙◌, subst, arith, append_assoc, add-one, inl, inr, Result, take, IsSome, if◌then◌else◌, is_some, slice_get}
+use Rattle.std.proofs.Common.{◌≡◌, ◌≢◌, ℕ, zero, suc, ◌+◌, ◌-◌, ◌<◌, ◌≤◌, Bool, true, false, true≢false, List, [], ◌∷◌, ◌++◌, Some, None, Ok, Err, length, length-append, replicate, refl, sym, ap, ◌∙◌, subst, arith, append_assoc, append-nil, add-one, inl, inr, Result, take, IsSome, if◌then◌else◌, is_some, slice_get}
 use Rattle.std.proofs.Math.Bool.{beq}
 use Rattle.std.proofs.lemmas.List.{length-replicate, replicate-append-replicate, take_more}
 use Rattle.std.proofs.lemmas.Option.{cond_some, get_or_from_slice_get, same_Some, slice_get_within}
@@ -13,7 +13,9 @@ use Rattle.hep_scheduler.specs.declared.stop.ChoiceStop.{ChoiceStop}
 use Rattle.hep_scheduler.specs.declared.stop.ChoiceStop.TheVariants.{Halted}
 use Rattle.hep_scheduler.specs.declared.stop.Turn.{Turn as CoreTurn}
 use Rattle.hep_scheduler.specs.Value.{CoreValue, state_of, core_after_choice, stop_after, HasNoStop, IsTurn, IsChoice}
-use Rattle.hep_history.specs.Progress.{IsStanding, longer, HasTurn, turn_entry, TurnMade, StepsMade, EntryMade}
+use Rattle.hep_scheduler.specs.Going.{AreChoices, again, begun}
+use Rattle.hep_scheduler.proofs.Going.{choices-began}
+use Rattle.hep_history.specs.Progress.{EntryMade, HasTurn, HaveMade, IsStanding, SomeMade, SomeStepsMade, StepsMade, TurnMade, longer, turn_entry}
 use Rattle.hep_history.specs.Replays.{HaveGaps, most_entries, standing, ArePossible, IsPossible, IsThere, replayed, single_entries, single_steps}
 use Rattle.hep_blocked_laws.proofs.Living.{waits-idle}
 use Rattle.hep_machine.proofs.Replays.{run_after}
@@ -201,6 +203,36 @@ steps_end old mid new p i n lt made t room steps gaps =
     (gaps_before old.program old.cells ((old.history ++ replicate i (one p)) ++ one p ∷ []) (replicate (n - (i + 1)) (one p)) (
     subst (HaveGaps old.program old.cells) (ones_apart old.history (one p) i n lt) gaps))
 
+-- ---- choices in a row
+
+standing_same : (old new : CoreValue) → IsStanding old → new ≡ longer old [] → old ≡ new
+standing_same old new h made = h ∙ (ap (λ (es : List Entry). standing old.program old.cells es) (sym (append-nil old.history)) ∙ sym made)
+
+choices_within : (p : ℕ) (old : CoreValue) (n : ℕ) (new : CoreValue) → IsStanding old → 1 ≤ n → AreChoices p old n new → length old.history ≤ most_entries
+choices_within p old n new h some made = omega (arith, (choices-began p old n new some made).1, limit_is old h)
+
+ones_made : (p : ℕ) (old : CoreValue) (n : ℕ) (new : CoreValue) → IsStanding old → length old.history ≤ most_entries → AreChoices p old n new → StepsMade old p n (Ok true) new
+ones_made p old _ _ h room (begun core) = (omega (arith, room), tt, h ∙ ap (λ (es : List Entry). standing old.program old.cells es) (sym (append-nil old.history)))
+ones_made p old _ _ h room (again _ n core new before is) =
+    let so_far = ones_made p old n core h room before in
+    let turn = turn_made core new p false (record { steps = 1; blocked = false }) (standing_longer old core (replicate n (one p)) so_far.2) is.chosen in
+    let more = steps_more old core new p n so_far.1 so_far.2 turn in
+    let count : n + 1 ≡ suc n = omega arith in
+    subst (λ k. StepsMade old p k (Ok true) new) count more
+
+-- that only moved
+pub steps_moved : (p : ℕ) (old : CoreValue) (n : ℕ) (new : CoreValue) → IsStanding old → 1 ≤ n → AreChoices p old n new → SomeStepsMade old p (Ok n) new
+steps_moved p old zero new h some made = absurd (omega (arith, some))
+steps_moved p old (suc n) new h some made = ones_made p old (suc n) new h (choices_within p old (suc n) new h some made) made
+
+-- or one, which may have found its process waiting
+pub steps_turned : (p : ℕ) (old new : CoreValue) (t : CoreTurn) (blocked : Bool) (n : ℕ) → n ≡ 1 → IsStanding old → t.blocked ≡ blocked → IsChoice old p (Ok t) new → blocked ≡ false → SomeStepsMade old p (Ok n) new
+steps_turned p old new t blocked n one_made h same chosen stepped =
+    let made = turn_made old new p false t h chosen in
+    let is : beq t.blocked false ≡ true = ap (λ b. beq b false) (same ∙ stepped) in
+    let turn = subst (λ b. TurnMade old p false (Ok b) new) is made in
+    subst (λ k. SomeStepsMade old p (Ok k) new) (sym one_made) (steps_more old old new p 0 tt (h ∙ ap (λ (es : List Entry). standing old.program old.cells es) (sym (append-nil old.history))) turn)
+
 -- ---- one entry
 
 pub entry_waited : (old new : CoreValue) (p n : ℕ) (r : Result Bool ReplayFault) → n ≡ 0 → TurnMade old p true r new → EntryMade old (record { process = p; steps = n }) r new
@@ -283,3 +315,61 @@ possible_more program cells entries i e at so_far here j f lt found = elim (case
         let same : j ≡ i = omega arith in
         let is : e ≡ f = same_Some e f (sym at ∙ ap (slice_get entries) (sym same) ∙ found) in
         subst (λ (k : ℕ). IsPossible program cells (take k entries) f) (sym same) (subst (λ (x : Entry). IsPossible program cells (take i entries) x) is here)
+
+-- ---- entries of one step in a row
+
+steps_front : (program : Units) (s : State) (p n : ℕ) → AreSteps program s (replicate (suc n) p) → AreSteps program s (replicate n p)
+steps_front program s p zero h = tt
+steps_front program s p (suc n) h = (h.0, steps_front program (state_after_turn program p s) p n h.1)
+
+-- the last one of so many steps
+last_step : (old mid new : CoreValue) (p n : ℕ) → mid ≡ longer old (replicate n (one p)) → StepsMade old p (suc n) (Ok true) new → EntryMade mid (one p) (Ok true) new
+last_step old mid new p n is made =
+    subst (λ (m : CoreValue). EntryMade m (one p) (Ok true) new) (sym is) (
+      omega (arith, made.0, length-append old.history (replicate n (one p)), length-replicate n (one p)),
+      (subst (λ (s : State). step old.program p s ≢ None) (sym (state_ones old.program old.history p n)) (steps_at old.program (state_of old) p n (suc n) (omega arith) made.1), tt),
+      made.2 ∙ ap (λ (es : List Entry). standing old.program old.cells es) (all n),
+    )
+  where
+    all : (n : ℕ) → old.history ++ replicate (suc n) (one p) ≡ (old.history ++ replicate n (one p)) ++ one p ∷ []
+    all n =
+        let more : suc n ≡ n + 1 = omega arith in
+        ap (λ k. old.history ++ replicate k (one p)) more ∙ (ap (λ (es : List Entry). old.history ++ es) (sym (one_last (one p) n)) ∙ sym (append_assoc old.history (replicate n (one p)) (one p ∷ [])))
+
+-- so many entries from one on were made, and those before it
+pub record HaveReplayed (program : Units) (cells : ℕ) (entries : List Entry) (k : ℕ) (core : CoreValue) : Type 0 where
+  pub made : core ≡ replayed program cells (take k entries)
+  pub within : length (single_entries (take k entries)) ≤ most_entries
+  pub possible : ArePossible program cells entries k
+
+pub one_replayed : (program : Units) (cells : ℕ) (entries : List Entry) (i : ℕ) (e : Entry) (old new : CoreValue) → slice_get entries i ≡ Some e → HaveReplayed program cells entries i old
+    → EntryMade old e (Ok true) new → HaveGaps new.program new.cells new.history → HaveReplayed program cells entries (i + 1) new
+one_replayed program cells entries i e old new at so_far made gaps =
+    let next = entry_next program cells entries i e new at (subst (λ (x : CoreValue). EntryMade x e (Ok true) new) so_far.made made) gaps in
+    record { made = next.0; within = next.1; possible = possible_more program cells entries i e at so_far.possible next.2 }
+
+pub steps_replayed : (program : Units) (cells : ℕ) (entries : List Entry) (i p n : ℕ) (old new : CoreValue) → ((k : ℕ) → k < n → slice_get entries (i + k) ≡ Some (one p)) → HaveReplayed program cells entries i old
+    → StepsMade old p n (Ok true) new → HaveGaps new.program new.cells new.history → HaveReplayed program cells entries (i + n) new
+steps_replayed program cells entries i p zero old new alike so_far made gaps =
+    let none : i ≡ i + 0 = omega arith in
+    let same : old ≡ new = standing_same old new (subst IsStanding (sym so_far.made) refl) made.2 in
+    subst (λ k. HaveReplayed program cells entries k new) none (subst (HaveReplayed program cells entries i) same so_far)
+steps_replayed program cells entries i p (suc n) old new alike so_far made gaps =
+    let mid = longer old (replicate n (one p)) in
+    let last = last_step old mid new p n refl made in
+    let front : HaveGaps mid.program mid.cells mid.history = gaps_before old.program old.cells mid.history (one p ∷ []) (subst (λ (x : CoreValue). HaveGaps x.program x.cells x.history) last.2 gaps) in
+    let before = steps_replayed program cells entries i p n old mid (λ k lt. alike k (omega (arith, lt))) so_far (omega (arith, made.0), steps_front old.program (state_of old) p n made.1, refl) front in
+    let count : (i + n) + 1 ≡ i + suc n = omega arith in
+    subst (λ k. HaveReplayed program cells entries k new) count (one_replayed program cells entries (i + n) (one p) mid new (alike n (omega arith)) before last gaps)
+
+pub some_replayed : (program : Units) (cells : ℕ) (entries : List Entry) (i n : ℕ) (old new : CoreValue) → HaveReplayed program cells entries i old → n ≢ 0 → SomeMade old entries i (Ok n) new
+    → HaveGaps new.program new.cells new.history → HaveReplayed program cells entries (i + n) new
+some_replayed program cells entries i zero old new so_far some made gaps = absurd (some refl)
+some_replayed program cells entries i (suc n) old new so_far some (inl (e, at, one_made, made)) gaps =
+    subst (λ k. HaveReplayed program cells entries (i + k) new) (sym one_made) (one_replayed program cells entries i e old new at so_far made gaps)
+some_replayed program cells entries i (suc n) old new so_far some (inr (p, alike, made)) gaps = steps_replayed program cells entries i p (suc n) old new alike so_far made gaps
+
+pub none_replayed : (program : Units) (cells : ℕ) (entries : List Entry) (i n : ℕ) (e : Entry) (old new : CoreValue) → HaveReplayed program cells entries i old → n ≡ 0 → SomeMade old entries i (Ok n) new
+    → slice_get entries i ≡ Some e → IsPossible program cells (take i entries) e → ⊥
+none_replayed program cells entries i zero e old new so_far none made at = entry_refused program cells entries i e new (subst (λ (x : CoreValue). EntryMade x e (Ok false) new) so_far.made (made e at))
+none_replayed program cells entries i (suc n) e old new so_far none made at = absurd (omega (arith, none))

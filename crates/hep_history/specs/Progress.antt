@@ -1,5 +1,5 @@
 -- How far a history was made again: docs/ARCHITECTURE.md, "Forms".
-use Rattle.std.specs.Prelude.{◌≡◌, ◌≢◌, ℕ, ◌+◌, ◌<◌, ◌≤◌, Bool, true, false, List, [], ◌∷◌, ◌++◌, length, replicate, Result, Ok, Err, None}
+use Rattle.std.specs.Prelude.{◌≡◌, ◌≢◌, ◌⊎◌, ℕ, zero, suc, ◌+◌, ◌<◌, ◌≤◌, Bool, true, false, List, [], ◌∷◌, ◌++◌, length, replicate, slice_get, Result, Ok, Err, Some, None}
 use Rattle.hep_machine.specs.declared.event.Entry.{Entry}
 use Rattle.hep_machine.specs.Words.{AreSteps, State, step, is_waiting, Units}
 use Rattle.hep_scheduler.specs.Value.{CoreValue, state_of}
@@ -52,3 +52,21 @@ EntryMade old e (Ok false) new =
     length old.history + length (single_steps e.process e.steps) ≤ most_entries → IsThere old.program (state_of old) e.process e.steps
     → HaveGaps old.program old.cells (old.history ++ single_steps e.process e.steps) → ⊥
 EntryMade old e (Err fault) new = fault ≡ NoMemory
+
+-- of steps of p, of which some may be made: so many were; or none, since there is none, or a frame that it makes has no gap
+abbrev pub SomeStepsMade : CoreValue → ℕ → Result ℕ ReplayFault → CoreValue → Type 0
+SomeStepsMade old p (Ok zero) new = TurnMade old p false (Ok false) new
+SomeStepsMade old p (Ok (suc n)) new = StepsMade old p (suc n) (Ok true) new
+SomeStepsMade old p (Err fault) new = fault ≡ NoMemory
+
+-- of so many entries from one on: it alone, or all are the same, of one step
+abbrev pub HaveMade : CoreValue → List Entry → ℕ → ℕ → CoreValue → Type 0
+HaveMade old entries at n new =
+    ((e : Entry) × (slice_get entries at ≡ Some e) × (n ≡ 1) × EntryMade old e (Ok true) new)
+    ⊎ ((p : ℕ) × ((k : ℕ) → k < n → slice_get entries (at + k) ≡ Some (record { process = p; steps = 1 })) × StepsMade old p n (Ok true) new)
+
+-- of entries from one on, of which some may be made
+abbrev pub SomeMade : CoreValue → List Entry → ℕ → Result ℕ ReplayFault → CoreValue → Type 0
+SomeMade old entries at (Ok zero) new = (e : Entry) → slice_get entries at ≡ Some e → EntryMade old e (Ok false) new
+SomeMade old entries at (Ok (suc n)) new = HaveMade old entries at (suc n) new
+SomeMade old entries at (Err fault) new = fault ≡ NoMemory

@@ -1,8 +1,8 @@
 //! Histories made again, choice by choice.
-ghost use Rattle.std.specs.Prelude.{◌≡◌, ◌≤◌, length, IfOk, IfErr, OnOk, IsSome};
+ghost use Rattle.std.specs.Prelude.{◌≡◌, ◌≤◌, ◌<◌, ◌+◌, ℕ, length, slice_get, IfOk, IfErr, OnOk, IsSome};
 ghost use Rattle.hep_machine.specs.Words.{opening_layout, schedule_of};
 ghost use Rattle.hep_history.specs.Replays.{most_entries, replayed, ArePossible, IsUnmade};
-ghost use Rattle.hep_history.specs.Progress.{IsStanding, TurnMade, StepsMade, EntryMade};
+ghost use Rattle.hep_history.specs.Progress.{EntryMade, IsStanding, SomeMade, SomeStepsMade, StepsMade, TurnMade};
 
 use crate::fault::ReplayFault;
 use hep_image::Image;
@@ -12,6 +12,9 @@ use std::alloc::Global;
 
 /// The longest history of the core on which a history is made again.
 pub const MOST_ENTRIES: u64 = 1_099_511_627_776;
+
+// How many entries are made at once, at most.
+const MOST_AT_ONCE: usize = 4_096;
 
 // One choice of a process, and whether it did what it should: whether it made a step or, where the
 // process is to wait, found it waiting. A step that makes a frame without a gap isn't made.
@@ -54,6 +57,67 @@ fn make_entry(core: &mut Core, entry: Entry) -> Result<bool, ReplayFault>
     }
 }
 
+// Makes entries of one step of a process, up to so many, and says how many: none where the first one isn't there, or its frame has no gap.
+fn make_some_steps(core: &mut Core, process: u64, most: u64) -> Result<u64, ReplayFault>
+    requires standing { IsStanding core.old }
+    requires some { 1 ≤ most }
+    ensures made { SomeStepsMade core.old process result core.new }
+    ensures few { IfOk result (λ made. made ≤ most) }
+{
+    match core.go_on(process, most) {
+        Ok(turns) => {
+            if turns.blocked {
+                return Ok(0);
+            }
+            Ok(turns.made)
+        }
+        Err(ChooseFault::NoMemory) => Err(ReplayFault::NoMemory),
+        Err(ChooseFault::Stopped(_)) => Ok(0),
+        Err(ChooseFault::NoSuchProcess) => Ok(0),
+    }
+}
+
+// How many entries from one on are the same as this one: so many at most.
+fn count_alike(entries: &[Entry], at: usize, most: usize) -> usize
+    requires within { at < length entries.now }
+    requires some { 1 ≤ most }
+    ensures some { 1 ≤ result }
+    ensures few { result ≤ most }
+    ensures within { at + result ≤ length entries.now }
+    ensures alike { (k : ℕ) → k < result → slice_get entries.now (at + k) ≡ slice_get entries.now at }
+{
+    let mut count = 1;
+    while count < most && at + count < entries.len() && entries[at + count] == entries[at] {
+        count += 1;
+    }
+    count
+}
+
+// Makes the entry at this index, and where it has one step those that follow it and are the same, up to so many entries. Says how many were
+// made: none where the first one isn't possible.
+fn make_next(
+    core: &mut Core,
+    entries: &[Entry],
+    at: usize,
+    most: usize,
+) -> Result<usize, ReplayFault>
+    requires standing { IsStanding core.old }
+    requires within { length core.old.history ≤ most_entries }
+    requires there { at < length entries.now }
+    requires some { 1 ≤ most }
+    ensures made { SomeMade core.old entries.now at result core.new }
+    ensures few { IfOk result (λ made. at + made ≤ length entries.now) }
+{
+    let entry = entries[at];
+    if entry.steps == 1 {
+        let alike = count_alike(entries, at, most);
+        let made = make_some_steps(core, entry.process, alike as u64)?;
+        return Ok(made as usize);
+    }
+    let made = make_entry(core, entry)?;
+    Ok(usize::from(made))
+}
+
 /// The core of an image and an arena of so many cells, 1 to 16,777,216, that has made these entries, one step at
 /// a time: its history has an entry of one step for each step, and the entries of none.
 ///
@@ -76,15 +140,21 @@ pub fn replay(
     ensures unmade { IfErr result (IsUnmade image cells entries.now) }
 {
     let mut core = Core::new(alloc, image, cells, MOST_ENTRIES)?;
-    for (index, entry) in entries.iter().enumerate() {
-        if !make_entry(&mut core, *entry)? {
+    let mut at = 0;
+    // Each turn of the loop looks at twice as many entries as the last one made.
+    let mut most = 1;
+    while at < entries.len() {
+        let made = make_next(&mut core, entries, at, most)?;
+        if made == 0 {
             return Err(ReplayFault::Refused {
                 number: 603,
-                entry: index as u64 + 1,
+                entry: at as u64 + 1,
             });
         }
         // A core's history is legal, so each frame had its gap.
         core.headline();
+        at += made;
+        most = MOST_AT_ONCE.min(2 * made);
     }
     Ok(core)
 }

@@ -11,9 +11,12 @@ use Rattle.std.proofs.lemmas.List.{take-append-le}
 use Rattle.std.proofs.Math.Seq.{take-append_seam}
 use Rattle.std.proofs.lemmas.Option.{slice_get_within, slice_get_past}
 use Rattle.hep_machine.specs.declared.event.Entry.{Entry}
-use Rattle.hep_machine.specs.Words.{Units, State, Process, opening, run, run_from, schedule_of, state_after, state_after_turn, Progress, progress_after_step, progress_after_steps, progress_after_entry, progress_from, progress_after, living_from, ready_in, last_process, first_above, next_ready, living, top_of, is_number_among}
+use Rattle.hep_machine.specs.Words.{Units, State, Process, opening, run, run_from, schedule_of, state_after, state_after_turn, Progress, progress_after_step, progress_after_steps, progress_after_entry, progress_from, progress_after, living_from, ready_in, last_process, first_above, next_of_ready, next_ready, living, top_of, is_number_among}
 use Rattle.hep_scheduler.specs.declared.stop.Turn.{Turn}
-use Rattle.hep_scheduler.specs.Value.{CoreValue, state_of, core_after_choice, stop_after, HasNoStop, IsTurn, IsChoice}
+use Rattle.hep_scheduler.specs.declared.stop.Turns.{Turns}
+use Rattle.hep_scheduler.specs.Going.{AreChoices, AreTurns, again, begun}
+use Rattle.hep_scheduler.proofs.Going.{choices-began, unmoved}
+use Rattle.hep_scheduler.specs.Value.{CoreValue, state_of, core_after_choice, ready_of, stop_after, HasNoStop, IsTurn, IsChoice}
 use Rattle.hep_run.specs.declared.options.Options.{Options}
 use Rattle.hep_run.specs.declared.run.Halt.TheVariants as halts
 use Rattle.hep_run.specs.Outcome.{first_choice, next_process, IsNextEntry, IsScheduled}
@@ -82,28 +85,71 @@ grown_running options old p n s few running next =
       stop = no_stop options (core_after_choice old p n s) s;
     }
 
--- what comes of it
-pub record IsLonger (options : Options) (old new : CoreValue) : Type 0 where
+-- what comes of so many choices
+pub record IsLonger (options : Options) (old : CoreValue) (n : ℕ) (new : CoreValue) : Type 0 where
   pub running : IsRunning options new
   pub program : new.program ≡ old.program
   pub limit : new.limit ≡ old.limit
-  pub entries : length new.history ≡ length old.history + 1
-  pub room : length old.history < old.limit
+  pub entries : length new.history ≡ length old.history + n
+  pub room : 1 ≤ n → length old.history < old.limit
 
-longer : (options : Options) (old : CoreValue) (p n : ℕ) (s : State) → n ≤ 1 → length old.history < old.limit → IsRunning options old → next_process old.program options.choices old.history ≡ Some p → IsLonger options old (core_after_choice old p n s)
+longer : (options : Options) (old : CoreValue) (p n : ℕ) (s : State) → n ≤ 1 → length old.history < old.limit → IsRunning options old → next_process old.program options.choices old.history ≡ Some p → IsLonger options old 1 (core_after_choice old p n s)
 longer options old p n s few room running next =
     record {
       running = grown_running options old p n s few running next;
       program = refl;
       limit = refl;
       entries = length-append old.history (record { process = p; steps = n } ∷ []);
-      room = room;
+      room = λ some. room;
     }
 
-pub chosen : (options : Options) (old new : CoreValue) (p : ℕ) (state_after_turn : Turn) → IsChoice old p (Ok state_after_turn) new → IsRunning options old → next_process old.program options.choices old.history ≡ Some p → IsLonger options old new
+pub chosen : (options : Options) (old new : CoreValue) (p : ℕ) (state_after_turn : Turn) → IsChoice old p (Ok state_after_turn) new → IsRunning options old → next_process old.program options.choices old.history ≡ Some p → IsLonger options old 1 new
 chosen options old new p state_after_turn c running next =
     let t = turned old new p state_after_turn.steps state_after_turn.blocked c.2 in
-    subst (IsLonger options old) (sym t.3) (longer options old p t.0 t.2 t.1 c.1 running next)
+    subst (IsLonger options old 1) (sym t.3) (longer options old p t.0 t.2 t.1 c.1 running next)
+
+-- and one more
+one_longer : (options : Options) (old mid new : CoreValue) (n : ℕ) → (n ≡ 0 → old ≡ mid) → IsLonger options old n mid → IsLonger options mid 1 new → IsLonger options old (suc n) new
+one_longer options old mid new n same before here =
+    record {
+      running = here.running;
+      program = here.program ∙ before.program;
+      limit = here.limit ∙ before.limit;
+      entries = omega (arith, here.entries, before.entries);
+      room = λ some. by_count n refl;
+    }
+  where
+    by_count : (k : ℕ) → n ≡ k → length old.history < old.limit
+    by_count zero is = subst (λ (v : CoreValue). length v.history < v.limit) (sym (same is)) (here.room (omega arith))
+    by_count (suc k) is = before.room (omega (arith, is))
+
+pub unlonger : (options : Options) (core : CoreValue) → IsRunning options core → IsLonger options core 0 core
+unlonger options core running = record { running = running; program = refl; limit = refl; entries = omega arith; room = λ some. absurd (omega (arith, some)) }
+
+-- ---- choices of one process in a row
+
+-- a core that made some was at no stop
+pub turns_began : (p : ℕ) (old : CoreValue) (turns : Turns) (new : CoreValue) → 1 ≤ turns.made → AreTurns old p turns new → HasNoStop old
+turns_began p old turns new some (inl made) = (choices-began p old turns.made new some made.1).0
+turns_began p old turns new some (inr made) = made.1.2.0
+
+-- those that are named so, from this one on
+module _ (options : Options) (p i : ℕ) (old : CoreValue) (running : IsRunning options old) (count : length old.history ≡ i) where
+  abbrev pub AreNamed : ℕ → Type 0
+  AreNamed n = (k : ℕ) → i ≤ k → k < i + n → slice_get options.choices k ≡ Some p
+
+  choices_made : (n : ℕ) (new : CoreValue) → AreNamed n → AreChoices p old n new → IsLonger options old n new
+  choices_made _ _ named (begun core) = unlonger options old running
+  choices_made _ _ named (again old n core new before is) =
+      let far = choices_made n core (λ k a b. named k a (omega (arith, b))) before in
+      let comes = choice_is_next core.program options.choices core.history (i + n) p is.chosen.0.1 (omega (arith, far.entries, count)) (named (i + n) (omega arith) (omega arith)) in
+      one_longer options old core new n (λ z. unmoved p old n core z before) far (chosen options core new p (record { steps = 1; blocked = false }) is.chosen far.running comes)
+
+  pub named_turns : (turns : Turns) (new : CoreValue) → 1 ≤ turns.made → AreNamed turns.made → AreTurns old p turns new → IsLonger options old turns.made new
+  named_turns turns new some named (inl made) = choices_made turns.made new named made.1
+  named_turns turns new some named (inr made) =
+      let comes = choice_is_next old.program options.choices old.history i p made.1.2.0.1 count (named i (omega arith) (omega (arith, made.0))) in
+      subst (λ n. IsLonger options old n new) (sym made.0) (chosen options old new p made.1.0 made.1.2 running comes)
 
 -- ---- what is ready lives
 
@@ -246,3 +292,48 @@ nobody_chosen options old new p i c running count here =
 pub is_none : (o : Option ℕ) → ((p : ℕ) → o ≡ Some p → ⊥) → o ≡ None
 is_none None h = refl
 is_none (Some p) h = absurd (h p refl)
+
+-- ---- what is ready, again and again
+
+last_of_more : (h : List Entry) (e : Entry) → last_process (h ++ e ∷ []) ≡ e.process
+last_of_more [] e = refl
+last_of_more (x ∷ []) e = refl
+last_of_more (x ∷ y ∷ es) e = last_of_more (y ∷ es) e
+
+-- once the choices are made: where it is chosen more than once, it came last before, so no other process is ready
+module _ (options : Options) (p : ℕ) (old : CoreValue) (running : IsRunning options old) (past : length options.choices ≤ length old.history) (ready : next_ready old.program old.history ≡ Some p) where
+  record HasGoneAlone (n : ℕ) (new : CoreValue) : Type 0 where
+    far : IsLonger options old n new
+    same : ready_of new ≡ ready_of old
+    last : 1 ≤ n → last_process new.history ≡ p
+
+  alone_next : (n : ℕ) (core : CoreValue) → (1 ≤ n → last_process old.history ≡ p) → (n ≡ 0 → old ≡ core) → HasGoneAlone n core → next_ready core.program core.history ≡ Some p
+  alone_next zero core alone same gone = subst (λ (v : CoreValue). next_ready v.program v.history ≡ Some p) (same refl) ready
+  alone_next (suc n) core alone same gone =
+      ap (λ q. next_of_ready q (ready_of core)) (gone.last (omega arith) ∙ sym (alone (omega arith)))
+      ∙ (ap (next_of_ready (last_process old.history)) gone.same ∙ ready)
+
+  alone_made : (n : ℕ) (new : CoreValue) → (2 ≤ n → last_process old.history ≡ p) → AreChoices p old n new → HasGoneAlone n new
+  alone_made _ _ alone (begun core) = record { far = unlonger options old running; same = refl; last = λ some. absurd (omega (arith, some)) }
+  alone_made _ _ alone (again old n core new before is) =
+      let gone = alone_made n core (λ two. alone (omega (arith, two))) before in
+      let same : n ≡ 0 → old ≡ core = λ z. unmoved p old n core z before in
+      let going = is.chosen.0.1 in
+      let comes = next_is_ready core.program options.choices core.history going (omega (arith, past, gone.far.entries)) ∙ alone_next n core (λ some. alone (omega (arith, some))) same gone in
+      let made = turned core new p 1 false is.chosen.2 in
+      record {
+        far = one_longer options old core new n same gone.far (chosen options core new p (record { steps = 1; blocked = false }) is.chosen gone.far.running comes);
+        same = is.ready ∙ gone.same;
+        last = λ some. ap (λ (v : CoreValue). last_process v.history) made.3 ∙ last_of_more core.history (record { process = p; steps = made.0 });
+      }
+
+  pub ready_turns : (turns : Turns) (new : CoreValue) → 1 ≤ turns.made → (2 ≤ turns.made → last_process old.history ≡ p) → AreTurns old p turns new → IsLonger options old turns.made new
+  ready_turns turns new some alone (inl made) = (alone_made turns.made new alone made.1).far
+  ready_turns turns new some alone (inr made) =
+      let comes = next_is_ready old.program options.choices old.history made.1.2.0.1 past ∙ ready in
+      subst (λ n. IsLonger options old n new) (sym made.0) (chosen options old new p made.1.0 made.1.2 running comes)
+
+-- from a core that may be at a stop
+pub ready_longer : (options : Options) (p : ℕ) (old : CoreValue) → IsRunning options old → (old.stop ≡ None → length options.choices ≤ length old.history) → next_ready old.program old.history ≡ Some p
+    → (turns : Turns) (new : CoreValue) → 1 ≤ turns.made → (2 ≤ turns.made → last_process old.history ≡ p) → AreTurns old p turns new → IsLonger options old turns.made new
+ready_longer options p old running past ready turns new some alone made = ready_turns options p old running (past (turns_began p old turns new some made).0) ready turns new some alone made

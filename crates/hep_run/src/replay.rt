@@ -31,7 +31,7 @@ fn image_transcript(
         }
     };
     match replay(alloc, image, cells, entries.as_slice()) {
-        Ok(core) => core_transcript(alloc, &core),
+        Ok(core) => core_transcript(alloc, core),
         Err(ReplayFault::NoMemory) => Err(AllocError),
         Err(ReplayFault::ArenaFull) => full_transcript(alloc),
         Err(ReplayFault::Refused { number, entry }) => history_transcript(alloc, number, entry),

@@ -1,5 +1,6 @@
 //! From a source's bytes to what its run writes.
-ghost use Rattle.std.specs.Prelude.{◌≡◌, ◌≤◌, [], None, IfOk, IfErr, OnOk, length};
+ghost use Rattle.std.specs.Prelude.{◌≡◌, ◌≤◌, ◌<◌, ℕ, [], None, Some, IfOk, IfErr, OnOk, length, slice_get};
+ghost use Rattle.hep_machine.specs.Words.{last_process};
 ghost use Rattle.hep_scheduler.specs.Value.{opening_of};
 ghost use Rattle.hep_run.specs.Outcome.{IsOutcome, IsRunOutcome, next_process};
 ghost use Rattle.hep_run.specs.Refusals.{IsOpeningFault};
@@ -15,6 +16,9 @@ use crate::transcript::{
 use hep_base::Refusal;
 use hep_scheduler::{ChooseFault, Core};
 use std::alloc::{AllocError, Global};
+
+// How many choices of one process are asked for at once, at most: their entries get room together.
+const MOST_AT_ONCE: u64 = 4_096;
 
 /// Why the choices weren't all made.
 #[derive(Clone, Copy, Debug, PartialEq, Eq)]
@@ -35,26 +39,79 @@ fn core_of(alloc: Global, source: &[u8], options: &Options) -> Result<Core, Open
     Ok(core)
 }
 
-// Makes the choices in order, until a stop.
-fn make_choices(core: &mut Core, options: &Options) -> Result<(), Halt>
-    requires opening { core.old.history ≡ [] }
+// The index behind the choices from this one on that name the same process.
+fn end_of_alike(choices: &[u64], first: usize) -> usize
+    requires { first < length choices.now }
+    ensures more { first < result }
+    ensures within { result ≤ length choices.now }
+    ensures alike { (k : ℕ) → first ≤ k → k < result → slice_get choices.now k ≡ slice_get choices.now first }
+{
+    let mut end = first + 1;
+    while end < choices.len() && choices[end] == choices[first] {
+        end += 1;
+    }
+    end
+}
+
+// Makes the choices from one on and before another, which all name this process, until a stop.
+fn make_alike(
+    core: &mut Core,
+    options: &Options,
+    process: u64,
+    first: usize,
+    end: usize,
+) -> Result<(), Halt>
     requires running { IsRunning options.now core.old }
-    requires going { core.old.stop ≡ None }
+    requires behind { core.old.stop ≡ None → length core.old.history ≡ first }
+    requires before { first ≤ end }
+    requires alike { (k : ℕ) → first ≤ k → k < end → slice_get options.now.choices k ≡ Some process }
     ensures program { core.new.program ≡ core.old.program }
     ensures running { OnOk result (IsRunning options.now core.new) }
-    ensures made { OnOk result (core.new.stop ≡ None
-        → length options.now.choices ≤ length core.new.history) }
+    ensures made { OnOk result (core.new.stop ≡ None → length core.new.history ≡ end) }
     ensures halted { IfErr result (IsHaltedBy options.now core.new) }
 {
-    for (index, process) in options.choices.as_slice().iter().enumerate() {
-        match core.choose(*process) {
-            Ok(_) => {}
+    let mut index = first;
+    while index < end {
+        match core.go_on(process, MOST_AT_ONCE.min((end - index) as u64)) {
+            Ok(turns) => index += turns.made as usize,
             Err(ChooseFault::Stopped(_)) => return Ok(()),
             Err(ChooseFault::NoSuchProcess) => return Err(Halt::NoSuchProcess(index + 1)),
             Err(ChooseFault::NoMemory) => return Err(Halt::NoMemory),
         }
     }
     Ok(())
+}
+
+// Makes the choices in order, until a stop.
+fn make_choices(core: &mut Core, options: &Options) -> Result<(), Halt>
+    requires opening { core.old.history ≡ [] }
+    requires running { IsRunning options.now core.old }
+    ensures program { core.new.program ≡ core.old.program }
+    ensures running { OnOk result (IsRunning options.now core.new) }
+    ensures made { OnOk result (core.new.stop ≡ None
+        → length options.now.choices ≤ length core.new.history) }
+    ensures halted { IfErr result (IsHaltedBy options.now core.new) }
+{
+    let choices = options.choices.as_slice();
+    let mut first = 0;
+    while first < choices.len() {
+        let end = end_of_alike(choices, first);
+        make_alike(core, options, choices[first], first, end)?;
+        first = end;
+    }
+    Ok(())
+}
+
+// How often the process that comes next is chosen at once: the one that came last comes next only where no other is ready.
+fn most_at_once(core: &Core, process: u64) -> u64
+    ensures some { 1 ≤ result }
+    ensures alone { 2 ≤ result → last_process core.now.history ≡ process }
+{
+    if process == core.last_process() {
+        MOST_AT_ONCE
+    } else {
+        1
+    }
 }
 
 // Chooses what is ready, until nothing is or the run stops.
@@ -68,7 +125,8 @@ fn run_on(core: &mut Core, options: &Options) -> Result<(), AllocError>
         → next_process core.new.program options.now.choices core.new.history ≡ None) }
 {
     while let Some(process) = core.next_ready() {
-        match core.choose(process) {
+        let most = most_at_once(core, process);
+        match core.go_on(process, most) {
             Ok(_) => {}
             Err(ChooseFault::Stopped(_)) => return Ok(()),
             Err(ChooseFault::NoSuchProcess) => unreachable!(),
@@ -89,12 +147,12 @@ fn run_transcript(alloc: Global, core: Core, options: &Options) -> Result<Transc
         Err(Halt::NoMemory) => return Err(AllocError),
         Err(Halt::NoSuchProcess(choice)) => {
             core.headline();
-            return choice_transcript(alloc, &core, choice);
+            return choice_transcript(alloc, core, choice);
         }
     }
     run_on(&mut core, options)?;
     core.headline();
-    ended_transcript(alloc, &core)
+    ended_transcript(alloc, core)
 }
 
 /// All that a run of a source comes to, before a byte of it is written.

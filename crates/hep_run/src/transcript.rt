@@ -91,10 +91,11 @@ fn stop_of(core: &Core) -> Option<ChoiceStop>
     }
 }
 
-fn history_of(alloc: Global, core: &Core) -> Result<History, AllocError>
-    ensures { IfOk result (λ history. history ≡ core.now.history) }
+// The history of a core that is no longer needed.
+fn history_of(core: Core) -> History
+    ensures { result ≡ core.history }
 {
-    Ok(History::from(core.history().to_vec(alloc)?))
+    History::from(core.into_history())
 }
 
 /// What a run that is over writes.
@@ -102,24 +103,23 @@ fn history_of(alloc: Global, core: &Core) -> Result<History, AllocError>
 /// # Errors
 ///
 /// Only where memory was refused.
-pub fn ended_transcript(alloc: Global, core: &Core) -> Result<Transcript, AllocError>
+pub fn ended_transcript(alloc: Global, core: Core) -> Result<Transcript, AllocError>
     ensures { IfOk result (λ r.
-        outcome_of r ≡ outcome_of_end core.now.program core.now.history core.now.stop) }
+        outcome_of r ≡ outcome_of_end core.program core.history core.stop) }
 {
-    let stop = stop_of(core);
+    let stop = stop_of(&core);
     let verdict = core.verdict();
-    let history = history_of(alloc, core)?;
     let mut output = Vec::new(alloc);
     append_records(&mut output, core.output())?;
     let mut messages = Vec::new(alloc);
     append_faults(&mut messages, core.image(), core.faults())?;
-    append_dump(&mut messages, core, verdict)?;
+    append_dump(&mut messages, &core, verdict)?;
     messages.extend_from_slice(stop_text(stop))?;
     Ok(Transcript {
         output,
         messages,
         status: status_of(verdict, core.faults()),
-        history,
+        history: history_of(core),
     })
 }
 
@@ -137,13 +137,14 @@ fn running_text(verdict: Verdict) -> &'static [u8]
 /// # Errors
 ///
 /// Only where memory was refused.
-pub fn core_transcript(alloc: Global, core: &Core) -> Result<Transcript, AllocError>
-    ensures { IfOk result (λ r. outcome_of r ≡ outcome_of_core core.now) }
+pub fn core_transcript(alloc: Global, core: Core) -> Result<Transcript, AllocError>
+    ensures { IfOk result (λ r. outcome_of r ≡ outcome_of_core core) }
 {
+    let verdict = core.verdict();
     let mut transcript = ended_transcript(alloc, core)?;
     transcript
         .messages
-        .extend_from_slice(running_text(core.verdict()))?;
+        .extend_from_slice(running_text(verdict))?;
     Ok(transcript)
 }
 
@@ -152,17 +153,13 @@ pub fn core_transcript(alloc: Global, core: &Core) -> Result<Transcript, AllocEr
 /// # Errors
 ///
 /// Only where memory was refused.
-pub fn choice_transcript(
-    alloc: Global,
-    core: &Core,
-    choice: usize,
-) -> Result<Transcript, AllocError>
-    requires { choice ≡ length core.now.history + 1 }
-    ensures { IfOk result (λ r. outcome_of r ≡ outcome_of_refused_choice core.now.history) }
+pub fn choice_transcript(alloc: Global, core: Core, choice: usize) -> Result<Transcript, AllocError>
+    requires { choice ≡ length core.history + 1 }
+    ensures { IfOk result (λ r. outcome_of r ≡ outcome_of_refused_choice core.history) }
 {
-    let history = history_of(alloc, core)?;
     let mut messages = Vec::new(alloc);
     put_refusal(&mut messages, 501, choice as u64, b"")?;
+    let history = history_of(core);
     Ok(Transcript::silent(alloc, messages, Status::Usage, history))
 }
 

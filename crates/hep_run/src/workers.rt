@@ -35,7 +35,7 @@ fn image_transcript<H: Threads + Wait + Sync, G: Gate + Sync>(
     match run_workers(rt, alloc, image, options, gate) {
         Ok(report) => {
             report.core.headline();
-            ended_transcript(alloc, &report.core)
+            ended_transcript(alloc, report.core)
         }
         Err(WorkFault::ArenaFull) => full_transcript(alloc),
         Err(fault) => match fault.number() {

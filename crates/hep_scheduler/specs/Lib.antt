@@ -1,3 +1,4 @@
 pub mod Value
+pub mod Going
 pub mod Waking
 pub mod Invariant

@@ -1,19 +1,21 @@
 //! The core: a run of an image, one choice at a time, with its history.
-ghost use Rattle.std.specs.Prelude.{◌≡◌, ◌≤◌, ◌<◌, ◌++◌, ◌∷◌, [], None, Some, IsSome, IfNone, IfSome, IfOk, OnOk, IfErr, is_some};
-ghost use Rattle.std.specs.Prelude.{nat_lt, vec_len, vec_capacity};
+ghost use Rattle.std.specs.Prelude.{◌≡◌, ◌≤◌, ◌<◌, ◌++◌, ◌∷◌, [], None, Some, IsSome, IfNone, IfSome, IfOk, OnErr, OnOk, IfErr, Err};
+ghost use Rattle.std.specs.Prelude.{◌+◌, is_some, nat_lt, vec_len, vec_capacity};
 ghost use Rattle.hep_machine.specs.Words.{IsLegal, common_cells, is_held, opening_layout, used_cells, living, first_above, last_process};
 ghost use Rattle.hep_machine.specs.Words.{view_of};
 ghost use Rattle.hep_scheduler.specs.Value.{state_of, opening_of, IsNewFault, IsChoice, HasNoStop, IsStop, IsStoppedWhereFull};
+ghost use Rattle.hep_scheduler.specs.Going.{AreChoices, AreTurns, IsAtRest, IsTurnOnce, entries_along};
 ghost use Rattle.hep_scheduler.specs.Value.{IsAtPosition, next_listed_of, verdict_of, next_ready_of, ready_of};
 
 use crate::fault::{ChooseFault, NewFault};
 use crate::lists::{note_ready, wait, wake_after};
-use crate::stop::{ChoiceStop, Turn, Verdict};
+use crate::stop::{ChoiceStop, Turn, Turns, Verdict};
 use hep_blocked::Waits;
 use hep_blocked_laws::laws::{
     lists_are_those_of_definitions, lists_go_along_with_purges, lists_go_along_with_steps,
     openings_list_nobody, waiting_processes_are_listed,
 };
+use hep_going::go_on;
 use hep_image::Image;
 use hep_layout::laws::layouts_have_what_is_held;
 use hep_machine::{Entry, Fault, Record, Slot};
@@ -24,7 +26,7 @@ use hep_state::{Machine, TurnFault, Turned, fits};
 use hep_state_laws::laws::views_are_of_states;
 use hep_waiting::Listed;
 use hep_waiting::finding::listed;
-use std::alloc::Global;
+use std::alloc::{AllocError, Global};
 use std::marker::Model;
 
 // The main program's process.
@@ -126,6 +128,86 @@ impl Core {
     /// has ended, which is reported after a stop that was set before, and before one that is set now. `NoMemory`, which is
     /// asked for only where there is a gap.
     pub fn choose(&mut self, p: u64) -> Result<Turn, ChooseFault>
+        ensures { IsChoice self.old p result self.new }
+    {
+        match self.move_on(p, 1) {
+            Ok(0) => self.turn(p),
+            Ok(_) => Ok(Turn {
+                steps: 1,
+                blocked: false,
+            }),
+            // A turn asks for memory only behind what comes first.
+            Err(_) => self.turn(p),
+        }
+    }
+
+    /// Chooses process p again and again, up to so many times: as long as each choice makes a step that only moves the process, and else
+    /// once. A step only moves its process if it fills and empties no cell, prints nothing, is no fault, and begins and ends no
+    /// activation; such steps cost less together than one by one.
+    ///
+    /// # Errors
+    ///
+    /// Those of `choose`, where not even one choice was made.
+    pub fn go_on(&mut self, p: u64, most: u64) -> Result<Turns, ChooseFault>
+        requires { 1 ≤ most }
+        ensures made { IfOk result (λ turns. AreTurns self.old p turns self.new) }
+        ensures some { IfOk result (λ turns. 1 ≤ turns.made) }
+        ensures few { IfOk result (λ turns. turns.made ≤ most) }
+        ensures refused { IfErr result (λ fault. IsChoice self.old p (Err fault) self.new) }
+    {
+        match self.move_on(p, most) {
+            Ok(0) => self.turn_once(p),
+            Ok(made) => Ok(Turns {
+                made,
+                blocked: false,
+            }),
+            Err(_) => self.turn_once(p),
+        }
+    }
+
+    // A turn of process p, as what came of choosing it once.
+    fn turn_once(&mut self, p: u64) -> Result<Turns, ChooseFault>
+        ensures made { IfOk result (λ turns. IsTurnOnce self.old p turns self.new) }
+        ensures refused { IfErr result (λ fault. IsChoice self.old p (Err fault) self.new) }
+    {
+        match self.turn(p) {
+            Ok(turn) => Ok(Turns {
+                made: 1,
+                blocked: turn.blocked,
+            }),
+            Err(fault) => Err(fault),
+        }
+    }
+
+    // Chooses process p up to so many times, as long as each choice makes a step that only moves the process, and says how often. Who waits
+    // and who is ready stays.
+    //
+    // It ends early only where the core is at a stop, p doesn't live, the history is full, or no plain operation stands ahead of p that
+    // moves it. It sets no stop. It fails only where memory was refused for so many entries; nothing has changed then.
+    fn move_on(&mut self, p: u64, most: u64) -> Result<u64, AllocError>
+        ensures chosen { IfOk result (λ n. AreChoices p self.old n self.new) }
+        ensures few { IfOk result (λ n. n ≤ most) }
+        ensures all { IfOk result (λ n. n < most → IsAtRest self.new p) }
+        ensures refused { OnErr result (self.new ≡ self.old) }
+    {
+        if self.stop.is_some() {
+            return Ok(0);
+        }
+        if !self.machine.lives(p) {
+            return Ok(0);
+        }
+        self.image.is_runnable();
+        views_are_of_states();
+        lists_go_along_with_steps();
+        let most = most.min(self.limit - self.history.len() as u64);
+        self.history.reserve(most as usize)?;
+        let made = go_on(&mut self.machine, self.alloc, &self.image, p, most);
+        note_all(&mut self.history, p, made);
+        Ok(made)
+    }
+
+    // A turn of process p, as `choose` has it.
+    fn turn(&mut self, p: u64) -> Result<Turn, ChooseFault>
         ensures { IsChoice self.old p result self.new }
     {
         if let Some(stop) = self.stop {
@@ -316,6 +398,24 @@ impl Core {
         &self.history
     }
 
+    /// The history of a core that is no longer needed.
+    pub fn into_history(self) -> Vec<Entry>
+        ensures { result.items ≡ self.history }
+    {
+        let Core {
+            alloc,
+            image,
+            cells,
+            limit,
+            history,
+            stop,
+            machine,
+            waits,
+            ready,
+        } = self;
+        history
+    }
+
     /// How many cells the arena has.
     pub fn cells(&self) -> u32
         ensures { result ≡ self.now.cells }
@@ -344,4 +444,17 @@ fn note(history: &mut Vec<Entry>, p: u64, steps: u32)
     ensures { history.new.items ≡ history.old.items ++ record { process = p; steps = steps } ∷ [] }
 {
     let _ = history.push(Entry { process: p, steps });
+}
+
+// So many entries of process p, each of one step, for which there is room.
+fn note_all(history: &mut Vec<Entry>, p: u64, count: u64)
+    requires { vec_len history.old + count ≤ vec_capacity history.old }
+    ensures { history.new.items ≡ entries_along history.old.items p count }
+{
+    for noted in 0..count {
+        let _ = history.push(Entry {
+            process: p,
+            steps: 1,
+        });
+    }
 }

@@ -29,12 +29,8 @@ impl Process {
         self.levels[self.levels.len() - 1]
     }
 
-    // Where its top activation is: its unit, its frame in the arena, and its index in the unit's code.
-    pub(crate) fn place<'a>(
-        &self,
-        frames: &Frames,
-        image: &'a Image,
-    ) -> (&'a UnitCode, Frame, usize)
+    /// Where its top activation is: its unit, its frame in the arena, and its index in the unit's code.
+    pub fn place<'a>(&self, frames: &Frames, image: &'a Image) -> (&'a UnitCode, Frame, usize)
         requires { (l : ALevel) × (ls : List ALevel) × (operands : List OperandValue) × (stack_of self.now ≡ stack_with l ls operands)
             × IsThere image.now (nodes_of frames.now.nodes) l }
         ensures { (l : ALevel) (ls : List ALevel) (operands : List OperandValue) → stack_of self.now ≡ stack_with l ls operands
@@ -78,8 +74,8 @@ impl Process {
         self.stand_at(index);
     }
 
-    // Its top activation is at an index.
-    pub(crate) fn stand_at(&mut self, index: usize)
+    /// Its top activation is at an index.
+    pub fn stand_at(&mut self, index: usize)
         requires { 0 < vec_len self.old.levels }
         ensures stack { (l : ALevel) (ls : List ALevel) (operands : List OperandValue) → stack_of self.old ≡ stack_with l ls operands
             → stack_of self.new ≡ stack_with (record l { index = index }) ls operands }

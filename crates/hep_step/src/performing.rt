@@ -48,6 +48,7 @@ fn operation_at(code: &[Instruction], index: usize) -> Option<Ahead<'_>>
 /// # Errors
 ///
 /// Only where memory was refused for the record of a PRINT; nothing has changed then.
+#[inline(always)]
 pub fn perform(
     alloc: Global,
     code: &[Instruction],

@@ -1,33 +1,43 @@
 use Rattle.std.proofs.Common.{◌≡◌, ◌≤◌, ◌∙◌, sym, length, Some, arith}
 use Rattle.hep_scheduler.specs.declared.fault.ChooseFault.TheVariants.{Stopped, NoSuchProcess}
 use Rattle.hep_run.specs.Outcome.{next_process}
-use Rattle.hep_run.proofs.Schedules.{chosen, stopped, next_is_ready, none_is_next, ready_lives, refused_for, is_none}
+use Rattle.hep_run.proofs.Schedules.{is_none, next_is_ready, none_is_next, ready_lives, ready_longer, refused_for, stopped, turns_began}
 use Rattle.hep_run.proofs.run.run_on.Goals as goal
 
 pub loop-process-preserved : goal.loop-process-preserved
 loop-process-preserved c =
     let old = c.loop-process.core in
-    let past : length c.args.options.now.choices ≤ length old.history = c.loop-process.invariant.made c.in-Ok.ensures.0.0 in
-    let next : next_process old.program c.args.options.now.choices old.history ≡ Some c.in-Some.process = next_is_ready old.program c.args.options.now.choices old.history c.in-Ok.ensures.0.1 past ∙ sym c.in-Some.ensures in
-    let more = chosen c.args.options.now old c.choose.new.self c.in-Some.process c.in-Ok.field-0 c.in-Ok.ensures c.loop-process.invariant.running next in
+    let made = c.in-Ok.ensures.made in
+    let some = c.in-Ok.ensures.some in
+    let past = c.loop-process.invariant.made (turns_began c.in-Some.process old c.in-Ok.field-0 c.go_on.new.self some made).0 in
+    let more = ready_longer c.args.options.now c.in-Some.process old c.loop-process.invariant.running c.loop-process.invariant.made (sym c.in-Some.ensures) c.in-Ok.field-0 c.go_on.new.self some
+    (λ two. c.most_at_once-most.ensures.alone (omega (arith, two, c.in-Ok.ensures.few))) made in
     record {
       program = more.program ∙ c.loop-process.invariant.program;
       running = more.running;
       made = λ none. omega (arith, more.entries, past);
     }
 
+pub loop-process-smaller : goal.loop-process-smaller
+loop-process-smaller c =
+    let old = c.loop-process.core in
+    let some = c.in-Ok.ensures.some in
+    let more = ready_longer c.args.options.now c.in-Some.process old c.loop-process.invariant.running c.loop-process.invariant.made (sym c.in-Some.ensures) c.in-Ok.field-0 c.go_on.new.self some
+    (λ two. c.most_at_once-most.ensures.alone (omega (arith, two, c.in-Ok.ensures.few))) c.in-Ok.ensures.made in
+    omega (arith, more.entries, more.limit, more.room some, some)
+
 pub returns-in-Err-Stopped-clause-running : goal.returns-in-Err-Stopped-clause-running
 returns-in-Err-Stopped-clause-running c =
     let old = c.loop-process.core in
-    let was = refused_for old c.choose.new.self c.in-Some.process _ (Stopped c.in-Err-Stopped.field-0-0) c.in-Err-Stopped.field-0-is c.in-Err-Stopped.ensures in
-    stopped c.args.options.now old c.choose.new.self c.in-Some.process c.in-Err-Stopped.field-0-0 was c.loop-process.invariant.running (
+    let was = refused_for old c.go_on.new.self c.in-Some.process _ (Stopped c.in-Err-Stopped.field-0-0) c.in-Err-Stopped.field-0-is c.in-Err-Stopped.ensures.refused in
+    stopped c.args.options.now old c.go_on.new.self c.in-Some.process c.in-Err-Stopped.field-0-0 was c.loop-process.invariant.running (
     λ going. next_is_ready old.program c.args.options.now.choices old.history going.1 (c.loop-process.invariant.made going.0) ∙ sym c.in-Some.ensures)
 
 pub unreachable-requires : goal.unreachable-requires
 unreachable-requires c =
     let old = c.loop-process.core in
     ready_lives old.program old.history c.in-Some.process (sym c.in-Some.ensures) (
-    refused_for old c.choose.new.self c.in-Some.process _ NoSuchProcess c.in-Err-NoSuchProcess.field-0-is c.in-Err-NoSuchProcess.ensures).1
+    refused_for old c.go_on.new.self c.in-Some.process _ NoSuchProcess c.in-Err-NoSuchProcess.field-0-is c.in-Err-NoSuchProcess.ensures.refused).1
 
 pub returns-clause-over : goal.returns-clause-over
 returns-clause-over c = λ none.

@@ -1,0 +1,64 @@
+-- Turns of one process, one after the other, which only move it: docs/MACHINE.md, "Steps" and "The opening and runs".
+use Rattle.std.specs.Prelude.{◌≡◌, ◌≢◌, ℕ, suc, ◌<◌, false, List, [], ◌∷◌, ◌++◌, length, Some, None}
+use Rattle.hep_machine.specs.Words.{Value, Units, Layout, is_held, layout_of, living, run, step}
+use Rattle.hep_arena.specs.Space.{Space}
+use Rattle.hep_layout.specs.Words.{Nodes}
+use Rattle.hep_step.specs.Performed as step
+use Rattle.hep_step.specs.Performed.{snapshot}
+use Rattle.hep_step.specs.Ready.{frame_in_arena}
+use Rattle.hep_step.specs.Simulation.{unit_arrays, unit_code}
+use Rattle.hep_state.specs.declared.machine.Level.{Level}
+use Rattle.hep_state.specs.Words.{HasLevels, Snapshot, Stack, Touches, frame_under, node_under, stack_with}
+use Rattle.hep_moves.specs.Moves.{CanGoOn, Goes, HasNoMove}
+
+-- ---- the top activation
+
+-- so many steps of the activation at a level lead from one place to another
+abbrev pub GoesAt : Units → Nodes → Level → step.Snapshot → ℕ → step.Snapshot → Type 0
+GoesAt program nodes l s n t = Goes (unit_code program l.unit) (unit_arrays program l.unit) (node_under nodes l.key).first s n t
+
+-- no plain operation stands ahead there that moves it
+abbrev pub HasNoMoveAt : Units → Nodes → Level → step.Snapshot → Type 0
+HasNoMoveAt program nodes l s = HasNoMove (unit_code program l.unit) (unit_arrays program l.unit) (node_under nodes l.key).first s
+
+-- a process has a top level, whose unit and frame are there, and it can go on wherever it comes to
+pub record CanGo (program : Units) (k : Stack) (capacity : ℕ) (arena : Space) (nodes : Nodes) : Type 0 where
+  pub l : Level
+  pub ls : List Level
+  pub operands : List Value
+  pub stack : k ≡ stack_with l ls operands
+  pub inside : l.unit < length program
+  pub there : nodes l.key ≡ Some (node_under nodes l.key)
+  pub ready : (n : ℕ) (t : step.Snapshot) → GoesAt program nodes l (snapshot arena.contents operands l.index) n t
+      → CanGoOn (unit_code program l.unit) (unit_arrays program l.unit) arena.holes (frame_in_arena (frame_under nodes l.key)) capacity t
+
+-- then it has gone on so far, and no further only where it was to make no more or there is no move
+pub record HasGoneOn (program : Units) (nodes : Nodes) (l : Level) (ls : List Level) (operands : List Value) (before after : Space) (most n : ℕ) (k : Stack) : Type 0 where
+  pub next : ℕ
+  pub left : List Value
+  pub stack : k ≡ stack_with (record l { index = next }) ls left
+  pub gone : GoesAt program nodes l (snapshot before.contents operands l.index) n (snapshot after.contents left next)
+  pub all : n < most → HasNoMoveAt program nodes l (snapshot after.contents left next)
+
+-- a process lives, and no plain operation stands ahead of it that moves it
+pub record HasNoMoveAhead (program : Units) (p : ℕ) (m : Snapshot) : Type 0 where
+  pub living : HasLevels m p
+  pub none : HasNoMoveAt program m.nodes living.level (snapshot m.arena.contents living.operands living.level.index)
+
+-- ---- turns
+
+-- the turn of p after those of these processes is a step, which fills and empties no storage unit, makes and ends no process, is no STOP,
+-- and leaves each frame where it is
+pub record IsPlainTurn (program : Units) (cells : ℕ) (choices : List ℕ) (p : ℕ) : Type 0 where
+  pub stepped : step program p (run program choices) ≢ None
+  pub touches : Touches program cells choices p None
+  pub going : (run program (choices ++ p ∷ [])).halted ≡ false
+  pub lives : living (run program (choices ++ p ∷ [])) p ≢ None
+  pub made : length (run program (choices ++ p ∷ [])).processes ≡ length (run program choices).processes
+  pub layout : Layout
+  pub laid : layout_of program cells is_held (choices ++ p ∷ []) ≡ Some layout
+
+-- p made so many of them
+pub data HasGone (program : Units) (cells p : ℕ) : List ℕ → ℕ → List ℕ → Type 0 where
+  none : (choices : List ℕ) → HasGone program cells p choices 0 choices
+  more : (choices : List ℕ) (n : ℕ) (after : List ℕ) → HasGone program cells p choices n after → IsPlainTurn program cells after p → HasGone program cells p choices (suc n) (after ++ p ∷ [])

@@ -1,0 +1,49 @@
+//! The top activation of a process, and steps that only move it.
+ghost use Rattle.std.specs.Prelude.{◌≡◌, ◌≤◌, ℕ, List, vec_capacity};
+ghost use Rattle.hep_source.specs.declared.value.Value.{Value as OperandValue};
+ghost use Rattle.hep_frames.specs.Nodes.{nodes_of};
+ghost use Rattle.hep_state.specs.declared.machine.Level.{Level as ALevel};
+ghost use Rattle.hep_state.specs.Words.{stack_of, stack_with};
+ghost use Rattle.hep_going.specs.Gone.{CanGo, HasGoneOn};
+
+use hep_frames::Frames;
+use hep_image::Image;
+use hep_moves::{Activation, move_on};
+use hep_state::Process;
+use std::alloc::Global;
+
+/// So many steps at most of the top activation of a process, each of which only moves it, and how many they were.
+pub(crate) fn go_top(
+    process: &mut Process,
+    frames: &mut Frames,
+    alloc: Global,
+    image: &Image,
+    most: u64,
+) -> u64
+    requires { CanGo image.now (stack_of process.old) (vec_capacity process.old.operands) frames.old.arena
+        (nodes_of frames.old.nodes) }
+    ensures gone { (l : ALevel) (ls : List ALevel) (operands : List OperandValue) → stack_of process.old ≡ stack_with l ls operands
+        → HasGoneOn image.now (nodes_of frames.old.nodes) l ls operands frames.old.arena frames.new.arena most result (stack_of process.new) }
+    ensures few { result ≤ most }
+    ensures nodes { frames.new.nodes ≡ frames.old.nodes }
+    ensures holes { frames.new.arena.holes ≡ frames.old.arena.holes }
+    ensures capacity { vec_capacity process.old.operands ≤ vec_capacity process.new.operands }
+{
+    let (unit, frame, mut index) = process.place(frames, image);
+    let activation = Activation {
+        code: unit.code.as_slice(),
+        arrays: unit.arrays.as_slice(),
+        frame,
+    };
+    let operands = &mut process.operands;
+    let made = move_on(
+        alloc,
+        &activation,
+        &mut frames.arena,
+        operands,
+        &mut index,
+        most,
+    );
+    process.stand_at(index);
+    made
+}
