@@ -3,3 +3,4 @@ pub mod Reached
 pub mod Targets
 pub mod Purges
 mod Worked
+pub mod Most

@@ -2,3 +2,4 @@ pub mod Ranges
 pub mod Purged
 pub mod Ready
 pub mod Placed
+pub mod Room

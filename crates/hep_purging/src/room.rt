@@ -1,13 +1,13 @@
 //! How many targets a PURGE has at most.
-ghost use Rattle.std.specs.Prelude.{◌≡◌, ◌≤◌, ℕ, Some, slice_get};
-ghost use Rattle.hep_code.specs.declared.instruction.Instruction.TheVariants.{Step};
-ghost use Rattle.hep_code.specs.declared.instruction.Operation.TheVariants.{Purge};
+ghost use Rattle.std.specs.Prelude.{◌≡◌, Some};
+ghost use Rattle.hep_purging.specs.Room as room;
+ghost use Rattle.hep_purging.specs.Room.{targets_in};
 
 use hep_code::{Instruction, Operation};
 
 // The targets of an instruction, where it is a PURGE.
 fn targets_of(instruction: &Instruction) -> usize
-    ensures { (line count next : ℕ) → instruction.now ≡ Step line (Purge count next) → count ≤ result }
+    ensures { result ≡ targets_in (Some instruction.now) }
 {
     match instruction {
         Instruction::Step {
@@ -18,11 +18,11 @@ fn targets_of(instruction: &Instruction) -> usize
     }
 }
 
-/// So many targets each PURGE in the code has at most, and one of them has so many, if there is one.
+/// The most targets that a PURGE in the code has: 0 where there is none.
 ///
 /// The code is gone through once.
 pub fn most_targets(code: &[Instruction]) -> usize
-    ensures { (index line count next : ℕ) → slice_get code.now index ≡ Some (Step line (Purge count next)) → count ≤ result }
+    ensures { result ≡ room.most_targets code.now }
 {
     let mut most = 0;
     for instruction in code {

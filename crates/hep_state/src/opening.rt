@@ -5,12 +5,12 @@ ghost use Rattle.std.specs.Option.{is_some};
 ghost use Rattle.slab.specs.Slab.{HasRoomFor};
 ghost use Rattle.hep_machine.specs.Words.{dummies_of, main_unit, unit_at, common_cells, opening_layout};
 ghost use Rattle.hep_arena.specs.Holes.{IsOut};
-ghost use Rattle.hep_code.specs.declared.instruction.Instruction.TheVariants.{Step};
-ghost use Rattle.hep_code.specs.declared.instruction.Operation.TheVariants.{Purge};
 ghost use Rattle.hep_image.specs.Dummies.{dummy_arguments};
 ghost use Rattle.hep_image.specs.Image.{IsUnitCode};
 ghost use Rattle.hep_frames.specs.Keeping.{IsUnused};
 ghost use Rattle.hep_frames.specs.Nodes.{nodes_of};
+ghost use Rattle.hep_purging.specs.Room as room;
+ghost use Rattle.hep_purging.specs.Room.{most_of};
 ghost use Rattle.hep_shaping.specs.Fitting as shaping;
 ghost use Rattle.hep_step.specs.Simulation.{unit_code};
 ghost use Rattle.hep_state.specs.Words.{AreOut, IsEntered, IsGiven, HasRoomToPass, IsMachineAfter};
@@ -108,7 +108,7 @@ fn dummies(unit: &Unit) -> usize
 
 // The most dummy arguments that a unit has.
 fn most_dummies(program: &[Unit]) -> usize
-    ensures { (u : ℕ) → length (dummies_of (unit_at program.now u)) ≤ result }
+    ensures { result ≡ most_of (λ u. length (dummies_of (unit_at program.now u))) (length program.now) }
 {
     let mut most = 0;
     for unit in program {
@@ -119,7 +119,7 @@ fn most_dummies(program: &[Unit]) -> usize
 
 // The most operations that the code of an adjustable array of a unit has.
 fn longest_code_of_all(image: &Image) -> usize
-    ensures { (u : ℕ) → u < length image.now → shaping.longest_code (dummy_arguments image.now (unit_at image.now u)) ≤ result }
+    ensures { result ≡ most_of (λ u. shaping.longest_code (dummy_arguments image.now (unit_at image.now u))) (length image.now) }
 {
     let mut longest = 0;
     for unit in 0..image.program().as_slice().len() {
@@ -130,8 +130,7 @@ fn longest_code_of_all(image: &Image) -> usize
 
 // The most targets that a PURGE of a unit has.
 fn most_targets_of_all(image: &Image) -> usize
-    ensures { (u index line count next : ℕ) → u < length image.now
-        → slice_get (unit_code image.now u) index ≡ Some (Step line (Purge count next)) → count ≤ result }
+    ensures { result ≡ most_of (λ u. room.most_targets (unit_code image.now u)) (length image.now) }
 {
     let mut most = 0;
     for unit in 0..image.program().as_slice().len() {
