@@ -45,7 +45,7 @@ Right:
 const RANGE: &str = "FAULT process unit LINE n RANGE: an array has no such element. A subscript is
 outside its bounds, or what an array of a subroutine stands for ends before it.
 Mend the subscript or the bounds. After a DO its variable is past the limit, and
-a process that is given it by CREATE S(I) may find it so: write CREATE S((I)).
+a process made by CREATE S(I) in it may find it so: write CREATE S((I)).
 
 Wrong: FAULT 1 MAIN LINE 4 RANGE
 
@@ -128,10 +128,10 @@ Right:
       END
 ";
 
-const FAULT: &str = "FAULT process unit LINE n name: the process ended at this statement, by a fault
-with this name, and the others went on: OVERFLOW, DIVIDE, RANGE, UNDEFINED,
-SHAPE or STEP. Status 3, also where others wait in the end; where the run was
-stopped, that of the stop. `hepf explain NAME` says what to do about each.
+const FAULT: &str = "FAULT process unit LINE n name: the process ended at this statement by a fault,
+and the others went on. The name is OVERFLOW, DIVIDE, RANGE, UNDEFINED, SHAPE or
+STEP. Status 3, also where others wait in the end; where the run was stopped,
+that of the stop. `hepf explain NAME` says what to do about each.
 
 Wrong: FAULT 1 MAIN LINE 1 UNDEFINED
 
@@ -237,9 +237,8 @@ Right, after ulimit -v 20000:
 const WORKERS_REFUSED: &str =
     "WORKERS REFUSED number: the threads that --workers asked for gave up, or left no
 report. Standard output gets nothing. Status 7.
-`hepf explain NUMBER` says of each number, 506 and 701 to 705, what to do about
-it. The usual one is 704, that a thread couldn't be started: take fewer workers,
-or none.
+`hepf explain NUMBER` says what to do about each number, 506 and 701 to 705. The
+usual one is 704, that a thread couldn't be started: take fewer workers or none.
 
 Wrong, by run a.f --workers 16, after ulimit -v 20000: WORKERS REFUSED 704
 
@@ -309,7 +308,7 @@ const DONE: &str = "The run or replay is done and nothing went wrong, or check o
 to refuse, or a text was asked for. STILL RUNNING ends a replay of a history
 whose run could go on.
 It says nothing of other orders: a race may come out otherwise with other
-choices. Here the read waits, so it doesn't.
+choices. This program prints 1 in each order, since the read waits.
 
 Right:
 
