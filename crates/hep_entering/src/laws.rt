@@ -1,8 +1,8 @@
 //! Laws of new activations: they begin with nothing stored, and once their dummy arguments are written the state that a CALL or
 //! CREATE gives is kept.
 ghost use Rattle.std.specs.Prelude.{◌≡◌, ◌+◌, ◌*◌, ℕ, Bool, false, List, Some, length, slice_get};
-ghost use Rattle.hep_machine.specs.Words.{Name, Statement, index_among, dummies_of, adjustable_dimensions, does, next_of, Frame, Layout};
-ghost use Rattle.hep_machine.specs.Words.{dummy_at, activation_of, living, Bounds, Dummy, State, Store, local, step, unit_called};
+ghost use Rattle.hep_machine.specs.Words.{Name, Statement, index_among, dummies_of, adjustable_dimensions, next_of, Frame, Layout};
+ghost use Rattle.hep_machine.specs.Words.{dummy_at, activation_of, living, Bounds, Dummy, State, Store, local, step};
 ghost use Rattle.hep_machine.specs.Words.{unit_on_top, adjustable_dimensions_of_all, frame_cells};
 ghost use Rattle.hep_machine.specs.declared.shape.Bound.{Bound};
 ghost use Rattle.hep_arena.specs.Gaps.{frame_among};
@@ -10,7 +10,8 @@ ghost use Rattle.hep_arena.specs.Space.{Space};
 ghost use Rattle.hep_layout.specs.Words.{IsLaid, Nodes};
 ghost use Rattle.hep_frames.specs.Keeping.{FramesOf, IsBegun, Keeps};
 ghost use Rattle.hep_passing.specs.declared.given.Given.{Given};
-ghost use Rattle.hep_step.specs.Calls.{made_by};
+ghost use Rattle.hep_step.specs.declared.way.Way.{Way};
+ghost use Rattle.hep_step.specs.Calls.{comes_by, is_creation, unit_by};
 ghost use Rattle.hep_entering.specs.Calling.{AreAllKept, ArePassed, CallOf, IsAllWritten, IsKeptIn, IsPassing, IsWritten};
 ghost use Rattle.hep_entering.specs.Calling.{called_activation, caller, frames_before_call, layout_with, state_before_call, state_begun};
 ghost use Rattle.hep_entering.specs.Calling.{state_made_by, unit_begun};
@@ -54,10 +55,10 @@ pub fn dummies_are_bound()
 /// Where a process is at a CALL or CREATE whose actual arguments are bound without a fault, its step leads to the state with the new
 /// activation, on top of its caller or as a process of its own.
 pub fn calls_make_activations()
-    ensures { (creates : Bool) (call : CallOf) (x : Name) → (state_before_call call).halted ≡ false
-        → call.unit ≡ unit_called call.program x → IsPassing call
-        → next_of (unit_on_top call.program (caller call)) call.top.0.work ≡ does (made_by creates x call.actuals)
-        → step call.program call.process (state_before_call call) ≡ Some (state_made_by creates call) }
+    ensures { (way : Way) (call : CallOf) (x : Name) → (state_before_call call).halted ≡ false
+        → call.unit ≡ unit_by way call.program x → IsPassing call
+        → next_of (unit_on_top call.program (caller call)) call.top.0.work ≡ comes_by way x call.actuals
+        → step call.program call.process (state_before_call call) ≡ Some (state_made_by (is_creation way) call) }
 {}
 
 /// Once the cells of the dummy arguments are written, all others are unset, up to the bounds of adjustable arrays; and once these are

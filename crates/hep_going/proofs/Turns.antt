@@ -61,6 +61,7 @@ module _ (t : TurnOf) where
         level = record t.level { index = u.index };
         below = t.below;
         operands = u.operands;
+        pending = t.pending;
         top = top;
       }
 
@@ -92,7 +93,7 @@ module _ (t : TurnOf) where
           after = t.choices;
           gone = none t.choices;
           top = t.top;
-          turns = subst (λ m. IsTurning (record t { machine = m })) (λ i. record t.machine { processes = set-same t.machine.processes t.process (stack_with t.level t.below t.operands) turns.kept i }) turns;
+          turns = subst (λ m. IsTurning (record t { machine = m })) (λ i. record t.machine { processes = set-same t.machine.processes t.process (stack_with t.level t.below t.operands t.pending) turns.kept i }) turns;
         }
 
     settles-so : (n : ℕ) (s u : step.Snapshot) → HasCome n s → IsSettledTo (unit_code t.program t.level.unit) s u → HasCome n u
@@ -101,7 +102,7 @@ module _ (t : TurnOf) where
         let again = settled come.turns u.operands u.index (λ k work stands. record { fits = stands.fits; rest = stands.rest; same = stands.same ∙ sym is.same }) in
         let machine : (turn_settled r u.operands u.index).machine ≡ machine_at u = λ i. record (machine_at u) {
           arena = record { contents = sym is.contents i; holes = t.machine.arena.holes };
-          processes = set-again t.machine.processes (t.process - 1) (stack_with (record t.level { index = s.index }) t.below s.operands) (stack_with (record t.level { index = u.index }) t.below u.operands) i;
+          processes = set-again t.machine.processes (t.process - 1) (stack_with (record t.level { index = s.index }) t.below s.operands t.pending) (stack_with (record t.level { index = u.index }) t.below u.operands t.pending) i;
         } in
         record {
           after = come.after;
@@ -118,7 +119,7 @@ module _ (t : TurnOf) where
         let simulated = subst (IsEffectOf r come.turns) is.effect (ahead-simulated come.turns runs is.past others) in
         let made = moved-shown come.turns u.contents u.operands u.index is.cells simulated in
         let machine : snapshot_moved r u.contents u.operands u.index ≡ machine_at u = λ i. record (machine_at u) {
-          processes = set-again t.machine.processes (t.process - 1) (stack_with (record t.level { index = s.index }) t.below s.operands) (stack_with (record t.level { index = u.index }) t.below u.operands) i;
+          processes = set-again t.machine.processes (t.process - 1) (stack_with (record t.level { index = s.index }) t.below s.operands t.pending) (stack_with (record t.level { index = u.index }) t.below u.operands t.pending) i;
         } in
         let after = come.after ++ t.process ∷ [] in
         let kept : IsAfter t.program t.cells after (machine_at u) = subst (IsAfter t.program t.cells after) machine made.after in
@@ -126,11 +127,12 @@ module _ (t : TurnOf) where
           level = record t.level { index = u.index };
           below = t.below;
           operands = u.operands;
-          kept = set-numbered t.machine.processes t.process (stack_with t.level t.below t.operands) (stack_with (record t.level { index = u.index }) t.below u.operands) turns.kept;
+          pending = t.pending;
+          kept = set-numbered t.machine.processes t.process (stack_with t.level t.below t.operands t.pending) (stack_with (record t.level { index = u.index }) t.below u.operands t.pending) turns.kept;
         } in
         let count : length (machine_at u).processes ≡ length (machine_at s).processes =
-        length-set t.machine.processes (t.process - 1) (stack_with (record t.level { index = u.index }) t.below u.operands)
-        ∙ sym (length-set t.machine.processes (t.process - 1) (stack_with (record t.level { index = s.index }) t.below s.operands)) in
+        length-set t.machine.processes (t.process - 1) (stack_with (record t.level { index = u.index }) t.below u.operands t.pending)
+        ∙ sym (length-set t.machine.processes (t.process - 1) (stack_with (record t.level { index = s.index }) t.below s.operands t.pending)) in
         let next = turning t.process kept levels (turns.after.shows.halted ∙ turns.running) in
         record {
           after = after;

@@ -26,17 +26,18 @@ pub record CanGo (program : Units) (k : Stack) (capacity : ℕ) (arena : Space) 
   pub l : Level
   pub ls : List Level
   pub operands : List Value
-  pub stack : k ≡ stack_with l ls operands
+  pub pending : List Value
+  pub stack : k ≡ stack_with l ls operands pending
   pub inside : l.unit < length program
   pub there : nodes l.key ≡ Some (node_under nodes l.key)
   pub ready : (n : ℕ) (t : step.Snapshot) → GoesAt program nodes l (snapshot arena.contents operands l.index) n t
       → CanGoOn (unit_code program l.unit) (unit_arrays program l.unit) arena.holes (frame_in_arena (frame_under nodes l.key)) capacity t
 
 -- then it has gone on so far, and no further only where it was to make no more or there is no move
-pub record HasGoneOn (program : Units) (nodes : Nodes) (l : Level) (ls : List Level) (operands : List Value) (before after : Space) (most n : ℕ) (k : Stack) : Type 0 where
+pub record HasGoneOn (program : Units) (nodes : Nodes) (l : Level) (ls : List Level) (operands pending : List Value) (before after : Space) (most n : ℕ) (k : Stack) : Type 0 where
   pub next : ℕ
   pub left : List Value
-  pub stack : k ≡ stack_with (record l { index = next }) ls left
+  pub stack : k ≡ stack_with (record l { index = next }) ls left pending
   pub gone : GoesAt program nodes l (snapshot before.contents operands l.index) n (snapshot after.contents left next)
   pub all : n < most → HasNoMoveAt program nodes l (snapshot after.contents left next)
 

@@ -22,8 +22,9 @@ pub(crate) fn go_top(
 ) -> u64
     requires { CanGo image.now (stack_of process.old) (vec_capacity process.old.operands) frames.old.arena
         (nodes_of frames.old.nodes) }
-    ensures gone { (l : ALevel) (ls : List ALevel) (operands : List OperandValue) → stack_of process.old ≡ stack_with l ls operands
-        → HasGoneOn image.now (nodes_of frames.old.nodes) l ls operands frames.old.arena frames.new.arena most result (stack_of process.new) }
+    ensures gone { (l : ALevel) (ls : List ALevel) (operands pending : List OperandValue)
+        → stack_of process.old ≡ stack_with l ls operands pending → HasGoneOn image.now (nodes_of frames.old.nodes) l ls operands pending
+        frames.old.arena frames.new.arena most result (stack_of process.new) }
     ensures few { result ≤ most }
     ensures nodes { frames.new.nodes ≡ frames.old.nodes }
     ensures holes { frames.new.arena.holes ≡ frames.old.arena.holes }

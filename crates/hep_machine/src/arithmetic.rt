@@ -12,6 +12,7 @@ use hep_source::{ArithmeticOperator, Sign};
 ///
 /// `Divide` for a zero divisor or a negative power of zero, `Overflow` where the exact result is
 /// no 64-bit integer.
+#[inline(always)]
 pub fn apply(operator: ArithmeticOperator, left: i64, right: i64) -> Result<i64, Kind>
     ensures { result ≡ result_of operator left right }
 {

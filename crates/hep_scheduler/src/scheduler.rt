@@ -148,6 +148,7 @@ impl Core {
     /// # Errors
     ///
     /// Those of `choose`, where not even one choice was made.
+    #[inline(always)]
     pub fn go_on(&mut self, p: u64, most: u64) -> Result<Turns, ChooseFault>
         requires { 1 ≤ most }
         ensures made { IfOk result (λ turns. AreTurns self.old p turns self.new) }

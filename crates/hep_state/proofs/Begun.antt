@@ -9,10 +9,14 @@ use Rattle.hep_layout_laws.specs.Bound.{AreKept}
 use Rattle.hep_layout.specs.Words.{FrameNode, Nodes, also, is_stacked, new_node, frame_from}
 use Rattle.hep_layout.proofs.Memory.{memory-fits}
 use Rattle.hep_frames.specs.Keeping.{AreOfSomeState as ArenaKept}
+use Rattle.hep_step.specs.declared.way.Way.{Way}
+use Rattle.hep_step.specs.declared.way.Way.TheVariants.{Calls, Creates}
+use Rattle.hep_step.specs.Calls.{is_creation}
 use Rattle.hep_step.specs.Simulation.{unit_addressed}
+use Rattle.hep_state.specs.declared.machine.Level.{Level}
 use Rattle.hep_state.specs.Words.{Snapshot, Stack, IsTurning, TurnOf, call_in, frames_before, state_before, state_failed, HasMadeTurn, HasGaps, HasNoGap, HasEntered, IsAfterCall, entered_level, snapshot_made_by, stacks_made_by, state_made, IsMaking, IsUnit, IsEnding}
 use Rattle.hep_state.proofs.Leaving.{kept-entered}
-use Rattle.hep_state.proofs.Standing.{AreOn, AreMade, AreStanding, AreStandingBelow, IsHere, StandsOnTop, below-still, here-at, here-still, made-more}
+use Rattle.hep_state.proofs.Standing.{AreOn, AreMade, AreStanding, AreStandingBelow, IsHere, StandsOnTop, below-still, here-at, here-still, keeps-none, made-more}
 use Rattle.hep_state.proofs.Moved.{standing-before}
 use Rattle.hep_state.proofs.Runs.{layout-more, all-remain, standing-changed, stepped-after, layout-left}
 use Rattle.hep_entering.specs.Calling.{AreActualsPassed, CallOf, IsKeptIn, called_activation, frames_with, layout_with, level_behind, level_called, state_begun, state_called, state_created, state_made_by, IsWritten, unit_begun}
@@ -58,9 +62,9 @@ module _ {t : TurnOf} (h : IsTurning t) (u : ℕ) (actuals : List Actual) (b : B
 
   -- ---- in the state to which a CALL or CREATE leads
 
-  module _ (creates : Bool) (key : ℕ) (arena : Space) (nodes : Nodes) (e : HasEntered t h u key (state_made_by creates (call_in t u actuals b)) arena nodes) where
+  module _ (way : Way) (key : ℕ) (arena : Space) (nodes : Nodes) (e : HasEntered t h u key (state_made_by (is_creation way) (call_in t u actuals b)) arena nodes) where
     abbrev later : State
-    later = state_made_by creates call
+    later = state_made_by (is_creation way) call
 
     abbrev n : ℕ
     n = length later.activations
@@ -69,13 +73,13 @@ module _ {t : TurnOf} (h : IsTurning t) (u : ℕ) (actuals : List Actual) (b : B
     now = layout_with t.program later layout e.first
 
     begun : later.activations ≡ (state_begun call).activations
-    begun = made-begun creates call
+    begun = made-begun (is_creation way) call
 
     number : n ≡ suc (length old.activations)
     number = long call later begun
 
     keeps : IsKeptIn (frames_before t h) later e.first arena nodes
-    keeps = made-keeps creates call h.lives layout e.first (length t.machine.arena.contents) h.after.shows.keeps.memory.laid (is_held old) arena nodes e.written
+    keeps = made-keeps (is_creation way) call h.lives layout e.first (length t.machine.arena.contents) h.after.shows.keeps.memory.laid (is_held old) arena nodes e.written
 
     laid : layout_of t.program t.cells is_held (t.choices ++ t.process ∷ []) ≡ Some now
     laid =
@@ -108,35 +112,35 @@ module _ {t : TurnOf} (h : IsTurning t) (u : ℕ) (actuals : List Actual) (b : B
         }
 
     -- the one that made it
-    maker-here : (index : ℕ) (a : ℕ) → a ≡ t.top.0.activation → is_stacked later a ≡ true → IsHere t.program later nodes (record t.level { index = index }) a
-    maker-here index a same on =
-        here-at t.program later nodes t.level index t.top.0.activation a same (
+    maker-here : (level : Level) (a : ℕ) → level.key ≡ t.level.key → level.unit ≡ t.level.unit → a ≡ t.top.0.activation → is_stacked later a ≡ true → IsHere t.program later nodes level a
+    maker-here level a key_is unit_is same on =
+        here-at t.program later nodes t.level level t.top.0.activation a key_is unit_is same (
         here-still t.program old later t.machine.nodes nodes made stay t.level t.top.0.activation (standing-before h).0.here (sym (ap (is_stacked later) same) ∙ on))
 
-    below-stand : AreOn later t.top.1 → AreStandingBelow t.program later nodes t.below t.top.1
-    below-stand = below-still t.program old later t.machine.nodes nodes made stay t.below t.top.1 (standing-before h).1
+    below-stand : AreOn later t.top.1 → AreStandingBelow t.program later nodes t.pending t.below t.top.1
+    below-stand = below-still t.program old later t.machine.nodes nodes made stay t.pending t.below t.top.1 (standing-before h).1
 
     -- each process, where that of the turn has another stack
-    all-stand : (k : Stack) (q : Process) → (AreOn later q → AreStanding t.program later nodes k.operands k.levels q)
-        → (i : ℕ) (j : Stack) (r : Process) → numbered (with_numbered t.machine.processes t.process k) i ≡ Some j → numbered (with_numbered old.processes t.process q) i ≡ Some r → AreOn later r → AreStanding t.program later nodes j.operands j.levels r
+    all-stand : (k : Stack) (q : Process) → (AreOn later q → AreStanding t.program later nodes k.operands k.pending k.levels q)
+        → (i : ℕ) (j : Stack) (r : Process) → numbered (with_numbered t.machine.processes t.process k) i ≡ Some j → numbered (with_numbered old.processes t.process q) i ≡ Some r → AreOn later r → AreStanding t.program later nodes j.operands j.pending j.levels r
     all-stand k q = standing-changed h later nodes k q made stay
 
     -- and there is one process more
     more-stand : (k last : Stack) (q newest : Process) → length (with_numbered t.machine.processes t.process k) ≡ length (with_numbered old.processes t.process q)
-        → (AreOn later q → AreStanding t.program later nodes k.operands k.levels q) → AreStanding t.program later nodes last.operands last.levels newest
-        → (i : ℕ) (j : Stack) (r : Process) → numbered (with_numbered t.machine.processes t.process k ++ last ∷ []) i ≡ Some j → numbered (with_numbered old.processes t.process q ++ newest ∷ []) i ≡ Some r → AreOn later r → AreStanding t.program later nodes j.operands j.levels r
+        → (AreOn later q → AreStanding t.program later nodes k.operands k.pending k.levels q) → AreStanding t.program later nodes last.operands last.pending last.levels newest
+        → (i : ℕ) (j : Stack) (r : Process) → numbered (with_numbered t.machine.processes t.process k ++ last ∷ []) i ≡ Some j → numbered (with_numbered old.processes t.process q ++ newest ∷ []) i ≡ Some r → AreOn later r → AreStanding t.program later nodes j.operands j.pending j.levels r
     more-stand k last q newest count own new i j r here on-it on =
         by_places (numbered-last (with_numbered t.machine.processes t.process k) last j i here) (numbered-last (with_numbered old.processes t.process q) newest r i on-it) where
           by_places : (numbered (with_numbered t.machine.processes t.process k) i ≡ Some j) ⊎ ((i ≡ suc (length (with_numbered t.machine.processes t.process k))) × (last ≡ j)) → (numbered (with_numbered old.processes t.process q) i ≡ Some r) ⊎ ((i ≡ suc (length (with_numbered old.processes t.process q))) × (newest ≡ r))
-              → AreStanding t.program later nodes j.operands j.levels r
+              → AreStanding t.program later nodes j.operands j.pending j.levels r
           by_places (inl f) (inl g) = all-stand k q own i j r f g on
           by_places (inl f) (inr g) = absurd (omega (arith, numbered-within (with_numbered t.machine.processes t.process k) i j f, g.0, count))
           by_places (inr f) (inl g) = absurd (omega (arith, numbered-within (with_numbered old.processes t.process q) i r g, f.0, count))
-          by_places (inr f) (inr g) = subst (λ (z : Stack). AreStanding t.program later nodes z.operands z.levels r) f.1 (subst (λ z. AreStanding t.program later nodes last.operands last.levels z) g.1 new)
+          by_places (inr f) (inr g) = subst (λ (z : Stack). AreStanding t.program later nodes z.operands z.pending z.levels r) f.1 (subst (λ z. AreStanding t.program later nodes last.operands last.pending last.levels z) g.1 new)
 
     -- what the dummy arguments of each activation stand for, that of the new one and of those that were there
     kept-then : (a : ℕ) → is_stacked later a ≡ true → AreKept t.program later now a
-    kept-then a on = by_number (nat_eq a n) refl (sym (made-stacks call h.lives creates a) ∙ on) where
+    kept-then a on = by_number (nat_eq a n) refl (sym (made-stacks call h.lives (is_creation way) a) ∙ on) where
       by_number : (c : Bool) → nat_eq a n ≡ c → (if c then true else is_stacked old a) ≡ true → AreKept t.program later now a
       by_number true is on = subst (AreKept t.program later now) (sym (eqb-true a n is)) e.kept
       by_number false is on =
@@ -144,7 +148,7 @@ module _ {t : TurnOf} (h : IsTurning t) (u : ℕ) (actuals : List Actual) (b : B
           kept-entered t.program old later (called_activation call) layout (length t.machine.arena.contents) e.first a s.keeps.memory.laid begun (s.keeps.tree.made a (s.keeps.tree.stacked a on)).1 (s.kept a on)
 
     shown : (processes : List Stack) → length processes ≡ length later.processes
-        → ((i : ℕ) (k : Stack) (q : Process) → numbered processes i ≡ Some k → numbered later.processes i ≡ Some q → AreOn later q → AreStanding t.program later nodes k.operands k.levels q)
+        → ((i : ℕ) (k : Stack) (q : Process) → numbered processes i ≡ Some k → numbered later.processes i ≡ Some q → AreOn later q → AreStanding t.program later nodes k.operands k.pending k.levels q)
         → later.records ≡ old.records → later.faults ≡ old.faults → later.halted ≡ old.halted → HasMadeTurn t (record t.machine { arena = arena; nodes = nodes; processes = processes; activations = t.machine.activations + 1 })
     shown processes count standing records faults halted =
         let s = h.after.shows in
@@ -157,36 +161,45 @@ module _ {t : TurnOf} (h : IsTurning t) (u : ℕ) (actuals : List Actual) (b : B
   set-many k q = length-set t.machine.processes _ k ∙ (h.after.shows.processes ∙ sym (length-set old.processes _ q))
 
   -- the new one is on top of its caller, or a process of its own
-  pub made-shown : (creates : Bool) (key index : ℕ) (arena : Space) (nodes : Nodes) → HasEntered t h u key (state_made_by creates (call_in t u actuals b)) arena nodes → IsAfterCall t index
-      → HasMadeTurn t (snapshot_made_by creates t u key index arena nodes)
-  made-shown false key index arena nodes e at =
+  pub made-shown : (way : Way) (key index : ℕ) (arena : Space) (nodes : Nodes) → HasEntered t h u key (state_made_by (is_creation way) (call_in t u actuals b)) arena nodes → IsAfterCall t index
+      → HasMadeTurn t (snapshot_made_by way t u key index arena nodes)
+  made-shown Calls key index arena nodes e at =
       let later = state_called call in
-      let k : Stack = record { levels = entered_level t.program u key ∷ (record t.level { index = index } ∷ t.below); operands = [] } in
+      let k : Stack = record { levels = entered_level t.program u key ∷ (record t.level { kept = 0; index = index } ∷ t.below); operands = []; pending = t.pending } in
       let q : Process = level_called call ∷ (t.top.0 ∷ t.top.1) in
-      let own : AreOn later q → AreStanding t.program later nodes [] k.levels q =
-      λ on. (new-stands false key arena nodes e, (record { here = maker-here false key arena nodes e index t.top.0.activation refl on.2.1; index = at }, below-stand false key arena nodes e on.2.2)) in
-      shown false key arena nodes e (stacks_made_by false t (entered_level t.program u key) (record t.level { index = index })) (set-many k q) (all-stand false key arena nodes e k q own) refl refl refl
-  made-shown true key index arena nodes e at =
+      let own : AreOn later q → AreStanding t.program later nodes [] t.pending k.levels q =
+      λ on.
+      let keeps = keeps-none t.pending 0 refl in (
+        new-stands Calls key arena nodes e,
+        (
+          record { here = maker-here Calls key arena nodes e (record t.level { kept = 0; index = index }) t.top.0.activation refl refl refl on.2.1; index = at; operands = keeps.0 },
+          subst (λ rest. AreStandingBelow t.program later nodes rest t.below t.top.1) (sym keeps.1) (below-stand Calls key arena nodes e on.2.2),
+        ),
+        omega (arith, (standing-before h).2),
+      ) in
+      shown Calls key arena nodes e (stacks_made_by Calls t (entered_level t.program u key) (record t.level { index = index })) (set-many k q) (all-stand Calls key arena nodes e k q own) refl refl refl
+  made-shown Creates key index arena nodes e at =
       let later = state_created call in
-      let k : Stack = record { levels = record t.level { index = index } ∷ t.below; operands = [] } in
+      let k : Stack = record { levels = record t.level { index = index } ∷ t.below; operands = []; pending = t.pending } in
       let q : Process = level_behind call ∷ t.top.1 in
-      let k2 : Stack = record { levels = entered_level t.program u key ∷ []; operands = [] } in
+      let k2 : Stack = record { levels = entered_level t.program u key ∷ []; operands = []; pending = [] } in
       let q2 : Process = level_called call ∷ [] in
       let count : length (with_numbered t.machine.processes t.process k ++ k2 ∷ []) ≡ length (with_numbered old.processes t.process q ++ q2 ∷ []) =
       length-append (with_numbered t.machine.processes t.process k) (k2 ∷ []) ∙ (ap (λ z. z + 1) (set-many k q) ∙ sym (length-append (with_numbered old.processes t.process q) (q2 ∷ []))) in
       let addressed = unit_addressed t.program t.level.unit in
       let unit_is = (standing-before h).0.here.unit in
-      let own : AreOn later q → AreStanding t.program later nodes [] k.levels q =
+      let own : AreOn later q → AreStanding t.program later nodes [] t.pending k.levels q =
       λ on. (
         record {
-          here = maker-here true key arena nodes e index (level_behind call).activation (behind-keeps call).1 on.1;
+          here = maker-here Creates key arena nodes e (record t.level { index = index }) (level_behind call).activation refl refl (behind-keeps call).1 on.1;
           stands =
               subst (λ v. Stands addressed (level_after_statement (unit_at t.program v) t.top.0).statement (level_after_statement (unit_at t.program v) t.top.0).work [] index) (sym unit_is) (
               subst (StandsAt addressed (level_after_statement (unit_at t.program t.level.unit) t.top.0)) (sym at) (after_statement_stands addressed t.top.0));
         },
-        below-stand true key arena nodes e on.2,
+        below-stand Creates key arena nodes e on.2,
+        (standing-before h).2,
       ) in
-      shown true key arena nodes e (stacks_made_by true t (entered_level t.program u key) (record t.level { index = index })) count (more-stand true key arena nodes e k k2 q q2 (set-many k q) own (new-stands true key arena nodes e, tt)) refl refl refl
+      shown Creates key arena nodes e (stacks_made_by Creates t (entered_level t.program u key) (record t.level { index = index })) count (more-stand Creates key arena nodes e k k2 q q2 (set-many k q) own (new-stands Creates key arena nodes e, tt, refl)) refl refl refl
 
 -- ---- the activation that is made, and what it is given
 
@@ -221,7 +234,7 @@ module _ {t : TurnOf} {turning : IsTurning t} {later : State} {n key : ℕ} {sha
 
 -- ---- whether its frame has a gap
 
-module _ {creates : Bool} {t : TurnOf} {u n entry index : ℕ} {given : List Given} {shapes : List (Option Bounds)} (h : IsMaking creates t u index given shapes) (unit : IsUnit t.program u n entry) where
+module _ {way : Way} {t : TurnOf} {u n entry index : ℕ} {given : List Given} {shapes : List (Option Bounds)} (h : IsMaking way t u index given shapes) (unit : IsUnit t.program u n entry) where
   abbrev called : State
   called = state_made h
 
@@ -234,13 +247,13 @@ module _ {creates : Bool} {t : TurnOf} {u n entry index : ℕ} {given : List Giv
   -- the gaps of the arena are those of the layout
   gap-is : first_fit n t.machine.arena.holes ≡ lowest_gap t.cells (frame_of t.program called (length called.activations)) (common_cells t.program) laid-out
   gap-is =
-      let size : n ≡ frame_of t.program called (length called.activations) = unit.cells_are ∙ ap (λ v. frame_cells (unit_at t.program v)) (sym (unit-is calling called (made-begun creates calling))) in
+      let size : n ≡ frame_of t.program called (length called.activations) = unit.cells_are ∙ ap (λ v. frame_cells (unit_at t.program v)) (sym (unit-is calling called (made-begun (is_creation way) calling))) in
       memory-fits t.program (state_before t) laid-out t.machine.arena.contents t.machine.arena.holes n h.turning.after.shows.keeps.memory (omega (arith, unit.cells_are))
       ∙ (λ i. lowest_gap (h.turning.after.size i) (size i) (common_cells t.program) laid-out)
 
   laid-by : (gap : Option ℕ) → first_fit n t.machine.arena.holes ≡ gap
       → layout_of t.program t.cells is_held (t.choices ++ t.process ∷ []) ≡ option_map (remaining_layout is_held called) (option_map (λ first. with_frame laid-out (frame_from t.program called (length called.activations) first)) gap)
-  laid-by gap e = layout-more t.program t.cells t.choices t.process laid-out called gap h.turning.after.laid h.made (long calling called (made-begun creates calling)) (sym gap-is ∙ e)
+  laid-by gap e = layout-more t.program t.cells t.choices t.process laid-out called gap h.turning.after.laid h.made (long calling called (made-begun (is_creation way) calling)) (sym gap-is ∙ e)
 
   pub called-no-gap : first_fit n t.machine.arena.holes ≡ None → HasNoGap t.program t.cells t.choices t.process
   called-no-gap none = record { stepped = λ e. none-some called (sym e ∙ h.made); full = laid-by None none }

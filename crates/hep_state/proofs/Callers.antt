@@ -1,14 +1,16 @@
 -- What a process calls whose top activation is at a CALL, what its actual arguments give and bind, and what a machine reads of it there.
-use Rattle.std.proofs.Common.{◌≡◌, ℕ, ◌<◌, List, ◌∷◌, drop, length, sym, ap, ◌∙◌, subst, ◌≢◌, suc, Bool, false, [], Option, Some, None, Result, Ok, Err, refl, arith, ◌-◌, get_or, slice_get}
-use Rattle.hep_machine.specs.Words.{Name, Units, dummies_of, unit_at, unit_of, State, Dummy, Top, binding_of, next_activation, scope_of, step, unit_called, unit_on_top, Statement, Value, Binding, binding_with_shapes, dummies_for, dummy_before, dummy_for, with_actuals, Actual, Reference, does, evaluated, next_of, referred, Frame, Layout, Scope, Bounds}
+use Rattle.std.proofs.Common.{◌≡◌, ℕ, ◌<◌, List, ◌∷◌, drop, length, sym, ap, ◌∙◌, ◌++◌, subst, ◌≢◌, suc, false, [], Option, Some, None, Result, Ok, Err, refl, arith, ◌-◌, get_or, slice_get}
+use Rattle.hep_machine.specs.Words.{Name, Units, dummies_of, unit_at, unit_of, State, Dummy, Top, binding_of, next_activation, scope_of, step, unit_on_top, Statement, Value, Binding, binding_with_shapes, dummies_for, dummy_before, dummy_for, with_actuals, Actual, Reference, evaluated, next_of, referred, Frame, Layout, Scope, Bounds}
 use Rattle.hep_code.specs.declared.instruction.Operation.{Operation}
 use Rattle.hep_code.specs.declared.instruction.Instruction.TheVariants.{Step}
 use Rattle.hep_code.specs.declared.variable.Variable.{Variable}
-use Rattle.hep_code.specs.Words.{table_of, Passed, passed_from}
+use Rattle.std.specs.List.{flat_map}
+use Rattle.hep_code.specs.Words.{operands_of_actual, table_of, Passed, passed_from}
 use Rattle.hep_image.specs.declared.array.Array.{Array}
 use Rattle.hep_image.specs.Places.{variable_of}
 use Rattle.hep_passing.specs.Agreement.{CallerOf, IsCaller, AreGiven, AreGivenAs, ArePlaced, IsGiven, arrays_calling, caller_running, given_passed, passed_by_entries, scope_calling, variables_calling}
-use Rattle.hep_step.specs.Calls.{IsCallAhead, made_by, making}
+use Rattle.hep_step.specs.declared.way.Way.{Way}
+use Rattle.hep_step.specs.Calls.{IsCallAhead, comes_by, is_creation, last_operands, making, unit_by}
 use Rattle.hep_step.specs.Simulation.{IsRunning, code_on_top, unit_addressed, unit_arrays, unit_code, Simulates, RunningTop, code_ahead}
 use Rattle.hep_code_laws.specs.Works.{IsCalledBy}
 use Rattle.hep_state.specs.declared.upcoming.CallAhead.{CallAhead}
@@ -27,6 +29,7 @@ use Rattle.hep_passing.specs.declared.given.Given.TheVariants as giving
 use Rattle.hep_passing.specs.Passing.{given_by}
 use Rattle.hep_passing.specs.Shapes.{AreShapesOf}
 use Rattle.hep_step.specs.Effects.{fails}
+use Rattle.hep_step.proofs.Actions.{passed_last}
 use Rattle.hep_code_laws.specs.Actuals.{FitsDummy, IsVariableOf}
 use Rattle.hep_entering.specs.Calling.{AreActualsPassed, CallOf, IsPassed, IsPassing, caller, state_before_call, state_made_by}
 use Rattle.hep_entering.specs.Giving.{AreDistinct}
@@ -78,24 +81,32 @@ module _ {t : TurnOf} (call : CallAhead) (at : IsAtCall t call) (known : IsKnown
   top = top_before t
 
   -- what is called, and by which statement
-  pub calls : IsCallAhead call.creates t.program top t.operands call.unit call.count call.next at.behind
+  pub calls : IsCallAhead call.way t.program top t.operands call.unit call.count call.next at.behind
   calls =
-      known.ahead call.creates (running_top t at.turning) call.line call.unit call.count call.next at.behind (runs at known.running) (ahead-on-top at)
+      known.ahead call.way (running_top t at.turning) call.line call.unit call.count call.next at.behind (runs at known.running) (ahead-on-top at)
 
   pub from : IsCalledBy (unit_at t.program (unit_of old t.top.0.activation)) t.top.0.statement calls.name calls.actuals
-  from = known.called call.creates (unit_at t.program (unit_of old t.top.0.activation)) t.top.0.statement t.top.0.work calls.name calls.actuals (known.works t.choices t.process t.top at.turning.lives) calls.does_so
+  from = known.called call.way (unit_at t.program (unit_of old t.top.0.activation)) t.top.0.statement t.top.0.work calls.name calls.actuals (known.works t.choices t.process t.top at.turning.lives) calls.does_so
 
   pub called-inside : call.unit < length t.program
-  called-inside = subst (λ u. u < length t.program) (sym calls.unit) (known.subroutine (unit_of old t.top.0.activation) t.top.0.statement calls.name calls.actuals from)
+  called-inside = subst (λ u. u < length t.program) (sym calls.unit) (known.subroutine call.way (unit_of old t.top.0.activation) t.top.0.statement calls.name calls.actuals from)
 
   -- it has as many dummy arguments as are passed
   pub as-many : length calls.actuals ≡ length (dummies_of (unit_at t.program call.unit))
-  as-many = known.arguments (unit_of old t.top.0.activation) t.top.0.statement calls.name calls.actuals from ∙ ap (λ u. length (dummies_of (unit_at t.program u))) (sym calls.unit)
+  as-many = known.arguments call.way (unit_of old t.top.0.activation) t.top.0.statement calls.name calls.actuals from ∙ ap (λ u. length (dummies_of (unit_at t.program u))) (sym calls.unit)
 
-  -- what is passed, by the entries behind the CALL and the operands
-  pub passed-by : (P : List Array → List Passed → Type 0) → P (arrays_calling (caller_at at)) (passed_by_entries (caller_at at) calls.actuals calls.more) → P (unit_arrays t.program t.level.unit) (passed_from call.count at.behind t.operands)
+  -- the operands that are passed are all of them
+  pub passes-all : last_operands call.count at.behind t.operands ≡ t.operands
+  passes-all =
+      let own = flat_map operands_of_actual calls.actuals in
+      passed_last calls ∙ sym (calls.operands_are ∙ ap (λ vs. vs ++ own) calls.alone)
+
+  -- what is passed, by the entries behind the CALL and the last operands
+  pub passed-by : (P : List Array → List Passed → Type 0) → P (arrays_calling (caller_at at)) (passed_by_entries (caller_at at) calls.actuals calls.more)
+      → P (unit_arrays t.program t.level.unit) (passed_from call.count at.behind (last_operands call.count at.behind t.operands))
   passed-by P h =
-      let passed : passed_by_entries (caller_at at) calls.actuals calls.more ≡ passed_from call.count at.behind t.operands = λ i. passed_from (sym calls.counted i) (sym calls.entries i) (sym calls.operands_are i) in
+      let passed : passed_by_entries (caller_at at) calls.actuals calls.more ≡ passed_from call.count at.behind (last_operands call.count at.behind t.operands) =
+      λ i. passed_from (sym calls.counted i) (sym calls.entries i) (sym (passed_last calls) i) in
       subst (P (unit_arrays t.program t.level.unit)) passed (subst (λ u. P (unit_arrays t.program u) (passed_by_entries (caller_at at) calls.actuals calls.more)) (unit-is at.turning) h)
 
 -- ---- actual arguments have storage units
@@ -148,17 +159,17 @@ pub record IsKnownToBind (program : Units) : Type 0 where
   pub known : IsKnown program
   -- of dummy arguments, and of the actual arguments that are given to them
   pub distinct : (u : ℕ) → u < length program → AreDistinct (dummies_of (unit_at program u))
-  pub fits : (u k j : ℕ) (x y : Name) (actuals : List Actual) (a : Actual) → IsCalledBy (unit_at program u) k x actuals → slice_get (dummies_of (unit_at program (unit_called program x))) j ≡ Some y → slice_get actuals j ≡ Some a
-      → FitsDummy (unit_at program u) (unit_at program (unit_called program x)) y a
+  pub fits : (way : Way) (u k j : ℕ) (x y : Name) (actuals : List Actual) (a : Actual) → IsCalledBy (unit_at program u) k x actuals → slice_get (dummies_of (unit_at program (unit_by way program x))) j ≡ Some y → slice_get actuals j ≡ Some a
+      → FitsDummy (unit_at program u) (unit_at program (unit_by way program x)) y a
   pub placed : (unit : List Statement) (x : Name) → IsVariableOf unit x → variable_of program unit x ≢ Absent
   -- of what they give
   pub passed : (c : CallerOf) (b : ℕ) (xs : List Name) (actuals : List Actual) (more : List Instruction) → IsCaller c → ArePlaced (variables_calling c) actuals → length xs ≡ length actuals
       → AreGivenAs c.program c.state c.layout b xs actuals (given_passed c (passed_by_entries c actuals more)) (dummies_for (scope_calling c) b xs actuals)
   -- of the step
-  pub made : (creates : Bool) (call : CallOf) (x : Name) → (state_before_call call).halted ≡ false → call.unit ≡ unit_called call.program x → IsPassing call
-      → next_of (unit_on_top call.program (caller call)) call.top.0.work ≡ does (made_by creates x call.actuals) → step call.program call.process (state_before_call call) ≡ Some (state_made_by creates call)
-  pub faults : (creates : Bool) (r : RunningTop) (line u count next : ℕ) (behind : List Instruction) → IsRunning r → code_ahead r ≡ Step line (making creates u count next) ∷ behind
-      → (ahead : IsCallAhead creates r.program r.top r.operands u count next behind) (k : Kind) → binding_of r.program r.top u ahead.actuals ≡ Err k → Simulates r (fails line k)
+  pub made : (way : Way) (call : CallOf) (x : Name) → (state_before_call call).halted ≡ false → call.unit ≡ unit_by way call.program x → IsPassing call
+      → next_of (unit_on_top call.program (caller call)) call.top.0.work ≡ comes_by way x call.actuals → step call.program call.process (state_before_call call) ≡ Some (state_made_by (is_creation way) call)
+  pub faults : (way : Way) (r : RunningTop) (line u count next : ℕ) (behind : List Instruction) → IsRunning r → code_ahead r ≡ Step line (making way u count next) ∷ behind
+      → (ahead : IsCallAhead way r.program r.top r.operands u count next behind) (k : Kind) → binding_of r.program r.top u ahead.actuals ≡ Err k → Simulates r (fails line k)
 
 module _ {t : TurnOf} (call : CallAhead) (at : IsAtCall t call) (all : IsKnownToBind t.program) where
   abbrev before : State
@@ -187,7 +198,7 @@ module _ {t : TurnOf} (call : CallAhead) (at : IsAtCall t call) (all : IsKnownTo
       all-placed (variable_of t.program (unit_at t.program u)) actuals (λ j r e.
       let dummy = there-too actuals xs j (referred r) (as-many call at all.known) e in
       let named = subst (λ v. slice_get (dummies_of (unit_at t.program v)) j ≡ Some dummy.0) ahead.unit dummy.1 in
-      all.placed (unit_at t.program u) r.0 (all.fits u t.top.0.statement j ahead.name dummy.0 actuals (referred r) by named e).variable)
+      all.placed (unit_at t.program u) r.0 (all.fits call.way u t.top.0.statement j ahead.name dummy.0 actuals (referred r) by named e).variable)
 
   -- what they give is what the dummy arguments of the new activation stand for, or there is the same fault
   given-as : AreGivenAs t.program before layout (next_activation before) xs actuals (given_of call at) bound
@@ -205,7 +216,7 @@ module _ {t : TurnOf} (call : CallAhead) (at : IsAtCall t call) (all : IsKnownTo
   pub fault-ends : (k : Kind) → binding ≡ Err k → IsEnding t (fails call.line k)
   fault-ends k e =
       let ahead = calls call at all.known in
-      let simulated = all.faults call.creates (running_top t at.turning) call.line call.unit call.count call.next at.behind (runs at all.known.running) (ahead-on-top at) ahead k e in
+      let simulated = all.faults call.way (running_top t at.turning) call.line call.unit call.count call.next at.behind (runs at all.known.running) (ahead-on-top at) ahead k e in
       record { turning = at.turning; simulated = simulated }
 
   -- ---- none
@@ -224,7 +235,7 @@ module _ {t : TurnOf} (call : CallAhead) (at : IsAtCall t call) (all : IsKnownTo
   dummies-given gs e = given-so t.program before layout (next_activation before) xs actuals (given_of call at) bound gs given-as e
 
   pub called-so : (gs : List Given) (shapes : List (Option Bounds)) (b : Binding) → given_of call at ≡ Ok gs → binding ≡ Ok b → AreShapesOf (unit_at t.program call.unit) b.dummies shapes
-      → IsMaking call.creates t call.unit call.next gs shapes
+      → IsMaking call.way t call.unit call.next gs shapes
   called-so gs shapes b e bound_so shaped =
       let ahead = calls call at all.known in
       let dummies = dummies-given gs e in
@@ -243,7 +254,7 @@ module _ {t : TurnOf} (call : CallAhead) (at : IsAtCall t call) (all : IsKnownTo
         passing = passing;
         shaped = shaped;
         passed = all-passed t.program before layout (scope_of t.program before t.top.0.activation) (next_activation before) xs actuals gs dummies.0 dummies.1 dummies.2;
-        made = all.made call.creates it ahead.name at.turning.running ahead.unit passing ahead.does_so;
+        made = all.made call.way it ahead.name at.turning.running ahead.unit passing ahead.does_so;
         after = subst (λ u. call.next ≡ ((table_of (unit_addressed t.program u)).flows t.top.0.statement).next) (unit-is at.turning) ahead.onward;
       }
 
@@ -252,7 +263,7 @@ module _ {t : TurnOf} (call : CallAhead) (at : IsAtCall t call) (all : IsKnownTo
 -- what is read of process p of a machine
 pub record IsRead (program : Units) (m : Machine) (p : ℕ) (q : Process) (entries : List Instruction) (arrays : List Array) (frame : CellFrame) (vs : List Value) : Type 0 where
   pub process : q ≡ get_or m.processes.items (p - 1) q
-  pub behind : (l : Level) (ls : List Level) (before : List Value) → stack_of q ≡ stack_with l ls before → IsBehind program (nodes_of m.frames.nodes) l entries arrays frame
+  pub behind : (l : Level) (ls : List Level) (before pending : List Value) → stack_of q ≡ stack_with l ls before pending → IsBehind program (nodes_of m.frames.nodes) l entries arrays frame
   pub operands : vs ≡ q.operands.items
 
 module _ {program : Units} {cells : ℕ} {choices : List ℕ} {p : ℕ} (m : Machine) {line : ℕ} {o : Operation} (at : HoldsInTurn program cells choices p (snapshot_of m) (λ t. IsAtStep t line o)) where
@@ -260,12 +271,12 @@ module _ {program : Units} {cells : ℕ} {choices : List ℕ} {p : ℕ} (m : Mac
   unit-inside = inside at.holds.turning
 
   pub can-read : {q : Process} → q ≡ get_or m.processes.items (p - 1) q
-      → (l : Level) × (ls : List Level) × (operands : List Value) × (stack_of q ≡ stack_with l ls operands) × IsThere program (nodes_of m.frames.nodes) l × (l.index < length (unit_code program l.unit))
+      → (l : Level) × (ls : List Level) × (operands : List Value) × (pending : List Value) × (stack_of q ≡ stack_with l ls operands pending) × IsThere program (nodes_of m.frames.nodes) l × (l.index < length (unit_code program l.unit))
   can-read {q} is =
       let l = at.levels.level in
       let code = unit_code program l.unit in
       let there = process-at m.processes.items p at.levels.kept is in
-      (l, at.levels.below, at.levels.operands, there.stack, (unit-inside, top-node at.holds.turning), slice_get_within code l.index _ (dropped-first code l.index _ at.holds.behind at.holds.ahead))
+      (l, at.levels.below, at.levels.operands, at.levels.pending, there.stack, (unit-inside, top-node at.holds.turning), slice_get_within code l.index _ (dropped-first code l.index _ at.holds.behind at.holds.ahead))
 
 -- what is said of the frame, the arrays and the actual arguments of the caller is said of what was read
 module _ {program : Units} {cells : ℕ} {choices : List ℕ} {p : ℕ} {m : Machine} {line : ℕ} {o : Operation} {q : Process} {entries : List Instruction} {arrays : List Array} {frame : CellFrame} {operands : List Value}
@@ -273,15 +284,15 @@ module _ {program : Units} {cells : ℕ} {choices : List ℕ} {p : ℕ} {m : Mac
   abbrev t : TurnOf
   t = turn_of at
 
-  stack : stack_of q ≡ stack_with t.level t.below t.operands
+  stack : stack_of q ≡ stack_with t.level t.below t.operands t.pending
   stack = (process-at m.processes.items p at.levels.kept read.process).stack
 
   here : IsBehind program (nodes_of m.frames.nodes) t.level entries arrays frame
-  here = read.behind t.level t.below t.operands stack
+  here = read.behind t.level t.below t.operands t.pending stack
 
   passed-there : passed_from count entries operands ≡ passed_from count at.holds.behind t.operands
   passed-there i =
-      passed_from count ((here.behind ∙ drop_one_more (unit_code program t.level.unit) t.level.index _ at.holds.behind at.holds.ahead) i) ((read.operands ∙ operands-are q t.level t.below t.operands stack) i)
+      passed_from count ((here.behind ∙ drop_one_more (unit_code program t.level.unit) t.level.index _ at.holds.behind at.holds.ahead) i) ((read.operands ∙ operands-are q t.level t.below t.operands t.pending stack) i)
 
   pub of-read : (P : CellFrame → List Array → List Passed → Type 0) → P (frame_in_arena (top_frame (turn_of at))) (unit_arrays program at.levels.level.unit) (passed_from count at.holds.behind at.levels.operands)
       → P frame arrays (passed_from count entries operands)

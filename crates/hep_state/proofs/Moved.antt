@@ -1,5 +1,5 @@
 -- A process goes on, prints, stops all processes, waits, or ends activations: what shows the state then.
-use Rattle.std.proofs.Common.{◌≡◌, ℕ, Bool, true, List, [], ◌∷◌, ◌++◌, length, Some, None, refl, sym, ap, ◌∙◌, subst, ◌≤◌, arith, inl, inr, length-set, if◌then◌else◌, nat_eq}
+use Rattle.std.proofs.Common.{◌≡◌, ℕ, Bool, true, List, [], ◌∷◌, ◌++◌, length, Some, None, refl, sym, ap, ◌∙◌, subst, ◌≤◌, ◌-◌, arith, inl, inr, length-set, take, if◌then◌else◌, nat_eq}
 use Rattle.hep_machine.specs.Words.{Value, Units, activations_on, is_held, layout_of, Layout, numbered, unit_of, with_numbered, activation_of, is_number_among, run, step, Process, State, Activation, Location, common, local, state_with_store, step_result_of, stepped, fault_of, stack_after_return, dummy_at}
 use Rattle.hep_machine.specs.declared.record.Item.{Item}
 use Rattle.hep_machine.specs.declared.slot.Slot.{Slot}
@@ -60,10 +60,10 @@ module _ (program : Units) (s : State) (nodes : Nodes) where
   AreHere (l ∷ ls) (level ∷ levels) = IsHere program s nodes l level.activation × AreHere ls levels
   AreHere _ _ = ⊥
 
-  all-here : (ls : List Level) (levels : Process) → AreStandingBelow program s nodes ls levels → AreHere ls levels
-  all-here [] [] h = tt
-  all-here (l ∷ ls) (level ∷ levels) h = (h.0.here, all-here ls levels h.1)
-  all-here _ _ h = absurd h
+  all-here : (pending : List Value) (ls : List Level) (levels : Process) → AreStandingBelow program s nodes pending ls levels → AreHere ls levels
+  all-here pending [] [] h = tt
+  all-here pending (l ∷ ls) (level ∷ levels) h = (h.0.here, all-here (take (length pending - l.kept) pending) ls levels h.1)
+  all-here pending _ _ h = absurd h
 
   leaving : (on : ℕ → Bool) (ls : List Level) (levels : Process) → AreHere ls levels → ((a : ℕ) → is_number_among a (activations_on levels) ≡ true → on a ≡ true) → ((a : ℕ) → times a (activations_on levels) ≤ 1)
       → CanLeave nodes on (keys_of ls) (activations_on levels)
@@ -93,12 +93,12 @@ module _ {t : TurnOf} (h : IsTurning t) where
   layout = h.after.layout
 
   abbrev stack : Stack
-  stack = stack_with t.level t.below t.operands
+  stack = stack_with t.level t.below t.operands t.pending
 
   shown-before : IsStack t.program old t.machine.arena.contents t.machine.nodes stack (t.top.0 ∷ t.top.1)
   shown-before = h.after.shows.stacks t.process stack (t.top.0 ∷ t.top.1) h.kept (there h)
 
-  pub standing-before : AreStanding t.program old t.machine.nodes t.operands (t.level ∷ t.below) (t.top.0 ∷ t.top.1)
+  pub standing-before : AreStanding t.program old t.machine.nodes t.operands t.pending (t.level ∷ t.below) (t.top.0 ∷ t.top.1)
   standing-before = stack-standing t.program old t.machine.nodes t.machine.arena.contents stack (t.top.0 ∷ t.top.1) shown-before
 
   pub unit-is : unit_of old t.top.0.activation ≡ t.level.unit
@@ -142,12 +142,12 @@ module _ {t : TurnOf} (h : IsTurning t) where
     pub went-on : (records : List (List Item)) (halted : Bool) → records ≡ later.records → later.faults ≡ old.faults → halted ≡ later.halted → HasMadeTurn t (record (snapshot_moved t new operands index) { records = records; halted = halted })
     went-on records halted printed faults stopped =
         let s = h.after.shows in
-        let k = stack_with (record t.level { index = index }) t.below operands in
+        let k = stack_with (record t.level { index = index }) t.below operands t.pending in
         let q : Process = after ∷ t.top.1 in
         let count : length (with_numbered t.machine.processes t.process k) ≡ length later.processes = length-set t.machine.processes _ k ∙ s.processes ∙ sym (ap length set ∙ length-set old.processes _ q) in
         let stands : Stands (unit_addressed t.program t.level.unit) after.statement after.work operands index = subst (λ u. Stands (unit_addressed t.program u) after.statement after.work operands index) unit-is r.stands in
-        let moved = top-stands t.program old t.machine.nodes t.operands operands t.level t.below t.top.0 after t.top.1 index standing-before r.activation stands in
-        let still = standing-still t.program old later t.machine.nodes t.machine.nodes (made-same old later same) (λ key x e on. (x, e, refl)) operands k.levels q moved in
+        let moved = top-stands t.program old t.machine.nodes t.operands operands t.pending t.level t.below t.top.0 after t.top.1 index standing-before r.activation stands in
+        let still = standing-still t.program old later t.machine.nodes t.machine.nodes (made-same old later same) (λ key x e on. (x, e, refl)) operands t.pending k.levels q moved in
         stepped-after t later (step-made later made) (record (snapshot_moved t new operands index) { records = records; halted = halted }) layout (is_held old) keeps
         (λ a on. kept-same t.program old later layout same a (s.kept a (ap (λ (test : ℕ → Bool). test a) on-same ∙ on))) count
         (λ i j r here on-it. standing-changed h later t.machine.nodes k q (made-same old later same) (λ key x e on. (x, e, refl)) still i j r here (sym (ap (λ qs. numbered qs i) set) ∙ on-it))
@@ -216,7 +216,7 @@ module _ {t : TurnOf} (h : IsTurning t) where
           let above = still-above t.program (t.choices ++ t.process ∷ []) later left.still (next-is later made) held in
           kept-left t.program old later layout same left.still above a (left.keeps.tree.stacked a on) (h.after.shows.kept a (fewer a on))
 
-      pub ended-shown : (k : Stack) (faults : List Fault) → length arena.contents ≡ length t.machine.arena.contents → ((a : ℕ) → is_stacked later a ≡ true → is_stacked old a ≡ true) → (AreOn later q → AreStanding t.program later nodes k.operands k.levels q)
+      pub ended-shown : (k : Stack) (faults : List Fault) → length arena.contents ≡ length t.machine.arena.contents → ((a : ℕ) → is_stacked later a ≡ true → is_stacked old a ≡ true) → (AreOn later q → AreStanding t.program later nodes k.operands k.pending k.levels q)
           → later.records ≡ old.records → faults ≡ later.faults → later.halted ≡ old.halted → HasMadeTurn t (record t.machine { arena = arena; nodes = nodes; processes = with_numbered t.machine.processes t.process k; faults = faults })
       ended-shown k faults size fewer standing records told halted =
           let s = h.after.shows in
@@ -245,9 +245,9 @@ module _ {t : TurnOf} (h : IsTurning t) where
   returned-shown arena nodes left size made =
       let later = state_returned t in
       let q = stack_after_return t.program old t.top.1 in
-      let below : AreStanding t.program old t.machine.nodes [] t.below q = caller-stands t.program old t.machine.nodes t.below t.top.1 standing-before.1 in
-      ended-shown later q refl refl made arena nodes left (record { levels = t.below; operands = [] }) t.machine.faults size
-      (λ a on. but-fewer (top_frame t).activation a (is_stacked old) (sym ((returned-ended).stacks_are a) ∙ on)) (λ on. standing-still t.program old later t.machine.nodes nodes (made-same old later refl) (stay later q refl refl made arena nodes left) [] t.below q below on) refl h.after.shows.faults refl
+      let below : AreStanding t.program old t.machine.nodes [] t.pending t.below q = caller-stands t.program old t.machine.nodes t.pending t.below t.top.1 standing-before.1 standing-before.2 in
+      ended-shown later q refl refl made arena nodes left (record { levels = t.below; operands = []; pending = t.pending }) t.machine.faults size
+      (λ a on. but-fewer (top_frame t).activation a (is_stacked old) (sym ((returned-ended).stacks_are a) ∙ on)) (λ on. standing-still t.program old later t.machine.nodes nodes (made-same old later refl) (stay later q refl refl made arena nodes left) [] t.pending t.below q below on) refl h.after.shows.faults refl
 
   -- ---- a fault
 
@@ -267,15 +267,15 @@ module _ {t : TurnOf} (h : IsTurning t) where
       → HasMadeTurn t (snapshot_failed t line k arena nodes)
   failed-shown arena nodes line k left size made =
       let same : fault_of t.program (top_before t) k ≡ fault_at t line k = λ i. record { process = t.process; unit = unit-is i; line = made.1 i; kind = k } in
-      ended-shown (state_failed t k) [] refl refl made.0 arena nodes left (record { levels = []; operands = [] }) (t.machine.faults ++ fault_at t line k ∷ []) size
-      (λ a on. all-fewer (activations_on (t.top.0 ∷ t.top.1)) a (is_stacked old) (sym ((failed-ended k).stacks_are a) ∙ on)) (λ on. tt) refl (λ i. h.after.shows.faults i ++ sym same i ∷ []) refl
+      ended-shown (state_failed t k) [] refl refl made.0 arena nodes left (record { levels = []; operands = []; pending = [] }) (t.machine.faults ++ fault_at t line k ∷ []) size
+      (λ a on. all-fewer (activations_on (t.top.0 ∷ t.top.1)) a (is_stacked old) (sym ((failed-ended k).stacks_are a) ∙ on)) (λ on. refl) refl (λ i. h.after.shows.faults i ++ sym same i ∷ []) refl
 
   -- ---- the levels of a process can leave one after the other
 
   pub can-leave : CanLeave t.machine.nodes (is_stacked old) (keys_of (t.level ∷ t.below)) (activations_on (t.top.0 ∷ t.top.1))
   can-leave =
       let s0 = standing-before in
-      leaving t.program old t.machine.nodes (is_stacked old) (t.level ∷ t.below) (t.top.0 ∷ t.top.1) (s0.0.here, all-here t.program old t.machine.nodes t.below t.top.1 s0.1)
+      leaving t.program old t.machine.nodes (is_stacked old) (t.level ∷ t.below) (t.top.0 ∷ t.top.1) (s0.0.here, all-here t.program old t.machine.nodes t.pending t.below t.top.1 s0.1)
       (λ a on. on-stacked old a (t.process, t.top.0 ∷ t.top.1, there h, on))
       (λ a. few a)
     where

@@ -129,7 +129,7 @@ module _ (program : Units) (cells key entry : ℕ) (rows : List DataRow) (before
   keeps-held = subst (λ out. Keeps (frames_in program t out h.layout) after nodes) held keeps-opened
 
   module _ (inside : main_unit program < length program) (entry_is : entry ≡ entry_index (unit_addressed program (main_unit program))) where
-    standing : AreStanding program t nodes [] (record { key = key; unit = main_unit program; index = entry } ∷ []) (entry_level (unit_at program (main_unit program)) 1 ∷ [])
+    standing : AreStanding program t nodes [] [] (record { key = key; unit = main_unit program; kept = 0; index = entry } ∷ []) (entry_level (unit_at program (main_unit program)) 1 ∷ [])
     standing =
         let addressed = unit_addressed program (main_unit program) in
         let one = (opened program).activations in (
@@ -145,14 +145,15 @@ module _ (program : Units) (cells key entry : ℕ) (rows : List DataRow) (before
             stands = subst (StandsAt addressed (entry_level addressed.unit 1)) (sym entry_is) (entry_stands addressed (entry_level addressed.unit 1) (executable_from addressed.unit 0));
           },
           tt,
+          refl,
         )
 
-    stacks : (n : ℕ) (k : Stack) (q : Process) → numbered (record { levels = record { key = key; unit = main_unit program; index = entry } ∷ []; operands = [] } ∷ []) n ≡ Some k → numbered t.processes n ≡ Some q
+    stacks : (n : ℕ) (k : Stack) (q : Process) → numbered (record { levels = record { key = key; unit = main_unit program; kept = 0; index = entry } ∷ []; operands = []; pending = [] } ∷ []) n ≡ Some k → numbered t.processes n ≡ Some q
         → IsStack program t after.contents nodes k q
     stacks n k q kept there =
         let one = numbered-only _ k n kept in
         let process = numbered-only _ q n (sym (ap (λ (qs : List Process). numbered qs n) ((opened program).processes)) ∙ there) in
-        stack-again program t nodes after.contents h.layout keeps-held.described keeps-held.framed k q (carry (λ i. AreStanding program t nodes (one i).operands (one i).levels (process i)) standing) (are-on program [] n q there)
+        stack-again program t nodes after.contents h.layout keeps-held.described keeps-held.framed k q (carry (λ i. AreStanding program t nodes (one i).operands (one i).pending (one i).levels (process i)) standing) (are-on program [] n q there)
 
     pub opened-shown : IsAfter program cells [] (snapshot_opened program key entry after nodes)
     opened-shown =

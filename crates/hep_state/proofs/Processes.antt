@@ -16,7 +16,7 @@ use Rattle.std.proofs.Math.Seq.{get_or-append_seam, set-append_seam}
 
 -- ---- the levels of a process, the top one last, as the stack that they are
 
-module _ (q : Process) (l : Level) (ls : List Level) (operands : List Value) (is : stack_of q ≡ stack_with l ls operands) where
+module _ (q : Process) (l : Level) (ls : List Level) (operands pending : List Value) (is : stack_of q ≡ stack_with l ls operands pending) where
   abbrev front : List Level
   front = reverse ls
 
@@ -25,6 +25,9 @@ module _ (q : Process) (l : Level) (ls : List Level) (operands : List Value) (is
 
   pub operands-are : q.operands.items ≡ operands
   operands-are = ap (λ (k : Stack). k.operands) is
+
+  pub pending-are : q.pending.items ≡ pending
+  pending-are = ap (λ (k : Stack). k.pending) is
 
   pub last-index : vec_len q.levels - 1 ≡ length front
   last-index = omega (arith, q.levels.ok.0, ap length levels-are, length-append front (l ∷ []))
@@ -79,8 +82,8 @@ process-at qs p {k} {q} kept is =
     }
 
 -- its levels, where it has some
-pub some-levels-at : {qs : List Process} {p : ℕ} {l : Level} {ls : List Level} {operands : List Value} {q : Process} → IsAt qs p (stack_with l ls operands) q → 0 < vec_len q.levels
-some-levels-at {qs} {p} {l} {ls} {operands} {q} it = some-levels q l ls operands it.stack
+pub some-levels-at : {qs : List Process} {p : ℕ} {l : Level} {ls : List Level} {operands pending : List Value} {q : Process} → IsAt qs p (stack_with l ls operands pending) q → 0 < vec_len q.levels
+some-levels-at {qs} {p} {l} {ls} {operands} {pending} {q} it = some-levels q l ls operands pending it.stack
 
 -- where other processes are the same as these
 pub process-still : (old new : List Process) (p : ℕ) {k : Stack} {q : Process} → new ≡ old → numbered (map stack_of old) p ≡ Some k → q ≡ get_or new (p - 1) q → IsAt new p k q
@@ -110,11 +113,11 @@ levels-by (x ∷ xs) n e =
     ap has-levels (reverse-append (x ∷ []) xs) ∙ (levels-append (reverse xs) x ∙ ap not (sym some))
 
 pub some-levels-of : (qs : List Process) (p : ℕ) (q : Process) → numbered (map stack_of qs) p ≡ Some (stack_of q) → has-levels (reverse q.levels.items) ≡ true
-    → (l : Level) × (ls : List Level) × (numbered (map stack_of qs) p ≡ Some (stack_with l ls q.operands.items))
+    → (l : Level) × (ls : List Level) × (numbered (map stack_of qs) p ≡ Some (stack_with l ls q.operands.items q.pending.items))
 some-levels-of qs p q there some = by_levels (reverse q.levels.items) refl some where
-  by_levels : (ks : List Level) → reverse q.levels.items ≡ ks → has-levels ks ≡ true → (l : Level) × (ls : List Level) × (numbered (map stack_of qs) p ≡ Some (stack_with l ls q.operands.items))
+  by_levels : (ks : List Level) → reverse q.levels.items ≡ ks → has-levels ks ≡ true → (l : Level) × (ls : List Level) × (numbered (map stack_of qs) p ≡ Some (stack_with l ls q.operands.items q.pending.items))
   by_levels [] e h = absurd cc
-  by_levels (l ∷ ls) e h = (l, ls, there ∙ (λ i. Some (record { levels = e i; operands = q.operands.items })))
+  by_levels (l ∷ ls) e h = (l, ls, there ∙ (λ i. Some (record { levels = e i; operands = q.operands.items; pending = q.pending.items })))
 
 -- ---- room for operands
 
@@ -142,28 +145,28 @@ all-more P [] y each one (suc i) m e = absurd (none-some m e)
 all-more P (x ∷ xs) y each one zero m e = each zero m e
 all-more P (x ∷ xs) y each one (suc i) m e = all-more P xs y (λ j k f. each (suc j) k f) one i m e
 
--- the operands of a process have room for its levels, the top one at another index
-moved-enough : (program : Units) (q : Process) (l : Level) (next : ℕ) (ls : List Level) (was : List Value) → stack_of q ≡ stack_with l ls was → HasRoom program q
-    → (i : ℕ) (m : Level) → slice_get (reverse ls ++ record l { index = next } ∷ []) i ≡ Some m → deepest (unit_code program m.unit) ≤ vec_capacity q.operands
-moved-enough program q l next ls was before room =
-    all-more (λ (k : Level). deepest (unit_code program k.unit) ≤ vec_capacity q.operands) (reverse ls) (record l { index = next })
-    (λ j k e. room j k (subst (λ (xs : List Level). slice_get xs j ≡ Some k) (sym (levels-are q l ls was before)) (at-front (reverse ls) (l ∷ []) j k e)))
-    (room (length (reverse ls)) l (last-there q l ls was before))
+-- the operands of a process have room for its levels, with another top one of the same unit
+moved-enough : (program : Units) (q : Process) (l later : Level) (ls : List Level) (was pending : List Value) → later.unit ≡ l.unit → stack_of q ≡ stack_with l ls was pending → HasRoom program q
+    → (i : ℕ) (m : Level) → slice_get (reverse ls ++ later ∷ []) i ≡ Some m → deepest (unit_code program m.unit) ≤ vec_capacity q.operands
+moved-enough program q l later ls was pending same before room =
+    all-more (λ (k : Level). deepest (unit_code program k.unit) ≤ vec_capacity q.operands) (reverse ls) later
+    (λ j k e. room j k (subst (λ (xs : List Level). slice_get xs j ≡ Some k) (sym (levels-are q l ls was pending before)) (at-front (reverse ls) (l ∷ []) j k e)))
+    (subst (λ u. deepest (unit_code program u) ≤ vec_capacity q.operands) (sym same) (room (length (reverse ls)) l (last-there q l ls was pending before)))
 
 -- a process whose top level is at another index
-pub room-moved : (program : Units) (q r : Process) (l : Level) (next : ℕ) (ls : List Level) (was left : List Value) → stack_of q ≡ stack_with l ls was → stack_of r ≡ stack_with (record l { index = next }) ls left → vec_capacity q.operands ≤ vec_capacity r.operands
-    → HasRoom program q → HasRoom program r
-room-moved program q r l next ls was left before after more room i m e =
-    let here = moved-enough program q l next ls was before room i m (subst (λ (xs : List Level). slice_get xs i ≡ Some m) (levels-are r (record l { index = next }) ls left after) e) in
+pub room-moved : (program : Units) (q r : Process) (l : Level) (next : ℕ) (ls : List Level) (was left pending : List Value) → stack_of q ≡ stack_with l ls was pending → stack_of r ≡ stack_with (record l { index = next }) ls left pending
+    → vec_capacity q.operands ≤ vec_capacity r.operands → HasRoom program q → HasRoom program r
+room-moved program q r l next ls was left pending before after more room i m e =
+    let later : Level = record l { index = next } in
+    let here = moved-enough program q l later ls was pending refl before room i m (subst (λ (xs : List Level). slice_get xs i ≡ Some m) (levels-are r later ls left pending after) e) in
     omega (arith, here, more)
 
 -- and one with one level more above that
-pub room-more : (program : Units) (q r : Process) (l new : Level) (next : ℕ) (ls : List Level) (was left : List Value) → stack_of q ≡ stack_with l ls was → stack_of r ≡ stack_with new (record l { index = next } ∷ ls) left → vec_capacity q.operands ≤ vec_capacity r.operands
-    → deepest (unit_code program new.unit) ≤ vec_capacity r.operands → HasRoom program q → HasRoom program r
-room-more program q r l new next ls was left before after more enough room i m e =
-    let later : Level = record l { index = next } in
-    let levels = levels-are r new (later ∷ ls) left after ∙ ap (λ (xs : List Level). xs ++ new ∷ []) (reverse-append (later ∷ []) ls) in
-    all-more (λ (k : Level). deepest (unit_code program k.unit) ≤ vec_capacity r.operands) (reverse ls ++ later ∷ []) new (λ j k f. let here = moved-enough program q l next ls was before room j k f in omega (arith, here, more)) enough i m
+pub room-more : (program : Units) (q r : Process) (l later new : Level) (ls : List Level) (was left pending : List Value) → later.unit ≡ l.unit → stack_of q ≡ stack_with l ls was pending → stack_of r ≡ stack_with new (later ∷ ls) left pending
+    → vec_capacity q.operands ≤ vec_capacity r.operands → deepest (unit_code program new.unit) ≤ vec_capacity r.operands → HasRoom program q → HasRoom program r
+room-more program q r l later new ls was left pending same before after more enough room i m e =
+    let levels = levels-are r new (later ∷ ls) left pending after ∙ ap (λ (xs : List Level). xs ++ new ∷ []) (reverse-append (later ∷ []) ls) in
+    all-more (λ (k : Level). deepest (unit_code program k.unit) ≤ vec_capacity r.operands) (reverse ls ++ later ∷ []) new (λ j k f. let here = moved-enough program q l later ls was pending same before room j k f in omega (arith, here, more)) enough i m
     (subst (λ (xs : List Level). slice_get xs i ≡ Some m) levels e)
 
 -- the only element
@@ -189,9 +192,9 @@ set-there (z ∷ zs) zero x y e = same_Some x y e
 set-there (z ∷ zs) (suc i) x y e = set-there zs i x y e
 
 -- its stack is the same
-pub stacks-same : (qs : List Process) (j : ℕ) (q r : Process) → q ≡ get_or qs j q → r.levels.items ≡ q.levels.items → r.operands.items ≡ q.operands.items → map stack_of (slice_set qs j r) ≡ map stack_of qs
-stacks-same qs j q r is levels operands =
-    let same : stack_of r ≡ stack_of q = λ i. record { levels = reverse (levels i); operands = operands i } in
+pub stacks-same : (qs : List Process) (j : ℕ) (q r : Process) → q ≡ get_or qs j q → r.levels.items ≡ q.levels.items → r.operands.items ≡ q.operands.items → r.pending.items ≡ q.pending.items → map stack_of (slice_set qs j r) ≡ map stack_of qs
+stacks-same qs j q r is levels operands pending =
+    let same : stack_of r ≡ stack_of q = λ i. record { levels = reverse (levels i); operands = operands i; pending = pending i } in
     map-set stack_of qs j r ∙ (ap (slice_set (map stack_of qs) j) same ∙ (sym (map-set stack_of qs j q) ∙ ap (map stack_of) (ap (slice_set qs j) is ∙ set-get_or qs j q)))
 
 pub room-reserved : (program : Units) (q r : Process) → r.levels.items ≡ q.levels.items → vec_capacity q.operands ≤ vec_capacity r.operands → HasRoom program q → HasRoom program r

@@ -161,7 +161,7 @@ there {t} h = top-numbered (state_before t) t.process t.top h.lives
 
 -- what is so in it is so in the turn of that process
 pub in-turn : {t : TurnOf} → IsTurning t → (IsSo : TurnOf → Type 0) → IsSo t → HoldsInTurn t.program t.cells t.choices t.process t.machine IsSo
-in-turn {t} h IsSo so = record { levels = record { level = t.level; below = t.below; operands = t.operands; kept = h.kept }; top = t.top; holds = so }
+in-turn {t} h IsSo so = record { levels = record { level = t.level; below = t.below; operands = t.operands; pending = t.pending; kept = h.kept }; top = t.top; holds = so }
 
 -- where its step leads to a state
 module _ (t : TurnOf) (later : State) (made : step t.program t.process (state_before t) ≡ Some later) where
@@ -190,7 +190,7 @@ module _ (t : TurnOf) (later : State) (made : step t.program t.process (state_be
 
   module _ (new : Snapshot) (layout : Layout) (out : ℕ → Bool) (keeps : Keeps (frames_in t.program later out layout) new.arena new.nodes)
       (kept : (a : ℕ) → is_stacked later a ≡ true → AreKept t.program later layout a) (count : length new.processes ≡ length later.processes)
-      (standing : (n : ℕ) (k : Stack) (q : Process) → numbered new.processes n ≡ Some k → numbered later.processes n ≡ Some q → AreOn later q → AreStanding t.program later new.nodes k.operands k.levels q) where
+      (standing : (n : ℕ) (k : Stack) (q : Process) → numbered new.processes n ≡ Some k → numbered later.processes n ≡ Some q → AreOn later q → AreStanding t.program later new.nodes k.operands k.pending k.levels q) where
     stacks : (n : ℕ) (k : Stack) (q : Process) → numbered new.processes n ≡ Some k → numbered later.processes n ≡ Some q → IsStack t.program later new.arena.contents new.nodes k q
     stacks n k q there here =
         let on = on-after n q here in
@@ -219,7 +219,7 @@ module _ (t : TurnOf) (later : State) (made : step t.program t.process (state_be
 
 module _ {t : TurnOf} (h : IsTurning t) (later : State) (nodes : Nodes) (k : Stack) (q : Process) (made : AreMade (state_before t) later)
     (stay : (key : ℕ) (n : FrameNode) → t.machine.nodes key ≡ Some n → is_stacked later n.activation ≡ true → (l : FrameNode) × (nodes key ≡ Some l) × (l.activation ≡ n.activation))
-    (top : AreOn later q → AreStanding t.program later nodes k.operands k.levels q) where
+    (top : AreOn later q → AreStanding t.program later nodes k.operands k.pending k.levels q) where
   abbrev stacks-before : List Stack
   stacks-before = t.machine.processes
 
@@ -227,17 +227,17 @@ module _ {t : TurnOf} (h : IsTurning t) (later : State) (nodes : Nodes) (k : Sta
   processes-before = (state_before t).processes
 
   pub standing-changed : (n : ℕ) (j : Stack) (r : Process) → numbered (with_numbered t.machine.processes t.process k) n ≡ Some j → numbered (with_numbered (state_before t).processes t.process q) n ≡ Some r → AreOn later r
-      → AreStanding t.program later nodes j.operands j.levels r
+      → AreStanding t.program later nodes j.operands j.pending j.levels r
   standing-changed n j r here on-it on = by_number (nat_eq t.process n) refl where
-    by_number : (b : Bool) → nat_eq t.process n ≡ b → AreStanding t.program later nodes j.operands j.levels r
+    by_number : (b : Bool) → nat_eq t.process n ≡ b → AreStanding t.program later nodes j.operands j.pending j.levels r
     by_number true e =
         let number = eqb-true t.process n e in
         let stack : k ≡ j = same_Some k j (sym (set-numbered stacks-before t.process _ k h.kept) ∙ ap (numbered (with_numbered stacks-before t.process k)) number ∙ here) in
         let process : q ≡ r = same_Some q r (sym (set-numbered processes-before t.process _ q (there h)) ∙ ap (numbered (with_numbered processes-before t.process q)) number ∙ on-it) in
-        subst (λ (x : Stack). AreStanding t.program later nodes x.operands x.levels r) stack (subst (λ z. AreStanding t.program later nodes k.operands k.levels z) process (top (subst (AreOn later) (sym process) on)))
+        subst (λ (x : Stack). AreStanding t.program later nodes x.operands x.pending x.levels r) stack (subst (λ z. AreStanding t.program later nodes k.operands k.pending k.levels z) process (top (subst (AreOn later) (sym process) on)))
     by_number false e =
         let other = eqb-false t.process n e in
         let one = from-one processes-before t.process _ (there h) in
         let kept-here = sym (other_numbered stacks-before t.process n k one other) ∙ here in
         let kept-there = sym (other_numbered processes-before t.process n q one other) ∙ on-it in
-        standing-still t.program (state_before t) later t.machine.nodes nodes made stay j.operands j.levels r (stack-standing t.program (state_before t) t.machine.nodes t.machine.arena.contents j r (h.after.shows.stacks n j r kept-here kept-there)) on
+        standing-still t.program (state_before t) later t.machine.nodes nodes made stay j.operands j.pending j.levels r (stack-standing t.program (state_before t) t.machine.nodes t.machine.arena.contents j r (h.after.shows.stacks n j r kept-here kept-there)) on

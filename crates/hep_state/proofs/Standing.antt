@@ -1,5 +1,5 @@
 -- Where the levels of a process stand in the code, whatever the cells of their DOs hold.
-use Rattle.std.proofs.Common.{◌≡◌, ℕ, ◌+◌, ◌<◌, ◌≤◌, true, List, [], ◌∷◌, ◌++◌, length, map, Some, None, refl, sym, ap, ◌∙◌, subst, arith, inl, inr, length-append, nat_eq}
+use Rattle.std.proofs.Common.{◌≡◌, ℕ, ◌+◌, ◌<◌, ◌≤◌, ◌-◌, true, List, [], ◌∷◌, ◌++◌, drop, length, length-drop, take, take_all, Some, None, refl, sym, ap, ◌∙◌, subst, arith, inl, inr, length-append, nat_eq}
 use Rattle.std.specs.Option.{unwrap_or}
 use Rattle.hep_machine.specs.Words.{Value, Units, unit_at, level_after_statement, Frame, Layout, activations_on, unit_of, is_number_among, numbered, Activation, Process, State, stack_after_return, run}
 use Rattle.hep_machine.specs.declared.slot.Slot.{Slot}
@@ -13,8 +13,9 @@ use Rattle.hep_layout_laws.proofs.Counted.{counted}
 use Rattle.hep_image.specs.Places.{addresses_of}
 use Rattle.hep_step.specs.Simulation.{counts_in, unit_addressed}
 use Rattle.hep_state.specs.declared.machine.Level.{Level}
-use Rattle.hep_state.specs.Words.{AreThere, IsStack, IsThere, code_level, code_levels, node_under, Stack}
+use Rattle.hep_state.specs.Words.{AreThere, IsStack, IsThere, code_level, code_levels, kept_below, kept_by, levels_below, node_under, Stack}
 use Rattle.std.proofs.lemmas.Bool.{cases_Bool, eq-eqb}
+use Rattle.std.proofs.lemmas.List.{drop_all}
 use Rattle.hep_layout.proofs.Stacks.{once}
 use Rattle.hep_layout.proofs.FrameTree.{on-stacked}
 use Rattle.hep_entering.proofs.Found.{IsAmong, all_levels, among-numbered, found, times-all}
@@ -59,24 +60,27 @@ pub record IsHere (program : Units) (s : State) (nodes : Nodes) (l : Level) (a :
   pub made : (1 ≤ a) × (a ≤ length s.activations)
   pub unit : unit_of s a ≡ l.unit
 
-pub record StandsBelow (program : Units) (s : State) (nodes : Nodes) (l : Level) (level : SourceLevel) : Type 0 where
+pub record StandsBelow (program : Units) (s : State) (nodes : Nodes) (vs : List Value) (l : Level) (level : SourceLevel) : Type 0 where
   pub here : IsHere program s nodes l level.activation
   pub index : l.index ≡ ((table_of (unit_addressed program l.unit)).flows level.statement).next
+  pub operands : vs ≡ []
 
 pub record StandsOnTop (program : Units) (s : State) (nodes : Nodes) (vs : List Value) (l : Level) (level : SourceLevel) : Type 0 where
   pub here : IsHere program s nodes l level.activation
   pub stands : Stands (unit_addressed program l.unit) level.statement level.work vs l.index
 
 module _ (program : Units) (s : State) (nodes : Nodes) where
-  abbrev pub AreStandingBelow : List Level → Process → Type 0
-  AreStandingBelow [] [] = Unit {0}
-  AreStandingBelow (l ∷ ls) (level ∷ levels) = StandsBelow program s nodes l level × AreStandingBelow ls levels
-  AreStandingBelow _ _ = ⊥
+  -- each with the last of the operands that are pending, and those below it with the others
+  abbrev pub AreStandingBelow : List Value → List Level → Process → Type 0
+  AreStandingBelow pending [] [] = Unit {0}
+  AreStandingBelow pending (l ∷ ls) (level ∷ levels) =
+      StandsBelow program s nodes (drop (length pending - l.kept) pending) l level × AreStandingBelow (take (length pending - l.kept) pending) ls levels
+  AreStandingBelow pending _ _ = ⊥
 
-  abbrev pub AreStanding : List Value → List Level → Process → Type 0
-  AreStanding vs [] [] = Unit {0}
-  AreStanding vs (l ∷ ls) (level ∷ levels) = StandsOnTop program s nodes vs l level × AreStandingBelow ls levels
-  AreStanding vs _ _ = ⊥
+  abbrev pub AreStanding : List Value → List Value → List Level → Process → Type 0
+  AreStanding vs pending [] [] = length pending ≡ 0
+  AreStanding vs pending (l ∷ ls) (level ∷ levels) = StandsOnTop program s nodes vs l level × AreStandingBelow pending ls levels × (length pending ≡ kept_by ls)
+  AreStanding vs pending _ _ = ⊥
 
   -- ---- of levels in the code
 
@@ -95,15 +99,19 @@ module _ (program : Units) (s : State) (nodes : Nodes) where
           unit = ap (unit_of s) h.activation ∙ h.unit;
         }
 
-    standing-below : (ls : List Level) (levels : Process) → AreThere program nodes ls → AreBelow program (addresses_of program) s (map (code_level program contents nodes []) ls) levels → AreStandingBelow ls levels
-    standing-below [] [] there h = tt
-    standing-below (l ∷ ls) (level ∷ levels) there h = (record { here = is-here [] l level there.0 h.0.is_of; index = h.0.index }, standing-below ls levels there.1 h.1)
-    standing-below _ _ there h = absurd h
+    standing-below : (pending : List Value) (ls : List Level) (levels : Process) → AreThere program nodes ls → AreBelow program (addresses_of program) s (levels_below program contents nodes pending ls) levels → AreStandingBelow pending ls levels
+    standing-below pending [] [] there h = tt
+    standing-below pending (l ∷ ls) (level ∷ levels) there h = (
+      record { here = is-here (drop (length pending - l.kept) pending) l level there.0 h.0.is_of; index = h.0.index; operands = h.0.operands },
+      standing-below (take (length pending - l.kept) pending) ls levels there.1 h.1,
+    )
+    standing-below pending _ _ there h = absurd h
 
-    pub standing : (vs : List Value) (ls : List Level) (levels : Process) → AreThere program nodes ls → AreLevels program (addresses_of program) s (code_levels program contents nodes vs ls) levels → AreStanding vs ls levels
-    standing vs [] [] there h = tt
-    standing vs (l ∷ ls) (level ∷ levels) there h = (record { here = is-here vs l level there.0 h.0.is_of; stands = h.0.at.stands }, standing-below ls levels there.1 h.1)
-    standing vs _ _ there h = absurd h
+    pub standing : (vs pending : List Value) (ls : List Level) (levels : Process) → AreThere program nodes ls → AreLevels program (addresses_of program) s (code_levels program contents nodes vs pending ls) levels → length pending ≡ kept_below ls
+        → AreStanding vs pending ls levels
+    standing vs pending [] [] there h counted = counted
+    standing vs pending (l ∷ ls) (level ∷ levels) there h counted = (record { here = is-here vs l level there.0 h.0.is_of; stands = h.0.at.stands }, standing-below pending ls levels there.1 h.1, counted)
+    standing vs pending _ _ there h counted = absurd h
 
     -- ---- and back, where the cells of DOs hold what is wanted
 
@@ -130,29 +138,32 @@ module _ (program : Units) (s : State) (nodes : Nodes) where
           subst (λ (m : FrameNode). HoldsLoops (unit_at program (unit_of s level.activation)) (counts_in (unit_at program (unit_of s level.activation)) contents m.first) level.loops) (sym (node-is l n h.there)) (
           counted program s layout contents level.activation frame level described found on))
 
-      below-again : (ls : List Level) (levels : Process) → AreStandingBelow ls levels → AreOn s levels → AreThere program nodes ls × AreBelow program (addresses_of program) s (map (code_level program contents nodes []) ls) levels
-      below-again [] [] h on = (tt, tt)
-      below-again (l ∷ ls) (level ∷ levels) h on =
-          let rest = below-again ls levels h.1 on.2 in (
+      below-again : (pending : List Value) (ls : List Level) (levels : Process) → AreStandingBelow pending ls levels → AreOn s levels → AreThere program nodes ls × AreBelow program (addresses_of program) s (levels_below program contents nodes pending ls) levels
+      below-again pending [] [] h on = (tt, tt)
+      below-again pending (l ∷ ls) (level ∷ levels) h on =
+          let own = drop (length pending - l.kept) pending in
+          let rest = below-again (take (length pending - l.kept) pending) ls levels h.1 on.2 in (
             (there-again l level.activation h.0.here, rest.0),
-            (record { is_of = of-again [] l level h.0.here; index = h.0.index; operands = refl; loops = loops-again l level h.0.here on.0 }, rest.1),
+            (record { is_of = of-again own l level h.0.here; index = h.0.index; operands = h.0.operands; loops = loops-again l level h.0.here on.0 }, rest.1),
           )
-      below-again _ _ h on = absurd h
+      below-again pending _ _ h on = absurd h
 
-      levels-again : (vs : List Value) (ls : List Level) (levels : Process) → AreStanding vs ls levels → AreOn s levels → AreThere program nodes ls × AreLevels program (addresses_of program) s (code_levels program contents nodes vs ls) levels
-      levels-again vs [] [] h on = (tt, tt)
-      levels-again vs (l ∷ ls) (level ∷ levels) h on =
-          let rest = below-again ls levels h.1 on.2 in (
+      levels-again : (vs pending : List Value) (ls : List Level) (levels : Process) → AreStanding vs pending ls levels → AreOn s levels
+          → AreThere program nodes ls × AreLevels program (addresses_of program) s (code_levels program contents nodes vs pending ls) levels × (length pending ≡ kept_below ls)
+      levels-again vs pending [] [] h on = (tt, tt, h)
+      levels-again vs pending (l ∷ ls) (level ∷ levels) h on =
+          let rest = below-again pending ls levels h.1 on.2 in (
             (there-again l level.activation h.0.here, rest.0),
             (record { is_of = of-again vs l level h.0.here; at = record { stands = h.0.stands; loops = loops-again l level h.0.here on.0 } }, rest.1),
+            h.2,
           )
-      levels-again vs _ _ h on = absurd h
+      levels-again vs pending _ _ h on = absurd h
 
-      pub stack-again : (k : Stack) (q : Process) → AreStanding k.operands k.levels q → AreOn s q → IsStack program s contents nodes k q
-      stack-again k q h on = let both = levels-again k.operands k.levels q h on in record { there = both.0; levels = both.1 }
+      pub stack-again : (k : Stack) (q : Process) → AreStanding k.operands k.pending k.levels q → AreOn s q → IsStack program s contents nodes k q
+      stack-again k q h on = let all = levels-again k.operands k.pending k.levels q h on in record { there = all.0; levels = all.1; counted = all.2 }
 
-  pub stack-standing : (contents : List Slot) (k : Stack) (q : Process) → IsStack program s contents nodes k q → AreStanding k.operands k.levels q
-  stack-standing contents k q h = standing contents k.operands k.levels q h.there h.levels
+  pub stack-standing : (contents : List Slot) (k : Stack) (q : Process) → IsStack program s contents nodes k q → AreStanding k.operands k.pending k.levels q
+  stack-standing contents k q h = standing contents k.operands k.pending k.levels q h.there h.levels h.counted
 
 -- ---- another state that has the activations, where the nodes are under their keys still
 
@@ -184,41 +195,60 @@ module _ (program : Units) (s t : State) (old new : Nodes) (made : AreMade s t)
         unit = still.1 ∙ h.unit;
       }
 
-  pub below-still : (ls : List Level) (levels : Process) → AreStandingBelow program s old ls levels → AreOn t levels → AreStandingBelow program t new ls levels
-  below-still [] [] h on = tt
-  below-still (l ∷ ls) (level ∷ levels) h on = (record { here = here-still l level.activation h.0.here on.1; index = h.0.index }, below-still ls levels h.1 on.2)
-  below-still _ _ h on = absurd h
+  pub below-still : (pending : List Value) (ls : List Level) (levels : Process) → AreStandingBelow program s old pending ls levels → AreOn t levels → AreStandingBelow program t new pending ls levels
+  below-still pending [] [] h on = tt
+  below-still pending (l ∷ ls) (level ∷ levels) h on = (
+    record { here = here-still l level.activation h.0.here on.1; index = h.0.index; operands = h.0.operands },
+    below-still (take (length pending - l.kept) pending) ls levels h.1 on.2,
+  )
+  below-still pending _ _ h on = absurd h
 
-  pub standing-still : (vs : List Value) (ls : List Level) (levels : Process) → AreStanding program s old vs ls levels → AreOn t levels → AreStanding program t new vs ls levels
-  standing-still vs [] [] h on = tt
-  standing-still vs (l ∷ ls) (level ∷ levels) h on = (record { here = here-still l level.activation h.0.here on.1; stands = h.0.stands }, below-still ls levels h.1 on.2)
-  standing-still vs _ _ h on = absurd h
+  pub standing-still : (vs pending : List Value) (ls : List Level) (levels : Process) → AreStanding program s old vs pending ls levels → AreOn t levels → AreStanding program t new vs pending ls levels
+  standing-still vs pending [] [] h on = h
+  standing-still vs pending (l ∷ ls) (level ∷ levels) h on = (record { here = here-still l level.activation h.0.here on.1; stands = h.0.stands }, below-still pending ls levels h.1 on.2, h.2)
+  standing-still vs pending _ _ h on = absurd h
 
 -- ---- the top
 
+-- one that keeps no operands leaves those that are pending to the levels below it
+pub keeps-none : (pending : List Value) (kept : ℕ) → kept ≡ 0 → (drop (length pending - kept) pending ≡ []) × (take (length pending - kept) pending ≡ pending)
+keeps-none pending kept none = (
+  drop_all (length pending - kept) pending (omega (arith, none)),
+  take_all (length pending - kept) pending (omega (arith, none)),
+)
+
 module _ (program : Units) (s : State) (nodes : Nodes) where
-  -- where it is at another index, and its activation is told otherwise
-  pub here-at : (l : Level) (index a b : ℕ) → b ≡ a → IsHere program s nodes l a → IsHere program s nodes (record l { index = index }) b
-  here-at l index a b same h =
-      record { inside = h.inside; node = h.node; there = h.there; activation = same ∙ h.activation; made = subst (λ c. (1 ≤ c) × (c ≤ length s.activations)) (sym same) h.made; unit = ap (unit_of s) same ∙ h.unit }
+  -- where it is elsewhere in its unit, and its activation is told otherwise
+  pub here-at : (l later : Level) (a b : ℕ) → later.key ≡ l.key → later.unit ≡ l.unit → b ≡ a → IsHere program s nodes l a → IsHere program s nodes later b
+  here-at l later a b key unit same h =
+      record {
+        inside = subst (λ u. u < length program) (sym unit) h.inside;
+        node = h.node;
+        there = ap nodes key ∙ h.there;
+        activation = same ∙ h.activation;
+        made = subst (λ c. (1 ≤ c) × (c ≤ length s.activations)) (sym same) h.made;
+        unit = ap (unit_of s) same ∙ (h.unit ∙ sym unit);
+      }
 
   -- another level of its activation, where that stands
-  pub top-stands : (vs new : List Value) (l : Level) (ls : List Level) (level after : SourceLevel) (levels : Process) (index : ℕ) → AreStanding program s nodes vs (l ∷ ls) (level ∷ levels)
-      → after.activation ≡ level.activation → Stands (unit_addressed program l.unit) after.statement after.work new index → AreStanding program s nodes new (record l { index = index } ∷ ls) (after ∷ levels)
-  top-stands vs new l ls level after levels index h same stands = (record { here = here-at l index level.activation after.activation same h.0.here; stands = stands }, h.1)
+  pub top-stands : (vs new pending : List Value) (l : Level) (ls : List Level) (level after : SourceLevel) (levels : Process) (index : ℕ) → AreStanding program s nodes vs pending (l ∷ ls) (level ∷ levels)
+      → after.activation ≡ level.activation → Stands (unit_addressed program l.unit) after.statement after.work new index → AreStanding program s nodes new pending (record l { index = index } ∷ ls) (after ∷ levels)
+  top-stands vs new pending l ls level after levels index h same stands = (record { here = here-at l (record l { index = index }) level.activation after.activation refl refl same h.0.here; stands = stands }, h.1, h.2)
 
-  -- once it has ended its caller goes on
-  pub caller-stands : (ls : List Level) (levels : Process) → AreStandingBelow program s nodes ls levels → AreStanding program s nodes [] ls (stack_after_return program s levels)
-  caller-stands [] [] h = tt
-  caller-stands (l ∷ ls) (level ∷ levels) h =
+  -- once it has ended its caller goes on, which keeps no operands
+  pub caller-stands : (pending : List Value) (ls : List Level) (levels : Process) → AreStandingBelow program s nodes pending ls levels → length pending ≡ kept_by ls → AreStanding program s nodes [] pending ls (stack_after_return program s levels)
+  caller-stands pending [] [] h counted = counted
+  caller-stands pending (l ∷ ls) (level ∷ levels) h counted =
+      let none : l.kept ≡ 0 = omega (arith, counted, length-drop (length pending - l.kept) pending, ap length h.0.operands) in
       let addressed = unit_addressed program l.unit in
       let here = h.0.here in
       let same = (after_statement_keeps addressed level).1 in
-      subst (λ u. AreStanding program s nodes [] (l ∷ ls) (level_after_statement (unit_at program u) level ∷ levels)) (sym here.unit) (
+      subst (λ u. AreStanding program s nodes [] pending (l ∷ ls) (level_after_statement (unit_at program u) level ∷ levels)) (sym here.unit) (
         record {
           here = subst (IsHere program s nodes l) (sym same) here;
           stands = subst (StandsAt addressed (level_after_statement addressed.unit level)) (sym h.0.index) (after_statement_stands addressed level);
         },
-        h.1,
+        subst (λ rest. AreStandingBelow program s nodes rest ls levels) (keeps-none pending l.kept none).1 h.1,
+        omega (arith, counted, none),
       )
-  caller-stands _ _ h = absurd h
+  caller-stands pending _ _ h counted = absurd h

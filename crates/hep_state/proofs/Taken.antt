@@ -89,7 +89,7 @@ module _ {t : TurnOf} (turning : IsTurning t) where
 
   -- nothing was performed
   pub unperformed : with_performed before ≡ t.machine
-  unperformed = λ i. record t.machine { processes = sym (set-same t.machine.processes t.process (stack_with t.level t.below t.operands) turning.kept) i }
+  unperformed = λ i. record t.machine { processes = sym (set-same t.machine.processes t.process (stack_with t.level t.below t.operands t.pending) turning.kept) i }
 
   -- a state that is named is the one that is meant
   state-is : (full : Bool) → is_full_state (state_named full) ≡ full

@@ -176,10 +176,10 @@ module _ {t : TurnOf} (h : IsTurning t) where
       let old = state_before t in
       let s = h.after.shows in
       let layout = h.after.layout in
-      let k = stack_with (record t.level { index = index }) t.below operands in
+      let k = stack_with (record t.level { index = index }) t.below operands t.pending in
       let q : Process = t.top.0 ∷ t.top.1 in
       let s0 = standing-before h in
-      let moved = top-stands t.program old t.machine.nodes t.operands operands t.level t.below t.top.0 t.top.0 t.top.1 index s0 refl (stands t.top.0.statement t.top.0.work s0.0.stands) in
+      let moved = top-stands t.program old t.machine.nodes t.operands operands t.pending t.level t.below t.top.0 t.top.0 t.top.1 index s0 refl (stands t.top.0.statement t.top.0.work s0.0.stands) in
       let shown : Shows t.program old layout (turn_settled t operands index).machine =
       record {
         keeps = s.keeps;
@@ -197,7 +197,7 @@ module _ {t : TurnOf} (h : IsTurning t) where
       record {
         after = record { layout = layout; laid = h.after.laid; size = h.after.size; shows = shown };
         running = h.running;
-        kept = set-numbered t.machine.processes t.process (stack_with t.level t.below t.operands) k h.kept;
+        kept = set-numbered t.machine.processes t.process (stack_with t.level t.below t.operands t.pending) k h.kept;
         lives = h.lives;
       }
 
@@ -217,16 +217,16 @@ has-levels [] = false
 has-levels (l ∷ ls) = true
 
 module _ {program : Units} {cells : ℕ} {choices : List ℕ} {m : Snapshot} (p : ℕ) (h : IsAfter program cells choices m) where
-  standing-of : (k : Stack) (q : Process) → numbered m.processes p ≡ Some k → numbered (run program choices).processes p ≡ Some q → AreStanding program (run program choices) m.nodes k.operands k.levels q
+  standing-of : (k : Stack) (q : Process) → numbered m.processes p ≡ Some k → numbered (run program choices).processes p ≡ Some q → AreStanding program (run program choices) m.nodes k.operands k.pending k.levels q
   standing-of k q kept there = stack-standing program (run program choices) m.nodes m.arena.contents k q (h.shows.stacks p k q kept there)
 
   pub turning : (levels : HasLevels m p) → m.halted ≡ false → (top : SourceLevel × Process) × IsTurning (turn_with program cells choices levels top)
   turning levels running =
-      let k = stack_with levels.level levels.below levels.operands in
+      let k = stack_with levels.level levels.below levels.operands levels.pending in
       let q = numbered-there m.processes (run program choices).processes p k h.shows.processes levels.kept in
       by_process q.0 q.1 (standing-of k q.0 levels.kept q.1)
     where
-      by_process : (q : Process) → numbered (run program choices).processes p ≡ Some q → AreStanding program (run program choices) m.nodes levels.operands (levels.level ∷ levels.below) q
+      by_process : (q : Process) → numbered (run program choices).processes p ≡ Some q → AreStanding program (run program choices) m.nodes levels.operands levels.pending (levels.level ∷ levels.below) q
           → (top : SourceLevel × Process) × IsTurning (turn_with program cells choices levels top)
       by_process [] on-it standing = absurd standing
       by_process (level ∷ levels_there) on-it standing = ((level, levels_there), record { after = h; running = sym h.shows.halted ∙ running; kept = levels.kept; lives = ap top_of on-it })
@@ -234,13 +234,13 @@ module _ {program : Units} {cells : ℕ} {choices : List ℕ} {m : Snapshot} (p 
   pub absent-halted : m.halted ≡ true → IsAbsent program cells choices p m
   absent-halted e = record { none = inl (sym h.shows.halted ∙ e); after = h }
 
-  pub absent-ended : (vs : List Value) → numbered m.processes p ≡ Some (record { levels = []; operands = vs }) → IsAbsent program cells choices p m
-  absent-ended vs kept =
-      let k : Stack = record { levels = []; operands = vs } in
+  pub absent-ended : (vs pending : List Value) → numbered m.processes p ≡ Some (record { levels = []; operands = vs; pending = pending }) → IsAbsent program cells choices p m
+  absent-ended vs pending kept =
+      let k : Stack = record { levels = []; operands = vs; pending = pending } in
       let q = numbered-there m.processes (run program choices).processes p k h.shows.processes kept in
       record { none = inr (by_process q.0 q.1 (standing-of k q.0 kept q.1)); after = h }
     where
-      by_process : (q : Process) → numbered (run program choices).processes p ≡ Some q → AreStanding program (run program choices) m.nodes vs [] q → living (run program choices) p ≡ None
+      by_process : (q : Process) → numbered (run program choices).processes p ≡ Some q → AreStanding program (run program choices) m.nodes vs pending [] q → living (run program choices) p ≡ None
       by_process [] on-it standing = ap top_of on-it
       by_process (level ∷ levels) on-it standing = absurd standing
 
@@ -259,7 +259,7 @@ module _ {program : Units} {cells : ℕ} {choices : List ℕ} {m : Snapshot} (p 
       let q = numbered-there m.processes (run program choices).processes p k h.shows.processes kept in
       by_levels k.levels q.0 q.1 (standing-of k q.0 kept q.1)
     where
-      by_levels : (ls : List Level) (q : Process) → numbered (run program choices).processes p ≡ Some q → AreStanding program (run program choices) m.nodes k.operands ls q → is_some (living (run program choices) p) ≡ has-levels ls
+      by_levels : (ls : List Level) (q : Process) → numbered (run program choices).processes p ≡ Some q → AreStanding program (run program choices) m.nodes k.operands k.pending ls q → is_some (living (run program choices) p) ≡ has-levels ls
       by_levels [] [] on-it standing = ap (λ o. is_some (top_of o)) on-it
       by_levels (l ∷ ls) (level ∷ levels) on-it standing = ap (λ o. is_some (top_of o)) on-it
       by_levels _ _ on-it standing = absurd standing

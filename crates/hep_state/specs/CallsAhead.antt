@@ -12,7 +12,7 @@ use Rattle.hep_passing.specs.declared.given.Given.{Given}
 use Rattle.hep_passing.specs.Passing.{given_by}
 use Rattle.hep_purging.specs.declared.range.ClosedRange.{ClosedRange}
 use Rattle.hep_purging.specs.Ranges.{ranges_of}
-use Rattle.hep_step.specs.Calls.{making}
+use Rattle.hep_step.specs.Calls.{last_operands, making}
 use Rattle.hep_step.specs.Simulation.{IsNotLeftOut, unit_arrays, unit_code}
 use Rattle.hep_state.specs.declared.machine.Machine.{Machine}
 use Rattle.hep_state.specs.declared.upcoming.StepAhead.{StepAhead}
@@ -34,7 +34,7 @@ HasNone _ = Unit {0}
 
 -- the operation that it is
 abbrev pub operation_of : CallAhead → Operation
-operation_of call = making call.creates call.unit call.count call.next
+operation_of call = making call.way call.unit call.count call.next
 
 -- this stands there
 abbrev pub IsInFront : List Instruction → StepAhead → Type 0
@@ -78,9 +78,9 @@ IsAhead program p old m ahead.Other = IsWithoutCall program p m
 
 -- ---- what it is given
 
--- what its actual arguments give, by the cells of the arena, the operands and the entries behind it
+-- what its actual arguments give, by the cells of the arena, the last operands and the entries behind it
 abbrev pub given_of : {t : TurnOf} (call : CallAhead) → IsAtCall t call → Result (List Given) Kind
-given_of {t} call at = given_by (cells_in t.machine.arena.contents) (top_frame t).first (unit_arrays t.program t.level.unit) (passed_from call.count at.behind t.operands)
+given_of {t} call at = given_by (cells_in t.machine.arena.contents) (top_frame t).first (unit_arrays t.program t.level.unit) (passed_from call.count at.behind (last_operands call.count at.behind t.operands))
 
 -- the cells that its targets name
 abbrev pub ranges_ahead : {t : TurnOf} (purge : PurgeAhead) → IsAtPurge t purge → Result (List ClosedRange) Kind

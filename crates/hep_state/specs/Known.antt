@@ -1,11 +1,12 @@
 -- What is known of an accepted program with a main program, and of what is called in it: docs/MACHINE.md, "Steps".
-use Rattle.std.specs.Prelude.{◌≡◌, ℕ, ◌<◌, ◌≤◌, Bool, List, ◌∷◌, length, Some, slice_get}
-use Rattle.hep_machine.specs.Words.{Name, Statement, Units, dummies_of, unit_at, Actual, does, next_of, living, unit_of, run, Process, Work, unit_called}
+use Rattle.std.specs.Prelude.{◌≡◌, ℕ, ◌<◌, ◌≤◌, List, ◌∷◌, length, Some, slice_get}
+use Rattle.hep_machine.specs.Words.{Name, Statement, Units, dummies_of, unit_at, Actual, next_of, living, unit_of, run, Process, Work}
 use Rattle.hep_machine.specs.State.{Level as SourceLevel}
 use Rattle.hep_code.specs.declared.instruction.Instruction.{Instruction}
 use Rattle.hep_code.specs.declared.instruction.Instruction.TheVariants.{Step}
 use Rattle.hep_layout_laws.specs.Bound.{AreClosed, IsBound}
-use Rattle.hep_step.specs.Calls.{IsCallAhead, made_by, making}
+use Rattle.hep_step.specs.declared.way.Way.{Way}
+use Rattle.hep_step.specs.Calls.{IsCallAhead, comes_by, making, unit_by}
 use Rattle.hep_step.specs.Simulation.{IsRunning, RunningTop, code_ahead}
 use Rattle.hep_code_laws.specs.Works.{ComesFrom, IsCalledBy}
 use Rattle.hep_state.specs.Tops.{IsTopRunning, IsTurning, TurnOf}
@@ -21,7 +22,7 @@ pub record AreRunning (program : Units) : Type 0 where
 pub record IsKnown (program : Units) : Type 0 where
   pub running : AreRunning program
   pub works : (choices : List ℕ) (p : ℕ) (top : SourceLevel × Process) → living (run program choices) p ≡ Some top → ComesFrom (unit_at program (unit_of (run program choices) top.0.activation)) top.0.statement top.0.work
-  pub called : (creates : Bool) (unit : List Statement) (k : ℕ) (work : Work) (x : Name) (actuals : List Actual) → ComesFrom unit k work → next_of unit work ≡ does (made_by creates x actuals) → IsCalledBy unit k x actuals
-  pub subroutine : (u k : ℕ) (x : Name) (actuals : List Actual) → IsCalledBy (unit_at program u) k x actuals → unit_called program x < length program
-  pub arguments : (u k : ℕ) (x : Name) (actuals : List Actual) → IsCalledBy (unit_at program u) k x actuals → length actuals ≡ length (dummies_of (unit_at program (unit_called program x)))
-  pub ahead : (creates : Bool) (r : RunningTop) (line u count next : ℕ) (behind : List Instruction) → IsRunning r → code_ahead r ≡ Step line (making creates u count next) ∷ behind → IsCallAhead creates r.program r.top r.operands u count next behind
+  pub called : (way : Way) (unit : List Statement) (k : ℕ) (work : Work) (x : Name) (actuals : List Actual) → ComesFrom unit k work → next_of unit work ≡ comes_by way x actuals → IsCalledBy unit k x actuals
+  pub subroutine : (way : Way) (u k : ℕ) (x : Name) (actuals : List Actual) → IsCalledBy (unit_at program u) k x actuals → unit_by way program x < length program
+  pub arguments : (way : Way) (u k : ℕ) (x : Name) (actuals : List Actual) → IsCalledBy (unit_at program u) k x actuals → length actuals ≡ length (dummies_of (unit_at program (unit_by way program x)))
+  pub ahead : (way : Way) (r : RunningTop) (line u count next : ℕ) (behind : List Instruction) → IsRunning r → code_ahead r ≡ Step line (making way u count next) ∷ behind → IsCallAhead way r.program r.top r.operands u count next behind

@@ -35,7 +35,7 @@ snapshot_opened program key entry arena nodes =
     record {
       arena = arena;
       nodes = nodes;
-      processes = record { levels = record { key = key; unit = main_unit program; index = entry } ∷ []; operands = [] } ∷ [];
+      processes = record { levels = record { key = key; unit = main_unit program; kept = 0; index = entry } ∷ []; operands = []; pending = [] } ∷ [];
       activations = 1;
       records = [];
       faults = [];

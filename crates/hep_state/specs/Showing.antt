@@ -1,5 +1,5 @@
 -- That a core keeps a state of the source machine: docs/MACHINE.md, "Activations and processes" and "Layout".
-use Rattle.std.specs.Prelude.{◌≡◌, ◌<◌, ℕ, true, List, [], ◌∷◌, length, map, Some, None}
+use Rattle.std.specs.Prelude.{◌≡◌, ◌<◌, ◌+◌, ◌-◌, ℕ, true, List, [], ◌∷◌, drop, length, take, Some, None}
 use Rattle.std.specs.Option.{unwrap_or}
 use Rattle.hep_machine.specs.Words.{Value, Units, unit_at, Layout, is_held, numbered, Process, State}
 use Rattle.hep_machine.specs.declared.slot.Slot.{Slot}
@@ -34,10 +34,25 @@ module _ (program : Units) (contents : List Slot) (nodes : Nodes) where
         counts = counts_in (unit_at program l.unit) contents (node_under nodes l.key).first;
       }
 
-  -- those of a process: the top one alone has operands
-  abbrev pub code_levels : List Value → List Level → List CodeLevel
-  code_levels operands [] = []
-  code_levels operands (l ∷ ls) = code_level operands l ∷ map (code_level []) ls
+  -- those below the top one, the upper first: each has as many operands as it keeps, the last of those that are pending, and those below
+  -- it have the others
+  abbrev pub levels_below : List Value → List Level → List CodeLevel
+  levels_below pending [] = []
+  levels_below pending (l ∷ ls) = code_level (drop (length pending - l.kept) pending) l ∷ levels_below (take (length pending - l.kept) pending) ls
+
+  -- those of a process
+  abbrev pub code_levels : List Value → List Value → List Level → List CodeLevel
+  code_levels operands pending [] = []
+  code_levels operands pending (l ∷ ls) = code_level operands l ∷ levels_below pending ls
+
+-- how many operands levels keep, and those below the top one
+abbrev pub kept_by : List Level → ℕ
+kept_by [] = 0
+kept_by (l ∷ ls) = l.kept + kept_by ls
+
+abbrev pub kept_below : List Level → ℕ
+kept_below [] = 0
+kept_below (l ∷ ls) = kept_by ls
 
 -- a level's node is under its key, and its unit is one of the program's
 abbrev pub IsThere : Units → Nodes → Level → Type 0
@@ -49,10 +64,11 @@ AreThere program nodes (l ∷ ls) = IsThere program nodes l × AreThere program 
 
 -- ---- processes
 
--- what a core keeps of a process is that process of a state, in the code
+-- what a core keeps of a process is that process of a state, in the code, and no operand is pending but those that its levels keep
 pub record IsStack (program : Units) (s : State) (contents : List Slot) (nodes : Nodes) (k : Stack) (q : Process) : Type 0 where
   pub there : AreThere program nodes k.levels
-  pub levels : AreLevels program (addresses_of program) s (code_levels program contents nodes k.operands k.levels) q
+  pub levels : AreLevels program (addresses_of program) s (code_levels program contents nodes k.operands k.pending k.levels) q
+  pub counted : length k.pending ≡ kept_below k.levels
 
 -- ---- states
 

@@ -10,10 +10,11 @@ use Rattle.hep_state.specs.declared.machine.Level.{Level}
 use Rattle.hep_state.specs.declared.machine.Machine.{Machine}
 use Rattle.hep_state.specs.declared.machine.Process.{Process}
 
--- a process: its levels, the top first, and the operands of the top one
+-- a process: its levels, the top first, the operands of the top one, and those of all others, the lowest level's first
 pub record Stack : Type 0 where
   pub levels : List Level
   pub operands : List Value
+  pub pending : List Value
 
 pub record Snapshot : Type 0 where
   pub arena : Space
@@ -26,7 +27,7 @@ pub record Snapshot : Type 0 where
   pub halted : Bool
 
 abbrev pub stack_of : Process → Stack
-stack_of q = record { levels = reverse q.levels.items; operands = q.operands.items }
+stack_of q = record { levels = reverse q.levels.items; operands = q.operands.items; pending = q.pending.items }
 
 abbrev pub snapshot_of : Machine → Snapshot
 snapshot_of m =

@@ -49,16 +49,17 @@ pub record CanAdvance (program : Units) (k : Stack) (capacity : ℕ) (arena : Sp
   pub l : Level
   pub ls : List Level
   pub operands : List Value
-  pub stack : k ≡ stack_with l ls operands
+  pub pending : List Value
+  pub stack : k ≡ stack_with l ls operands pending
   pub inside : l.unit < length program
   pub there : nodes l.key ≡ Some (node_under nodes l.key)
   pub ready : IsReady (unit_code program l.unit) (unit_arrays program l.unit) arena (frame_in_arena (frame_under nodes l.key)) operands capacity l.index
 
 -- then the operation ahead was performed, which changed the cells and the stack; or memory was refused, which changed nothing more
-pub record IsAdvanced {E : Type 0} (program : Units) (nodes : Nodes) (l : Level) (ls : List Level) (operands : List Value) (before after : Space) (result : Result Advanced E) (k : Stack) : Type 0 where
+pub record IsAdvanced {E : Type 0} (program : Units) (nodes : Nodes) (l : Level) (ls : List Level) (operands pending : List Value) (before after : Space) (result : Result Advanced E) (k : Stack) : Type 0 where
   pub next : ℕ
   pub left : List Value
-  pub stack : k ≡ stack_with (record l { index = next }) ls left
+  pub stack : k ≡ stack_with (record l { index = next }) ls left pending
   pub performed : IfOk result (λ advanced. IsPerformed (effects.effect_at (unit_code program l.unit) (unit_arrays program l.unit) (node_under nodes l.key).first before.contents operands l.index) (snapshot before.contents operands l.index) advanced.effect (snapshot after.contents left next))
   pub refused : OnErr result (snapshot after.contents left next ≡ snapshot before.contents operands l.index)
 

@@ -26,20 +26,21 @@ abbrev pub keys_of : List Level → List ℕ
 keys_of ls = map (λ (l : Level). l.key) ls
 
 -- a stack with a top level
-abbrev pub stack_with : Level → List Level → List Value → Stack
-stack_with l ls operands = record { levels = l ∷ ls; operands = operands }
+abbrev pub stack_with : Level → List Level → List Value → List Value → Stack
+stack_with l ls operands pending = record { levels = l ∷ ls; operands = operands; pending = pending }
 
--- process p has activations: the top level, those below it, and its operands
+-- process p has activations: the top level, those below it, and the operands of both
 pub record HasLevels (m : Snapshot) (p : ℕ) : Type 0 where
   pub level : Level
   pub below : List Level
   pub operands : List Value
-  pub kept : numbered m.processes p ≡ Some (stack_with level below operands)
+  pub pending : List Value
+  pub kept : numbered m.processes p ≡ Some (stack_with level below operands pending)
 
 -- ---- turns
 
 -- a process whose turn it is, in a machine after turns of these processes: the program, the arena's cells, those turns, the machine, the
--- process, its levels, the top one first, its operands, and its levels in the source machine
+-- process, its levels, the top one first, the operands of the top one and of those below, and its levels in the source machine
 pub record TurnOf : Type 0 where
   pub program : Units
   pub cells : ℕ
@@ -49,6 +50,7 @@ pub record TurnOf : Type 0 where
   pub level : Level
   pub below : List Level
   pub operands : List Value
+  pub pending : List Value
   pub top : SourceLevel × Process
 
 -- that of a process with these levels
@@ -63,6 +65,7 @@ turn_with program cells choices {m} {p} levels top =
       level = levels.level;
       below = levels.below;
       operands = levels.operands;
+      pending = levels.pending;
       top = top;
     }
 
@@ -80,7 +83,7 @@ top_frame t = frame_under t.machine.nodes t.level.key
 pub record IsTurning (t : TurnOf) : Type 0 where
   pub after : IsAfter t.program t.cells t.choices t.machine
   pub running : (state_before t).halted ≡ false
-  pub kept : numbered t.machine.processes t.process ≡ Some (stack_with t.level t.below t.operands)
+  pub kept : numbered t.machine.processes t.process ≡ Some (stack_with t.level t.below t.operands t.pending)
   pub lives : living (state_before t) t.process ≡ Some t.top
 
 -- it is so in the turn of process p, in a machine after turns of these processes
@@ -138,8 +141,9 @@ HasMadeTurn t new = HasStepped t.program t.cells t.choices t.process new
 -- ---- what they change
 
 -- the stack of process p
-abbrev pub with_stack : Snapshot → ℕ → List Level → List Value → Snapshot
-with_stack m p levels operands = record m { processes = with_numbered m.processes p (record { levels = levels; operands = operands }) }
+abbrev pub with_stack : Snapshot → ℕ → List Level → List Value → List Value → Snapshot
+with_stack m p levels operands pending =
+    record m { processes = with_numbered m.processes p (record { levels = levels; operands = operands; pending = pending }) }
 
 -- and the cells of the arena
 abbrev pub with_contents : Snapshot → List Slot → Snapshot
@@ -149,18 +153,18 @@ with_contents m contents = record m { arena = record { contents = contents; hole
 abbrev pub turn_settled : TurnOf → List Value → ℕ → TurnOf
 turn_settled t operands index =
     record t {
-      machine = with_stack t.machine t.process (record t.level { index = index } ∷ t.below) operands;
+      machine = with_stack t.machine t.process (record t.level { index = index } ∷ t.below) operands t.pending;
       level = record t.level { index = index };
       operands = operands;
     }
 
 -- the top activation is at another index
 abbrev pub snapshot_moved : TurnOf → List Slot → List Value → ℕ → Snapshot
-snapshot_moved t contents operands index = with_stack (with_contents t.machine contents) t.process (record t.level { index = index } ∷ t.below) operands
+snapshot_moved t contents operands index = with_stack (with_contents t.machine contents) t.process (record t.level { index = index } ∷ t.below) operands t.pending
 
 -- a record was printed
 abbrev pub snapshot_printed : TurnOf → List Item → ℕ → Snapshot
-snapshot_printed t items index = with_stack (record t.machine { records = t.machine.records ++ items ∷ [] }) t.process (record t.level { index = index } ∷ t.below) []
+snapshot_printed t items index = with_stack (record t.machine { records = t.machine.records ++ items ∷ [] }) t.process (record t.level { index = index } ∷ t.below) [] t.pending
 
 -- all processes were stopped
 abbrev pub snapshot_stopped : Snapshot → Snapshot
@@ -168,11 +172,11 @@ snapshot_stopped m = record m { halted = true }
 
 -- the top activation has ended, and its frame went back, if that was so
 abbrev pub snapshot_returned : TurnOf → Space → Nodes → Snapshot
-snapshot_returned t arena nodes = with_stack (record t.machine { arena = arena; nodes = nodes }) t.process t.below []
+snapshot_returned t arena nodes = with_stack (record t.machine { arena = arena; nodes = nodes }) t.process t.below [] t.pending
 
 -- a fault has ended the process, in the statement with this initial line
 abbrev pub fault_at : TurnOf → ℕ → Kind → Fault
 fault_at t line kind = record { process = t.process; unit = t.level.unit; line = line; kind = kind }
 
 abbrev pub snapshot_failed : TurnOf → ℕ → Kind → Space → Nodes → Snapshot
-snapshot_failed t line kind arena nodes = with_stack (record t.machine { arena = arena; nodes = nodes; faults = t.machine.faults ++ fault_at t line kind ∷ [] }) t.process [] []
+snapshot_failed t line kind arena nodes = with_stack (record t.machine { arena = arena; nodes = nodes; faults = t.machine.faults ++ fault_at t line kind ∷ [] }) t.process [] [] []

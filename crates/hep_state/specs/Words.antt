@@ -2,7 +2,7 @@
 unfoldable pub use Rattle.hep_state.specs.Snapshots.{snapshot_of, stack_of}
 pub use Rattle.hep_state.specs.Snapshots.{Snapshot, Stack}
 unfoldable pub use Rattle.hep_state.specs.Showing.{AreThere, IsThere, node_under}
-pub use Rattle.hep_state.specs.Showing.{code_level, code_levels, IsStack, Shows}
+pub use Rattle.hep_state.specs.Showing.{code_level, code_levels, IsStack, kept_below, kept_by, levels_below, Shows}
 unfoldable pub use Rattle.hep_state.specs.Turns.{HasGaps}
 pub use Rattle.hep_state.specs.Turns.{HasNoGap, HasStepped, HasWaited, IsAbsent, IsAfter}
 unfoldable pub use Rattle.hep_state.specs.Tops.{fault_at, frame_under, keys_of, snapshot_failed, snapshot_moved, snapshot_printed, snapshot_returned}

@@ -23,20 +23,26 @@ impl Process {
     // The level of its top activation.
     pub(crate) fn top(&self) -> Level
         requires { 0 < vec_len self.now.levels }
-        ensures { (l : ALevel) (ls : List ALevel) (operands : List OperandValue) → stack_of self.now ≡ stack_with l ls operands
-            → result ≡ l }
+        ensures { (l : ALevel) (ls : List ALevel) (operands pending : List OperandValue)
+            → stack_of self.now ≡ stack_with l ls operands pending → result ≡ l }
     {
         self.levels[self.levels.len() - 1]
     }
 
     /// Where its top activation is: its unit, its frame in the arena, and its index in the unit's code.
     pub fn place<'a>(&self, frames: &Frames, image: &'a Image) -> (&'a UnitCode, Frame, usize)
-        requires { (l : ALevel) × (ls : List ALevel) × (operands : List OperandValue) × (stack_of self.now ≡ stack_with l ls operands)
-            × IsThere image.now (nodes_of frames.now.nodes) l }
-        ensures { (l : ALevel) (ls : List ALevel) (operands : List OperandValue) → stack_of self.now ≡ stack_with l ls operands
+        requires { (l : ALevel) × (ls : List ALevel) × (operands : List OperandValue) × (pending : List OperandValue)
+            × (stack_of self.now ≡ stack_with l ls operands pending) × IsThere image.now (nodes_of frames.now.nodes) l }
+        ensures { (l : ALevel) (ls : List ALevel) (operands pending : List OperandValue)
+            → stack_of self.now ≡ stack_with l ls operands pending
             → IsPlace image.now (nodes_of frames.now.nodes) l result.0.now result.1 result.2 }
     {
-        let Level { key, unit, index } = self.top();
+        let Level {
+            key,
+            unit,
+            index,
+            ..
+        } = self.top();
         let frame = Frame {
             first: frames.first(key),
             cells: frames.cells(key),
@@ -50,9 +56,11 @@ impl Process {
         frames: &Frames,
         image: &'a Image,
     ) -> (&'a [Instruction], &'a [Array], Frame)
-        requires { (l : ALevel) × (ls : List ALevel) × (operands : List OperandValue) × (stack_of self.now ≡ stack_with l ls operands)
-            × IsThere image.now (nodes_of frames.now.nodes) l × (l.index < length (unit_code image.now l.unit)) }
-        ensures { (l : ALevel) (ls : List ALevel) (operands : List OperandValue) → stack_of self.now ≡ stack_with l ls operands
+        requires { (l : ALevel) × (ls : List ALevel) × (operands : List OperandValue) × (pending : List OperandValue)
+            × (stack_of self.now ≡ stack_with l ls operands pending) × IsThere image.now (nodes_of frames.now.nodes) l
+            × (l.index < length (unit_code image.now l.unit)) }
+        ensures { (l : ALevel) (ls : List ALevel) (operands pending : List OperandValue)
+            → stack_of self.now ≡ stack_with l ls operands pending
             → IsBehind image.now (nodes_of frames.now.nodes) l result.0.now result.1.now result.2 }
     {
         let (unit, frame, index) = self.place(frames, image);
@@ -62,11 +70,13 @@ impl Process {
 
     // Puts the values that stand ahead of its top activation, in its unit's code, behind the operands. There is room for them.
     pub(crate) fn settle(&mut self, code: &[Instruction])
-        requires { (l : ALevel) × (ls : List ALevel) × (operands : List OperandValue) × (stack_of self.old ≡ stack_with l ls operands)
+        requires { (l : ALevel) × (ls : List ALevel) × (operands : List OperandValue) × (pending : List OperandValue)
+            × (stack_of self.old ≡ stack_with l ls operands pending)
             × (length operands + values_ahead (drop l.index code.now) ≤ vec_capacity self.old.operands) }
-        ensures settled { (program : Units) (l : ALevel) (ls : List ALevel) (operands : List OperandValue)
-            → code.now ≡ unit_code program l.unit → stack_of self.old ≡ stack_with l ls operands → (index : ℕ) × (new : List OperandValue)
-            × (stack_of self.new ≡ stack_with (record l { index = index }) ls new) × IsSettled program l.unit operands l.index new index }
+        ensures settled { (program : Units) (l : ALevel) (ls : List ALevel) (operands pending : List OperandValue)
+            → code.now ≡ unit_code program l.unit → stack_of self.old ≡ stack_with l ls operands pending
+            → (index : ℕ) × (new : List OperandValue) × (stack_of self.new ≡ stack_with (record l { index = index }) ls new pending)
+            × IsSettled program l.unit operands l.index new index }
         ensures capacity { vec_capacity self.old.operands ≤ vec_capacity self.new.operands }
     {
         let mut index = self.top().index;
@@ -77,14 +87,28 @@ impl Process {
     /// Its top activation is at an index.
     pub fn stand_at(&mut self, index: usize)
         requires { 0 < vec_len self.old.levels }
-        ensures stack { (l : ALevel) (ls : List ALevel) (operands : List OperandValue) → stack_of self.old ≡ stack_with l ls operands
-            → stack_of self.new ≡ stack_with (record l { index = index }) ls operands }
+        ensures stack { (l : ALevel) (ls : List ALevel) (operands pending : List OperandValue)
+            → stack_of self.old ≡ stack_with l ls operands pending
+            → stack_of self.new ≡ stack_with (record l { index = index }) ls operands pending }
         ensures count { vec_len self.new.levels ≡ vec_len self.old.levels }
         ensures capacity { vec_capacity self.new.levels ≡ vec_capacity self.old.levels }
         ensures operands { self.new.operands ≡ self.old.operands }
     {
         let top = self.levels.len() - 1;
         self.levels[top].index = index;
+    }
+
+    // Another level is in the place of that of its top activation.
+    pub(crate) fn put_top(&mut self, level: Level)
+        requires { 0 < vec_len self.old.levels }
+        ensures stack { (l : ALevel) (ls : List ALevel) (operands pending : List OperandValue)
+            → stack_of self.old ≡ stack_with l ls operands pending → stack_of self.new ≡ stack_with level ls operands pending }
+        ensures count { vec_len self.new.levels ≡ vec_len self.old.levels }
+        ensures capacity { vec_capacity self.new.levels ≡ vec_capacity self.old.levels }
+        ensures operands { self.new.operands ≡ self.old.operands }
+    {
+        let top = self.levels.len() - 1;
+        self.levels[top] = level;
     }
 }
 
@@ -106,10 +130,11 @@ pub(crate) fn advance(
 ) -> Result<Advanced, AllocError>
     requires { CanAdvance image.now (stack_of process.old) (vec_capacity process.old.operands) frames.old.arena
         (nodes_of frames.old.nodes) }
-    ensures advanced { (l : ALevel) (ls : List ALevel) (operands : List OperandValue) → stack_of process.old ≡ stack_with l ls operands
-        → IsAdvanced image.now (nodes_of frames.old.nodes) l ls operands frames.old.arena frames.new.arena result (stack_of process.new) }
-    ensures touched { IfOk result (λ advanced. (l : ALevel) (ls : List ALevel) (operands : List OperandValue)
-        → stack_of process.old ≡ stack_with l ls operands
+    ensures advanced { (l : ALevel) (ls : List ALevel) (operands pending : List OperandValue)
+        → stack_of process.old ≡ stack_with l ls operands pending → IsAdvanced image.now (nodes_of frames.old.nodes) l ls operands pending
+        frames.old.arena frames.new.arena result (stack_of process.new) }
+    ensures touched { IfOk result (λ advanced. (l : ALevel) (ls : List ALevel) (operands pending : List OperandValue)
+        → stack_of process.old ≡ stack_with l ls operands pending
         → advanced.touched ≡ touched_at (unit_code image.now l.unit) (unit_arrays image.now l.unit)
         (node_under (nodes_of frames.old.nodes) l.key).first frames.old.arena.contents operands l.index) }
     ensures inside { IfOk result (λ advanced. IfSome advanced.touched (λ cell. cell < length frames.old.arena.contents)) }

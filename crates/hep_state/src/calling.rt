@@ -1,10 +1,12 @@
 //! CALL and CREATE: an activation that begins, with its frame (X3.9-1978, 15.6.2).
-ghost use Rattle.std.specs.Prelude.{◌≡◌, ◌<◌, ◌≤◌, ◌+◌, ◌-◌, ◌^◌, ◌∷◌, ℕ, Bool, true, false, List, [], Some, IsSome, length};
+ghost use Rattle.std.specs.Prelude.{◌≡◌, ◌<◌, ◌≤◌, ◌+◌, ◌-◌, ◌^◌, ◌∷◌, ℕ, List, [], Some, IsSome, length};
 ghost use Rattle.std.specs.Prelude.{slice_get, vec_len, vec_capacity};
 ghost use Rattle.slab.specs.Slab.{HasRoomFor};
 ghost use Rattle.hep_source.specs.declared.value.Value.{Value as OperandValue};
 ghost use Rattle.hep_machine.specs.Words.{Units};
 ghost use Rattle.hep_arena.specs.Holes.{first_fit};
+ghost use Rattle.hep_step.specs.declared.way.Way.{Way};
+ghost use Rattle.hep_step.specs.declared.way.Way.TheVariants.{Calls, Creates};
 ghost use Rattle.hep_state.specs.declared.machine.Level.{Level as ALevel};
 ghost use Rattle.hep_state.specs.declared.machine.Process.{Process as AProcess};
 ghost use Rattle.hep_state.specs.Words.{HasEntered, HasRoomAt, HasStepped, HaveRoom, Makes, snapshot_of, stack_of, stack_with};
@@ -28,8 +30,9 @@ pub struct Called {
 // Its top activation is to go on at an index.
 pub(crate) fn go_on(process: &mut Process, index: usize)
     requires { 0 < vec_len process.old.levels }
-    ensures stack { (l : ALevel) (ls : List ALevel) (operands : List OperandValue) → stack_of process.old ≡ stack_with l ls operands
-        → stack_of process.new ≡ stack_with (record l { index = index }) ls [] }
+    ensures stack { (l : ALevel) (ls : List ALevel) (operands pending : List OperandValue)
+        → stack_of process.old ≡ stack_with l ls operands pending
+        → stack_of process.new ≡ stack_with (record l { index = index }) ls [] pending }
     ensures count { vec_len process.new.levels ≡ vec_len process.old.levels }
     ensures capacity { vec_capacity process.new.levels ≡ vec_capacity process.old.levels }
     ensures operands { vec_capacity process.new.operands ≡ vec_capacity process.old.operands }
@@ -38,15 +41,22 @@ pub(crate) fn go_on(process: &mut Process, index: usize)
     process.operands.clear();
 }
 
-// Its top activation is to go on at an index, and a new one is above it.
+// Its top activation keeps no operands and is to go on at an index, and a new one is above it.
 fn put_above(process: &mut Process, index: usize, level: Level)
     requires some { 0 < vec_len process.old.levels }
     requires room { vec_len process.old.levels < vec_capacity process.old.levels }
-    ensures stack { (l : ALevel) (ls : List ALevel) (operands : List OperandValue) → stack_of process.old ≡ stack_with l ls operands
-        → stack_of process.new ≡ record { levels = level ∷ (record l { index = index } ∷ ls); operands = [] } }
+    ensures stack { (l : ALevel) (ls : List ALevel) (operands pending : List OperandValue)
+        → stack_of process.old ≡ stack_with l ls operands pending
+        → stack_of process.new ≡ stack_with level (record l { kept = 0; index = index } ∷ ls) [] pending }
     ensures operands { vec_capacity process.new.operands ≡ vec_capacity process.old.operands }
 {
-    go_on(process, index);
+    let below = Level {
+        kept: 0,
+        index,
+        ..process.top()
+    };
+    process.put_top(below);
+    process.operands.clear();
     append(&mut process.levels, level);
 }
 
@@ -56,17 +66,17 @@ impl Machine {
     //
     // There is a gap for the frame, and room for its node.
     fn begin_activation(&mut self, p: u64, called: Called) -> Level
-        requires making { (creates : Bool) × (program : Units) × (cells : ℕ) × (choices : List ℕ) × (index : ℕ)
-            × Makes creates program cells choices p self.old called index }
+        requires making { (way : Way) × (program : Units) × (cells : ℕ) × (choices : List ℕ) × (index : ℕ)
+            × Makes way program cells choices p self.old called index }
         requires few { length self.old.frames.arena.contents ≤ 16777216 }
         requires countable { self.old.activations + 1 < 2 ^ 64 }
         requires gap { IsSome (first_fit called.cells self.old.frames.arena.holes) }
         requires node { HasRoomFor self.old.frames.nodes 1 }
-        ensures entered { (creates : Bool) (program : Units) (cells : ℕ) (choices : List ℕ) (index : ℕ)
-            → (e : Makes creates program cells choices p self.old called index)
+        ensures entered { (way : Way) (program : Units) (cells : ℕ) (choices : List ℕ) (index : ℕ)
+            → (e : Makes way program cells choices p self.old called index)
             → HasEntered (turn_of e.making) e.making.holds.turning called.unit result.key (state_made e.making.holds)
             self.new.frames.arena (nodes_of self.new.frames.nodes) }
-        ensures level { result ≡ record { key = result.key; unit = called.unit; index = called.entry } }
+        ensures level { result ≡ record { key = result.key; unit = called.unit; kept = 0; index = called.entry } }
         ensures others { self.new ≡ record self.old { frames = self.new.frames; activations = self.old.activations + 1 } }
     {
         hep_frames::laws::children_are_activations();
@@ -89,6 +99,7 @@ impl Machine {
         Level {
             key,
             unit,
+            kept: 0,
             index: entry,
         }
     }
@@ -99,14 +110,14 @@ impl Machine {
     // There is a gap for the frame, and room for its node and for a level more, and for the unit's operands.
     pub(crate) fn call(&mut self, p: u64, called: Called, index: usize)
         requires calling { (program : Units) × (cells : ℕ) × (choices : List ℕ)
-            × Makes false program cells choices p self.old called index }
+            × Makes Calls program cells choices p self.old called index }
         requires few { length self.old.frames.arena.contents ≤ 16777216 }
         requires countable { self.old.activations + 1 < 2 ^ 64 }
         requires gap { IsSome (first_fit called.cells self.old.frames.arena.holes) }
         requires node { HasRoomFor self.old.frames.nodes 1 }
         requires level { (q : AProcess) → slice_get self.old.processes.items (p - 1) ≡ Some q → vec_len q.levels < vec_capacity q.levels }
         ensures stepped { (program : Units) (cells : ℕ) (choices : List ℕ)
-            → Makes false program cells choices p self.old called index → HasStepped program cells choices p (snapshot_of self.new) }
+            → Makes Calls program cells choices p self.old called index → HasStepped program cells choices p (snapshot_of self.new) }
         ensures rooms { (program : Units) (cells : ℕ) → HaveRoom program cells self.old → HasRoomAt program p called.unit self.old
             → HaveRoom program cells self.new }
         ensures processes { length self.new.processes.items ≡ length self.old.processes.items }
@@ -122,16 +133,16 @@ impl Machine {
     // There is a gap for the frame, and room for its node, for the process and for its level, and for the unit's operands.
     pub(crate) fn create(&mut self, p: u64, called: Called, index: usize, mut process: Process)
         requires creating { (program : Units) × (cells : ℕ) × (choices : List ℕ)
-            × Makes true program cells choices p self.old called index }
+            × Makes Creates program cells choices p self.old called index }
         requires few { length self.old.frames.arena.contents ≤ 16777216 }
         requires countable { self.old.activations + 1 < 2 ^ 64 }
         requires gap { IsSome (first_fit called.cells self.old.frames.arena.holes) }
         requires node { HasRoomFor self.old.frames.nodes 1 }
-        requires empty { (process.levels.items ≡ []) × (process.operands.items ≡ []) }
+        requires empty { (process.levels.items ≡ []) × (process.operands.items ≡ []) × (process.pending.items ≡ []) }
         requires level { vec_len process.levels < vec_capacity process.levels }
         requires process { vec_len self.old.processes < vec_capacity self.old.processes }
         ensures stepped { (program : Units) (cells : ℕ) (choices : List ℕ)
-            → Makes true program cells choices p self.old called index → HasStepped program cells choices p (snapshot_of self.new) }
+            → Makes Creates program cells choices p self.old called index → HasStepped program cells choices p (snapshot_of self.new) }
         ensures rooms { (program : Units) (cells : ℕ) → HaveRoom program cells self.old
             → deepest (unit_code program called.unit) ≤ vec_capacity process.operands → HaveRoom program cells self.new }
         ensures processes { length self.new.processes.items ≡ length self.old.processes.items + 1 }

@@ -58,7 +58,7 @@ impl Machine {
         requires few { length self.old.frames.arena.contents ≤ most_cells }
         ensures moved { (levels : HasLevels (snapshot_of self.old) p) → snapshot_of self.new ≡ with_stack (with_contents
             (snapshot_of self.old) (purged self.old.passing.ranges.items self.old.frames.arena.contents))
-            p (record levels.level { index = index } ∷ levels.below) [] }
+            p (record levels.level { index = index } ∷ levels.below) [] levels.pending }
         ensures passing { self.new.passing ≡ self.old.passing }
         ensures rooms { (program : Units) (cells : ℕ) → HaveRoom program cells self.old → HaveRoom program cells self.new }
         ensures processes { length self.new.processes.items ≡ length self.old.processes.items }

@@ -34,13 +34,14 @@ fn leave_all(frames: &mut Frames, levels: &mut Vec<Level>)
 }
 
 impl Process {
-    // Its top activation has ended: the level is taken off, and there are no operands.
+    // Its top activation has ended: the level is taken off, and the one below it has no operands.
     fn end_top(&mut self) -> Level
         requires { 0 < vec_len self.old.levels }
-        ensures level { (l : ALevel) (ls : List ALevel) (operands : List OperandValue) → stack_of self.old ≡ stack_with l ls operands
-            → result ≡ l }
-        ensures stack { (l : ALevel) (ls : List ALevel) (operands : List OperandValue) → stack_of self.old ≡ stack_with l ls operands
-            → stack_of self.new ≡ record { levels = ls; operands = [] } }
+        ensures level { (l : ALevel) (ls : List ALevel) (operands pending : List OperandValue)
+            → stack_of self.old ≡ stack_with l ls operands pending → result ≡ l }
+        ensures stack { (l : ALevel) (ls : List ALevel) (operands pending : List OperandValue)
+            → stack_of self.old ≡ stack_with l ls operands pending
+            → stack_of self.new ≡ record { levels = ls; operands = []; pending = pending } }
         ensures fewer { self.old.levels.items ≡ self.new.levels.items ++ result ∷ [] }
         ensures capacity { vec_capacity self.new.operands ≡ vec_capacity self.old.operands }
     {
@@ -77,6 +78,7 @@ impl Machine {
         let process = &mut self.processes[(p - 1) as usize];
         let unit = process.top().unit;
         process.operands.clear();
+        process.pending.clear();
         leave_all(&mut self.frames, &mut process.levels);
         let fault = Fault {
             process: p,

@@ -25,6 +25,8 @@ ghost use Rattle.hep_purging.specs.declared.range.ClosedRange.{ClosedRange};
 ghost use Rattle.hep_purging.specs.Purged.{purged};
 ghost use Rattle.hep_purging.specs.Ready.{AreOut};
 ghost use Rattle.hep_shaping.specs.Fitting.{AreShapable, are_fitting, longest_code, shapes_of};
+ghost use Rattle.hep_step.specs.declared.way.Way.{Way};
+ghost use Rattle.hep_step.specs.Calls.{is_creation, last_operands};
 ghost use Rattle.hep_step.specs.Cells.{HasFrame};
 ghost use Rattle.hep_step.specs.Ready.{frame_in_arena};
 ghost use Rattle.hep_step.specs.Effects.{fails, moves, prints, returns, stops, waits};
@@ -48,8 +50,9 @@ pub fn turns_are_taken()
         → (top : SourceLevel × SourceProcess) × IsTurning (turn_with program cells choices levels top) }
     ensures halted { (program : Units) (cells : ℕ) (choices : List ℕ) (m : Snapshot) (p : ℕ) → IsAfter program cells choices m
         → m.halted ≡ true → IsAbsent program cells choices p m }
-    ensures ended { (program : Units) (cells : ℕ) (choices : List ℕ) (m : Snapshot) (p : ℕ) (operands : List Value)
-        → IsAfter program cells choices m → numbered m.processes p ≡ Some (record { levels = []; operands = operands })
+    ensures ended { (program : Units) (cells : ℕ) (choices : List ℕ) (m : Snapshot) (p : ℕ) (operands pending : List Value)
+        → IsAfter program cells choices m
+        → numbered m.processes p ≡ Some (record { levels = []; operands = operands; pending = pending })
         → IsAbsent program cells choices p m }
     ensures none { (program : Units) (cells : ℕ) (choices : List ℕ) (m : Snapshot) (p : ℕ) → IsAfter program cells choices m
         → numbered m.processes p ≡ None → IsAbsent program cells choices p m }
@@ -151,7 +154,7 @@ fn programs_are_known()
 }
 
 /// A process that is at a CALL or CREATE makes an activation of a subroutine of the program, with as many actual arguments
-/// as this has dummy arguments, and what its operands and the entries behind the CALL name can be passed.
+/// as this has dummy arguments, and what its last operands, which are all of them, and the entries behind the CALL name can be passed.
 pub fn calls_can_be_made()
     ensures inside { (t : TurnOf) (call : CallAhead) → IsAccepted t.program → is_some (main_among t.program) ≡ true → IsAtCall t call
         → call.unit < length t.program }
@@ -161,7 +164,9 @@ pub fn calls_can_be_made()
         → length t.machine.arena.contents ≤ most_cells → IsAtCall t call → HasFrame t.machine.arena (frame_in_arena (top_frame t)) }
     ensures passable { (t : TurnOf) (call : CallAhead) → IsAccepted t.program → is_some (main_among t.program) ≡ true
         → (at : IsAtCall t call) → ArePassable t.machine.arena (unit_arrays t.program t.level.unit) (frame_in_arena (top_frame t))
-        (passed_from call.count at.behind t.operands) }
+        (passed_from call.count at.behind (last_operands call.count at.behind t.operands)) }
+    ensures all { (t : TurnOf) (call : CallAhead) → IsAccepted t.program → is_some (main_among t.program) ≡ true
+        → (at : IsAtCall t call) → last_operands call.count at.behind t.operands ≡ t.operands }
 {
     hep_passing::laws::callers_can_pass();
     programs_are_known();
@@ -229,7 +234,7 @@ pub fn calls_give_what_is_bound()
     ensures making { (t : TurnOf) (call : CallAhead) (given : List Given) → IsAccepted t.program → is_some (main_among t.program) ≡ true
         → (at : IsAtCall t call) → given_of call at ≡ Ok given
         → are_fitting t.machine.arena.contents given (dummy_arguments t.program (unit_at t.program call.unit)) ≡ true
-        → IsMaking call.creates t call.unit call.next given
+        → IsMaking call.way t call.unit call.next given
         (shapes_of t.machine.arena.contents given (dummy_arguments t.program (unit_at t.program call.unit))) }
     ensures range { (t : TurnOf) (call : CallAhead) (kind : Kind) → IsAccepted t.program → is_some (main_among t.program) ≡ true
         → (at : IsAtCall t call) → given_of call at ≡ Err kind → IsEnding t (fails call.line kind) }
@@ -252,11 +257,11 @@ pub fn calls_give_what_is_bound()
 /// Where the arena has no gap as long as the frame of the unit that is called, the step's frame has none; and where it has one, or
 /// where a fault ends the process, each frame has its gap.
 pub fn gaps_are_told()
-    ensures none { (creates : Bool) (t : TurnOf) (u n entry index : ℕ) (given : List Given) (shapes : List (Option Bounds))
-        → IsMaking creates t u index given shapes → IsUnit t.program u n entry → first_fit n t.machine.arena.holes ≡ None
+    ensures none { (way : Way) (t : TurnOf) (u n entry index : ℕ) (given : List Given) (shapes : List (Option Bounds))
+        → IsMaking way t u index given shapes → IsUnit t.program u n entry → first_fit n t.machine.arena.holes ≡ None
         → HasNoGap t.program t.cells t.choices t.process }
-    ensures some { (creates : Bool) (t : TurnOf) (u n entry index : ℕ) (given : List Given) (shapes : List (Option Bounds))
-        → IsMaking creates t u index given shapes → IsUnit t.program u n entry → IsSome (first_fit n t.machine.arena.holes)
+    ensures some { (way : Way) (t : TurnOf) (u n entry index : ℕ) (given : List Given) (shapes : List (Option Bounds))
+        → IsMaking way t u index given shapes → IsUnit t.program u n entry → IsSome (first_fit n t.machine.arena.holes)
         → HasGaps t.program t.cells t.choices t.process }
     ensures fault { (t : TurnOf) (line : ℕ) (kind : Kind) → IsEnding t (fails line kind)
         → HasGaps t.program t.cells t.choices t.process }
@@ -277,9 +282,9 @@ pub fn other_steps_find_gaps()
 /// Where the frame of the activation that a CALL or CREATE makes has entered and its cells are written, a step was made: the new
 /// activation is shown on top of its caller or as a process of its own, and the caller or creator goes on behind the statement.
 pub fn calls_are_shown()
-    ensures { (creates : Bool) (t : TurnOf) (u key index : ℕ) (actuals : List Actual) (b : Binding) (arena : Space) (nodes : Nodes)
-        → (turning : IsTurning t) → HasEntered t turning u key (state_made_by creates (call_in t u actuals b)) arena nodes
-        → IsAfterCall t index → HasMadeTurn t (snapshot_made_by creates t u key index arena nodes) }
+    ensures { (way : Way) (t : TurnOf) (u key index : ℕ) (actuals : List Actual) (b : Binding) (arena : Space) (nodes : Nodes)
+        → (turning : IsTurning t) → HasEntered t turning u key (state_made_by (is_creation way) (call_in t u actuals b)) arena nodes
+        → IsAfterCall t index → HasMadeTurn t (snapshot_made_by way t u key index arena nodes) }
 {}
 
 /// Where the frame of the main program has entered and DATA has given the cells their values, the opening is shown, with process

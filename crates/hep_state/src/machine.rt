@@ -22,14 +22,19 @@ pub(crate) fn append<T: Drop>(items: &mut Vec<T>, added: T)
 pub struct Level {
     pub key: usize,
     pub unit: u32,
+    /// How many operands it keeps among those that are pending, while another activation is above it.
+    pub kept: u32,
     pub index: usize,
 }
 
-/// A process: its activations, the top last, and the operands of the top one. It has ended where there are none.
+/// A process: its activations, the top last, and their operands. It has ended where there are none.
 #[derive(Drop)]
 pub struct Process {
     pub levels: Vec<Level>,
+    /// Those of the top activation.
     pub operands: Vec<Value>,
+    /// Those of all others, the lowest one's first. No CALL leaves any, so no memory is asked for here.
+    pub pending: Vec<Value>,
 }
 
 /// What the actual arguments of a CALL give, and the targets of a PURGE name, while it is made.

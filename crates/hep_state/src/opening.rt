@@ -158,11 +158,13 @@ fn room_to_pass(alloc: Global, image: &Image) -> Result<Passing, AllocError>
 fn begun(alloc: Global, level: Level, operands: u32) -> Result<Process, AllocError>
     ensures levels { IfOk result (λ process. process.levels.items ≡ level ∷ []) }
     ensures operands { IfOk result (λ process. process.operands.items ≡ []) }
+    ensures pending { IfOk result (λ process. process.pending.items ≡ []) }
     ensures room { IfOk result (λ process. vec_capacity process.operands ≡ operands) }
 {
     Ok(Process {
         levels: vec![in alloc; level]?,
         operands: Vec::with_capacity(alloc, operands as usize)?,
+        pending: Vec::new(alloc),
     })
 }
 
@@ -193,6 +195,7 @@ impl Machine {
         let level = Level {
             key,
             unit: image.main(),
+            kept: 0,
             index: main.entry as usize,
         };
         let process = begun(alloc, level, main.operands)?;

@@ -23,7 +23,7 @@ impl Machine {
         ensures given { OnOk result ((cells : ℕ) (choices : List ℕ) → IsMachineAfter image.now cells choices self.old
             → HasCallAhead image.now cells choices p (snapshot_of self.old) call
             → HoldsInTurn image.now cells choices p (snapshot_of self.old)
-            (λ t. IsMaking call.creates t call.unit call.next self.new.passing.given.items self.new.passing.shapes.items)) }
+            (λ t. IsMaking call.way t call.unit call.next self.new.passing.given.items self.new.passing.shapes.items)) }
         ensures fault { IfErr result (λ kind. (cells : ℕ) (choices : List ℕ) → IsMachineAfter image.now cells choices self.old
             → HasCallAhead image.now cells choices p (snapshot_of self.old) call
             → IsToEnd image.now cells choices p (snapshot_of self.old) (fails call.line kind)) }

@@ -19,6 +19,7 @@ use hep_blocked::Want;
 use hep_image::Image;
 use hep_machine::Entry;
 use hep_ready::Ready;
+use hep_step::Way;
 use hep_touched::laws::{purges_stand_ahead, touched_units_are_in_touched_cells};
 use std::alloc::{AllocError, Global};
 
@@ -59,7 +60,8 @@ impl Process {
     fn reserve(&mut self, operands: u32) -> Result<(), AllocError>
         ensures level { OnOk result (vec_len self.new.levels < vec_capacity self.new.levels) }
         ensures operands { OnOk result (operands ≤ vec_capacity self.new.operands) }
-        ensures same { (self.new.levels.items ≡ self.old.levels.items) × (self.new.operands.items ≡ self.old.operands.items) }
+        ensures same { (self.new.levels.items ≡ self.old.levels.items) × (self.new.operands.items ≡ self.old.operands.items)
+            × (self.new.pending.items ≡ self.old.pending.items) }
         ensures capacity { vec_capacity self.old.operands ≤ vec_capacity self.new.operands }
     {
         self.levels.reserve(1)?;
@@ -132,7 +134,8 @@ impl Machine {
     ) -> Result<Process, AllocError>
         ensures node { OnOk result (HasRoomFor self.new.frames.nodes 1) }
         ensures process { OnOk result (vec_len self.new.processes < vec_capacity self.new.processes) }
-        ensures empty { IfOk result (λ process. (process.levels.items ≡ []) × (process.operands.items ≡ [])) }
+        ensures empty { IfOk result (λ process. (process.levels.items ≡ []) × (process.operands.items ≡ [])
+            × (process.pending.items ≡ [])) }
         ensures level { IfOk result (λ process. vec_len process.levels < vec_capacity process.levels) }
         ensures operands { IfOk result (λ process. operands ≤ vec_capacity process.operands) }
         ensures entry { OnOk result (vec_len history.new < vec_capacity history.new) }
@@ -152,6 +155,7 @@ impl Machine {
         Ok(Process {
             levels: Vec::with_capacity(alloc, 1)?,
             operands: Vec::with_capacity(alloc, operands as usize)?,
+            pending: Vec::new(alloc),
         })
     }
 
@@ -279,12 +283,15 @@ impl Machine {
             cells: unit.cells,
             entry: unit.entry as usize,
         };
-        if call.creates {
-            let process = self.reserve_process(alloc, unit.operands, history, ready)?;
-            self.create(p, called, call.next as usize, process);
-        } else {
-            self.reserve_activation(p, unit.operands, history)?;
-            self.call(p, called, call.next as usize);
+        match call.way {
+            Way::Calls => {
+                self.reserve_activation(p, unit.operands, history)?;
+                self.call(p, called, call.next as usize);
+            }
+            Way::Creates => {
+                let process = self.reserve_process(alloc, unit.operands, history, ready)?;
+                self.create(p, called, call.next as usize, process);
+            }
         }
         Ok(Turned::Stepped { changed: None })
     }

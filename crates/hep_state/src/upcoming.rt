@@ -7,14 +7,15 @@ ghost use Rattle.hep_state.specs.Words.{IsAhead, IsInFront, IsMachineAfter, snap
 use crate::machine::{Level, Machine};
 use hep_code::{Instruction, Operation};
 use hep_image::Image;
+use hep_step::Way;
 
 /// A CALL or CREATE that stands ahead of a process.
 #[derive(Clone, Copy, Debug)]
 pub struct CallAhead {
     /// The initial line of its statement.
     pub line: u32,
-    /// Whether it is CREATE.
-    pub creates: bool,
+    /// Which of them it is.
+    pub way: Way,
     /// The index in the program of the unit that it makes an activation of.
     pub unit: u32,
     /// How many actual arguments it has.
@@ -52,14 +53,14 @@ fn as_ahead(line: u32, operation: Operation) -> StepAhead
     match operation {
         Operation::Call { unit, count, next } => StepAhead::Call(CallAhead {
             line,
-            creates: false,
+            way: Way::Calls,
             unit,
             count,
             next,
         }),
         Operation::Create { unit, count, next } => StepAhead::Call(CallAhead {
             line,
-            creates: true,
+            way: Way::Creates,
             unit,
             count,
             next,

@@ -1,5 +1,5 @@
 -- The node that is found for an activation, from the keys of the levels upwards: it is there for those that are held and for no other, with its frame.
-use Rattle.std.proofs.Common.{◌≡◌, inl, inr, ℕ, zero, suc, ◌+◌, ◌≤◌, Bool, true, false, List, [], ◌∷◌, ◌++◌, length, refl, sym, ap, ◌∙◌, arith, Option, Some, None, true≢false, if◌then◌else◌, is_some, nat_eq, slice_get}
+use Rattle.std.proofs.Common.{◌≡◌, inl, inr, ℕ, zero, suc, ◌+◌, ◌≤◌, ◌-◌, Bool, true, false, List, [], ◌∷◌, ◌++◌, length, take, refl, sym, ap, ◌∙◌, arith, Option, Some, None, true≢false, if◌then◌else◌, is_some, nat_eq, slice_get}
 use Rattle.std.specs.List.{flat_map}
 use Rattle.std.specs.Option.{option_map_or, option_or}
 use Rattle.std.proofs.lemmas.Bool.{cases_Bool, eqb-true, eq-eqb, or_cases}
@@ -91,25 +91,25 @@ module _ (program : Units) (s : State) (nodes : Nodes) (a n : ℕ) where
   found-here : (l : Level) (keys : List ℕ) (b : ℕ) → IsHere program s nodes l b → nat_eq a b ≡ true → IsFound nodes a (suc n) (l.key ∷ keys)
   found-here l keys b h same = found-first nodes a n l.key keys h.node h.there (sym h.activation ∙ sym (eqb-true a b same))
 
-  found-below : (ls : List Level) (q : Process) → AreStandingBelow program s nodes ls q → is_number_among a (activations_on q) ≡ true → IsFound nodes a (suc n) (keys_of ls)
-  found-below [] [] h among = absurd (true≢false (sym among))
-  found-below (l ∷ ls) (level ∷ levels) h among =
+  found-below : (pending : List Value) (ls : List Level) (q : Process) → AreStandingBelow program s nodes pending ls q → is_number_among a (activations_on q) ≡ true → IsFound nodes a (suc n) (keys_of ls)
+  found-below pending [] [] h among = absurd (true≢false (sym among))
+  found-below pending (l ∷ ls) (level ∷ levels) h among =
       elim (or_cases (nat_eq a level.activation) (is_number_among a (activations_on levels)) among) [
         | inl here ↦ found-here l (keys_of ls) level.activation h.0.here here
-        | inr rest ↦ found-behind nodes a (suc n) (l.key ∷ []) (keys_of ls) (found-below ls levels h.1 rest)
+        | inr rest ↦ found-behind nodes a (suc n) (l.key ∷ []) (keys_of ls) (found-below (take (length pending - l.kept) pending) ls levels h.1 rest)
       ]
-  found-below [] (level ∷ levels) h among = absurd h
-  found-below (l ∷ ls) [] h among = absurd h
+  found-below pending [] (level ∷ levels) h among = absurd h
+  found-below pending (l ∷ ls) [] h among = absurd h
 
-  pub found-on : (vs : List Value) (ls : List Level) (q : Process) → AreStanding program s nodes vs ls q → is_number_among a (activations_on q) ≡ true → IsFound nodes a (suc n) (keys_of ls)
-  found-on vs [] [] h among = absurd (true≢false (sym among))
-  found-on vs (l ∷ ls) (level ∷ levels) h among =
+  pub found-on : (vs pending : List Value) (ls : List Level) (q : Process) → AreStanding program s nodes vs pending ls q → is_number_among a (activations_on q) ≡ true → IsFound nodes a (suc n) (keys_of ls)
+  found-on vs pending [] [] h among = absurd (true≢false (sym among))
+  found-on vs pending (l ∷ ls) (level ∷ levels) h among =
       elim (or_cases (nat_eq a level.activation) (is_number_among a (activations_on levels)) among) [
         | inl here ↦ found-here l (keys_of ls) level.activation h.0.here here
-        | inr rest ↦ found-behind nodes a (suc n) (l.key ∷ []) (keys_of ls) (found-below ls levels h.1 rest)
+        | inr rest ↦ found-behind nodes a (suc n) (l.key ∷ []) (keys_of ls) (found-below pending ls levels h.1 rest)
       ]
-  found-on vs [] (level ∷ levels) h among = absurd h
-  found-on vs (l ∷ ls) [] h among = absurd h
+  found-on vs pending [] (level ∷ levels) h among = absurd h
+  found-on vs pending (l ∷ ls) [] h among = absurd h
 
 -- ---- the parent of one that is found
 
@@ -194,7 +194,7 @@ module _ (program : Units) (cells : ℕ) (choices : List ℕ) (m : Snapshot) (af
     by_number (suc i) q e among =
         let stack = other-there m.processes s.processes i q after.shows.processes e in
         let stands = stack-standing program s m.nodes m.arena.contents stack.0 q (after.shows.stacks (suc i) stack.0 q stack.1 e) in
-        found-in-stack m.nodes a (suc n) m.processes i stack.0 stack.1 (found-on program s m.nodes a n stack.0.operands stack.0.levels q stands among)
+        found-in-stack m.nodes a (suc n) m.processes i stack.0 stack.1 (found-on program s m.nodes a n stack.0.operands stack.0.pending stack.0.levels q stands among)
 
   -- just the held activations have nodes
   pub unheld : (a : ℕ) → node_of m a ≡ None → is_held s a ≡ false

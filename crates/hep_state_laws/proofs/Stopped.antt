@@ -167,7 +167,7 @@ module _ (program : Units) (s : State) where
           processes = h.processes;
           stacks = λ i j q here on-it.
               let stack = h.stacks i j q here on-it in
-              record { there = stack.there; levels = levels-going (code_levels program m.arena.contents m.nodes j.operands j.levels) q stack.levels };
+              record { there = stack.there; levels = levels-going (code_levels program m.arena.contents m.nodes j.operands j.pending j.levels) q stack.levels; counted = stack.counted };
           activations = h.activations;
           records = h.records;
           faults = h.faults;

@@ -166,21 +166,21 @@ module _ (program : Units) (cells : ℕ) (choices : List ℕ) (m : Snapshot) (af
   -- ---- processes
 
   -- where it is seen to wait as the source machine's process does
-  process-is : (p : ℕ) (ls : List Level) (q : Process) (operands : List Value) → wanted_by program p s ≡ wanted_by_levels program m ls operands → AreStanding program s m.nodes operands ls q → process_seen program m p ls operands ≡ process_view_of program s p q
-  process-is p [] [] operands waits h = refl
-  process-is p (l ∷ ls) (level ∷ levels) operands waits h =
+  process-is : (p : ℕ) (ls : List Level) (q : Process) (operands pending : List Value) → wanted_by program p s ≡ wanted_by_levels program m ls operands → AreStanding program s m.nodes operands pending ls q → process_seen program m p ls operands ≡ process_view_of program s p q
+  process-is p [] [] operands pending waits h = refl
+  process-is p (l ∷ ls) (level ∷ levels) operands pending waits h =
       let unit = h.0.here.unit in
       let line : line_ahead (drop l.index (unit_code program l.unit)) ≡ line_at (unit_at program (unit_of s level.activation)) level.statement =
       line-is (unit_addressed program l.unit) level.statement level.work operands l.index h.0.stands ∙ ap (λ u. line_at (unit_at program u) level.statement) (sym unit) in
       λ i. record { process = p; unit = sym unit i; line = line i; wanted = sym waits i } ∷ []
-  process-is p [] (level ∷ levels) operands waits h = absurd h
-  process-is p (l ∷ ls) [] operands waits h = absurd h
+  process-is p [] (level ∷ levels) operands pending waits h = absurd h
+  process-is p (l ∷ ls) [] operands pending waits h = absurd h
 
   processes-from : (p : ℕ) (ks : List Stack) (qs : List Process) → length ks ≡ length qs → ((i : ℕ) (k : Stack) → slice_get ks i ≡ Some k → wanted_by program (p + i) s ≡ wanted_by_stack program m (Some k))
-      → ((i : ℕ) (k : Stack) (q : Process) → slice_get ks i ≡ Some k → slice_get qs i ≡ Some q → AreStanding program s m.nodes k.operands k.levels q) → processes_seen program m p ks ≡ process_views_from program s p qs
+      → ((i : ℕ) (k : Stack) (q : Process) → slice_get ks i ≡ Some k → slice_get qs i ≡ Some q → AreStanding program s m.nodes k.operands k.pending k.levels q) → processes_seen program m p ks ≡ process_views_from program s p qs
   processes-from p [] [] long waits h = refl
   processes-from p (k ∷ ks) (q ∷ qs) long waits h =
-      let first = process-is p k.levels q k.operands (ap (λ n. wanted_by program n s) (let none : p ≡ p + 0 = omega arith in none) ∙ waits 0 k refl) (h 0 k q refl refl) in
+      let first = process-is p k.levels q k.operands k.pending (ap (λ n. wanted_by program n s) (let none : p ≡ p + 0 = omega arith in none) ∙ waits 0 k refl) (h 0 k q refl refl) in
       let rest = processes-from (suc p) ks qs (omega (arith, long)) (λ i j e. ap (λ n. wanted_by program n s) (let next : suc p + i ≡ p + suc i = omega arith in next) ∙ waits (suc i) j e) (λ i j r e f. h (suc i) j r e f) in
       λ i. first i ++ rest i
   processes-from p [] (q ∷ qs) long waits h = absurd (omega (arith, long))

@@ -79,8 +79,8 @@ module _ (program : Units) (u : ℕ) where
 pub record IsKnown (program : Units) (cells : ℕ) : Type 0 where
   pub turning : (choices : List ℕ) (m : Snapshot) (p : ℕ) (levels : HasLevels m p) → IsAfter program cells choices m → m.halted ≡ false
       → (top : SourceLevel × Process) × IsTurning (turn_with program cells choices levels top)
-  pub ended : (choices : List ℕ) (m : Snapshot) (p : ℕ) (operands : List Value) → IsAfter program cells choices m
-      → numbered m.processes p ≡ Some (record { levels = []; operands = operands }) → IsAbsent program cells choices p m
+  pub ended : (choices : List ℕ) (m : Snapshot) (p : ℕ) (operands pending : List Value) → IsAfter program cells choices m
+      → numbered m.processes p ≡ Some (record { levels = []; operands = operands; pending = pending }) → IsAbsent program cells choices p m
   pub none : (choices : List ℕ) (m : Snapshot) (p : ℕ) → IsAfter program cells choices m → numbered m.processes p ≡ None
       → IsAbsent program cells choices p m
   pub settled : (t : TurnOf) (operands : List Value) (index : ℕ) → IsTurning t
@@ -204,14 +204,14 @@ module _ (program : Units) (cells : ℕ) (known : IsKnown program cells) where
       | inr gone ↦ absent-waits-not program (run program choices) p gone
     ]
 
-    by-levels : (ls : List Level) (operands : List Value) → numbered m.processes p ≡ Some (record { levels = ls; operands = operands })
+    by-levels : (ls : List Level) (operands pending : List Value) → numbered m.processes p ≡ Some (record { levels = ls; operands = operands; pending = pending })
         → wanted_by program p now ≡ wanted_by_levels program m ls operands
-    by-levels [] operands e = of-absent (known.ended choices m p operands after e)
-    by-levels (l ∷ ls) operands e = seen-of-turning (known.turning choices m p (record { level = l; below = ls; operands = operands; kept = e }) after going).1 known
+    by-levels [] operands pending e = of-absent (known.ended choices m p operands pending after e)
+    by-levels (l ∷ ls) operands pending e = seen-of-turning (known.turning choices m p (record { level = l; below = ls; operands = operands; pending = pending; kept = e }) after going).1 known
 
     by-stack : (o : Option Stack) → numbered m.processes p ≡ o → wanted_by program p now ≡ wanted_by_stack program m o
     by-stack None e = of-absent (known.none choices m p after e)
-    by-stack (Some k) e = by-levels k.levels k.operands e
+    by-stack (Some k) e = by-levels k.levels k.operands k.pending e
 
     seen-going : wanted_by program p now ≡ wanted_seen program m p
     seen-going = by-stack (numbered m.processes p) refl

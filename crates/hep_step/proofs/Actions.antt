@@ -1,22 +1,27 @@
 -- Operations that leave the arena as it is: GO TO, computed GO TO, IF and what only goes on, PRINT, RETURN and END, STOP, CALL and CREATE.
 -- X3.9-1978, 11.1 to 11.12, 12.8, 15.6 and 15.8.
-use Rattle.std.proofs.Common.{◌≡◌, ℕ, Bool, true, false, List, [], ◌∷◌, refl, ap, sym, ◌∙◌, ◌++◌, map, length, subst, Err}
+use Rattle.std.proofs.Common.{◌≡◌, ℕ, ◌-◌, Bool, true, false, List, [], ◌∷◌, refl, ap, sym, ◌∙◌, ◌++◌, map, length, subst, Err, arith, drop, length-append, take}
+use Rattle.std.proofs.Math.Seq.{drop-append_seam}
 use Rattle.hep_machine.specs.Words.{integer_of, logical_of, label_by_sign, label_chosen, level_after_condition, level_after_statement, level_at_choice, level_at_label, level_in_block, Action, jumping, choosing, branching, testing_condition, entering_block, continuing, Next, does}
-use Rattle.hep_machine.specs.Words.{printing, leaving, stopping, Actual, calling, creating, Level, result_after_action, state_with_level, stepped, binding_of, result_after_call, result_after_create, result_after_fault, unit_called, Name}
+use Rattle.hep_machine.specs.Words.{printing, leaving, stopping, Actual, evaluated, referred, calling, creating, Top, Units, Value, unit_on_top, Level, result_after_action, state_with_level, stepped, binding_of, result_after_call, result_after_create, result_after_fault, Name}
 use Rattle.hep_code.specs.declared.instruction.Instruction.{Instruction}
-use Rattle.hep_code.specs.declared.instruction.Instruction.TheVariants.{Step, Show}
+use Rattle.hep_code.specs.declared.instruction.Instruction.TheVariants.{Pass, Step, Show}
+use Rattle.hep_code.specs.declared.variable.Variable.{Variable}
 use Rattle.hep_code.specs.declared.instruction.Operation.{Operation}
 use Rattle.hep_code.specs.declared.instruction.Operation.TheVariants.{Jump, Choose, BySign, Condition, Branch, Print, Return, Stop}
-use Rattle.hep_code.specs.Words.{Leads, Moves, led_to, AddressedUnit, operands_of_item, printed_item, items_from}
+use Rattle.hep_code.specs.Words.{Leads, Moves, led_to, AddressedUnit, argument_of_actual, operands_of_actual, operands_of_entries, operands_of_item, printed_item, items_from}
 use Rattle.hep_code.proofs.Leads.{operation_leads}
 use Rattle.hep_code.proofs.Moves.{Keeps, after_statement_keeps, at_choice_keeps, in_block_keeps}
 use Rattle.hep_step.specs.Effects.{moves, prints, returns, stops, fails}
-use Rattle.hep_step.specs.Simulation.{IsRunning, RunningTop, Simulates, addressed_on_top, code_ahead, counts_in, state_with_record, unit_running}
+use Rattle.hep_image.specs.Places.{variable_of}
+use Rattle.hep_step.specs.Simulation.{IsRunning, RunningTop, Simulates, addressed_on_top, code_ahead, counts_in, state_with_record, step_result_running, unit_running}
 use Rattle.hep_step.proofs.Running.{Comes, action_made, coming, fault_is, is_at, level_moves, next_is, reaches}
 use Rattle.std.specs.List.{flat_map}
 use Rattle.hep_code.proofs.Entries.{items_shown}
 use Rattle.hep_machine.specs.declared.event.Kind.{Kind}
-use Rattle.hep_step.specs.Calls.{IsCallAhead, made_by, making}
+use Rattle.hep_step.specs.declared.way.Way.{Way}
+use Rattle.hep_step.specs.declared.way.Way.TheVariants.{Calls, Creates}
+use Rattle.hep_step.specs.Calls.{IsCallAhead, comes_by, last_operands, making, unit_by}
 
 abbrev pub is_jump : Operation → Bool
 is_jump (Jump next) = true
@@ -104,23 +109,46 @@ module _ (r : RunningTop) (line : ℕ) (behind : List Instruction) (running : Is
 
   -- ---- CALL and CREATE: what they make an activation of, and the fault where an actual argument has none to stand for
 
-  module _ (creates : Bool) (u count next : ℕ) (ahead : code_ahead r ≡ Step line (making creates u count next) ∷ behind) where
-    call_by : (c : Bool) (n : Next) → coming r ≡ n → Comes r n (making c u count next) behind → IsCallAhead c r.program r.top r.operands u count next behind
-    call_by false (does (calling name actuals)) is h =
-        record { name = name; actuals = actuals; does_so = is; unit = cc h.operation; counted = cc h.operation; onward = cc h.operation; operands_are = h.operands_are; more = h.more; entries = h.entries }
-    call_by true (does (creating name actuals)) is h =
-        record { name = name; actuals = actuals; does_so = is; unit = cc h.operation; counted = cc h.operation; onward = cc h.operation; operands_are = h.operands_are; more = h.more; entries = h.entries }
-    call_by false _ is h = absurd (cc h.operation)
-    call_by true _ is h = absurd (cc h.operation)
+  module _ (way : Way) (u count next : ℕ) (ahead : code_ahead r ≡ Step line (making way u count next) ∷ behind) where
+    call_by : (w : Way) (n : Next) → coming r ≡ n → Comes r n (making w u count next) behind → IsCallAhead w r.program r.top r.operands u count next behind
+    call_by Calls (does (calling name actuals)) is h =
+        record { name = name; actuals = actuals; does_so = is; unit = cc h.operation; counted = cc h.operation; onward = cc h.operation; before = []; operands_are = h.operands_are; alone = refl; more = h.more; entries = h.entries }
+    call_by Creates (does (creating name actuals)) is h =
+        record { name = name; actuals = actuals; does_so = is; unit = cc h.operation; counted = cc h.operation; onward = cc h.operation; before = []; operands_are = h.operands_are; alone = refl; more = h.more; entries = h.entries }
+    call_by Calls _ is h = absurd (cc h.operation)
+    call_by Creates _ is h = absurd (cc h.operation)
 
-    pub call_ahead : IsCallAhead creates r.program r.top r.operands u count next behind
-    call_ahead = call_by creates (coming r) refl (next_is r running line (making creates u count next) behind ahead)
+    pub call_ahead : IsCallAhead way r.program r.top r.operands u count next behind
+    call_ahead = call_by way (coming r) refl (next_is r running line (making way u count next) behind ahead)
 
-    unmade : (c : Bool) (name : Name) (actuals : List Actual) (k : Kind) → u ≡ unit_called r.program name → binding_of r.program r.top u actuals ≡ Err k → result_after_action r.program r.top (made_by c name actuals) ≡ result_after_fault r.program r.top k
-    unmade false name actuals k same none = ap (λ v. result_after_call r.program r.top v (binding_of r.program r.top v actuals)) (sym same) ∙ ap (result_after_call r.program r.top u) none
-    unmade true name actuals k same none = ap (λ v. result_after_create r.program r.top v (binding_of r.program r.top v actuals)) (sym same) ∙ ap (result_after_create r.program r.top u) none
+    unmade : (w : Way) (name : Name) (actuals : List Actual) (k : Kind) → coming r ≡ comes_by w name actuals → u ≡ unit_by w r.program name → binding_of r.program r.top u actuals ≡ Err k → step_result_running r ≡ result_after_fault r.program r.top k
+    unmade Calls name actuals k is same none = action_made r running (calling name actuals) is ∙ (ap (λ v. result_after_call r.program r.top v (binding_of r.program r.top v actuals)) (sym same) ∙ ap (result_after_call r.program r.top u) none)
+    unmade Creates name actuals k is same none = action_made r running (creating name actuals) is ∙ (ap (λ v. result_after_create r.program r.top v (binding_of r.program r.top v actuals)) (sym same) ∙ ap (result_after_create r.program r.top u) none)
 
-    pub call_fails : (calls : IsCallAhead creates r.program r.top r.operands u count next behind) (k : Kind) → binding_of r.program r.top u calls.actuals ≡ Err k → Simulates r (fails line k)
-    call_fails calls k none =
-        fault_is r running line (making creates u count next) behind ahead k (
-        action_made r running (made_by creates calls.name calls.actuals) calls.does_so ∙ unmade creates calls.name calls.actuals k calls.unit none)
+    pub call_fails : (calls : IsCallAhead way r.program r.top r.operands u count next behind) (k : Kind) → binding_of r.program r.top u calls.actuals ≡ Err k → Simulates r (fails line k)
+    call_fails calls k none = fault_is r running line (making way u count next) behind ahead k (unmade way calls.name calls.actuals k calls.does_so calls.unit none)
+
+-- ---- what they pass
+
+-- entries pass as many operands as the actual arguments that they are of
+actuals_counted : (variables : Name → Variable) (actuals : List Actual) (more : List Instruction)
+    → operands_of_entries (take (length actuals) (map (λ a. Pass (argument_of_actual variables a)) actuals ++ more)) ≡ length (flat_map operands_of_actual actuals)
+actuals_counted variables [] more = refl
+actuals_counted variables (evaluated v ∷ actuals) more = let rest = actuals_counted variables actuals more in omega (arith, rest)
+actuals_counted variables (referred x ∷ actuals) more =
+    let rest = actuals_counted variables actuals more in
+    omega (arith, rest, length-append x.1 (flat_map operands_of_actual actuals))
+
+-- what stands behind others
+drop-front : {A : Type 0} (xs ys : List A) (n : ℕ) → n ≡ length ys → drop (length (xs ++ ys) - n) (xs ++ ys) ≡ ys
+drop-front xs ys n same =
+    let many : length (xs ++ ys) - n ≡ length xs = omega (arith, same, length-append xs ys) in
+    ap (λ m. drop m (xs ++ ys)) many ∙ drop-append_seam xs ys
+
+pub passed_last : {way : Way} {program : Units} {t : Top} {operands : List Value} {u count next : ℕ} {behind : List Instruction} (calls : IsCallAhead way program t operands u count next behind)
+    → last_operands count behind operands ≡ flat_map operands_of_actual calls.actuals
+passed_last {way} {program} {t} {operands} {u} {count} {next} {behind} calls =
+    let own = flat_map operands_of_actual calls.actuals in
+    let many : operands_of_entries (take count behind) ≡ length own =
+    (λ i. operands_of_entries (take (calls.counted i) (calls.entries i))) ∙ actuals_counted (variable_of program (unit_on_top program t)) calls.actuals calls.more in
+    ap (λ vs. drop (length vs - operands_of_entries (take count behind)) vs) calls.operands_are ∙ drop-front calls.before own (operands_of_entries (take count behind)) many

@@ -34,6 +34,7 @@ pub struct Numbered {
 /// # Errors
 ///
 /// `Range` where there is no such element, and where a scalar has subscripts.
+#[inline(always)]
 pub fn address(
     arena: &Arena,
     frame: Frame,
@@ -59,6 +60,7 @@ pub fn address(
 }
 
 // That of a scalar, which has no subscripts.
+#[inline(always)]
 fn of_scalar(arena: &Arena, frame: Frame, start: Start, subscripts: &[Value]) -> Result<u32, Kind>
     requires frame { HasFrame arena.now frame }
     requires inside { IsStartIn frame.cells start }

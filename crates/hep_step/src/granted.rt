@@ -35,6 +35,7 @@ impl Obstacle {
 }
 
 // Makes an access to the cell at an address, which has to be out, where it gives a value.
+#[inline(always)]
 fn accessed(arena: &mut Arena, at: u32, outcome: AccessOutcome) -> Result<Value, Obstacle>
     requires inside { at < length arena.old.contents }
     requires out { IsOut at arena.old.holes }
@@ -54,6 +55,7 @@ fn accessed(arena: &mut Arena, at: u32, outcome: AccessOutcome) -> Result<Value,
 }
 
 /// The value of a reply, once the access is made that it asks for. Where there is none, nothing has changed.
+#[inline(always)]
 pub(crate) fn granted(arena: &mut Arena, reply: Reply) -> Result<Value, Obstacle>
     requires reached { IsReplyReached arena.old reply }
     requires few { length arena.old.contents ≤ most_cells }

@@ -1,6 +1,7 @@
 //! Laws of steps: what an operation does to the arena and to the operands is what the source machine does.
-ghost use Rattle.std.specs.Prelude.{◌≡◌, ◌≤◌, ◌∷◌, ℕ, Bool, List, Err, length};
-ghost use Rattle.hep_machine.specs.Words.{binding_of};
+ghost use Rattle.std.specs.Prelude.{◌≡◌, ◌≤◌, ◌∷◌, ℕ, List, Err, length};
+ghost use Rattle.std.specs.List.{flat_map};
+ghost use Rattle.hep_machine.specs.Words.{Top, Units, Value, binding_of};
 ghost use Rattle.hep_machine.specs.declared.event.Kind.{Kind};
 ghost use Rattle.hep_code.specs.declared.instruction.Evaluation.{Evaluation};
 ghost use Rattle.hep_code.specs.declared.instruction.Instruction.{Instruction};
@@ -8,10 +9,11 @@ ghost use Rattle.hep_code.specs.declared.instruction.Instruction.TheVariants.{St
 ghost use Rattle.hep_code.specs.declared.instruction.Operation.TheVariants.{Evaluate, Store, Jump, Choose, BySign, Condition, Branch};
 ghost use Rattle.hep_code.specs.declared.instruction.Operation.TheVariants.{EnterLoop, EndLoop, Print, Return, Stop};
 ghost use Rattle.hep_code.specs.declared.variable.Variable.{Variable};
-ghost use Rattle.hep_code.specs.Words.{IsPastPushes, deepest};
+ghost use Rattle.hep_code.specs.Words.{IsPastPushes, deepest, operands_of_actual};
 ghost use Rattle.hep_image.specs.Image.{most_cells};
 ghost use Rattle.hep_layout_laws.specs.Within.{ArePlacedArrays};
-ghost use Rattle.hep_step.specs.Calls.{IsCallAhead, making};
+ghost use Rattle.hep_step.specs.declared.way.Way.{Way};
+ghost use Rattle.hep_step.specs.Calls.{IsCallAhead, last_operands, making};
 ghost use Rattle.hep_step.specs.Effects.{effect_at, fails};
 ghost use Rattle.hep_step.specs.Ready.{IsReady, frame_in_arena};
 ghost use Rattle.hep_step.specs.Simulation.{IsNotLeftOut, IsRunning, IsSimulated, RunningTop, Simulates, arrays_running, code_ahead};
@@ -68,15 +70,18 @@ pub fn runs_stop()
 {}
 
 /// CALL (15.6.2) and CREATE: where one stands ahead, the source machine calls or creates its subroutine, with the actual arguments
-/// that the operands and the entries behind it pass; and where these bind no dummy arguments, there is the same fault.
+/// that the last operands and the entries behind it pass; and where these bind no dummy arguments, there is the same fault.
 pub fn calls_are_ahead()
-    ensures ahead { (creates : Bool) (r : RunningTop) (line u count next : ℕ) (behind : List Instruction)
-        → IsRunning r → code_ahead r ≡ Step line (making creates u count next) ∷ behind
-        → IsCallAhead creates r.program r.top r.operands u count next behind }
-    ensures fails { (creates : Bool) (r : RunningTop) (line u count next : ℕ) (behind : List Instruction)
-        → IsRunning r → code_ahead r ≡ Step line (making creates u count next) ∷ behind
-        → (calls : IsCallAhead creates r.program r.top r.operands u count next behind) (k : Kind)
+    ensures ahead { (way : Way) (r : RunningTop) (line u count next : ℕ) (behind : List Instruction)
+        → IsRunning r → code_ahead r ≡ Step line (making way u count next) ∷ behind
+        → IsCallAhead way r.program r.top r.operands u count next behind }
+    ensures fails { (way : Way) (r : RunningTop) (line u count next : ℕ) (behind : List Instruction)
+        → IsRunning r → code_ahead r ≡ Step line (making way u count next) ∷ behind
+        → (calls : IsCallAhead way r.program r.top r.operands u count next behind) (k : Kind)
         → binding_of r.program r.top u calls.actuals ≡ Err k → Simulates r (fails line k) }
+    ensures last { (way : Way) (program : Units) (t : Top) (operands : List Value) (u count next : ℕ) (behind : List Instruction)
+        → (calls : IsCallAhead way program t operands u count next behind)
+        → last_operands count behind operands ≡ flat_map operands_of_actual calls.actuals }
 {}
 
 /// Where no value stands ahead that is to be put behind the operands, whatever operation stands there does what

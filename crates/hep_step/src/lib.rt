@@ -18,9 +18,11 @@ mod printing;
 pub mod reply;
 mod storage;
 mod values;
+pub mod way;
 
 pub use effect::Effect;
 pub use finding::address;
 pub use frame::{Frame, counts};
 pub use performing::perform;
 pub use reply::{Reply, reply_of, reply_to_store};
+pub use way::Way;

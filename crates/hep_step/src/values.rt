@@ -27,6 +27,7 @@ fn replace(operands: &mut Vec<Value>, kept: usize, value: Value)
 }
 
 /// Does an operation that gives a value: the value is in the place of its operands then.
+#[inline(always)]
 pub(crate) fn evaluate(
     storage: &Storage<'_>,
     arena: &mut Arena,
@@ -73,6 +74,7 @@ fn value_and_subscripts(operands: &[Value]) -> (Value, &[Value])
 }
 
 /// Does an assignment: its value is in the cell, and the activation goes on at this index (10.1 and 10.2).
+#[inline(always)]
 pub(crate) fn store(
     storage: &Storage<'_>,
     arena: &mut Arena,

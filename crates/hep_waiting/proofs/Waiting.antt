@@ -77,12 +77,12 @@ module _ (program : Units) (cells : ℕ) (choices : List ℕ) (m : Machine) (h :
   nodes = nodes_of m.frames.nodes
 
   top-by : (p : ℕ) (top : SourceLevel × Process) (k : Stack) → numbered (snapshot_of m).processes p ≡ Some k
-      → (ls : List Level) → k.levels ≡ ls → AreStanding program s nodes k.operands ls (top.0 ∷ top.1) → IsTop program s m p top
+      → (ls : List Level) → k.levels ≡ ls → AreStanding program s nodes k.operands k.pending ls (top.0 ∷ top.1) → IsTop program s m p top
   top-by p top k kept [] is stands = absurd stands
   top-by p top k kept (l ∷ ls) is stands =
       let here = stands.0.here in
       record {
-        levels = record { level = l; below = ls; operands = k.operands; kept = kept ∙ (λ i. Some (record { levels = is i; operands = k.operands })) };
+        levels = record { level = l; below = ls; operands = k.operands; pending = k.pending; kept = kept ∙ (λ i. Some (record { levels = is i; operands = k.operands; pending = k.pending })) };
         inside = here.inside;
         there = (here.node, here.there, here.activation);
         unit = here.unit;

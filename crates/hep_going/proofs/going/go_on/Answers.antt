@@ -46,19 +46,20 @@ go_top-requires c =
       l = e.level;
       ls = e.below;
       operands = e.operands;
+      pending = e.pending;
       stack = it.stack;
       inside = inside turn.1;
       there = top-node turn.1;
-      ready = can-go t (known (goal.at.go_top-requires c).After-purges_stand_ahead t refl h.few) turn.1 (vec_capacity q.operands) (h.room (p - 1) q it.there _ e.level (last-there q e.level e.below e.operands it.stack));
+      ready = can-go t (known (goal.at.go_top-requires c).After-purges_stand_ahead t refl h.few) turn.1 (vec_capacity q.operands) (h.room (p - 1) q it.there _ e.level (last-there q e.level e.below e.operands e.pending it.stack));
     }
 
 -- what the machine shows, where a process has another stack and cells of the arena have changed
-shown-now : (m : Machine) (p : ℕ) (r : Process) (frames : Frames) (l : Level) (ls : List Level) (left : List Value) (next : ℕ) → stack_of r ≡ stack_with (record l { index = next }) ls left
+shown-now : (m : Machine) (p : ℕ) (r : Process) (frames : Frames) (l : Level) (ls : List Level) (left pending : List Value) (next : ℕ) → stack_of r ≡ stack_with (record l { index = next }) ls left pending
     → frames.arena.holes ≡ m.frames.arena.holes → frames.nodes ≡ m.frames.nodes
-    → snapshot_of (record m { frames = frames; processes = with_item m.processes (p - 1) r }) ≡ with_stack (with_contents (snapshot_of m) frames.arena.contents) p (record l { index = next } ∷ ls) left
-shown-now m p r frames l ls left next stack holes nodes =
-    let stacks = stacks-set m.processes.items p r (stack_with (record l { index = next }) ls left) stack in
-    λ i. record (with_stack (with_contents (snapshot_of m) frames.arena.contents) p (record l { index = next } ∷ ls) left) {
+    → snapshot_of (record m { frames = frames; processes = with_item m.processes (p - 1) r }) ≡ with_stack (with_contents (snapshot_of m) frames.arena.contents) p (record l { index = next } ∷ ls) left pending
+shown-now m p r frames l ls left pending next stack holes nodes =
+    let stacks = stacks-set m.processes.items p r (stack_with (record l { index = next }) ls left pending) stack in
+    λ i. record (with_stack (with_contents (snapshot_of m) frames.arena.contents) p (record l { index = next } ∷ ls) left pending) {
       arena = record { contents = frames.arena.contents; holes = holes i };
       nodes = nodes_of (nodes i);
       processes = stacks i;
@@ -76,16 +77,17 @@ returns-clause-gone c cells choices h =
     let l = e.level in
     let ls = e.below in
     let vs = e.operands in
+    let ws = e.pending in
     let it = process-at old.processes.items p e.kept c.index_mut-process.ensures.value in
     let turn = turning p h.after e c.requires.running in
     let t = turn_with program cells choices e turn.0 in
-    let a = done.gone l ls vs it.stack in
+    let a = done.gone l ls vs ws it.stack in
     let come = come-so t (known (goal.at.returns-clause-gone c).After-purges_stand_ahead t refl h.few) turn.1 c.go_top.result (step.snapshot c.go_top.new.frames.arena.contents a.left a.next) a.gone in
-    let shown = shown-now old p r c.go_top.new.frames l ls a.left a.next a.stack done.holes done.nodes in (
+    let shown = shown-now old p r c.go_top.new.frames l ls a.left ws a.next a.stack done.holes done.nodes in (
       come.after,
       come.gone,
       machine-of program cells come.after _ (subst (IsAfter program cells come.after) (sym shown) come.turns.after) (
-          rooms-set program cells old _ (p - 1) r refl refl (room-moved program q r l a.next ls vs a.left it.stack a.stack done.capacity (h.room (p - 1) q it.there)) (rooms-of program cells choices old h)),
+          rooms-set program cells old _ (p - 1) r refl refl (room-moved program q r l a.next ls vs a.left ws it.stack a.stack done.capacity (h.room (p - 1) q it.there)) (rooms-of program cells choices old h)),
     )
 
 pub returns-clause-all : goal.returns-clause-all
@@ -95,14 +97,15 @@ returns-clause-all c fewer =
     let r = c.go_top.new.process in
     let e = c.requires.living in
     let it = process-at old.processes.items p e.kept c.index_mut-process.ensures.value in
-    let a = c.go_top.ensures.gone e.level e.below e.operands it.stack in
-    let k = stack_with (record e.level { index = a.next }) e.below a.left in
+    let a = c.go_top.ensures.gone e.level e.below e.operands e.pending it.stack in
+    let k = stack_with (record e.level { index = a.next }) e.below a.left e.pending in
     record {
       living = record {
         level = record e.level { index = a.next };
         below = e.below;
         operands = a.left;
-        kept = ap (λ ks. numbered ks p) (stacks-set old.processes.items p r k a.stack) ∙ set-numbered (snapshot_of old).processes p (stack_with e.level e.below e.operands) k e.kept;
+        pending = e.pending;
+        kept = ap (λ ks. numbered ks p) (stacks-set old.processes.items p r k a.stack) ∙ set-numbered (snapshot_of old).processes p (stack_with e.level e.below e.operands e.pending) k e.kept;
       };
       none = carry (λ i. HasNoMoveAt c.args.image.now (nodes_of (sym c.go_top.ensures.nodes i)) e.level (step.snapshot c.go_top.new.frames.arena.contents a.left a.next)) (a.all fewer);
     }

@@ -18,17 +18,17 @@ use Rattle.hep_state.proofs.advancing.advance.Goals.{After-deref, After-stand_at
 use Rattle.hep_state.proofs.advancing.advance.Goals as goal
 
 pub place-index-requires : goal.place-index-requires
-place-index-requires c = let r = c.requires in (r.l, r.ls, r.operands, r.stack, (r.inside, r.there))
+place-index-requires c = let r = c.requires in (r.l, r.ls, r.operands, r.pending, r.stack, (r.inside, r.there))
 
 -- what is ahead can be done, by the code, the arrays and the frame that were read
 ready-here : (c : After-deref) → IsReady c.as_slice-code.result.now c.as_slice-arrays.result.now c.args.frames.now.arena c.place-index.result.1 c.args.process.now.operands.items (vec_capacity c.args.process.now.operands) c.place-index.result.2
 ready-here c =
     let r = c.requires in
     let q = c.args.process.now in
-    let at = c.place-index.ensures r.l r.ls r.operands r.stack in
+    let at = c.place-index.ensures r.l r.ls r.operands r.pending r.stack in
     let code = sym (c.as_slice-code.ensures ∙ at.code.code) in
     let arrays = sym (c.as_slice-arrays.ensures ∙ at.code.arrays) in
-    let vs = sym (operands-are q r.l r.ls r.operands r.stack) in
+    let vs = sym (operands-are q r.l r.ls r.operands r.pending r.stack) in
     carry (λ i. IsReady (code i) (arrays i) c.args.frames.now.arena (sym at.framed i) (vs i) (vec_capacity q.operands) (sym at.at i)) r.ready
 
 pub touched-touched-requires : goal.touched-touched-requires
@@ -42,51 +42,51 @@ perform-performed-requires c = record { ready = ready-here (goal.at.perform-perf
 pub stand_at-requires : goal.stand_at-requires
 stand_at-requires c =
     let r = c.requires in
-    some-levels c.args.process.now r.l r.ls r.operands r.stack
+    some-levels c.args.process.now r.l r.ls r.operands r.pending r.stack
 
 -- what the operation ahead of a level is about: by what was read, or by what the machine keeps
-of-level : (c : After-stand_at) (l : Level) (ls : List Level) (operands : List Value) → stack_of c.args.process.now ≡ stack_with l ls operands → (P : List Instruction → List Array → ℕ → List Value → ℕ → Type 0)
+of-level : (c : After-stand_at) (l : Level) (ls : List Level) (operands pending : List Value) → stack_of c.args.process.now ≡ stack_with l ls operands pending → (P : List Instruction → List Array → ℕ → List Value → ℕ → Type 0)
     → P c.as_slice-code.result.now c.as_slice-arrays.result.now c.place-index.result.1.first c.args.process.now.operands.items c.place-index.result.2
     → P (unit_code c.args.image.now l.unit) (unit_arrays c.args.image.now l.unit) (node_under (nodes_of c.args.frames.now.nodes) l.key).first operands l.index
-of-level c l ls operands is P h =
-    let at = c.place-index.ensures l ls operands is in
+of-level c l ls operands pending is P h =
+    let at = c.place-index.ensures l ls operands pending is in
     let code = c.as_slice-code.ensures ∙ at.code.code in
     let arrays = c.as_slice-arrays.ensures ∙ at.code.arrays in
-    carry (λ i. P (code i) (arrays i) (at.framed i).first (operands-are c.args.process.now l ls operands is i) (at.at i)) h
+    carry (λ i. P (code i) (arrays i) (at.framed i).first (operands-are c.args.process.now l ls operands pending is i) (at.at i)) h
 
 -- what was left
 abbrev left : After-stand_at → performed.Snapshot
 left c = snapshot c.perform-performed.new.arena.contents c.perform-performed.new.operands.items c.perform-performed.new.index
 
-stood : (c : After-stand_at) (l : Level) (ls : List Level) (operands : List Value) → stack_of c.args.process.now ≡ stack_with l ls operands
-    → stack_of c.stand_at.new.self ≡ stack_with (record l { index = c.perform-performed.new.index }) ls c.perform-performed.new.operands.items
-stood c l ls operands is = c.stand_at.ensures.stack l ls c.perform-performed.new.operands.items (λ i. record { levels = (is i).levels; operands = c.perform-performed.new.operands.items })
+stood : (c : After-stand_at) (l : Level) (ls : List Level) (operands pending : List Value) → stack_of c.args.process.now ≡ stack_with l ls operands pending
+    → stack_of c.stand_at.new.self ≡ stack_with (record l { index = c.perform-performed.new.index }) ls c.perform-performed.new.operands.items pending
+stood c l ls operands pending is = c.stand_at.ensures.stack l ls c.perform-performed.new.operands.items pending (λ i. record { levels = (is i).levels; operands = c.perform-performed.new.operands.items; pending = (is i).pending })
 
 pub returns-clause-advanced : goal.returns-clause-advanced
-returns-clause-advanced c l ls operands is =
+returns-clause-advanced c l ls operands pending is =
     let at = (goal.at.returns-clause-advanced c).After-stand_at in
     let before = c.args.frames.now.arena in
     record {
       next = c.perform-performed.new.index;
       left = c.perform-performed.new.operands.items;
-      stack = stood at l ls operands is;
-      performed = of-level at l ls operands is (λ code arrays first ws index. IsPerformed (effect_at code arrays first before.contents ws index) (snapshot before.contents ws index) c.in_ok-performed.field-0 (left at)) c.in_ok-performed.ensures.performed;
+      stack = stood at l ls operands pending is;
+      performed = of-level at l ls operands pending is (λ code arrays first ws index. IsPerformed (effect_at code arrays first before.contents ws index) (snapshot before.contents ws index) c.in_ok-performed.field-0 (left at)) c.in_ok-performed.ensures.performed;
       refused = tt;
     }
 
 pub returns-in_err-performed-clause-advanced : goal.returns-in_err-performed-clause-advanced
-returns-in_err-performed-clause-advanced c l ls operands is =
+returns-in_err-performed-clause-advanced c l ls operands pending is =
     let at = (goal.at.returns-in_err-performed-clause-advanced c).After-stand_at in
     record {
       next = c.perform-performed.new.index;
       left = c.perform-performed.new.operands.items;
-      stack = stood at l ls operands is;
+      stack = stood at l ls operands pending is;
       performed = IfOk-from_err c.from_residual.result _ c.from_residual.ensures.0;
       refused = on-err c.from_residual.result c.from_residual.ensures.0 (
-          of-level at l ls operands is (λ code arrays first ws index. left at ≡ snapshot c.args.frames.now.arena.contents ws index) c.in_err-performed.ensures.refused);
+          of-level at l ls operands pending is (λ code arrays first ws index. left at ≡ snapshot c.args.frames.now.arena.contents ws index) c.in_err-performed.ensures.refused);
     }
 
 pub returns-clause-touched : goal.returns-clause-touched
-returns-clause-touched c l ls operands is =
-    of-level (goal.at.returns-clause-touched c).After-stand_at l ls operands is (λ code arrays first ws index. c.touched-touched.result ≡ touched_at code arrays first c.args.frames.now.arena.contents ws index) (
+returns-clause-touched c l ls operands pending is =
+    of-level (goal.at.returns-clause-touched c).After-stand_at l ls operands pending is (λ code arrays first ws index. c.touched-touched.result ≡ touched_at code arrays first c.args.frames.now.arena.contents ws index) (
     c.touched-touched.ensures.touched ∙ ap (λ vs. touched_at c.as_slice-code.result.now c.as_slice-arrays.result.now c.place-index.result.1.first c.args.frames.now.arena.contents vs c.place-index.result.2) c.deref.ensures.value)

@@ -5,18 +5,20 @@ use Rattle.hep_state.specs.declared.machine.Level.{Level}
 use Rattle.hep_state.specs.Words.{Stack, stack_of, stack_with}
 use Rattle.hep_state.proofs.calling.put_above.Goals as goal
 
-stack-is : (c : goal.After-append) (l : Level) (ls : List Level) (operands : List Value) → stack_of c.args.process.now ≡ stack_with l ls operands
-    → stack_of (record { levels = c.append.new.items; operands = c.go_on.new.process.operands }) ≡ record { levels = c.args.level ∷ (record l { index = c.args.index } ∷ ls); operands = [] }
-stack-is c l ls operands is =
-    let below = c.go_on.ensures.stack l ls operands is in
-    let above = ap reverse c.append.ensures ∙ reverse-append c.go_on.new.process.levels.items (c.args.level ∷ []) in
+stack-is : (c : goal.After-append) (l : Level) (ls : List Level) (operands pending : List Value) → stack_of c.args.process.now ≡ stack_with l ls operands pending
+    → stack_of (record c.put_top.new.self { levels = c.append.new.items; operands = c.clear.new.self }) ≡ stack_with c.args.level (record l { kept = 0; index = c.args.index } ∷ ls) [] pending
+stack-is c l ls operands pending is =
+    let same = ap (λ (k : Level). record k { kept = 0; index = c.args.index }) (c.top.ensures l ls operands pending is) in
+    let below = c.put_top.ensures.stack l ls operands pending is in
+    let above = ap reverse c.append.ensures ∙ reverse-append c.put_top.new.self.levels.items (c.args.level ∷ []) in
     λ i. record {
-      levels = (above ∙ ap (λ (k : Stack). c.args.level ∷ k.levels) below) i;
-      operands = (below i).operands;
+      levels = (above ∙ (ap (λ (k : Stack). c.args.level ∷ k.levels) below ∙ ap (λ k. c.args.level ∷ (k ∷ ls)) same)) i;
+      operands = c.clear.ensures.items i;
+      pending = (below i).pending;
     }
 
-pub returns : goal.returns
-returns c = record { stack = stack-is c; operands = c.go_on.ensures.operands }
+pub returns-clause-stack : goal.returns-clause-stack
+returns-clause-stack c = stack-is c
 
 pub append-requires : goal.append-requires
-append-requires c = omega (arith, c.requires.room, c.go_on.ensures.count, c.go_on.ensures.capacity)
+append-requires c = omega (arith, c.requires.room, c.put_top.ensures.count, c.put_top.ensures.capacity)

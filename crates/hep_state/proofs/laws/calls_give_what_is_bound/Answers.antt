@@ -1,20 +1,31 @@
-use Rattle.std.proofs.Common.{◌≡◌, true, is_some}
-use Rattle.hep_machine.specs.Words.{Units, main_among, unit_at, next_activation, scope_of}
+use Rattle.std.proofs.Common.{◌≡◌, ℕ, true, is_some, List, Some, slice_get}
+use Rattle.hep_machine.specs.Words.{Actual, Name, Units, dummies_of, main_among, unit_at, next_activation, scope_of}
 use Rattle.hep_machine.specs.declared.event.Kind.TheVariants.{Shape}
 use Rattle.hep_state.specs.Words.{state_before}
 use Rattle.hep_conditions.specs.Words.{IsAccepted}
 use Rattle.hep_image.specs.Dummies.{dummy_arguments}
 use Rattle.hep_shaping.specs.Fitting.{shapes_of}
+use Rattle.hep_step.specs.declared.way.Way.{Way}
+use Rattle.hep_step.specs.declared.way.Way.TheVariants.{Calls, Creates}
+use Rattle.hep_step.specs.Calls.{unit_by}
+use Rattle.hep_code_laws.specs.Actuals.{FitsDummy}
+use Rattle.hep_code_laws.specs.Works.{IsCalledBy}
 use Rattle.hep_state.proofs.Callers.{IsKnownToBind, actuals, called-so, dummies-given, fault-ends, frameless, range-bound, called-inside}
 use Rattle.hep_image.proofs.Numbers.{unit-there}
 use Rattle.hep_state.proofs.laws.calls_give_what_is_bound.Goals as goal
+
+-- the actual arguments of a CALL, and of a CREATE, fit
+fit-so : goal.After-programs_are_known → (program : Units) → IsAccepted program → (way : Way) (u k j : ℕ) (x y : Name) (actuals : List Actual) (a : Actual) → IsCalledBy (unit_at program u) k x actuals
+    → slice_get (dummies_of (unit_at program (unit_by way program x))) j ≡ Some y → slice_get actuals j ≡ Some a → FitsDummy (unit_at program u) (unit_at program (unit_by way program x)) y a
+fit-so c program accepted Calls u k j x y actuals a = c.actual_arguments_fit.ensures program u k j x y actuals a accepted
+fit-so c program accepted Creates u k j x y actuals a = c.actual_arguments_fit.ensures program u k j x y actuals a accepted
 
 all-known : goal.After-programs_are_known → (program : Units) → IsAccepted program → is_some (main_among program) ≡ true → IsKnownToBind program
 all-known c program accepted main =
     record {
       known = c.programs_are_known.ensures program accepted main;
       distinct = λ u inside i j x. c.names_are_given_once.ensures.dummies program u i j (unit_at program u) x accepted (unit-there program u inside);
-      fits = λ u k j x y actuals a. c.actual_arguments_fit.ensures program u k j x y actuals a accepted;
+      fits = fit-so c program accepted;
       placed = λ unit x. c.variables_are_placed.ensures program unit x;
       passed = c.all_actuals_are_passed.ensures.entries;
       made = c.calls_make_activations.ensures;

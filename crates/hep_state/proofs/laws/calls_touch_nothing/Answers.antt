@@ -1,6 +1,8 @@
-use Rattle.std.proofs.Common.{◌≡◌, true, false, ℕ, refl, sym, ◌∙◌}
+use Rattle.std.proofs.Common.{◌≡◌, true, ℕ, refl, sym, ◌∙◌}
 use Rattle.std.proofs.lemmas.Option.{none-some}
 use Rattle.hep_code.specs.declared.instruction.Operation.TheVariants.{Purge}
+use Rattle.hep_step.specs.declared.way.Way.{Way}
+use Rattle.hep_step.specs.declared.way.Way.TheVariants.{Calls, Creates}
 use Rattle.hep_step.specs.Calls.{making}
 use Rattle.hep_step.specs.Simulation.{is_left_out}
 use Rattle.hep_state.specs.Words.{running_top}
@@ -9,22 +11,22 @@ use Rattle.hep_state.proofs.laws.calls_touch_nothing.Goals as goal
 use Rattle.std.proofs.lemmas.Bool.{false_from_ne_true}
 
 -- CALL and CREATE are no PURGE, and are left out of the operations that the laws of steps are about
-making-left-out : (creates : _) (u count next : ℕ) → is_left_out (making creates u count next) ≡ true
-making-left-out false u count next = refl
-making-left-out true u count next = refl
+making-left-out : (way : Way) (u count next : ℕ) → is_left_out (making way u count next) ≡ true
+making-left-out Calls u count next = refl
+making-left-out Creates u count next = refl
 
-making-is-none : (creates : _) (u count next n k : ℕ) → making creates u count next ≡ Purge n k → ⊥
-making-is-none false u count next n k e = cc
-making-is-none true u count next n k e = cc
+making-is-none : (way : Way) (u count next n k : ℕ) → making way u count next ≡ Purge n k → ⊥
+making-is-none Calls u count next n k e = cc
+making-is-none Creates u count next n k e = cc
 
 pub returns : goal.returns
 returns c t call accepted main at =
     let runs = c.tops_are_running.ensures.running t accepted main at.turning in
-    let o = making call.creates call.unit call.count call.next in
+    let o = making call.way call.unit call.count call.next in
     let purge = c.purges_stand_ahead.ensures (running_top t at.turning) call.line o at.behind runs (ahead-on-top at) in
     let untouched =
-    c.calls_and_purges_never_wait.ensures.touches (running_top t at.turning) call.line o at.behind runs (ahead-on-top at) (making-left-out call.creates call.unit call.count call.next) in
+    c.calls_and_purges_never_wait.ensures.touches (running_top t at.turning) call.line o at.behind runs (ahead-on-top at) (making-left-out call.way call.unit call.count call.next) in
     record {
-      plain = false_from_ne_true _ (λ is. let told = purge is in absurd (making-is-none call.creates call.unit call.count call.next told.0 told.1 told.2));
+      plain = false_from_ne_true _ (λ is. let told = purge is in absurd (making-is-none call.way call.unit call.count call.next told.0 told.1 told.2));
       told = λ layout location laid touched. absurd (none-some location (sym untouched ∙ touched));
     }

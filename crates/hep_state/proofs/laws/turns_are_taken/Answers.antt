@@ -8,7 +8,7 @@ pub returns-clause-halted : goal.returns-clause-halted
 returns-clause-halted c program cells choices m p after halted = absent-halted p after halted
 
 pub returns-clause-ended : goal.returns-clause-ended
-returns-clause-ended c program cells choices m p operands after kept = absent-ended p after operands kept
+returns-clause-ended c program cells choices m p operands pending after kept = absent-ended p after operands pending kept
 
 pub returns-clause-none : goal.returns-clause-none
 returns-clause-none c program cells choices m p after none = absent-none p after none

@@ -17,4 +17,4 @@ returns c levels =
     let q = c.index.result.now in
     let it = process-at c.args.machine.now.processes.items c.args.p levels.kept c.index.ensures in
     c.index-2.ensures
-    ∙ (ap (λ n. get_or q.levels.items (n - 1) c.index-2.result.now) c.len.ensures ∙ last-is q levels.level levels.below levels.operands it.stack c.index-2.result.now)
+    ∙ (ap (λ n. get_or q.levels.items (n - 1) c.index-2.result.now) c.len.ensures ∙ last-is q levels.level levels.below levels.operands levels.pending it.stack c.index-2.result.now)

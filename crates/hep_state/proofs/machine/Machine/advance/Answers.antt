@@ -37,21 +37,22 @@ advance-requires c =
       l = l.level;
       ls = l.below;
       operands = l.operands;
+      pending = l.pending;
       stack = it.stack;
       inside = inside turn.1;
       there = top-node turn.1;
       ready =
           ready turn.1 (laws.running t accepted main turn.1) (vec_capacity q.operands) (laws.arrays t accepted main turn.1) h.few
-          (h.room (p - 1) q it.there _ l.level (last-there q l.level l.below l.operands it.stack));
+          (h.room (p - 1) q it.there _ l.level (last-there q l.level l.below l.operands l.pending it.stack));
     }
 
 -- what the machine shows, where a process has another stack and cells of the arena have changed
-shown-now : (m : Machine) (p : ℕ) (r : Process) (frames : Frames) (l : Level) (ls : List Level) (left : List Value) (next : ℕ) → stack_of r ≡ stack_with (record l { index = next }) ls left
+shown-now : (m : Machine) (p : ℕ) (r : Process) (frames : Frames) (l : Level) (ls : List Level) (left pending : List Value) (next : ℕ) → stack_of r ≡ stack_with (record l { index = next }) ls left pending
     → frames.arena.holes ≡ m.frames.arena.holes → frames.nodes ≡ m.frames.nodes
-    → snapshot_of (record m { frames = frames; processes = with_item m.processes (p - 1) r }) ≡ with_stack (with_contents (snapshot_of m) frames.arena.contents) p (record l { index = next } ∷ ls) left
-shown-now m p r frames l ls left next stack holes nodes =
-    let stacks = stacks-set m.processes.items p r (stack_with (record l { index = next }) ls left) stack in
-    λ i. record (with_stack (with_contents (snapshot_of m) frames.arena.contents) p (record l { index = next } ∷ ls) left) {
+    → snapshot_of (record m { frames = frames; processes = with_item m.processes (p - 1) r }) ≡ with_stack (with_contents (snapshot_of m) frames.arena.contents) p (record l { index = next } ∷ ls) left pending
+shown-now m p r frames l ls left pending next stack holes nodes =
+    let stacks = stacks-set m.processes.items p r (stack_with (record l { index = next }) ls left pending) stack in
+    λ i. record (with_stack (with_contents (snapshot_of m) frames.arena.contents) p (record l { index = next } ∷ ls) left pending) {
       arena = record { contents = frames.arena.contents; holes = holes i };
       nodes = nodes_of (nodes i);
       processes = stacks i;
@@ -70,15 +71,16 @@ returns c =
     let l = e.levels.level in
     let ls = e.levels.below in
     let vs = e.levels.operands in
+    let ws = e.levels.pending in
     let law = c.tops_are_running.ensures.running in
     let accepted = c.is_runnable.ensures.accepted in
     let main = c.is_runnable.ensures.main in
     let it = process-at old.processes.items p e.levels.kept c.index_mut-process.ensures.value in
-    let a = done.advanced l ls vs it.stack in
-    let k = stack_with (record l { index = a.next }) ls a.left in
+    let a = done.advanced l ls vs ws it.stack in
+    let k = stack_with (record l { index = a.next }) ls a.left ws in
     let after = performed.snapshot c.advance.new.frames.arena.contents a.left a.next in
     let ahead = effect_at (unit_code program l.unit) (unit_arrays program l.unit) (node_under m.nodes l.key).first m.arena.contents vs l.index in
-    let shown = shown-now old p r c.advance.new.frames l ls a.left a.next a.stack done.holes done.nodes in
+    let shown = shown-now old p r c.advance.new.frames l ls a.left ws a.next a.stack done.holes done.nodes in
     record {
       left = IfOk-weaker c.advance.result _ _ (λ advanced is cells choices h.
           let turn = turning p h.after e.levels c.requires.running in
@@ -91,7 +93,7 @@ returns c =
           touches-only turn.1 (law t accepted main turn.1) e.past e.plain
           (c.touched_units_are_in_touched_cells.ensures top)
           (c.purges_stand_ahead.ensures top)
-          advanced.touched (is l ls vs it.stack)) done.touched;
+          advanced.touched (is l ls vs ws it.stack)) done.touched;
       state = IfOk-weaker c.advance.result _ _ (λ advanced is cells choices h.
           let turn = turning p h.after e.levels c.requires.running in
           let simulated = ahead-simulated turn.1 (law (turn_with program cells choices e.levels turn.0) accepted main turn.1) e.past e.plain in
@@ -112,7 +114,7 @@ returns c =
         faults = refl;
         halted = refl;
       }) a.refused;
-      rooms = λ cells h. rooms-set program cells old _ (p - 1) r refl refl (room-moved program q r l a.next ls vs a.left it.stack a.stack done.capacity (h.room (p - 1) q it.there)) h;
+      rooms = λ cells h. rooms-set program cells old _ (p - 1) r refl refl (room-moved program q r l a.next ls vs a.left ws it.stack a.stack done.capacity (h.room (p - 1) q it.there)) h;
       records = refl;
       faults = refl;
       processes = length-set old.processes.items (p - 1) r;

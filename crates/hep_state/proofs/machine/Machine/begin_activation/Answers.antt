@@ -1,4 +1,4 @@
-use Rattle.std.proofs.Common.{◌≡◌, ℕ, ◌+◌, ◌≤◌, Bool, true, List, length, Option, Some, if◌then◌else◌, refl, sym, ap, ◌∙◌, subst, arith, eq-eqb}
+use Rattle.std.proofs.Common.{◌≡◌, ℕ, ◌+◌, ◌≤◌, true, List, length, Option, Some, if◌then◌else◌, refl, sym, ap, ◌∙◌, subst, arith, eq-eqb}
 use Rattle.hep_machine.specs.Words.{Units, unit_at, Layout, common_cells, frame_of, is_held, lowest_gap, Activation, Bounds, State, scope_of, frame_cells}
 use Rattle.hep_layout.specs.Words.{FrameNode, Nodes, is_stacked, new_node, with_node}
 use Rattle.hep_layout_laws.specs.Bound.{AreKept}
@@ -11,6 +11,8 @@ use Rattle.hep_entering.proofs.Begun.{activation-is, long, unit-is}
 use Rattle.hep_entering.proofs.Calls.{made-begun, made-stacks, made-store}
 use Rattle.hep_entering.specs.Shapes.{AreShaping, cells_of_shapes, cells_to_bounds_of}
 use Rattle.hep_entering.proofs.Nodes.{node-new}
+use Rattle.hep_step.specs.declared.way.Way.{Way}
+use Rattle.hep_step.specs.Calls.{is_creation}
 use Rattle.hep_state.specs.declared.machine.Level.{Level}
 use Rattle.hep_state.specs.Words.{IsMaking, Makes, TurnOf, call_in, frames_before, node_under, snapshot_of, state_before, state_made, turn_of}
 use Rattle.hep_state.proofs.Moved.{kept-now, top-activation, top-node}
@@ -35,7 +37,7 @@ begin-key-requires c =
     let layout = e.turning.after.layout in
     let shows = e.turning.after.shows in
     let it = process-at c.args.self.now.processes.items c.args.p r.5.making.levels.kept c.index.ensures in
-    let same = c.top-parent.ensures t.level t.below t.operands it.stack in
+    let same = c.top-parent.ensures t.level t.below t.operands t.pending it.stack in
     let call = call_in t c.args.called.unit e.actuals e.binding in
     let many = passed-many r.1 s layout (scope_of r.1 s t.top.0.activation) e.actuals c.deref.result.now (subst (ArePassed call layout) (sym c.deref.ensures.value) e.passed) in
     record {
@@ -50,11 +52,11 @@ begin-key-requires c =
 
 -- ---- the frame with the cells of its dummy arguments written
 
-module _ (c : After-begin-key) (creates : Bool) (program : Units) (cells : ℕ) (choices : List ℕ) (index : ℕ) (makes : Makes creates program cells choices c.args.p c.args.self.now c.args.called index) where
+module _ (c : After-begin-key) (way : Way) (program : Units) (cells : ℕ) (choices : List ℕ) (index : ℕ) (makes : Makes way program cells choices c.args.p c.args.self.now c.args.called index) where
   abbrev t : TurnOf
   t = turn_of makes.making
 
-  abbrev e : IsMaking creates t c.args.called.unit index c.args.self.now.passing.given.items c.args.self.now.passing.shapes.items
+  abbrev e : IsMaking way t c.args.called.unit index c.args.self.now.passing.given.items c.args.self.now.passing.shapes.items
   e = makes.making.holds
 
   abbrev s : State
@@ -75,10 +77,10 @@ module _ (c : After-begin-key) (creates : Bool) (program : Units) (cells : ℕ) 
   parent : c.top-parent.result.key ≡ t.level.key
   parent =
       let it = process-at c.args.self.now.processes.items c.args.p makes.making.levels.kept c.index.ensures in
-      ap (λ (l : Level). l.key) (c.top-parent.ensures t.level t.below t.operands it.stack)
+      ap (λ (l : Level). l.key) (c.top-parent.ensures t.level t.below t.operands t.pending it.stack)
 
   more : later.activations ≡ (state_begun call).activations
-  more = made-begun creates call
+  more = made-begun (is_creation way) call
 
   number : c.args.self.now.activations + 1 ≡ n
   number = omega (arith, e.turning.after.shows.activations, long call later more)
@@ -96,7 +98,7 @@ module _ (c : After-begin-key) (creates : Bool) (program : Units) (cells : ℕ) 
       let key = c.begin-key.result in
       let h = e.turning in
       let there = ap m.nodes parent ∙ top-node h in
-      let written = c.begin-key.ensures.written call later layout (is_held s) (node_under m.nodes t.level.key) h.after.shows.keeps there (top-activation h) e.passing passed more (made-store creates call) number refl size in
+      let written = c.begin-key.ensures.written call later layout (is_held s) (node_under m.nodes t.level.key) h.after.shows.keeps there (top-activation h) e.passing passed more (made-store (is_creation way) call) number refl size in
       let first = written.0 in
       let node = new_node (m.activations + 1) u first c.args.called.cells c.top-parent.result.key in
       let binding = c.dummies_are_bound.ensures.binding call later layout first (length m.arena.contents) c.deref.result.now e.passing passed more h.after.shows.keeps.memory.laid in
@@ -118,14 +120,14 @@ module _ (c : After-begin-key) (creates : Bool) (program : Units) (cells : ℕ) 
   -- its other cells are unset, up to the bounds of adjustable arrays
   unset : IsWritten (frames_before t e.turning) later begun.first (cells_to_bounds_of (unit_begun program later) 0) c.begin-key.new.frames.arena (nodes_of c.begin-key.new.frames.nodes)
   unset =
-      c.other_cells_are_unset.ensures.made creates call layout begun.first (is_held s) c.begin-key.new.frames.arena (nodes_of c.begin-key.new.frames.nodes) e.turning.lives e.made begun.written
+      c.other_cells_are_unset.ensures.made (is_creation way) call layout begun.first (is_held s) c.begin-key.new.frames.arena (nodes_of c.begin-key.new.frames.nodes) e.turning.lives e.made begun.written
 
   -- what its dummy arguments stand for is kept
   kept : AreKept program later (layout_with program later layout begun.first) n
   kept =
       let held = e.turning.after.shows in
-      let on = made-stacks call e.turning.lives creates n ∙ ap (λ b. if b then true else is_stacked s n) (eq-eqb n n refl) in
-      c.references_are_kept.ensures creates call layout begun.first (length c.args.self.now.frames.arena.contents) c.deref.result.now e.passing passed held.keeps.memory.laid held.kept n on
+      let on = made-stacks call e.turning.lives (is_creation way) n ∙ ap (λ b. if b then true else is_stacked s n) (eq-eqb n n refl) in
+      c.references_are_kept.ensures (is_creation way) call layout begun.first (length c.args.self.now.frames.arena.contents) c.deref.result.now e.passing passed held.keeps.memory.laid held.kept n on
 
 -- ---- the shapes
 
@@ -143,7 +145,7 @@ shape_all-requires c =
     }
 
 pub returns-clause-entered : goal.returns-clause-entered
-returns-clause-entered c creates program cells choices index makes =
+returns-clause-entered c way program cells choices index makes =
     let t = turn_of makes.making in
     let e = makes.making.holds in
     let u = c.args.called.unit in
@@ -153,10 +155,10 @@ returns-clause-entered c creates program cells choices index makes =
     let h = e.turning in
     let layout = h.after.layout in
     let before = (goal.at.returns-clause-entered c).After-begin-key in
-    let b = begun before creates program cells choices index makes in
-    let act = number before creates program cells choices index makes in
-    let big = size before creates program cells choices index makes in
-    let above = parent before creates program cells choices index makes in
+    let b = begun before way program cells choices index makes in
+    let act = number before way program cells choices index makes in
+    let big = size before way program cells choices index makes in
+    let above = parent before way program cells choices index makes in
     let shaping = subst (AreShaping program later n) (sym c.deref-2.ensures.value) b.shaping in
     record {
       made = e.made;
@@ -164,8 +166,8 @@ returns-clause-entered c creates program cells choices index makes =
       first = b.first;
       gap = (λ i. lowest_gap (sym h.after.size i) (sym big i) (common_cells program) layout) ∙ b.gap;
       written =
-          c.shape_all.ensures.shaped (frames_with (frames_before t h) later b.first) n b.node (unset before creates program cells choices index makes) b.there b.framed shaping;
-      kept = kept before creates program cells choices index makes;
+          c.shape_all.ensures.shaped (frames_with (frames_before t h) later b.first) n b.node (unset before way program cells choices index makes) b.there b.framed shaping;
+      kept = kept before way program cells choices index makes;
       size = c.shape_all.ensures.cells ∙ (c.begin-key.ensures.cells ∙ h.after.size);
       vacant = c.begin-key.ensures.vacant;
       nodes_are = c.shape_all.ensures.nodes ∙ (c.begin-key.ensures.nodes b.first b.fit ∙ (λ i. with_node (snapshot_of c.args.self.now).nodes c.begin-key.result (new_node (act i) u b.first (big i) (above i)) (above i)));

@@ -1,20 +1,26 @@
-use Rattle.std.proofs.Common.{◌≡◌, ◌+◌, ◌-◌, ◌≤◌, true, List, [], ◌∷◌, ◌++◌, length, map, reverse, sym, ap, ◌∙◌, subst, arith, slice_get, slice_set, vec_capacity}
+use Rattle.std.proofs.Common.{◌≡◌, ◌+◌, ◌-◌, ◌≤◌, List, [], ◌∷◌, ◌++◌, length, map, reverse, sym, ap, ◌∙◌, subst, arith, slice_get, slice_set, vec_capacity}
 use Rattle.std.proofs.lemmas.List.{length-append, length-set, map-append}
 use Rattle.hep_machine.specs.Words.{with_numbered}
 use Rattle.hep_code.specs.Words.{deepest}
 use Rattle.hep_frames.specs.Nodes.{nodes_of}
 use Rattle.hep_step.specs.Simulation.{unit_code}
+use Rattle.hep_step.specs.declared.way.Way.TheVariants.{Creates}
 use Rattle.hep_state.specs.declared.machine.Level.{Level}
 use Rattle.hep_state.specs.declared.machine.Machine.{Machine}
 use Rattle.hep_state.specs.declared.machine.Process.{Process}
 use Rattle.hep_state.specs.Words.{HasMadeTurn, HasRoom, Stack, entered_level, snapshot_made_by, snapshot_of, stack_of, turn_of}
 use Rattle.hep_state.proofs.Begun.{made-shown}
-use Rattle.hep_state.proofs.Processes.{all-more, all-set, process-still, room-alone, room-moved, stacks-set, some-levels-at}
+use Rattle.hep_state.proofs.Processes.{inside-at, all-more, all-set, process-still, room-alone, room-moved, stacks-set, some-levels-at}
 use Rattle.hep_state.proofs.Unchanged.{rooms-begun}
 use Rattle.hep_state.proofs.machine.Machine.create.Goals as goal
 
 pub begin_activation-level-requires-clause-making : goal.begin_activation-level-requires-clause-making
-begin_activation-level-requires-clause-making c = let r = c.requires.creating in (true, r.0, r.1, r.2, c.args.index, r.3)
+begin_activation-level-requires-clause-making c = let r = c.requires.creating in (Creates, r.0, r.1, r.2, c.args.index, r.3)
+
+pub index_mut-requires : goal.index_mut-requires
+index_mut-requires c =
+    let same = ap (λ (m : Machine). m.processes.items) c.begin_activation-level.ensures.others in
+    omega (arith, (inside-at c.args.self.now.processes.items c.args.p _ c.requires.creating.3.making.levels.kept).1, ap length same)
 
 pub go_on-requires : goal.go_on-requires
 go_on-requires c =
@@ -42,19 +48,19 @@ returns c =
           let t = turn_of makes.making in
           let e = makes.making.holds in
           let it = process-still old.processes.items new.processes.items p same makes.making.levels.kept c.index_mut.ensures.value in
-          let k : Stack = record { levels = record t.level { index = c.args.index } ∷ t.below; operands = [] } in
-          let own = stacks-set new.processes.items p r k (c.go_on.ensures.stack t.level t.below t.operands it.stack) ∙ ap (λ qs. with_numbered (map stack_of qs) p k) same in
-          let entered : level ≡ entered_level program u level.key = begun.level ∙ (λ i. record { key = level.key; unit = u; index = makes.unit.entry_is i }) in
-          let fresh : stack_of made ≡ record { levels = entered_level program u level.key ∷ []; operands = [] } = λ i. record { levels = (ap reverse alone ∙ ap (λ l. l ∷ []) entered) i; operands = c.requires.empty.1 i } in
+          let k : Stack = record { levels = record t.level { index = c.args.index } ∷ t.below; operands = []; pending = t.pending } in
+          let own = stacks-set new.processes.items p r k (c.go_on.ensures.stack t.level t.below t.operands t.pending it.stack) ∙ ap (λ qs. with_numbered (map stack_of qs) p k) same in
+          let entered : level ≡ entered_level program u level.key = begun.level ∙ (λ i. record { key = level.key; unit = u; kept = 0; index = makes.unit.entry_is i }) in
+          let fresh : stack_of made ≡ record { levels = entered_level program u level.key ∷ []; operands = []; pending = [] } = λ i. record { levels = (ap reverse alone ∙ ap (λ l. l ∷ []) entered) i; operands = c.requires.empty.1 i; pending = c.requires.empty.2 i } in
           let stacks = ap (map stack_of) c.append-2.ensures ∙ (map-append stack_of (slice_set new.processes.items (p - 1) r) (made ∷ []) ∙ (λ i. own i ++ fresh i ∷ [])) in
-          let shown = ap (λ (n : Machine). snapshot_of (record n { processes = c.append-2.new.items })) begun.others ∙ (λ i. record (snapshot_made_by true t u level.key c.args.index arena nodes) { processes = stacks i }) in
+          let shown = ap (λ (n : Machine). snapshot_of (record n { processes = c.append-2.new.items })) begun.others ∙ (λ i. record (snapshot_made_by Creates t u level.key c.args.index arena nodes) { processes = stacks i }) in
           subst (HasMadeTurn t) (sym shown) (
-          made-shown e.turning u e.actuals e.binding true level.key c.args.index arena nodes (begun.entered true program cells choices c.args.index makes) e.after);
+          made-shown e.turning u e.actuals e.binding Creates level.key c.args.index arena nodes (begun.entered Creates program cells choices c.args.index makes) e.after);
       rooms = λ program cells h deep.
           let e = c.requires.creating.3.making.levels in
           let it = process-still old.processes.items new.processes.items p same e.kept c.index_mut.ensures.value in
           let had = rooms-begun program cells old new begun.others h in
-          let others = all-set (HasRoom program) new.processes.items (p - 1) r had.room (room-moved program q r e.level c.args.index e.below e.operands [] it.stack (c.go_on.ensures.stack e.level e.below e.operands it.stack) (omega (arith, c.go_on.ensures.operands)) (had.room (p - 1) q it.there)) in
+          let others = all-set (HasRoom program) new.processes.items (p - 1) r had.room (room-moved program q r e.level c.args.index e.below e.operands [] e.pending it.stack (c.go_on.ensures.stack e.level e.below e.operands e.pending it.stack) (omega (arith, c.go_on.ensures.operands)) (had.room (p - 1) q it.there)) in
           let unit = ap (λ (l : Level). deepest (unit_code program l.unit)) begun.level in
           let enough : deepest (unit_code program level.unit) ≤ vec_capacity made.operands = omega (arith, unit, deep) in
           record {

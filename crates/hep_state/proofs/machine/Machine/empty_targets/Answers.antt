@@ -11,7 +11,7 @@ go_on-requires c = some-levels-at (process-at c.args.self.now.processes.items c.
 pub returns-clause-moved : goal.returns-clause-moved
 returns-clause-moved c levels =
     let it = process-at c.args.self.now.processes.items c.args.p levels.kept c.index_mut.ensures.value in
-    let stacks = stacks-set c.args.self.now.processes.items c.args.p c.go_on.new.process (stack_with (record levels.level { index = c.args.index }) levels.below []) (c.go_on.ensures.stack levels.level levels.below levels.operands it.stack) in
+    let stacks = stacks-set c.args.self.now.processes.items c.args.p c.go_on.new.process (stack_with (record levels.level { index = c.args.index }) levels.below [] levels.pending) (c.go_on.ensures.stack levels.level levels.below levels.operands levels.pending it.stack) in
     let contents = c.purge.ensures.contents ∙ ap (λ rs. purged rs c.args.self.now.frames.arena.contents) c.deref.ensures.value in
     λ i. record (snapshot_of c.args.self.now) { arena = record { contents = contents i; holes = c.purge.ensures.holes i }; processes = stacks i }
 
@@ -21,4 +21,4 @@ returns-clause-rooms c program cells h =
     let q = c.index_mut.result.now in
     let it = process-at c.args.self.now.processes.items c.args.p e.kept c.index_mut.ensures.value in
     rooms-set program cells c.args.self.now _ (c.args.p - 1) c.go_on.new.process refl refl (
-    room-moved program q c.go_on.new.process e.level c.args.index e.below e.operands [] it.stack (c.go_on.ensures.stack e.level e.below e.operands it.stack) (omega (arith, c.go_on.ensures.operands)) (h.room (c.args.p - 1) q it.there)) h
+    room-moved program q c.go_on.new.process e.level c.args.index e.below e.operands [] e.pending it.stack (c.go_on.ensures.stack e.level e.below e.operands e.pending it.stack) (omega (arith, c.go_on.ensures.operands)) (h.room (c.args.p - 1) q it.there)) h

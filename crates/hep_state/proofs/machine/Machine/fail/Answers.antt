@@ -33,18 +33,19 @@ returns-clause-stepped c program cells choices e =
     let arena = c.leave_all.new.frames.arena in
     let nodes = nodes_of c.leave_all.new.frames.nodes in
     let it = process-at c.args.self.now.processes.items p e.levels.kept c.index_mut-process.ensures.value in
-    let same = c.top-unit.ensures t.level t.below t.operands it.stack in
+    let same = c.top-unit.ensures t.level t.below t.operands t.pending it.stack in
     let ends = activations_on (t.top.0 ∷ t.top.1) in
     let can = subst (λ (ls : List Level). CanLeave m.nodes (is_stacked old) (keys_of ls) ends) (ap (λ (k : Stack). k.levels) (sym it.stack)) (can-leave turning) in
     let left = c.leave_all.ensures.ended program old later (is_held old) turning.after.layout ends turning.after.shows.keeps can
     (failed-ended turning kind) (lead-upwards program choices later refl) in
     let shown = failed-shown turning arena nodes c.args.line kind left c.leave_all.ensures.cells e.holds.simulated in
-    let none : ◌≡◌ {A = Stack} (record { levels = reverse c.leave_all.new.levels.items; operands = c.clear.new.self.items }) (record { levels = []; operands = [] }) = λ i. record { levels = reverse (c.leave_all.ensures.none i); operands = c.clear.ensures.items i } in
-    let stacks = stacks-set c.args.self.now.processes.items p (record { levels = c.leave_all.new.levels; operands = c.clear.new.self }) (record { levels = []; operands = [] }) none in
+    let none : ◌≡◌ {A = Stack} (record { levels = reverse c.leave_all.new.levels.items; operands = c.clear.new.self.items; pending = c.clear-2.new.self.items }) (record { levels = []; operands = []; pending = [] }) =
+    λ i. record { levels = reverse (c.leave_all.ensures.none i); operands = c.clear.ensures.items i; pending = c.clear-2.ensures.items i } in
+    let stacks = stacks-set c.args.self.now.processes.items p (record { levels = c.leave_all.new.levels; operands = c.clear.new.self; pending = c.clear-2.new.self }) (record { levels = []; operands = []; pending = [] }) none in
     let faults : c.append.new.items.items ≡ m.faults ++ fault_at t c.args.line kind ∷ [] = c.append.ensures ∙ ap (λ l. m.faults ++ fault_at (record t { level = l }) c.args.line kind ∷ []) same in
     subst (HasMadeTurn t) (λ i. record (snapshot_failed t c.args.line kind arena nodes) { processes = sym stacks i; faults = sym faults i }) shown
 
 pub returns-clause-rooms : goal.returns-clause-rooms
 returns-clause-rooms c program cells h =
-    let r : Process = record { levels = c.leave_all.new.levels; operands = c.clear.new.self } in
+    let r : Process = record { levels = c.leave_all.new.levels; operands = c.clear.new.self; pending = c.clear-2.new.self } in
     rooms-set program cells c.args.self.now _ (c.args.p - 1) r refl refl (room-none program r c.leave_all.ensures.none) h

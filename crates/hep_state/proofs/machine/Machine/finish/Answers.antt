@@ -20,7 +20,7 @@ leave-requires c =
     let t = turn_of e in
     let it = process-at c.args.self.now.processes.items c.args.p e.levels.kept c.index_mut.ensures.value in
     record {
-      there = subst (λ (l : Level). ContainsKey slab l.key) (sym (c.end_top-ended.ensures.level t.level t.below t.operands it.stack)) (some-value slab t.level.key _ (top-node e.holds.turning));
+      there = subst (λ (l : Level). ContainsKey slab l.key) (sym (c.end_top-ended.ensures.level t.level t.below t.operands t.pending it.stack)) (some-value slab t.level.key _ (top-node e.holds.turning));
       kept = kept-now e.holds.turning;
     }
 
@@ -33,12 +33,12 @@ returns-clause-stepped c program cells choices e =
     let t = turn_of e in
     let turning = e.holds.turning in
     let it = process-at c.args.self.now.processes.items p e.levels.kept c.index_mut.ensures.value in
-    let same = c.end_top-ended.ensures.level t.level t.below t.operands it.stack in
+    let same = c.end_top-ended.ensures.level t.level t.below t.operands t.pending it.stack in
     let there = ap (λ (l : Level). m.nodes l.key) same ∙ top-node turning in
     let left = c.leave.ensures.ended program (state_before t) (state_returned t) (is_held (state_before t)) turning.after.layout (node_under m.nodes t.level.key) turning.after.shows.keeps there
     (returned-ended turning) (lead-upwards program choices (state_returned t) refl) in
     let shown = returned-shown turning arena nodes left c.leave.ensures.cells e.holds.simulated in
-    let stacks = stacks-set c.args.self.now.processes.items p c.end_top-ended.new.self (record { levels = t.below; operands = [] }) (c.end_top-ended.ensures.stack t.level t.below t.operands it.stack) in
+    let stacks = stacks-set c.args.self.now.processes.items p c.end_top-ended.new.self (record { levels = t.below; operands = []; pending = t.pending }) (c.end_top-ended.ensures.stack t.level t.below t.operands t.pending it.stack) in
     subst (HasMadeTurn t) (λ i. record (snapshot_returned t arena nodes) { processes = sym stacks i }) shown
 
 pub returns-clause-rooms : goal.returns-clause-rooms

@@ -1,4 +1,4 @@
-use Rattle.std.proofs.Common.{◌≡◌, ℕ, ◌≤◌, List, length, sym, ◌∙◌, subst, arith, Result, Ok, Err, IfErr, IsErr, IsErrAnd, vec_capacity}
+use Rattle.std.proofs.Common.{◌≡◌, ℕ, ◌≤◌, List, length, sym, ap, ◌∙◌, subst, arith, Result, Ok, Err, IfErr, IsErr, IsErrAnd, vec_capacity}
 use Rattle.hep_machine.specs.Words.{unit_at}
 use Rattle.hep_machine.specs.declared.event.Kind.{Kind}
 use Rattle.hep_code.specs.Words.{passed_from}
@@ -9,9 +9,12 @@ use Rattle.hep_passing.specs.declared.given.Given.{Given}
 use Rattle.hep_passing.specs.Passing.{given_by}
 use Rattle.hep_passing.specs.Ready.{ArePassable}
 use Rattle.hep_shaping.specs.Fitting.{AreShapable, are_fitting, shapes_of}
+use Rattle.hep_step.specs.Calls.{last_operands}
 use Rattle.hep_step.specs.Cells.{HasFrame}
 use Rattle.hep_step.specs.Effects.{fails}
-use Rattle.hep_state.specs.Words.{HasCallAhead, IsMaking, given_of, IsMachineAfter, snapshot_of, IsToEnd, turn_of}
+use Rattle.hep_step.specs.Ready.{frame_in_arena}
+use Rattle.hep_step.specs.Simulation.{unit_arrays}
+use Rattle.hep_state.specs.Words.{HasCallAhead, IsMaking, given_of, IsMachineAfter, snapshot_of, IsToEnd, top_frame, turn_of}
 use Rattle.hep_state.proofs.Unchanged.{carry}
 use Rattle.hep_state.proofs.Callers.{IsRead, can-read, found-read, of-read}
 use Rattle.hep_state.proofs.machine.Machine.give.Goals.{After-deref, After-find_shapes}
@@ -23,11 +26,18 @@ use Rattle.hep_state.proofs.machine.Machine.give.Goals as goal
 read : (c : After-deref) → IsRead c.args.image.now c.args.self.now c.args.p c.index-process.result.now c.behind.result.0.now c.behind.result.1.now c.behind.result.2 c.deref.result.now
 read c = record { process = c.index-process.ensures; behind = c.behind.ensures; operands = c.deref.ensures.value }
 
+-- the operands that are passed are all of them
+passed-all : (c : After-deref) {cells : ℕ} {choices : List ℕ} (at : HasCallAhead c.args.image.now cells choices c.args.p (snapshot_of c.args.self.now) c.args.call)
+    → last_operands c.args.call.count at.holds.behind at.levels.operands ≡ at.levels.operands
+passed-all c at = c.calls_can_be_made.ensures.all (turn_of at) c.args.call c.is_runnable.ensures.accepted c.is_runnable.ensures.main at.holds
+
 -- what the actual arguments give
 gives : (c : After-deref) {cells : ℕ} {choices : List ℕ} (at : HasCallAhead c.args.image.now cells choices c.args.p (snapshot_of c.args.self.now) c.args.call) (r : Result (List Given) Kind)
     → given_by (cells_in c.args.self.now.frames.arena.contents) c.behind.result.2.first c.behind.result.1.now (passed_from c.args.call.count c.behind.result.0.now c.deref.result.now) ≡ r
     → given_of c.args.call at.holds ≡ r
-gives c at = found-read (read c) c.args.call.count at (given_by (cells_in c.args.self.now.frames.arena.contents))
+gives c at r e =
+    ap (λ vs. given_by (cells_in c.args.self.now.frames.arena.contents) (top_frame (turn_of at)).first (unit_arrays c.args.image.now at.levels.level.unit) (passed_from c.args.call.count at.holds.behind vs)) (passed-all c at)
+    ∙ found-read (read c) c.args.call.count at (given_by (cells_in c.args.self.now.frames.arena.contents)) r e
 
 pub behind-requires : goal.behind-requires
 behind-requires c = can-read c.args.self.now c.requires.at.3 c.index-process.ensures
@@ -42,9 +52,11 @@ give_actuals-requires c =
     let main = c.is_runnable.ensures.main in
     let here = read (goal.at.give_actuals-requires c).After-deref in
     let few : length m.arena.contents ≤ most_cells = omega (arith, r.2.few, r.2.after.size) in
+    let all = passed-all (goal.at.give_actuals-requires c).After-deref r.3 in
     record {
       frame = of-read here call.count r.3 (λ f xs ps. HasFrame m.arena f) (law.framed (turn_of r.3) call accepted main few r.3.holds);
-      passable = of-read here call.count r.3 (λ f xs ps. ArePassable m.arena xs f ps) (law.passable (turn_of r.3) call accepted main r.3.holds);
+      passable = of-read here call.count r.3 (λ f xs ps. ArePassable m.arena xs f ps) (
+          subst (λ vs. ArePassable m.arena (unit_arrays c.args.image.now r.3.levels.level.unit) (frame_in_arena (top_frame (turn_of r.3))) (passed_from call.count r.3.holds.behind vs)) all (law.passable (turn_of r.3) call accepted main r.3.holds));
       room = omega (arith, law.counted (turn_of r.3) call accepted main r.3.holds, r.2.to_pass.given call.unit);
     }
 
@@ -98,7 +110,7 @@ returns-then-find_shapes-clause-given c cells choices h at =
     let making = c.calls_give_what_is_bound.ensures.making (turn_of at) c.args.call given c.is_runnable.ensures.accepted c.is_runnable.ensures.main at.holds
     (gives (goal.at.returns-then-find_shapes-clause-given c).After-deref at (Ok given) c.in_ok-give_actuals.ensures.given)
     (sym (fit before) ∙ c.if-find_shapes.true) in
-    record { levels = at.levels; top = at.top; holds = subst (IsMaking c.args.call.creates (turn_of at) c.args.call.unit c.args.call.next given) (sym found) making }
+    record { levels = at.levels; top = at.top; holds = subst (IsMaking c.args.call.way (turn_of at) c.args.call.unit c.args.call.next given) (sym found) making }
 
 pub returns-else-find_shapes-clause-fault : goal.returns-else-find_shapes-clause-fault
 returns-else-find_shapes-clause-fault c cells choices h at =

@@ -32,7 +32,7 @@ returns-in-Some-clause-levels c some =
     let q = c.in-Some.process.now in
     let at = numbered-p (goal.at.returns-in-Some-clause-levels c).After-is_empty in
     let found = some-levels-of c.args.self.now.processes.items c.args.p q at (levels-by q.levels.items (vec_len q.levels) q.levels.ok.0 ∙ (ap not (sym c.is_empty.ensures) ∙ some)) in
-    record { level = found.0; below = found.1; operands = q.operands.items; kept = found.2 }
+    record { level = found.0; below = found.1; operands = q.operands.items; pending = q.pending.items; kept = found.2 }
 
 pub returns-in-None-clause-lives : goal.returns-in-None-clause-lives
 returns-in-None-clause-lives c program cells choices h =

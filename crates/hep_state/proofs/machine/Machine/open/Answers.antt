@@ -20,8 +20,9 @@ use Rattle.hep_state.proofs.Processes.{room-alone, the-only}
 -- the machine's one process, with one level and no operands
 record IsBegun (main key entry : ℕ) (m : Machine) (q : Process) : Type 0 where
   pub alone : m.processes.items ≡ q ∷ []
-  pub levels : q.levels.items ≡ record { key = key; unit = main; index = entry } ∷ []
+  pub levels : q.levels.items ≡ record { key = key; unit = main; kept = 0; index = entry } ∷ []
   pub operands : q.operands.items ≡ []
+  pub pending : q.pending.items ≡ []
   pub activations : m.activations ≡ 1
   pub records : m.records.items ≡ []
   pub faults : m.faults.items ≡ []
@@ -29,12 +30,12 @@ record IsBegun (main key entry : ℕ) (m : Machine) (q : Process) : Type 0 where
 
 module _ (program : Units) (cells key entry : ℕ) (m : Machine) (q : Process) (main : ℕ) (found : main_unit program ≡ main) (begun : IsBegun main key entry m q) where
   abbrev level : Level
-  level = record { key = key; unit = main; index = entry }
+  level = record { key = key; unit = main; kept = 0; index = entry }
 
-  stacks : map stack_of m.processes.items ≡ record { levels = record { key = key; unit = main_unit program; index = entry } ∷ []; operands = [] } ∷ []
+  stacks : map stack_of m.processes.items ≡ record { levels = record { key = key; unit = main_unit program; kept = 0; index = entry } ∷ []; operands = []; pending = [] } ∷ []
   stacks =
       ap (λ (qs : List Process). map stack_of qs) begun.alone
-      ∙ ((λ i. record { levels = reverse (begun.levels i); operands = begun.operands i } ∷ []) ∙ ap (λ (u : ℕ). record { levels = record { key = key; unit = u; index = entry } ∷ []; operands = [] } ∷ []) (sym found))
+      ∙ ((λ i. record { levels = reverse (begun.levels i); operands = begun.operands i; pending = begun.pending i } ∷ []) ∙ ap (λ (u : ℕ). record { levels = record { key = key; unit = u; kept = 0; index = entry } ∷ []; operands = []; pending = [] } ∷ []) (sym found))
 
   snapshot-is : snapshot_of m ≡ snapshot_opened program key entry m.frames.arena (nodes_of m.frames.nodes)
   snapshot-is i =
@@ -80,5 +81,5 @@ returns-clause-opened c =
     let enough : deepest (unit_code program index) ≤ vec_capacity process.operands =
     subst (λ n. n ≤ vec_capacity process.operands) (main.operands ∙ ap deepest (main.code ∙ ap (unit_code program) found)) (omega (arith, c.in_ok-process.ensures.room)) in
     machine-opened program c.args.cells key unit.entry _ process index found (
-    record { alone = c.in_ok-vec.ensures.items; levels = c.in_ok-process.ensures.levels; operands = c.in_ok-process.ensures.operands; activations = refl; records = c.new-2.ensures.items; faults = c.new-3.ensures.items; running = refl })
+    record { alone = c.in_ok-vec.ensures.items; levels = c.in_ok-process.ensures.levels; operands = c.in_ok-process.ensures.operands; pending = c.in_ok-process.ensures.pending; activations = refl; records = c.new-2.ensures.items; faults = c.new-3.ensures.items; running = refl })
     enough c.requires.few c.in_ok-room_to_pass.ensures (subst (λ (nodes : Nodes). IsAfter program c.args.cells [] (snapshot_opened program key unit.entry given.arena nodes)) (sym c.give_rows.ensures.nodes) after)

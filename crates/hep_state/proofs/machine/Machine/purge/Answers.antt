@@ -24,7 +24,7 @@ returns-in-Ok-clause-purged c cells choices h at =
     let same : snapshot_of between ≡ m = ap snapshot_of c.in-Ok.ensures.others in
     let t = turn_of at in
     let levels : HasLevels (snapshot_of between) p =
-    record { level = t.level; below = t.below; operands = t.operands; kept = subst (λ (n : Snapshot). numbered n.processes p ≡ Some (stack_with t.level t.below t.operands)) (sym same) at.levels.kept } in
+    record { level = t.level; below = t.below; operands = t.operands; pending = t.pending; kept = subst (λ (n : Snapshot). numbered n.processes p ≡ Some (stack_with t.level t.below t.operands t.pending)) (sym same) at.levels.kept } in
     let shown : snapshot_of new ≡ snapshot_moved t (purged ranges m.arena.contents) [] c.args.purge.next =
     c.empty_targets.ensures.moved levels ∙ (λ i. snapshot_moved (record t { machine = same i }) (purged ranges (same i).arena.contents) [] c.args.purge.next) in
     let stepped = subst (HasMadeTurn t) (sym shown) (c.purges_are_shown.ensures.stepped t c.args.purge ranges accepted main at.holds found) in

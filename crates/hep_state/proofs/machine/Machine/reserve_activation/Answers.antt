@@ -17,7 +17,7 @@ returns-clause-operands c =
 pub returns-clause-shown : goal.returns-clause-shown
 returns-clause-shown c =
     let m = c.args.self.now in
-    let stacks = stacks-same m.processes.items (c.args.p - 1) c.index_mut.result.now c.reserve-3.new.self c.index_mut.ensures.value c.reserve-3.ensures.same.0 c.reserve-3.ensures.same.1 in
+    let stacks = stacks-same m.processes.items (c.args.p - 1) c.index_mut.result.now c.reserve-3.new.self c.index_mut.ensures.value c.reserve-3.ensures.same.0 c.reserve-3.ensures.same.1 c.reserve-3.ensures.same.2 in
     λ i. record (snapshot_of m) { arena = c.in_ok-reserve-2.ensures.arena i; nodes = c.in_ok-reserve-2.ensures.nodes i; processes = stacks i }
 
 pub returns-clause-rooms : goal.returns-clause-rooms

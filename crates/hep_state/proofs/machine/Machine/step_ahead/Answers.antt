@@ -37,7 +37,7 @@ unit-requires c =
     let e = c.requires.living in
     let it = process-at c.args.self.now.processes.items c.args.p e.kept c.index_mut-process.ensures.value in
     let turn = turning c.args.p c.requires.after.2.after e c.requires.running in
-    subst (λ (l : Level). l.unit < length c.args.image.now) (sym (c.top-unit.ensures e.level e.below e.operands it.stack)) (inside turn.1)
+    subst (λ (l : Level). l.unit < length c.args.image.now) (sym (c.top-unit.ensures e.level e.below e.operands e.pending it.stack)) (inside turn.1)
 
 pub settle-requires : goal.settle-requires
 settle-requires c =
@@ -48,19 +48,19 @@ settle-requires c =
     let q = c.index_mut-process.result.now in
     let it = process-at c.args.self.now.processes.items c.args.p e.kept c.index_mut-process.ensures.value in
     let turn = turning c.args.p h.2.after e c.requires.running in
-    let code : c.as_slice-code.result.now ≡ unit_code program l.unit = c.as_slice-code.ensures ∙ (c.unit.ensures.code ∙ ap (λ (k : Level). unit_code program k.unit) (c.top-unit.ensures l e.below e.operands it.stack)) in
+    let code : c.as_slice-code.result.now ≡ unit_code program l.unit = c.as_slice-code.ensures ∙ (c.unit.ensures.code ∙ ap (λ (k : Level). unit_code program k.unit) (c.top-unit.ensures l e.below e.operands e.pending it.stack)) in
     let ahead = ap (λ is. values_ahead (drop l.index is)) code in
-    let room : deepest (unit_code program l.unit) ≤ vec_capacity q.operands = h.2.room (c.args.p - 1) q it.there _ l (last-there q l e.below e.operands it.stack) in
-    (l, e.below, e.operands, it.stack, omega (arith, ahead, room, room-ahead turn.1))
+    let room : deepest (unit_code program l.unit) ≤ vec_capacity q.operands = h.2.room (c.args.p - 1) q it.there _ l (last-there q l e.below e.operands e.pending it.stack) in
+    (l, e.below, e.operands, e.pending, it.stack, omega (arith, ahead, room, room-ahead turn.1))
 
 pub top-requires : goal.top-requires
 top-requires c =
     let program = c.args.image.now in
     let e = c.requires.living in
     let it = process-at c.args.self.now.processes.items c.args.p e.kept c.index_mut-process.ensures.value in
-    let code : c.as_slice-code.result.now ≡ unit_code program e.level.unit = c.as_slice-code.ensures ∙ (c.unit.ensures.code ∙ ap (λ (k : Level). unit_code program k.unit) (c.top-unit.ensures e.level e.below e.operands it.stack)) in
-    let s = c.settle.ensures.settled program e.level e.below e.operands code it.stack in
-    some-levels c.settle.new.self (record e.level { index = s.0 }) e.below s.1 s.2
+    let code : c.as_slice-code.result.now ≡ unit_code program e.level.unit = c.as_slice-code.ensures ∙ (c.unit.ensures.code ∙ ap (λ (k : Level). unit_code program k.unit) (c.top-unit.ensures e.level e.below e.operands e.pending it.stack)) in
+    let s = c.settle.ensures.settled program e.level e.below e.operands e.pending code it.stack in
+    some-levels c.settle.new.self (record e.level { index = s.0 }) e.below s.1 e.pending s.2
 
 -- what stands in front of the instructions that are ahead, once the values in front of it are operands
 found-ahead : (program : Units) (old : Machine) {m : Snapshot} {p : ℕ} (levels : HasLevels m p)
@@ -88,15 +88,16 @@ returns c =
     let l = e.level in
     let ls = e.below in
     let vs = e.operands in
+    let ws = e.pending in
     let it = process-at old.processes.items p e.kept c.index_mut-process.ensures.value in
-    let code : c.as_slice-code.result.now ≡ unit_code program l.unit = c.as_slice-code.ensures ∙ (c.unit.ensures.code ∙ ap (λ (k : Level). unit_code program k.unit) (c.top-unit.ensures l ls vs it.stack)) in
-    let s = c.settle.ensures.settled program l ls vs code it.stack in
+    let code : c.as_slice-code.result.now ≡ unit_code program l.unit = c.as_slice-code.ensures ∙ (c.unit.ensures.code ∙ ap (λ (k : Level). unit_code program k.unit) (c.top-unit.ensures l ls vs ws it.stack)) in
+    let s = c.settle.ensures.settled program l ls vs ws code it.stack in
     let later = record l { index = s.0 } in
-    let k = stack_with later ls s.1 in
-    let top : c.top.result ≡ later = c.top.ensures later ls s.1 s.2 in
+    let k = stack_with later ls s.1 ws in
+    let top : c.top.result ≡ later = c.top.ensures later ls s.1 ws s.2 in
     let stacks = stacks-set old.processes.items p r k s.2 in
-    let shown : snapshot_of (record old { processes = with_item old.processes (p - 1) r }) ≡ with_stack m p (later ∷ ls) s.1 = λ i. record m { processes = stacks i } in
-    let levels : HasLevels (with_stack m p (later ∷ ls) s.1) p = record { level = later; below = ls; operands = s.1; kept = set-numbered m.processes p (stack_with l ls vs) k e.kept } in
+    let shown : snapshot_of (record old { processes = with_item old.processes (p - 1) r }) ≡ with_stack m p (later ∷ ls) s.1 ws = λ i. record m { processes = stacks i } in
+    let levels : HasLevels (with_stack m p (later ∷ ls) s.1 ws) p = record { level = later; below = ls; operands = s.1; pending = ws; kept = set-numbered m.processes p (stack_with l ls vs ws) k e.kept } in
     let here : drop c.top.result.index c.as_slice-code.result.now ≡ drop s.0 (unit_code program l.unit) = (λ i. drop (top i).index (code i)) in
     record {
       ahead =
@@ -109,7 +110,7 @@ returns c =
       after = λ cells choices h.
           let turn = turning p h.after e c.requires.running in
           machine-of program cells choices _ (subst (IsAfter program cells choices) (sym shown) (settled turn.1 s.1 s.0 s.3.stands).after) (
-          rooms-set program cells old _ (p - 1) r refl refl (room-moved program q r l s.0 ls vs s.1 it.stack s.2 c.settle.ensures.capacity (h.room (p - 1) q it.there)) (rooms-of program cells choices old h));
+          rooms-set program cells old _ (p - 1) r refl refl (room-moved program q r l s.0 ls vs s.1 ws it.stack s.2 c.settle.ensures.capacity (h.room (p - 1) q it.there)) (rooms-of program cells choices old h));
       same = record { arena = refl; nodes = refl; processes = ap length stacks ∙ length-set m.processes (p - 1) k; activations = refl; records = refl; faults = refl; halted = refl };
       living = subst (λ (n : Snapshot). HasLevels n p) (sym shown) levels;
     }

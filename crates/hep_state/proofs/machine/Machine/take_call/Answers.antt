@@ -1,8 +1,10 @@
-use Rattle.std.proofs.Common.{◌≡◌, ◌≤◌, ℕ, Bool, true, false, List, [], ◌∷◌, ◌++◌, None, sym, ap, ◌∙◌, subst, is_some, vec_capacity}
+use Rattle.std.proofs.Common.{◌≡◌, ◌≤◌, ℕ, true, List, [], ◌∷◌, ◌++◌, None, sym, ap, ◌∙◌, subst, is_some, vec_capacity}
 use Rattle.std.proofs.lemmas.Option.{none-some}
 use Rattle.hep_machine.specs.Words.{Units}
 use Rattle.hep_arena.specs.Holes.{first_fit}
 use Rattle.hep_code.specs.Words.{deepest}
+use Rattle.hep_step.specs.declared.way.Way.{Way}
+use Rattle.hep_step.specs.declared.way.Way.TheVariants.{Calls, Creates}
 use Rattle.hep_step.specs.Effects.{fails}
 use Rattle.hep_step.specs.Simulation.{unit_code}
 use Rattle.hep_state.specs.declared.machine.Machine.{Machine}
@@ -89,15 +91,15 @@ module _ (c : After-fits) (cells : ℕ) (choices : List ℕ) (h : IsMachineAfter
   gaps-there : c.fits.result ≡ true → HasGaps program cells choices c.args.p
   gaps-there fits =
       let made = c.in_default.ensures.given cells choices h at in
-      c.gaps_are_told.ensures.some c.args.call.creates (turn_of made) u c.unit-unit.result.now.cells c.unit-unit.result.now.entry c.args.call.next c.give.new.self.passing.given.items c.give.new.self.passing.shapes.items made.holds called (sym fits-so ∙ fits)
+      c.gaps_are_told.ensures.some c.args.call.way (turn_of made) u c.unit-unit.result.now.cells c.unit-unit.result.now.entry c.args.call.next c.give.new.self.passing.given.items c.give.new.self.passing.shapes.items made.holds called (sym fits-so ∙ fits)
 
   given : IsMachineAfter program cells choices c.give.new.self
   given = machine-reserved program cells choices c.args.self.now c.give.new.self (ap snapshot_of c.give.ensures.others) (c.give.ensures.rooms cells) h
 
   -- what is made and given is so where room was made for it, by CALL or by CREATE
-  making : (b : Bool) (new : Machine) → c.args.call.creates ≡ b → snapshot_of new ≡ snapshot_of c.give.new.self → new.passing ≡ c.give.new.self.passing
-      → Makes b program cells choices c.args.p new (record { unit = u; cells = c.unit-unit.result.now.cells; entry = c.unit-unit.result.now.entry }) c.args.call.next
-  making b new is shown passing =
+  making : (way : Way) (new : Machine) → c.args.call.way ≡ way → snapshot_of new ≡ snapshot_of c.give.new.self → new.passing ≡ c.give.new.self.passing
+      → Makes way program cells choices c.args.p new (record { unit = u; cells = c.unit-unit.result.now.cells; entry = c.unit-unit.result.now.entry }) c.args.call.next
+  making way new is shown passing =
       let same = sym (shown ∙ ap snapshot_of c.give.ensures.others) in
       record {
         making = carry (λ i. HoldsInTurn program cells choices c.args.p (same i) (λ t. IsMaking (is i) t u c.args.call.next (sym passing i).given.items (sym passing i).shapes.items)) (c.in_default.ensures.given cells choices h at);
@@ -109,62 +111,62 @@ returns-then-not-fits-clause-unturned c cells choices h at =
     let before = (goal.at.returns-then-not-fits-clause-unturned c).After-fits in
     let unit = c.unit-unit.result.now in
     let made = c.in_default.ensures.given cells choices h at in
-    c.gaps_are_told.ensures.none c.args.call.creates (turn_of made) c.args.call.unit unit.cells unit.entry c.args.call.next c.give.new.self.passing.given.items c.give.new.self.passing.shapes.items made.holds (called before cells choices h at) (none-from-not (first_fit unit.cells c.args.self.now.frames.arena.holes) (sym (fits-so before cells choices h at) ∙ c.if-not-fits.true))
+    c.gaps_are_told.ensures.none c.args.call.way (turn_of made) c.args.call.unit unit.cells unit.entry c.args.call.next c.give.new.self.passing.given.items c.give.new.self.passing.shapes.items made.holds (called before cells choices h at) (none-from-not (first_fit unit.cells c.args.self.now.frames.arena.holes) (sym (fits-so before cells choices h at) ∙ c.if-not-fits.true))
 
 -- ---- CALL
 
-pub returns-in_err-reserve_activation-clause-unturned : goal.returns-in_err-reserve_activation-clause-unturned
-returns-in_err-reserve_activation-clause-unturned c =
-    let r = c.from_residual-in_err-reserve_activation in
+pub returns-in_err-reserve_activation-in-Calls-clause-unturned : goal.returns-in_err-reserve_activation-in-Calls-clause-unturned
+returns-in_err-reserve_activation-in-Calls-clause-unturned c =
+    let r = c.from_residual-in_err-reserve_activation-in-Calls in
     without-memory (unturned-at c.args.image.now c.args.p c.args.call c.args.self.now) r.result r.ensures.1 (λ cells choices h at.
-    gaps-there (goal.at.returns-in_err-reserve_activation-clause-unturned c).After-fits cells choices h at c.if-not-fits.false)
+    gaps-there (goal.at.returns-in_err-reserve_activation-in-Calls-clause-unturned c).After-fits cells choices h at c.if-not-fits.false)
 
-pub returns-in_err-reserve_activation-clause-refused : goal.returns-in_err-reserve_activation-clause-refused
-returns-in_err-reserve_activation-clause-refused c =
-    let r = c.from_residual-in_err-reserve_activation in
-    on-err r.result r.ensures.0 (reserved-after (goal.at.returns-in_err-reserve_activation-clause-refused c).After-fits c.reserve_activation.new.self c.reserve_activation.ensures.shown (c.reserve_activation.ensures.rooms c.args.image.now))
+pub returns-in_err-reserve_activation-in-Calls-clause-refused : goal.returns-in_err-reserve_activation-in-Calls-clause-refused
+returns-in_err-reserve_activation-in-Calls-clause-refused c =
+    let r = c.from_residual-in_err-reserve_activation-in-Calls in
+    on-err r.result r.ensures.0 (reserved-after (goal.at.returns-in_err-reserve_activation-in-Calls-clause-refused c).After-fits c.reserve_activation.new.self c.reserve_activation.ensures.shown (c.reserve_activation.ensures.rooms c.args.image.now))
 
 pub call-requires-clause-calling : goal.call-requires-clause-calling
 call-requires-clause-calling c =
     let h = c.requires.at in
     let before = (goal.at.call-requires-clause-calling c).After-fits in
-    (c.args.image.now, h.0, h.1, making before h.0 h.1 h.2 h.3 false c.reserve_activation.new.self c.if-call.false c.reserve_activation.ensures.shown c.reserve_activation.ensures.passing)
+    (c.args.image.now, h.0, h.1, making before h.0 h.1 h.2 h.3 Calls c.reserve_activation.new.self c.in-Calls.is c.reserve_activation.ensures.shown c.reserve_activation.ensures.passing)
 
-pub returns-in_ok-reserve_activation-clause-turned : goal.returns-in_ok-reserve_activation-clause-turned
-returns-in_ok-reserve_activation-clause-turned c cells choices h at =
+pub returns-in_ok-reserve_activation-in-Calls-clause-turned : goal.returns-in_ok-reserve_activation-in-Calls-clause-turned
+returns-in_ok-reserve_activation-in-Calls-clause-turned c cells choices h at =
     let program = c.args.image.now in
-    let before = (goal.at.returns-in_ok-reserve_activation-clause-turned c).After-fits in
+    let before = (goal.at.returns-in_ok-reserve_activation-in-Calls-clause-turned c).After-fits in
     let reserved = c.reserve_activation.ensures in
-    let calling = making before cells choices h at false c.reserve_activation.new.self c.if-call.false reserved.shown reserved.passing in
+    let calling = making before cells choices h at Calls c.reserve_activation.new.self c.in-Calls.is reserved.shown reserved.passing in
     let deep : c.unit-unit.result.now.operands ≡ deepest (unit_code program c.args.call.unit) = c.unit-unit.ensures.operands ∙ ap deepest c.unit-unit.ensures.code in
     turned-so program cells choices c.args.p c.call.new.self (untouched before cells choices h at) (c.call.ensures.stepped program cells choices calling)
-    (c.call.ensures.rooms program cells (reserved.rooms program cells (rooms-of program cells choices c.give.new.self (given before cells choices h at))) (λ q e. subst (λ n. n ≤ vec_capacity q.operands) deep (c.in_ok-reserve_activation.ensures.operands q e)))
+    (c.call.ensures.rooms program cells (reserved.rooms program cells (rooms-of program cells choices c.give.new.self (given before cells choices h at))) (λ q e. subst (λ n. n ≤ vec_capacity q.operands) deep (c.in_ok-reserve_activation-in-Calls.ensures.operands q e)))
 
 -- ---- CREATE
 
-pub returns-in_err-process-clause-unturned : goal.returns-in_err-process-clause-unturned
-returns-in_err-process-clause-unturned c =
-    let r = c.from_residual-in_err-process in
+pub returns-in_err-process-in-Creates-clause-unturned : goal.returns-in_err-process-in-Creates-clause-unturned
+returns-in_err-process-in-Creates-clause-unturned c =
+    let r = c.from_residual-in_err-process-in-Creates in
     without-memory (unturned-at c.args.image.now c.args.p c.args.call c.args.self.now) r.result r.ensures.1 (λ cells choices h at.
-    gaps-there (goal.at.returns-in_err-process-clause-unturned c).After-fits cells choices h at c.if-not-fits.false)
+    gaps-there (goal.at.returns-in_err-process-in-Creates-clause-unturned c).After-fits cells choices h at c.if-not-fits.false)
 
-pub returns-in_err-process-clause-refused : goal.returns-in_err-process-clause-refused
-returns-in_err-process-clause-refused c =
-    let r = c.from_residual-in_err-process in
-    on-err r.result r.ensures.0 (reserved-after (goal.at.returns-in_err-process-clause-refused c).After-fits c.reserve_process.new.self c.reserve_process.ensures.shown (c.reserve_process.ensures.rooms c.args.image.now))
+pub returns-in_err-process-in-Creates-clause-refused : goal.returns-in_err-process-in-Creates-clause-refused
+returns-in_err-process-in-Creates-clause-refused c =
+    let r = c.from_residual-in_err-process-in-Creates in
+    on-err r.result r.ensures.0 (reserved-after (goal.at.returns-in_err-process-in-Creates-clause-refused c).After-fits c.reserve_process.new.self c.reserve_process.ensures.shown (c.reserve_process.ensures.rooms c.args.image.now))
 
 pub create-requires-clause-creating : goal.create-requires-clause-creating
 create-requires-clause-creating c =
     let h = c.requires.at in
     let before = (goal.at.create-requires-clause-creating c).After-fits in
-    (c.args.image.now, h.0, h.1, making before h.0 h.1 h.2 h.3 true c.reserve_process.new.self c.if-call.true c.reserve_process.ensures.shown c.reserve_process.ensures.passing)
+    (c.args.image.now, h.0, h.1, making before h.0 h.1 h.2 h.3 Creates c.reserve_process.new.self c.in-Creates.is c.reserve_process.ensures.shown c.reserve_process.ensures.passing)
 
-pub returns-in_ok-process-clause-turned : goal.returns-in_ok-process-clause-turned
-returns-in_ok-process-clause-turned c cells choices h at =
+pub returns-in_ok-process-in-Creates-clause-turned : goal.returns-in_ok-process-in-Creates-clause-turned
+returns-in_ok-process-in-Creates-clause-turned c cells choices h at =
     let program = c.args.image.now in
-    let before = (goal.at.returns-in_ok-process-clause-turned c).After-fits in
+    let before = (goal.at.returns-in_ok-process-in-Creates-clause-turned c).After-fits in
     let reserved = c.reserve_process.ensures in
-    let creating = making before cells choices h at true c.reserve_process.new.self c.if-call.true reserved.shown reserved.passing in
+    let creating = making before cells choices h at Creates c.reserve_process.new.self c.in-Creates.is reserved.shown reserved.passing in
     let deep : c.unit-unit.result.now.operands ≡ deepest (unit_code program c.args.call.unit) = c.unit-unit.ensures.operands ∙ ap deepest c.unit-unit.ensures.code in
     turned-so program cells choices c.args.p c.create.new.self (untouched before cells choices h at) (c.create.ensures.stepped program cells choices creating)
-    (c.create.ensures.rooms program cells (reserved.rooms program cells (rooms-of program cells choices c.give.new.self (given before cells choices h at))) (subst (λ n. n ≤ vec_capacity c.in_ok-process.process.operands) deep c.in_ok-process.ensures.operands))
+    (c.create.ensures.rooms program cells (reserved.rooms program cells (rooms-of program cells choices c.give.new.self (given before cells choices h at))) (subst (λ n. n ≤ vec_capacity c.in_ok-process-in-Creates.process.operands) deep c.in_ok-process-in-Creates.ensures.operands))

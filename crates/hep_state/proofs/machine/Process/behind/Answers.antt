@@ -3,14 +3,14 @@ use Rattle.hep_state.proofs.machine.Process.behind.Goals.{After-as_slice}
 use Rattle.hep_state.proofs.machine.Process.behind.Goals as goal
 
 pub place-index-requires : goal.place-index-requires
-place-index-requires c = let r = c.requires in (r.0, r.1, r.2, r.3, r.4)
+place-index-requires c = let r = c.requires in (r.0, r.1, r.2, r.3, r.4, r.5)
 
 -- the operation stands in the code
 inside : (c : After-as_slice) → c.place-index.result.2 < length c.as_slice.result.now
 inside c =
     let r = c.requires in
-    let at = c.place-index.ensures r.0 r.1 r.2 r.3 in
-    omega (arith, r.5, at.at, ap length (c.as_slice.ensures ∙ at.code.code))
+    let at = c.place-index.ensures r.0 r.1 r.2 r.3 r.4 in
+    omega (arith, r.6, at.at, ap length (c.as_slice.ensures ∙ at.code.code))
 
 pub overflow_add-entries : goal.overflow_add-entries
 overflow_add-entries c = let less = inside c in omega arith
@@ -25,8 +25,8 @@ pub slice_bounds-entries-start : goal.slice_bounds-entries-start
 slice_bounds-entries-start c = let less = inside c in omega arith
 
 pub returns : goal.returns
-returns c l ls operands is =
-    let at = c.place-index.ensures l ls operands is in
+returns c l ls operands pending is =
+    let at = c.place-index.ensures l ls operands pending is in
     let code = c.as_slice.result.now in
     let index = c.place-index.result.2 in
     let rest = take_all (length code - (index + 1)) (drop (index + 1) code) (omega (arith, length-drop (index + 1) code)) in

@@ -10,13 +10,13 @@ use Rattle.hep_state.proofs.machine.Process.place.Goals.{After-top-key}
 use Rattle.hep_state.proofs.machine.Process.place.Goals as goal
 
 pub top-key-requires : goal.top-key-requires
-top-key-requires c = let r = c.requires in some-levels c.args.self.now r.0 r.1 r.2 r.3
+top-key-requires c = let r = c.requires in some-levels c.args.self.now r.0 r.1 r.2 r.3 r.4
 
 key-there : (c : After-top-key) → ContainsKey c.args.frames.now.nodes c.top-key.result.key
 key-there c =
     let r = c.requires in
     let slab = c.args.frames.now.nodes in
-    subst (λ (l : Level). ContainsKey slab l.key) (sym (c.top-key.ensures r.0 r.1 r.2 r.3)) (some-value slab r.0.key (node_under (nodes_of slab) r.0.key) r.4.1)
+    subst (λ (l : Level). ContainsKey slab l.key) (sym (c.top-key.ensures r.0 r.1 r.2 r.3 r.4)) (some-value slab r.0.key (node_under (nodes_of slab) r.0.key) r.5.1)
 
 pub first-requires : goal.first-requires
 first-requires c = key-there (goal.at.first-requires c).After-top-key
@@ -27,15 +27,15 @@ cells-requires c = key-there (goal.at.cells-requires c).After-top-key
 pub unit-requires : goal.unit-requires
 unit-requires c =
     let r = c.requires in
-    subst (λ (l : Level). l.unit < length c.args.image.now) (sym (c.top-key.ensures r.0 r.1 r.2 r.3)) r.4.0
+    subst (λ (l : Level). l.unit < length c.args.image.now) (sym (c.top-key.ensures r.0 r.1 r.2 r.3 r.4)) r.5.0
 
 pub returns : goal.returns
-returns c l ls operands is =
-    let same = c.top-key.ensures l ls operands is in
+returns c l ls operands pending is =
+    let same = c.top-key.ensures l ls operands pending is in
     let r = c.requires in
     let nodes = nodes_of c.args.frames.now.nodes in
-    let there = ap (λ (k : Level). nodes k.key) (c.top-key.ensures r.0 r.1 r.2 r.3) ∙ r.4.1 in
-    let node : node_under nodes r.0.key ≡ node_under nodes l.key = ap (λ (k : Level). node_under nodes k.key) (sym (c.top-key.ensures r.0 r.1 r.2 r.3) ∙ same) in
+    let there = ap (λ (k : Level). nodes k.key) (c.top-key.ensures r.0 r.1 r.2 r.3 r.4) ∙ r.5.1 in
+    let node : node_under nodes r.0.key ≡ node_under nodes l.key = ap (λ (k : Level). node_under nodes k.key) (sym (c.top-key.ensures r.0 r.1 r.2 r.3 r.4) ∙ same) in
     record {
       code = subst (λ (k : Level). IsUnitCode c.args.image.now k.unit c.unit.result.now) same c.unit.ensures;
       framed = λ i. record { first = (c.first.ensures (node_under nodes r.0.key) there ∙ ap (λ n. n.first) node) i; cells = (c.cells.ensures (node_under nodes r.0.key) there ∙ ap (λ n. n.cells) node) i };

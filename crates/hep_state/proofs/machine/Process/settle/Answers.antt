@@ -21,28 +21,28 @@ settled-here program top l was operands new index code is same ops past stands =
     }))
 
 pub top-index-requires : goal.top-index-requires
-top-index-requires c = let r = c.requires in some-levels c.args.self.now r.0 r.1 r.2 r.3
+top-index-requires c = let r = c.requires in some-levels c.args.self.now r.0 r.1 r.2 r.3 r.4
 
 pub settle-requires : goal.settle-requires
 settle-requires c =
     let r = c.requires in
     let q = c.args.self.now in
-    let same = c.top-index.ensures r.0 r.1 r.2 r.3 in
+    let same = c.top-index.ensures r.0 r.1 r.2 r.3 r.4 in
     let ahead = ap (λ (l : Level). values_ahead (drop l.index c.args.code.now)) same in
-    let count = q.operands.ok.0 ∙ ap length (operands-are q r.0 r.1 r.2 r.3) in
-    omega (arith, ahead, count, r.4)
+    let count = q.operands.ok.0 ∙ ap length (operands-are q r.0 r.1 r.2 r.3 r.4) in
+    omega (arith, ahead, count, r.5)
 
 pub stand_at-requires : goal.stand_at-requires
-stand_at-requires c = let r = c.requires in some-levels c.args.self.now r.0 r.1 r.2 r.3
+stand_at-requires c = let r = c.requires in some-levels c.args.self.now r.0 r.1 r.2 r.3 r.4
 
 pub returns-clause-settled : goal.returns-clause-settled
-returns-clause-settled c program l ls operands code is =
+returns-clause-settled c program l ls operands pending code is =
     let q = c.args.self.now in
-    let same = c.top-index.ensures l ls operands is in
+    let same = c.top-index.ensures l ls operands pending is in
     let settled = c.settle.new.operands.items in
     let index = c.settle.new.index in (
       index,
       settled,
-      c.stand_at.ensures.stack l ls settled (λ i. record { levels = (is i).levels; operands = settled }),
-      settled-here program c.top-index.result l q.operands.items operands settled index c.args.code.now (code ∙ ap (λ (m : Level). unit_code program m.unit) (sym same)) same (operands-are q l ls operands is) c.settle.ensures.settled c.settle.ensures.stands,
+      c.stand_at.ensures.stack l ls settled pending (λ i. record { levels = (is i).levels; operands = settled; pending = (is i).pending }),
+      settled-here program c.top-index.result l q.operands.items operands settled index c.args.code.now (code ∙ ap (λ (m : Level). unit_code program m.unit) (sym same)) same (operands-are q l ls operands pending is) c.settle.ensures.settled c.settle.ensures.stands,
     )

@@ -1,0 +1,10 @@
+//! How an activation is made.
+
+/// What makes an activation.
+#[derive(Clone, Copy, Debug, PartialEq, Eq)]
+pub enum Way {
+    /// A CALL, above whose activation it is (X3.9-1978, 15.6.2).
+    Calls,
+    /// A CREATE: it is a process of its own (`docs/LANGUAGE.md`).
+    Creates,
+}
