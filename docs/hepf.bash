@@ -27,7 +27,11 @@ _hepf() {
         run) options="--arena --steps --workers --choices --history --help" ;;
         replay) options="--arena --help" ;;
         explain)
-            _hepf_offer -W "--help 101 102 103 104 105 106 107 201 202 203 204 205 301 302 303 304 305 306 307 308 309 310 311 401 402 501 506 601 602 603 701 702 703 704 705"
+            if ((COMP_CWORD == 2)); then
+                _hepf_offer -W "--help 101 102 103 104 105 106 107 201 202 203 204 205 301 302 303 304 305 306 307 308 309 310 311 401 402 501 506 601 602 603 701 702 703 704 705 OVERFLOW DIVIDE RANGE UNDEFINED SHAPE STEP FAULT WAITING STOPPED ARENA NO WORKERS READ WRITE REFUSED STILL STATUS"
+            else
+                _hepf_offer -W "ARENA STEP FULL LIMIT MEMORY REFUSED FAULT RUNNING 0 1 2 3 4 5 6 7 8 70"
+            fi
             return
             ;;
         help)

@@ -1,8 +1,8 @@
 """What can be said of words without the program: help, the version, what a refusal means, and mistakes.
 
-Nothing of it stands here: commands, options and their numbers are read from the manual page, docs/hepf.1, refusals from
-docs/REFUSALS.md, and the version and two mistakes from the crate hep_command. A word that may have a meaning is left to the
-program.
+Nothing of it stands here: commands, options and their numbers are read from the manual page, docs/hepf.1, explanations from
+docs/REFUSALS.md and docs/FAULTS.md, and the version and some mistakes from the crate hep_command. A word that may have a
+meaning is left to the program.
 """
 import re
 import shlex
@@ -15,6 +15,8 @@ COMMAND = ROOT / "crates" / "hep_command" / "src"
 COLUMNS = 80
 # What stands for a file in the manual page.
 FILES = ("FILE", "HISTORY")
+# What stands there for one word or more.
+WORDS = "WORD.."
 
 
 class Mistake(Exception):
@@ -103,7 +105,7 @@ def text_in(file, pattern):
 
 
 def constant(file, name):
-    return text_in(file, rf'const {name}: &str = "(.*?)";')
+    return text_in(file, rf'const {name}: &str =\s*"(.*?)";')
 
 
 def version(of):
@@ -112,13 +114,41 @@ def version(of):
     return f"hepf {number}, {of}, {kit}\n"
 
 
-def explanation(number):
-    """What a refusal means, and what to do."""
-    text = (ROOT / "docs" / "REFUSALS.md").read_text()
-    row = re.search(rf"^\| {number} \| .* \| (.*) \| (.*) \|$", text, re.M)
-    if not row:
-        raise Mistake(text_in("refusals.rt", r'None => Usage::of_text\(alloc, 2, "(.*?)"\)'))
-    return "".join(textwrap.fill(it, COLUMNS) + "\n" for it in row.groups())
+def sections_of(page, mark):
+    """By heading, what a page of docs/ says in its sections with this mark, but for the lines that begin and end programs."""
+    found = {}
+    for section in re.split(r"^(?=#+ )", (ROOT / "docs" / page).read_text(), flags=re.M):
+        heading, *rows = section.strip("\n").split("\n")
+        if heading.startswith(f"{mark} "):
+            shown_rows = [it for it in rows[1:] if not it.startswith("```")]
+            found[heading[len(mark) + 1 :]] = "\n".join(shown_rows) + "\n"
+    return found
+
+
+def refusals():
+    """By number, what docs/REFUSALS.md says: what it means, what to do, and more where there is more."""
+    more = {heading.split(",")[0]: text for heading, text in sections_of("REFUSALS.md", "###").items()}
+    rows = re.findall(r"^\| (\d+) \| .* \| (.*) \| (.*) \|$", (ROOT / "docs" / "REFUSALS.md").read_text(), re.M)
+    return {number: (means, remedy, more.get(number, "")) for number, means, remedy in rows}
+
+
+def meanings():
+    """By name, what docs/FAULTS.md says of faults, other ends of a run and statuses."""
+    return {name: text for heading, text in sections_of("FAULTS.md", "##").items() for name in heading.split(", ")}
+
+
+def explanation(name):
+    """What a name or a number means, and what to do."""
+    if not re.fullmatch(r"\+?\d+", name):
+        found = meanings().get(name.upper())
+        if not found:
+            raise Mistake(constant("explaining.rt", "NO_NAME"))
+        return found
+    found = refusals().get(str(int(name)))
+    if not found:
+        raise Mistake(constant("explaining.rt", "NO_NUMBER"))
+    *sentences, more = found
+    return "".join(textwrap.fill(it, COLUMNS) + "\n" for it in sentences) + (f"\n{more}" if more else "")
 
 
 # ---- words
@@ -171,7 +201,8 @@ def taken(command, form, words):
 def judge(manual, job, form):
     """Raises the mistake that a job has, if it has one."""
     lacking = form.operands[len(job.operands) :]
-    if lacking or len(job.operands) > len(form.operands):
+    takes_more = form.operands[-1:] == [WORDS]
+    if lacking or len(job.operands) > len(form.operands) and not takes_more:
         wrong = f"lacks {' '.join(lacking)}" if lacking else f"doesn't take {job.operands[len(form.operands)]}"
         raise Mistake(f"error: {job.command} {wrong}\n\nUsage: {form.line}\n")
     for name, value in job.options:
@@ -205,6 +236,5 @@ def read(manual, words, of):
         return help_of(manual, [first])
     judge(manual, job, found[first])
     if first == "explain":
-        checked_number("explain", job.operands[0], 0, 65535)
-        return explanation(job.operands[0])
+        return explanation(" ".join(job.operands))
     return job

@@ -1,7 +1,8 @@
--- What the words for numbers and jobs say, row by row.
-use Rattle.std.proofs.Common.{◌≡◌, ◌∷◌, [], Some, None, refl, codes}
+-- What the words for numbers, jobs and names say, row by row.
+use Rattle.std.proofs.Common.{◌≡◌, ◌∷◌, [], Some, None, false, refl, true, codes}
 use Rattle.clap.proofs.OnLiterals.{clap_on_literals}
-use Rattle.hep_command.specs.Asked.{replay, run, standard}
+use Rattle.hep_command.specs.Asked.{explain, replay, run, standard}
+use Rattle.hep_command.specs.Explanations.{is_explained, name_of}
 use Rattle.hep_command.specs.Numbers.{number_within}
 use Rattle.hep_command.specs.Program.{asked}
 
@@ -57,3 +58,23 @@ replay_with_defaults : asked (codes "hepf" ∷ codes "replay" ∷ codes "a.f" �
     ≡ Some (replay (codes "a.f") (codes "h") 65536)
 unfolding asked clap_on_literals
 replay_with_defaults = refl
+
+explain_by_words : asked (codes "hepf" ∷ codes "explain" ∷ codes "arena" ∷ codes "Full" ∷ [])
+    ≡ Some (explain (codes "arena") (Some (codes "Full")) None)
+unfolding asked clap_on_literals
+explain_by_words = refl
+
+joined : name_of (codes "arena") (Some (codes "Full")) None ≡ codes "ARENA FULL"
+joined = refl
+
+explained_stop : is_explained (codes "ARENA FULL") ≡ true
+explained_stop = refl
+
+explained_refusal : is_explained (codes "+0304") ≡ true
+explained_refusal = refl
+
+no_status : is_explained (codes "STATUS 9") ≡ false
+no_status = refl
+
+no_refusal : is_explained (codes "70") ≡ false
+no_refusal = refl

@@ -15,7 +15,7 @@ pub data Asked : Type 0 where
   run : Text → ℕ → ℕ → Option ℕ → Option Text → Option Text → Asked
   replay : Text → Text → ℕ → Asked
   list : Text → Asked
-  explain : ℕ → Asked
+  explain : Text → Option Text → Option Text → Asked
 
 abbrev pub texts : Option (Bor (ListOf ℕ)) → Option Text
 texts = option_map (λ path. path.now)
@@ -26,7 +26,7 @@ asked_by (Check file) = check file.now
 asked_by (Run file arena steps workers choices history) = run file.now arena steps workers (texts choices) (texts history)
 asked_by (Replay file history arena) = replay file.now history.now arena
 asked_by (List file) = list file.now
-asked_by (Explain number) = explain number
+asked_by (Explain first second third) = explain first.now (texts second) (texts third)
 
 -- what was found for a command, each word under the id of its argument
 abbrev pub words_found : ArgMatches → ListOf Row
@@ -67,7 +67,9 @@ abbrev pub list_in : ListOf Row → Option Asked
 list_in rows = option_map list (first_of (codes "file") rows)
 
 abbrev pub explain_in : ListOf Row → Option Asked
-explain_in rows = option_map explain (option_and_then (number_within 0 65535) (first_of (codes "number") rows))
+explain_in rows =
+    option_map (λ first. explain first (first_of (codes "second") rows) (first_of (codes "third") rows))
+    (first_of (codes "first") rows)
 
 -- the job of the command with this name
 abbrev pub command_in : Text → ListOf Row → Option Asked

@@ -1,6 +1,10 @@
--- The refusals that the program may report: docs/REFUSALS.md.
-use Rattle.std.specs.Prelude.{ℕ, Bool, List, [], ◌∷◌, nat_eq}
+-- What the program explains: docs/REFUSALS.md and docs/FAULTS.md.
+use Rattle.std.specs.Prelude.{◌||◌, ◌++◌, ◌∷◌, [], ℕ, Bool, List, Option, Some, None, codes, false, map, nat_eq}
 use Rattle.std.specs.List.{list_any}
+use Rattle.std.specs.Str.{bytes_eq}
+use Rattle.std.specs.Char.{to_ascii_uppercase}
+use Rattle.clap.specs.Words.{Text}
+use Rattle.hep_command.specs.Numbers.{number_within}
 
 -- of lines, of statements, of a program, of choices, of the texts of histories and choices, and of workers
 abbrev pub refusals : List ℕ
@@ -12,3 +16,43 @@ refusals =
 
 abbrev pub is_refusal : ℕ → Bool
 is_refusal number = list_any (nat_eq number) refusals
+
+abbrev pub faults : List Text
+faults =
+    codes "OVERFLOW" ∷ codes "DIVIDE" ∷ codes "RANGE" ∷ codes "UNDEFINED" ∷ codes "SHAPE" ∷ codes "STEP" ∷ []
+
+-- what else a run may end with
+abbrev pub ends : List Text
+ends =
+    codes "FAULT" ∷ codes "WAITING" ∷ codes "STOPPED ARENA FULL" ∷ codes "ARENA FULL"
+    ∷ codes "STOPPED STEP LIMIT" ∷ codes "STEP LIMIT" ∷ codes "NO MEMORY" ∷ codes "WORKERS REFUSED"
+    ∷ codes "READ FAULT" ∷ codes "WRITE FAULT" ∷ codes "REFUSED" ∷ codes "STILL RUNNING" ∷ []
+
+abbrev pub statuses : List Text
+statuses =
+    codes "STATUS 0" ∷ codes "STATUS 1" ∷ codes "STATUS 2" ∷ codes "STATUS 3" ∷ codes "STATUS 4"
+    ∷ codes "STATUS 5" ∷ codes "STATUS 6" ∷ codes "STATUS 7" ∷ codes "STATUS 8" ∷ codes "STATUS 70" ∷ []
+
+abbrev pub is_among : List Text → Text → Bool
+is_among names name = list_any (bytes_eq name) names
+
+-- one word more, behind a blank
+abbrev pub with_word : Text → Option Text → Text
+with_word name None = name
+with_word name (Some word) = (name ++ 32 ∷ []) ++ word
+
+-- the words joined by blanks, their small letters as capitals
+abbrev pub name_of : Text → Option Text → Option Text → Text
+name_of first second third = map to_ascii_uppercase (with_word (with_word first second) third)
+
+abbrev pub is_refusal_in : Option ℕ → Bool
+is_refusal_in None = false
+is_refusal_in (Some number) = is_refusal number
+
+-- the name is the number of a refusal
+abbrev pub is_number_of_refusal : Text → Bool
+is_number_of_refusal name = is_refusal_in (number_within 0 65535 name)
+
+abbrev pub is_explained : Text → Bool
+is_explained name =
+    is_among faults name || (is_among ends name || (is_among statuses name || is_number_of_refusal name))

@@ -23,7 +23,7 @@ IsInRange (Check file) = Unit {0}
 IsInRange (Run file arena steps workers choices history) = IsArena arena × IsSteps steps × AreWorkers workers
 IsInRange (Replay file history arena) = IsArena arena
 IsInRange (List file) = Unit {0}
-IsInRange (Explain number) = Unit {0}
+IsInRange (Explain first second third) = Unit {0}
 
 -- the history isn't written to a file that is read
 abbrev pub IsNoPath : Option (Bor (ListOf ℕ)) → Bor (ListOf ℕ) → Type 0

@@ -25,8 +25,12 @@ source_word = required_word (codes "file")
 abbrev pub history_word : Rule
 history_word = required_word (codes "history")
 
-abbrev pub refusal_word : Rule
-refusal_word = record (required_word (codes "number")) { parser = Some (Unsigned 0 65535) }
+abbrev pub name_word : Rule
+name_word = required_word (codes "first")
+
+-- a word that may be left out
+abbrev pub optional_word : Text → Rule
+optional_word id = record (new_rule id) { value_names = 1 }
 
 abbrev pub arena_option : Rule
 arena_option = number_option (codes "arena") 16777216
@@ -59,7 +63,9 @@ abbrev pub list_command : App
 list_command = with_rule (new_app (codes "list")) source_word
 
 abbrev pub explain_command : App
-explain_command = with_rule (new_app (codes "explain")) refusal_word
+explain_command =
+    with_rule (with_rule (with_rule (new_app (codes "explain")) name_word)
+    (optional_word (codes "second"))) (optional_word (codes "third"))
 
 -- the command line before its commands
 abbrev pub bare_program : App

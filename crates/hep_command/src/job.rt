@@ -52,9 +52,11 @@ pub enum Job<'a> {
     List {
         file: &'a str,
     },
-    /// To say what a refusal means.
+    /// To say what a refusal, a fault, another end of a run or an exit status means, by its name.
     Explain {
-        number: u16,
+        first: &'a str,
+        second: Option<&'a str>,
+        third: Option<&'a str>,
     },
 }
 

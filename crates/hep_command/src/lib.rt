@@ -1,12 +1,16 @@
 //! The words of the command line, and what the program says of itself: its help, its version, and
-//! its refusals by number.
+//! what its refusals, faults, stops and statuses mean.
 #![tactic(auto)]
 
+pub mod explaining;
 pub mod job;
+pub mod meanings;
 mod program;
 pub mod refusals;
 pub mod words;
 
+pub use explaining::explain;
 pub use job::{Job, Usage};
-pub use refusals::{explain, explanation};
+pub use meanings::meaning;
+pub use refusals::explanation;
 pub use words::{SAME_FILE, TWO_ORDERS, read_words};

@@ -27,7 +27,13 @@ const REPLAY_EXAMPLE: &str = "Example: hepf replay examples/powers.f powers.hist
 
 const LIST_EXAMPLE: &str = "Example: hepf list examples/sort.f";
 
-const EXPLAIN_EXAMPLE: &str = "Example: hepf explain 304";
+const EXPLAIN_EXAMPLES: &str =
+    "Of refusals the number: hepf explain 304. Of the rest, in small letters too:
+OVERFLOW, DIVIDE, RANGE, UNDEFINED, SHAPE, STEP, FAULT, WAITING, ARENA FULL,
+STEP LIMIT, NO MEMORY, WORKERS REFUSED, READ FAULT, WRITE FAULT, REFUSED,
+STILL RUNNING, and STATUS 0 to STATUS 8 and STATUS 70.
+
+Example: hepf explain arena full";
 
 // A word that has to be there.
 fn argument<'a>(alloc: Global, id: &'a str, name: &'a str) -> Arg<'a>
@@ -167,16 +173,29 @@ fn list_command<'a>(alloc: Global) -> Result<Command<'a>, AllocError>
         .arg(source_argument(alloc))
 }
 
+// What is explained, by its first word.
+fn name_argument<'a>(alloc: Global) -> Arg<'a>
+    ensures { IsArgument spec.name_word result }
+{
+    argument(alloc, "first", "WORD..").help("The number of a refusal, or one of the names below")
+}
+
+// A word behind the first one, which may be left out.
+fn next_word<'a>(alloc: Global, id: &'a str) -> Arg<'a>
+    ensures { IsArgument (spec.optional_word id.entry.now) result }
+{
+    Arg::new(alloc, id).value_name("WORD").hide(true)
+}
+
 fn explain_command<'a>(alloc: Global) -> Result<Command<'a>, AllocError>
     ensures { IfOk result (IsCommand spec.explain_command) }
 {
-    let number = argument(alloc, "number", "NUMBER")
-        .value_parser(ValueParser::unsigned(0, u64::from(u16::MAX)))
-        .help("The number of a line REFUSED or WORKERS REFUSED");
-    Command::new(alloc, "explain")
-        .about("Say what a refusal means and what to do about it")
-        .after_help(EXPLAIN_EXAMPLE)
-        .arg(number)
+    let explain = Command::new(alloc, "explain")
+        .about("Say what a line or a status means and what to do about it")
+        .after_help(EXPLAIN_EXAMPLES)
+        .arg(name_argument(alloc));
+    let explain = with_arg(explain, next_word(alloc, "second"));
+    with_arg(explain, next_word(alloc, "third"))
 }
 
 // The command line of the program.

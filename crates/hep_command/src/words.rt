@@ -24,9 +24,9 @@ pub const SAME_FILE: &str = "error: --history names a file that is read\n";
 /// What is said where both the choices and the workers are given: who steps first would be said twice.
 pub const TWO_ORDERS: &str = "USAGE: --choices excludes --workers\n";
 
-// The number that a text of decimal digits writes, where it lies in the range. `clap` has checked
-// this before; it is read anew from the text, so that the job's number is the word's.
-fn number_within(text: &str, least: u64, most: u64) -> Option<u64>
+// The number that a text of decimal digits writes, where it lies in the range. Of options `clap` has
+// checked this before; it is read anew from the text, so that the job's number is the word's.
+pub(crate) fn number_within(text: &str, least: u64, most: u64) -> Option<u64>
     ensures { result ≡ number_within least most text.now }
 {
     match text.parse::<u64>() {
@@ -128,9 +128,10 @@ fn explain_job<'a>(found: &ArgMatches<'a>) -> Option<Job<'a>>
     ensures range { IfSome result IsInRange }
     ensures job { option_map asked_by result ≡ explain_in (words_found found.now) }
 {
-    let number = number_within(word_of(found, "number")?, 0, u64::from(u16::MAX))?;
     Some(Job::Explain {
-        number: number as u16,
+        first: word_of(found, "first")?,
+        second: word_of(found, "second"),
+        third: word_of(found, "third"),
     })
 }
 

@@ -221,8 +221,12 @@ fn done<H: Threads + Wait + Sync>(rt: &HostRuntime, threads: &H, job: Job<'_>) -
             arena,
         } => replay_file(rt, file, &file_bytes(rt, history)?, arena),
         Job::List { file } => list_file(rt, file),
-        Job::Explain { number } => {
-            let usage = explain(rt.alloc(), number);
+        Job::Explain {
+            first,
+            second,
+            third,
+        } => {
+            let usage = explain(rt.alloc(), first, second, third);
             answer(
                 usage.status,
                 &usage.text,

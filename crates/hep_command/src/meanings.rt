@@ -1,0 +1,415 @@
+//! What faults, other ends of a run and statuses mean, by their names. docs/FAULTS.md has the same
+//! texts.
+ghost use Rattle.std.specs.Prelude.{◌≡◌, ◌||◌, is_some};
+ghost use Rattle.hep_command.specs.Explanations.{ends, faults, is_among, statuses};
+
+const OVERFLOW: &str = "FAULT process unit LINE n OVERFLOW: a value is below -9223372036854775808 or
+above 9223372036854775807. It may be that of an operator, a sign or a function,
+the number of a DO's iterations, or its variable at the end of one.
+Keep numbers smaller, as by MOD after each operation.
+
+Wrong: FAULT 1 MAIN LINE 2 OVERFLOW
+
+      N = 2**62
+      PRINT *, N+N
+      END
+
+Right:
+
+      N = 2**62-1
+      PRINT *, N+N
+      END
+";
+
+const DIVIDE: &str =
+    "FAULT process unit LINE n DIVIDE: a division by zero. MOD(I,J) divides by J, and
+a power of zero with an exponent below zero divides too.
+Test the divisor in an IF around it. An .AND. before it is no help, since both
+of its sides are always evaluated.
+
+Wrong: FAULT 1 MAIN LINE 2 DIVIDE
+
+      J = 0
+      IF (J .NE. 0 .AND. 6/J .GT. 1) PRINT *, 'LESS'
+      END
+
+Right:
+
+      J = 0
+      IF (J .NE. 0) THEN
+         IF (6/J .GT. 1) PRINT *, 'LESS'
+      END IF
+      END
+";
+
+const RANGE: &str = "FAULT process unit LINE n RANGE: an array has no such element. A subscript is
+outside its bounds, or what an array of a subroutine stands for ends before it.
+Mend the subscript or the bounds. After a DO its variable is past the limit, and
+a process made by CREATE S(I) in it may find it so: write CREATE S((I)).
+
+Wrong: FAULT 1 MAIN LINE 4 RANGE
+
+      INTEGER L(3)
+      DO 10 I = 1, 3
+   10 L(I) = I
+      PRINT *, L(I)
+      END
+
+Right:
+
+      INTEGER L(3)
+      DO 10 I = 1, 3
+   10 L(I) = I
+      PRINT *, L(3)
+      END
+";
+
+const UNDEFINED: &str =
+    "FAULT process unit LINE n UNDEFINED: a variable or an element is used that has
+no value yet, since nothing was assigned to it and DATA gives it none.
+Assign to it first. In a subroutine this holds at each call, since its variables
+are new ones then.
+
+Wrong: FAULT 1 MAIN LINE 2 UNDEFINED
+
+      DO 10 I = 1, 3
+   10 ISUM = ISUM+I
+      PRINT *, ISUM
+      END
+
+Right:
+
+      ISUM = 0
+      DO 10 I = 1, 3
+   10 ISUM = ISUM+I
+      PRINT *, ISUM
+      END
+";
+
+const SHAPE: &str = "FAULT process unit LINE n SHAPE: at this CALL or CREATE an array of the
+subroutine has more elements than what it is given, or its bounds have no value
+or are none: the upper one below the lower one, or too many elements.
+Give it an array that is long enough, and the right bounds.
+
+Wrong: FAULT 1 MAIN LINE 2 SHAPE
+
+      INTEGER L(3)
+      CALL CLEAR(L, 4)
+      END
+      SUBROUTINE CLEAR(M, N)
+      INTEGER M(N)
+      END
+
+Right:
+
+      INTEGER L(3)
+      CALL CLEAR(L, 3)
+      END
+      SUBROUTINE CLEAR(M, N)
+      INTEGER M(N)
+      END
+";
+
+const STEP: &str = "FAULT process unit LINE n STEP: the increment of a DO is zero.
+Give it another one.
+
+Wrong: FAULT 1 MAIN LINE 2 STEP
+
+      K = 0
+      DO 10 I = 1, 3, K
+   10 PRINT *, I
+      END
+
+Right:
+
+      K = 1
+      DO 10 I = 1, 3, K
+   10 PRINT *, I
+      END
+";
+
+const FAULT: &str = "FAULT process unit LINE n name: the process ended at this statement by a fault,
+and the others went on. The name is OVERFLOW, DIVIDE, RANGE, UNDEFINED, SHAPE or
+STEP. Status 3, also where others wait in the end; where the run was stopped,
+that of the stop. `hepf explain NAME` says what to do about each.
+
+Wrong: FAULT 1 MAIN LINE 1 UNDEFINED
+
+      PRINT *, N
+      END
+
+Right:
+
+      N = 1
+      PRINT *, N
+      END
+";
+
+const WAITING: &str = "WAITING process unit LINE n FOR FULL name OF a: all processes that live wait,
+each with a line. This one waits until the variable is full, or FOR EMPTY until
+it is empty. OF a says that it is of activation a; name#k is an element of it,
+and /block/#k a place in COMMON. Status 4, or 3 where a process had a fault.
+Fill or empty it in a process that goes on: each read needs a value of its own.
+
+Wrong: WAITING 1 MAIN LINE 4 FOR FULL $X OF 1
+
+      INTEGER $X
+      $X = 1
+      I = $X
+      J = $X
+      END
+
+Right:
+
+      INTEGER $X
+      $X = 1
+      I = $X
+      J = I
+      END
+";
+
+const STOPPED_ARENA_FULL: &str =
+    "STOPPED ARENA FULL: storage has no room for COMMON and the main program, or at a
+CALL or CREATE for the variables of the subroutine. Status 5.
+End the recursion, let fewer processes live at once, or give more cells by
+--arena N, 65536 where it isn't given and 16777216 at most. `hepf list FILE`
+says how many each unit takes.
+
+Wrong: STOPPED ARENA FULL
+
+      CALL DOWN(9)
+      END
+      SUBROUTINE DOWN(N)
+      CALL DOWN(N-1)
+      END
+
+Right:
+
+      CALL DOWN(9)
+      END
+      SUBROUTINE DOWN(N)
+      IF (N .GT. 0) CALL DOWN(N-1)
+      END
+";
+
+const STOPPED_STEP_LIMIT: &str =
+    "STOPPED STEP LIMIT: the history has as many entries as it may have. Status 6.
+Look for a loop that doesn't end, as one that asks for FULL($X) again and again
+where a read would wait. A long run gets more by --steps N, 10000000 where it
+isn't given and 4294967296 at most; each entry takes memory.
+
+Wrong: STOPPED STEP LIMIT
+
+      I = 0
+   10 I = I+2
+      IF (I .NE. 9) GO TO 10
+      END
+
+Right:
+
+      I = 0
+   10 I = I+2
+      IF (I .LT. 9) GO TO 10
+      END
+";
+
+const NO_MEMORY: &str =
+    "NO MEMORY: memory was refused. Standard output gets nothing, unless it was the
+text of --history that had no room. Status 7, which WORKERS REFUSED has too.
+Give fewer --steps or a smaller --arena, or end other programs. A long history
+takes most: each entry is kept, so a loop that doesn't end comes to this.
+
+Wrong, after ulimit -v 20000: NO MEMORY
+
+      I = 0
+   10 I = I+2
+      IF (I .NE. 9) GO TO 10
+      END
+
+Right, after ulimit -v 20000:
+
+      I = 0
+   10 I = I+2
+      IF (I .LT. 9) GO TO 10
+      END
+";
+
+const WORKERS_REFUSED: &str =
+    "WORKERS REFUSED number: the threads that --workers asked for gave up, or left no
+report. Standard output gets nothing. Status 7.
+`hepf explain NUMBER` says what to do about each number, 506 and 701 to 705. The
+usual one is 704, that a thread couldn't be started: take fewer workers or none.
+
+Wrong, by run a.f --workers 16, after ulimit -v 20000: WORKERS REFUSED 704
+
+      PRINT *, 1
+      END
+
+Right, by run a.f --workers 2:
+
+      PRINT *, 1
+      END
+";
+
+const READ_FAULT: &str =
+    "READ FAULT: a file can't be opened, or a read of it or of standard input failed,
+or 5000000 reads didn't reach its end. Status 8, which WRITE FAULT has too.
+Look at the names of the source, the choices and the history: whether they are
+there, are no folders, and may be read by you.
+
+Wrong, by run a.f --choices nosuch: READ FAULT
+
+      PRINT *, 1
+      END
+
+Right, by run a.f:
+
+      PRINT *, 1
+      END
+";
+
+const WRITE_FAULT: &str =
+    "WRITE FAULT AFTER n: a write failed or took nothing. The stream, or the file of
+--history, has the first n bytes; n is 0 where that file can't be opened. The
+status is 8.
+See that the folder is there, that you may write to it, and that the device has
+room.
+
+Wrong, by run a.f --history nosuch/h: WRITE FAULT AFTER 0
+
+      PRINT *, 1
+      END
+
+Right, by run a.f --history h:
+
+      PRINT *, 1
+      END
+";
+
+const REFUSED: &str =
+    "REFUSED number LINE n: the source isn't accepted because of what stands in line
+n, so nothing of it ran. Behind 202, 301 and 310 comes NAME and what it is
+about. Status 1, or 2 where it is of choices or of a history.
+`hepf explain NUMBER` says what the number means and what to do about it. There
+may be more: mend the first one and check again.
+
+Wrong: REFUSED 301 LINE 1 NAME X
+
+      X = 1
+      END
+
+Right:
+
+      K = 1
+      END
+";
+
+const DONE: &str = "The run or replay is done and nothing went wrong, or check or list finds nothing
+to refuse, or a text was asked for. STILL RUNNING ends a replay of a history
+whose run could go on.
+It says nothing of other orders: a race may come out otherwise with other
+choices. This program prints 1 in each order, since the read waits.
+
+Right:
+
+      INTEGER $X
+      CREATE GIVE($X)
+      PRINT *, $X
+      END
+      SUBROUTINE GIVE($Y)
+      INTEGER $Y
+      $Y = 1
+      END
+";
+
+const UNUSABLE: &str =
+    "The words of the command line are wrong, or the choices or the history can't be
+used. Standard error says why: error and USAGE are of the words, REFUSED 501 and
+602 of the choices, 601 and 603 of the history.
+`hepf --help` and `hepf COMMAND --help` have the words.
+
+Wrong, by run a.f --workers 2 --choices c: USAGE: --choices excludes --workers
+
+      PRINT *, 1
+      END
+
+Right, by run a.f --workers 2:
+
+      PRINT *, 1
+      END
+";
+
+const UNBUILT: &str =
+    "The program couldn't be built, or `hepf-unproved` got no answer from it. This is
+a status of the launchers alone, and no source gets it.
+Read the lines above it on standard error: they name the crate and say why.
+";
+
+// What a fault means, and what to do.
+fn of_fault(name: &str) -> Option<&'static str>
+    ensures { is_some result ≡ is_among faults name.now }
+{
+    let text = match name {
+        "OVERFLOW" => OVERFLOW,
+        "DIVIDE" => DIVIDE,
+        "RANGE" => RANGE,
+        "UNDEFINED" => UNDEFINED,
+        "SHAPE" => SHAPE,
+        "STEP" => STEP,
+        _ => return None,
+    };
+    Some(text)
+}
+
+// What else a run ends with.
+fn of_end(name: &str) -> Option<&'static str>
+    ensures { is_some result ≡ is_among ends name.now }
+{
+    let text = match name {
+        "FAULT" => FAULT,
+        "WAITING" => WAITING,
+        "STOPPED ARENA FULL" | "ARENA FULL" => STOPPED_ARENA_FULL,
+        "STOPPED STEP LIMIT" | "STEP LIMIT" => STOPPED_STEP_LIMIT,
+        "NO MEMORY" => NO_MEMORY,
+        "WORKERS REFUSED" => WORKERS_REFUSED,
+        "READ FAULT" => READ_FAULT,
+        "WRITE FAULT" => WRITE_FAULT,
+        "REFUSED" => REFUSED,
+        "STILL RUNNING" => DONE,
+        _ => return None,
+    };
+    Some(text)
+}
+
+// What an exit status means.
+fn of_status(name: &str) -> Option<&'static str>
+    ensures { is_some result ≡ is_among statuses name.now }
+{
+    let text = match name {
+        "STATUS 0" => DONE,
+        "STATUS 1" => REFUSED,
+        "STATUS 2" => UNUSABLE,
+        "STATUS 3" => FAULT,
+        "STATUS 4" => WAITING,
+        "STATUS 5" => STOPPED_ARENA_FULL,
+        "STATUS 6" => STOPPED_STEP_LIMIT,
+        "STATUS 7" => NO_MEMORY,
+        "STATUS 8" => READ_FAULT,
+        "STATUS 70" => UNBUILT,
+        _ => return None,
+    };
+    Some(text)
+}
+
+/// What is meant by a fault, another end of a run or an exit status with this name, and what to do.
+pub fn meaning(name: &str) -> Option<&'static str>
+    ensures { is_some result ≡ (is_among faults name.now || (is_among ends name.now || is_among statuses name.now)) }
+{
+    if let Some(text) = of_fault(name) {
+        return Some(text);
+    }
+    if let Some(text) = of_end(name) {
+        return Some(text);
+    }
+    of_status(name)
+}
