@@ -28,8 +28,8 @@ run_here runs entries i at k same place lt less =
     let found : slice_get (entries_of runs) (before + k) ≡ Some (entry_of run) =
     slice_get-get_or (entries_of runs) (before + k) (entry_of run) (omega (arith, runs_within runs i lt, less))
     ∙ ap (λ e. Some e) (
-        get_or-flat_map (λ (r : Run). replicate r.count (entry_of r)) runs i k no_run (entry_of run) lt (omega (arith, count, less))
-        ∙ get_or-replicate run.count k (entry_of run) (entry_of run) less) in
+    get_or-flat_map (λ (r : Run). replicate r.count (entry_of r)) runs i k no_run (entry_of run) lt (omega (arith, count, less))
+    ∙ get_or-replicate run.count k (entry_of run) (entry_of run) less) in
     ap (λ n. slice_get entries (n + k)) place ∙ subst (λ es. slice_get es (before + k) ≡ Some (entry_of run)) same found
 
 -- what stands before the next run

@@ -1,5 +1,5 @@
 //! Entries in runs of those that are the same.
-ghost use Rattle.std.specs.Prelude.{◌≡◌, []};
+ghost use Rattle.std.specs.Prelude.{◌≡◌, ◌++◌, [], OnOk, replicate};
 ghost use Rattle.hep_history.specs.Alike.{entries_of, entry_of};
 
 use crate::lines::Row;
@@ -53,6 +53,22 @@ impl Runs {
         }
     }
 
+    /// Adds an entry so many times.
+    ///
+    /// # Errors
+    ///
+    /// Only where memory was refused.
+    pub fn push(&mut self, entry: Entry, count: u32) -> Result<(), AllocError>
+        ensures { OnOk result (self.new ≡ self.old ++ replicate count entry) }
+    {
+        self.runs.push(Run {
+            process: entry.process,
+            steps: entry.steps,
+            count,
+        })?;
+        Ok(())
+    }
+
     /// The runs, in order.
     pub fn as_slice(&self) -> &[Run]
         ensures { entries_of result.now ≡ self.now }
@@ -65,11 +81,6 @@ impl Row<Entry> for Runs {
     ghost items = { λ entries. entries };
 
     fn append(&mut self, item: Entry, count: u32) -> Result<(), AllocError> {
-        self.runs.push(Run {
-            process: item.process,
-            steps: item.steps,
-            count,
-        })?;
-        Ok(())
+        self.push(item, count)
     }
 }

@@ -125,12 +125,7 @@ fn make_run(core: &mut Core, entry: Entry, count: u32) -> Result<u32, ReplayFaul
 ///
 /// `ArenaFull` where the main program's frame has no gap in the arena; `Refused` with 603 and the
 /// first entry that isn't possible, also where a frame that it makes has no gap; `NoMemory`.
-pub fn replay(
-    alloc: Global,
-    image: Image,
-    cells: u32,
-    entries: &Runs,
-) -> Result<Core, ReplayFault>
+pub fn replay(alloc: Global, image: Image, cells: u32, entries: &Runs) -> Result<Core, ReplayFault>
     requires some { 1 ≤ cells }
     requires few { cells ≤ 16777216 }
     ensures made { IfOk result (λ core. core ≡ replayed image cells entries.now) }
