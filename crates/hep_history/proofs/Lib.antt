@@ -1,4 +1,5 @@
 pub mod Readings
 pub mod Digits
+pub mod InRuns
 pub mod Turns
 mod Worked

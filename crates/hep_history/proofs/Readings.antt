@@ -1,7 +1,32 @@
 -- A text of lines has one reading at most.
-use Rattle.std.proofs.Common.{◌≡◌, ◌≢◌, inl, inr, ℕ, ◌+◌, ◌^◌, ◌<◌, ◌≤◌, List, [], ◌∷◌, ◌++◌, length, refl, sym, ap, ◌∙◌, arith, append_assoc, append-nil, length-append}
+use Rattle.std.proofs.Common.{◌≡◌, ◌≢◌, inl, inr, ℕ, ◌+◌, ◌^◌, ◌<◌, ◌≤◌, ◌-◌, zero, suc, add-one, replicate, take, List, [], ◌∷◌, ◌++◌, length, refl, sym, ap, ◌∙◌, arith, append_assoc, append-nil, length-append}
 use Rattle.std.specs.List.{AllByRecursion, flat_map}
-use Rattle.hep_history.specs.Lines.{AreApart, AreLines, IsFirstBad, IsRefusedText, most_bytes}
+use Rattle.std.proofs.Math.Seq.{take-append_seam}
+use Rattle.std.proofs.lemmas.List.{length-replicate}
+use Rattle.std.proofs.lemmas.Grind.{flat_map-append}
+use Rattle.hep_history.specs.Lines.{AreApart, AreLines, IsFirstBad, IsRefusedText, most_bytes, repeated}
+
+-- ---- a line that stands several times in a row
+
+again_first : (n : ℕ) (line rest : List ℕ) → repeated n line ++ (line ++ rest) ≡ line ++ (repeated n line ++ rest)
+again_first zero line rest = refl
+again_first (suc n) line rest =
+    append_assoc line (repeated n line) (line ++ rest)
+    ∙ ap (λ l. line ++ l) (again_first n line rest ∙ sym (append_assoc line (repeated n line) rest))
+
+pub repeated_more : (n : ℕ) (line rest : List ℕ) → repeated n line ++ (line ++ rest) ≡ repeated (n + 1) line ++ rest
+repeated_more n line rest = rw add-one (again_first n line rest ∙ sym (append_assoc line (repeated n line) rest))
+
+lines_repeated : {A : Type 0} (line : A → List ℕ) (x : A) (n : ℕ) → flat_map line (replicate n x) ≡ repeated n (line x)
+lines_repeated line x zero = refl
+lines_repeated line x (suc n) = ap (λ l. line x ++ l) (lines_repeated line x n)
+
+each_more : {A : Type 0} (Allows : A → Type 0) (xs : List A) (x : A) (n : ℕ) → AllByRecursion Allows xs → Allows x → AllByRecursion Allows (xs ++ replicate n x)
+each_more Allows [] x zero each here = tt
+each_more Allows [] x (suc n) each here = (here, each_more Allows [] x n tt here)
+each_more Allows (y ∷ xs) x n each here = (each.0, each_more Allows xs x n each.1 here)
+
+-- ---- readings
 
 -- nothing is left after the lines
 nothing_left : (text front rest : List ℕ) → text ≡ front ++ rest → length rest ≡ 0 → text ≡ front
@@ -68,6 +93,37 @@ module _ {A : Type 0} (line : A → List ℕ) (Allows : A → Type 0) (lines : A
   pub read_short : {text rest : List ℕ} {xs : List A} → IsReadTo line Allows text rest xs → rest ≢ [] → Stops rest → (ys : List A) → AreLines line Allows text ys → ⊥
   read_short {text} {rest} {xs} read some none ys h =
       not_both text (length xs + 1) ys (inr (read.size, record { before = xs; rest = rest; place = refl; whole = read.split; each = read.each; some = some; none = none })) h
+
+  -- the line in front of what is left after it
+  pub front_is : (x : A) (rest more : List ℕ) → rest ≡ line x ++ more → take (length rest - length more) rest ≡ line x
+  front_is x rest more e =
+      let count : length rest - length more ≡ length (line x) = omega (arith, ap length e, length-append (line x) more) in
+      ap (λ k. take k rest) count ∙ ap (take (length (line x))) e ∙ take-append_seam (line x) more
+
+  -- this line, and so many more that are the same
+  pub read_on : {text rest more last : List ℕ} {xs : List A} → IsReadTo line Allows text rest xs → (x : A) (n : ℕ) → Allows x → rest ≡ line x ++ more
+      → more ≡ repeated n (take (length rest - length more) rest) ++ last → IsReadTo line Allows text last (xs ++ replicate (n + 1) x)
+  read_on {text} {rest} {more} {last} {xs} read x n here front again =
+      let same : more ≡ repeated n (line x) ++ last = again ∙ ap (λ l. repeated n l ++ last) (front_is x rest more front) in
+      record {
+        size = read.size;
+        split = read.split
+            ∙ ap (λ l. flat_map line xs ++ l) (front ∙ ap (λ l. line x ++ l) same ∙ sym (append_assoc (line x) (repeated n (line x)) last))
+            ∙ sym (append_assoc (flat_map line xs) (repeated (suc n) (line x)) last)
+            ∙ ap (λ l. (flat_map line xs ++ l) ++ last) (sym (lines_repeated line x (suc n)))
+            ∙ ap (λ l. l ++ last) (sym (flat_map-append line xs (replicate (suc n) x)))
+            ∙ ap (λ k. flat_map line (xs ++ replicate k x) ++ last) (sym (add-one n));
+        each = each_more Allows xs x (n + 1) read.each here;
+      }
+
+  -- they are so many
+  pub count_on : (xs : List A) (x : A) (n : ℕ) → length (xs ++ replicate (n + 1) x) ≡ length xs + (n + 1)
+  count_on xs x n = length-append xs (replicate (n + 1) x) ∙ ap (λ k. length xs + k) (length-replicate (n + 1) x)
+
+  -- and so few that their number fits
+  pub count_on_fits : (last : List ℕ) {text rest more : List ℕ} {xs : List A} → IsReadTo line Allows text rest xs → (x : A) (n : ℕ) → Allows x → rest ≡ line x ++ more
+      → more ≡ repeated n (take (length rest - length more) rest) ++ last → length xs + (n + 1) < 2 ^ 32
+  count_on_fits last {text} {rest} {more} {xs} read x n here front again = omega (arith, count_fits (read_on read x n here front again), count_on xs x n)
 
   pub one_refusal : (text : List ℕ) (j k : ℕ) → IsRefusedText line Allows text j → IsRefusedText line Allows text k → j ≡ k
   one_refusal text j k (inl p) (inl q) = p.0 ∙ sym q.0

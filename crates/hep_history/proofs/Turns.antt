@@ -1,7 +1,7 @@
 -- Turns of a core, and entries made again, one after the other.
 use Rattle.std.proofs.Common.{◌≡◌, ◌≢◌, ℕ, zero, suc, ◌+◌, ◌-◌, ◌<◌, ◌≤◌, Bool, true, false, true≢false, List, [], ◌∷◌, ◌++◌, Some, None, Ok, Err, length, length-append, replicate, refl, sym, ap, ◌∙◌, subst, arith, append_assoc, append-nil, add-one, inl, inr, Result, take, IsSome, if◌then◌else◌, is_some, slice_get}
 use Rattle.std.proofs.Math.Bool.{beq}
-use Rattle.std.proofs.lemmas.List.{length-replicate, replicate-append-replicate, take_more}
+use Rattle.std.proofs.lemmas.List.{length-replicate, length-take-le, replicate-append-replicate, take_more}
 use Rattle.std.proofs.lemmas.Option.{cond_some, get_or_from_slice_get, same_Some, slice_get_within}
 use Rattle.std.specs.Option.{unwrap_or}
 use Rattle.hep_machine.specs.declared.event.Entry.{Entry}
@@ -13,9 +13,10 @@ use Rattle.hep_scheduler.specs.declared.stop.ChoiceStop.{ChoiceStop}
 use Rattle.hep_scheduler.specs.declared.stop.ChoiceStop.TheVariants.{Halted}
 use Rattle.hep_scheduler.specs.declared.stop.Turn.{Turn as CoreTurn}
 use Rattle.hep_scheduler.specs.Value.{CoreValue, state_of, core_after_choice, stop_after, HasNoStop, IsTurn, IsChoice}
-use Rattle.hep_scheduler.specs.Going.{AreChoices, again, begun}
+use Rattle.hep_scheduler.specs.Going.{AreChoices}
+use Rattle.hep_scheduler.specs.Going as going
 use Rattle.hep_scheduler.proofs.Going.{choices-began}
-use Rattle.hep_history.specs.Progress.{EntryMade, HasTurn, HaveMade, IsStanding, SomeMade, SomeStepsMade, StepsMade, TurnMade, longer, turn_entry}
+use Rattle.hep_history.specs.Progress.{AreMade, again, begun, EntryMade, HasTurn, IsCutShort, IsStanding, RunMade, SomeMade, SomeStepsMade, StepsMade, TurnMade, longer, turn_entry}
 use Rattle.hep_history.specs.Replays.{HaveGaps, most_entries, standing, ArePossible, IsPossible, IsThere, replayed, single_entries, single_steps}
 use Rattle.hep_blocked_laws.proofs.Living.{waits-idle}
 use Rattle.hep_machine.proofs.Replays.{run_after}
@@ -212,8 +213,8 @@ choices_within : (p : ℕ) (old : CoreValue) (n : ℕ) (new : CoreValue) → IsS
 choices_within p old n new h some made = omega (arith, (choices-began p old n new some made).1, limit_is old h)
 
 ones_made : (p : ℕ) (old : CoreValue) (n : ℕ) (new : CoreValue) → IsStanding old → length old.history ≤ most_entries → AreChoices p old n new → StepsMade old p n (Ok true) new
-ones_made p old _ _ h room (begun core) = (omega (arith, room), tt, h ∙ ap (λ (es : List Entry). standing old.program old.cells es) (sym (append-nil old.history)))
-ones_made p old _ _ h room (again _ n core new before is) =
+ones_made p old _ _ h room (going.begun core) = (omega (arith, room), tt, h ∙ ap (λ (es : List Entry). standing old.program old.cells es) (sym (append-nil old.history)))
+ones_made p old _ _ h room (going.again _ n core new before is) =
     let so_far = ones_made p old n core h room before in
     let turn = turn_made core new p false (record { steps = 1; blocked = false }) (standing_longer old core (replicate n (one p)) so_far.2) is.chosen in
     let more = steps_more old core new p n so_far.1 so_far.2 turn in
@@ -348,28 +349,74 @@ one_replayed program cells entries i e old new at so_far made gaps =
     let next = entry_next program cells entries i e new at (subst (λ (x : CoreValue). EntryMade x e (Ok true) new) so_far.made made) gaps in
     record { made = next.0; within = next.1; possible = possible_more program cells entries i e at so_far.possible next.2 }
 
-pub steps_replayed : (program : Units) (cells : ℕ) (entries : List Entry) (i p n : ℕ) (old new : CoreValue) → ((k : ℕ) → k < n → slice_get entries (i + k) ≡ Some (one p)) → HaveReplayed program cells entries i old
-    → StepsMade old p n (Ok true) new → HaveGaps new.program new.cells new.history → HaveReplayed program cells entries (i + n) new
-steps_replayed program cells entries i p zero old new alike so_far made gaps =
-    let none : i ≡ i + 0 = omega arith in
-    let same : old ≡ new = standing_same old new (subst IsStanding (sym so_far.made) refl) made.2 in
-    subst (λ k. HaveReplayed program cells entries k new) none (subst (HaveReplayed program cells entries i) same so_far)
-steps_replayed program cells entries i p (suc n) old new alike so_far made gaps =
+-- ---- an entry that is made again and again
+
+pub steps_again : (old new : CoreValue) (p n : ℕ) → IsStanding old → StepsMade old p n (Ok true) new → AreMade (one p) old n new
+steps_again old new p zero h made = subst (λ (x : CoreValue). AreMade (one p) old 0 x) (standing_same old new h made.2) (begun old)
+steps_again old new p (suc n) h made =
     let mid = longer old (replicate n (one p)) in
-    let last = last_step old mid new p n refl made in
-    let front : HaveGaps mid.program mid.cells mid.history = gaps_before old.program old.cells mid.history (one p ∷ []) (subst (λ (x : CoreValue). HaveGaps x.program x.cells x.history) last.2 gaps) in
-    let before = steps_replayed program cells entries i p n old mid (λ k lt. alike k (omega (arith, lt))) so_far (omega (arith, made.0), steps_front old.program (state_of old) p n made.1, refl) front in
+    again old n mid new (steps_again old mid p n h (omega (arith, made.0), steps_front old.program (state_of old) p n made.1, refl)) (last_step old mid new p n refl made)
+
+pub once : (e : Entry) (old new : CoreValue) → EntryMade old e (Ok true) new → AreMade e old 1 new
+once e old new made = again old 0 old new (begun old) made
+
+pub joined : (e : Entry) (old : CoreValue) (n m : ℕ) (mid new : CoreValue) → AreMade e old n mid → AreMade e mid m new → AreMade e old (n + m) new
+joined e old n _ mid _ before (begun _) =
+    let none : n ≡ n + 0 = omega arith in
+    subst (λ k. AreMade e old k mid) none before
+joined e old n _ mid _ before (again _ m core new more last) =
+    let count : suc (n + m) ≡ n + suc m = omega arith in
+    subst (λ k. AreMade e old k new) count (again old (n + m) core new (joined e old n m mid core before more) last)
+
+pub some_steps : (old new : CoreValue) (p n : ℕ) → IsStanding old → SomeStepsMade old p (Ok n) new → SomeMade old (one p) (Ok n) new
+some_steps old new p zero h none = λ room there gaps. none (omega (arith, room)) there.0 gaps
+some_steps old new p (suc n) h made = steps_again old new p (suc n) h made
+
+-- the core stays what its history makes it, which has room
+pub still_standing : (e : Entry) (old : CoreValue) (n : ℕ) (new : CoreValue) → AreMade e old n new → IsStanding old → length old.history ≤ most_entries → IsStanding new × (length new.history ≤ most_entries)
+still_standing e old _ _ (begun _) h room = (h, room)
+still_standing e old _ _ (again _ n core new before last) h room = (
+  standing_longer core new (single_steps e.process e.steps) last.2,
+  omega (arith, last.0, ap (λ (x : CoreValue). length x.history) last.2, length-append core.history (single_steps e.process e.steps)),
+)
+
+-- the frames in front of the last one had their gaps
+gaps_in_front : (e : Entry) (core new : CoreValue) → EntryMade core e (Ok true) new → HaveGaps new.program new.cells new.history → HaveGaps core.program core.cells core.history
+gaps_in_front e core new made gaps =
+    gaps_before core.program core.cells core.history (single_steps e.process e.steps) (subst (λ (x : CoreValue). HaveGaps x.program x.cells x.history) made.2 gaps)
+
+pub run_replayed : (program : Units) (cells : ℕ) (entries : List Entry) (i : ℕ) (e : Entry) (old : CoreValue) (n : ℕ) (new : CoreValue) → ((k : ℕ) → k < n → slice_get entries (i + k) ≡ Some e)
+    → HaveReplayed program cells entries i old → AreMade e old n new → HaveGaps new.program new.cells new.history → HaveReplayed program cells entries (i + n) new
+run_replayed program cells entries i e old _ _ alike so_far (begun _) gaps =
+    let none : i ≡ i + 0 = omega arith in
+    subst (λ k. HaveReplayed program cells entries k old) none so_far
+run_replayed program cells entries i e old _ _ alike so_far (again _ n core new before last) gaps =
+    let front = run_replayed program cells entries i e old n core (λ k lt. alike k (omega (arith, lt))) so_far before (gaps_in_front e core new last gaps) in
     let count : (i + n) + 1 ≡ i + suc n = omega arith in
-    subst (λ k. HaveReplayed program cells entries k new) count (one_replayed program cells entries (i + n) (one p) mid new (alike n (omega arith)) before last gaps)
+    subst (λ k. HaveReplayed program cells entries k new) count (one_replayed program cells entries (i + n) e core new (alike n (omega arith)) front last gaps)
 
-pub some_replayed : (program : Units) (cells : ℕ) (entries : List Entry) (i n : ℕ) (old new : CoreValue) → HaveReplayed program cells entries i old → n ≢ 0 → SomeMade old entries i (Ok n) new
-    → HaveGaps new.program new.cells new.history → HaveReplayed program cells entries (i + n) new
-some_replayed program cells entries i zero old new so_far some made gaps = absurd (some refl)
-some_replayed program cells entries i (suc n) old new so_far some (inl (e, at, one_made, made)) gaps =
-    subst (λ k. HaveReplayed program cells entries (i + k) new) (sym one_made) (one_replayed program cells entries i e old new at so_far made gaps)
-some_replayed program cells entries i (suc n) old new so_far some (inr (p, alike, made)) gaps = steps_replayed program cells entries i p (suc n) old new alike so_far made gaps
+-- the entry at which a run was cut short isn't possible
+pub run_refused : (program : Units) (cells : ℕ) (entries : List Entry) (i : ℕ) (e : Entry) (core new : CoreValue) → HaveReplayed program cells entries i core → EntryMade core e (Ok false) new
+    → IsPossible program cells (take i entries) e → ⊥
+run_refused program cells entries i e core new so_far refused = entry_refused program cells entries i e new (subst (λ (x : CoreValue). EntryMade x e (Ok false) new) so_far.made refused)
 
-pub none_replayed : (program : Units) (cells : ℕ) (entries : List Entry) (i n : ℕ) (e : Entry) (old new : CoreValue) → HaveReplayed program cells entries i old → n ≡ 0 → SomeMade old entries i (Ok n) new
-    → slice_get entries i ≡ Some e → IsPossible program cells (take i entries) e → ⊥
-none_replayed program cells entries i zero e old new so_far none made at = entry_refused program cells entries i e new (subst (λ (x : CoreValue). EntryMade x e (Ok false) new) so_far.made (made e at))
-none_replayed program cells entries i (suc n) e old new so_far none made at = absurd (omega (arith, none))
+-- what came of a run
+pub run_whole : (old : CoreValue) (e : Entry) (count made : ℕ) (new : CoreValue) → RunMade old e count (Ok made) new → count ≤ made → (made ≡ count) × AreMade e old made new
+run_whole old e count made new (inl all) past = all
+run_whole old e count made new (inr cut) past = absurd (omega (arith, cut.fewer, past))
+
+pub run_cut : (old : CoreValue) (e : Entry) (count made : ℕ) (new : CoreValue) → RunMade old e count (Ok made) new → made < count → IsCutShort old e count made new
+run_cut old e count made new (inl all) less = absurd (omega (arith, all.0, less))
+run_cut old e count made new (inr cut) less = cut
+
+-- each entry leaves one at least, so there are no more than a history has room for
+singles_some : (p n : ℕ) → 1 ≤ length (single_steps p n)
+singles_some p zero = omega arith
+singles_some p (suc n) = omega (arith, length-replicate (suc n) (one p))
+
+singles_many : (es : List Entry) → length es ≤ length (single_entries es)
+singles_many [] = omega arith
+singles_many (e ∷ es) = omega (arith, singles_many es, singles_some e.process e.steps, length-append (single_steps e.process e.steps) (single_entries es))
+
+pub replayed_few : (program : Units) (cells : ℕ) (entries : List Entry) (k : ℕ) (core : CoreValue) → HaveReplayed program cells entries k core → k ≤ length entries → k ≤ most_entries
+replayed_few program cells entries k core so_far within = omega (arith, so_far.within, singles_many (take k entries), length-take-le k entries within)

@@ -1,5 +1,5 @@
 -- Texts of lines, and the first bad one: docs/MACHINE.md, "Histories and choices as texts".
-use Rattle.std.specs.Prelude.{◌≡◌, ◌≢◌, ◌⊎◌, ℕ, ◌+◌, ◌<◌, ◌≤◌, List, [], ◌++◌, length}
+use Rattle.std.specs.Prelude.{◌≡◌, ◌≢◌, ◌⊎◌, ℕ, zero, suc, ◌+◌, ◌<◌, ◌≤◌, List, [], ◌++◌, length}
 use Rattle.std.specs.List.{AllByRecursion, flat_map}
 use Rattle.hep_base.specs.declared.refusal.Refusal.{Refusal as HistoryFault}
 use Rattle.hep_base.specs.declared.refusal.Refusal.TheVariants.{NoMemory, Refused}
@@ -7,6 +7,11 @@ use Rattle.hep_base.specs.declared.refusal.Refusal.TheVariants.{NoMemory, Refuse
 -- the most bytes of a text
 abbrev pub most_bytes : ℕ
 most_bytes = 150000000
+
+-- a line so many times, one after the other
+abbrev pub repeated : ℕ → List ℕ → List ℕ
+repeated zero line = []
+repeated (suc n) line = line ++ repeated n line
 
 -- the text is the lines of these, each of which is allowed, and isn't too long
 pub record AreLines {A : Type 0} (line : A → List ℕ) (Allows : A → Type 0) (text : List ℕ) (xs : List A) : Type 0 where

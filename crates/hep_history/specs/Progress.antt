@@ -1,5 +1,5 @@
 -- How far a history was made again: docs/ARCHITECTURE.md, "Forms".
-use Rattle.std.specs.Prelude.{◌≡◌, ◌≢◌, ◌⊎◌, ℕ, zero, suc, ◌+◌, ◌<◌, ◌≤◌, Bool, true, false, List, [], ◌∷◌, ◌++◌, length, replicate, slice_get, Result, Ok, Err, Some, None}
+use Rattle.std.specs.Prelude.{◌≡◌, ◌≢◌, ◌⊎◌, ℕ, zero, suc, ◌+◌, ◌<◌, ◌≤◌, Bool, true, false, List, [], ◌∷◌, ◌++◌, length, replicate, Result, Ok, Err, None}
 use Rattle.hep_machine.specs.declared.event.Entry.{Entry}
 use Rattle.hep_machine.specs.Words.{AreSteps, State, step, is_waiting, Units}
 use Rattle.hep_scheduler.specs.Value.{CoreValue, state_of}
@@ -59,14 +59,26 @@ SomeStepsMade old p (Ok zero) new = TurnMade old p false (Ok false) new
 SomeStepsMade old p (Ok (suc n)) new = StepsMade old p (suc n) (Ok true) new
 SomeStepsMade old p (Err fault) new = fault ≡ NoMemory
 
--- of so many entries from one on: it alone, or all are the same, of one step
-abbrev pub HaveMade : CoreValue → List Entry → ℕ → ℕ → CoreValue → Type 0
-HaveMade old entries at n new =
-    ((e : Entry) × (slice_get entries at ≡ Some e) × (n ≡ 1) × EntryMade old e (Ok true) new)
-    ⊎ ((p : ℕ) × ((k : ℕ) → k < n → slice_get entries (at + k) ≡ Some (record { process = p; steps = 1 })) × StepsMade old p n (Ok true) new)
+-- an entry was made so many times, one after the other
+pub data AreMade (e : Entry) : CoreValue → ℕ → CoreValue → Type 0 where
+  begun : (core : CoreValue) → AreMade e core 0 core
+  again : (old : CoreValue) (n : ℕ) (core new : CoreValue) → AreMade e old n core → EntryMade core e (Ok true) new → AreMade e old (suc n) new
 
--- of entries from one on, of which some may be made
-abbrev pub SomeMade : CoreValue → List Entry → ℕ → Result ℕ ReplayFault → CoreValue → Type 0
-SomeMade old entries at (Ok zero) new = (e : Entry) → slice_get entries at ≡ Some e → EntryMade old e (Ok false) new
-SomeMade old entries at (Ok (suc n)) new = HaveMade old entries at (suc n) new
-SomeMade old entries at (Err fault) new = fault ≡ NoMemory
+-- of making it up to so many times: it was made so often, or not at all
+abbrev pub SomeMade : CoreValue → Entry → Result ℕ ReplayFault → CoreValue → Type 0
+SomeMade old e (Ok zero) new = EntryMade old e (Ok false) new
+SomeMade old e (Ok (suc n)) new = AreMade e old (suc n) new
+SomeMade old e (Err fault) new = fault ≡ NoMemory
+
+-- it was made so many times, fewer than it should, each frame had its gap, and then it wasn't made
+pub record IsCutShort (old : CoreValue) (e : Entry) (count made : ℕ) (new : CoreValue) : Type 0 where
+  pub core : CoreValue
+  pub fewer : made < count
+  pub before : AreMade e old made core
+  pub gaps : HaveGaps core.program core.cells core.history
+  pub refused : EntryMade core e (Ok false) new
+
+-- of making it so many times
+abbrev pub RunMade : CoreValue → Entry → ℕ → Result ℕ ReplayFault → CoreValue → Type 0
+RunMade old e count (Ok made) new = ((made ≡ count) × AreMade e old made new) ⊎ IsCutShort old e count made new
+RunMade old e count (Err fault) new = fault ≡ NoMemory

@@ -5,10 +5,10 @@ ghost use Rattle.hep_history.specs.Lines.{AreLines, IsRefusedText, ReportsLine};
 ghost use Rattle.hep_history.specs.Choices.{choice_text, IsProcess};
 
 use crate::history::MOST_PROCESS;
-use crate::lines::{FromLine, read_lines};
+use crate::lines::{FromLine, Row, read_lines};
 use crate::number::number_before;
 use hep_base::{Refusal as HistoryFault, Sequence};
-use std::alloc::Global;
+use std::alloc::{AllocError, Global};
 
 /// Process numbers, in the order in which they are to be chosen.
 pub type Choices = Sequence<u64>;
@@ -27,6 +27,17 @@ impl FromLine for u64 {
     }
 }
 
+impl Row<u64> for Vec<u64> {
+    ghost items = { λ choices. choices.items };
+
+    fn append(&mut self, item: u64, count: u32) -> Result<(), AllocError> {
+        for _ in 0..count {
+            self.push(item)?;
+        }
+        Ok(())
+    }
+}
+
 /// The choices that a text has: a line `p` for each.
 ///
 /// # Errors
@@ -40,5 +51,6 @@ pub fn read_choices(alloc: Global, text: &[u8]) -> Result<Choices, HistoryFault>
     ensures accepted { (ps : List ℕ) → AreLines choice_text IsProcess text.now ps
         → MatchResult result (λ choices. choices ≡ ps) (λ fault. fault ≡ NoMemory) }
 {
-    read_lines(alloc, text, 602)
+    let choices: Vec<u64> = read_lines(alloc, text, 602, Vec::new(alloc))?;
+    Ok(Choices::from(choices))
 }

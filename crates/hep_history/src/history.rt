@@ -5,6 +5,7 @@ ghost use Rattle.hep_base.specs.declared.refusal.Refusal.TheVariants.{NoMemory};
 ghost use Rattle.hep_history.specs.Lines.{AreLines, IsRefusedText, ReportsLine};
 ghost use Rattle.hep_history.specs.Histories.{entry_text, history_text, IsAllowed};
 
+use crate::alike::Runs;
 use crate::lines::{FromLine, read_lines};
 use crate::number::number_before;
 use hep_base::{Refusal as HistoryFault, Sequence};
@@ -72,12 +73,12 @@ impl FromLine for Entry {
 ///
 /// `Refused` with 601 at the first bad line, or at line 0 where the text has more than 150,000,000
 /// bytes; `NoMemory`.
-pub fn read_text(alloc: Global, text: &[u8]) -> Result<History, HistoryFault>
+pub fn read_text(alloc: Global, text: &[u8]) -> Result<Runs, HistoryFault>
     ensures read { IfOk result (λ history. AreLines entry_text IsAllowed text.now history) }
     ensures refused { IfErr result (λ fault.
         ReportsLine 601 (IsRefusedText entry_text IsAllowed text.now) fault) }
     ensures accepted { (es : List Entry) → AreLines entry_text IsAllowed text.now es
         → MatchResult result (λ history. history ≡ es) (λ fault. fault ≡ NoMemory) }
 {
-    read_lines(alloc, text, 601)
+    read_lines(alloc, text, 601, Runs::new(alloc))
 }

@@ -5,6 +5,7 @@
 //! a new core.
 #![tactic(auto)]
 
+pub mod alike;
 pub mod choices;
 pub mod fault;
 pub mod history;
@@ -13,6 +14,7 @@ mod lines;
 mod number;
 pub mod replays;
 
+pub use alike::{Run, Runs};
 pub use choices::{Choices, read_choices};
 pub use fault::ReplayFault;
 /// Why a text is refused: 601 for a history, 602 for choices, with the first bad line, and line 0

@@ -1,9 +1,10 @@
 //! Histories made again, choice by choice.
-ghost use Rattle.std.specs.Prelude.{◌≡◌, ◌≤◌, ◌<◌, ◌+◌, ℕ, length, slice_get, IfOk, IfErr, OnOk, IsSome};
+ghost use Rattle.std.specs.Prelude.{◌≡◌, ◌≤◌, length, IfOk, IfErr, OnOk, IsSome};
 ghost use Rattle.hep_machine.specs.Words.{opening_layout, schedule_of};
 ghost use Rattle.hep_history.specs.Replays.{most_entries, replayed, ArePossible, IsUnmade};
-ghost use Rattle.hep_history.specs.Progress.{EntryMade, IsStanding, SomeMade, SomeStepsMade, StepsMade, TurnMade};
+ghost use Rattle.hep_history.specs.Progress.{EntryMade, IsStanding, RunMade, SomeMade, SomeStepsMade, StepsMade, TurnMade};
 
+use crate::alike::Runs;
 use crate::fault::ReplayFault;
 use hep_image::Image;
 use hep_machine::Entry;
@@ -14,7 +15,7 @@ use std::alloc::Global;
 pub const MOST_ENTRIES: u64 = 1_099_511_627_776;
 
 // How many entries are made at once, at most.
-const MOST_AT_ONCE: usize = 4_096;
+const MOST_AT_ONCE: u32 = 4_096;
 
 // One choice of a process, and whether it did what it should: whether it made a step or, where the
 // process is to wait, found it waiting. A step that makes a frame without a gap isn't made.
@@ -77,45 +78,44 @@ fn make_some_steps(core: &mut Core, process: u64, most: u64) -> Result<u64, Repl
     }
 }
 
-// How many entries from one on are the same as this one: so many at most.
-fn count_alike(entries: &[Entry], at: usize, most: usize) -> usize
-    requires within { at < length entries.now }
-    requires some { 1 ≤ most }
-    ensures some { 1 ≤ result }
-    ensures few { result ≤ most }
-    ensures within { at + result ≤ length entries.now }
-    ensures alike { (k : ℕ) → k < result → slice_get entries.now (at + k) ≡ slice_get entries.now at }
-{
-    let mut count = 1;
-    while count < most && at + count < entries.len() && entries[at + count] == entries[at] {
-        count += 1;
-    }
-    count
-}
-
-// Makes the entry at this index, and where it has one step those that follow it and are the same, up to so many entries. Says how many were
-// made: none where the first one isn't possible.
-fn make_next(
-    core: &mut Core,
-    entries: &[Entry],
-    at: usize,
-    most: usize,
-) -> Result<usize, ReplayFault>
+// Makes an entry up to so many times, and says how often: none where it isn't possible.
+fn make_some(core: &mut Core, entry: Entry, most: u32) -> Result<u32, ReplayFault>
     requires standing { IsStanding core.old }
     requires within { length core.old.history ≤ most_entries }
-    requires there { at < length entries.now }
     requires some { 1 ≤ most }
-    ensures made { SomeMade core.old entries.now at result core.new }
-    ensures few { IfOk result (λ made. at + made ≤ length entries.now) }
+    ensures made { SomeMade core.old entry result core.new }
+    ensures few { IfOk result (λ made. made ≤ most) }
 {
-    let entry = entries[at];
     if entry.steps == 1 {
-        let alike = count_alike(entries, at, most);
-        let made = make_some_steps(core, entry.process, alike as u64)?;
-        return Ok(made as usize);
+        let most = MOST_AT_ONCE.min(most);
+        let made = make_some_steps(core, entry.process, u64::from(most))?;
+        return Ok(made as u32);
     }
-    let made = make_entry(core, entry)?;
-    Ok(usize::from(made))
+    if make_entry(core, entry)? {
+        Ok(1)
+    } else {
+        Ok(0)
+    }
+}
+
+// Makes an entry so many times, and says how often: fewer times where it isn't possible after those.
+fn make_run(core: &mut Core, entry: Entry, count: u32) -> Result<u32, ReplayFault>
+    requires standing { IsStanding core.old }
+    requires within { length core.old.history ≤ most_entries }
+    ensures made { RunMade core.old entry count result core.new }
+    ensures few { IfOk result (λ made. made ≤ count) }
+{
+    let mut made = 0;
+    while made < count {
+        // A core's history is legal, so each frame had its gap.
+        core.headline();
+        let more = make_some(core, entry, count - made)?;
+        if more == 0 {
+            return Ok(made);
+        }
+        made += more;
+    }
+    Ok(made)
 }
 
 /// The core of an image and an arena of so many cells, 1 to 16,777,216, that has made these entries, one step at
@@ -125,12 +125,7 @@ fn make_next(
 ///
 /// `ArenaFull` where the main program's frame has no gap in the arena; `Refused` with 603 and the
 /// first entry that isn't possible, also where a frame that it makes has no gap; `NoMemory`.
-pub fn replay(
-    alloc: Global,
-    image: Image,
-    cells: u32,
-    entries: &[Entry],
-) -> Result<Core, ReplayFault>
+pub fn replay(alloc: Global, image: Image, cells: u32, entries: &Runs) -> Result<Core, ReplayFault>
     requires some { 1 ≤ cells }
     requires few { cells ≤ 16777216 }
     ensures made { IfOk result (λ core. core ≡ replayed image cells entries.now) }
@@ -140,21 +135,19 @@ pub fn replay(
     ensures unmade { IfErr result (IsUnmade image cells entries.now) }
 {
     let mut core = Core::new(alloc, image, cells, MOST_ENTRIES)?;
+    let runs = entries.as_slice();
     let mut at = 0;
-    // Each turn of the loop looks at twice as many entries as the last one made.
-    let mut most = 1;
-    while at < entries.len() {
-        let made = make_next(&mut core, entries, at, most)?;
-        if made == 0 {
+    for run in runs {
+        let made = make_run(&mut core, run.entry(), run.count)?;
+        if made < run.count {
             return Err(ReplayFault::Refused {
                 number: 603,
-                entry: at as u64 + 1,
+                entry: at + u64::from(made) + 1,
             });
         }
         // A core's history is legal, so each frame had its gap.
         core.headline();
-        at += made;
-        most = MOST_AT_ONCE.min(2 * made);
+        at += u64::from(made);
     }
     Ok(core)
 }

@@ -30,7 +30,7 @@ fn image_transcript(
             return history_transcript(alloc, number, u64::from(line));
         }
     };
-    match replay(alloc, image, cells, entries.as_slice()) {
+    match replay(alloc, image, cells, &entries) {
         Ok(core) => core_transcript(alloc, core),
         Err(ReplayFault::NoMemory) => Err(AllocError),
         Err(ReplayFault::ArenaFull) => full_transcript(alloc),
