@@ -51,6 +51,19 @@ fn past_repeated<'a>(line: &[u8], text: &'a [u8]) -> (u32, &'a [u8])
     (count, rest)
 }
 
+// The same. Nothing is called where the text begins otherwise, as it mostly does where processes take turns.
+#[inline(always)]
+fn past_again<'a>(line: &[u8], text: &'a [u8]) -> (u32, &'a [u8])
+    requires filled { 0 < length line.now }
+    requires few { length text.now ≤ most_bytes }
+    ensures { text.now ≡ repeated result.0 line.now ++ result.1.now }
+{
+    if line.first() != text.first() {
+        return (0, text);
+    }
+    past_repeated(line, text)
+}
+
 // What the lines of a text are, each of which is allowed, in this row; or a refusal with this number, at the first bad line,
 // or at line 0 where the text is too long. A line that stands several times in a row is parsed once.
 pub(crate) fn read_lines<T: FromLine, R: Row<T>>(
@@ -77,7 +90,7 @@ pub(crate) fn read_lines<T: FromLine, R: Row<T>>(
             return Err(HistoryFault::refused(alloc, number, count + 1));
         };
         let line = &rest[..rest.len() - rest_after.len()];
-        let (more, rest_after) = past_repeated(line, rest_after);
+        let (more, rest_after) = past_again(line, rest_after);
         row.append(item, more + 1)?;
         count += more + 1;
         rest = rest_after;

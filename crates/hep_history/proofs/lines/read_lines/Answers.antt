@@ -8,22 +8,22 @@ overflow_add-count g c = omega (arith, count_fits _ _ c.requires.apart c.loop-re
 
 pub overflow_add-more : goal.overflow_add-more
 overflow_add-more g c =
-    omega (arith, count_on_fits _ _ c.requires.apart c.past_repeated-more.result.1.now c.loop-rest.invariant.read c.in-Some.item c.past_repeated-more.result.0 c.in-Some.ensures.allowed c.in-Some.ensures.found c.past_repeated-more.ensures)
+    omega (arith, count_on_fits _ _ c.requires.apart c.past_again-more.result.1.now c.loop-rest.invariant.read c.in-Some.item c.past_again-more.result.0 c.in-Some.ensures.allowed c.in-Some.ensures.found c.past_again-more.ensures)
 
 pub overflow_add-count-in-loop-rest : goal.overflow_add-count-in-loop-rest
 overflow_add-count-in-loop-rest g c =
-    omega (arith, count_on_fits _ _ c.requires.apart c.past_repeated-more.result.1.now c.loop-rest.invariant.read c.in-Some.item c.past_repeated-more.result.0 c.in-Some.ensures.allowed c.in-Some.ensures.found c.past_repeated-more.ensures)
+    omega (arith, count_on_fits _ _ c.requires.apart c.past_again-more.result.1.now c.loop-rest.invariant.read c.in-Some.item c.past_again-more.result.0 c.in-Some.ensures.allowed c.in-Some.ensures.found c.past_again-more.ensures)
 
 pub overflow_add-count-in-loop-rest-2 : goal.overflow_add-count-in-loop-rest-2
 overflow_add-count-in-loop-rest-2 g c =
-    omega (arith, count_on_fits _ _ c.requires.apart c.past_repeated-more.result.1.now c.loop-rest.invariant.read c.in-Some.item c.past_repeated-more.result.0 c.in-Some.ensures.allowed c.in-Some.ensures.found c.past_repeated-more.ensures, c.loop-rest.invariant.counted)
+    omega (arith, count_on_fits _ _ c.requires.apart c.past_again-more.result.1.now c.loop-rest.invariant.read c.in-Some.item c.past_again-more.result.0 c.in-Some.ensures.allowed c.in-Some.ensures.found c.past_again-more.ensures, c.loop-rest.invariant.counted)
 
 pub loop-rest-preserved : goal.loop-rest-preserved
 loop-rest-preserved g c =
-    let read = read_on _ _ c.requires.apart c.loop-rest.invariant.read c.in-Some.item c.past_repeated-more.result.0 c.in-Some.ensures.allowed c.in-Some.ensures.found c.past_repeated-more.ensures in
+    let read = read_on _ _ c.requires.apart c.loop-rest.invariant.read c.in-Some.item c.past_again-more.result.0 c.in-Some.ensures.allowed c.in-Some.ensures.found c.past_again-more.ensures in
     record {
       read = rw c.in_ok-append.ensures read;
-      counted = rw (c.in_ok-append.ensures, c.loop-rest.invariant.counted) (sym (count_on g.T.FromLine.line g.T.FromLine.allows c.requires.apart (g.R.Row.items c.loop-rest.row) c.in-Some.item c.past_repeated-more.result.0));
+      counted = rw (c.in_ok-append.ensures, c.loop-rest.invariant.counted) (sym (count_on g.T.FromLine.line g.T.FromLine.allows c.requires.apart (g.R.Row.items c.loop-rest.row) c.in-Some.item c.past_again-more.result.0));
     }
 
 pub returns-in_default-clause-accepted : goal.returns-in_default-clause-accepted
