@@ -17,7 +17,7 @@ const ABOUT: &str = "Compiles and runs HEP FORTRAN.
 With no command it runs the source on standard input.";
 
 const EXAMPLES: &str = "Example: hepf run examples/powers.f
-`hepf COMMAND --help` has more; `man -l docs/hepf.1` has all, statuses too.";
+`hepf COMMAND --help` has more; `man hepf`, or `man -l docs/hepf.1`, has all.";
 
 const CHECK_EXAMPLE: &str = "Example: hepf check examples/powers.f";
 
