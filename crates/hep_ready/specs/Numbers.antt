@@ -1,7 +1,8 @@
 -- The ready processes by their numbers: docs/MACHINE.md, "Which process comes next".
-use Rattle.std.specs.Prelude.{ℕ, zero, suc, ◌+◌, ◌≤◌, nat_eq, nat_lt, if◌then◌else◌, List, [], ◌∷◌}
+use Rattle.std.specs.Prelude.{◌≡◌, ℕ, zero, suc, ◌+◌, ◌<◌, ◌≤◌, nat_eq, nat_lt, if◌then◌else◌, List, [], ◌∷◌, Option, Some, None}
+use Rattle.std.specs.Int.{bit_at}
 use Rattle.hep_lengths.specs.declared.tree.Tree.{Tree}
-use Rattle.hep_lengths.specs.Trees.{leaves_of}
+use Rattle.hep_lengths.specs.Trees.{IsTree, leaves_of, number}
 
 -- how many numbers have room, which are those from 1 on, and the numbers of the ready processes, which rise
 pub record Numbers : Type 0 where
@@ -22,6 +23,20 @@ numbers_from n (suc m ∷ ms) = n ∷ numbers_from (suc n) ms
 -- each number has a leaf, 1 the first one
 abbrev pub numbers_of : Tree → Numbers
 numbers_of tree = record { room = tree.size; ready = numbers_from 1 (leaves_of tree) }
+
+-- 64 bits are the first marks
+abbrev pub AreBits : ℕ → List ℕ → Type 0
+AreBits bits marks = (k : ℕ) → k < 64 → bit_at bits k ≡ number marks k
+
+-- where the first one of 64 bits is from a place on that is set
+abbrev pub IsNextBit : ℕ → ℕ → Option ℕ → Type 0
+IsNextBit bits from None = (k : ℕ) → from ≤ k → k < 64 → bit_at bits k ≡ 0
+IsNextBit bits from (Some at) = (from ≤ at) × (at < 64) × (bit_at bits at ≡ 1) × ((k : ℕ) → from ≤ k → k < at → bit_at bits k ≡ 0)
+
+-- the first leaves stand in the bits too
+pub record IsMarked (of : Tree) (first : ℕ) : Type 0 where
+  pub tree : IsTree of
+  pub bits : AreBits first (leaves_of of)
 
 -- numbers rise, and lie between two
 abbrev pub AreRising : ℕ → ℕ → List ℕ → Type 0

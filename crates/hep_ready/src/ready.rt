@@ -1,7 +1,8 @@
 //! The ready processes.
-ghost use Rattle.std.specs.Prelude.{◌≡◌, ◌==◌, ◌≤◌, [], None, IfErr, IsOk, OnOk, length};
+ghost use Rattle.std.specs.Int.{bit_at};
+ghost use Rattle.std.specs.Prelude.{◌≡◌, ◌==◌, ◌<◌, ◌≤◌, ℕ, [], None, IfErr, IsOk, OnOk, if◌then◌else◌, length, nat_eq};
 ghost use Rattle.hep_machine.specs.Words.{first_above, next_of_ready, without};
-ghost use Rattle.hep_ready.specs.Numbers.{AreRising, with_number};
+ghost use Rattle.hep_ready.specs.Numbers.{AreRising, IsNextBit, with_number};
 
 use hep_lengths::Tree;
 use std::alloc::{AllocError, Global};
@@ -14,6 +15,37 @@ pub struct Ready {
     alloc: Global,
     // The leaf of the number p is at p - 1: 1 where the process is ready, and else 0.
     tree: Tree,
+    // The first leaves once more, one a bit: a search among few processes looks at nothing else.
+    first: u64,
+}
+
+// How many leaves have a bit.
+const FEW: u64 = 64;
+
+// The bits with the one at a place set; past the 64th there is none.
+fn with_bit(bits: u64, at: u64) -> u64
+    ensures { (k : ℕ) → k < 64 → bit_at result k ≡ (if nat_eq k at then 1 else bit_at bits k) }
+{
+    if at < FEW { bits | 1 << at } else { bits }
+}
+
+// The bits with the one at a place cleared; past the 64th there is none.
+fn without_bit(bits: u64, at: u64) -> u64
+    ensures { (k : ℕ) → k < 64 → bit_at result k ≡ (if nat_eq k at then 0 else bit_at bits k) }
+{
+    if at < FEW { bits & !(1 << at) } else { bits }
+}
+
+// The first bit from a place on that is set, none where there is none.
+fn first_bit(bits: u64, from: u64) -> Option<u64>
+    requires few { from < 64 }
+    ensures { IsNextBit bits from result }
+{
+    let above = bits >> from;
+    if above == 0 {
+        return None;
+    }
+    Some(from + above.trailing_zeros() as u64)
 }
 
 impl Model for Ready {
@@ -21,12 +53,11 @@ impl Model for Ready {
 
     ghost Value = { Numbers };
 
-    ghost use Rattle.hep_lengths.specs.Trees.{IsTree};
-    ghost use Rattle.hep_ready.specs.Numbers.{numbers_of};
+    ghost use Rattle.hep_ready.specs.Numbers.{IsMarked, numbers_of};
 
     ghost view = { λ r. numbers_of r.tree };
 
-    ghost invariant = { λ r. IsTree r.tree };
+    ghost invariant = { λ r. IsMarked r.tree r.first };
 }
 
 impl Ready {
@@ -38,6 +69,7 @@ impl Ready {
         Ready {
             alloc,
             tree: Tree::new(alloc),
+            first: 0,
         }
     }
 
@@ -70,6 +102,7 @@ impl Ready {
         ensures room { self.new.room ≡ self.old.room }
     {
         self.tree.put(p as usize - 1, 1);
+        self.first = with_bit(self.first, p - 1);
     }
 
     /// A process isn't ready, whether it was or not. Its number needs no room.
@@ -81,13 +114,14 @@ impl Ready {
     {
         if p > 0 && p <= self.tree.size() as u64 {
             self.tree.put(p as usize - 1, 0);
+            self.first = without_bit(self.first, p - 1);
         }
     }
 
     /// The ready process that comes next after one: of those with a greater number the least, or
     /// else the least of all. None where none is ready.
     ///
-    /// This costs the logarithm of the room.
+    /// This costs the logarithm of the room, and a constant time where that is at most 64.
     pub fn next(&self, last: u64) -> Option<u64>
         ensures next { result ≡ next_of_ready last self.now.ready }
         ensures rising { AreRising 1 self.now.room self.now.ready }
@@ -101,13 +135,21 @@ impl Ready {
     /// Of the ready processes with a greater number the least. None where there is none: unlike
     /// `next`, this doesn't begin again with the least of all.
     ///
-    /// This costs the logarithm of the room.
+    /// This costs the logarithm of the room, and a constant time where that is at most 64.
     pub fn first_above(&self, p: u64) -> Option<u64>
         ensures next { result ≡ first_above p self.now.ready None }
         ensures rising { AreRising 1 self.now.room self.now.ready }
     {
         if p >= self.tree.size() as u64 {
             return None;
+        }
+        if p < FEW {
+            if let Some(at) = first_bit(self.first, p) {
+                return Some(at + 1);
+            }
+            if self.tree.size() as u64 <= FEW {
+                return None;
+            }
         }
         let at = self.tree.first_after(p as usize)?;
         Some(at as u64 + 1)

@@ -9,5 +9,5 @@ returns-clause-ready c =
     let t = c.self.inside.tree in
     let room : c.args.self.now.room ≡ t.size = ap (λ (v : Numbers). v.room) (sym c.self.view_is) in
     let place : c.args.p ≡ 1 + (c.args.p - 1) = omega (arith, c.requires.some) in
-    let inside : c.args.p - 1 < length (leaves_of t) = omega (arith, length-drop t.size t.greatest.items, c.self.invariant.nodes, c.requires.some, c.requires.room, room) in
+    let inside : c.args.p - 1 < length (leaves_of t) = omega (arith, length-drop t.size t.greatest.items, c.self.invariant.tree.nodes, c.requires.some, c.requires.room, room) in
     rw (← c.self.view_is) (ap (numbers_from 1) c.put.ensures.leaves ∙ numbers-with 1 (c.args.p - 1) c.args.p (leaves_of t) inside place)

@@ -15,6 +15,6 @@ pub returns-else-p-gt0-clause-ready : goal.returns-else-p-gt0-clause-ready
 returns-else-p-gt0-clause-ready c =
     let t = c.self.inside.tree in
     rw (← c.self.view_is) (sym (elim c.else-p-gt0.branch [
-      | else-p-gt0-via-then-p-gt0+else-p-size w ↦ without-above c.args.p 1 (leaves_of t) (omega (arith, length-drop t.size t.greatest.items, c.self.invariant.nodes, w.if-p-size.false, w.size.ensures))
+      | else-p-gt0-via-then-p-gt0+else-p-size w ↦ without-above c.args.p 1 (leaves_of t) (omega (arith, length-drop t.size t.greatest.items, c.self.invariant.tree.nodes, w.if-p-size.false, w.size.ensures))
       | else-p-gt0-via-else-p-gt0 w ↦ without-below c.args.p 1 (leaves_of t) (omega (arith, w.if-p-gt0.false))
     ]))
