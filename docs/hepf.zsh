@@ -35,7 +35,7 @@ _hepf_words() {
             _arguments '--arena=[cells of storage]:cells:' '--help[show help]' '1:source:_files' '2:history:_files'
             ;;
         explain)
-            _arguments '--help[show help]' '1:number or name:(101 102 103 104 105 106 107 201 202 203 204 205 301 302 303 304 305 306 307 308 309 310 311 401 402 501 506 601 602 603 701 702 703 704 705 OVERFLOW DIVIDE RANGE UNDEFINED SHAPE STEP FAULT WAITING STOPPED ARENA NO WORKERS READ WRITE REFUSED STILL STATUS)' \
+            _arguments '--help[show help]' '1:number or name:(101 102 103 104 105 106 107 201 202 203 204 205 301 302 303 304 305 306 307 308 309 310 311 312 401 402 501 506 601 602 603 701 702 703 704 705 OVERFLOW DIVIDE RANGE UNDEFINED SHAPE STEP FAULT WAITING STOPPED ARENA NO WORKERS READ WRITE REFUSED STILL STATUS)' \
                 '*:its next word:(ARENA STEP FULL LIMIT MEMORY REFUSED FAULT RUNNING 0 1 2 3 4 5 6 7 8 70)'
             ;;
         help)

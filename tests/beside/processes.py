@@ -1,9 +1,10 @@
 """Random programs of several processes, each by a seed, and lists of choices for them.
 
-They are programs of several units in which subroutines are created as well as called. Units share variables by COMMON and
-by arguments, without any care, so that most runs depend on the choices. Some programs have asynchronous variables: there
-many subroutines have a channel, a dummy argument that they store in or read a number of times, and who creates them does
-the other as often; what is left of full and empty is drawn as elsewhere, so many runs end with processes that wait.
+They are programs of several units in which subroutines are created as well as called, or go on beside their callers by a
+RESUME. Units share variables by COMMON and by arguments, without any care, so that most runs depend on the choices. Some
+programs have asynchronous variables: there many subroutines have a channel, a dummy argument that they store in or read a
+number of times, and who creates them does the other as often; what is left of full and empty is drawn as elsewhere, so many
+runs end with processes that wait.
 """
 from dataclasses import dataclass
 
@@ -23,18 +24,21 @@ class Channel(units.Dummy):
 
 
 class Plan(units.Plan):
-    """A plan in which subroutines are created."""
+    """A plan in which subroutines are created, or resume."""
 
     def __init__(self, seed):
         super().__init__(seed)
         # How many of all calls are a CREATE.
-        self.share = self.pick([0.4, 0.7, 0.9, 1])
+        self.share = self.pick([0, 0.4, 0.7, 0.9, 1])
+        # How likely a subroutine is to begin with a RESUME, and how often one stands elsewhere.
+        self.resumes = 0.8 if self.share == 0 else self.pick([0, 0, 0.3, 0.6, 1])
+        self.resuming = [subroutine for subroutine in self.subroutines if self.chance(self.resumes)]
         # (a fault before the first CREATE leaves nothing to see)
         self.risk = self.pick([0, 0, 0, 0, 0.01, 0.03])
 
 
 class Maker(units.UnitMaker):
-    """The statements of a unit, some of whose calls are a CREATE."""
+    """The statements of a unit, some of whose calls are a CREATE, with some RESUMEs in a subroutine."""
 
     def call_text(self, other, passed):
         text = super().call_text(other, passed)
@@ -42,6 +46,42 @@ class Maker(units.UnitMaker):
 
     def is_created(self, other):
         return self.chance(self.plan.share)
+
+    def resumes_here(self, share):
+        """Whether a RESUME is to stand here, of which the main program has none."""
+        return bool(self.subroutine) and self.chance(share * self.plan.resumes)
+
+    def opening(self):
+        """The lines, with a RESUME before all of them or somewhere between two where that is planned."""
+        lines = super().opening()
+        if self.subroutine not in self.plan.resuming:
+            return lines
+        if self.chance(0.2):
+            lines.insert(self.number(0, len(lines)), Line("RESUME"))
+            return lines
+        if self.chance(0.7):
+            return [Line("RESUME", self.label() if self.chance(0.1) else None), *lines]
+        turn = self.turns[0].name
+        return self.in_do(self.pick(["RESUME", f"IF ({turn}.GT.1) RESUME"])) + lines
+
+    def in_do(self, text):
+        """A DO of this statement alone."""
+        label = self.label()
+        return [Line(f"DO {label} {self.turns[0].name}=1,{self.number(1, 3)}"), Line(text, label)]
+
+    def calling(self, other):
+        """What is called in one statement may be called a few times."""
+        lines = super().calling(other)
+        if not lines or self.active or lines[-1].label or channels(other) or not self.chance(0.1):
+            return lines
+        *before, call = lines
+        return before + self.in_do(call.text)
+
+    def simple(self, targets):
+        return "RESUME" if self.resumes_here(0.1) else super().simple(targets)
+
+    def conditional(self, targets):
+        return f"IF ({self.logical()}) RESUME" if self.resumes_here(0.15) else super().conditional(targets)
 
     def breaches_of_calls(self):
         found = super().breaches_of_calls()
@@ -101,7 +141,9 @@ class AsynchronousMaker(Maker):
         self.filled = []
 
     def is_created(self, other):
-        return super().is_created(other) or bool(channels(other)) and not self.is_risky()
+        """A subroutine with channels is created, or is called and goes on by itself."""
+        is_beside = other in self.plan.resuming or self.is_risky()
+        return super().is_created(other) or bool(channels(other)) and not is_beside
 
     def note_call(self, other, passed):
         for dummy, actual in zip(other.dummies, passed):
@@ -187,9 +229,9 @@ class AsynchronousProcesses(units.Assembly):
 
 
 def program_of(seed, asynchronous=False):
-    """The statements of a program with a CREATE, which is drawn again until there is one."""
+    """The statements of a program with a CREATE or a RESUME, which is drawn again until there is one."""
     attempt, statements = 0, []
-    while not any("CREATE " in statement.text for statement in statements):
+    while not any(word in statement.text for statement in statements for word in ("CREATE ", "RESUME")):
         statements = units.program_of(f"{seed} processes {attempt}", AsynchronousProcesses if asynchronous else Processes)
         attempt += 1
     return statements

@@ -11,7 +11,7 @@ from dataclasses import dataclass, field
 LETTERS = "ABCDEFGHIJKLMNOPQRSTUVWXYZ"
 INTEGER_LETTERS = "IJKLMN"
 # Names that are words of the language, or begin as statements do.
-WORDS = ["IF", "DO10I", "THEN", "ELSE", "ENDIF", "END", "PRINT", "DATA", "GOTO", "READ", "CALL", "STOP", "REAL", "FORMAT"]
+WORDS = ["IF", "DO10I", "THEN", "ELSE", "ENDIF", "END", "PRINT", "DATA", "GOTO", "READ", "CALL", "STOP", "REAL", "FORMAT", "RESUME"]
 FUNCTIONS = ["ABS", "IABS", "MOD", "SIGN", "ISIGN", "DIM", "IDIM", "MAX", "MAX0", "MIN", "MIN0"]
 # A name of nothing, and of a common block.
 NOBODY, BLOCK = "QQQQQQ", "BLOCK"
@@ -605,6 +605,9 @@ class Maker(Expressions):
         behind = self.chance(0.3)
         return [*declared, *([] if behind else data), *lines, *(data if behind else []), Line("END")]
 
+    def is_of_main_program(self):
+        return True
+
     def breach(self):
         """Statements that break a rule; the first one is refused."""
         name, turn, unknown, label, other = self.scalars[0].name, self.turns[0].name, self.name(), self.label(), self.label()
@@ -626,6 +629,8 @@ class Maker(Expressions):
             choices["303"] = [f"{name}=ABS(1,2)"]
         for array in self.arrays:
             choices["302"] += [f"PRINT *,{array.name}", f"{array.name}=1", f"PRINT *,{array.name}(1{',1' * len(array.bounds)})"]
+        if self.is_of_main_program():
+            choices["312"] = ["RESUME", f"IF ({self.logical()}) RESUME"]
         for constant in self.constants:
             choices["309"].append(f"{constant.name}={truth(True) if isinstance(constant.value, bool) else '1'}")
         inside = self.pick([("IF (.TRUE.) THEN", Line("END IF")), (f"DO {other} {turn}=1,2", Line("CONTINUE", other))])

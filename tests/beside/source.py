@@ -243,6 +243,11 @@ class Return(Form):
 
 
 @dataclass
+class Resume(Form):
+    pass
+
+
+@dataclass
 class Stop(Form):
     pass
 
@@ -657,6 +662,7 @@ WORDS = {
     "CREATE": called(Create),
     "CONTINUE": alone(Continue),
     "RETURN": alone(Return),
+    "RESUME": alone(Resume),
     "STOP": lambda rest: Stop(),
     "PRINT*": print_statement,
     "PURGE": lambda rest: Purge(whole(rest, lambda reader: reader.row(reader.reference))),

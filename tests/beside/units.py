@@ -547,6 +547,9 @@ class UnitMaker(Maker):
 
     # Rules that are broken.
 
+    def is_of_main_program(self):
+        return not self.subroutine
+
     def breach(self):
         """Half of the breaches are those of a unit by itself, the others are of calls."""
         choices = self.breaches_of_calls()

@@ -1,10 +1,10 @@
 -- Which processes live: those that wait do, and have no step; and what a step changes in it.
-use Rattle.std.proofs.Common.{◌≡◌, ◌⊎◌, inl, inr, ℕ, zero, suc, ◌+◌, ◌<◌, ◌≤◌, ◌&&◌, ◌||◌, Bool, true, false, true≢false, List, [], ◌∷◌, length, Option, Some, None, refl, sym, ap, ◌∙◌, arith, ◌≢◌, if◌then◌else◌, is_some, not, nat_eq, nat_lt, length-append, length-set}
+use Rattle.std.proofs.Common.{◌≡◌, ◌⊎◌, inl, inr, ℕ, zero, suc, ◌+◌, ◌<◌, ◌≤◌, ◌&&◌, ◌||◌, Bool, true, false, true≢false, List, [], ◌∷◌, ◌++◌, length, Option, Some, None, refl, sym, ap, ◌∙◌, arith, ◌≢◌, if◌then◌else◌, is_some, not, nat_eq, nat_lt, length-append, length-set}
 use Rattle.std.proofs.Math.Bool.{and-false, and-true, or-false}
 use Rattle.std.proofs.lemmas.Bool.{cases_eq, cases_lt, le-ltb, lt-ltb, ne_eqb, eq-eqb}
 use Rattle.std.proofs.lemmas.Option.{slice_get_past}
 use Rattle.hep_machine.specs.Words.{Units, activations_on, living, numbered, top_of, with_numbered, Level, Process, State, StepResult, absent, stepped, waiting, Top, is_waiting, state_made, step, step_result_of, step_result_of_top, wanted_of}
-use Rattle.hep_machine.proofs.Changes.{Change, HasStack, calls, creates, faults, leaves, moves, step_changes, stops, top_in}
+use Rattle.hep_machine.proofs.Changes.{Change, HasStack, calls, creates, faults, leaves, moves, resumes, step_changes, stops, top_in}
 use Rattle.hep_machine.proofs.Others.{others_stay, processes_after, last-numbered}
 
 -- ---- processes that wait
@@ -57,16 +57,20 @@ change-lives t s change more = by_change change where
       let same : length s.processes ≡ length t.state.processes = ap length e ∙ simp length-set in
       absurd (omega (arith, same, more))
 
+  added : (q r : Process) (a : ℕ) → activations_on r ≡ a ∷ [] → s.processes ≡ with_numbered t.state.processes t.process q ++ r ∷ [] → is_some (living s (length s.processes)) ≡ true
+  added q r a b e =
+      let set : List Process = with_numbered t.state.processes t.process q in
+      let long : length s.processes ≡ suc (length set) = ap length e ∙ (length-append set (r ∷ []) ∙ omega arith) in
+      (λ i. is_some (top_of (numbered (e i) (long i))))
+      ∙ (ap (λ o. is_some (top_of o)) (last-numbered set r) ∙ stack-lives r a b)
+
   by_change : Change t s → is_some (living s (length s.processes)) ≡ true
   by_change (moves q a e k) = stacked q e
   by_change (leaves q a e k) = stacked q e
   by_change (faults e k) = stacked [] e
   by_change (calls q x a e k) = stacked q e
-  by_change (creates q r x a b e k) =
-      let set : List Process = with_numbered t.state.processes t.process q in
-      let long : length s.processes ≡ suc (length set) = ap length e ∙ (length-append set (r ∷ []) ∙ omega arith) in
-      (λ i. is_some (top_of (numbered (e i) (long i))))
-      ∙ (ap (λ o. is_some (top_of o)) (last-numbered set r) ∙ stack-lives r (length t.state.activations + 1) b)
+  by_change (creates q r x a b e k) = added q r (length t.state.activations + 1) b e
+  by_change (resumes q r a b e k) = added q r t.level.activation b e
   by_change (stops e k) = absurd (omega (arith, more, ap length e))
 
 -- ---- a step

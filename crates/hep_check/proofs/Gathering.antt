@@ -22,20 +22,21 @@ turn best v next whole xs ys h n d =
     ap (λ o. first_of_two o (first_found ys)) n
     ∙ (first_of_two-assoc best v (first_found ys) ∙ (ap (λ zs. first_of_two best (first_found zs)) (sym d) ∙ h))
 
--- the nine conditions on a unit
-pub nine : (a b c d e f g h i : Option Violation) (la lb lc ld le lf lg lh li : Violations)
-    → a ≡ first_of la → b ≡ first_of lb → c ≡ first_of lc → d ≡ first_of ld → e ≡ first_of le → f ≡ first_of lf → g ≡ first_of lg → h ≡ first_of lh → i ≡ first_of li
-    → first_found (a ∷ b ∷ c ∷ d ∷ e ∷ f ∷ g ∷ h ∷ i ∷ []) ≡ first_of (la ++ (lb ++ (lc ++ (ld ++ (le ++ (lf ++ (lg ++ (lh ++ li))))))))
-nine a b c d e f g h i la lb lc ld le lf lg lh li p q r s t u v w x =
-    before a la (lb ++ (lc ++ (ld ++ (le ++ (lf ++ (lg ++ (lh ++ li))))))) (b ∷ c ∷ d ∷ e ∷ f ∷ g ∷ h ∷ i ∷ []) p
-    (before b lb (lc ++ (ld ++ (le ++ (lf ++ (lg ++ (lh ++ li)))))) (c ∷ d ∷ e ∷ f ∷ g ∷ h ∷ i ∷ []) q
-    (before c lc (ld ++ (le ++ (lf ++ (lg ++ (lh ++ li))))) (d ∷ e ∷ f ∷ g ∷ h ∷ i ∷ []) r
-    (before d ld (le ++ (lf ++ (lg ++ (lh ++ li)))) (e ∷ f ∷ g ∷ h ∷ i ∷ []) s
-    (before e le (lf ++ (lg ++ (lh ++ li))) (f ∷ g ∷ h ∷ i ∷ []) t
-    (before f lf (lg ++ (lh ++ li)) (g ∷ h ∷ i ∷ []) u
-    (before g lg (lh ++ li) (h ∷ i ∷ []) v
-    (before h lh li (i ∷ []) w
-    (last i li x))))))))
+-- the ten conditions on a unit
+pub ten : (a b c d e f g h i j : Option Violation) (la lb lc ld le lf lg lh li lj : Violations)
+    → a ≡ first_of la → b ≡ first_of lb → c ≡ first_of lc → d ≡ first_of ld → e ≡ first_of le → f ≡ first_of lf → g ≡ first_of lg → h ≡ first_of lh → i ≡ first_of li → j ≡ first_of lj
+    → first_found (a ∷ b ∷ c ∷ d ∷ e ∷ f ∷ g ∷ h ∷ i ∷ j ∷ []) ≡ first_of (la ++ (lb ++ (lc ++ (ld ++ (le ++ (lf ++ (lg ++ (lh ++ (li ++ lj)))))))))
+ten a b c d e f g h i j la lb lc ld le lf lg lh li lj p q r s t u v w x y =
+    before a la (lb ++ (lc ++ (ld ++ (le ++ (lf ++ (lg ++ (lh ++ (li ++ lj)))))))) (b ∷ c ∷ d ∷ e ∷ f ∷ g ∷ h ∷ i ∷ j ∷ []) p
+    (before b lb (lc ++ (ld ++ (le ++ (lf ++ (lg ++ (lh ++ (li ++ lj))))))) (c ∷ d ∷ e ∷ f ∷ g ∷ h ∷ i ∷ j ∷ []) q
+    (before c lc (ld ++ (le ++ (lf ++ (lg ++ (lh ++ (li ++ lj)))))) (d ∷ e ∷ f ∷ g ∷ h ∷ i ∷ j ∷ []) r
+    (before d ld (le ++ (lf ++ (lg ++ (lh ++ (li ++ lj))))) (e ∷ f ∷ g ∷ h ∷ i ∷ j ∷ []) s
+    (before e le (lf ++ (lg ++ (lh ++ (li ++ lj)))) (f ∷ g ∷ h ∷ i ∷ j ∷ []) t
+    (before f lf (lg ++ (lh ++ (li ++ lj))) (g ∷ h ∷ i ∷ j ∷ []) u
+    (before g lg (lh ++ (li ++ lj)) (h ∷ i ∷ j ∷ []) v
+    (before h lh (li ++ lj) (i ∷ j ∷ []) w
+    (before i li lj (j ∷ []) x
+    (last j lj y)))))))))
 
 -- the four parts of a program's conditions
 pub four : (a b c d : Option Violation) (la lb lc ld : Violations) → a ≡ first_of la → b ≡ first_of lb → c ≡ first_of lc → d ≡ first_of ld

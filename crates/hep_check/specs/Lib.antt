@@ -1,3 +1,4 @@
 pub mod Found
 pub mod Faults
 pub mod Listing
+pub mod Resuming

@@ -44,7 +44,7 @@ fn judged(alloc: Global, program: &Program) -> Result<Result<Vec<u128>, Violatio
 /// # Errors
 ///
 /// The first violation by line, then by number, then by the position of the name (docs/LANGUAGE.md, 10):
-/// 301 to 311 with its line, and for 301 and 310 the name; or that memory was refused.
+/// 301 to 312 with its line, and for 301 and 310 the name; or that memory was refused.
 pub fn check(alloc: Global, program: Program) -> Result<Checked, CheckFault>
     // What is checked is the program.
     ensures same { IfOk result (λ checked. checked ≡ program) }

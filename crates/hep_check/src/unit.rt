@@ -3,6 +3,7 @@ ghost use Rattle.std.specs.Prelude.{◌≡◌, IfOk};
 ghost use Rattle.hep_conditions.specs.Words.{violations_in, first_of};
 ghost use Rattle.hep_check.specs.Found.{first_found};
 
+use crate::resuming::resume_violation;
 use hep_calls::argument_violation;
 use hep_conditions::Violation;
 use hep_conditions::reported::first_of_two;
@@ -49,6 +50,7 @@ pub(crate) fn unit_violation(
         jump_violation(alloc, &labels)?,
         unknown_name_violation(alloc, program, symbols)?,
         data_violation(alloc, symbols)?,
+        resume_violation(symbols.statements()),
     ];
     Ok(first_found(&found))
 }

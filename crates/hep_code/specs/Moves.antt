@@ -4,7 +4,7 @@ use Rattle.hep_machine.specs.Words.{Value, integer_of, logical_of, no_value}
 use Rattle.hep_code.specs.declared.instruction.Instruction.{Instruction}
 use Rattle.hep_code.specs.declared.instruction.Instruction.TheVariants.{To}
 use Rattle.hep_code.specs.declared.instruction.Operation.{Operation}
-use Rattle.hep_code.specs.declared.instruction.Operation.TheVariants.{Store, Jump, Choose, BySign, Condition, Branch, EnterLoop, EndLoop, Call, Create, Purge, Print}
+use Rattle.hep_code.specs.declared.instruction.Operation.TheVariants.{Store, Jump, Choose, BySign, Condition, Branch, EnterLoop, EndLoop, Call, Create, Purge, Print, Resume}
 
 abbrev pub index_at : Option Instruction → ℕ → ℕ
 index_at (Some (To index)) next = index
@@ -38,6 +38,7 @@ led_to (Call u count next) entries vs index = next
 led_to (Create u count next) entries vs index = next
 led_to (Purge count next) entries vs index = next
 led_to (Print count next) entries vs index = next
+led_to (Resume next) entries vs index = next
 led_to _ entries vs index = index
 
 -- into the range where iterations are left, and else on

@@ -110,6 +110,10 @@ pub enum Operation {
     },
     /// RETURN (15.8), and END of a unit (11.14).
     Return,
+    /// RESUME (`docs/LANGUAGE.md`).
+    Resume {
+        next: u32,
+    },
     /// STOP (11.12).
     Stop,
 }
@@ -282,6 +286,7 @@ impl Syntax for Operation {
                 m == n && i == j
             }
             (Operation::Return, Operation::Return) => true,
+            (Operation::Resume { next: i }, Operation::Resume { next: j }) => i == j,
             (Operation::Stop, Operation::Stop) => true,
             _ => false,
         }

@@ -52,6 +52,7 @@ fn index_after(
         | Operation::Call { next, .. }
         | Operation::Create { next, .. }
         | Operation::Purge { next, .. }
+        | Operation::Resume { next }
         | Operation::Print { next, .. } => next as usize,
         Operation::Choose { count, next } => {
             index_chosen(entries, count, next, integer_of(first_operand(operands)))

@@ -6,8 +6,8 @@ use Rattle.std.proofs.lemmas.Bool.Decides.{nat_tests}
 use Rattle.std.proofs.lemmas.Option.{none-some, same_Some}
 use Rattle.hep_machine.specs.Words.{Tree, Form, Statement, Value, Units, executable_from, main_unit, statement_at, unit_at, integer_of, integer_or_overflow, logical_of, Binding, alternative_of, following, index_of_label, label_by_sign, label_chosen, level_after_loop, level_after_statement, level_after_condition}
 use Rattle.hep_machine.specs.Words.{level_at_choice, level_at_end_of, level_at_statement, level_in_block, level_in_range, after_condition, loops_around, loops_ending_at, terminal_of, variable_of, no_activation, Action, assigning, jumping, choosing, branching, testing_condition, entering_block, entering_loop}
-use Rattle.hep_machine.specs.Words.{ending_loop, calling, creating, purging, printing, continuing, leaving, stopping, Next, wants, does, next_of, plug, plug_work, Scope, location_of_name, opening, is_number_among, living, loop_at, numbered, unit_of, with_loop, with_numbered, run, run_from, Activation, Level, Location}
-use Rattle.hep_machine.specs.Words.{Loop, Process, State, Store, Work, doing, ending, Answer, fails, answer_at, answer_of, binding_of, entry_level, iterations, level_after_count, next_activation, result_after_action, result_after_answer, result_after_assignment, result_after_call, result_after_create, result_after_do}
+use Rattle.hep_machine.specs.Words.{ending_loop, calling, creating, purging, printing, continuing, leaving, resuming, stopping, Next, wants, does, next_of, plug, plug_work, Scope, location_of_name, opening, is_number_among, living, loop_at, numbered, unit_of, with_loop, with_numbered, run, run_from, Activation, Level, Location}
+use Rattle.hep_machine.specs.Words.{Loop, Process, State, state_resumed, Store, Work, doing, ending, Answer, fails, answer_at, answer_of, binding_of, entry_level, iterations, level_after_count, next_activation, result_after_action, result_after_answer, result_after_assignment, result_after_call, result_after_create, result_after_do}
 use Rattle.hep_machine.specs.Words.{result_after_increment, result_after_loop_end, result_after_loop_variable, result_after_next, result_after_purge, result_after_write, scope_of, stack_after_return, step, store_after_purge, Top, unit_called, unit_on_top, written}
 use Rattle.hep_machine.specs.declared.event.Kind.{Kind}
 use Rattle.hep_machine.specs.Step.{gives, waits}
@@ -279,6 +279,13 @@ module _ (program : Units) (P : ℕ → Type 0) where
     returned [] h = tt
     returned (level ∷ levels) h = (after-statement program xs level h.0.0, h.1)
 
+    resumed : (q : Process) → Every (IsLevelIn program xs) q → IsStateIn (state_resumed program t q)
+    resumed [] h = onward
+    resumed (caller ∷ callers) h =
+        let caller-on = set (stack_after_return program t.state (caller ∷ callers)) (returned (caller ∷ callers) h) in
+        let alone : Every (IsLevelIn program xs) (level_after_statement unit t.level ∷ []) = (after-statement program xs t.level top.0, tt) in
+        (caller-on.0, every-append (Every (IsLevelIn program xs)) (with_numbered t.state.processes t.process (stack_after_return program t.state (caller ∷ callers))) ((level_after_statement unit t.level ∷ []) ∷ []) caller-on.1 (alone, tt))
+
     in-action : (a : Action) → CallsIn program P (does a) → Makes IsStateIn (result_after_action program t a)
     in-action (assigning r v) h = in-assignment r.0.asynchronous (location_of_name scope r.0 r.1) v
     in-action (jumping l) h = another _ (at-statement program xs t.level top.0 (index_of_label unit l))
@@ -294,6 +301,7 @@ module _ (program : Units) (P : ℕ → Type 0) where
     in-action (printing items) h = onward
     in-action continuing h = onward
     in-action leaving h = set (stack_after_return program t.state t.below) (returned t.below below)
+    in-action resuming h = resumed t.below below
     in-action stopping h = here
 
     in-next : (n : Next) → CallsIn program P n → Makes IsStateIn (result_after_next program t n)

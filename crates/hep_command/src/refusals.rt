@@ -348,6 +348,27 @@ Right:
       DATA L/1, 2, 3/
       END
 ",
+        312 => "RESUME stands in the main program. It lets the caller of a subroutine go on, and
+a main program has no caller.
+Write it in a subroutine, or leave it out.
+
+Wrong: REFUSED 312 LINE 2
+
+      I = 1
+      RESUME
+      PRINT *, I
+      END
+
+Right:
+
+      CALL S(1)
+      PRINT *, 2
+      END
+      SUBROUTINE S(I)
+      RESUME
+      PRINT *, I
+      END
+",
         401 => "The program is too large: COMMON or the variables of a unit take more than
 16,777,216 cells, or its code has more than 1,048,576 instructions.
 Declare shorter arrays, or write a shorter program.

@@ -1,7 +1,9 @@
 -- All conditions of a program: docs/LANGUAGE.md, 10.
-use Rattle.std.specs.Prelude.{◌≡◌, List, [], ◌++◌, Option}
+use Rattle.std.specs.Prelude.{◌≡◌, Bool, true, false, ◌&&◌, List, [], ◌++◌, Option}
 use Rattle.std.specs.List.{flat_map}
-use Rattle.hep_machine.specs.Words.{Statement, Units}
+use Rattle.std.specs.Option.{is_none}
+use Rattle.hep_machine.specs.Words.{Form, Statement, Units, subroutine_name}
+use Rattle.hep_source.specs.declared.statement.Form.TheVariants as form
 use Rattle.hep_conditions.specs.declared.violation.Violation.{Violation}
 use Rattle.hep_conditions.specs.Common.{common_violations}
 use Rattle.hep_conditions.specs.Data.{data_violations}
@@ -11,9 +13,20 @@ use Rattle.hep_conditions.specs.Nesting.{structure_violations, jump_violations}
 use Rattle.hep_conditions.specs.Constants.{type_violations}
 use Rattle.hep_conditions.specs.Counts.{count_violations}
 use Rattle.hep_conditions.specs.Arguments.{argument_violations}
-use Rattle.hep_conditions.specs.Violations.{Violations, first_of}
+use Rattle.hep_conditions.specs.Violations.{Violations, at_line, first_of, when}
 
--- the violations of a unit, 301 to 311 but for those of whole programs
+-- ---- 312: RESUME stands in a subroutine (docs/LANGUAGE.md, 9)
+
+abbrev pub is_resume : Form → Bool
+is_resume form.Resume = true
+is_resume _ = false
+
+abbrev pub resume_violations : List Statement → Violations
+resume_violations unit = flat_map (λ (s : Statement). when (is_resume s.form && is_none (subroutine_name unit)) (at_line 312 s.line)) unit
+
+-- ---- all of them
+
+-- the violations of a unit, 301 to 312 but for those of whole programs
 abbrev pub violations_in : Units → List Statement → Violations
 violations_in program unit =
     type_missing_violations unit
@@ -24,7 +37,8 @@ violations_in program unit =
     ++ (structure_violations unit
     ++ (jump_violations unit
     ++ (unknown_name_violations program unit
-    ++ data_violations unit)))))))
+    ++ (data_violations unit
+    ++ resume_violations unit))))))))
 
 -- the violations of a program
 abbrev pub violations : Units → Violations

@@ -49,5 +49,5 @@ pub use Rattle.hep_conditions.specs.Nesting.{BlockIf, DoRange, IndexedStatement,
 unfoldable pub use Rattle.hep_conditions.specs.Data.{data_violations, elements_in, given_twice_from, has_type, is_forbidden, is_given_twice}
 unfoldable pub use Rattle.hep_conditions.specs.Data.{is_misplaced, is_outside, is_target_outside, is_value, is_wrong_group, known_targets}
 unfoldable pub use Rattle.hep_conditions.specs.Data.{known_values, name_repeated, share_element, wrong_groups_from}
-unfoldable pub use Rattle.hep_conditions.specs.Conditions.{first_violation, IsAccepted, violations, violations_in}
+unfoldable pub use Rattle.hep_conditions.specs.Conditions.{first_violation, IsAccepted, is_resume, resume_violations, violations, violations_in}
 unfoldable pub use Rattle.hep_conditions.specs.Laws.{Keeps}

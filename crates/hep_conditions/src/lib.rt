@@ -1,4 +1,4 @@
-//! The conditions that a program has to meet before it runs, 301 to 311.
+//! The conditions that a program has to meet before it runs, 301 to 312.
 //!
 //! The conditions are stated in `specs/`, each as the list of the violations that a program has. A
 //! program is accepted where it has none; else the first one by line, number and position is reported. A

@@ -6,7 +6,7 @@ use Rattle.std.proofs.lemmas.Bool.{and_from, and_parts, or_parts}
 use Rattle.std.proofs.lemmas.Option.{none-some, same_Some}
 use Rattle.hep_machine.specs.Words.{Statement, index_where, Units}
 use Rattle.hep_conditions.specs.declared.violation.Violation.{Violation}
-use Rattle.hep_conditions.specs.Words.{argument_violations, IsAccepted, violations_in, type_violations, count_violations, data_violations, label_violations, ambiguous_in, ambiguous_units, name_violations, type_missing_violations, unknown_name_violations, common_violations, jump_violations, structure_violations, when}
+use Rattle.hep_conditions.specs.Words.{argument_violations, resume_violations, IsAccepted, violations_in, type_violations, count_violations, data_violations, label_violations, ambiguous_in, ambiguous_units, name_violations, type_missing_violations, unknown_name_violations, common_violations, jump_violations, structure_violations, when}
 
 -- ---- lists without elements
 
@@ -102,7 +102,8 @@ unviolated program unit u accepted is =
     let v5 = none-append (label_violations unit) _ v4.1 in
     let v6 = none-append (structure_violations unit) _ v5.1 in
     let v7 = none-append (jump_violations unit) _ v6.1 in
-    let v8 = none-append (unknown_name_violations program unit) (data_violations unit) v7.1 in
+    let v8 = none-append (unknown_name_violations program unit) _ v7.1 in
+    let v9 = none-append (data_violations unit) (resume_violations unit) v8.1 in
     record {
       type_missing = v1.0;
       types = v2.0;
@@ -112,7 +113,7 @@ unviolated program unit u accepted is =
       structure = v6.0;
       jumps = v7.0;
       unknown_names = v8.0;
-      assigned = v8.1;
+      assigned = v9.0;
       ambiguous = none-each ambiguous_in program u unit ambiguities.1 is;
     }
 

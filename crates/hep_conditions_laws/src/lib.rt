@@ -1,6 +1,6 @@
 //! What holds of every accepted program, in the subject's words.
 //!
-//! A program is accepted where it violates none of the conditions 301 to 311. Each function is a law of
+//! A program is accepted where it violates none of the conditions 301 to 312. Each function is a law of
 //! all such programs, and has no work to do: what is proved is its contract.
 #![tactic(auto)]
 

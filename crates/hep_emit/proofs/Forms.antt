@@ -80,5 +80,6 @@ module _ (table : Table) (line k : ℕ) where
   form_lists (form.Do c) = bare _
   form_lists form.Continue = bare _
   form_lists form.Return = bare _
+  form_lists form.Resume = bare _
   form_lists form.Stop = bare _
   form_lists form.End = bare _

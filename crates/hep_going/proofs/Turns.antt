@@ -8,7 +8,7 @@ use Rattle.hep_conditions.specs.Words.{IsAccepted}
 use Rattle.hep_code.specs.declared.instruction.Instruction.{Instruction}
 use Rattle.hep_code.specs.declared.instruction.Instruction.TheVariants.{Step}
 use Rattle.hep_code.specs.declared.instruction.Operation.{Operation}
-use Rattle.hep_code.specs.declared.instruction.Operation.TheVariants.{Call, Create, Purge}
+use Rattle.hep_code.specs.declared.instruction.Operation.TheVariants.{Call, Create, Purge, Resume}
 use Rattle.hep_code.specs.Words.{Stands, code_of, deepest}
 use Rattle.hep_image.specs.declared.array.Array.{Array}
 use Rattle.hep_image.specs.Image.{most_cells}
@@ -36,6 +36,7 @@ not-left code arrays first index contents after operands left at next is line o 
     by_operation (Call u count next) e = absurd cc
     by_operation (Create u count next) e = absurd cc
     by_operation (Purge count next) e = absurd cc
+    by_operation (Resume next) e = absurd cc
     by_operation _ e = refl
 
 set-again : {A : Type 0} (xs : List A) (i : ℕ) (x y : A) → slice_set (slice_set xs i x) i y ≡ slice_set xs i y

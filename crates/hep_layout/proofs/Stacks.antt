@@ -6,7 +6,7 @@ use Rattle.std.specs.Option.{option_or}
 use Rattle.std.proofs.lemmas.Bool.{eqb-true, eq-eqb, cases_Bool}
 use Rattle.std.proofs.lemmas.Option.{same_Some, none-some}
 use Rattle.hep_machine.specs.Words.{Units, activations_on, opening, living, numbered, top_of, with_numbered, state_after_turn, run_from, run, Level, Process, State, Activation, Top, next_activation}
-use Rattle.hep_machine.proofs.Changes.{Change, moves, leaves, faults, calls, creates, stops, HasSame, HasStack, stack, step_changes, top_in, HasOneMore}
+use Rattle.hep_machine.proofs.Changes.{Change, moves, leaves, faults, calls, creates, resumes, stops, HasSame, HasStack, stack, step_changes, top_in, HasOneMore}
 use Rattle.hep_machine.proofs.Others.{each_turn}
 use Rattle.hep_layout.specs.Words.{level_of, times, times_on}
 
@@ -73,6 +73,9 @@ times-change t s a there c = by_change c where
   by_change (creates q r x e f k l) =
       let creator = times_on-numbered a t.state.processes t.process (stack t) q there in
       more x l (omega (arith, creator, ap (times a) e, ap (times a) f, ap (times_on a) k, times_on-last a (with_numbered t.state.processes t.process q) r))
+  by_change (resumes q r e f k l) =
+      let caller = times_on-numbered a t.state.processes t.process (stack t) q there in
+      inl (omega (arith, caller, ap (times a) e, ap (times a) f, ap (times_on a) k, times_on-last a (with_numbered t.state.processes t.process q) r))
   by_change (stops k l) = inl (omega (arith, ap (times_on a) k))
 
 -- the activations of a step are the same, or there is one more, a child of the one on top
@@ -82,6 +85,7 @@ news t s (leaves q e k l) = inl l
 news t s (faults k l) = inl l
 news t s (calls q x e k l) = inr (x, l)
 news t s (creates q r x e f k l) = inr (x, l)
+news t s (resumes q r e f k l) = inl l
 news t s (stops k l) = inl l
 
 pub no-fewer : (t : Top) (s : State) → Change t s → length t.state.activations ≤ length s.activations

@@ -1,7 +1,7 @@
 -- A step makes no activation, or one of which holds what holds of what its actual arguments bind.
 use Rattle.std.proofs.Common.{◌≡◌, ◌⊎◌, inl, inr, ℕ, Bool, List, [], ◌∷◌, ◌++◌, length, Option, Some, None, Result, Ok, Err, refl, ℤ, ◌+ℤ◌}
-use Rattle.hep_machine.specs.Words.{Value, Units, dummies_of, unit_at, integer_of, integer_or_overflow, Binding, level_after_statement, variable_of, Actual, Action, assigning, entering_loop, ending_loop, calling, creating, purging, Next, wants, does, Scope, location_of_name, loop_at, Activation, Level, Location, Loop}
-use Rattle.hep_machine.specs.Words.{State, Store, Answer, answer_at, answer_of, binding_of, iterations, result_after_action, result_after_answer, result_after_assignment, result_after_call, result_after_create, result_after_do, result_after_increment, result_after_loop_end, result_after_loop_variable}
+use Rattle.hep_machine.specs.Words.{Value, Units, dummies_of, unit_at, integer_of, integer_or_overflow, Binding, level_after_statement, variable_of, Actual, Action, assigning, entering_loop, ending_loop, calling, creating, purging, resuming, Next, wants, does, Scope, location_of_name, loop_at, Activation, Level, Location, Loop}
+use Rattle.hep_machine.specs.Words.{Process, State, Store, state_resumed, Answer, answer_at, answer_of, binding_of, iterations, result_after_action, result_after_answer, result_after_assignment, result_after_call, result_after_create, result_after_do, result_after_increment, result_after_loop_end, result_after_loop_variable}
 use Rattle.hep_machine.specs.Words.{result_after_next, result_after_purge, result_after_write, scope_of, store_after_purge, Top, unit_called, unit_on_top, written}
 use Rattle.hep_machine.specs.declared.event.Kind.{Kind}
 use Rattle.hep_machine.specs.Step.{waits}
@@ -68,6 +68,11 @@ module _ (program : Units) (t : Top) (Holds : Activation → Type 0) where
   added-create u (Err k) h = same
   added-create u (Ok b) h = inr (_, refl, h)
 
+  -- a process more, or a statement further
+  added-resuming : (below : Process) → Adds (state_resumed program t below)
+  added-resuming [] = same
+  added-resuming (caller ∷ callers) = same
+
   module _ (binds : (u : ℕ) (ys : List Actual) → length ys ≡ length (dummies_of (unit_at program u)) → Binds u (binding_of program t u ys)) where
     added-action : (a : Action) → Agrees program a → Makes Adds (result_after_action program t a)
     added-action (assigning r v) h = added-assignment r.0.asynchronous (location_of_name scope r.0 r.1) v
@@ -76,6 +81,7 @@ module _ (program : Units) (t : Top) (Holds : Activation → Type 0) where
     added-action (calling x actuals) h = added-call (unit_called program x) (binding_of program t (unit_called program x) actuals) (binds (unit_called program x) actuals h)
     added-action (creating x actuals) h = added-create (unit_called program x) (binding_of program t (unit_called program x) actuals) (binds (unit_called program x) actuals h)
     added-action (purging targets) h = added-purge (store_after_purge scope targets old)
+    added-action resuming h = added-resuming t.below
     added-action _ h = same
 
     pub added-next : (m : Next) → NextAgrees program m → Makes Adds (result_after_next program t m)

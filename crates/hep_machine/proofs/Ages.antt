@@ -3,7 +3,7 @@ use Rattle.std.proofs.Common.{◌≡◌, ℕ, zero, suc, ◌+◌, ◌-◌, ◌<�
 use Rattle.std.specs.Option.{unwrap_or}
 use Rattle.std.proofs.lemmas.Option.{none-some, same_Some, slice_get_within}
 use Rattle.hep_machine.specs.Words.{IsOnStack, activations_on, opening, state_after_turn, run_from, run, Activation, Level, Process, State, Top, next_activation, Units, top_of, numbered, with_numbered, parent_of, is_number_among, no_activation}
-use Rattle.hep_machine.proofs.Changes.{stack, HasStack, HasSame, Change, moves, leaves, faults, calls, creates, stops, top_in, step_changes}
+use Rattle.hep_machine.proofs.Changes.{stack, HasStack, HasSame, Change, moves, leaves, faults, calls, creates, resumes, stops, top_in, step_changes}
 use Rattle.hep_machine.proofs.Others.{each_turn}
 
 -- ---- what holds in each state of a run
@@ -131,6 +131,10 @@ aged_step t s aged top c = by_change c where
       let creator = stacked (n + 1) q (omega arith) (subst (AreMade (n + 1)) (sym e) (made_still n (n + 1) (activations_on (stack t)) (omega arith) top)) in
       let all = all_made-last (n + 1) (with_numbered t.state.processes t.process q) r creator (subst (AreMade (n + 1)) (sym f) (newest [] tt)) in
       aged_more t.state s x a.0 (subst (AreMadeOnAll (n + 1)) (sym k) all) aged.older (parent x a.1)
+  by_change (resumes q r e f k a) =
+      let caller = stacked n q (omega arith) (subst (AreMade n) (sym e) below) in
+      let all = all_made-last n (with_numbered t.state.processes t.process q) r caller (subst (AreMade n) (sym f) (top.0, top.1, tt)) in
+      aged_same t.state s a (subst (AreMadeOnAll n) (sym k) all) aged.older
   by_change (stops k a) = aged_same t.state s a (subst (AreMadeOnAll n) (sym k) aged.made) aged.older
 
 aged_turn : (program : Units) (p : ℕ) (s : State) → IsAged s → IsAged (state_after_turn program p s)

@@ -1,9 +1,9 @@
 -- Which storage units a step leaves as full as they were.
 use Rattle.std.proofs.Common.{◌≡◌, ℕ, Bool, true, false, List, [], ◌∷◌, Option, Some, None, Result, Ok, Err, refl, sym, ap, ◌∙◌, ℤ, ◌+ℤ◌}
 use Rattle.hep_machine.specs.declared.event.Kind.{Kind}
-use Rattle.hep_machine.specs.Words.{StateFunction, IsFull, IsEmpty, ValueOf, SetEmpty, WaitFull, Name, Statement, Value, Int, Outcome, reading_asynchronous, setting_empty, waiting_full, integer_of, integer_or_overflow, signed_value, negated_value, combined_value, function_value, Binding, binding_for}
+use Rattle.hep_machine.specs.Words.{Process, state_resumed, StateFunction, IsFull, IsEmpty, ValueOf, SetEmpty, WaitFull, Name, Statement, Value, Int, Outcome, reading_asynchronous, setting_empty, waiting_full, integer_of, integer_or_overflow, signed_value, negated_value, combined_value, function_value, Binding, binding_for}
 use Rattle.hep_machine.specs.Words.{binding_with_shapes, with_store, with_shapes, with_actual, with_actuals, dummies_for, level_after_statement, variable_of, Redex, signing, negating, combining, applying, testing, Actual, evaluated, referred, Action, assigning, jumping, choosing, branching, testing_condition}
-use Rattle.hep_machine.specs.Words.{entering_block, entering_loop, ending_loop, calling, creating, purging, printing, continuing, leaving, stopping, Next, wants, does, KeepsStatesBut, purges, top_purges, is_purge, Scope, location_of_name, Dummy, Level, Loop, State, Location, local, common, Cell, Store, Answer, fails}
+use Rattle.hep_machine.specs.Words.{entering_block, entering_loop, ending_loop, calling, creating, purging, printing, continuing, leaving, resuming, stopping, Next, wants, does, KeepsStatesBut, purges, top_purges, is_purge, Scope, location_of_name, Dummy, Level, Loop, State, Location, local, common, Cell, Store, Answer, fails}
 use Rattle.hep_machine.specs.Words.{by_result, answer_at, answer_of_read, answer_of_read_at, answer_of_test, answer_of_test_at, answer_of, Top, unit_on_top, scope_of, result_after_answer, written, result_after_write, result_after_store, result_after_assignment, iterations, result_after_do, result_after_increment}
 use Rattle.hep_machine.specs.Words.{result_after_loop_variable, result_after_loop_end, next_activation, result_after_call, result_after_create, unit_called, binding_of, result_after_action, result_after_next, step, same_location, with_cell, with_value, Units, unit_at, dummies_of, loop_at}
 use Rattle.hep_machine.specs.Access as access
@@ -160,6 +160,10 @@ kept-binding_of : (program : Units) (t : Top) (u : ℕ) (ys : List Actual) → B
 kept-binding_of program t u ys =
     kept-binding_for (scope_of program t.state t.level.activation) t.state.store (unit_at program u) (next_activation t.state) ys
 
+kept-resumed : (program : Units) (t : Top) (below : Process) → Kept t (state_resumed program t below)
+kept-resumed program t [] = keeps_all t.state.store
+kept-resumed program t (caller ∷ callers) = keeps_all t.state.store
+
 kept-action : (program : Units) (t : Top) (a : Action) → purges (does a) ≡ false → Makes (Kept t) (result_after_action program t a)
 kept-action program t (assigning r v) h = kept-assignment program t r.0.asynchronous (location_of_name (scope_of program t.state t.level.activation) r.0 r.1) v
 kept-action program t (jumping l) h = keeps_all t.state.store
@@ -177,6 +181,7 @@ kept-action program t (purging targets) h = absurd cc
 kept-action program t (printing items) h = keeps_all t.state.store
 kept-action program t continuing h = keeps_all t.state.store
 kept-action program t leaving h = keeps_all t.state.store
+kept-action program t resuming h = kept-resumed program t t.below
 kept-action program t stopping h = keeps_all t.state.store
 
 kept-next : (program : Units) (t : Top) (n : Next) → purges n ≡ false → Makes (Kept t) (result_after_next program t n)

@@ -1,9 +1,9 @@
 -- How a step changes the processes and the activations.
-use Rattle.std.proofs.Common.{◌≡◌, ℕ, Bool, true, false, List, [], ◌∷◌, ◌++◌, Option, Some, None, Result, Ok, Err, refl, ap, subst, ℤ, ◌+ℤ◌, ◌-ℤ◌, if◌then◌else◌, int_lt, pos}
+use Rattle.std.proofs.Common.{◌≡◌, ℕ, Bool, true, false, List, [], ◌∷◌, ◌++◌, Option, Some, None, Result, Ok, Err, refl, sym, ◌∙◌, ap, subst, ℤ, ◌+ℤ◌, ◌-ℤ◌, if◌then◌else◌, int_lt, pos}
 use Rattle.std.proofs.lemmas.Option.{same_Some, none-some}
 use Rattle.hep_machine.specs.declared.event.Kind.{Kind}
-use Rattle.hep_machine.specs.Words.{Statement, Value, integer_of, logical_of, integer_or_overflow, Binding, level_at_end_of, level_after_statement, level_at_choice, label_chosen, level_after_condition, level_in_block, level_in_range, level_after_loop, terminal_of, loops_around, loops_ending_at, variable_of, Action}
-use Rattle.hep_machine.specs.Words.{assigning, jumping, choosing, branching, testing_condition, entering_block, entering_loop, ending_loop, calling, creating, purging, printing, continuing, leaving, stopping, Next, wants, does, next_of, activations_on, location_of_name, Activation, Level, Loop, Process, State}
+use Rattle.hep_machine.specs.Words.{Statement, Value, state_resumed, integer_of, logical_of, integer_or_overflow, Binding, level_at_end_of, level_after_statement, level_at_choice, label_chosen, level_after_condition, level_in_block, level_in_range, level_after_loop, terminal_of, loops_around, loops_ending_at, variable_of, Action}
+use Rattle.hep_machine.specs.Words.{assigning, jumping, choosing, branching, testing_condition, entering_block, entering_loop, ending_loop, calling, creating, purging, printing, continuing, leaving, resuming, stopping, Next, wants, does, next_of, activations_on, location_of_name, Activation, Level, Loop, Process, State}
 use Rattle.hep_machine.specs.Words.{Location, Store, Answer, fails, answer_of, StepResult, stepped, waiting, absent, Top, unit_on_top, scope_of, result_after_answer, answer_at, written, result_after_write, result_after_store, result_after_assignment, store_after_purge, result_after_purge, iterations, level_after_count}
 use Rattle.hep_machine.specs.Words.{state_after_count, result_after_do, result_after_increment, result_after_loop_variable, result_after_loop_end, entry_level, next_activation, result_after_call, result_after_create, unit_called, binding_of, stack_after_return, result_after_action, result_after_next}
 use Rattle.hep_machine.specs.Words.{step_result_of_top, step_result_of, state_made, step, Units, unit_at, living, with_numbered, unit_of, loop_at, with_loop}
@@ -32,6 +32,7 @@ pub data Change (t : Top) (s : State) : Type 0 where
   faults : HasStack t s [] → HasSame t s → Change t s
   calls : (q : Process) (x : Activation) → activations_on q ≡ next_activation t.state ∷ activations_on (stack t) → HasStack t s q → HasOneMore t s x → Change t s
   creates : (q r : Process) (x : Activation) → activations_on q ≡ activations_on (stack t) → activations_on r ≡ next_activation t.state ∷ [] → s.processes ≡ with_numbered t.state.processes t.process q ++ r ∷ [] → HasOneMore t s x → Change t s
+  resumes : (q r : Process) → activations_on q ≡ activations_on t.below → activations_on r ≡ t.level.activation ∷ [] → s.processes ≡ with_numbered t.state.processes t.process q ++ r ∷ [] → HasSame t s → Change t s
   stops : s.processes ≡ t.state.processes → HasSame t s → Change t s
 
 -- what holds of the state of a step, where a turn makes one
@@ -133,6 +134,15 @@ pub on-stack_after_return : (program : Units) (s : State) (below : Process) → 
 on-stack_after_return program s [] = refl
 on-stack_after_return program s (level ∷ levels) = ap (λ a. a ∷ activations_on levels) (stays-level_after_statement (unit_at program (unit_of s level.activation)) level)
 
+-- ---- RESUME
+
+change-resumed : (program : Units) (t : Top) (below : Process) → t.below ≡ below → Change t (state_resumed program t below)
+change-resumed program t [] is = another_top t _ _ (stays-level_after_statement (unit_on_top program t) t.level) refl refl
+change-resumed program t (caller ∷ callers) is =
+    resumes (stack_after_return program t.state (caller ∷ callers)) (level_after_statement (unit_on_top program t) t.level ∷ []) (
+    on-stack_after_return program t.state (caller ∷ callers) ∙ ap activations_on (sym is)) (
+    ap (λ a. a ∷ []) (stays-level_after_statement (unit_on_top program t) t.level)) refl refl
+
 makes-action : (program : Units) (t : Top) (a : Action) → Makes (Change t) (result_after_action program t a)
 makes-action program t (assigning r v) = makes-assignment program t r.0.asynchronous (location_of_name (scope_of program t.state t.level.activation) r.0 r.1) v
 makes-action program t (jumping l) = another_top t _ _ refl refl refl
@@ -150,6 +160,7 @@ makes-action program t (purging targets) = makes-purge program t (store_after_pu
 makes-action program t (printing items) = another_top t _ _ (stays-level_after_statement (unit_on_top program t) t.level) refl refl
 makes-action program t continuing = another_top t _ _ (stays-level_after_statement (unit_on_top program t) t.level) refl refl
 makes-action program t leaving = leaves (stack_after_return program t.state t.below) (on-stack_after_return program t.state t.below) refl refl
+makes-action program t resuming = change-resumed program t t.below refl
 makes-action program t stopping = stops refl refl
 
 makes-next : (program : Units) (t : Top) (n : Next) → Makes (Change t) (result_after_next program t n)

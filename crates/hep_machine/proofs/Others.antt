@@ -3,7 +3,7 @@ use Rattle.std.proofs.Common.{◌≡◌, ◌⊎◌, inl, inr, ℕ, zero, suc, �
 use Rattle.std.specs.Option.{unwrap_or}
 use Rattle.std.proofs.lemmas.Bool.Decides.{eqb_tells}
 use Rattle.hep_machine.specs.Words.{IsSameOrOneMore, state_after_turn, Process, State, Top, state_made, step, step_result_of, stepped, Units, top_of, living, numbered, with_numbered}
-use Rattle.hep_machine.proofs.Changes.{Change, moves, leaves, faults, calls, creates, stops, HasStack, HasStepped, top_in, step_changes}
+use Rattle.hep_machine.proofs.Changes.{Change, moves, leaves, faults, calls, creates, resumes, stops, HasStack, HasStepped, top_in, step_changes}
 
 -- ---- lists with one element changed
 
@@ -50,6 +50,9 @@ other_stays t s q c one d h = by_change c where
   by_change (creates r n x a b e k) =
       let within : q ≤ length (with_numbered t.state.processes t.process r) = rw length-set h in
       ap (λ ps. numbered ps q) e ∙ front_numbered (with_numbered t.state.processes t.process r) (n ∷ []) q within ∙ other_numbered t.state.processes t.process q r one d
+  by_change (resumes r n a b e k) =
+      let within : q ≤ length (with_numbered t.state.processes t.process r) = rw length-set h in
+      ap (λ ps. numbered ps q) e ∙ front_numbered (with_numbered t.state.processes t.process r) (n ∷ []) q within ∙ other_numbered t.state.processes t.process q r one d
   by_change (stops e k) = ap (λ ps. numbered ps q) e
 
 some_lives : (s : State) (p : ℕ) (t : State) → HasStepped s p t → living s p ≢ None
@@ -92,6 +95,7 @@ activations_rise t s (leaves r a e k) = inl k
 activations_rise t s (faults e k) = inl k
 activations_rise t s (calls r x a e k) = inr (x, k.0)
 activations_rise t s (creates r n x a b e k) = inr (x, k.0)
+activations_rise t s (resumes r n a b e k) = inl k
 activations_rise t s (stops e k) = inl k
 
 pub activations_after : (program : Units) (p : ℕ) (s : State) → IsSameOrOneMore s.activations (state_after_turn program p s).activations
@@ -111,6 +115,7 @@ processes_rise t s c = by_change c where
   by_change (faults e k) = inl (stacked [] e)
   by_change (calls r x a e k) = inl (stacked r e)
   by_change (creates r n x a b e k) = inr (ap length e ∙ simp (length-append, length-set))
+  by_change (resumes r n a b e k) = inr (ap length e ∙ simp (length-append, length-set))
   by_change (stops e k) = inl (ap length e)
 
 pub processes_after : (program : Units) (p : ℕ) (s : State) → (length (state_after_turn program p s).processes ≡ length s.processes) ⊎ (length (state_after_turn program p s).processes ≡ length s.processes + 1)

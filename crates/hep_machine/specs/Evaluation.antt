@@ -240,6 +240,7 @@ pub data Action : Type 0 where
   printing : (items : List Item) → Action
   continuing : Action
   leaving : Action
+  resuming : Action
   stopping : Action
 
 -- what comes next of a statement
@@ -266,6 +267,7 @@ next_of_form unit (form.Purge targets) = next_by purging (targets_part unit targ
 next_of_form unit (form.Print items) = next_by printing (items_part unit items)
 next_of_form unit form.Return = does leaving
 next_of_form unit form.End = does leaving
+next_of_form unit form.Resume = does resuming
 next_of_form unit form.Stop = does stopping
 next_of_form unit _ = does continuing
 

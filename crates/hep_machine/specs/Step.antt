@@ -17,7 +17,7 @@ use Rattle.hep_machine.specs.Arithmetic.{integer_of, logical_of, integer_or_over
 use Rattle.hep_machine.specs.Binding.{Binding, binding_for}
 use Rattle.hep_machine.specs.Control.{level_after_statement, level_at_label, level_at_choice, label_chosen, label_by_sign, level_in_block, level_after_condition, level_in_range, level_after_loop, variable_of, level_at_statement}
 use Rattle.hep_machine.specs.Declarations.{is_array, is_nonempty}
-use Rattle.hep_machine.specs.Evaluation.{Redex, reading, signing, negating, combining, applying, testing, Reference, Actual, Action, assigning, jumping, choosing, branching, testing_condition, entering_block, entering_loop, ending_loop, calling, creating, purging, printing, continuing, leaving, stopping, Next, wants, does, next_of, plug_work}
+use Rattle.hep_machine.specs.Evaluation.{Redex, reading, signing, negating, combining, applying, testing, Reference, Actual, Action, assigning, jumping, choosing, branching, testing_condition, entering_block, entering_loop, ending_loop, calling, creating, purging, printing, continuing, leaving, resuming, stopping, Next, wants, does, next_of, plug_work}
 use Rattle.hep_machine.specs.Locations.{Scope, storage_of, location_of_name}
 use Rattle.hep_machine.specs.Shapes.{natural}
 use Rattle.hep_machine.specs.State.{Cell, Level, Loop, Process, State, doing, Location, Store}
@@ -253,6 +253,15 @@ abbrev pub stack_after_return : Units → State → Process → Process
 stack_after_return program s [] = []
 stack_after_return program s (level ∷ levels) = level_after_statement (unit_at program (unit_of s level.activation)) level ∷ levels
 
+-- ---- RESUME: docs/LANGUAGE.md, 9
+
+-- above another activation this one becomes the next process, and its caller goes on after its CALL
+abbrev pub state_resumed : Units → Top → Process → State
+state_resumed program t [] = state_with_level t (level_after_statement (unit_on_top program t) t.level)
+state_resumed program t (caller ∷ callers) =
+    with_new_process (with_process t.state t.process (stack_after_return program t.state (caller ∷ callers))) (
+    level_after_statement (unit_on_top program t) t.level ∷ [])
+
 -- ---- actions: "Steps"
 
 abbrev pub result_after_action : Units → Top → Action → StepResult
@@ -281,6 +290,7 @@ result_after_action program t (printing items) =
     stepped (record (state_with_level t (level_after_statement (unit_on_top program t) t.level)) { records = t.state.records ++ items ∷ [] })
 result_after_action program t continuing = stepped (state_with_level t (level_after_statement (unit_on_top program t) t.level))
 result_after_action program t leaving = stepped (with_process t.state t.process (stack_after_return program t.state t.below))
+result_after_action program t resuming = stepped (state_resumed program t t.below)
 result_after_action program t stopping = stepped (record t.state { halted = true })
 
 abbrev pub result_after_next : Units → Top → Next → StepResult

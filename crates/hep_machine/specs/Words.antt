@@ -93,7 +93,7 @@ unfoldable pub use Rattle.hep_machine.specs.Evaluation.{redex_of, Reference, ref
 unfoldable pub use Rattle.hep_machine.specs.Evaluation.{then_part}
 pub use Rattle.hep_machine.specs.Evaluation.{Action, Actual, applying, assigning, branching, calling, choosing, combining, continuing}
 pub use Rattle.hep_machine.specs.Evaluation.{creating, does, ending_loop, entering_block, entering_loop, evaluated, first_redex, jumping}
-pub use Rattle.hep_machine.specs.Evaluation.{leaving, negating, Next, Part, printing, purging, Redex, referred, signing, stopping, testing}
+pub use Rattle.hep_machine.specs.Evaluation.{leaving, negating, Next, Part, printing, purging, Redex, referred, resuming, signing, stopping, testing}
 pub use Rattle.hep_machine.specs.Evaluation.{testing_condition, wants, whole}
 unfoldable pub use Rattle.hep_machine.specs.Control.{after_condition, alternative_of, before_alternative, before_end_if, end_if_after}
 unfoldable pub use Rattle.hep_machine.specs.Control.{following, has_label, index_labelled, index_of_label, is_ended_at, is_labelled}
@@ -118,7 +118,7 @@ unfoldable pub use Rattle.hep_machine.specs.Step.{result_after_write, scope_of, 
 unfoldable pub use Rattle.hep_machine.specs.Step.{state_with_level, state_with_store, step, step_result_of, step_result_of_top}
 unfoldable pub use Rattle.hep_machine.specs.Step.{store_after_both, store_after_purge, store_after_purge_at, store_after_purge_of}
 unfoldable pub use Rattle.hep_machine.specs.Step.{unit_called, unit_on_top, wanted_by, wanted_of, with_activation, with_new_process}
-unfoldable pub use Rattle.hep_machine.specs.Step.{written}
+unfoldable pub use Rattle.hep_machine.specs.Step.{state_resumed, written}
 pub use Rattle.hep_machine.specs.Step.{absent, Answer, fails, stepped, StepResult, Top, waiting, Wanted}
 unfoldable pub use Rattle.hep_machine.specs.Data.{all_elements, count_by, data_groups, element_with, elements_named, groups_in, item_at}
 unfoldable pub use Rattle.hep_machine.specs.Data.{repeat_of, value_of_constant, values_given}

@@ -26,7 +26,8 @@ fn is_plain_operation(operation: Operation) -> bool
         | Operation::Stop
         | Operation::Call { .. }
         | Operation::Create { .. }
-        | Operation::Purge { .. } => false,
+        | Operation::Purge { .. }
+        | Operation::Resume { .. } => false,
         Operation::Jump { .. }
         | Operation::Choose { .. }
         | Operation::BySign { .. }

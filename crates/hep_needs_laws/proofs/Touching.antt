@@ -1,8 +1,8 @@
 -- A step that is no PURGE changes the state of no storage unit but the one that it touches.
-use Rattle.std.proofs.Common.{◌≡◌, ◌≢◌, ℕ, Bool, true, false, List, [], Option, Some, None, Result, Ok, Err, refl, sym, ap, ◌∙◌, subst, ℤ, ◌+ℤ◌, if◌then◌else◌}
+use Rattle.std.proofs.Common.{◌∷◌, ◌≡◌, ◌≢◌, ℕ, Bool, true, false, List, [], Option, Some, None, Result, Ok, Err, refl, sym, ap, ◌∙◌, subst, ℤ, ◌+ℤ◌, if◌then◌else◌}
 use Rattle.hep_machine.specs.Words.{StateFunction, IsFull, IsEmpty, ValueOf, SetEmpty, WaitFull, Statement, Value, Int, Units, dummies_of, unit_at, Outcome, reading_asynchronous, setting_empty, with_stored, writing_asynchronous, combined_value, function_value, integer_of, integer_or_overflow, negated_value}
 use Rattle.hep_machine.specs.Words.{signed_value, Binding, binding_for, binding_with_shapes, dummies_for, with_actuals, with_shapes, with_store, level_after_statement, variable_of, Action, assigning, branching, calling, choosing, continuing, creating, ending_loop, entering_block, entering_loop, jumping, leaving}
-use Rattle.hep_machine.specs.Words.{printing, purging, stopping, testing_condition, Actual, Next, does, wants, Redex, applying, combining, negating, signing, testing, next_of, is_purge, purges, top_purges, Scope, location_of_name, loop_at, Cell, Dummy, Level, Location, Loop, State, Store, Answer, fails, Top, answer_at}
+use Rattle.hep_machine.specs.Words.{Process, printing, purging, resuming, state_resumed, stopping, testing_condition, Actual, Next, does, wants, Redex, applying, combining, negating, signing, testing, next_of, is_purge, purges, top_purges, Scope, location_of_name, loop_at, Cell, Dummy, Level, Location, Loop, State, Store, Answer, fails, Top, answer_at}
 use Rattle.hep_machine.specs.Words.{answer_of, answer_of_read_at, answer_of_test_at, binding_of, by_result, iterations, next_activation, result_after_action, result_after_answer, result_after_assignment, result_after_call, result_after_create, result_after_do, result_after_increment, result_after_loop_end}
 use Rattle.hep_machine.specs.Words.{result_after_loop_variable, result_after_next, result_after_write, scope_of, step, unit_called, unit_on_top, written, same_location, with_cell}
 use Rattle.hep_machine.specs.declared.event.Kind.{Kind}
@@ -160,6 +160,10 @@ module _ (program : Units) (t : Top) where
   bound : (u : ℕ) (ys : List Actual) → BindsBut t.state.store (binding_of program t u ys)
   bound u ys = binding-stays scope t.state.store (unit_at program u) (next_activation t.state) ys
 
+  resuming-keeps : (below : Process) → Keeping None (state_resumed program t below)
+  resuming-keeps [] = all-stay None t.state.store
+  resuming-keeps (caller ∷ callers) = all-stay None t.state.store
+
   action-keeps : (a : Action) → purges (does a) ≡ false → Makes (Keeping (touched_by_next scope (does a))) (result_after_action program t a)
   action-keeps (assigning r v) calm = assignment-keeps r.0.asynchronous (location_of_name scope r.0 r.1) v
   action-keeps (jumping l) calm = all-stay None t.state.store
@@ -179,6 +183,7 @@ module _ (program : Units) (t : Top) where
   action-keeps (printing items) calm = all-stay None t.state.store
   action-keeps continuing calm = all-stay None t.state.store
   action-keeps leaving calm = all-stay None t.state.store
+  action-keeps resuming calm = resuming-keeps t.below
   action-keeps stopping calm = all-stay None t.state.store
 
   next-keeps : (n : Next) → purges n ≡ false → Makes (Keeping (touched_by_next scope n)) (result_after_next program t n)

@@ -1,7 +1,7 @@
 -- A step waits just where what it needs isn't so.
 use Rattle.std.proofs.Common.{◌≡◌, ℕ, Bool, true, false, [], Option, Some, None, Result, Ok, Err, refl, ◌∙◌, ℤ, ◌+ℤ◌, not, if◌then◌else◌}
 use Rattle.hep_machine.specs.Words.{StateFunction, IsFull, IsEmpty, ValueOf, SetEmpty, WaitFull, Value, Units, unit_at, Outcome, purged_cell, setting_empty, with_stored, combined_value, function_value, integer_of, integer_or_overflow, negated_value, signed_value, Binding, level_after_statement, variable_of, Action}
-use Rattle.hep_machine.specs.Words.{assigning, branching, calling, choosing, continuing, creating, ending_loop, entering_block, entering_loop, jumping, leaving, printing, purging, stopping, testing_condition, Next, does, wants, Redex, applying, combining, negating, signing, testing, next_of, Scope, location_of_name}
+use Rattle.hep_machine.specs.Words.{assigning, branching, calling, choosing, continuing, creating, ending_loop, entering_block, entering_loop, jumping, leaving, printing, purging, resuming, stopping, testing_condition, Next, does, wants, Redex, applying, combining, negating, signing, testing, next_of, Scope, location_of_name}
 use Rattle.hep_machine.specs.Words.{living, loop_at, unit_of, Level, Location, Loop, Process, State, Store, Answer, fails, Top, Wanted, answer_at, answer_of, answer_of_read_at, answer_of_test_at, binding_of, by_result, iterations, result_after_action, result_after_answer, result_after_assignment, result_after_call}
 use Rattle.hep_machine.specs.Words.{result_after_create, result_after_do, result_after_increment, result_after_loop_end, result_after_loop_variable, result_after_next, result_after_purge, result_after_write, scope_of, step_result_of, step_result_of_top, store_after_purge, unit_called, unit_on_top, wanted_by, wanted_of}
 use Rattle.hep_machine.specs.Words.{written}
@@ -161,6 +161,7 @@ module _ (program : Units) (t : Top) where
   action-wanted (printing items) = refl
   action-wanted continuing = refl
   action-wanted leaving = refl
+  action-wanted resuming = refl
   action-wanted stopping = refl
 
   next-wanted : (n : Next) → wanted_of (result_after_next program t n) ≡ unmet (need_of_next scope n) t.state.store

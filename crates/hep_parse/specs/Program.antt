@@ -109,7 +109,7 @@ left_out_words =
     ∷ plain (codes "INQUIRE") ∷ plain (codes "REWIND") ∷ plain (codes "BACKSPACE") ∷ plain (codes "ENDFILE")
     ∷ plain (codes "EQUIVALENCE") ∷ plain (codes "SAVE") ∷ plain (codes "ENTRY") ∷ plain (codes "EXTERNAL")
     ∷ plain (codes "INTRINSIC") ∷ plain (codes "ASSIGN") ∷ plain (codes "PAUSE") ∷ plain (codes "BLOCKDATA")
-    ∷ plain (codes "INCLUDE") ∷ plain (codes "FUNCTION") ∷ plain (codes "RESUME")
+    ∷ plain (codes "INCLUDE") ∷ plain (codes "FUNCTION")
     ∷ (codes "INTEGERFUNCTION", codes "FUNCTION") ∷ (codes "LOGICALFUNCTION", codes "FUNCTION") ∷ []
 
 -- one of these words begins the text, and has this name

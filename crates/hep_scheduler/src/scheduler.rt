@@ -141,8 +141,8 @@ impl Core {
         }
     }
 
-    /// Chooses process p again and again, up to so many times: as long as each choice makes a step that only moves the process, and else
-    /// once. A step only moves its process if it fills and empties no cell, prints nothing, is no fault, and begins and ends no
+    /// Chooses process p again and again, up to so many times, which are 1 at least: as long as each choice makes a step that only moves
+    /// the process, and else once. A step only moves its process if it fills and empties no cell, prints nothing, is no fault, and begins and ends no
     /// activation; such steps cost less together than one by one.
     ///
     /// # Errors

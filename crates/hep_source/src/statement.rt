@@ -86,6 +86,8 @@ pub enum Form {
     Continue,
     /// RETURN (15.8).
     Return,
+    /// RESUME: the activation goes on beside its caller (docs/LANGUAGE.md).
+    Resume,
     /// STOP (11.12).
     Stop,
     /// END (11.14).
@@ -166,6 +168,7 @@ impl Syntax for Form {
             Form::Print(x) => Ok(Form::Print(x.copy(alloc)?)),
             Form::Continue => Ok(Form::Continue),
             Form::Return => Ok(Form::Return),
+            Form::Resume => Ok(Form::Resume),
             Form::Stop => Ok(Form::Stop),
             Form::End => Ok(Form::End),
         }
@@ -196,6 +199,7 @@ impl Syntax for Form {
             (Form::Print(a), Form::Print(c)) => a.same(c),
             (Form::Continue, Form::Continue) => true,
             (Form::Return, Form::Return) => true,
+            (Form::Resume, Form::Resume) => true,
             (Form::Stop, Form::Stop) => true,
             (Form::End, Form::End) => true,
             _ => false,

@@ -1,6 +1,6 @@
 -- What a core keeps after a CALL or CREATE shows the state then; the activation that it makes, and whether its frame has a gap.
-use Rattle.std.proofs.Common.{◌≡◌, ◌⊎◌, inl, inr, ℕ, zero, suc, ◌+◌, ◌≤◌, Bool, true, false, List, [], ◌∷◌, ◌++◌, length, Some, refl, sym, ap, ◌∙◌, subst, arith, Option, None, if◌then◌else◌, nat_eq, slice_get, is_some, IsSome, eqb-true, length-append, length-set}
-use Rattle.std.proofs.lemmas.Option.{same_Some, none-some, slice_get_within}
+use Rattle.std.proofs.Common.{◌≡◌, ℕ, suc, ◌+◌, ◌≤◌, Bool, true, false, List, [], ◌∷◌, ◌++◌, length, Some, refl, sym, ap, ◌∙◌, subst, arith, Option, None, if◌then◌else◌, nat_eq, is_some, IsSome, eqb-true, length-append, length-set}
+use Rattle.std.proofs.lemmas.Option.{same_Some, none-some}
 use Rattle.hep_machine.specs.Words.{Units, executable_from, unit_at, Binding, level_after_statement, Layout, frame_of, is_held, layout_of, common_cells, lowest_gap, remaining_layout, with_frame, numbered, unit_of, with_numbered, activation_of, Activation, Process, State, Actual, Scope, Bounds, frame_cells}
 use Rattle.hep_arena.specs.Space.{Space}
 use Rattle.hep_code.specs.Words.{Stands}
@@ -18,7 +18,7 @@ use Rattle.hep_state.specs.Words.{Snapshot, Stack, IsTurning, TurnOf, call_in, f
 use Rattle.hep_state.proofs.Leaving.{kept-entered}
 use Rattle.hep_state.proofs.Standing.{AreOn, AreMade, AreStanding, AreStandingBelow, IsHere, StandsOnTop, below-still, here-at, here-still, keeps-none, made-more}
 use Rattle.hep_state.proofs.Moved.{standing-before}
-use Rattle.hep_state.proofs.Runs.{layout-more, all-remain, standing-changed, stepped-after, layout-left}
+use Rattle.hep_state.proofs.Runs.{layout-more, all-remain, standing-changed, standing-more, stepped-after, layout-left}
 use Rattle.hep_entering.specs.Calling.{AreActualsPassed, CallOf, IsKeptIn, called_activation, frames_with, layout_with, level_behind, level_called, state_begun, state_called, state_created, state_made_by, IsWritten, unit_begun}
 use Rattle.hep_entering.proofs.Begun.{long, unit-is}
 use Rattle.hep_entering.proofs.Calls.{behind-keeps, entry-number, made-begun, made-stacks}
@@ -33,22 +33,6 @@ use Rattle.std.specs.Option.{option_map}
 use Rattle.hep_machine.specs.declared.event.Kind.{Kind}
 use Rattle.hep_step.specs.Effects.{fails}
 use Rattle.hep_machine.proofs.Others.{step-is}
-
--- ---- numbered elements, with one more
-
-last-or-before : {A : Type 0} (xs : List A) (y z : A) (j : ℕ) → slice_get (xs ++ y ∷ []) j ≡ Some z → (slice_get xs j ≡ Some z) ⊎ ((j ≡ length xs) × (y ≡ z))
-last-or-before [] y z zero e = inr (refl, same_Some y z e)
-last-or-before [] y z (suc j) e = absurd (none-some z e)
-last-or-before (x ∷ xs) y z zero e = inl e
-last-or-before (x ∷ xs) y z (suc j) e = elim (last-or-before xs y z j e) [ inl before ↦ inl before | inr last ↦ inr (omega (arith, last.0), last.1) ]
-
-numbered-last : {A : Type 0} (xs : List A) (y z : A) (j : ℕ) → numbered (xs ++ y ∷ []) j ≡ Some z → (numbered xs j ≡ Some z) ⊎ ((j ≡ suc (length xs)) × (y ≡ z))
-numbered-last xs y z zero e = absurd (none-some z e)
-numbered-last xs y z (suc j) e = elim (last-or-before xs y z j e) [ inl before ↦ inl before | inr last ↦ inr (omega (arith, last.0), last.1) ]
-
-numbered-within : {A : Type 0} (xs : List A) (j : ℕ) (z : A) → numbered xs j ≡ Some z → j ≤ length xs
-numbered-within xs zero z e = omega arith
-numbered-within xs (suc j) z e = omega (arith, slice_get_within xs j z e)
 
 module _ {t : TurnOf} (h : IsTurning t) (u : ℕ) (actuals : List Actual) (b : Binding) where
   abbrev call : CallOf
@@ -129,14 +113,7 @@ module _ {t : TurnOf} (h : IsTurning t) (u : ℕ) (actuals : List Actual) (b : B
     more-stand : (k last : Stack) (q newest : Process) → length (with_numbered t.machine.processes t.process k) ≡ length (with_numbered old.processes t.process q)
         → (AreOn later q → AreStanding t.program later nodes k.operands k.pending k.levels q) → AreStanding t.program later nodes last.operands last.pending last.levels newest
         → (i : ℕ) (j : Stack) (r : Process) → numbered (with_numbered t.machine.processes t.process k ++ last ∷ []) i ≡ Some j → numbered (with_numbered old.processes t.process q ++ newest ∷ []) i ≡ Some r → AreOn later r → AreStanding t.program later nodes j.operands j.pending j.levels r
-    more-stand k last q newest count own new i j r here on-it on =
-        by_places (numbered-last (with_numbered t.machine.processes t.process k) last j i here) (numbered-last (with_numbered old.processes t.process q) newest r i on-it) where
-          by_places : (numbered (with_numbered t.machine.processes t.process k) i ≡ Some j) ⊎ ((i ≡ suc (length (with_numbered t.machine.processes t.process k))) × (last ≡ j)) → (numbered (with_numbered old.processes t.process q) i ≡ Some r) ⊎ ((i ≡ suc (length (with_numbered old.processes t.process q))) × (newest ≡ r))
-              → AreStanding t.program later nodes j.operands j.pending j.levels r
-          by_places (inl f) (inl g) = all-stand k q own i j r f g on
-          by_places (inl f) (inr g) = absurd (omega (arith, numbered-within (with_numbered t.machine.processes t.process k) i j f, g.0, count))
-          by_places (inr f) (inl g) = absurd (omega (arith, numbered-within (with_numbered old.processes t.process q) i r g, f.0, count))
-          by_places (inr f) (inr g) = subst (λ (z : Stack). AreStanding t.program later nodes z.operands z.pending z.levels r) f.1 (subst (λ z. AreStanding t.program later nodes last.operands last.pending last.levels z) g.1 new)
+    more-stand k last q newest count own new = standing-more h later nodes k q made stay own last newest count (λ on. new)
 
     -- what the dummy arguments of each activation stand for, that of the new one and of those that were there
     kept-then : (a : ℕ) → is_stacked later a ≡ true → AreKept t.program later now a

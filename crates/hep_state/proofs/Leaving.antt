@@ -1,7 +1,7 @@
 -- Once activations of a process have ended: what is on stacks, what is wanted of frames, and that what dummy arguments stand for is kept.
-use Rattle.std.proofs.Common.{◌≡◌, inl, inr, ℕ, ◌-◌, ◌≤◌, Bool, true, false, List, [], ◌∷◌, Option, Some, None, refl, sym, ap, ◌∙◌, subst, arith, length, ◌++◌, ◌||◌, if◌then◌else◌, nat_eq}
+use Rattle.std.proofs.Common.{◌≡◌, inl, inr, ℕ, ◌-◌, ◌≤◌, Bool, true, false, List, [], ◌∷◌, Option, Some, None, refl, sym, ap, ◌∙◌, subst, arith, length, ◌++◌, append_assoc, append-nil, ◌||◌, if◌then◌else◌, nat_eq}
 use Rattle.std.proofs.lemmas.Option.{none-some}
-use Rattle.hep_machine.specs.Words.{Units, Layout, activations_on, is_held, with_frame, is_number_among, numbered, unit_of, with_numbered, activation_of, run, Level, Process, State, Activation, Dummy, Location, common, local, stack_after_return, dummy_at, further, is_owned}
+use Rattle.hep_machine.specs.Words.{Units, unit_at, level_after_statement, Layout, activations_on, is_held, with_frame, is_number_among, numbered, unit_of, with_numbered, activation_of, run, Level, Process, State, Activation, Dummy, Location, common, local, stack_after_return, dummy_at, further, is_owned}
 use Rattle.hep_machine.specs.declared.slot.Slot.{Slot}
 use Rattle.hep_code.proofs.Moves.{after_statement_keeps}
 use Rattle.hep_layout.specs.Words.{level_of, slot_on_level, slot_of_loop, loop_among, descriptor_slots, FramePart, header, argument, variable, iteration, bounds, times, but, IsLaid, frame_from, RunsFrom}
@@ -9,7 +9,7 @@ use Rattle.hep_layout.proofs.Descriptors.{wanted-same}
 use Rattle.hep_layout.proofs.Stacks.{once}
 use Rattle.hep_step.specs.Simulation.{unit_addressed}
 use Rattle.hep_frames.specs.Keeping.{all_but, frames_of}
-use Rattle.hep_entering.proofs.Found.{IsAmong, all_levels, among-numbered, among-set, find-among, found, times-all}
+use Rattle.hep_entering.proofs.Found.{IsAmong, all_levels, among-numbered, among-parts, among-set, find-among, found, times-all}
 use Rattle.std.proofs.lemmas.Bool.{cases_Bool, eqb-true}
 use Rattle.hep_arena.specs.Gaps.{frame_among}
 use Rattle.hep_layout.proofs.Addresses.{address-alike}
@@ -31,6 +31,13 @@ AreOf q before = (x : Level) → IsAmong x q → (y : Level) × IsAmong y before
 pub none-of : (before : Process) → AreOf [] before
 none-of before x h = absurd h
 
+-- an activation that is the only one of a process
+pub alone-of : (program : Units) (s : State) (level : Level) (levels : Process) → AreOf (level_after_statement (unit_at program (unit_of s level.activation)) level ∷ []) (level ∷ levels)
+alone-of program s level levels x (inl same) =
+    let keeps = after_statement_keeps (unit_addressed program (unit_of s level.activation)) level in
+    (level, inl refl, (sym keeps.1 ∙ ap (λ (z : Level). z.activation) same, sym keeps.0 ∙ ap (λ (z : Level). z.loops) same))
+alone-of program s level levels x (inr more) = absurd more
+
 -- the caller of an activation that has ended
 pub caller-of : (program : Units) (s : State) (level : Level) (levels : Process) → AreOf (stack_after_return program s levels) (level ∷ levels)
 caller-of program s level [] x h = absurd h
@@ -40,37 +47,58 @@ caller-of program s level (l ∷ ls) x (inl same) =
     (l, inr (inl refl), (sym keeps.1 ∙ ap (λ (z : Level). z.activation) same, sym keeps.0 ∙ ap (λ (z : Level). z.loops) same))
 caller-of program s level (l ∷ ls) x (inr more) = (x, inr (inr more), (refl, refl))
 
+levels-append : (xs ys : List Process) → all_levels (xs ++ ys) ≡ all_levels xs ++ all_levels ys
+levels-append [] ys = refl
+levels-append (x ∷ xs) ys = ap (λ ls. x ++ ls) (levels-append xs ys) ∙ sym (append_assoc x (all_levels xs) (all_levels ys))
+
 no-iteration : (part : FramePart) (d i j : ℕ) → (part ≡ iteration d → ⊥) → ◌≡◌ {A = FramePart × ℕ} (part, i) (iteration d, j) → ⊥
 no-iteration part d i j other e = other (ap (λ (c : FramePart × ℕ). c.0) e)
 
--- no more is wanted of their cells
-module _ (program : Units) (choices : List ℕ) (t : State) (layout : Layout) (p : ℕ) (before q : Process) (there : numbered (run program choices).processes p ≡ Some before) (set : t.processes ≡ with_numbered (run program choices).processes p q)
-    (same : t.activations ≡ (run program choices).activations) (of : AreOf q before) where
-  abbrev s : State
-  s = run program choices
-
-  level-before : (a : ℕ) (x : Level) → level_of t a ≡ Some x → (y : Level) × (level_of s a ≡ Some y) × (y.loops ≡ x.loops)
-  level-before a x e =
-      let new = find-among a (all_levels t.processes) x e in
-      let few : times a (activations_on (all_levels s.processes)) ≤ 1 = omega (arith, times-all a s.processes, (once program choices a).0) in
-      elim (among-set x s.processes (p - 1) q (subst (λ qs. IsAmong x (all_levels qs)) set new.0)) [
-        | inl own ↦ (
-            let was = of x own in
-            (was.0, found a (all_levels s.processes) was.0 few (among-numbered was.0 s.processes p before there was.1) (was.2.0 ∙ new.1), was.2.1))
-        | inr other ↦ (x, found a (all_levels s.processes) x few other new.1, refl)
-      ]
-
-  pub no-more : (a : ℕ) (c : FramePart × ℕ) (v : Slot) → descriptor_slots program t layout a c ≡ Some v → descriptor_slots program s layout a c ≡ Some v
-  no-more a (header, i) v w = absurd (none-some v w)
-  no-more a (variable x, i) v w = absurd (none-some v w)
-  no-more a (argument x, i) v w = sym (wanted-same program s t layout a (argument x, i) same (λ d j e. absurd (no-iteration (argument x) d i j (λ same. cc) e))) ∙ w
-  no-more a (bounds x, i) v w = sym (wanted-same program s t layout a (bounds x, i) same (λ d j e. absurd (no-iteration (bounds x) d i j (λ same. cc) e))) ∙ w
-  no-more a (iteration d, i) v w = by_level (level_of t a) refl w where
+-- no more is wanted of the cells of frames, where each level was there, with the same DOs
+module _ (program : Units) (s t : State) (layout : Layout) (same : t.activations ≡ s.activations) (before : (a : ℕ) (x : Level) → level_of t a ≡ Some x → (y : Level) × (level_of s a ≡ Some y) × (y.loops ≡ x.loops)) where
+  pub no-more-of : (a : ℕ) (c : FramePart × ℕ) (v : Slot) → descriptor_slots program t layout a c ≡ Some v → descriptor_slots program s layout a c ≡ Some v
+  no-more-of a (header, i) v w = absurd (none-some v w)
+  no-more-of a (variable x, i) v w = absurd (none-some v w)
+  no-more-of a (argument x, i) v w = sym (wanted-same program s t layout a (argument x, i) same (λ d j e. absurd (no-iteration (argument x) d i j (λ same. cc) e))) ∙ w
+  no-more-of a (bounds x, i) v w = sym (wanted-same program s t layout a (bounds x, i) same (λ d j e. absurd (no-iteration (bounds x) d i j (λ same. cc) e))) ∙ w
+  no-more-of a (iteration d, i) v w = by_level (level_of t a) refl w where
     by_level : (o : Option Level) → level_of t a ≡ o → slot_on_level o d i ≡ Some v → slot_on_level (level_of s a) d i ≡ Some v
     by_level None e w = absurd (none-some v w)
     by_level (Some x) e w =
-        let was = level-before a x e in
+        let was = before a x e in
         ap (λ o. slot_on_level o d i) was.1 ∙ (ap (λ ls. slot_of_loop (loop_among d ls) i) was.2 ∙ w)
+
+-- where a process has another stack, of these levels, and there is a process more, whose level is one of them too
+module _ (program : Units) (choices : List ℕ) (t : State) (layout : Layout) (p : ℕ) (before q : Process) (there : numbered (run program choices).processes p ≡ Some before) (same : t.activations ≡ (run program choices).activations) (of : AreOf q before) where
+  abbrev s : State
+  s = run program choices
+
+  -- that of another stack was one of its own
+  own-before : (a : ℕ) (x : Level) → (x.activation ≡ a) → (was : (y : Level) × IsAmong y before × IsOf x y) → (y : Level) × (level_of s a ≡ Some y) × (y.loops ≡ x.loops)
+  own-before a x e was =
+      let few : times a (activations_on (all_levels s.processes)) ≤ 1 = omega (arith, times-all a s.processes, (once program choices a).0) in
+      (was.0, found a (all_levels s.processes) was.0 few (among-numbered was.0 s.processes p before there was.1) (was.2.0 ∙ e), was.2.1)
+
+  set-before : (a : ℕ) (x : Level) → (x.activation ≡ a) → IsAmong x (all_levels (with_numbered s.processes p q)) → (y : Level) × (level_of s a ≡ Some y) × (y.loops ≡ x.loops)
+  set-before a x e among =
+      let few : times a (activations_on (all_levels s.processes)) ≤ 1 = omega (arith, times-all a s.processes, (once program choices a).0) in
+      elim (among-set x s.processes (p - 1) q among) [
+        | inl own ↦ own-before a x e (of x own)
+        | inr other ↦ (x, found a (all_levels s.processes) x few other e, refl)
+      ]
+
+  pub no-more : t.processes ≡ with_numbered (run program choices).processes p q → (a : ℕ) (c : FramePart × ℕ) (v : Slot) → descriptor_slots program t layout a c ≡ Some v → descriptor_slots program s layout a c ≡ Some v
+  no-more set = no-more-of program s t layout same (λ a x e.
+      let new = find-among a (all_levels t.processes) x e in
+      set-before a x new.1 (subst (λ qs. IsAmong x (all_levels qs)) set new.0))
+
+  pub no-more-parted : (r : Process) → AreOf r before → t.processes ≡ with_numbered (run program choices).processes p q ++ r ∷ [] → (a : ℕ) (c : FramePart × ℕ) (v : Slot) → descriptor_slots program t layout a c ≡ Some v → descriptor_slots program s layout a c ≡ Some v
+  no-more-parted r alone set = no-more-of program s t layout same (λ a x e.
+      let new = find-among a (all_levels t.processes) x e in
+      elim (among-parts x (all_levels (with_numbered s.processes p q)) (all_levels (r ∷ [])) (subst (λ ls. IsAmong x ls) (levels-append (with_numbered s.processes p q) (r ∷ [])) (subst (λ qs. IsAmong x (all_levels qs)) set new.0))) [
+        | inl there ↦ set-before a x new.1 there
+        | inr last ↦ own-before a x new.1 (alone x (subst (λ ls. IsAmong x ls) (append-nil r) last))
+      ])
 
 -- ---- activations that leave one after the other
 

@@ -3,6 +3,7 @@ pub mod Runs
 pub mod Moved
 pub mod Leaving
 pub mod Begun
+pub mod Resumed
 pub mod Tops
 pub mod Opened
 pub mod Processes

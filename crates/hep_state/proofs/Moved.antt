@@ -105,7 +105,7 @@ module _ {t : TurnOf} (h : IsTurning t) where
   unit-is = standing-before.0.here.unit
 
   -- a state that its step made
-  step-made : (later : State) → step_result_of t.program t.process old ≡ stepped later → step t.program t.process old ≡ Some later
+  pub step-made : (later : State) → step_result_of t.program t.process old ≡ stepped later → step t.program t.process old ≡ Some later
   step-made later = step-is t.program t.process old later h.running
 
   -- is that after the turn
@@ -238,7 +238,7 @@ module _ {t : TurnOf} (h : IsTurning t) where
         stacks_are = λ a.
             stacks-ended old later t.process t.top q h.lives refl a (once t.program t.choices a).0 (on-stack_after_return t.program old t.top.1)
             ∙ ap (λ b. but b (is_stacked old) a) (sym top-activation);
-        no_more = no-more t.program t.choices later layout t.process (t.top.0 ∷ t.top.1) q (there h) refl refl (caller-of t.program old t.top.0 t.top.1);
+        no_more = no-more t.program t.choices later layout t.process (t.top.0 ∷ t.top.1) q (there h) refl (caller-of t.program old t.top.0 t.top.1) refl;
       }
 
   pub returned-shown : (arena : Space) (nodes : Nodes) → HaveLeft t h (state_returned t) arena nodes → length arena.contents ≡ length t.machine.arena.contents → IsEffectOf t h returns → HasMadeTurn t (snapshot_returned t arena nodes)
@@ -260,7 +260,7 @@ module _ {t : TurnOf} (h : IsTurning t) where
         stacks_are = λ a.
             stacks-emptied old later t.process t.top [] h.lives refl a (once t.program t.choices a).0 refl
             ∙ sym (all_but-is (activations_on (t.top.0 ∷ t.top.1)) (is_stacked old) a);
-        no_more = no-more t.program t.choices later layout t.process (t.top.0 ∷ t.top.1) [] (there h) refl refl (none-of (t.top.0 ∷ t.top.1));
+        no_more = no-more t.program t.choices later layout t.process (t.top.0 ∷ t.top.1) [] (there h) refl (none-of (t.top.0 ∷ t.top.1)) refl;
       }
 
   pub failed-shown : (arena : Space) (nodes : Nodes) (line : ℕ) (k : Kind) → HaveLeft t h (state_failed t k) arena nodes → length arena.contents ≡ length t.machine.arena.contents → IsEffectOf t h (fails line k)

@@ -1,5 +1,5 @@
 -- One turn more of a run: the state and the layout after it, and what shows that state.
-use Rattle.std.proofs.Common.{◌≡◌, inl, inr, ℕ, suc, ◌+◌, ◌≤◌, Bool, true, false, true≢false, List, [], ◌∷◌, ◌++◌, length, Option, Some, None, refl, sym, ap, subst, ◌∙◌, arith, zero, ◌-◌, IsSome, if◌then◌else◌, is_some, nat_eq, nat_lt, slice_get, slice_set, length-append}
+use Rattle.std.proofs.Common.{◌≡◌, ◌⊎◌, inl, inr, ℕ, suc, ◌+◌, ◌≤◌, Bool, true, false, true≢false, List, [], ◌∷◌, ◌++◌, length, Option, Some, None, refl, sym, ap, subst, ◌∙◌, arith, zero, ◌-◌, IsSome, if◌then◌else◌, is_some, nat_eq, nat_lt, slice_get, slice_set, length-append}
 use Rattle.std.specs.List.{filter}
 use Rattle.std.specs.Option.{option_map, unwrap_or}
 use Rattle.std.proofs.lemmas.Bool.{eq-eqb, eqb-true, eqb-false, cases_Bool}
@@ -10,7 +10,7 @@ use Rattle.hep_arena.specs.Gaps.{frame_among}
 use Rattle.hep_layout.specs.Words.{frame_from, IsAtRest, is_stacked, FrameNode, Nodes}
 use Rattle.hep_layout.proofs.HeldFrames.{run-last}
 use Rattle.hep_frames.specs.Keeping.{frames_of, Keeps, frames_in}
-use Rattle.std.proofs.lemmas.Option.{same_Some, none-some}
+use Rattle.std.proofs.lemmas.Option.{same_Some, none-some, slice_get_within}
 use Rattle.hep_arena.specs.Space.{Space}
 use Rattle.hep_layout_laws.specs.Bound.{AreKept}
 use Rattle.hep_layout.proofs.FrameTree.{rest-held}
@@ -153,6 +153,22 @@ pub from-one : {A : Type 0} (xs : List A) (p : ℕ) (x : A) → numbered xs p �
 from-one xs zero x e = absurd (none-some x e)
 from-one xs (suc i) x e = omega arith
 
+-- ---- numbered elements, with one more
+
+last-or-before : {A : Type 0} (xs : List A) (y z : A) (j : ℕ) → slice_get (xs ++ y ∷ []) j ≡ Some z → (slice_get xs j ≡ Some z) ⊎ ((j ≡ length xs) × (y ≡ z))
+last-or-before [] y z zero e = inr (refl, same_Some y z e)
+last-or-before [] y z (suc j) e = absurd (none-some z e)
+last-or-before (x ∷ xs) y z zero e = inl e
+last-or-before (x ∷ xs) y z (suc j) e = elim (last-or-before xs y z j e) [ inl before ↦ inl before | inr last ↦ inr (omega (arith, last.0), last.1) ]
+
+numbered-last : {A : Type 0} (xs : List A) (y z : A) (j : ℕ) → numbered (xs ++ y ∷ []) j ≡ Some z → (numbered xs j ≡ Some z) ⊎ ((j ≡ suc (length xs)) × (y ≡ z))
+numbered-last xs y z zero e = absurd (none-some z e)
+numbered-last xs y z (suc j) e = elim (last-or-before xs y z j e) [ inl before ↦ inl before | inr last ↦ inr (omega (arith, last.0), last.1) ]
+
+numbered-within : {A : Type 0} (xs : List A) (j : ℕ) (z : A) → numbered xs j ≡ Some z → j ≤ length xs
+numbered-within xs zero z e = omega arith
+numbered-within xs (suc j) z e = omega (arith, slice_get_within xs j z e)
+
 -- ---- a turn
 
 -- its process
@@ -241,3 +257,16 @@ module _ {t : TurnOf} (h : IsTurning t) (later : State) (nodes : Nodes) (k : Sta
         let kept-here = sym (other_numbered stacks-before t.process n k one other) ∙ here in
         let kept-there = sym (other_numbered processes-before t.process n q one other) ∙ on-it in
         standing-still t.program (state_before t) later t.machine.nodes nodes made stay j.operands j.pending j.levels r (stack-standing t.program (state_before t) t.machine.nodes t.machine.arena.contents j r (h.after.shows.stacks n j r kept-here kept-there)) on
+
+  -- and there is one process more
+  pub standing-more : (last : Stack) (newest : Process) → length (with_numbered t.machine.processes t.process k) ≡ length (with_numbered (state_before t).processes t.process q) → (AreOn later newest → AreStanding t.program later nodes last.operands last.pending last.levels newest)
+      → (n : ℕ) (j : Stack) (r : Process) → numbered (with_numbered t.machine.processes t.process k ++ last ∷ []) n ≡ Some j → numbered (with_numbered (state_before t).processes t.process q ++ newest ∷ []) n ≡ Some r → AreOn later r
+      → AreStanding t.program later nodes j.operands j.pending j.levels r
+  standing-more last newest count new n j r here on-it on =
+      by_places (numbered-last (with_numbered stacks-before t.process k) last j n here) (numbered-last (with_numbered processes-before t.process q) newest r n on-it) where
+        by_places : (numbered (with_numbered stacks-before t.process k) n ≡ Some j) ⊎ ((n ≡ suc (length (with_numbered stacks-before t.process k))) × (last ≡ j)) → (numbered (with_numbered processes-before t.process q) n ≡ Some r) ⊎ ((n ≡ suc (length (with_numbered processes-before t.process q))) × (newest ≡ r))
+            → AreStanding t.program later nodes j.operands j.pending j.levels r
+        by_places (inl f) (inl g) = standing-changed n j r f g on
+        by_places (inl f) (inr g) = absurd (omega (arith, numbered-within (with_numbered stacks-before t.process k) n j f, g.0, count))
+        by_places (inr f) (inl g) = absurd (omega (arith, numbered-within (with_numbered processes-before t.process q) n r g, f.0, count))
+        by_places (inr f) (inr g) = subst (λ (z : Stack). AreStanding t.program later nodes z.operands z.pending z.levels r) f.1 (subst (λ z. AreStanding t.program later nodes last.operands last.pending last.levels z) g.1 (new (subst (AreOn later) (sym g.1) on)))

@@ -1,14 +1,16 @@
 -- A machine that keeps what it kept: where only room was made, or what a CALL gives was written.
-use Rattle.std.proofs.Common.{◌≡◌, ℕ, ◌+◌, List, Result, Ok, Err, Option, sym, ap, ◌∙◌, subst, IfErr, OnErr, slice_get, slice_set}
+use Rattle.std.proofs.Common.{◌≡◌, ℕ, ◌+◌, ◌∷◌, ◌++◌, [], None, List, Result, Ok, Err, Option, sym, ap, ◌∙◌, subst, IfErr, OnErr, slice_get, slice_set}
 use Rattle.std.specs.Result.{IsErr, IsErrAnd}
 use Rattle.std.proofs.lemmas.Result.{err_from_is_err_and}
+use Rattle.std.proofs.lemmas.Option.{none-some}
 use Rattle.hep_machine.specs.Words.{Units}
 use Rattle.hep_blocked.specs.declared.want.Want.{Want}
 use Rattle.hep_state.specs.declared.machine.Machine.{Machine}
 use Rattle.hep_state.specs.declared.machine.Process.{Process}
+use Rattle.hep_state.specs.declared.turn.Turned.TheVariants.{Stepped}
 use Rattle.hep_state.specs.declared.turn.TurnFault.{TurnFault}
 use Rattle.hep_state.specs.declared.turn.TurnFault.TheVariants.{NoMemory}
-use Rattle.hep_state.specs.Words.{IsInState, IsNow, IsTold, cell_wanted, HasRoom, HasRoomToPass, HaveRoom, IsMachineAfter, Snapshot, snapshot_of, IsAfter}
+use Rattle.hep_state.specs.Words.{HasStepped, HasTurned, IsInState, IsNow, Touches, IsTold, cell_wanted, HasRoom, HasRoomToPass, HaveRoom, IsMachineAfter, Snapshot, snapshot_of, IsAfter}
 use Rattle.hep_state.proofs.Processes.{all-set}
 
 -- ---- answers
@@ -70,3 +72,8 @@ machine-written program cells choices old new others records faults =
 -- the state that was told is that after the step
 pub now-told : (program : Units) (cells : ℕ) (choices : List ℕ) (p : ℕ) (cell : Option ℕ) (changed : Option Want) (m : Snapshot) → cell_wanted changed ≡ cell → IsTold m changed → IsInState program cells choices p cell m → IsNow program cells choices p changed
 now-told program cells choices p cell changed m is told state w layout at same laid there = state w.cell layout at (sym is ∙ ap cell_wanted same) laid there ∙ told w same
+
+-- a step that touched nothing
+pub turned-so : (program : Units) (cells : ℕ) (choices : List ℕ) (p : ℕ) (new : Machine) → Touches program cells choices p None → HasStepped program cells choices p (snapshot_of new) → HaveRoom program cells new → HasTurned program cells choices p (Stepped None) new
+turned-so program cells choices p new untouched stepped rooms =
+    (stepped.stepped, machine-of program cells (choices ++ p ∷ []) new stepped.after rooms, untouched, λ w layout location is. absurd (none-some w is))

@@ -1,11 +1,11 @@
--- A CALL, CREATE or PURGE that stands ahead of a process: X3.9-1978, 15.6.2, and docs/MACHINE.md, "Steps".
+-- A CALL, CREATE, PURGE or RESUME that stands ahead of a process: X3.9-1978, 15.6.2, and docs/MACHINE.md, "Steps".
 use Rattle.std.specs.Prelude.{◌≡◌, ℕ, List, ◌∷◌, drop, Result}
 use Rattle.hep_machine.specs.Words.{Units}
 use Rattle.hep_machine.specs.declared.event.Kind.{Kind}
 use Rattle.hep_code.specs.declared.instruction.Instruction.{Instruction}
 use Rattle.hep_code.specs.declared.instruction.Instruction.TheVariants.{Step}
 use Rattle.hep_code.specs.declared.instruction.Operation.{Operation}
-use Rattle.hep_code.specs.declared.instruction.Operation.TheVariants.{Call, Create, Purge}
+use Rattle.hep_code.specs.declared.instruction.Operation.TheVariants.{Call, Create, Purge, Resume}
 use Rattle.hep_code.specs.Words.{IsPastPushes, passed_from}
 use Rattle.hep_image.specs.Finding.{cells_in}
 use Rattle.hep_passing.specs.declared.given.Given.{Given}
@@ -25,11 +25,12 @@ use Rattle.hep_state.specs.Tops.{HasLevels, HoldsInTurn, IsTurning, TurnOf, top_
 
 -- ---- in front of instructions
 
--- no CALL, CREATE or PURGE stands there
+-- no CALL, CREATE, PURGE or RESUME stands there
 abbrev pub HasNone : List Instruction → Type 0
 HasNone (Step line (Call u count next) ∷ behind) = ⊥
 HasNone (Step line (Create u count next) ∷ behind) = ⊥
 HasNone (Step line (Purge count next) ∷ behind) = ⊥
+HasNone (Step line (Resume next) ∷ behind) = ⊥
 HasNone _ = Unit {0}
 
 -- the operation that it is
@@ -40,6 +41,7 @@ operation_of call = making call.way call.unit call.count call.next
 abbrev pub IsInFront : List Instruction → StepAhead → Type 0
 IsInFront instructions (ahead.Call call) = (behind : List Instruction) × (instructions ≡ Step call.line (operation_of call) ∷ behind)
 IsInFront instructions (ahead.Purge purge) = (behind : List Instruction) × (instructions ≡ Step purge.line (Purge purge.count purge.next) ∷ behind)
+IsInFront instructions (ahead.Resume next) = (line : ℕ) × (behind : List Instruction) × (instructions ≡ Step line (Resume next) ∷ behind)
 IsInFront instructions ahead.Other = HasNone instructions
 
 -- ---- ahead of a process
@@ -50,12 +52,15 @@ pub record IsAtStep (t : TurnOf) (line : ℕ) (operation : Operation) : Type 0 w
   pub behind : List Instruction
   pub ahead : drop t.level.index (unit_code t.program t.level.unit) ≡ Step line operation ∷ behind
 
--- at a CALL or CREATE, and at a PURGE
+-- at a CALL or CREATE, at a PURGE, and at RESUME
 abbrev pub IsAtCall : TurnOf → CallAhead → Type 0
 IsAtCall t call = IsAtStep t call.line (operation_of call)
 
 abbrev pub IsAtPurge : TurnOf → PurgeAhead → Type 0
 IsAtPurge t purge = IsAtStep t purge.line (Purge purge.count purge.next)
+
+abbrev pub IsAtResume : TurnOf → ℕ → Type 0
+IsAtResume t next = (line : ℕ) × IsAtStep t line (Resume next)
 
 -- that of process p is so
 abbrev pub HasCallAhead : Units → ℕ → List ℕ → ℕ → Snapshot → CallAhead → Type 0
@@ -64,7 +69,11 @@ HasCallAhead program cells choices p m call = HoldsInTurn program cells choices 
 abbrev pub HasPurgeAhead : Units → ℕ → List ℕ → ℕ → Snapshot → PurgeAhead → Type 0
 HasPurgeAhead program cells choices p m purge = HoldsInTurn program cells choices p m (λ t. IsAtPurge t purge)
 
--- the values that stand ahead of the top activation of process p are operands, and what stands there then calls, creates and purges nothing
+abbrev pub HasResumeAhead : Units → ℕ → List ℕ → ℕ → Snapshot → ℕ → Type 0
+HasResumeAhead program cells choices p m next = HoldsInTurn program cells choices p m (λ t. IsAtResume t next)
+
+-- the values that stand ahead of the top activation of process p are operands, and what stands there then calls, creates, purges and resumes
+-- nothing
 pub record IsWithoutCall (program : Units) (p : ℕ) (m : Snapshot) : Type 0 where
   pub levels : HasLevels m p
   pub past : IsPastPushes (unit_code program levels.level.unit) levels.level.index
@@ -74,6 +83,7 @@ pub record IsWithoutCall (program : Units) (p : ℕ) (m : Snapshot) : Type 0 whe
 abbrev pub IsAhead : Units → ℕ → Machine → Snapshot → StepAhead → Type 0
 IsAhead program p old m (ahead.Call call) = (cells : ℕ) (choices : List ℕ) → IsMachineAfter program cells choices old → HasCallAhead program cells choices p m call
 IsAhead program p old m (ahead.Purge purge) = (cells : ℕ) (choices : List ℕ) → IsMachineAfter program cells choices old → HasPurgeAhead program cells choices p m purge
+IsAhead program p old m (ahead.Resume next) = (cells : ℕ) (choices : List ℕ) → IsMachineAfter program cells choices old → HasResumeAhead program cells choices p m next
 IsAhead program p old m ahead.Other = IsWithoutCall program p m
 
 -- ---- what it is given

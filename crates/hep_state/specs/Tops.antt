@@ -86,6 +86,10 @@ pub record IsTurning (t : TurnOf) : Type 0 where
   pub kept : numbered t.machine.processes t.process ≡ Some (stack_with t.level t.below t.operands t.pending)
   pub lives : living (state_before t) t.process ≡ Some t.top
 
+-- its levels
+abbrev pub levels_turning : (t : TurnOf) → IsTurning t → HasLevels t.machine t.process
+levels_turning t turning = record { level = t.level; below = t.below; operands = t.operands; pending = t.pending; kept = turning.kept }
+
 -- it is so in the turn of process p, in a machine after turns of these processes
 pub record HoldsInTurn (program : Units) (cells : ℕ) (choices : List ℕ) (p : ℕ) (m : Snapshot) (IsSo : TurnOf → Type 0) : Type 0 where
   pub levels : HasLevels m p
@@ -173,6 +177,19 @@ snapshot_stopped m = record m { halted = true }
 -- the top activation has ended, and its frame went back, if that was so
 abbrev pub snapshot_returned : TurnOf → Space → Nodes → Snapshot
 snapshot_returned t arena nodes = with_stack (record t.machine { arena = arena; nodes = nodes }) t.process t.below [] t.pending
+
+-- the stacks where the top level of process p, which has no operands, is that of a process more, at an index
+abbrev pub stacks_parted : {m : Snapshot} {p : ℕ} → HasLevels m p → ℕ → List Stack
+stacks_parted {m} {p} levels index =
+    with_numbered m.processes p (record { levels = levels.below; operands = []; pending = levels.pending })
+    ++ record { levels = record levels.level { index = index } ∷ []; operands = []; pending = [] } ∷ []
+
+-- the top activation is a process of its own, at an index, and the one below it goes on
+abbrev pub snapshot_parted : {m : Snapshot} {p : ℕ} → HasLevels m p → ℕ → Snapshot
+snapshot_parted {m} levels index = record m { processes = stacks_parted levels index }
+
+abbrev pub snapshot_resumed : (t : TurnOf) → IsTurning t → ℕ → Snapshot
+snapshot_resumed t turning index = snapshot_parted (levels_turning t turning) index
 
 -- a fault has ended the process, in the statement with this initial line
 abbrev pub fault_at : TurnOf → ℕ → Kind → Fault

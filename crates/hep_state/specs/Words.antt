@@ -5,8 +5,8 @@ unfoldable pub use Rattle.hep_state.specs.Showing.{AreThere, IsThere, node_under
 pub use Rattle.hep_state.specs.Showing.{code_level, code_levels, IsStack, kept_below, kept_by, levels_below, Shows}
 unfoldable pub use Rattle.hep_state.specs.Turns.{HasGaps}
 pub use Rattle.hep_state.specs.Turns.{HasNoGap, HasStepped, HasWaited, IsAbsent, IsAfter}
-unfoldable pub use Rattle.hep_state.specs.Tops.{fault_at, frame_under, keys_of, snapshot_failed, snapshot_moved, snapshot_printed, snapshot_returned}
-unfoldable pub use Rattle.hep_state.specs.Tops.{snapshot_stopped, stack_with, state_before, state_failed, state_returned, top_before, top_frame}
+unfoldable pub use Rattle.hep_state.specs.Tops.{fault_at, frame_under, keys_of, snapshot_failed, snapshot_moved, snapshot_parted, snapshot_printed, snapshot_resumed, snapshot_returned}
+unfoldable pub use Rattle.hep_state.specs.Tops.{levels_turning, snapshot_stopped, stacks_parted, stack_with, state_before, state_failed, state_returned, top_before, top_frame}
 unfoldable pub use Rattle.hep_state.specs.Tops.{frames_before, HasMadeTurn, HaveLeft, IsEffectOf, IsTopRunning, running_top, turn_of, turn_settled, turn_with, with_contents, with_stack}
 pub use Rattle.hep_state.specs.Tops.{HasLevels, HoldsInTurn, IsTurning, TurnOf}
 unfoldable pub use Rattle.hep_state.specs.Calls.{call_in, entered_level, IsAfterCall, snapshot_made_by, stacks_made_by, state_made}
@@ -18,7 +18,7 @@ pub use Rattle.hep_state.specs.Rooms.{HasRoomToPass, HaveRoom, IsMachineAfter}
 unfoldable pub use Rattle.hep_state.specs.Taking.{IsLeft, IsToEnd}
 pub use Rattle.hep_state.specs.Taking.{CanAdvance, IsAdvanced, IsBehind, IsEnding, IsPlace, IsSeenSame, IsSettled}
 unfoldable pub use Rattle.hep_state.specs.Givings.{AreOut}
-unfoldable pub use Rattle.hep_state.specs.CallsAhead.{given_of, HasCallAhead, HasNone, HasPurgeAhead, IsAhead, IsAtCall, IsAtPurge, IsInFront}
+unfoldable pub use Rattle.hep_state.specs.CallsAhead.{given_of, HasCallAhead, HasNone, HasPurgeAhead, HasResumeAhead, IsAhead, IsAtCall, IsAtPurge, IsAtResume, IsInFront}
 unfoldable pub use Rattle.hep_state.specs.CallsAhead.{operation_of, ranges_ahead}
 pub use Rattle.hep_state.specs.CallsAhead.{IsAtStep, IsWithoutCall}
 unfoldable pub use Rattle.hep_state.specs.Unturned.{IsUnturned}

@@ -35,7 +35,7 @@ fn leave_all(frames: &mut Frames, levels: &mut Vec<Level>)
 
 impl Process {
     // Its top activation has ended: the level is taken off, and the one below it has no operands.
-    fn end_top(&mut self) -> Level
+    pub(crate) fn end_top(&mut self) -> Level
         requires { 0 < vec_len self.old.levels }
         ensures level { (l : ALevel) (ls : List ALevel) (operands pending : List OperandValue)
             → stack_of self.old ≡ stack_with l ls operands pending → result ≡ l }
@@ -113,7 +113,7 @@ impl Machine {
             }
             Effect::Returned => self.finish(p),
             Effect::Stopped => self.halted = true,
-            // CALL, CREATE and PURGE have turns of their own.
+            // CALL, CREATE, PURGE and RESUME have turns of their own.
             Effect::LeftOut => unreachable!(),
         }
         None

@@ -32,11 +32,12 @@ ghost use Rattle.hep_step.specs.Ready.{frame_in_arena};
 ghost use Rattle.hep_step.specs.Effects.{fails, moves, prints, returns, stops, waits};
 ghost use Rattle.hep_step.specs.Simulation.{unit_addressed, unit_arrays};
 ghost use Rattle.hep_entering.specs.Calling.{state_made_by};
+ghost use Rattle.hep_state.specs.declared.machine.Level.{Level as ALevel};
 ghost use Rattle.hep_state.specs.Words.{HasEntered, HasGaps, HasLevels, HasMadeTurn, HasNoGap, HasPurged, HasWaited, HaveLeft, IsAbsent};
-ghost use Rattle.hep_state.specs.Words.{IsAfter, IsAfterCall, IsAtCall, IsAtPurge, IsEffectOf, IsEnding, IsEntered, IsGiven, IsKnown};
+ghost use Rattle.hep_state.specs.Words.{IsAfter, IsAfterCall, IsAtCall, IsAtPurge, IsAtResume, IsEffectOf, IsEnding, IsEntered, IsGiven, IsKnown};
 ghost use Rattle.hep_state.specs.Words.{IsMaking, IsTopRunning, IsTurning, IsUnit, IsWithoutCall, Snapshot, Touches, TurnOf, given_of};
 ghost use Rattle.hep_state.specs.Words.{call_in, keys_of, node_under, ranges_ahead, snapshot_failed, snapshot_made_by};
-ghost use Rattle.hep_state.specs.Words.{snapshot_moved, snapshot_opened, snapshot_printed, snapshot_returned, snapshot_stopped};
+ghost use Rattle.hep_state.specs.Words.{snapshot_moved, snapshot_opened, snapshot_printed, snapshot_resumed, snapshot_returned, snapshot_stopped};
 ghost use Rattle.hep_state.specs.Words.{state_before, state_failed, state_returned, top_frame, turn_settled, turn_with, unset_opening};
 ghost use Rattle.hep_state.specs.declared.upcoming.CallAhead.{CallAhead};
 ghost use Rattle.hep_state.specs.declared.upcoming.PurgeAhead.{PurgeAhead};
@@ -211,6 +212,24 @@ pub fn purges_are_shown()
     hep_purging::laws::ranges_are_emptied();
     gaps_are_told();
     programs_are_known();
+}
+
+/// RESUME: an activation that is above another one becomes a process of its own, and the one below it goes on; one that is the lowest
+/// only goes on. Nothing is filled or emptied, and no frame enters or leaves.
+pub fn resumes_are_shown()
+    ensures apart { (t : TurnOf) (next : ℕ) (l : ALevel) (ls : List ALevel) → IsAccepted t.program
+        → is_some (main_among t.program) ≡ true → (at : IsAtResume t next) → t.below ≡ l ∷ ls → HasMadeTurn t (snapshot_resumed t at.1.turning next) }
+    ensures lowest { (t : TurnOf) (next : ℕ) → IsAccepted t.program → is_some (main_among t.program) ≡ true → IsAtResume t next
+        → t.below ≡ [] → HasMadeTurn t (snapshot_moved t t.machine.arena.contents t.operands next) }
+    ensures nothing { (t : TurnOf) (next : ℕ) → IsAccepted t.program → is_some (main_among t.program) ≡ true → IsAtResume t next
+        → Touches t.program t.cells t.choices t.process None }
+    ensures gaps { (t : TurnOf) (next : ℕ) → IsAccepted t.program → is_some (main_among t.program) ≡ true → IsAtResume t next
+        → HasGaps t.program t.cells t.choices t.process }
+{
+    hep_step::laws::resumes_are_ahead();
+    hep_touched::laws::calls_and_purges_never_wait();
+    hep_touched::laws::purges_stand_ahead();
+    tops_are_running();
 }
 
 /// CALL and CREATE fill and empty nothing.

@@ -123,9 +123,42 @@ impl Machine {
         self.processes[(p - 1) as usize].reserve(operands)
     }
 
-    // Room for a process more and for the node of its activation, and for the entry of the turn that makes it; and that process, which
-    // is empty so far, with room for a level and for so many operands at once. Its number has room to be ready.
-    fn reserve_process(
+    // Room for a process more, and for the entry of the turn that makes it; and that process, which is empty so far, with room for a level
+    // and for so many operands at once. Its number has room to be ready.
+    pub(crate) fn reserve_process(
+        &mut self,
+        alloc: Global,
+        operands: u32,
+        history: &mut Vec<Entry>,
+        ready: &mut Ready,
+    ) -> Result<Process, AllocError>
+        ensures process { OnOk result (vec_len self.new.processes < vec_capacity self.new.processes) }
+        ensures empty { IfOk result (λ process. (process.levels.items ≡ []) × (process.operands.items ≡ [])
+            × (process.pending.items ≡ [])) }
+        ensures level { IfOk result (λ process. vec_len process.levels < vec_capacity process.levels) }
+        ensures operands { IfOk result (λ process. operands ≤ vec_capacity process.operands) }
+        ensures entry { OnOk result (vec_len history.new < vec_capacity history.new) }
+        ensures entries { history.new.items ≡ history.old.items }
+        ensures numbers { OnOk result (length self.new.processes.items + 1 ≤ ready.new.room) }
+        ensures room { ready.old.room ≤ ready.new.room }
+        ensures ready { ready.new.ready ≡ ready.old.ready }
+        ensures shown { snapshot_of self.new ≡ snapshot_of self.old }
+        ensures processes { self.new.processes.items ≡ self.old.processes.items }
+        ensures passing { self.new.passing ≡ self.old.passing }
+        ensures rooms { (program : Units) (cells : ℕ) → HaveRoom program cells self.old → HaveRoom program cells self.new }
+    {
+        history.reserve(1)?;
+        self.processes.reserve(1)?;
+        ready.reserve(self.processes.len() as u64 + 1)?;
+        Ok(Process {
+            levels: Vec::with_capacity(alloc, 1)?,
+            operands: Vec::with_capacity(alloc, operands as usize)?,
+            pending: Vec::new(alloc),
+        })
+    }
+
+    // The same, and room for the node of its activation.
+    fn reserve_creation(
         &mut self,
         alloc: Global,
         operands: u32,
@@ -148,18 +181,12 @@ impl Machine {
         ensures passing { self.new.passing ≡ self.old.passing }
         ensures rooms { (program : Units) (cells : ℕ) → HaveRoom program cells self.old → HaveRoom program cells self.new }
     {
-        history.reserve(1)?;
+        let process = self.reserve_process(alloc, operands, history, ready)?;
         self.frames.reserve()?;
-        self.processes.reserve(1)?;
-        ready.reserve(self.processes.len() as u64 + 1)?;
-        Ok(Process {
-            levels: Vec::with_capacity(alloc, 1)?,
-            operands: Vec::with_capacity(alloc, operands as usize)?,
-            pending: Vec::new(alloc),
-        })
+        Ok(process)
     }
 
-    // Performs the operation ahead of process p, which is neither CALL nor CREATE.
+    // Performs the operation ahead of process p, which is neither CALL nor CREATE, and neither PURGE nor RESUME.
     fn advance(&mut self, alloc: Global, image: &Image, p: u64) -> Result<Advanced, AllocError>
         requires after { (cells : ℕ) × (choices : List ℕ) × IsMachineAfter image.now cells choices self.old }
         requires running { self.old.halted ≡ false }
@@ -204,7 +231,7 @@ impl Machine {
         })
     }
 
-    // A turn of process p, ahead of which neither CALL nor CREATE stands.
+    // A turn of process p, ahead of which neither CALL nor CREATE stands, and neither PURGE nor RESUME.
     fn take_operation(
         &mut self,
         alloc: Global,
@@ -289,7 +316,7 @@ impl Machine {
                 self.call(p, called, call.next as usize);
             }
             Way::Creates => {
-                let process = self.reserve_process(alloc, unit.operands, history, ready)?;
+                let process = self.reserve_creation(alloc, unit.operands, history, ready)?;
                 self.create(p, called, call.next as usize, process);
             }
         }
@@ -333,12 +360,17 @@ impl Machine {
         image.is_runnable();
         laws::other_steps_find_gaps();
         laws::purges_are_shown();
+        laws::resumes_are_shown();
         match self.step_ahead(image, p) {
             StepAhead::Call(call) => self.take_call(alloc, image, p, call, history, ready),
             StepAhead::Purge(purge) => {
                 self.reserve(history)?;
                 self.purge(image, p, purge);
                 Ok(Turned::Purged)
+            }
+            StepAhead::Resume { next } => {
+                self.take_resume(alloc, image, p, next, history, ready)?;
+                Ok(Turned::Stepped { changed: None })
             }
             StepAhead::Other => Ok(self.take_operation(alloc, image, p, history)?),
         }

@@ -1,4 +1,4 @@
-//! What stands ahead of a process: a CALL or CREATE, a PURGE, or another operation (X3.9-1978, 15.6.2, and docs/LANGUAGE.md, 9).
+//! What stands ahead of a process: a CALL or CREATE, a PURGE, RESUME, or another operation (X3.9-1978, 15.6.2, and docs/LANGUAGE.md, 9).
 ghost use Rattle.std.specs.Prelude.{◌≡◌, ◌∷◌, ℕ, List, false, drop};
 ghost use Rattle.hep_code.specs.declared.instruction.Instruction.{Instruction as AnInstruction};
 ghost use Rattle.hep_code.specs.declared.instruction.Instruction.TheVariants.{Step};
@@ -42,6 +42,8 @@ pub enum StepAhead {
     Call(CallAhead),
     /// A PURGE.
     Purge(PurgeAhead),
+    /// RESUME, and the index in the code at which its activation goes on.
+    Resume { next: u32 },
     /// None of them.
     Other,
 }
@@ -66,6 +68,7 @@ fn as_ahead(line: u32, operation: Operation) -> StepAhead
             next,
         }),
         Operation::Purge { count, next } => StepAhead::Purge(PurgeAhead { line, count, next }),
+        Operation::Resume { next } => StepAhead::Resume { next },
         _ => StepAhead::Other,
     }
 }

@@ -16,7 +16,7 @@ use Rattle.std.specs.Option.{option_map}
 use Rattle.hep_machine.specs.State.{Level as SourceLevel}
 use Rattle.hep_machine.specs.Step.{wanted_of}
 use Rattle.hep_code.specs.declared.instruction.Operation.{Operation}
-use Rattle.hep_code.specs.declared.instruction.Operation.TheVariants.{Call, Create, Purge}
+use Rattle.hep_code.specs.declared.instruction.Operation.TheVariants.{Call, Create, Purge, Resume}
 use Rattle.hep_layout.specs.Words.{address}
 use Rattle.hep_state.specs.declared.machine.Level.{Level}
 use Rattle.hep_state.proofs.Moved.{unit-is}
@@ -98,6 +98,7 @@ left-out-seen : (code : List Instruction) (arrays : List Array) (first : ℕ) (l
 left-out-seen code arrays first line (Call u count next) behind contents operands index left = refl
 left-out-seen code arrays first line (Create u count next) behind contents operands index left = refl
 left-out-seen code arrays first line (Purge count next) behind contents operands index left = refl
+left-out-seen code arrays first line (Resume next) behind contents operands index left = refl
 left-out-seen code arrays first line _ behind contents operands index left = absurd cc
 
 -- whether one stands in front of these instructions

@@ -1,7 +1,7 @@
 -- What a step waits for, which goes by its statement and by what is stored, and that one which stops all processes changes no more than that.
 use Rattle.std.proofs.Common.{◌≡◌, ℕ, Bool, true, true≢false, List, [], ◌∷◌, refl, sym, ap, ◌∙◌, Option, Some, None, ◌⊎◌, inl, inr, false, Result, Ok, Err, ℤ, ◌+ℤ◌}
-use Rattle.hep_machine.specs.Words.{Value, Units, unit_at, integer_of, integer_or_overflow, Binding, variable_of, Action, Next, wants, does, next_of, assigning, entering_loop, ending_loop, calling, creating, purging, stopping, Scope, location_of_name, living, loop_at, unit_of, Level, Location, Loop}
-use Rattle.hep_machine.specs.Words.{Process, State, Store, Work, Answer, StepResult, Top, Wanted, answer_of, answer_at, binding_of, iterations, fails, written, result_after_action, result_after_answer, result_after_assignment, result_after_call, result_after_create, result_after_do, result_after_increment}
+use Rattle.hep_machine.specs.Words.{Value, Units, unit_at, integer_of, integer_or_overflow, Binding, variable_of, Action, Next, wants, does, next_of, assigning, entering_loop, ending_loop, calling, creating, purging, resuming, stopping, Scope, location_of_name, living, loop_at, unit_of, Level, Location, Loop}
+use Rattle.hep_machine.specs.Words.{Process, State, state_resumed, stepped, Store, Work, Answer, StepResult, Top, Wanted, answer_of, answer_at, binding_of, iterations, fails, written, result_after_action, result_after_answer, result_after_assignment, result_after_call, result_after_create, result_after_do, result_after_increment}
 use Rattle.hep_machine.specs.Words.{result_after_loop_end, result_after_loop_variable, result_after_next, result_after_purge, result_after_write, scope_of, step_result_of, step_result_of_top, store_after_purge, unit_called, unit_on_top, wanted_by, wanted_of, step}
 use Rattle.hep_machine.specs.declared.event.Kind.{Kind}
 use Rattle.hep_machine.specs.Step.{gives, waits}
@@ -93,6 +93,10 @@ module _ (program : Units) (t : Top) where
   purged (Err k) = (refl, inl refl)
   purged (Ok store) = (refl, inl refl)
 
+  resumed : (below : Process) → Does t None (stepped (state_resumed program t below))
+  resumed [] = (refl, inl refl)
+  resumed (caller ∷ callers) = (refl, inl refl)
+
   acted : (a : Action) → Does t (waited_by scope t.state.store a) (result_after_action program t a)
   unfolding waited_by
   acted (assigning r v) = assigned r.0.asynchronous (location_of_name scope r.0 r.1) v
@@ -101,6 +105,7 @@ module _ (program : Units) (t : Top) where
   acted (calling x actuals) = called (unit_called program x) (binding_of program t (unit_called program x) actuals)
   acted (creating x actuals) = created (unit_called program x) (binding_of program t (unit_called program x) actuals)
   acted (purging targets) = purged (store_after_purge scope targets t.state.store)
+  acted resuming = resumed t.below
   acted stopping = (refl, inr refl)
   acted _ = (refl, inl refl)
 
@@ -118,7 +123,7 @@ stopped-only program p s t e going halted =
 
 -- ---- what never waits
 
--- an operation that is left out calls, creates or purges
+-- an operation that is left out calls, creates, purges or resumes
 waitless-operation : (addressed : AddressedUnit) (k : ℕ) (work : Work) (operands : List Value) (index : ℕ) (o : Operation) (behind : List Instruction) (names : Scope) (store : Store) → is_left_out o ≡ true
     → (n : Next) → IsNext addressed k work operands index n o behind → waited_next names store n ≡ None
 unfolding waited_next waited_by

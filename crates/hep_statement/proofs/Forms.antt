@@ -48,6 +48,7 @@ module _ (k : Context) where
   after_word_is words.Print s m f fit is e = print_is k s m f fit is e
   after_word_is words.Continue s m f fit is e = whole_word words.Continue forms.Continue f s m (λ t h. h) is e
   after_word_is words.Return s m f fit is e = whole_word words.Return forms.Return f s m (λ t h. h) is e
+  after_word_is words.Resume s m f fit is e = whole_word words.Resume forms.Resume f s m (λ t h. h) is e
   after_word_is words.Stop s m f fit is e = stop_is k s m f is e
   after_word_is words.Program s m f fit is e = declaration_is k words.Program s m f fit is e
   after_word_is words.Subroutine s m f fit is e = declaration_is k words.Subroutine s m f fit is e
@@ -200,6 +201,7 @@ module _ (k : Context) where
   worded_read (forms.Print items) s h = ap (worded k) h.1 ∙ print_read k items h.0 h.2
   worded_read forms.Continue s h = ap (worded k) h
   worded_read forms.Return s h = ap (worded k) h
+  worded_read forms.Resume s h = ap (worded k) h
   worded_read forms.Stop s h = ap (worded k) h.1 ∙ stop_read h.0 h.2
   worded_read forms.End s h = ap (worded k) h
 

@@ -18,7 +18,7 @@ use Rattle.hep_source.specs.declared.declaration.DataGroup.{DataGroup}
 use Rattle.hep_source.specs.declared.statement.PrintItem.{PrintItem}
 use Rattle.hep_source.specs.declared.statement.PrintItem.TheVariants.{Expression, Characters}
 use Rattle.hep_source.specs.declared.statement.Form.{Form}
-use Rattle.hep_source.specs.declared.statement.Form.TheVariants.{Program, Subroutine, Implicit, Declare, Dimension as Dimensions, Common, Parameter, Data, Assign, GoTo, ComputedGoTo, ArithmeticIf, IfThen, ElseIf, Else, EndIf, Do, Call, Create, Purge, Print, Continue, Return, Stop, End}
+use Rattle.hep_source.specs.declared.statement.Form.TheVariants.{Program, Subroutine, Implicit, Declare, Dimension as Dimensions, Common, Parameter, Data, Assign, GoTo, ComputedGoTo, ArithmeticIf, IfThen, ElseIf, Else, EndIf, Do, Call, Create, Purge, Print, Continue, Return, Resume, Stop, End}
 use Rattle.hep_expression.specs.declared.characters.Sizes.{Sizes}
 use Rattle.hep_expression.specs.declared.characters.Sizes.TheVariants.{Fitting, Any}
 use Rattle.hep_expression.specs.declared.characters.Context.{Context}
@@ -198,6 +198,7 @@ module _ (n : ℕ) where
   any_worded (Print items) s h = (h.0, h.1, any_after (ReadsItem fitting) (ReadsItem any) any_item items h.0 [] h.2)
   any_worded Continue s h = h
   any_worded Return s h = h
+  any_worded Resume s h = h
   any_worded Stop s h = h
   any_worded End s h = h
 

@@ -5,7 +5,7 @@ use Rattle.hep_source.specs.Tree.{Tree, with_list, no_trees, trees}
 use Rattle.hep_source.specs.declared.declaration.Target.{Target}
 use Rattle.hep_source.specs.declared.statement.PrintItem.TheVariants.{Expression, Characters}
 use Rattle.hep_source.specs.declared.statement.Form.{Form}
-use Rattle.hep_source.specs.declared.statement.Form.TheVariants.{Assign, GoTo, ComputedGoTo, ArithmeticIf, IfThen, ElseIf, Else, EndIf, Do, Call, Create, Purge, Print, Stop, End}
+use Rattle.hep_source.specs.declared.statement.Form.TheVariants.{Assign, GoTo, ComputedGoTo, ArithmeticIf, IfThen, ElseIf, Else, EndIf, Do, Call, Create, Purge, Print, Resume, Stop, End}
 use Rattle.hep_expression.specs.declared.characters.Sizes.TheVariants.{Fitting, Any}
 use Rattle.hep_expression.specs.ReadingExpression as reading
 use Rattle.hep_expression.specs.ReadingExpression.{chain, in_parentheses, primary, power_of, term, first_term, sum, relation, negation, conjunction, disjunction, expression, power, expression_at, whole_expression}
@@ -62,12 +62,17 @@ forms : Works (λ (r : String × List Tree × Form). IsForm Fitting (codes r.0) 
     ∷ ("CALLS(1,A(2))", [], Call (at false "S" 4) (int 1 ∷ with_list (at false "A" 8) (trees (int 2) no_trees) ∷ []))
     ∷ ("CREATEP(N)", [], Create (at false "P" 6) (name "N" 8 ∷ []))
     ∷ ("PURGE$A,B(1)", [], Purge (target true "A" 5 [] ∷ target false "B" 8 (int 1 ∷ []) ∷ []))
+    -- RESUME
+    ∷ ("RESUME", [], Resume)
+    ∷ ("IF(L)RESUME", name "L" 3 ∷ [], Resume)
+    ∷ ("CALLRESUME", [], Call (at false "RESUME" 4) [])
     -- words as names
     ∷ ("PRINT=1", [], one_to "PRINT" 0)
     ∷ ("IF=1", [], one_to "IF" 0)
     ∷ ("DO=1", [], one_to "DO" 0)
     ∷ ("END=1", [], one_to "END" 0)
     ∷ ("ENDIF=1", [], one_to "ENDIF" 0)
+    ∷ ("RESUME=1", [], one_to "RESUME" 0)
     ∷ ("CALL=CALL", [], Assign (target false "CALL" 0 []) (name "CALL" 5))
     ∷ []) (
     -- labels of six digits and of zeros
@@ -79,7 +84,7 @@ forms : Works (λ (r : String × List Tree × Form). IsForm Fitting (codes r.0) 
     -- STOP with six digits or no characters, CALL of an asynchronous name or with a comma too many
     ∷ "STOP123456" ∷ "STOP''" ∷ "CALL$S" ∷ "CALLS(1,)"
     -- a real constant, names that are none, words that begin no form
-    ∷ "I=1.5" ∷ "PRINT*=1" ∷ "ABCDEFG=1" ∷ "READ"
+    ∷ "I=1.5" ∷ "PRINT*=1" ∷ "ABCDEFG=1" ∷ "READ" ∷ "RESUMEX"
     ∷ [])
 unfolding chain in_parentheses reading.arguments reading.named primary power_of term first_term sum relation negation conjunction disjunction expression power expression_at whole_expression parts_after lists.listed closed enclosed optional arguments_within arguments target_at characters constant_after item_at print assignment computed_go_to go_to condition_at arithmetic_if if_then else_if limits do_loop call create purge stop declare declarator_at worded logical_if conditions form
 forms =

@@ -2,7 +2,7 @@
 use Rattle.std.specs.Prelude.{ℕ, codes, List, [], ◌∷◌}
 use Rattle.hep_expression.specs.Reading.{Reader, one_of}
 use Rattle.hep_statement.specs.declared.keyword.Keyword.{Keyword}
-use Rattle.hep_statement.specs.declared.keyword.Keyword.TheVariants.{Program, Subroutine, Implicit, Integer, Logical, Dimension, Common, Parameter, Data, GoTo, ElseIf, Else, EndIf, End, Do, Call, Create, Purge, Print, Continue, Return, Stop}
+use Rattle.hep_statement.specs.declared.keyword.Keyword.TheVariants.{Program, Subroutine, Implicit, Integer, Logical, Dimension, Common, Parameter, Data, GoTo, ElseIf, Else, EndIf, End, Do, Call, Create, Purge, Print, Continue, Return, Resume, Stop}
 
 abbrev pub spelling : Keyword → List ℕ
 spelling Program = codes "PROGRAM"
@@ -26,13 +26,14 @@ spelling Purge = codes "PURGE"
 spelling Print = codes "PRINT*"
 spelling Continue = codes "CONTINUE"
 spelling Return = codes "RETURN"
+spelling Resume = codes "RESUME"
 spelling Stop = codes "STOP"
 
 -- the words, each one before those with which it begins
 abbrev pub keywords : List Keyword
 keywords =
     Program ∷ Subroutine ∷ Implicit ∷ Integer ∷ Logical ∷ Dimension ∷ Common ∷ Parameter ∷ Data ∷ GoTo ∷ ElseIf ∷ Else
-    ∷ EndIf ∷ End ∷ Do ∷ Call ∷ Create ∷ Purge ∷ Print ∷ Continue ∷ Return ∷ Stop ∷ []
+    ∷ EndIf ∷ End ∷ Do ∷ Call ∷ Create ∷ Purge ∷ Print ∷ Continue ∷ Return ∷ Resume ∷ Stop ∷ []
 
 abbrev pub keyword_among : List Keyword → Reader Keyword
 keyword_among among s = one_of spelling among s

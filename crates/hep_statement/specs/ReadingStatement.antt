@@ -48,6 +48,7 @@ after_word k words.Purge s = purge k s
 after_word k words.Print s = print k s
 after_word k words.Continue s = all_read forms.Continue s
 after_word k words.Return s = all_read forms.Return s
+after_word k words.Resume s = all_read forms.Resume s
 after_word k words.Stop s = stop s
 after_word k w s = declaration k w s
 

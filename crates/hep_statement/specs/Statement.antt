@@ -3,7 +3,7 @@ use Rattle.std.specs.Prelude.{◌≡◌, ℕ, zero, suc, ◌&&◌, ◌||◌, not
 use Rattle.hep_source.specs.Tree.{Tree}
 use Rattle.hep_source.specs.Units.{is_executable}
 use Rattle.hep_source.specs.declared.statement.Form.{Form}
-use Rattle.hep_source.specs.declared.statement.Form.TheVariants.{Program, Subroutine, Implicit, Declare, Dimension, Common, Parameter, Data, Assign, GoTo, ComputedGoTo, ArithmeticIf, IfThen, ElseIf, Else, EndIf, Do, Call, Create, Purge, Print, Continue, Return, Stop, End}
+use Rattle.hep_source.specs.declared.statement.Form.TheVariants.{Program, Subroutine, Implicit, Declare, Dimension, Common, Parameter, Data, Assign, GoTo, ComputedGoTo, ArithmeticIf, IfThen, ElseIf, Else, EndIf, Do, Call, Create, Purge, Print, Continue, Return, Resume, Stop, End}
 use Rattle.hep_expression.specs.declared.characters.Sizes.{Sizes}
 use Rattle.hep_expression.specs.declared.characters.Context.{Context}
 use Rattle.hep_expression.specs.Characters.{apostrophe, left_parenthesis, right_parenthesis, comma, equals, is_digit, ReadsOccurrence, ReadsPlainOccurrence}
@@ -104,6 +104,7 @@ module _ (k : Context) where
   IsWorded (Print items) s = IsPrint k items s
   IsWorded Continue s = s ≡ codes "CONTINUE"
   IsWorded Return s = s ≡ codes "RETURN"
+  IsWorded Resume s = s ≡ codes "RESUME"
   IsWorded Stop s = (m : List ℕ) × (s ≡ codes "STOP" ++ m) × IsStopText m
   IsWorded End s = s ≡ codes "END"
 

@@ -49,6 +49,8 @@ pub enum Keyword {
     Continue,
     /// RETURN (15.8).
     Return,
+    /// RESUME, which lets the caller of a subroutine go on (docs/LANGUAGE.md).
+    Resume,
     /// STOP (11.12).
     Stop,
 }
@@ -80,6 +82,7 @@ impl Keyword {
             Keyword::Print => b"PRINT*",
             Keyword::Continue => b"CONTINUE",
             Keyword::Return => b"RETURN",
+            Keyword::Resume => b"RESUME",
             Keyword::Stop => b"STOP",
         }
     }
@@ -124,6 +127,7 @@ pub fn keyword_at(s: &[u8]) -> Option<(Keyword, &[u8])>
         Keyword::Print,
         Keyword::Continue,
         Keyword::Return,
+        Keyword::Resume,
         Keyword::Stop,
     ];
     keyword_among(&keywords, s)

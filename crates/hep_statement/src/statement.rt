@@ -55,6 +55,7 @@ fn after_word(alloc: Global, context: Context, keyword: Keyword, s: &[u8]) -> Re
         Keyword::Print => print(alloc, context, s),
         Keyword::Continue => all_read(Form::Continue, s),
         Keyword::Return => all_read(Form::Return, s),
+        Keyword::Resume => all_read(Form::Resume, s),
         Keyword::Stop => stop(alloc, s),
         Keyword::Program
         | Keyword::Subroutine

@@ -1,19 +1,20 @@
--- Operations that leave the arena as it is: GO TO, computed GO TO, IF and what only goes on, PRINT, RETURN and END, STOP, CALL and CREATE.
+-- Operations that leave the arena as it is: GO TO, computed GO TO, IF and what only goes on, PRINT, RETURN and END, STOP, CALL and CREATE, and RESUME.
 -- X3.9-1978, 11.1 to 11.12, 12.8, 15.6 and 15.8.
 use Rattle.std.proofs.Common.{◌≡◌, ℕ, ◌-◌, Bool, true, false, List, [], ◌∷◌, refl, ap, sym, ◌∙◌, ◌++◌, map, length, subst, Err, arith, drop, length-append, take}
 use Rattle.std.proofs.Math.Seq.{drop-append_seam}
 use Rattle.hep_machine.specs.Words.{integer_of, logical_of, label_by_sign, label_chosen, level_after_condition, level_after_statement, level_at_choice, level_at_label, level_in_block, Action, jumping, choosing, branching, testing_condition, entering_block, continuing, Next, does}
-use Rattle.hep_machine.specs.Words.{printing, leaving, stopping, Actual, evaluated, referred, calling, creating, Top, Units, Value, unit_on_top, Level, result_after_action, state_with_level, stepped, binding_of, result_after_call, result_after_create, result_after_fault, Name}
+use Rattle.hep_machine.specs.Words.{printing, leaving, resuming, state_resumed, stopping, Actual, evaluated, referred, calling, creating, Top, Units, Value, unit_on_top, Level, result_after_action, state_with_level, stepped, binding_of, result_after_call, result_after_create, result_after_fault, Name}
 use Rattle.hep_code.specs.declared.instruction.Instruction.{Instruction}
 use Rattle.hep_code.specs.declared.instruction.Instruction.TheVariants.{Pass, Step, Show}
 use Rattle.hep_code.specs.declared.variable.Variable.{Variable}
 use Rattle.hep_code.specs.declared.instruction.Operation.{Operation}
-use Rattle.hep_code.specs.declared.instruction.Operation.TheVariants.{Jump, Choose, BySign, Condition, Branch, Print, Return, Stop}
+use Rattle.hep_code.specs.declared.instruction.Operation.TheVariants.{Jump, Choose, BySign, Condition, Branch, Print, Resume, Return, Stop}
 use Rattle.hep_code.specs.Words.{Leads, Moves, led_to, AddressedUnit, argument_of_actual, operands_of_actual, operands_of_entries, operands_of_item, printed_item, items_from}
 use Rattle.hep_code.proofs.Leads.{operation_leads}
 use Rattle.hep_code.proofs.Moves.{Keeps, after_statement_keeps, at_choice_keeps, in_block_keeps}
 use Rattle.hep_step.specs.Effects.{moves, prints, returns, stops, fails}
 use Rattle.hep_image.specs.Places.{variable_of}
+use Rattle.hep_step.specs.Resuming.{IsResumeAhead}
 use Rattle.hep_step.specs.Simulation.{IsRunning, RunningTop, Simulates, addressed_on_top, code_ahead, counts_in, state_with_record, step_result_running, unit_running}
 use Rattle.hep_step.proofs.Running.{Comes, action_made, coming, fault_is, is_at, level_moves, next_is, reaches}
 use Rattle.std.specs.List.{flat_map}
@@ -127,6 +128,23 @@ module _ (r : RunningTop) (line : ℕ) (behind : List Instruction) (running : Is
 
     pub call_fails : (calls : IsCallAhead way r.program r.top r.operands u count next behind) (k : Kind) → binding_of r.program r.top u calls.actuals ≡ Err k → Simulates r (fails line k)
     call_fails calls k none = fault_is r running line (making way u count next) behind ahead k (unmade way calls.name calls.actuals k calls.does_so calls.unit none)
+
+  -- ---- RESUME
+
+  module _ (next : ℕ) (ahead : code_ahead r ≡ Step line (Resume next) ∷ behind) where
+    resume_by : (n : Next) → coming r ≡ n → Comes r n (Resume next) behind → IsResumeAhead r next
+    resume_by (does resuming) is h =
+        record { does_so = is; made = action_made r running resuming is; alone = h.operands_are; onward = leads (Resume next) ahead resuming is }
+    resume_by _ is h = absurd (cc h.operation)
+
+    pub resume_ahead : IsResumeAhead r next
+    resume_ahead = resume_by (coming r) refl (next_is r running line (Resume next) behind ahead)
+
+    -- the lowest activation only goes on
+    pub lowest_goes_on : r.top.below ≡ [] → Simulates r (moves r.arena.contents [] next)
+    lowest_goes_on lowest =
+        let after = level_after_statement (unit_running r) r.top.level in
+        level_moves r running after (after_statement_keeps addressed r.top.level) next (resume_ahead.made ∙ ap (λ below. stepped (state_resumed r.program r.top below)) lowest) resume_ahead.onward.at.stands
 
 -- ---- what they pass
 

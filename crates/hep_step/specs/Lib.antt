@@ -6,3 +6,4 @@ pub mod Performed
 pub mod Ready
 pub mod Simulation
 pub mod Calls
+pub mod Resuming

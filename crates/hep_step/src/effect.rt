@@ -18,6 +18,6 @@ pub enum Effect {
     Returned,
     /// All processes end, by STOP (11.12).
     Stopped,
-    /// A CALL, CREATE or PURGE stands ahead, which isn't done here, or no operation. Nothing has changed.
+    /// A CALL, CREATE, PURGE or RESUME stands ahead, which isn't done here, or no operation. Nothing has changed.
     LeftOut,
 }

@@ -1,5 +1,5 @@
 //! Laws of steps: what an operation does to the arena and to the operands is what the source machine does.
-ghost use Rattle.std.specs.Prelude.{◌≡◌, ◌≤◌, ◌∷◌, ℕ, List, Err, length};
+ghost use Rattle.std.specs.Prelude.{◌≡◌, ◌≤◌, ◌∷◌, ℕ, List, [], Err, length};
 ghost use Rattle.std.specs.List.{flat_map};
 ghost use Rattle.hep_machine.specs.Words.{Top, Units, Value, binding_of};
 ghost use Rattle.hep_machine.specs.declared.event.Kind.{Kind};
@@ -7,15 +7,16 @@ ghost use Rattle.hep_code.specs.declared.instruction.Evaluation.{Evaluation};
 ghost use Rattle.hep_code.specs.declared.instruction.Instruction.{Instruction};
 ghost use Rattle.hep_code.specs.declared.instruction.Instruction.TheVariants.{Step};
 ghost use Rattle.hep_code.specs.declared.instruction.Operation.TheVariants.{Evaluate, Store, Jump, Choose, BySign, Condition, Branch};
-ghost use Rattle.hep_code.specs.declared.instruction.Operation.TheVariants.{EnterLoop, EndLoop, Print, Return, Stop};
+ghost use Rattle.hep_code.specs.declared.instruction.Operation.TheVariants.{EnterLoop, EndLoop, Print, Resume, Return, Stop};
 ghost use Rattle.hep_code.specs.declared.variable.Variable.{Variable};
 ghost use Rattle.hep_code.specs.Words.{IsPastPushes, deepest, operands_of_actual};
 ghost use Rattle.hep_image.specs.Image.{most_cells};
 ghost use Rattle.hep_layout_laws.specs.Within.{ArePlacedArrays};
 ghost use Rattle.hep_step.specs.declared.way.Way.{Way};
 ghost use Rattle.hep_step.specs.Calls.{IsCallAhead, last_operands, making};
-ghost use Rattle.hep_step.specs.Effects.{effect_at, fails};
+ghost use Rattle.hep_step.specs.Effects.{effect_at, fails, moves};
 ghost use Rattle.hep_step.specs.Ready.{IsReady, frame_in_arena};
+ghost use Rattle.hep_step.specs.Resuming.{IsResumeAhead};
 ghost use Rattle.hep_step.specs.Simulation.{IsNotLeftOut, IsRunning, IsSimulated, RunningTop, Simulates, arrays_running, code_ahead};
 ghost use Rattle.hep_step.specs.Simulation.{code_running, unit_running};
 
@@ -84,8 +85,17 @@ pub fn calls_are_ahead()
         → last_operands count behind operands ≡ flat_map operands_of_actual calls.actuals }
 {}
 
+/// RESUME (`docs/MACHINE.md`): where it stands ahead, the source machine lets the activation below go on, and this one goes on at its
+/// index as a process of its own; where there is none below, it only goes on.
+pub fn resumes_are_ahead()
+    ensures ahead { (r : RunningTop) (line next : ℕ) (behind : List Instruction) → IsRunning r
+        → code_ahead r ≡ Step line (Resume next) ∷ behind → IsResumeAhead r next }
+    ensures lowest { (r : RunningTop) (line next : ℕ) (behind : List Instruction) → IsRunning r
+        → code_ahead r ≡ Step line (Resume next) ∷ behind → r.top.below ≡ [] → Simulates r (moves r.arena.contents [] next) }
+{}
+
 /// Where no value stands ahead that is to be put behind the operands, whatever operation stands there does what
-/// the source machine does, if it isn't CALL, CREATE or PURGE.
+/// the source machine does, if it isn't CALL, CREATE, PURGE or RESUME.
 pub fn operations_do_what_the_machine_does()
     ensures { (r : RunningTop) → IsRunning r → IsPastPushes (code_running r) r.index → IsNotLeftOut (code_running r) r.index
         → Simulates r (effect_at (code_running r) (arrays_running r) r.frame.first r.arena.contents r.operands r.index) }

@@ -115,9 +115,10 @@ pub fn perform(
         Operation::Print { count, next } => print(alloc, count, next, entries, operands, index),
         Operation::Return => Ok(Effect::Returned),
         Operation::Stop => Ok(Effect::Stopped),
-        Operation::Call { .. } | Operation::Create { .. } | Operation::Purge { .. } => {
-            Ok(Effect::LeftOut)
-        }
+        Operation::Call { .. }
+        | Operation::Create { .. }
+        | Operation::Purge { .. }
+        | Operation::Resume { .. } => Ok(Effect::LeftOut),
         Operation::Jump { .. }
         | Operation::Choose { .. }
         | Operation::BySign { .. }

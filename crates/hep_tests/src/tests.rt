@@ -1,6 +1,7 @@
 //! Calls of the crates, with memory and without, and with readers and writers that behave badly. Whole runs
 //! with their bytes are cases of the folder `tests` at the top of the repository.
 
+mod cells;
 mod commands;
 mod lowering;
 mod parts;
@@ -51,7 +52,7 @@ fn is_single_steps(history: &[Entry], count: usize) -> bool {
 const UNDEFINED: &[u8] = b"      I=3\n      PRINT *,I*I-1\n      PRINT *,J\n      END\n";
 
 // Each form of the language.
-const FORMS: [&[u8]; 35] = [
+const FORMS: [&[u8]; 36] = [
     b"      PROGRAM P",
     b"      IMPLICIT INTEGER (A-C,X), LOGICAL (L)",
     b"      PARAMETER (N=2*3,M=-N)",
@@ -84,6 +85,7 @@ const FORMS: [&[u8]; 35] = [
     b"      SUBROUTINE S(A,$B)",
     b"      CALL T",
     b"      CALL T()",
+    b"      RESUME",
     b"      STOP 77",
     b"      RETURN",
     b"      END",

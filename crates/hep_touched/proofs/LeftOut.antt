@@ -1,6 +1,6 @@
--- CALL, CREATE and PURGE: they never wait, CALL and CREATE touch nothing, and each PURGE stands ahead.
+-- CALL, CREATE, PURGE and RESUME: they never wait, all but PURGE touch nothing, and each PURGE stands ahead.
 use Rattle.std.proofs.Common.{◌≡◌, ℕ, true, List, ◌∷◌, length, None, Result, Ok, Err, refl, ap, sym, ◌∙◌}
-use Rattle.hep_machine.specs.Words.{Units, Binding, Next, assigning, calling, creating, does, purging, wants, is_purge, purges, Store, Top, binding_of, result_after_call, result_after_create, result_after_purge, store_after_purge, unit_called, wanted_by, wanted_of}
+use Rattle.hep_machine.specs.Words.{Units, Binding, Next, assigning, calling, creating, does, purging, resuming, wants, is_purge, purges, Store, Top, binding_of, result_after_call, result_after_create, result_after_purge, store_after_purge, unit_called, wanted_by, wanted_of}
 use Rattle.hep_machine.specs.declared.event.Kind.{Kind}
 use Rattle.hep_code.specs.declared.instruction.Instruction.{Instruction}
 use Rattle.hep_code.specs.declared.instruction.Instruction.TheVariants.{Step}
@@ -41,6 +41,7 @@ module _ (r : RunningTop) (line : ℕ) (o : Operation) (behind : List Instructio
   waits_for_none (does (purging targets)) is h out =
       ap wanted_of (action_made r running (purging targets) is)
       ∙ purge_never_waits r.program r.top (store_after_purge (scope_running r) targets r.top.state.store)
+  waits_for_none (does resuming) is h out = ap wanted_of (action_made r running resuming is)
   waits_for_none (does _) is h out = absurd (cc (sym out ∙ ap is_left_out h.operation))
 
   touches_none : (n : Next) → Comes r n o behind → is_left_out o ≡ true → touched_by_next (scope_running r) n ≡ None

@@ -19,7 +19,8 @@ pub fn touched_units_are_in_touched_cells()
         × (address r.program r.top.state r.layout at ≡ Some cell) }
 {}
 
-/// CALL, CREATE and PURGE never wait, and CALL and CREATE touch nothing.
+/// CALL, CREATE, PURGE and RESUME never wait, and none of them fills or empties the one storage unit of a step: a PURGE empties those of
+/// its targets, and the others none.
 pub fn calls_and_purges_never_wait()
     ensures waits { (r : RunningTop) (line : ℕ) (o : Operation) (behind : List Instruction) → IsRunning r
         → code_ahead r ≡ Step line o ∷ behind → is_left_out o ≡ true → wanted_by r.program r.top.process r.top.state ≡ None }

@@ -10,3 +10,4 @@ mod WorkedControl
 mod WorkedValues
 mod WorkedCalls
 mod WorkedProcesses
+mod WorkedResume

@@ -93,6 +93,23 @@ const SHAPED: [&[u8]; 9] = [
     b"      END",
 ];
 
+// P calls S, which resumes and waits for what P stores behind its CALL.
+const RESUMED: [&[u8]; 13] = [
+    b"      PROGRAM P",
+    b"      INTEGER $X",
+    b"      K=3",
+    b"      CALL S(K,$X)",
+    b"      K=4",
+    b"      $X=1",
+    b"      END",
+    b"      SUBROUTINE S(J,$Y)",
+    b"      INTEGER $Y",
+    b"      RESUME",
+    b"      I=$Y",
+    b"      PRINT *,J+I",
+    b"      END",
+];
+
 // How many cells are out at first, and after each choice of these processes, with which the run is done.
 fn follow(
     rt: &impl Abort,
@@ -125,6 +142,17 @@ fn held_frames(rt: HostRuntime) -> Result<(), Fail> {
     follow(&rt, rt.alloc(), &OUTLIVED, 1, &outlived)?;
     let shaped = [(1, 7), (1, 16), (1, 16), (1, 16), (1, 16), (1, 7), (1, 0)];
     follow(&rt, rt.alloc(), &SHAPED, 7, &shaped)
+}
+
+// The frame of a resumed activation, and that of its caller, which ends first, stay until it has ended.
+#[test]
+fn held_by_the_resumed(rt: HostRuntime) -> Result<(), Fail> {
+    let caller = [(1, 3), (1, 9), (1, 9), (2, 9), (1, 9), (1, 9), (1, 9)];
+    let resumed = [(2, 9), (2, 9), (2, 9), (2, 9), (2, 9), (2, 9), (2, 0)];
+    let mut choices = Vec::new(rt.alloc());
+    choices.extend_from_slice(&caller)?;
+    choices.extend_from_slice(&resumed)?;
+    follow(&rt, rt.alloc(), &RESUMED, 3, &choices)
 }
 
 // Who was found waiting, for what, and who comes after it.

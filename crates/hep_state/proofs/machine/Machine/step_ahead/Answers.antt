@@ -5,7 +5,7 @@ use Rattle.hep_machine.specs.State.{Level as SourceLevel, Process as SourceProce
 use Rattle.hep_code.specs.declared.instruction.Instruction.{Instruction}
 use Rattle.hep_code.specs.declared.instruction.Instruction.TheVariants.{Step}
 use Rattle.hep_code.specs.declared.instruction.Operation.{Operation}
-use Rattle.hep_code.specs.declared.instruction.Operation.TheVariants.{Call, Create, Purge}
+use Rattle.hep_code.specs.declared.instruction.Operation.TheVariants.{Call, Create, Purge, Resume}
 use Rattle.hep_code.specs.Words.{IsPastPushes, values_ahead, deepest}
 use Rattle.hep_step.specs.Simulation.{IsNotLeftOut, is_left_out, unit_code}
 use Rattle.hep_state.specs.declared.machine.Level.{Level}
@@ -27,6 +27,7 @@ none-left-out code index none line o behind ahead = by_operation o (subst HasNon
   by_operation (Call u count next) h = absurd h
   by_operation (Create u count next) h = absurd h
   by_operation (Purge count next) h = absurd h
+  by_operation (Resume next) h = absurd h
   by_operation _ h = refl
 
 pub top-unit-requires : goal.top-unit-requires
@@ -73,6 +74,9 @@ found-ahead program old levels turns past (ahead.Call call) found = λ cells cho
 found-ahead program old levels turns past (ahead.Purge purge) found = λ cells choices after.
     let turn = turns cells choices after in
     record { levels = levels; top = turn.0; holds = record { turning = turn.1; behind = found.0; ahead = found.1 } }
+found-ahead program old levels turns past (ahead.Resume next) found = λ cells choices after.
+    let turn = turns cells choices after in
+    record { levels = levels; top = turn.0; holds = (found.0, record { turning = turn.1; behind = found.1; ahead = found.2 }) }
 found-ahead program old levels turns past ahead.Other none =
     record { levels = levels; past = past; plain = none-left-out (unit_code program levels.level.unit) levels.level.index none }
 

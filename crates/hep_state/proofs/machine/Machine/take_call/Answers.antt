@@ -1,5 +1,4 @@
-use Rattle.std.proofs.Common.{◌≡◌, ◌≤◌, ℕ, true, List, [], ◌∷◌, ◌++◌, None, sym, ap, ◌∙◌, subst, is_some, vec_capacity}
-use Rattle.std.proofs.lemmas.Option.{none-some}
+use Rattle.std.proofs.Common.{◌≡◌, ◌≤◌, ℕ, true, List, None, sym, ap, ◌∙◌, subst, is_some, vec_capacity}
 use Rattle.hep_machine.specs.Words.{Units}
 use Rattle.hep_arena.specs.Holes.{first_fit}
 use Rattle.hep_code.specs.Words.{deepest}
@@ -9,10 +8,9 @@ use Rattle.hep_step.specs.Effects.{fails}
 use Rattle.hep_step.specs.Simulation.{unit_code}
 use Rattle.hep_state.specs.declared.machine.Machine.{Machine}
 use Rattle.hep_state.specs.declared.upcoming.CallAhead.{CallAhead}
-use Rattle.hep_state.specs.declared.turn.Turned.TheVariants.{Stepped}
 use Rattle.hep_state.specs.declared.turn.TurnFault.{TurnFault}
-use Rattle.hep_state.specs.Words.{HasCallAhead, HoldsInTurn, IsMaking, IsUnit, Makes, HasTurned, Touches, HaveRoom, IsMachineAfter, Snapshot, snapshot_of, IsToEnd, HasGaps, HasStepped, IsUnturned, turn_of}
-use Rattle.hep_state.proofs.Unchanged.{carry, machine-of, machine-reserved, machine-written, on-err, rooms-of, shown-written, without-memory}
+use Rattle.hep_state.specs.Words.{HasCallAhead, HoldsInTurn, IsMaking, IsUnit, Makes, Touches, HaveRoom, IsMachineAfter, Snapshot, snapshot_of, IsToEnd, HasGaps, IsUnturned, turn_of}
+use Rattle.hep_state.proofs.Unchanged.{carry, machine-reserved, machine-written, on-err, rooms-of, shown-written, turned-so, without-memory}
 use Rattle.hep_state.proofs.machine.Machine.take_call.Goals.{After-fits}
 use Rattle.hep_state.proofs.machine.Machine.take_call.Goals as goal
 use Rattle.hep_source.proofs.Tests.{none-from-not}
@@ -20,11 +18,6 @@ use Rattle.hep_source.proofs.Tests.{none-from-not}
 -- why a turn was not taken, wherever a process is at a CALL
 abbrev unturned-at : Units → ℕ → CallAhead → Machine → TurnFault → Type 0
 unturned-at program p call m e = (cells : ℕ) (choices : List ℕ) → IsMachineAfter program cells choices m → HasCallAhead program cells choices p (snapshot_of m) call → IsUnturned e program cells choices p
-
--- a step that touched nothing
-turned-so : (program : Units) (cells : ℕ) (choices : List ℕ) (p : ℕ) (new : Machine) → Touches program cells choices p None → HasStepped program cells choices p (snapshot_of new) → HaveRoom program cells new → HasTurned program cells choices p (Stepped None) new
-turned-so program cells choices p new untouched stepped rooms =
-    (stepped.stepped, machine-of program cells (choices ++ p ∷ []) new stepped.after rooms, untouched, λ w layout location is. absurd (none-some w is))
 
 -- ---- a fault
 
@@ -153,20 +146,20 @@ returns-in_err-process-in-Creates-clause-unturned c =
 pub returns-in_err-process-in-Creates-clause-refused : goal.returns-in_err-process-in-Creates-clause-refused
 returns-in_err-process-in-Creates-clause-refused c =
     let r = c.from_residual-in_err-process-in-Creates in
-    on-err r.result r.ensures.0 (reserved-after (goal.at.returns-in_err-process-in-Creates-clause-refused c).After-fits c.reserve_process.new.self c.reserve_process.ensures.shown (c.reserve_process.ensures.rooms c.args.image.now))
+    on-err r.result r.ensures.0 (reserved-after (goal.at.returns-in_err-process-in-Creates-clause-refused c).After-fits c.reserve_creation.new.self c.reserve_creation.ensures.shown (c.reserve_creation.ensures.rooms c.args.image.now))
 
 pub create-requires-clause-creating : goal.create-requires-clause-creating
 create-requires-clause-creating c =
     let h = c.requires.at in
     let before = (goal.at.create-requires-clause-creating c).After-fits in
-    (c.args.image.now, h.0, h.1, making before h.0 h.1 h.2 h.3 Creates c.reserve_process.new.self c.in-Creates.is c.reserve_process.ensures.shown c.reserve_process.ensures.passing)
+    (c.args.image.now, h.0, h.1, making before h.0 h.1 h.2 h.3 Creates c.reserve_creation.new.self c.in-Creates.is c.reserve_creation.ensures.shown c.reserve_creation.ensures.passing)
 
 pub returns-in_ok-process-in-Creates-clause-turned : goal.returns-in_ok-process-in-Creates-clause-turned
 returns-in_ok-process-in-Creates-clause-turned c cells choices h at =
     let program = c.args.image.now in
     let before = (goal.at.returns-in_ok-process-in-Creates-clause-turned c).After-fits in
-    let reserved = c.reserve_process.ensures in
-    let creating = making before cells choices h at Creates c.reserve_process.new.self c.in-Creates.is reserved.shown reserved.passing in
+    let reserved = c.reserve_creation.ensures in
+    let creating = making before cells choices h at Creates c.reserve_creation.new.self c.in-Creates.is reserved.shown reserved.passing in
     let deep : c.unit-unit.result.now.operands ≡ deepest (unit_code program c.args.call.unit) = c.unit-unit.ensures.operands ∙ ap deepest c.unit-unit.ensures.code in
     turned-so program cells choices c.args.p c.create.new.self (untouched before cells choices h at) (c.create.ensures.stepped program cells choices creating)
     (c.create.ensures.rooms program cells (reserved.rooms program cells (rooms-of program cells choices c.give.new.self (given before cells choices h at))) (subst (λ n. n ≤ vec_capacity c.in_ok-process-in-Creates.process.operands) deep c.in_ok-process-in-Creates.ensures.operands))

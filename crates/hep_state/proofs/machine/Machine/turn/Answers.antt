@@ -73,3 +73,26 @@ pub returns-in_ok-reserve-in-Purge-clause-turned : goal.returns-in_ok-reserve-in
 returns-in_ok-reserve-in-Purge-clause-turned c cells choices h =
     let at = reserved-at (goal.at.returns-in_ok-reserve-in-Purge-clause-turned c).After-reserve cells choices (c.in-Purge.ensures.after cells choices h) (c.in-Purge.ensures.ahead cells choices h) in
     c.purge.ensures.purged cells choices at.0 at.1
+
+-- ---- RESUME
+
+pub take_resume-requires-clause-at : goal.take_resume-requires-clause-at
+take_resume-requires-clause-at c =
+    let h = c.requires.after in
+    (h.0, h.1, c.in-Resume.ensures.after h.0 h.1 h.2, c.in-Resume.ensures.ahead h.0 h.1 h.2)
+
+pub returns-in_err-take_resume-in-Resume-clause-unturned : goal.returns-in_err-take_resume-in-Resume-clause-unturned
+returns-in_err-take_resume-in-Resume-clause-unturned c =
+    let r = c.from_residual-in_err-take_resume-in-Resume in
+    without-memory (unturned-by c.args.image.now c.args.p (λ cells choices. IsMachineAfter c.args.image.now cells choices c.args.self.now)) r.result r.ensures.1 (λ cells choices h.
+    let at = c.in-Resume.ensures.ahead cells choices h in
+    c.resumes_are_shown.ensures.gaps (turn_of at) c.in-Resume.next c.is_runnable.ensures.accepted c.is_runnable.ensures.main at.holds)
+
+pub returns-in_err-take_resume-in-Resume-clause-refused : goal.returns-in_err-take_resume-in-Resume-clause-refused
+returns-in_err-take_resume-in-Resume-clause-refused c =
+    let r = c.from_residual-in_err-take_resume-in-Resume in
+    on-err r.result r.ensures.0 (λ cells choices h. c.in_err-take_resume-in-Resume.ensures.refused cells choices (c.in-Resume.ensures.after cells choices h))
+
+pub returns-in_ok-take_resume-in-Resume-clause-turned : goal.returns-in_ok-take_resume-in-Resume-clause-turned
+returns-in_ok-take_resume-in-Resume-clause-turned c cells choices h =
+    c.in_ok-take_resume-in-Resume.ensures.turned cells choices (c.in-Resume.ensures.after cells choices h) (c.in-Resume.ensures.ahead cells choices h)

@@ -1,0 +1,43 @@
+use Rattle.std.proofs.Common.{◌≡◌, ℕ, List, [], refl, sym, ◌∙◌, subst}
+use Rattle.std.proofs.lemmas.Bool.{false_from_ne_true}
+use Rattle.std.proofs.lemmas.Option.{none-some}
+use Rattle.hep_machine.specs.Words.{Value}
+use Rattle.hep_code.specs.declared.instruction.Operation.TheVariants.{Purge, Resume}
+use Rattle.hep_state.specs.Words.{HasMadeTurn, running_top, snapshot_moved}
+use Rattle.hep_state.proofs.Callers.{ahead-on-top}
+use Rattle.hep_state.proofs.Moved.{moved-shown}
+use Rattle.hep_state.proofs.Resumed.{caller-there, none-below, resumed-gap, resumed-shown}
+use Rattle.hep_state.proofs.laws.resumes_are_shown.Goals as goal
+
+resumed-is-none : (next n k : ℕ) → Resume next ≡ Purge n k → ⊥
+resumed-is-none next n k e = cc
+
+pub returns-clause-apart : goal.returns-clause-apart
+returns-clause-apart c t next l ls accepted main at some =
+    let runs = c.tops_are_running.ensures.running t accepted main at.1.turning in
+    let caller = caller-there at.1.turning l ls some in
+    resumed-shown at.1.turning next (c.resumes_are_ahead.ensures.ahead (running_top t at.1.turning) at.0 next at.1.behind runs (ahead-on-top at.1)) caller.0 caller.1 caller.2
+
+pub returns-clause-lowest : goal.returns-clause-lowest
+returns-clause-lowest c t next accepted main at lowest =
+    let runs = c.tops_are_running.ensures.running t accepted main at.1.turning in
+    let r = running_top t at.1.turning in
+    let ahead = c.resumes_are_ahead.ensures.ahead r at.0 next at.1.behind runs (ahead-on-top at.1) in
+    let goes = c.resumes_are_ahead.ensures.lowest r at.0 next at.1.behind runs (ahead-on-top at.1) (none-below at.1.turning lowest) in
+    subst (λ (vs : List Value). HasMadeTurn t (snapshot_moved t t.machine.arena.contents vs next)) (sym ahead.alone) (moved-shown at.1.turning t.machine.arena.contents [] next refl goes)
+
+pub returns-clause-nothing : goal.returns-clause-nothing
+returns-clause-nothing c t next accepted main at =
+    let runs = c.tops_are_running.ensures.running t accepted main at.1.turning in
+    let r = running_top t at.1.turning in
+    let purge = c.purges_stand_ahead.ensures r at.0 (Resume next) at.1.behind runs (ahead-on-top at.1) in
+    let untouched = c.calls_and_purges_never_wait.ensures.touches r at.0 (Resume next) at.1.behind runs (ahead-on-top at.1) refl in
+    record {
+      plain = false_from_ne_true _ (λ is. let told = purge is in absurd (resumed-is-none next told.0 told.1 told.2));
+      told = λ layout location laid touched. absurd (none-some location (sym untouched ∙ touched));
+    }
+
+pub returns-clause-gaps : goal.returns-clause-gaps
+returns-clause-gaps c t next accepted main at =
+    let runs = c.tops_are_running.ensures.running t accepted main at.1.turning in
+    resumed-gap at.1.turning next (c.resumes_are_ahead.ensures.ahead (running_top t at.1.turning) at.0 next at.1.behind runs (ahead-on-top at.1))
